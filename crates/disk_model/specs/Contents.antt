@@ -1,0 +1,25 @@
+-- The contents of a disk of eight files.
+use Rattle.std.specs.Prelude.{◌≡◌, ℕ, ◌+◌, ◌≤◌, ◌<◌, List, length, slice_index}
+
+-- A content of the disk: the byte of a file at a place, zero past what was written. Contents are compared place by
+-- place.
+abbrev pub Files : Type 0
+Files = ℕ → ℕ → ℕ
+
+-- these bytes stand in the file from this place on
+abbrev pub Holds : ℕ → ℕ → List ℕ → Files → Type 0
+Holds file at bytes content = (i : ℕ) → i < length bytes → slice_index bytes i ≡ content file (at + i)
+
+-- a place in the range of n bytes of the file
+pub record InRange (file at n : ℕ) (other place : ℕ) : Type 0 where
+  pub in_file : other ≡ file
+  pub at_or_behind : at ≤ place
+  pub before_end : place < at + n
+
+-- the same bytes everywhere but in the range
+abbrev pub SameOutside : ℕ → ℕ → ℕ → Files → Files → Type 0
+SameOutside file at n old new = (other place : ℕ) → ¬ InRange file at n other place → new other place ≡ old other place
+
+-- the same bytes everywhere
+abbrev pub Same : Files → Files → Type 0
+Same old new = (file place : ℕ) → new file place ≡ old file place

@@ -1,0 +1,35 @@
+ghost use Rattle.std.specs.Prelude.{◌≡◌};
+ghost use Rattle.graph_console.specs.Exit.{status};
+
+/// How the program ends. Each exit has one status, and each status one cause.
+#[derive(Clone, Copy, Debug, PartialEq, Eq)]
+pub enum Exit {
+    /// The input was read to its end or to `quit`.
+    Done,
+    /// The words are no command of the program.
+    Usage,
+    /// The source of the input failed.
+    InputFault,
+    /// The sink of the output failed.
+    OutputFault,
+    /// There was no memory to begin with.
+    NoMemory,
+    /// A run may take no more bytes of the input, and its end wasn't reached.
+    InputTooLong,
+}
+
+impl Exit {
+    /// The status that the program ends with.
+    pub fn code(&self) -> u8
+        ensures { result ≡ status self.now }
+    {
+        match self {
+            Exit::Done => 0,
+            Exit::Usage => 2,
+            Exit::InputFault => 3,
+            Exit::OutputFault => 4,
+            Exit::NoMemory => 5,
+            Exit::InputTooLong => 9,
+        }
+    }
+}

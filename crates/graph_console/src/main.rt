@@ -1,0 +1,45 @@
+//! The console program over a plain graph: lines of the input in, replies out. `graph_main` is the
+//! program over any source, sink and disk; `main` gives it the real ones.
+#![tactic(auto)]
+
+mod exit;
+mod parse;
+mod program;
+mod query_reply;
+mod serve;
+mod session;
+#[cfg(test)]
+mod tests;
+mod turn;
+
+pub use exit::Exit;
+use host_edge::{FileDisk, StdSink, StdSource};
+pub use program::graph_main;
+pub use session::Session;
+use std::alloc::AllocError;
+use std::process::ExitCode;
+use std::rt::Env;
+use std::{env, io};
+pub use turn::Turn;
+
+/// The program's words. Where one isn't text they are none, since no command has such a word.
+fn words(rt: &(impl Env + AllocGlobal)) -> Result<Vec<String>, AllocError> {
+    match env::args(rt) {
+        Ok(args) => args.collect(rt.alloc()),
+        Err(fault) if fault.kind() == io::ErrorKind::OutOfMemory => Err(AllocError),
+        Err(_) => Ok(Vec::new(rt.alloc())),
+    }
+}
+
+fn main(rt: HostRuntime) -> ExitCode {
+    let mut input = StdSource::new(rt.stdin());
+    let mut output = StdSink::new(rt.stdout());
+    let words = words(&rt);
+    let alloc = rt.alloc();
+    let mut disk = FileDisk::new(rt);
+    let exit = match words {
+        Ok(words) => graph_main(alloc, words, &mut input, &mut output, &mut disk),
+        Err(AllocError) => program::no_memory(&mut output),
+    };
+    ExitCode::from(exit.code())
+}

@@ -1,0 +1,133 @@
+ghost use Rattle.std.specs.Prelude.{◌≡◌, ◌≤◌, ◌+◌, ◌^◌, length};
+ghost use Rattle.fault_count.specs.Cause.{HasCause};
+ghost use Rattle.host_edge.specs.Counting.{CountsFailure};
+
+use crate::counting::counted;
+use crate::named_file::NamedFile;
+use disk_model::Disk;
+use fault_count::{Count, Failed};
+use std::marker::Model;
+
+/// The files `graph.0` to `graph.7` of the current folder. A file is opened at the first call on it,
+/// and made where it is missing; one that can't be opened or made is a fault of that call. A read or
+/// write that the system cuts short or a signal interrupts goes on. Contracts see the count of
+/// faults, and nothing of what the files hold.
+#[derive(Drop)]
+pub struct FileDisk {
+    rt: HostRuntime,
+    files: [NamedFile; 8],
+    faults: Count,
+}
+
+impl Model for FileDisk {
+    ghost use Rattle.std.specs.Prelude.{ℕ};
+
+    ghost Value = { ℕ };
+
+    ghost view = { λ d. d.faults };
+}
+
+impl FileDisk {
+    /// A disk that hasn't touched a file yet.
+    pub fn new(rt: HostRuntime) -> FileDisk
+        ensures { result ≡ 0 }
+    {
+        FileDisk {
+            rt,
+            files: [
+                NamedFile::new("graph.0"),
+                NamedFile::new("graph.1"),
+                NamedFile::new("graph.2"),
+                NamedFile::new("graph.3"),
+                NamedFile::new("graph.4"),
+                NamedFile::new("graph.5"),
+                NamedFile::new("graph.6"),
+                NamedFile::new("graph.7"),
+            ],
+            faults: Count::new(),
+        }
+    }
+}
+
+impl Disk for FileDisk {
+    ghost tells_reads = { ⊥ };
+
+    ghost reads = { λ _ _ _. 0 };
+
+    ghost tells_images = { ⊥ };
+
+    ghost may_leave = { λ _ _. ⊥ };
+
+    ghost moment = { λ _. 0 };
+
+    ghost left_since = { λ _ _ _. ⊥ };
+
+    ghost faults = { λ d. d };
+
+    fn read(&mut self, file: u8, at: u64, out: &mut [u8]) -> Result<(), Failed>
+        requires file { file ≤ 7 }
+        requires within { at + length out.old ≤ 2 ^ 40 }
+        ensures count { CountsFailure self.old self.new result }
+        ensures cause { HasCause self.old self.new result }
+    {
+        let rt = self.rt;
+        let answer = self.files[file as usize].read(&rt, at, out);
+        counted(&mut self.faults, answer)
+    }
+
+    fn write(&mut self, file: u8, at: u64, bytes: &[u8]) -> Result<(), Failed>
+        requires file { file ≤ 7 }
+        requires within { at + length bytes.now ≤ 2 ^ 40 }
+        ensures count { CountsFailure self.old self.new result }
+        ensures cause { HasCause self.old self.new result }
+    {
+        let rt = self.rt;
+        let answer = self.files[file as usize].write(&rt, at, bytes);
+        counted(&mut self.faults, answer)
+    }
+
+    fn sync(&mut self, file: u8) -> Result<(), Failed>
+        requires file { file ≤ 7 }
+        ensures count { CountsFailure self.old self.new result }
+        ensures cause { HasCause self.old self.new result }
+    {
+        let rt = self.rt;
+        let answer = self.files[file as usize].sync(&rt);
+        counted(&mut self.faults, answer)
+    }
+
+    ghost read_is_image = { λ _ tells _. absurd tells };
+
+    ghost counts_now = { λ _ _ _ tells _ _. absurd tells };
+
+    ghost only_now = { λ _ _ tells _. absurd tells };
+}
+
+#[cfg(test)]
+mod tests {
+    use super::*;
+    use std::fs;
+    use std::test::Fail;
+
+    fn faults_of(disk: &FileDisk) -> u64
+        ensures { result ≡ disk.now }
+    {
+        disk.faults.get()
+    }
+
+    #[test]
+    fn gives_back_what_was_written(rt: HostRuntime) -> Result<(), Fail> {
+        let mut disk = FileDisk::new(rt);
+        disk.write(3, 2, b"graph")?;
+        disk.sync(3)?;
+        let mut out = [1; 10];
+        disk.read(3, 0, &mut out)?;
+        assert_eq!(rt; out, *b"\0\0graph\0\0\0");
+        let mut past_the_end = [1; 3];
+        disk.read(3, 7, &mut past_the_end)?;
+        assert_eq!(rt; past_the_end, [0; 3]);
+        assert_eq!(rt; faults_of(&disk), 0);
+        fs::remove_file(&rt, "graph.3")?;
+        Ok(())
+    }
+}

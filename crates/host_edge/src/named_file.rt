@@ -1,0 +1,103 @@
+ghost use Rattle.std.specs.Prelude.{◌≤◌, ◌+◌, ◌^◌, length};
+
+use std::fs::{File, OpenOptions};
+use std::io::{self, ErrorKind};
+use std::os::fd::{AsRawFd, RawFd};
+use std::os::unix::fs::FileExt;
+
+/// The number of standard error. A duplicate of a file has a higher one.
+const LAST_STREAM: RawFd = 2;
+
+/// A file of the current folder. It is opened at the first call on it, made where it is missing.
+#[derive(Drop)]
+pub(crate) struct NamedFile {
+    name: &'static str,
+    file: Option<File>,
+    has_synced_folder: bool,
+}
+
+impl NamedFile {
+    /// Reaches no file yet.
+    pub(crate) fn new(name: &'static str) -> NamedFile {
+        NamedFile {
+            name,
+            file: None,
+            has_synced_folder: false,
+        }
+    }
+
+    /// Fills `out` with the bytes from `at` on, zeros past the end.
+    pub(crate) fn read(&mut self, rt: &HostRuntime, at: u64, out: &mut [u8]) -> io::Result<()>
+        requires { at + length out.old ≤ 2 ^ 40 }
+    {
+        fill(self.opened(rt)?, at, out)
+    }
+
+    /// Writes the bytes from `at` on.
+    pub(crate) fn write(&mut self, rt: &HostRuntime, at: u64, bytes: &[u8]) -> io::Result<()> {
+        self.opened(rt)?.write_all_at(bytes, at)
+    }
+
+    /// Makes the file's bytes and its length durable, and its entry in the folder too, as far as the
+    /// system lets a folder be synced. The entry is synced once in each run, also where the file was
+    /// there: the run that made it may have ended before it synced.
+    pub(crate) fn sync(&mut self, rt: &HostRuntime) -> io::Result<()> {
+        // A sync of the data includes a length that grew.
+        self.opened(rt)?.sync_data()?;
+        if !self.has_synced_folder {
+            self.has_synced_folder = sync_folder(rt).is_ok();
+        }
+        Ok(())
+    }
+
+    fn opened(&mut self, rt: &HostRuntime) -> io::Result<&File> {
+        match self.file {
+            Some(ref file) => Ok(file),
+            None => Ok(self.file.insert(open_or_make(rt, self.name)?)),
+        }
+    }
+}
+
+fn open_or_make(rt: &HostRuntime, name: &str) -> io::Result<File> {
+    let file = OpenOptions::new()
+        .read(true)
+        .write(true)
+        .create(true)
+        .open(rt, name)?;
+    above_streams(file)
+}
+
+/// The file under a number above those of the three standard streams. Where a stream was closed before
+/// the program began, the system may give its number to this file, and what the program then writes to
+/// the stream would go into the file.
+fn above_streams(file: File) -> io::Result<File> {
+    if file.as_raw_fd() > LAST_STREAM {
+        return Ok(file);
+    }
+    file.try_clone()
+}
+
+fn sync_folder(rt: &HostRuntime) -> io::Result<()> {
+    File::open(rt, ".")?.sync_all()
+}
+
+fn fill(file: &File, at: u64, out: &mut [u8]) -> io::Result<()>
+    requires { at + length out.old ≤ 2 ^ 40 }
+{
+    let mut filled = 0;
+    for _ in 0..u64::MAX {
+        if filled == out.len() {
+            return Ok(());
+        }
+        match file.read_at(&mut out[filled..], at + filled as u64) {
+            Ok(0) => {
+                out[filled..].fill(0);
+                return Ok(());
+            }
+            Ok(n) => filled += n,
+            Err(error) if error.kind() == ErrorKind::Interrupted => {}
+            Err(error) => return Err(error),
+        }
+    }
+    Err(ErrorKind::TimedOut.into())
+}

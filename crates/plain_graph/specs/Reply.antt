@@ -1,0 +1,39 @@
+-- The replies of the console, and their bytes.
+use Rattle.std.specs.Prelude.{ℕ, List, [], ◌∷◌, ◌++◌, codes, decimal, flat_map}
+use Rattle.std.specs.Fmt.{signed_decimal}
+use Rattle.plain_graph.specs.declared.item.Item.{Item}
+use Rattle.plain_graph.specs.declared.item.Item.TheVariants as items
+use Rattle.plain_graph.specs.declared.item.Value.TheVariants as values
+use Rattle.plain_graph.specs.declared.refusal.Refusal.{Refusal}
+use Rattle.plain_graph.specs.declared.refusal.Refusal.TheVariants as refusals
+
+-- what a line of the console is answered with
+pub data Reply : Type 0 where
+  Silent : Reply
+  NodeMade : (id : ℕ) → Reply
+  Results : (results : List Item) → Reply
+  Refused : (why : Refusal) → Reply
+
+-- the text with a newline behind it
+abbrev pub text_line : List ℕ → List ℕ
+text_line text = text ++ 10 ∷ []
+
+abbrev pub item_text : Item → List ℕ
+item_text (items.Vertex id) = codes "v[" ++ decimal id ++ codes "]"
+item_text (items.Value (values.Int number)) = signed_decimal number
+
+-- one result of a query
+abbrev pub result_text : Item → List ℕ
+result_text item = text_line (codes "==>" ++ item_text item)
+
+abbrev pub refusal_text : Refusal → List ℕ
+refusal_text refusals.LongLine = codes "error line"
+refusal_text (refusals.Syntax at) = codes "error syntax " ++ decimal at
+refusal_text refusals.Memory = codes "error memory"
+
+-- the bytes of a reply
+abbrev pub reply_text : Reply → List ℕ
+reply_text Silent = []
+reply_text (NodeMade id) = text_line (codes "node " ++ decimal id)
+reply_text (Results results) = flat_map result_text results ++ text_line (codes "end")
+reply_text (Refused why) = text_line (refusal_text why)

@@ -1,0 +1,19 @@
+//! The plain property graph and its console: what a graph is, what a change and a query mean, and the
+//! bytes of each reply. Definitions of specs/ say it with lists; the Rust types are commands and texts.
+#![tactic(auto)]
+
+mod command;
+mod item;
+mod query;
+mod refusal;
+mod reply;
+mod short_text;
+mod text;
+
+pub use command::Command;
+pub use item::{Item, Value};
+pub use query::{Query, Step, StepList};
+pub use refusal::Refusal;
+pub use reply::{end_of_results, node_made, refused, result_line};
+pub use short_text::ShortText;
+pub use text::Text;

@@ -1,0 +1,10 @@
+pub mod Answers
+pub mod Buffer
+pub mod Found
+pub mod Lending
+pub mod Lines
+pub mod Memory
+pub mod Reading
+pub mod Steps
+pub mod Streams
+pub mod Window
