@@ -1,5 +1,5 @@
-ghost use Rattle.std.specs.Prelude.{◌≡◌, ◌≤◌, ◌↔◌, IfOk, IsOk};
-ghost use Rattle.fault_count.specs.Cause.{raised, HasCause};
+ghost use Rattle.std.specs.Prelude.{◌≡◌, ◌↔◌, IfOk, IsOk};
+ghost use Rattle.fault_count.specs.Cause.{HasCause};
 ghost use Rattle.host_edge.specs.Counting.{CountsFailure};
 
 use fault_count::{Count, Failed};
@@ -14,16 +14,9 @@ pub(crate) fn counted<T: Drop>(faults: &mut Count, answer: io::Result<T>) -> Res
 {
     match answer {
         Ok(value) => Ok(value),
-        Err(_) => Err(fault(faults)),
+        Err(_) => {
+            faults.raise();
+            Err(Failed)
+        }
     }
-}
-
-fn fault(faults: &mut Count) -> Failed
-    ensures count { faults.new ≡ raised faults.old }
-    ensures later { faults.old ≤ faults.new }
-{
-    // The number read is what tells the proof that the count is within its type.
-    let _before = faults.get();
-    faults.raise();
-    Failed
 }

@@ -1,5 +1,3 @@
-ghost use Rattle.std.specs.Prelude.{◌≤◌, ◌+◌, ◌^◌, length};
-
 use std::fs::{File, OpenOptions};
 use std::io::{self, ErrorKind};
 use std::os::fd::{AsRawFd, RawFd};
@@ -27,10 +25,13 @@ impl NamedFile {
     }
 
     /// Fills `out` with the bytes from `at` on, zeros past the end.
-    pub(crate) fn read(&mut self, rt: &HostRuntime, at: u64, out: &mut [u8]) -> io::Result<()>
-        requires { at + length out.old ≤ 2 ^ 40 }
-    {
-        fill(self.opened(rt)?, at, out)
+    pub(crate) fn read(&mut self, rt: &HostRuntime, at: u64, out: &mut [u8]) -> io::Result<()> {
+        // The zeros stay where the file ends before `out` does.
+        out.fill(0);
+        match self.opened(rt)?.read_exact_at(out, at) {
+            Err(error) if error.kind() == ErrorKind::UnexpectedEof => Ok(()),
+            answer => answer,
+        }
     }
 
     /// Writes the bytes from `at` on.
@@ -79,25 +80,4 @@ fn above_streams(file: File) -> io::Result<File> {
 
 fn sync_folder(rt: &HostRuntime) -> io::Result<()> {
     File::open(rt, ".")?.sync_all()
-}
-
-fn fill(file: &File, at: u64, out: &mut [u8]) -> io::Result<()>
-    requires { at + length out.old ≤ 2 ^ 40 }
-{
-    let mut filled = 0;
-    for _ in 0..u64::MAX {
-        if filled == out.len() {
-            return Ok(());
-        }
-        match file.read_at(&mut out[filled..], at + filled as u64) {
-            Ok(0) => {
-                out[filled..].fill(0);
-                return Ok(());
-            }
-            Ok(n) => filled += n,
-            Err(error) if error.kind() == ErrorKind::Interrupted => {}
-            Err(error) => return Err(error),
-        }
-    }
-    Err(ErrorKind::TimedOut.into())
 }

@@ -1,4 +1,4 @@
-ghost use Rattle.std.specs.Prelude.{◌≡◌, ◌≤◌, ◌<◌, [], length, IfOk};
+ghost use Rattle.std.specs.Prelude.{◌≡◌, ◌≤◌, ◌<◌, [], length, IfOk, OnOk};
 ghost use Rattle.std.specs.Io.{ReadsAtMost};
 ghost use Rattle.fault_count.specs.Cause.{HasCause};
 ghost use Rattle.host_edge.specs.Counting.{CountsFailure};
@@ -47,6 +47,7 @@ impl Source for StdSource {
     fn read(&mut self, out: &mut [u8]) -> Result<usize, Failed>
         ensures within { IfOk result (λ n. n ≤ length out.old) }
         ensures count { CountsFailure self.old self.new result }
+        ensures quiet { OnOk result (self.new ≡ self.old) }
         ensures cause { HasCause self.old self.new result }
     {
         let answer = read_once(&mut self.stdin, out);

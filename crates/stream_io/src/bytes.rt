@@ -1,4 +1,4 @@
-ghost use Rattle.std.specs.Prelude.{◌≡◌, ◌<◌, ◌≤◌, ◌↔◌, length, take, drop, min, IsErr, IsOkAnd, IfOk, OnErr};
+ghost use Rattle.std.specs.Prelude.{◌≡◌, ◌<◌, ◌≤◌, ◌↔◌, length, take, drop, min, IsErr, IsOkAnd, IfOk, OnOk, OnErr};
 ghost use Rattle.fault_count.specs.Cause.{raised, HasCause};
 ghost use Rattle.stream_io.specs.Streams.{GivesNext};
 ghost use Rattle.stream_io.specs.Memory.{NextFails};
@@ -68,6 +68,7 @@ impl Source for Bytes {
         ensures goes_on { IfOk result (λ n. self.new ≡ record self.old { rest = drop n self.old.rest; calls = raised self.old.calls }) }
         ensures within { IfOk result (λ n. n ≤ length out.old) }
         ensures given { GivesNext self.old.rest self.new.rest out.new result }
+        ensures quiet { OnOk result (self.new.faults ≡ self.old.faults) }
         ensures cause { HasCause self.old.faults self.new.faults result }
     {
         if next_call_fails(&self.fails, &mut self.calls) {

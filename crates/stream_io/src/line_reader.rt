@@ -1,4 +1,4 @@
-ghost use Rattle.std.specs.Prelude.{◌≡◌, ◌⊎◌, ◌≤◌, ◌<◌, ◌+◌, ◌++◌, ◌∷◌, [], true, false, length, take, drop, slice_range, ◌-◌, ◌^◌, IfOk, IfSome, IfNone, OnOk, OnErr};
+ghost use Rattle.std.specs.Prelude.{◌≡◌, ◌≢◌, ◌⊎◌, ◌≤◌, ◌<◌, ◌+◌, ◌++◌, ◌∷◌, [], true, false, length, take, drop, slice_range, ◌-◌, ◌^◌, IfOk, IfSome, IfNone, OnOk, OnErr};
 ghost use Rattle.stream_io.specs.Lines.{Whole, Long, line_of};
 ghost use Rattle.stream_io.specs.Answers.{IsPiece};
 ghost use Rattle.stream_io.specs.Streams.{GivesNext};
@@ -170,6 +170,7 @@ impl LineReader {
         ensures stays { OnErr result ((self.new.held ≡ self.old.held) × (self.new.taken ≡ self.old.taken) × (self.new.ended ≡ false)) }
         ensures none_lost { I.tells → OnErr result (I.left source.new ≡ I.left source.old) }
         ensures source_counted { I.tells → self.new.taken + length (I.left source.new) ≡ self.old.taken + length (I.left source.old) }
+        ensures quiet { OnOk result (I.faults source.new ≡ I.faults source.old) }
         ensures cause { HasCause (I.faults source.old) (I.faults source.new) result }
     {
         let count = self.window.grow(MAX_INPUT_BYTES - self.taken, source)?;
@@ -216,6 +217,7 @@ impl LineReader {
         ensures counted { IsCounted self.new }
         ensures source_counted { I.tells → self.new.taken + length (I.left source.new) ≡ self.old.taken + length (I.left source.old) }
         ensures later { I.faults source.old ≤ I.faults source.new }
+        ensures told { result ≢ Step.Ended Outcome.SourceFault → I.faults source.new ≡ I.faults source.old }
         ensures cause { result ≡ Step.Ended Outcome.SourceFault → Rose (I.faults source.old) (I.faults source.new) }
     {
         if let Some(found) = self.take_piece(dropped) {
@@ -245,6 +247,7 @@ impl LineReader {
         ensures stays_ended { self.new.ended ≡ false → self.old.ended ≡ false }
         ensures asked { self.old.ended ≡ false → self.new.ended ≡ true → self.new.taken < 2 ^ 30 }
         ensures later { I.faults source.old ≤ I.faults source.new }
+        ensures told { result ≢ Outcome.SourceFault → I.faults source.new ≡ I.faults source.old }
         ensures cause { result ≡ Outcome.SourceFault → Rose (I.faults source.old) (I.faults source.new) }
     {
         let mut dropped = false;
@@ -261,6 +264,7 @@ impl LineReader {
     pub fn next<'a, I: Source>(&'a mut self, source: &mut I) -> LineAnswer<'a>
         ensures* after { sem 𝓛 (EndsWith self.entry (λ reader. Answers I.tells result self.old (I.left source.old) (I.left source.new) reader)) }
         ensures later { I.faults source.old ≤ I.faults source.new }
+        ensures told { result ≢ LineAnswer.SourceFault → I.faults source.new ≡ I.faults source.old }
         ensures cause { result ≡ LineAnswer.SourceFault → Rose (I.faults source.old) (I.faults source.new) }
     {
         match self.advance(source) {

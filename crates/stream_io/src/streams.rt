@@ -1,4 +1,4 @@
-ghost use Rattle.std.specs.Prelude.{◌≤◌, ◌<◌, ℕ, List, length, IfOk};
+ghost use Rattle.std.specs.Prelude.{◌≡◌, ◌≤◌, ◌<◌, ℕ, List, length, IfOk, OnOk};
 ghost use Rattle.fault_count.specs.Cause.{HasCause};
 ghost use Rattle.stream_io.specs.Streams.{GivesNext, Takes};
 
@@ -21,6 +21,7 @@ pub trait Source {
         requires room { 0 < length out.old }
         ensures within { IfOk result (λ n. n ≤ length out.old) }
         ensures given { tells → GivesNext (left self.old) (left self.new) out.new result }
+        ensures quiet { OnOk result (faults self.new ≡ faults self.old) }
         ensures cause { HasCause (faults self.old) (faults self.new) result };
 }
 

@@ -63,6 +63,7 @@ impl Window {
         ensures grown { IfOk result (λ count. (count ≤ wanted) × Grows I.tells (held_bytes self.old) (held_bytes self.new) (I.left source.old) (I.left source.new) count) }
         ensures held { OnErr result (held_bytes self.new ≡ held_bytes self.old) }
         ensures none_lost { I.tells → OnErr result (I.left source.new ≡ I.left source.old) }
+        ensures quiet { OnOk result (I.faults source.new ≡ I.faults source.old) }
         ensures cause { HasCause (I.faults source.old) (I.faults source.new) result }
     {
         self.make_room();
@@ -93,6 +94,7 @@ fn read_into<I: Source>(
     requires within { to ≤ length buffer.old }
     ensures stays { take from buffer.new ≡ take from buffer.old }
     ensures count { IfOk result (λ count. from + count ≤ to) }
+    ensures quiet { OnOk result (I.faults source.new ≡ I.faults source.old) }
     ensures given { I.tells → GivesNext (I.left source.old) (I.left source.new) (drop from buffer.new) result }
     ensures cause { HasCause (I.faults source.old) (I.faults source.new) result }
 {

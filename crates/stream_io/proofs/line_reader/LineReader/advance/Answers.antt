@@ -1,4 +1,4 @@
-use Rattle.std.proofs.Common.{◌∙◌, arith}
+use Rattle.std.proofs.Common.{◌∙◌}
 use Rattle.stream_io.proofs.Passing.{outcome_takes, passed_on}
 use Rattle.stream_io.proofs.line_reader.LineReader.advance.Goals as goal
 
@@ -9,5 +9,5 @@ pub steps-preserved : goal.steps-preserved
 steps-preserved g c = record {
   passed = passed_on _ c.args.self.now c.steps.self c.step.new.self _ _ _ c.steps.dropped c.in-GoOn.now_dropped c.steps.invariant.passed c.in-GoOn.ensures.takes c.in-GoOn.ensures.counts;
   source_counted = λ t. c.step.ensures.source_counted t ∙ c.steps.invariant.source_counted t;
-  faults = omega (arith, c.steps.invariant.faults, c.step.ensures.later);
+  faults = c.step.ensures.told (λ e. cc) ∙ c.steps.invariant.faults;
 }

@@ -6,7 +6,7 @@ abbrev pub invariant-steps : goal.invariant-steps
 invariant-steps g l = record {
   passed : Passed g.I.Source.tells l.fn.self (g.I.Source.left l.fn.source) l.dropped l.self (g.I.Source.left l.source);
   source_counted : g.I.Source.tells → l.self.taken + length (g.I.Source.left l.source) ≡ l.fn.self.taken + length (g.I.Source.left l.fn.source);
-  faults : g.I.Source.faults l.fn.source ≤ g.I.Source.faults l.source;
+  faults : g.I.Source.faults l.source ≡ g.I.Source.faults l.fn.source;
 }
 
 abbrev pub decreases-steps : goal.decreases-steps
