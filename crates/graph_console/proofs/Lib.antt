@@ -1,10 +1,3 @@
-pub mod Adding
 pub mod LineLaws
-pub mod Names
-pub mod Nodes
-pub mod QueryTokens
-pub mod Replies
-pub mod Results
 pub mod Runs
-pub mod Silence
-pub mod Tokens
+pub mod Turns

@@ -7,12 +7,15 @@ use Rattle.stream_io.specs.Answers.{TakesLine}
 use Rattle.stream_io.specs.Reading.{Reading, ahead, IsFresh}
 use Rattle.stream_io.specs.Streams.{TakesFront}
 use Rattle.plain_graph.specs.Reply.{Reply, reply_text}
-use Rattle.graph_console.specs.Console.{State, Step, IsQuit, first_state}
+use Rattle.graph_session.specs.State.{State, IsQuit}
+use Rattle.graph_session.specs.Console.{Step}
+use Rattle.graph_session.specs.declared.health.Health.{Health}
+use Rattle.graph_session.specs.declared.health.Health.TheVariants.{Live, Failed}
 use Rattle.graph_console.specs.Run.{Exchange, Run, run_lines, run_text, NoQuit}
-use Rattle.graph_console.specs.Main.{Serves, ServesEnded, Writes}
-use Rattle.graph_console.specs.Serving.{TurnSays, Exchanges, Breaks}
+use Rattle.graph_console.specs.Main.{Serves, ServesAll, ServesEnded, Writes}
+use Rattle.graph_console.specs.Serving.{TurnSays, Exchanges, Ends, Breaks}
 use Rattle.graph_console.specs.declared.exit.Exit.{Exit}
-use Rattle.graph_console.specs.declared.exit.Exit.TheVariants.{Done, Usage, InputFault, OutputFault, NoMemory, InputTooLong}
+use Rattle.graph_console.specs.declared.exit.Exit.TheVariants.{Done, StoreFailed, Usage, InputFault, OutputFault, NoMemory, InputTooLong}
 use Rattle.graph_console.proofs.LineLaws.{piece_first, piece_alone, pieces_joined, lines-piece, lines-last}
 
 -- one step more
@@ -50,9 +53,9 @@ pub record Boundary (input ahead_of : List ℕ) (lines : List InputLine) : Type 
   pub no_rest : (pieces_of used).rest ≡ []
   pub lines_are : ended_lines used ≡ lines
 
-pub record Serving (input before : List ℕ) (session : State) (reader : Reading) (left output : List ℕ) : Type 0 where
+pub record Serving (first : State) (input before : List ℕ) (session : State) (reader : Reading) (left output : List ℕ) : Type 0 where
   pub run : List Exchange
-  pub steps : Run first_state run session
+  pub steps : Run first run session
   pub no_quit : NoQuit (run_lines run)
   pub text : output ≡ before ++ run_text run
   pub lines : run_lines run ++ lines_of (ahead reader left) ≡ lines_of input
@@ -62,12 +65,12 @@ pub record Serving (input before : List ℕ) (session : State) (reader : Reading
 fresh_ahead : (reader : Reading) (left : List ℕ) → reader.ended ≡ false → reader.held ≡ [] → ahead reader left ≡ left
 fresh_ahead reader left goes_on none = ap (λ (b : Bool). cond b reader.held (reader.held ++ left)) goes_on ∙ ap (λ (bs : List ℕ). bs ++ left) none
 
-pub serving_first : (input output : List ℕ) (session : State) (reader : Reading) → IsFresh reader → session ≡ first_state → Serving input output session reader input output
-serving_first input output session reader fresh first =
+pub serving_first : (input output : List ℕ) (session : State) (reader : Reading) → IsFresh reader → Serving session input output session reader input output
+serving_first input output session reader fresh =
     let same = fresh_ahead reader input fresh.ended fresh.held in
     record {
       run = [];
-      steps = first;
+      steps = refl;
       no_quit = tt;
       text = sym (append-nil output);
       lines = ap lines_of same;
@@ -76,8 +79,8 @@ serving_first input output session reader fresh first =
     }
 
 -- What is served when a line's exchange has come to its end.
-module _ (input before : List ℕ) (old new : State) (reading_old reading_new : Reading) (left_old left_new output_old : List ℕ)
-    (s : Serving input before old reading_old left_old output_old)
+module _ (first : State) (input before : List ℕ) (old new : State) (reading_old reading_new : Reading) (left_old left_new output_old : List ℕ)
+    (s : Serving first input before old reading_old left_old output_old)
     (says : InputLine → Reply → Type 0) (e : Exchanges old new (ahead reading_old left_old) (ahead reading_new left_new) reading_new.ended says) where
   abbrev exchange : Exchange
   exchange = record { line = e.line; rose = false; reply = e.reply }
@@ -85,8 +88,8 @@ module _ (input before : List ℕ) (old new : State) (reading_old reading_new : 
   abbrev run_after : List Exchange
   run_after = s.run ++ exchange ∷ []
 
-  steps_after : Run first_state run_after new
-  steps_after = run_on first_state old new s.run exchange s.steps e.step
+  steps_after : Run first run_after new
+  steps_after = run_on first old new s.run exchange s.steps e.step
 
   lines_after : run_lines run_after ≡ run_lines s.run ++ e.line ∷ []
   lines_after = run_lines_on s.run exchange
@@ -137,7 +140,7 @@ module _ (input before : List ℕ) (old new : State) (reading_old reading_new : 
   ]
 
   pub serving_on : (output_new : List ℕ) → ¬ IsQuit e.line → output_new ≡ output_old ++ reply_text e.reply → (reading_new.ended ≡ false → reading_old.ended ≡ false)
-      → reading_new.taken + length left_new ≡ reading_old.taken + length left_old → Serving input before new reading_new left_new output_new
+      → reading_new.taken + length left_new ≡ reading_old.taken + length left_old → Serving first input before new reading_new left_new output_new
   serving_on output_new not_quit text stays counted = record {
     run = run_after;
     steps = steps_after;
@@ -148,8 +151,8 @@ module _ (input before : List ℕ) (old new : State) (reading_old reading_new : 
     counted = counted ∙ s.counted;
   }
 
-  pub serves_quit : (output_new : List ℕ) → IsQuit e.line → output_new ≡ output_old ++ reply_text e.reply → Writes before output_new (Serves Done input left_new)
-  serves_quit output_new is_quit text = (
+  pub serves_quit : (output_new : List ℕ) (health : Health) → new.health ≡ health → IsQuit e.line → output_new ≡ output_old ++ reply_text e.reply → Writes before output_new (ServesAll first health input)
+  serves_quit output_new health ends is_quit text = (
     run_text run_after,
     text ∙ sym text_after,
     record {
@@ -157,6 +160,7 @@ module _ (input before : List ℕ) (old new : State) (reading_old reading_new : 
       last = new;
       steps = steps_after;
       says = (
+        ends,
         inr (record {
           before = run_lines s.run;
           quit = e.line;
@@ -171,7 +175,7 @@ module _ (input before : List ℕ) (old new : State) (reading_old reading_new : 
     },
   )
 
-  pub serves_short : (output_new : List ℕ) → ¬ IsQuit e.line → TakesFront output_old output_new (reply_text e.reply) → Writes before output_new (Serves OutputFault input left_new)
+  pub serves_short : (output_new : List ℕ) → ¬ IsQuit e.line → TakesFront output_old output_new (reply_text e.reply) → Writes before output_new (Serves first OutputFault input left_new)
   serves_short output_new not_quit front = (
     run_text s.run ++ take front.0 (reply_text e.reply),
     front.2 ∙ ap (λ (text : List ℕ). text ++ take front.0 (reply_text e.reply)) s.text ∙ append_assoc before (run_text s.run) (take front.0 (reply_text e.reply)),
@@ -188,17 +192,17 @@ module _ (input before : List ℕ) (old new : State) (reading_old reading_new : 
   )
 
 -- What is served when the run ends without a line.
-module _ (input before : List ℕ) (session : State) (reading_old reading_new : Reading) (left_old left_new output_old output_new : List ℕ)
-    (s : Serving input before session reading_old left_old output_old) where
-  pub serves_end : ahead reading_old left_old ≡ [] → output_new ≡ output_old → Writes before output_new (Serves Done input left_new)
-  serves_end none same = let all = sym (append-nil (run_lines s.run)) ∙ ap (λ (bs : List ℕ). run_lines s.run ++ lines_of bs) (sym none) ∙ s.lines in (
+module _ (first : State) (input before : List ℕ) (session : State) (reading_old reading_new : Reading) (left_old left_new output_old output_new : List ℕ)
+    (s : Serving first input before session reading_old left_old output_old) where
+  pub serves_end : (health : Health) → session.health ≡ health → ahead reading_old left_old ≡ [] → output_new ≡ output_old → Writes before output_new (ServesAll first health input)
+  serves_end health ends none same = let all = sym (append-nil (run_lines s.run)) ∙ ap (λ (bs : List ℕ). run_lines s.run ++ lines_of bs) (sym none) ∙ s.lines in (
     run_text s.run,
     same ∙ s.text,
     record {
       run = s.run;
       last = session;
       steps = s.steps;
-      says = (inl (subst NoQuit all s.no_quit, all), refl);
+      says = (ends, inl (subst NoQuit all s.no_quit, all), refl);
     },
   )
 
@@ -227,25 +231,29 @@ module _ (input before : List ℕ) (session : State) (reading_old reading_new : 
       no_quit = s.no_quit;
     }
 
-    pub serves_fault : Writes before output_new (Serves InputFault input left_new)
+    pub serves_fault : Writes before output_new (Serves first InputFault input left_new)
     serves_fault = (run_text s.run, b.output ∙ s.text, record { run = s.run; last = session; steps = s.steps; says = (serves_ended, refl) })
 
-    pub serves_too_long : reading_new.taken ≡ 2 ^ 30 → reading_new.taken + length left_new ≡ reading_old.taken + length left_old → Writes before output_new (Serves InputTooLong input left_new)
+    pub serves_too_long : reading_new.taken ≡ 2 ^ 30 → reading_new.taken + length left_new ≡ reading_old.taken + length left_old → Writes before output_new (Serves first InputTooLong input left_new)
     serves_too_long limit counted =
         let all = boundary.used ++ b.drops.piece in
         let size : length input ≡ length all + length left_new = ap length input_is_taken ∙ length-append all left_new in
         (run_text s.run, b.output ∙ s.text, record { run = s.run; last = session; steps = s.steps; says = (serves_ended, omega (arith, size, limit, counted, s.counted), refl) })
 
--- what a turn that ends the run has served
-pub served : (exit : Exit) (input before : List ℕ) (old new : State) (reading_old reading_new : Reading) (left_old left_new output_old output_new : List ℕ)
-    → Serving input before old reading_old left_old output_old → reading_new.taken + length left_new ≡ reading_old.taken + length left_old
-    → TurnSays old new reading_old reading_new (ahead reading_old left_old) (ahead reading_new left_new) output_old output_new (Some exit) → Writes before output_new (Serves exit input left_new)
-served Done input before old new ro rn lo ln oo on s counted says = elim says [
-  | inl at_end ↦ serves_end input before old ro rn lo ln oo on s at_end.0 at_end.1
-  | inr quits ↦ serves_quit input before old new ro rn lo ln oo s _ quits on quits.more.0 quits.more.1
-]
-served Usage input before old new ro rn lo ln oo on s counted says = absurd says
-served NoMemory input before old new ro rn lo ln oo on s counted says = absurd says
-served InputFault input before old new ro rn lo ln oo on s counted says = serves_fault input before old ro rn lo ln oo on s says
-served OutputFault input before old new ro rn lo ln oo on s counted says = serves_short input before old new ro rn lo ln oo s _ says on says.more.0 says.more.1
-served InputTooLong input before old new ro rn lo ln oo on s counted says = serves_too_long input before old ro rn lo ln oo on s says.0 says.1 counted
+-- What a turn that ends the run has served.
+module _ (first : State) (input before : List ℕ) (old new : State) (reading_old reading_new : Reading) (left_old left_new output_old output_new : List ℕ)
+    (s : Serving first input before old reading_old left_old output_old) (counted : reading_new.taken + length left_new ≡ reading_old.taken + length left_old) where
+  serves_all : (health : Health) → Ends old new (ahead reading_old left_old) (ahead reading_new left_new) output_old output_new reading_new.ended health → Writes before output_new (ServesAll first health input)
+  serves_all health says = elim says.1 [
+    | inl at_end ↦ serves_end first input before old reading_old reading_new left_old left_new output_old output_new s health (ap (λ (state : State). state.health) (sym at_end.1) ∙ says.0) at_end.0 at_end.2
+    | inr quits ↦ serves_quit first input before old new reading_old reading_new left_old left_new output_old s _ quits output_new health says.0 quits.more.0 quits.more.1
+  ]
+
+  pub served : (exit : Exit) → TurnSays old new reading_old reading_new (ahead reading_old left_old) (ahead reading_new left_new) output_old output_new (Some exit) → Writes before output_new (Serves first exit input left_new)
+  served Done says = serves_all Live says
+  served StoreFailed says = serves_all Failed says
+  served Usage says = absurd says
+  served NoMemory says = absurd says
+  served InputFault says = serves_fault first input before old reading_old reading_new left_old left_new output_old output_new s says
+  served OutputFault says = serves_short first input before old new reading_old reading_new left_old left_new output_old s _ says output_new says.more.0 says.more.1
+  served InputTooLong says = serves_too_long first input before old reading_old reading_new left_old left_new output_old output_new s says.0 says.1 counted

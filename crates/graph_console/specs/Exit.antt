@@ -1,10 +1,11 @@
 -- The exit statuses.
 use Rattle.std.specs.Prelude.{ℕ}
 use Rattle.graph_console.specs.declared.exit.Exit.{Exit}
-use Rattle.graph_console.specs.declared.exit.Exit.TheVariants.{Done, Usage, InputFault, OutputFault, NoMemory, InputTooLong}
+use Rattle.graph_console.specs.declared.exit.Exit.TheVariants.{Done, StoreFailed, Usage, InputFault, OutputFault, NoMemory, InputTooLong}
 
 abbrev pub status : Exit → ℕ
 status Done = 0
+status StoreFailed = 1
 status Usage = 2
 status InputFault = 3
 status OutputFault = 4

@@ -1,9 +1,4 @@
-pub mod Console
 pub mod Exit
-pub mod Grammar
 pub mod Main
-pub mod Numbers
-pub mod Parse
 pub mod Run
 pub mod Serving
-pub mod Session

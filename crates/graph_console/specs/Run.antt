@@ -3,7 +3,8 @@ use Rattle.std.specs.Prelude.{◌≡◌, ◌⊎◌, ℕ, ◌≤◌, Bool, List, 
 use Rattle.std.specs.List.{AllByRecursion}
 use Rattle.stream_io.specs.Lines.{InputLine}
 use Rattle.plain_graph.specs.Reply.{Reply, reply_text}
-use Rattle.graph_console.specs.Console.{State, Step, IsQuit}
+use Rattle.graph_session.specs.State.{State, IsQuit}
+use Rattle.graph_session.specs.Console.{Step}
 
 -- a line and its reply; rose says whether the disk failed in the line
 pub record Exchange : Type 0 where

@@ -6,6 +6,8 @@ ghost use Rattle.graph_console.specs.Exit.{status};
 pub enum Exit {
     /// The input was read to its end or to `quit`.
     Done,
+    /// So it was, and at its end the session's health was failed.
+    StoreFailed,
     /// The words are no command of the program.
     Usage,
     /// The source of the input failed.
@@ -25,6 +27,7 @@ impl Exit {
     {
         match self {
             Exit::Done => 0,
+            Exit::StoreFailed => 1,
             Exit::Usage => 2,
             Exit::InputFault => 3,
             Exit::OutputFault => 4,

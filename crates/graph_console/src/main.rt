@@ -1,26 +1,20 @@
-//! The console program over a plain graph: lines of the input in, replies out. `graph_main` is the
-//! program over any source, sink and disk; `main` gives it the real ones.
+//! The console program: lines of the input in, replies out. `graph_main` is the program over any
+//! source, sink and disk; `main` gives it the real ones.
 #![tactic(auto)]
 
 mod exit;
-mod parse;
 mod program;
-mod query_reply;
 mod serve;
-mod session;
 #[cfg(test)]
 mod tests;
-mod turn;
 
 pub use exit::Exit;
 use host_edge::{FileDisk, StdSink, StdSource};
 pub use program::graph_main;
-pub use session::Session;
 use std::alloc::AllocError;
 use std::process::ExitCode;
 use std::rt::Env;
 use std::{env, io};
-pub use turn::Turn;
 
 /// The program's words. Where one isn't text they are none, since no command has such a word.
 fn words(rt: &(impl Env + AllocGlobal)) -> Result<Vec<String>, AllocError> {

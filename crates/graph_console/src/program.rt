@@ -1,13 +1,16 @@
-ghost use Rattle.std.specs.Prelude.{◌≡◌, ◌⊎◌, ◌↔◌, ◌++◌, map, string_bytes, IsTrue};
+ghost use Rattle.std.specs.Prelude.{◌≡◌, ◌⊎◌, ◌++◌, map, string_bytes};
 ghost use Rattle.fault_count.specs.Cause.{Rose};
 ghost use Rattle.stream_io.specs.Streams.{TakesFront};
-ghost use Rattle.graph_console.specs.Console.{first_state};
-ghost use Rattle.graph_console.specs.Main.{AsksToRun, Serves, Refuses, Writes, memory_line, usage_line};
+ghost use Rattle.console_words.specs.Words.{AsksFor};
+ghost use Rattle.console_words.specs.declared.run_options.RunOptions.{RunOptions};
+ghost use Rattle.graph_console.specs.Main.{AskForNothing, Serves, Refuses, Writes, config_for, state_for, memory_line};
 
+use crate::Exit;
 use crate::serve::serve;
-use crate::{Exit, Session};
+use console_words::{RunOptions, WordsFault, read_words};
 use disk_model::Disk;
 use fault_count::Failed;
+use graph_session::{Config, OpenFault, Session};
 use plain_graph::{Refusal, refused};
 use std::alloc::Global;
 use stream_io::{LineReader, Sink, Source};
@@ -25,15 +28,18 @@ pub fn graph_main<S: Source, K: Sink, D: Disk>(
     disk: &mut D,
 ) -> Exit
     // What is written are the replies of a run of the console to the input's lines, as far as the exit says.
-    ensures serves { AsksToRun (map string_bytes words.items) → S.tells → K.tells
-        → Writes (K.taken output.old) (K.taken output.new) (Serves result (S.left input.old) (S.left input.new)) }
+    ensures serves { (options : RunOptions) → AsksFor (map string_bytes words.items) options → S.tells → K.tells
+        → Writes (K.taken output.old) (K.taken output.new) (Serves (state_for options) result (S.left input.old) (S.left input.new)) }
 
-    // Words that are no command get the usage line, and the input isn't read.
-    ensures refuses { (¬ AsksToRun (map string_bytes words.items)) → K.tells
+    // Words that are no command get the usage line.
+    ensures refuses { AskForNothing (map string_bytes words.items) → K.tells
         → Writes (K.taken output.old) (K.taken output.new) (Refuses result) }
-    ensures usage { (result ≡ Exit.Usage → ¬ AsksToRun (map string_bytes words.items))
-        × ((¬ AsksToRun (map string_bytes words.items)) → (result ≡ Exit.Usage) ⊎ (result ≡ Exit.OutputFault)) }
-    ensures unread { (¬ AsksToRun (map string_bytes words.items)) ⊎ (result ≡ Exit.NoMemory) → input.new ≡ input.old }
+    ensures usage { result ≡ Exit.Usage → AskForNothing (map string_bytes words.items) }
+    ensures refused { AskForNothing (map string_bytes words.items)
+        → (result ≡ Exit.Usage) ⊎ (result ≡ Exit.OutputFault) ⊎ (result ≡ Exit.NoMemory) }
+
+    // Where nothing is served, the input isn't read.
+    ensures unread { AskForNothing (map string_bytes words.items) ⊎ (result ≡ Exit.NoMemory) → input.new ≡ input.old }
 
     // A fault is answered only where its object counted one.
     ensures input_fault { result ≡ Exit.InputFault → Rose (S.faults input.old) (S.faults input.new) }
@@ -42,24 +48,31 @@ pub fn graph_main<S: Source, K: Sink, D: Disk>(
     // Nothing is stored yet.
     ensures disk { disk.new ≡ disk.old }
 {
-    let _ = disk;
-    if !asks_to_run(&words) {
-        return last_line(output, USAGE, Exit::Usage);
-    }
+    let options = match read_words(alloc, &words) {
+        Ok(options) => options,
+        Err(WordsFault::Usage) => return last_line(output, USAGE, Exit::Usage),
+        Err(WordsFault::Memory) => return no_memory(output),
+    };
     let Ok(mut reader) = LineReader::new(alloc) else {
         return no_memory(output);
     };
-    let mut session = Session::new(alloc);
-    serve(&mut reader, &mut session, input, output)
+    match Session::open(alloc, disk, config_of(options)) {
+        Ok(mut session) => {
+            let exit = serve(&mut reader, &mut session, input, output);
+            let _ = session.close();
+            exit
+        }
+        Err(OpenFault::Memory) => no_memory(output),
+    }
 }
 
-/// Whether the words behind the program's name are the one word `run`.
-fn asks_to_run(words: &[String]) -> bool
-    ensures { IsTrue result ↔ AsksToRun (map string_bytes words.now) }
+/// The store that the options ask for.
+fn config_of(options: RunOptions) -> Config
+    ensures { result ≡ config_for options }
 {
-    match words {
-        [_, word] => word.as_str() == "run",
-        _ => false,
+    Config {
+        threshold: options.threshold,
+        limit: options.limit,
     }
 }
 

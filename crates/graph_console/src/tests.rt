@@ -70,6 +70,15 @@ fn long_label(alloc: Global, len: usize) -> Result<Vec<u8>, AllocError> {
     Ok(line)
 }
 
+/// `node a` so many times.
+fn many_nodes(alloc: Global, count: usize) -> Result<Vec<u8>, AllocError> {
+    let mut lines = Vec::new(alloc);
+    for _ in 0..count {
+        lines.extend_from_slice(b"node a\n")?;
+    }
+    Ok(lines)
+}
+
 /// The input gives the output, in whatever pieces it comes.
 fn check(rt: &impl Abort, alloc: Global, input: &[u8], want: &[u8]) -> Result<(), AllocError> {
     for piece in [1, 2, 3, 7, 65_536] {
@@ -91,7 +100,7 @@ fn check(rt: &impl Abort, alloc: Global, input: &[u8], want: &[u8]) -> Result<()
 
 #[test]
 fn lines_get_their_replies(rt: HostRuntime) -> Result<(), Fail> {
-    let cases: [(&[u8], &[u8]); 15] = [
+    let cases: [(&[u8], &[u8]); 16] = [
         (b"", b""),
         (b"\n\r\n \t \n", b""),
         (b"g.V().count()", b"==>0\nend\n"),
@@ -105,25 +114,32 @@ fn lines_get_their_replies(rt: HostRuntime) -> Result<(), Fail> {
         ),
         (
             b"node a\r\r\nnode a\rnode b\n",
-            b"error syntax 0\nerror syntax 0\n",
+            b"error syntax 6\nerror syntax 6\n",
         ),
         (b"node a\r", b"node 0\n"),
         (b"node a\nquit\nnode b\n", b"node 0\n"),
         (b"\t quit", b""),
         (
             b"quit now\nquitx\nnode a",
-            b"error syntax 0\nerror syntax 0\nnode 0\n",
+            b"error syntax 5\nerror syntax 4\nnode 0\n",
         ),
         (
             b"node\nNODE a\nnode 1\nnode a b\nnodea\n",
-            b"error syntax 0\nerror syntax 0\nerror syntax 0\nerror syntax 0\nerror syntax 0\n",
+            b"error syntax 4\nerror syntax 0\nerror syntax 5\nerror syntax 7\nerror syntax 4\n",
         ),
         (
             b"g.V\ng.V()x\ng.E()\ng.V().count\n",
-            b"error syntax 0\nerror syntax 0\nerror syntax 0\nerror syntax 0\n",
+            b"error syntax 3\nerror syntax 5\nerror syntax 2\nerror syntax 11\n",
         ),
-        (b"g.V().count().count()\n", b"error syntax 0\n"),
-        (b"node a\0\n\xff\n", b"error syntax 0\nerror syntax 0\n"),
+        (
+            b"g.V().count().count()\ng.V().foo()\n",
+            b"error syntax 13\nerror syntax 6\n",
+        ),
+        (b"node a\0\n\xff\n", b"error syntax 6\nerror syntax 0\n"),
+        (
+            b"xx\nnode a\n  y\n",
+            b"error syntax 0\nnode 0\nerror syntax 2\n",
+        ),
         (
             b"node _\nnode Z9_z\nnode _\ng.V()",
             b"node 0\nnode 1\nnode 2\n==>v[0]\n==>v[1]\n==>v[2]\nend\n",
@@ -151,7 +167,47 @@ fn long_lines_and_labels_have_their_limits(rt: HostRuntime) -> Result<(), Fail> 
         check(&rt, alloc, &long_line(alloc, len, end)?, want)?;
     }
     check(&rt, alloc, &long_label(alloc, 48)?, b"node 0\n")?;
-    check(&rt, alloc, &long_label(alloc, 49)?, b"error syntax 0\n")?;
+    for len in [49, 8_180] {
+        let line = long_label(alloc, len)?;
+        check(&rt, alloc, &line, b"error name length 5\n")?;
+    }
+    Ok(())
+}
+
+/// The run with these words gives the output.
+fn check_words(
+    rt: &impl Abort,
+    alloc: Global,
+    words: &[&str],
+    input: &[u8],
+    want: &[u8],
+) -> Result<(), AllocError> {
+    let streams = Streams {
+        piece: 16,
+        failing_read: 0,
+        failing_put: 0,
+    };
+    let ended = run_with(rt, alloc, words, input, &streams)?;
+    assert_eq!(rt; ended.exit, Exit::Done, "words {words:?}");
+    assert_eq!(rt; ended.output.taken(), want, "words {words:?}");
+    Ok(())
+}
+
+#[test]
+fn a_full_graph_refuses_nodes(rt: HostRuntime) -> Result<(), Fail> {
+    let alloc = rt.alloc();
+    let mut input = many_nodes(alloc, 17)?;
+    input.extend_from_slice(b"node b\ng.V().count()\n")?;
+    let want: &[u8] =
+        b"node 0\nnode 1\nnode 2\nnode 3\nnode 4\nnode 5\nnode 6\nnode 7\nnode 8\nnode 9\nnode 10\nnode 11\nnode 12\nnode 13\nnode 14\nnode 15\nerror full nodes\nerror full nodes\n==>16\nend\n";
+    let words: [&[&str]; 3] = [
+        &["nipakeel", "run", "--limit", "16"],
+        &["nipakeel", "run", "--limit=16", "--threshold=200"],
+        &["nipakeel", "run", "--threshold", "2", "--limit", "+016"],
+    ];
+    for words in words {
+        check_words(&rt, alloc, words, &input, want)?;
+    }
     Ok(())
 }
 
@@ -160,7 +216,7 @@ fn faults_and_usage_end_the_run(rt: HostRuntime) -> Result<(), Fail> {
     let usage: &[u8] = b"usage: run [--threshold N] [--limit N] | sample SEED COUNT\n";
     let run: &[&str] = &["nipakeel", "run"];
     // The words, the input, the read and the put that fail, the status, and what is written.
-    let cases: [(&[&str], &[u8], u64, u64, u8, &[u8]); 12] = [
+    let cases: [(&[&str], &[u8], u64, u64, u8, &[u8]); 18] = [
         (run, b"node a\ng.V", 2, 0, 3, b"node 0\n"),
         (run, b"node a\n", 1, 0, 3, b""),
         (run, b"node a", 0, 1, 4, b""),
@@ -173,6 +229,12 @@ fn faults_and_usage_end_the_run(rt: HostRuntime) -> Result<(), Fail> {
         (&["run"], b"node a\n", 0, 0, 2, usage),
         (&["nipakeel", "Run"], b"node a\n", 1, 0, 2, usage),
         (&["nipakeel", "walk"], b"node a\n", 0, 1, 4, b""),
+        (&["nipakeel", "sample", "1", "1"], b"", 0, 0, 2, usage),
+        (&["nipakeel", "--help"], b"", 0, 0, 2, usage),
+        (&["nipakeel", "run", "--"], b"", 0, 0, 2, usage),
+        (&["nipakeel", "run", "--limit", "15"], b"", 0, 0, 2, usage),
+        (&["nipakeel", "run", "--thr", "60"], b"", 0, 0, 2, usage),
+        (&["nipakeel", "run", "--threshold"], b"", 0, 0, 2, usage),
     ];
     for (words, input, failing_read, failing_put, status, want) in cases {
         let streams = Streams {

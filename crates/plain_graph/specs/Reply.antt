@@ -29,6 +29,9 @@ result_text item = text_line (codes "==>" ++ item_text item)
 abbrev pub refusal_text : Refusal → List ℕ
 refusal_text refusals.LongLine = codes "error line"
 refusal_text (refusals.Syntax at) = codes "error syntax " ++ decimal at
+refusal_text (refusals.NameLength at) = codes "error name length " ++ decimal at
+refusal_text refusals.FullNodes = codes "error full nodes"
+refusal_text refusals.FullNames = codes "error names full"
 refusal_text refusals.Memory = codes "error memory"
 
 -- the bytes of a reply

@@ -4,6 +4,7 @@
 
 mod command;
 mod item;
+mod limits;
 mod query;
 mod refusal;
 mod reply;
@@ -12,6 +13,7 @@ mod text;
 
 pub use command::Command;
 pub use item::{Item, Value};
+pub use limits::{NAME_BYTES, NAMES};
 pub use query::{Query, Step, StepList};
 pub use refusal::Refusal;
 pub use reply::{end_of_results, node_made, refused, result_line};

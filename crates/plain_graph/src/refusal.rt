@@ -3,8 +3,14 @@
 pub enum Refusal {
     /// It has more than 8,192 bytes.
     LongLine,
-    /// It spells no command; `at` is the byte place of the fault.
-    Syntax { at: u32 },
+    /// It begins no line of the grammar behind the byte place `at`.
+    Syntax { at: usize },
+    /// The name at the byte place `at` has more than 48 bytes.
+    NameLength { at: usize },
+    /// There are as many nodes as the limit allows.
+    FullNodes,
+    /// There are as many names as a store may have, and the line has a new one.
+    FullNames,
     /// There was no memory for it.
     Memory,
 }

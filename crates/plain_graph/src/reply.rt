@@ -23,14 +23,20 @@ pub fn refused(why: Refusal) -> ShortText
     let mut text = ShortText::new();
     let mut digits = Buffer::new();
     match why {
-        Refusal::LongLine => text.push(b"error line\n"),
-        Refusal::Memory => text.push(b"error memory\n"),
+        Refusal::LongLine => text.push(b"error line"),
+        Refusal::FullNodes => text.push(b"error full nodes"),
+        Refusal::FullNames => text.push(b"error names full"),
+        Refusal::Memory => text.push(b"error memory"),
         Refusal::Syntax { at } => {
             text.push(b"error syntax ");
             text.push(digits.format(at).as_bytes());
-            text.push(b"\n");
+        }
+        Refusal::NameLength { at } => {
+            text.push(b"error name length ");
+            text.push(digits.format(at).as_bytes());
         }
     }
+    text.push(b"\n");
     text
 }
 

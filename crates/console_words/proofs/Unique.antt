@@ -1,0 +1,94 @@
+-- Words ask for one run at most.
+use Rattle.std.proofs.Common.{◌≡◌, ◌∙◌, ◌<◌, ℕ, Bool, true, false, zero, suc, arith, codes, refl, sym, ap, subst, List, [], ◌∷◌, ◌++◌, Option, Some, None}
+use Rattle.clap.specs.Walk.{Row, Text, one_of}
+use Rattle.console_words.specs.Numbers.{ReadsNumber}
+use Rattle.console_words.specs.Words.{AsksFor}
+use Rattle.console_words.specs.declared.run_options.RunOptions.{RunOptions}
+use Rattle.console_words.proofs.Turns.{name_of}
+use Rattle.console_words.proofs.Reading.{Use, rows_after_uses, spelled, words_of}
+use Rattle.console_words.proofs.Asks.{Answers, asks_back}
+
+-- a text is read as one number
+reads_one : (k : ℕ) (text : Option Text) (m n : Option ℕ) → ReadsNumber k text m → ReadsNumber k text n → m ≡ n
+reads_one k None m n p q = p ∙ sym q
+reads_one k (Some text) None None p q = refl
+reads_one k (Some text) None (Some y) p q = absurd (p q.0)
+reads_one k (Some text) (Some x) None p q = absurd (q p.0)
+reads_one k (Some text) (Some x) (Some y) p q = ap Some (p.1 ∙ sym q.1)
+
+answers_one : (rows : List Row) (a b : RunOptions) → Answers rows a → Answers rows b → a ≡ b
+answers_one rows a b p q =
+    let threshold : a.threshold ≡ b.threshold = reads_one 16 (one_of (name_of true) rows) a.threshold b.threshold p.threshold q.threshold in
+    let limit : a.limit ≡ b.limit = reads_one 32 (one_of (name_of false) rows) a.limit b.limit p.limit q.limit in
+    ap (λ (n : Option ℕ). record { threshold = n; limit = a.limit }) threshold ∙ ap (λ (n : Option ℕ). record { threshold = b.threshold; limit = n }) limit
+
+differ : (a b : ℕ) → a < b → a ≡ b → ⊥
+differ a b less same = omega arith
+
+-- the byte at this place of the first word, and 0 behind its end
+byte_at : ℕ → Text → ℕ
+byte_at n [] = 0
+byte_at zero (b ∷ bytes) = b
+byte_at (suc n) (b ∷ bytes) = byte_at n bytes
+
+byte_of : ℕ → List Text → ℕ
+byte_of n [] = 0
+byte_of n (word ∷ words) = byte_at n word
+
+-- the first word tells which option is used first, and how
+pub words_of-one : (us vs : List Use) → words_of us ≡ words_of vs → us ≡ vs
+unfolding byte_of byte_at
+words_of-one [] [] e = refl
+words_of-one [] (v ∷ vs) e = starts v.is_joined v.which v.text e
+  where
+    starts : (joined which : Bool) (text : Text) → [] ≡ spelled joined which text ++ words_of vs → [] ≡ v ∷ vs
+    starts true which text e = cc
+    starts false which text e = cc
+words_of-one (u ∷ us) [] e = starts u.is_joined u.which u.text e
+  where
+    starts : (joined which : Bool) (text : Text) → spelled joined which text ++ words_of us ≡ [] → u ∷ us ≡ []
+    starts true which text e = cc
+    starts false which text e = cc
+words_of-one (u ∷ us) (v ∷ vs) e = starts u.is_joined u.which u.text refl v.is_joined v.which v.text refl e (words_of-one us vs)
+  where
+    starts : (joined which : Bool) (text : Text) → u ≡ record { which = which; text = text; is_joined = joined }
+        → (joined2 which2 : Bool) (text2 : Text) → v ≡ record { which = which2; text = text2; is_joined = joined2 }
+        → spelled joined which text ++ words_of us ≡ spelled joined2 which2 text2 ++ words_of vs
+        → (words_of us ≡ words_of vs → us ≡ vs) → u ∷ us ≡ v ∷ vs
+    starts true true text a true true text2 b e more =
+        let same : words_of us ≡ words_of vs = cc in
+        let rest = more same in
+        cc
+    starts true true text a true false text2 b e more = absurd (differ 108 116 (omega arith) (sym (ap (byte_of 2) e)))
+    starts true true text a false true text2 b e more = absurd (differ 0 61 (omega arith) (sym (ap (byte_of 11) e)))
+    starts true true text a false false text2 b e more = absurd (differ 108 116 (omega arith) (sym (ap (byte_of 2) e)))
+    starts true false text a true true text2 b e more = absurd (differ 108 116 (omega arith) (ap (byte_of 2) e))
+    starts true false text a true false text2 b e more =
+        let same : words_of us ≡ words_of vs = cc in
+        let rest = more same in
+        cc
+    starts true false text a false true text2 b e more = absurd (differ 108 116 (omega arith) (ap (byte_of 2) e))
+    starts true false text a false false text2 b e more = absurd (differ 0 61 (omega arith) (sym (ap (byte_of 7) e)))
+    starts false true text a true true text2 b e more = absurd (differ 0 61 (omega arith) (ap (byte_of 11) e))
+    starts false true text a true false text2 b e more = absurd (differ 108 116 (omega arith) (sym (ap (byte_of 2) e)))
+    starts false true text a false true text2 b e more =
+        let same : words_of us ≡ words_of vs = cc in
+        let rest = more same in
+        cc
+    starts false true text a false false text2 b e more = absurd (differ 108 116 (omega arith) (sym (ap (byte_of 2) e)))
+    starts false false text a true true text2 b e more = absurd (differ 108 116 (omega arith) (ap (byte_of 2) e))
+    starts false false text a true false text2 b e more = absurd (differ 0 61 (omega arith) (ap (byte_of 7) e))
+    starts false false text a false true text2 b e more = absurd (differ 108 116 (omega arith) (ap (byte_of 2) e))
+    starts false false text a false false text2 b e more =
+        let same : words_of us ≡ words_of vs = cc in
+        let rest = more same in
+        cc
+
+pub asks_one : (words : List Text) (a b : RunOptions) → AsksFor words a → AsksFor words b → a ≡ b
+asks_one words a b p q =
+    let first = asks_back words a p in
+    let second = asks_back words b q in
+    let whole : first.name ∷ codes "run" ∷ first.rest ≡ second.name ∷ codes "run" ∷ second.rest = sym first.words_are ∙ second.words_are in
+    let rest : first.rest ≡ second.rest = cc in
+    let same : first.passes.uses ≡ second.passes.uses = words_of-one _ _ (sym first.passes.words_are ∙ (rest ∙ second.passes.words_are)) in
+    answers_one (rows_after_uses second.passes.uses []) a b (subst (λ us. Answers (rows_after_uses us []) a) same first.passes.answers) second.passes.answers

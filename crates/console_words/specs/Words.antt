@@ -1,0 +1,31 @@
+-- Which words ask for a run, and what they ask for.
+use Rattle.std.specs.Prelude.{◌≡◌, ◌⊎◌, ◌≤◌, ℕ, List, [], ◌∷◌, ◌++◌, Option, Some, None, codes}
+use Rattle.std.specs.Str.Parse.{IsNumeral, digits_value, without_leading_plus}
+use Rattle.console_words.specs.declared.run_options.RunOptions.{RunOptions}
+
+-- the text is a decimal number n as Rust reads one: zeros may stand first, and a plus before them
+abbrev pub IsNumber : List ℕ → ℕ → Type 0
+IsNumber text n = IsNumeral 10 (without_leading_plus text) × (digits_value 10 (without_leading_plus text) ≡ n)
+
+-- the words `--name TEXT` or the word `--name=TEXT`, where the text is the number n, from low to high
+pub record GivesNumber (name : List ℕ) (low high n : ℕ) (words : List (List ℕ)) : Type 0 where
+  pub text : List ℕ
+  pub number : IsNumber text n
+  pub least : low ≤ n
+  pub most : n ≤ high
+  pub written : (words ≡ name ∷ text ∷ []) ⊎ (words ≡ (name ++ codes "=" ++ text) ∷ [])
+
+-- the words of an option that may be left out
+abbrev pub Gives : List ℕ → ℕ → ℕ → Option ℕ → List (List ℕ) → Type 0
+Gives name low high None words = words ≡ []
+Gives name low high (Some n) words = GivesNumber name low high n words
+
+-- The words are the program's name, `run`, and the words of the two options, in either order.
+pub record AsksFor (words : List (List ℕ)) (options : RunOptions) : Type 0 where
+  pub name : List ℕ
+  pub threshold_words : List (List ℕ)
+  pub limit_words : List (List ℕ)
+  pub threshold : Gives (codes "--threshold") 2 200 options.threshold threshold_words
+  pub limit : Gives (codes "--limit") 16 16777216 options.limit limit_words
+  pub are : (words ≡ name ∷ codes "run" ∷ threshold_words ++ limit_words)
+      ⊎ (words ≡ name ∷ codes "run" ∷ limit_words ++ threshold_words)

@@ -1,0 +1,14 @@
+//! What the words behind the program's name ask for. A call reads each word once, and builds clap's
+//! command anew.
+#![tactic(auto)]
+
+mod command;
+mod run_options;
+#[cfg(test)]
+mod tests;
+mod words;
+mod words_fault;
+
+pub use run_options::RunOptions;
+pub use words::read_words;
+pub use words_fault::WordsFault;

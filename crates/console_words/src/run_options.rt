@@ -1,0 +1,8 @@
+/// What the words ask for: options that aren't given are left open.
+#[derive(Clone, Copy, Debug, PartialEq, Eq)]
+pub struct RunOptions {
+    /// The number behind `--threshold`, 2 to 200.
+    pub threshold: Option<u16>,
+    /// The number behind `--limit`, 16 to 16,777,216.
+    pub limit: Option<u32>,
+}

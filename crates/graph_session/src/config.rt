@@ -1,0 +1,36 @@
+ghost use Rattle.std.specs.Prelude.{◌≡◌};
+ghost use Rattle.graph_session.specs.Config.{shape_of};
+
+/// What a store is asked to be; what isn't given is left open.
+#[derive(Clone, Copy, Debug, PartialEq, Eq)]
+pub struct Config {
+    /// A node with more relationships than this is dense: 2 to 200.
+    pub threshold: Option<u16>,
+    /// How many nodes there may be, and as many of each other kind: 16 to 16,777,216.
+    pub limit: Option<u32>,
+}
+
+/// How a store is laid out.
+#[derive(Clone, Copy, Debug, PartialEq, Eq)]
+pub struct Shape {
+    pub threshold: u16,
+    pub limit: u32,
+}
+
+/// The threshold of a store that isn't asked for another.
+const THRESHOLD: u16 = 50;
+
+/// The limit of a store that isn't asked for another.
+const LIMIT: u32 = 1_048_576;
+
+impl Config {
+    /// The shape of a new store.
+    pub fn shape(&self) -> Shape
+        ensures { result ≡ shape_of self.now }
+    {
+        Shape {
+            threshold: self.threshold.unwrap_or(THRESHOLD),
+            limit: self.limit.unwrap_or(LIMIT),
+        }
+    }
+}

@@ -1,0 +1,12 @@
+pub mod Agreement
+pub mod Behind
+pub mod Leftmost
+pub mod Lines
+pub mod Names
+pub mod Nodes
+pub mod Queries
+pub mod Runs
+pub mod Stops
+pub mod Tails
+pub mod Tokens
+pub mod Words

@@ -1,0 +1,60 @@
+-- Runs of bytes that pass a test, and the byte behind a run.
+use Rattle.std.proofs.Common.{◌≡◌, ℕ, suc, ◌+◌, Bool, true, false, List, [], ◌∷◌, ◌++◌, take, drop, refl, sym, ap, ◌∙◌, ⊎_elim, subst, arith}
+use Rattle.std.specs.List.{prefix_len, AllByRecursion}
+use Rattle.std.proofs.lemmas.Bool.{cases_Bool, cond-true, cond-false}
+use Rattle.gremlin_parse.specs.Grammar.{is_name_byte}
+use Rattle.gremlin_parse.specs.Faults.{EndsName}
+use Rattle.gremlin_parse.specs.Reading.{first_byte, EndsRun, CutsRun}
+
+abbrev Passes : (ℕ → Bool) → List ℕ → Type 0
+Passes p bytes = AllByRecursion (λ b. p b ≡ true) bytes
+
+-- The bytes at the head that pass are a run as long as it can be.
+pub cut_run : (p : ℕ → Bool) (bytes : List ℕ) → CutsRun p bytes (take (prefix_len p bytes) bytes) (drop (prefix_len p bytes) bytes)
+cut_run p [] = record { bytes_are = refl; passes = tt; ends = tt }
+cut_run p (b ∷ bytes) =
+    let here = cut_run p bytes in
+    let Cut : ℕ → Type 0 = λ n. CutsRun p (b ∷ bytes) (take n (b ∷ bytes)) (drop n (b ∷ bytes)) in
+    ⊎_elim
+    (λ (yes : p b ≡ true).
+    let longer : CutsRun p (b ∷ bytes) (b ∷ take (prefix_len p bytes) bytes) (drop (prefix_len p bytes) bytes) = record { bytes_are = ap (λ rest. b ∷ rest) here.bytes_are; passes = (yes, here.passes); ends = here.ends } in
+    let n_is : suc (prefix_len p bytes) ≡ prefix_len p (b ∷ bytes) = omega (arith, cond-true (p b) (1 + prefix_len p bytes) 0 yes) in
+    let at_suc : Cut (suc (prefix_len p bytes)) = longer in
+    subst Cut n_is at_suc)
+    (λ (no : p b ≡ false).
+    let none : CutsRun p (b ∷ bytes) [] (b ∷ bytes) = record { bytes_are = refl; passes = tt; ends = no } in
+    let at_zero : Cut 0 = none in
+    subst Cut (sym (cond-false (p b) (1 + prefix_len p bytes) 0 no)) at_zero)
+    (cases_Bool (p b))
+
+-- what ends a run depends on the first byte only
+pub EndsRun-first_byte : (p : ℕ → Bool) (bytes more : List ℕ) → first_byte more ≡ first_byte bytes → EndsRun p bytes → EndsRun p more
+EndsRun-first_byte p bytes [] same ends = tt
+EndsRun-first_byte p [] (c ∷ more) same ends = cc
+EndsRun-first_byte p (b ∷ bytes) (c ∷ more) same ends =
+    let e : c ≡ b = cc in ap p e ∙ ends
+
+-- A cut into a run as long as it can be and the rest is the only one.
+pub run_is_unique : (p : ℕ → Bool) (run other rest more : List ℕ) → Passes p run → Passes p other → EndsRun p rest → EndsRun p more → run ++ rest ≡ other ++ more → (run ≡ other) × (rest ≡ more)
+run_is_unique p [] [] rest more ps qs ends stops e = (refl, e)
+run_is_unique p [] (c ∷ other) [] more ps qs ends stops e = cc
+run_is_unique p [] (c ∷ other) (b ∷ rest) more ps qs ends stops e =
+    let same : b ≡ c = cc in
+    let clash : false ≡ true = sym ends ∙ ap p same ∙ qs.0 in cc
+run_is_unique p (b ∷ run) [] rest [] ps qs ends stops e = cc
+run_is_unique p (b ∷ run) [] rest (c ∷ more) ps qs ends stops e =
+    let same : b ≡ c = cc in
+    let clash : true ≡ false = sym ps.0 ∙ ap p same ∙ stops in cc
+run_is_unique p (b ∷ run) (c ∷ other) rest more ps qs ends stops e =
+    let tails : run ++ rest ≡ other ++ more = cc in
+    let heads : b ≡ c = cc in
+    let (here, behind) = run_is_unique p run other rest more ps.1 qs.1 ends stops tails in
+    (cc, behind)
+
+pub EndsRun-EndsName : (bytes : List ℕ) → EndsName bytes → EndsRun is_name_byte bytes
+EndsRun-EndsName [] ends = tt
+EndsRun-EndsName (b ∷ bytes) ends = ends
+
+pub EndsName-EndsRun : (bytes : List ℕ) → EndsRun is_name_byte bytes → EndsName bytes
+EndsName-EndsRun [] ends = tt
+EndsName-EndsRun (b ∷ bytes) ends = ends

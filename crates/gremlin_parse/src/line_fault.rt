@@ -1,0 +1,15 @@
+use thiserror::Error;
+
+/// Why a line gives no command. Places are counted in bytes from the line's start.
+#[derive(Clone, Copy, Debug, PartialEq, Eq, Error)]
+pub enum LineFault {
+    /// There was no memory for the command.
+    #[error("no memory for the command")]
+    Memory,
+    /// No line of the grammar begins with more of the line than its bytes before `at`.
+    #[error("a fault of syntax at byte {at}")]
+    Syntax { at: usize },
+    /// The name at `at` has more than 48 bytes.
+    #[error("a name of more than 48 bytes at byte {at}")]
+    NameLength { at: usize },
+}

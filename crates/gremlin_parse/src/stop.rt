@@ -1,0 +1,10 @@
+/// Why reading stopped. `left` is the number of bytes from there to the line's end.
+#[derive(Clone, Copy)]
+pub(crate) enum Stop {
+    /// There was no memory for the command.
+    Memory,
+    /// No line of the grammar goes on so.
+    Syntax { left: usize },
+    /// A name of more than 48 bytes stands there.
+    NameLength { left: usize },
+}
