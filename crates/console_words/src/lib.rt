@@ -1,5 +1,5 @@
-//! What the words behind the program's name ask for. A call reads each word once, and builds clap's
-//! command anew.
+//! What the words behind the program's name ask for. A call goes over the words twice, and builds
+//! clap's command anew.
 #![tactic(auto)]
 
 mod command;

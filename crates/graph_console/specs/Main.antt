@@ -6,8 +6,7 @@ use Rattle.plain_graph.specs.Reply.{Refused, reply_text, text_line}
 use Rattle.plain_graph.specs.declared.refusal.Refusal.TheVariants as refusals
 use Rattle.console_words.specs.Words.{AsksFor}
 use Rattle.console_words.specs.declared.run_options.RunOptions.{RunOptions}
-use Rattle.graph_session.specs.Config.{shape_of}
-use Rattle.graph_session.specs.Session.{model_shape}
+use Rattle.graph_session.specs.Config.{model_shape, shape_of}
 use Rattle.graph_session.specs.declared.config.Config.{Config}
 use Rattle.graph_session.specs.State.{State, first_state}
 use Rattle.graph_session.specs.declared.health.Health.{Health}

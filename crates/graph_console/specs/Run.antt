@@ -6,7 +6,7 @@ use Rattle.plain_graph.specs.Reply.{Reply, reply_text}
 use Rattle.graph_session.specs.State.{State, IsQuit}
 use Rattle.graph_session.specs.Console.{Step}
 
--- a line and its reply; rose says whether the disk failed in the line
+-- a line and its reply; rose is to say whether the disk failed in the line, and no step uses it yet
 pub record Exchange : Type 0 where
   pub line : InputLine
   pub rose : Bool

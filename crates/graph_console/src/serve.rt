@@ -1,4 +1,4 @@
-ghost use Rattle.std.specs.Prelude.{◌≡◌, false, ◌≢◌, ◌⊎◌, ℕ, ◌+◌, ◌^◌, ◌<◌, ◌≤◌, List, length, IfNone, Some};
+ghost use Rattle.std.specs.Prelude.{◌≡◌, ◌≢◌, ◌+◌, ◌^◌, ◌<◌, ◌≤◌, false, length, IfNone, Some};
 ghost use Rattle.fault_count.specs.Cause.{Rose};
 ghost use Rattle.stream_io.specs.Reading.{IsFresh, ahead, used};
 ghost use Rattle.graph_session.specs.Session.{state_of};

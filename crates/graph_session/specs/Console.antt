@@ -16,7 +16,7 @@ pub record Makes (old : State) (label : List ℕ) (id : ℕ) (new : State) : Typ
   pub shape : new.shape ≡ old.shape
   pub health : new.health ≡ old.health
 
--- The step, reply by reply; rose says whether the disk failed in the line. A refusal is the first of the reasons that
+-- The step, reply by reply; rose is to say whether the disk failed in the line, and no case uses it yet. A refusal is the first of the reasons that
 -- hold, or that there was no memory, which is free for each line that gets a reply.
 abbrev pub Step : State → InputLine → Bool → Reply → State → Type 0
 Step old line rose Silent new = IsSilent line × (new ≡ old)

@@ -8,7 +8,7 @@ use Rattle.gremlin_parse.specs.Grammar.{Spells}
 use Rattle.graph_session.specs.declared.health.Health.{Health}
 use Rattle.graph_session.specs.declared.health.Health.TheVariants.{Live}
 
--- the shape of the store, the committed graph, and whether the store takes changes
+-- the shape of the store, the graph, and whether a device has failed
 pub record State : Type 0 where
   pub shape : Shape
   pub graph : Graph

@@ -4,16 +4,19 @@ ghost use Rattle.graph_session.specs.Config.{shape_of};
 /// What a store is asked to be; what isn't given is left open.
 #[derive(Clone, Copy, Debug, PartialEq, Eq)]
 pub struct Config {
-    /// A node with more relationships than this is dense: 2 to 200.
+    /// A node with more relationships than this is dense. The words allow 2 to 200.
     pub threshold: Option<u16>,
-    /// How many nodes there may be, and as many of each other kind: 16 to 16,777,216.
+    /// How many nodes there may be, and as many of each other kind. The words allow 16 to
+    /// 16,777,216.
     pub limit: Option<u32>,
 }
 
 /// How a store is laid out.
 #[derive(Clone, Copy, Debug, PartialEq, Eq)]
 pub struct Shape {
+    /// A node with more relationships than this is dense.
     pub threshold: u16,
+    /// How many nodes there may be, and as many of each other kind.
     pub limit: u32,
 }
 

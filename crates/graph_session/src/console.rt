@@ -2,6 +2,7 @@ ghost use Rattle.std.specs.Prelude.{◌≡◌, ◌≢◌, ℕ, ◌≤◌, List, 
 ghost use Rattle.fault_count.specs.Cause.{Rose};
 ghost use Rattle.stream_io.specs.Lines.{Whole, Long};
 ghost use Rattle.plain_graph.specs.Reply.{Refused, reply_text};
+ghost use Rattle.graph_session.specs.Config.{model_shape};
 ghost use Rattle.graph_session.specs.Refusals.{SpellsOnly, TakesNode, RefusesNode};
 ghost use Rattle.graph_session.specs.State.{first_state};
 ghost use Rattle.graph_session.specs.Console.{Makes};
@@ -33,13 +34,14 @@ pub(crate) struct Console {
 
 impl Model for Console {
     ghost use Rattle.std.specs.Prelude.{length};
+    ghost use Rattle.graph_session.specs.Config.{model_shape};
     ghost use Rattle.graph_session.specs.State.{State};
     ghost use Rattle.graph_session.specs.Numbers.{AreNumbered, graph_of, name_bytes};
 
     ghost Value = { State };
 
     ghost view = { λ c. record {
-      shape = record { threshold = c.shape.threshold; limit = c.shape.limit };
+      shape = model_shape c.shape;
       graph = graph_of (name_bytes c.names.keys) c.labels.items;
       health = c.health;
     } };
@@ -50,7 +52,7 @@ impl Model for Console {
 impl Console {
     /// A console over the empty graph. It takes no memory.
     pub(crate) fn new(alloc: Global, shape: Shape) -> Console
-        ensures { result ≡ first_state (record { threshold = shape.threshold; limit = shape.limit }) }
+        ensures { result ≡ first_state (model_shape shape) }
     {
         Console {
             alloc,
@@ -62,7 +64,7 @@ impl Console {
         }
     }
 
-    /// Whether the console takes changes.
+    /// Whether a device has failed the console.
     pub(crate) fn health(&self) -> Health
         ensures { result ≡ self.now.health }
     {

@@ -7,7 +7,11 @@ use plain_graph::{Item, Step, Value, end_of_results, result_line};
 use std::alloc::AllocError;
 
 /// Puts the reply to a query over this many vertices in place of the bytes. Its time is linear in the reply.
-pub fn query_reply(reply: &mut Vec<u8>, vertices: u32, steps: &[Step]) -> Result<(), AllocError>
+pub(crate) fn query_reply(
+    reply: &mut Vec<u8>,
+    vertices: u32,
+    steps: &[Step],
+) -> Result<(), AllocError>
     ensures { OnOk result (reply.new.items ≡ reply_text (Results (after_steps steps.now (vertices_below vertices)))) }
 {
     reply.clear();

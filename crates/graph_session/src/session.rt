@@ -2,8 +2,8 @@ ghost use Rattle.std.specs.Prelude.{◌≡◌, ◌≤◌, IfOk, IsOk};
 ghost use Rattle.fault_count.specs.Cause.{Rose};
 ghost use Rattle.stream_io.specs.Lines.{Whole, Long};
 ghost use Rattle.graph_session.specs.Answer.{AnswersLine};
-ghost use Rattle.graph_session.specs.Config.{shape_of};
-ghost use Rattle.graph_session.specs.Session.{state_of, model_shape};
+ghost use Rattle.graph_session.specs.Config.{model_shape, shape_of};
+ghost use Rattle.graph_session.specs.Session.{state_of};
 ghost use Rattle.graph_session.specs.State.{first_state};
 
 use crate::console::Console;
@@ -63,7 +63,7 @@ impl<'d, D: Disk> Session<'d, D> {
         disk
     }
 
-    /// Whether the session takes changes.
+    /// Whether a device has failed the session.
     pub fn health(&self) -> Health
         ensures { result ≡ (state_of self.now).health }
     {

@@ -11,8 +11,8 @@ use crate::stop::Stop;
 use plain_graph::{Command, Query, Step, StepList, Text};
 use std::alloc::Global;
 
-/// The command that the line spells, or its leftmost fault. Memory isn't asked for a blank line or a
-/// command of one word.
+/// The command that the line spells, or its leftmost fault. No memory is asked for by a blank line or
+/// by `quit`.
 pub fn parse_line(alloc: Global, line: &[u8]) -> Result<Command, LineFault>
     // The line spells this command and no other, and has no fault.
     ensures spelled { IfOk result (λ command. Spells line.now command) }

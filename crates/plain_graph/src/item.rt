@@ -1,6 +1,7 @@
 /// A value that a query gives.
 #[derive(Clone, Copy, Debug, PartialEq, Eq)]
 pub enum Value {
+    /// A whole number.
     Int(i64),
 }
 
@@ -9,5 +10,6 @@ pub enum Value {
 pub enum Item {
     /// A vertex by its identifier.
     Vertex(u32),
+    /// A value, such as a count.
     Value(Value),
 }

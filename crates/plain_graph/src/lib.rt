@@ -1,5 +1,5 @@
-//! The plain property graph and its console: what a graph is, what a change and a query mean, and the
-//! bytes of each reply. Definitions of specs/ say it with lists; the Rust types are commands and texts.
+//! The plain property graph: what a graph is, what a change and a query mean, and the bytes of each
+//! reply. Definitions of specs/ say it with lists; the Rust types are commands, items, refusals and texts.
 #![tactic(auto)]
 
 mod command;

@@ -43,5 +43,6 @@ impl StepList {
 /// All vertices, and the steps done with them.
 #[derive(Drop)]
 pub struct Query {
+    /// The steps, the first one first.
     pub steps: StepList,
 }

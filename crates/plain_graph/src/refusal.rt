@@ -3,7 +3,7 @@
 pub enum Refusal {
     /// It has more than 8,192 bytes.
     LongLine,
-    /// It begins no line of the grammar behind the byte place `at`.
+    /// No line of the grammar begins with more of it than its bytes before `at`.
     Syntax { at: usize },
     /// The name at the byte place `at` has more than 48 bytes.
     NameLength { at: usize },

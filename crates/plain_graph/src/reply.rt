@@ -1,5 +1,5 @@
 ghost use Rattle.std.specs.Prelude.{◌≡◌, codes};
-ghost use Rattle.plain_graph.specs.Reply.{NodeMade, Refused, reply_text, refusal_text, result_text, text_line};
+ghost use Rattle.plain_graph.specs.Reply.{NodeMade, Refused, reply_text, result_text, text_line};
 
 use crate::{Item, Refusal, ShortText, Value};
 use itoa::Buffer;

@@ -1,10 +1,9 @@
-ghost use Rattle.std.specs.Prelude.{◌≡◌, ◌≤◌, ◌+◌, ◌++◌, [], length, decimal};
-ghost use Rattle.std.specs.Fmt.{signed_decimal};
+ghost use Rattle.std.specs.Prelude.{◌≡◌, ◌≤◌, ◌+◌, ◌++◌, [], length};
 
 use std::marker::Model;
 
 /// How many bytes a [`ShortText`] has room for.
-pub const SHORT_TEXT_BYTES: usize = 128;
+const SHORT_TEXT_BYTES: usize = 128;
 
 /// A text of at most 128 bytes that takes no memory. Contracts see the list of bytes.
 #[derive(Drop)]

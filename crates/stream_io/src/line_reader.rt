@@ -1,7 +1,6 @@
-ghost use Rattle.std.specs.Prelude.{◌≡◌, ◌≢◌, ◌⊎◌, ◌≤◌, ◌<◌, ◌+◌, ◌++◌, ◌∷◌, [], true, false, length, take, drop, slice_range, ◌-◌, ◌^◌, IfOk, IfSome, IfNone, OnOk, OnErr};
+ghost use Rattle.std.specs.Prelude.{◌≡◌, ◌≢◌, ◌⊎◌, ◌≤◌, ◌<◌, ◌+◌, ◌++◌, ◌∷◌, [], true, false, length, take, drop, ◌-◌, ◌^◌, IfOk, IfSome, IfNone, OnOk, OnErr};
 ghost use Rattle.stream_io.specs.Lines.{Whole, Long, line_of};
 ghost use Rattle.stream_io.specs.Answers.{IsPiece};
-ghost use Rattle.stream_io.specs.Streams.{GivesNext};
 ghost use Rattle.fault_count.specs.Cause.{HasCause, Rose};
 
 use crate::Source;
@@ -260,7 +259,7 @@ impl LineReader {
     }
 
     /// The next line of the source, or why there is none. It takes no memory, and asks the source for
-    /// at least 64 KiB a call until 2^30 bytes have been taken.
+    /// at least 64 KiB a call, until the limit of 2^30 bytes leaves less.
     pub fn next<'a, I: Source>(&'a mut self, source: &mut I) -> LineAnswer<'a>
         ensures* after { sem 𝓛 (EndsWith self.entry (λ reader. Answers I.tells result self.old (I.left source.old) (I.left source.new) reader)) }
         ensures later { I.faults source.old ≤ I.faults source.new }

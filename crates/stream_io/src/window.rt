@@ -1,4 +1,4 @@
-ghost use Rattle.std.specs.Prelude.{◌≡◌, ◌≤◌, ◌<◌, ◌+◌, ◌-◌, ◌++◌, length, take, drop, slice_range, IfOk, OnOk, OnErr};
+ghost use Rattle.std.specs.Prelude.{◌≡◌, ◌≤◌, ◌<◌, ◌+◌, ◌-◌, length, take, drop, slice_range, IfOk, OnOk, OnErr};
 ghost use Rattle.stream_io.specs.Streams.{GivesNext};
 ghost use Rattle.fault_count.specs.Cause.{HasCause};
 

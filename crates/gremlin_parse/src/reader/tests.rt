@@ -119,7 +119,7 @@ const LINES: [&[u8]; 6] = [
     b" \t ",
 ];
 
-/// Each front of a line of the grammar is a line, or a line is cut off at its end.
+/// Each front of a line of the grammar is such a line too, or has its fault at its end.
 #[test]
 fn fronts(rt: HostRuntime) {
     for line in LINES {

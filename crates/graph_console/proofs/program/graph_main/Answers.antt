@@ -1,6 +1,5 @@
 use Rattle.std.proofs.Common.{sym, ◌∙◌, ap, subst, Err}
-use Rattle.graph_session.specs.Config.{shape_of}
-use Rattle.graph_session.specs.Session.{model_shape}
+use Rattle.graph_session.specs.Config.{model_shape, shape_of}
 use Rattle.graph_session.specs.State.{State, first_state}
 use Rattle.graph_session.specs.declared.config.Config.{Config}
 use Rattle.graph_console.specs.Main.{Serves, Writes, state_for}
