@@ -1,0 +1,4 @@
+pub mod KeyLaws
+pub mod Metas
+pub mod Numbers
+pub mod PairLaws

@@ -1,0 +1,4 @@
+pub mod Key
+pub mod Meta
+pub mod Pairs
+pub mod Record

@@ -1,0 +1,85 @@
+ghost use Rattle.std.specs.Prelude.{◌≡◌, ◌+◌, ◌≤◌};
+ghost use Rattle.rec_bytes.specs.Record.{field, with_field};
+
+use byteorder::{ByteOrder, LittleEndian};
+
+/// A record of 64 bytes. A number in it stands with the lowest byte first.
+#[derive(Clone, Copy, Debug, PartialEq, Eq)]
+pub struct Rec {
+    pub bytes: [u8; 64],
+}
+
+impl Rec {
+    pub const ZEROS: Rec = Rec { bytes: [0; 64] };
+
+    /// The byte at a place.
+    pub fn byte(&self, at: u8) -> u8
+        requires { at + 1 ≤ 64 }
+        ensures { result ≡ field 1 self.now at }
+    {
+        self.bytes[at as usize]
+    }
+
+    /// The number in the two bytes from a place on.
+    pub fn short(&self, at: u8) -> u16
+        requires { at + 2 ≤ 64 }
+        ensures { result ≡ field 2 self.now at }
+    {
+        LittleEndian::read_u16(&self.bytes[at as usize..])
+    }
+
+    /// The number in the four bytes from a place on.
+    pub fn number(&self, at: u8) -> u32
+        requires { at + 4 ≤ 64 }
+        ensures { result ≡ field 4 self.now at }
+    {
+        LittleEndian::read_u32(&self.bytes[at as usize..])
+    }
+
+    /// The number in the eight bytes from a place on.
+    pub fn wide(&self, at: u8) -> u64
+        requires { at + 8 ≤ 64 }
+        ensures { result ≡ field 8 self.now at }
+    {
+        LittleEndian::read_u64(&self.bytes[at as usize..])
+    }
+
+    /// Writes the byte at a place.
+    pub fn set_byte(&mut self, at: u8, value: u8)
+        requires { at + 1 ≤ 64 }
+        ensures set { self.new ≡ with_field 1 self.old at value }
+        ensures got { field 1 self.new at ≡ value }
+    {
+        self.bytes[at as usize] = value;
+    }
+
+    /// Writes the two bytes from a place on.
+    pub fn set_short(&mut self, at: u8, value: u16)
+        requires { at + 2 ≤ 64 }
+        ensures set { self.new ≡ with_field 2 self.old at value }
+        ensures got { field 2 self.new at ≡ value }
+    {
+        LittleEndian::write_u16(&mut self.bytes[at as usize..], value);
+    }
+
+    /// Writes the four bytes from a place on.
+    pub fn set_number(&mut self, at: u8, value: u32)
+        requires { at + 4 ≤ 64 }
+        ensures set { self.new ≡ with_field 4 self.old at value }
+        ensures got { field 4 self.new at ≡ value }
+    {
+        LittleEndian::write_u32(&mut self.bytes[at as usize..], value);
+    }
+
+    /// Writes the eight bytes from a place on.
+    pub fn set_wide(&mut self, at: u8, value: u64)
+        requires { at + 8 ≤ 64 }
+        ensures set { self.new ≡ with_field 8 self.old at value }
+        ensures got { field 8 self.new at ≡ value }
+    {
+        LittleEndian::write_u64(&mut self.bytes[at as usize..], value);
+    }
+}
+
+#[cfg(test)]
+mod tests;
