@@ -44,7 +44,7 @@ impl PlainDisk {
 }
 
 // One file of zeros for each place of the table of rooms.
-fn files_of_zeros(alloc: Global, limit: u32) -> Result<Vec<PlainFile>, AllocError>
+pub(crate) fn files_of_zeros(alloc: Global, limit: u32) -> Result<Vec<PlainFile>, AllocError>
     ensures rooms { IfOk result (λ files. rooms_of files.items ≡ rooms limit) }
     ensures zeros { IfOk result (λ files. AllZeros files.items) }
 {

@@ -1,4 +1,4 @@
-ghost use Rattle.std.specs.Prelude.{◌≡◌, ◌+◌, ◌≤◌, ◌<◌, ℕ, List, length, slice_index, take, drop, ◌++◌, replicate, IfOk};
+ghost use Rattle.std.specs.Prelude.{◌≡◌, ◌+◌, ◌≤◌, ◌<◌, ℕ, List, length, slice_index, take, drop, ◌++◌, replicate, IfOk, nat_le, nat_lt, ◌&&◌, if◌then◌else◌};
 
 use std::alloc::{AllocError, Global};
 use std::marker::Model;
@@ -50,4 +50,42 @@ impl PlainFile {
     {
         self.bytes[at..at + bytes.len()].copy_from_slice(bytes);
     }
+
+    /// Puts this byte at each place from `at` on, up to `len` of them or the end.
+    pub(crate) fn fill(&mut self, at: usize, len: usize, byte: u8)
+        ensures room { length self.new ≡ length self.old }
+        ensures bytes { (i : ℕ) → slice_index self.new i ≡ (if (nat_le at i && nat_lt i (at + len)) && nat_lt i (length self.old) then byte else slice_index self.old i) }
+    {
+        let start = at.min(self.bytes.len());
+        let count = len.min(self.bytes.len() - start);
+        self.put_copies(start, count, byte);
+    }
+
+    // Puts this byte in the place of those from `at` on, `count` of them.
+    fn put_copies(&mut self, at: usize, count: usize, byte: u8)
+        requires { at + count ≤ length self.old }
+        ensures { self.new ≡ take at self.old ++ replicate count byte ++ drop (at + count) self.old }
+    {
+        self.bytes[at..at + count].fill(byte);
+    }
+
+    /// A file of the same bytes.
+    pub(crate) fn copy(&self, alloc: Global) -> Result<PlainFile, AllocError>
+        ensures { IfOk result (λ f. f ≡ self.now) }
+    {
+        Ok(PlainFile {
+            bytes: Vec::from_slice(alloc, &self.bytes)?,
+        })
+    }
+}
+
+/// The same files once more.
+pub(crate) fn copies(alloc: Global, files: &[PlainFile]) -> Result<Vec<PlainFile>, AllocError>
+    ensures { IfOk result (λ copies. copies.items ≡ files.now) }
+{
+    let mut copies = Vec::with_capacity(alloc, files.len())?;
+    for file in files {
+        copies.push(file.copy(alloc)?)?;
+    }
+    Ok(copies)
 }

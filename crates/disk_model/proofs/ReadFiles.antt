@@ -1,0 +1,115 @@
+-- What a read gives, and which places are pending, as one more call is kept.
+use Rattle.std.proofs.Common.{◌≡◌, ⊎_elim, ℕ, zero, suc, ◌+◌, ◌-◌, ◌<◌, ◌≤◌, true, not, cond, ◌&&◌, ltb, List, [], ◌∷◌, ◌++◌, length, get_or, set, ap, ◌∙◌, refl, sym, arith}
+use Rattle.std.proofs.lemmas.Bool.{cases_Bool, cond-true, cond-false, or_cases, and_parts, both_ways, and_from, and_left, lt-ltb}
+use Rattle.std.proofs.lemmas.Grind.{common_steps}
+use Rattle.std.proofs.lemmas.List.{length-map}
+use Rattle.std.specs.List.{AllByRecursion}
+use Rattle.disk_model.specs.Contents.{Files}
+use Rattle.disk_model.specs.PlainDisk.{file_of, rooms_of, contents}
+use Rattle.disk_model.specs.Calls.{Call, Wrote, Tore, Synced, FitsFile, in_range, covers, syncs, is_pending, laid, content_after}
+use Rattle.disk_model.specs.MemoryDisk.{IsRead}
+use Rattle.disk_model.proofs.Files.{overwritten, SameOutside-write, rooms_of-write}
+use Rattle.disk_model.proofs.Images.{content_after-push, is_pending-push, in_range-holds, in_range-is, Reaches, Reaches-wrote, Reaches-tore}
+
+room_at : (files : List (List ℕ)) (file : ℕ) → get_or (rooms_of files) file 0 ≡ length (file_of files file)
+room_at [] file = refl
+room_at (f ∷ fs) zero = refl
+room_at (f ∷ fs) (suc file) = room_at fs file
+
+-- two lists of files with the same rooms
+pub same_room : (files base : List (List ℕ)) (file : ℕ) → rooms_of files ≡ rooms_of base → length (file_of files file) ≡ length (file_of base file)
+same_room files base file same = sym (room_at files file) ∙ ap (λ rooms. get_or rooms file 0) same ∙ room_at base file
+
+pub same_count : (files base : List (List ℕ)) → rooms_of files ≡ rooms_of base → length files ≡ length base
+same_count files base same = sym (length-map files length) ∙ ap length same ∙ length-map base length
+
+-- pending places stay within the rooms
+within-push : (base : List (List ℕ)) (calls : List Call) (call : Call) (file at n : ℕ) → Reaches call file at n → at + n ≤ length (file_of base file)
+    → ((other place : ℕ) → is_pending calls other place ≡ true → place < length (file_of base other))
+    → (other place : ℕ) → is_pending (calls ++ call ∷ []) other place ≡ true → place < length (file_of base other)
+within-push base calls call file at n reaches fits before other place pending =
+    ⊎_elim
+    (λ covered.
+    let inside = in_range-holds file at n other place (sym (reaches.range other place) ∙ covered) in
+    let same : length (file_of base other) ≡ length (file_of base file) = ap (λ f. length (file_of base f)) inside.in_file in
+    let end = inside.before_end in
+    omega arith)
+    (λ was. before other place (and_parts (is_pending calls other place) (not (syncs call other)) was).0)
+    (or_cases (covers call other place) (is_pending calls other place && not (syncs call other)) (sym (is_pending-push calls call other place) ∙ pending))
+
+fits-push : (base : List (List ℕ)) (calls : List Call) (call : Call) → AllByRecursion (FitsFile base) calls → FitsFile base call → AllByRecursion (FitsFile base) (calls ++ call ∷ [])
+fits-push base [] call before new = (new, tt)
+fits-push base (first ∷ calls) call before new = (before.0, fits-push base calls call before.1 new)
+
+pub IsRead-tore : (base files : List (List ℕ)) (calls : List Call) (file at n : ℕ) → IsRead base files calls → at + n ≤ length (file_of base file) → IsRead base files (calls ++ Tore file at n ∷ [])
+IsRead-tore base files calls file at n read fits = record {
+  count = read.count;
+  same_rooms = read.same_rooms;
+  reads = λ other place. read.reads other place ∙ sym (ap (λ (c : Files). c other place) (content_after-push (contents base) calls (Tore file at n)));
+  fits = fits-push base calls (Tore file at n) read.fits fits;
+  within = within-push base calls (Tore file at n) file at n (Reaches-tore file at n) fits read.within;
+}
+
+pub IsRead-synced : (base files : List (List ℕ)) (calls : List Call) (file : ℕ) → IsRead base files calls → IsRead base files (calls ++ Synced file ∷ [])
+IsRead-synced base files calls file read = record {
+  count = read.count;
+  same_rooms = read.same_rooms;
+  reads = λ other place. read.reads other place ∙ sym (ap (λ (c : Files). c other place) (content_after-push (contents base) calls (Synced file)));
+  fits = fits-push base calls (Synced file) read.fits tt;
+  within = λ other place pending. read.within other place (and_parts (is_pending calls other place) (not (syncs (Synced file) other)) (sym (is_pending-push calls (Synced file) other place) ∙ pending)).0;
+}
+
+byte-overwritten : (old : List ℕ) (at : ℕ) (bytes : List ℕ) (place : ℕ) → at + length bytes ≤ length old → at ≤ place → place < at + length bytes → get_or (overwritten old at bytes) place 0 ≡ get_or bytes (place - at) 0
+byte-overwritten old at bytes place fits low high = grind (arith, common_steps)
+
+-- a write to a file lays its bytes over what is read
+pub contents-wrote : (files : List (List ℕ)) (file at : ℕ) (bytes new : List ℕ) (other place : ℕ) → file < length files → at + length bytes ≤ length (file_of files file) → new ≡ overwritten (file_of files file) at bytes
+    → contents (set files file new) other place ≡ laid (Wrote file at bytes) (contents files) other place
+contents-wrote files file at bytes new other place known fits is =
+    ⊎_elim
+    (λ inside.
+    let range = in_range-holds file at (length bytes) other place inside in
+    let same = range.in_file in
+    let there : get_or (set files file new) other [] ≡ new = grind (arith, common_steps) in
+    ap (λ f. get_or f place 0) (there ∙ is)
+    ∙ byte-overwritten (file_of files file) at bytes place fits range.at_or_behind range.before_end
+    ∙ sym (cond-true (in_range file at (length bytes) other place) _ _ inside))
+    (λ out.
+    SameOutside-write files file at bytes new known fits is other place (λ range. both_ways _ out (in_range-is file at (length bytes) other place range))
+    ∙ sym (cond-false (in_range file at (length bytes) other place) _ _ out))
+    (cases_Bool (in_range file at (length bytes) other place))
+
+pub laid-same : (call : Call) (a b : Files) (other place : ℕ) → ((f p : ℕ) → a f p ≡ b f p) → laid call a other place ≡ laid call b other place
+laid-same (Wrote file at bytes) a b other place same = ap (λ x. cond (in_range file at (length bytes) other place) (get_or bytes (place - at) 0) x) (same other place)
+laid-same (Tore file at n) a b other place same = same other place
+laid-same (Synced file) a b other place same = same other place
+
+pub IsRead-wrote : (base files : List (List ℕ)) (calls : List Call) (file at : ℕ) (bytes new : List ℕ) → IsRead base files calls → file < length files → at + length bytes ≤ length (file_of base file)
+    → new ≡ overwritten (file_of files file) at bytes → IsRead base (set files file new) (calls ++ Wrote file at bytes ∷ [])
+IsRead-wrote base files calls file at bytes new read known fits is =
+    let room : at + length bytes ≤ length (file_of files file) = omega (arith, same_room files base file read.same_rooms) in
+    record {
+      count = read.count;
+      same_rooms = rooms_of-write files file at bytes new room is ∙ read.same_rooms;
+      reads = λ other place.
+          contents-wrote files file at bytes new other place known room is
+          ∙ laid-same (Wrote file at bytes) (contents files) (content_after (contents base) calls) other place read.reads
+          ∙ sym (ap (λ (c : Files). c other place) (content_after-push (contents base) calls (Wrote file at bytes)));
+      fits = fits-push base calls (Wrote file at bytes) read.fits fits;
+      within = within-push base calls (Wrote file at bytes) file at (length bytes) (Reaches-wrote file at bytes) fits read.within;
+    }
+
+-- the files as they are read with one byte at each pending place
+pub filled-pending : (base files : List (List ℕ)) (calls : List Call) (byte file place : ℕ) → IsRead base files calls
+    → cond (is_pending calls file place && ltb place (length (file_of files file))) byte (contents files file place) ≡ cond (is_pending calls file place) byte (content_after (contents base) calls file place)
+filled-pending base files calls byte file place read =
+    ⊎_elim
+    (λ pending.
+    let known : place < length (file_of files file) = omega (arith, read.within file place pending, same_room files base file read.same_rooms) in
+    cond-true _ byte (contents files file place) (and_from (is_pending calls file place) (ltb place (length (file_of files file))) pending (lt-ltb place (length (file_of files file)) known))
+    ∙ sym (cond-true (is_pending calls file place) byte (content_after (contents base) calls file place) pending))
+    (λ settled.
+    cond-false _ byte (contents files file place) (and_left (is_pending calls file place) (ltb place (length (file_of files file))) settled)
+    ∙ read.reads file place
+    ∙ sym (cond-false (is_pending calls file place) byte (content_after (contents base) calls file place) settled))
+    (cases_Bool (is_pending calls file place))
