@@ -88,6 +88,7 @@ impl WriteSet {
     }
 
     /// Puts each record of another set. Room for its new keys has to be there, so nothing is refused.
+    /// Each new key shifts the records behind its place, so many new keys in a large set are slow.
     pub fn merge(&mut self, other: &WriteSet)
         requires { growth_by self.old.pairs other.now.pairs ≤ self.old.room }
         ensures pairs { self.new.pairs ≡ merged self.old.pairs other.now.pairs }
