@@ -1,7 +1,11 @@
+mod Draws
 mod Files
 mod Fills
 mod Images
 mod Lays
 mod Logs
 mod Moments
+mod PendingMarks
+mod Pokes
 mod ReadFiles
+pub mod Times

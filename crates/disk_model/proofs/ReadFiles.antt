@@ -1,15 +1,15 @@
 -- What a read gives, and which places are pending, as one more call is kept.
 use Rattle.std.proofs.Common.{◌≡◌, ⊎_elim, ℕ, zero, suc, ◌+◌, ◌-◌, ◌<◌, ◌≤◌, true, not, cond, ◌&&◌, ltb, List, [], ◌∷◌, ◌++◌, length, get_or, set, ap, ◌∙◌, refl, sym, arith}
-use Rattle.std.proofs.lemmas.Bool.{cases_Bool, cond-true, cond-false, or_cases, and_parts, both_ways, and_from, and_left, lt-ltb}
+use Rattle.std.proofs.lemmas.Bool.{cases_Bool, false≢true, cond-true, cond-false, or_cases, and_parts, both_ways, and_from, and_left, lt-ltb}
 use Rattle.std.proofs.lemmas.Grind.{common_steps}
-use Rattle.std.proofs.lemmas.List.{length-map}
+use Rattle.std.proofs.lemmas.List.{length-map, get_or_default, get_or_read}
 use Rattle.std.specs.List.{AllByRecursion}
-use Rattle.disk_model.specs.Contents.{Files}
+use Rattle.disk_model.specs.Contents.{Files, InRange}
 use Rattle.disk_model.specs.PlainDisk.{file_of, rooms_of, contents}
-use Rattle.disk_model.specs.Calls.{Call, Wrote, Tore, Synced, FitsFile, in_range, covers, syncs, is_pending, laid, content_after}
+use Rattle.disk_model.specs.Calls.{Call, Wrote, Tore, Synced, FitsFile, in_range, covers, is_synced, is_pending, laid, content_after}
 use Rattle.disk_model.specs.MemoryDisk.{IsRead}
 use Rattle.disk_model.proofs.Files.{overwritten, SameOutside-write, rooms_of-write}
-use Rattle.disk_model.proofs.Images.{content_after-push, is_pending-push, in_range-holds, in_range-is, Reaches, Reaches-wrote, Reaches-tore}
+use Rattle.disk_model.proofs.Images.{content_after-push, in_range-holds, in_range-is}
 
 room_at : (files : List (List ℕ)) (file : ℕ) → get_or (rooms_of files) file 0 ≡ length (file_of files file)
 room_at [] file = refl
@@ -20,22 +20,34 @@ room_at (f ∷ fs) (suc file) = room_at fs file
 pub same_room : (files base : List (List ℕ)) (file : ℕ) → rooms_of files ≡ rooms_of base → length (file_of files file) ≡ length (file_of base file)
 same_room files base file same = sym (room_at files file) ∙ ap (λ rooms. get_or rooms file 0) same ∙ room_at base file
 
+-- a file that is read from one of them has the room of its place in the other
+pub same_room-read : (files others : List (List ℕ)) (i : ℕ) (file d : List ℕ) → rooms_of files ≡ rooms_of others → i < length files → i < length others → file ≡ get_or files i file → length file ≡ length (get_or others i d)
+same_room-read files others i file d same below below_other is =
+    ap length (get_or_read files i file below is []) ∙ same_room files others i same ∙ ap length (get_or_default others i [] d below_other)
+
 pub same_count : (files base : List (List ℕ)) → rooms_of files ≡ rooms_of base → length files ≡ length base
 same_count files base same = sym (length-map files length) ∙ ap length same ∙ length-map base length
 
--- pending places stay within the rooms
-within-push : (base : List (List ℕ)) (calls : List Call) (call : Call) (file at n : ℕ) → Reaches call file at n → at + n ≤ length (file_of base file)
-    → ((other place : ℕ) → is_pending calls other place ≡ true → place < length (file_of base other))
-    → (other place : ℕ) → is_pending (calls ++ call ∷ []) other place ≡ true → place < length (file_of base other)
-within-push base calls call file at n reaches fits before other place pending =
-    ⊎_elim
-    (λ covered.
-    let inside = in_range-holds file at n other place (sym (reaches.range other place) ∙ covered) in
+in_room : (base : List (List ℕ)) (file at n other place : ℕ) → at + n ≤ length (file_of base file) → InRange file at n other place → place < length (file_of base other)
+in_room base file at n other place fits inside =
     let same : length (file_of base other) ≡ length (file_of base file) = ap (λ f. length (file_of base f)) inside.in_file in
     let end = inside.before_end in
-    omega arith)
-    (λ was. before other place (and_parts (is_pending calls other place) (not (syncs call other)) was).0)
-    (or_cases (covers call other place) (is_pending calls other place && not (syncs call other)) (sym (is_pending-push calls call other place) ∙ pending))
+    omega arith
+
+-- a place that a call covers lies within its file
+covers_within : (base : List (List ℕ)) (call : Call) (other place : ℕ) → FitsFile base call → covers call other place ≡ true → place < length (file_of base other)
+covers_within base (Wrote file at bytes) other place fits covered = in_room base file at (length bytes) other place fits (in_range-holds file at (length bytes) other place covered)
+covers_within base (Tore file at n) other place fits covered = in_room base file at n other place fits (in_range-holds file at n other place covered)
+covers_within base (Synced file) other place fits covered = absurd (false≢true covered)
+
+-- a pending place lies within its file
+pub pending_within : (base : List (List ℕ)) (calls : List Call) (file place : ℕ) → AllByRecursion (FitsFile base) calls → is_pending calls file place ≡ true → place < length (file_of base file)
+pending_within base [] file place fits pending = absurd (false≢true pending)
+pending_within base (call ∷ calls) file place fits pending =
+    ⊎_elim
+    (λ later. pending_within base calls file place fits.1 later)
+    (λ here. covers_within base call file place fits.0 (and_parts (covers call file place) (not (is_synced calls file)) here).0)
+    (or_cases (is_pending calls file place) (covers call file place && not (is_synced calls file)) pending)
 
 fits-push : (base : List (List ℕ)) (calls : List Call) (call : Call) → AllByRecursion (FitsFile base) calls → FitsFile base call → AllByRecursion (FitsFile base) (calls ++ call ∷ [])
 fits-push base [] call before new = (new, tt)
@@ -47,7 +59,6 @@ IsRead-tore base files calls file at n read fits = record {
   same_rooms = read.same_rooms;
   reads = λ other place. read.reads other place ∙ sym (ap (λ (c : Files). c other place) (content_after-push (contents base) calls (Tore file at n)));
   fits = fits-push base calls (Tore file at n) read.fits fits;
-  within = within-push base calls (Tore file at n) file at n (Reaches-tore file at n) fits read.within;
 }
 
 pub IsRead-synced : (base files : List (List ℕ)) (calls : List Call) (file : ℕ) → IsRead base files calls → IsRead base files (calls ++ Synced file ∷ [])
@@ -56,7 +67,6 @@ IsRead-synced base files calls file read = record {
   same_rooms = read.same_rooms;
   reads = λ other place. read.reads other place ∙ sym (ap (λ (c : Files). c other place) (content_after-push (contents base) calls (Synced file)));
   fits = fits-push base calls (Synced file) read.fits tt;
-  within = λ other place pending. read.within other place (and_parts (is_pending calls other place) (not (syncs (Synced file) other)) (sym (is_pending-push calls (Synced file) other place) ∙ pending)).0;
 }
 
 byte-overwritten : (old : List ℕ) (at : ℕ) (bytes : List ℕ) (place : ℕ) → at + length bytes ≤ length old → at ≤ place → place < at + length bytes → get_or (overwritten old at bytes) place 0 ≡ get_or bytes (place - at) 0
@@ -96,7 +106,6 @@ IsRead-wrote base files calls file at bytes new read known fits is =
           ∙ laid-same (Wrote file at bytes) (contents files) (content_after (contents base) calls) other place read.reads
           ∙ sym (ap (λ (c : Files). c other place) (content_after-push (contents base) calls (Wrote file at bytes)));
       fits = fits-push base calls (Wrote file at bytes) read.fits fits;
-      within = within-push base calls (Wrote file at bytes) file at (length bytes) (Reaches-wrote file at bytes) fits read.within;
     }
 
 -- the files as they are read with one byte at each pending place
@@ -105,7 +114,7 @@ pub filled-pending : (base files : List (List ℕ)) (calls : List Call) (byte fi
 filled-pending base files calls byte file place read =
     ⊎_elim
     (λ pending.
-    let known : place < length (file_of files file) = omega (arith, read.within file place pending, same_room files base file read.same_rooms) in
+    let known : place < length (file_of files file) = omega (arith, pending_within base calls file place read.fits pending, same_room files base file read.same_rooms) in
     cond-true _ byte (contents files file place) (and_from (is_pending calls file place) (ltb place (length (file_of files file))) pending (lt-ltb place (length (file_of files file)) known))
     ∙ sym (cond-true (is_pending calls file place) byte (content_after (contents base) calls file place) pending))
     (λ settled.

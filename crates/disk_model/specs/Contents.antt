@@ -1,5 +1,5 @@
 -- The contents of a disk of eight files.
-use Rattle.std.specs.Prelude.{◌≡◌, ℕ, ◌+◌, ◌≤◌, ◌<◌, List, length, slice_index}
+use Rattle.std.specs.Prelude.{◌≡◌, ℕ, ◌+◌, ◌≤◌, ◌<◌, ◌==◌, ◌&&◌, if◌then◌else◌, List, length, slice_index}
 
 -- A content of the disk: the byte of a file at a place, zero past what was written. Contents are compared place by
 -- place.
@@ -23,3 +23,7 @@ SameOutside file at n old new = (other place : ℕ) → ¬ InRange file at n oth
 -- the same bytes everywhere
 abbrev pub Same : Files → Files → Type 0
 Same old new = (file place : ℕ) → new file place ≡ old file place
+
+-- a content with this byte at the place of the file
+abbrev pub poked : ℕ → ℕ → ℕ → Files → Files
+poked file at byte content other place = if (file == other) && (at == place) then byte else content other place

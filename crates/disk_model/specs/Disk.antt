@@ -20,3 +20,11 @@ pub record Elapses (before now : ℕ) (past since : ℕ → Files → Type 0) (i
   pub later : before ≤ now
   pub nothing_else : (t : ℕ) (image : Files) → t ≤ before → since t image → past t image ⊎ images image
   pub keeps : (t : ℕ) (image : Files) → t ≤ before → past t image → since t image
+
+-- A crash at any moment since that one leaves a content that has P, whatever calls were made; of a run that began
+-- earlier it leaves what it might have left before, or such a content, and nothing is forgotten.
+pub record LeavesOnly (before now : ℕ) (past since : ℕ → Files → Type 0) (P : Files → Type 0) : Type 0 where
+  pub later : before ≤ now
+  pub each : (image : Files) → since before image → P image
+  pub nothing_else : (t : ℕ) (image : Files) → t ≤ before → since t image → past t image ⊎ P image
+  pub keeps : (t : ℕ) (image : Files) → t ≤ before → past t image → since t image

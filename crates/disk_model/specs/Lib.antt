@@ -3,5 +3,8 @@ pub mod Calls
 pub mod Contents
 pub mod Crash
 pub mod Disk
+pub mod Generator
+pub mod Marks
 pub mod MemoryDisk
+pub mod Places
 pub mod PlainDisk

@@ -1,5 +1,5 @@
 -- A disk in memory that can fail and can lose power: its state, when a call fails, and what a loss of power leaves.
-use Rattle.std.specs.Prelude.{◌≡◌, ◌⊎◌, ℕ, ◌+◌, ◌≤◌, ◌<◌, true, List, [], ◌∷◌, ◌++◌, length, take, Option, Some, None, refl}
+use Rattle.std.specs.Prelude.{◌≡◌, ◌⊎◌, ℕ, ◌+◌, ◌≤◌, ◌<◌, List, [], ◌∷◌, ◌++◌, length, take, Option, Some, None, refl}
 use Rattle.std.specs.List.{AllByRecursion, Contains}
 use Rattle.std.proofs.Common.{sym, subst}
 use Rattle.std.proofs.Math.Nat.{le_refl, le_antisymm}
@@ -7,7 +7,7 @@ use Rattle.std.proofs.Math.Seq.{take-length}
 use Rattle.fault_count.specs.Cause.{raised}
 use Rattle.disk_model.specs.Contents.{Files, Same}
 use Rattle.disk_model.specs.PlainDisk.{file_of, rooms_of, contents, rooms}
-use Rattle.disk_model.specs.Calls.{Call, Tore, FitsFile, Allows, content_after, is_pending, bytes_kept}
+use Rattle.disk_model.specs.Calls.{Call, Tore, FitsFile, Allows, content_after, bytes_kept}
 
 -- The files as they were on the disk at first, and the kept calls since, the oldest first. The plan of faults: the
 -- numbers of the calls that fail, and the number from which all fail. How many calls and bytes of writes have room, and
@@ -72,7 +72,6 @@ pub record IsRead (base files : List (List ℕ)) (calls : List Call) : Type 0 wh
   pub same_rooms : rooms_of files ≡ rooms_of base
   pub reads : Same (content_after (contents base) calls) (contents files)
   pub fits : AllByRecursion (FitsFile base) calls
-  pub within : (file place : ℕ) → is_pending calls file place ≡ true → place < length (file_of base file)
 
 -- what a read gives is an image
 pub reads_image : (disk : MemoryDiskState) → MayLeave disk (content_of disk)

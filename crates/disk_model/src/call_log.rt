@@ -122,6 +122,14 @@ impl CallLog {
         self.calls.push(KeptCall::Synced { file }).unwrap();
     }
 
+    /// Forgets the calls. Their room stays.
+    pub(crate) fn clear(&mut self)
+        ensures { self.new ≡ record self.old { calls = [] } }
+    {
+        self.calls.clear();
+        self.bytes.clear();
+    }
+
     /// Puts this byte at each place of the files that is pending.
     pub(crate) fn fill(&self, files: &mut [PlainFile], byte: u8)
         requires { length files.old ≡ 8 }

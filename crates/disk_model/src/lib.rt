@@ -6,6 +6,8 @@
 mod call_log;
 mod disk;
 mod fault_plan;
+mod generator;
+mod marks;
 mod memory_disk;
 mod plain_disk;
 mod plain_file;

@@ -1,17 +1,18 @@
 ghost use Rattle.std.specs.Prelude.{◌≡◌, ◌≤◌, ◌<◌, ◌+◌, ◌^◌, ◌↔◌, ◌⊎◌, ◌++◌, ◌∷◌, [], length, IsErr, IfOk, OnOk, OnErr};
 ghost use Rattle.fault_count.specs.Cause.{raised, HasCause};
 ghost use Rattle.disk_model.specs.Calls.{Wrote, Synced};
-ghost use Rattle.disk_model.specs.Contents.{Holds, Same, SameOutside};
+ghost use Rattle.disk_model.specs.Contents.{Files, Holds, Same, SameOutside, poked};
 ghost use Rattle.disk_model.specs.Disk.{TornIn, NoMore, Settled, Elapses};
 ghost use Rattle.disk_model.specs.Crash.{left_by};
 ghost use Rattle.disk_model.specs.MemoryDisk.{content_of, MayLeave, LeftSince, NextFails, PassesFile, PassesBytes, IsFull, IsAfterFailedWrite, reads_image, image_counts, image_only};
-ghost use Rattle.disk_model.specs.PlainDisk.{rooms_of, rooms, contents, AllZeros};
+ghost use Rattle.disk_model.specs.PlainDisk.{file_of, rooms_of, rooms, contents, AllZeros};
 
 use crate::call_log::{CallLog, Room};
 use crate::disk::Disk;
 use crate::fault_plan::{FaultPlan, next_call_fails};
+use crate::marks::{draw_marked, no_marks};
 use crate::plain_disk::files_of_zeros;
-use crate::plain_file::{PlainFile, copies};
+use crate::plain_file::{PlainFile, copies, copy_over};
 use fault_count::{Count, Failed};
 use std::alloc::{AllocError, Global};
 use std::marker::Model;
@@ -25,6 +26,10 @@ pub enum Crash {
     New,
     /// This byte at each pending place.
     Fill(u8),
+    /// At each pending place the next byte of a generator with this seed. A draw sets its state x, of 64
+    /// bits, to x * 6364136223846793005 + 1442695040888963407, and the byte is bits 33 to 40 of that. The
+    /// files are taken by their numbers, and in a file the places from 0 on.
+    Mixed(u64),
 }
 
 /// A disk in memory that fails in the calls of its plan, and tells what a loss of power may leave. It
@@ -82,6 +87,30 @@ impl MemoryDisk {
         MemoryDisk::of(alloc, self.image(alloc, choice)?, room, plan)
     }
 
+    /// How many bytes the file has room for.
+    pub fn room(&self, file: u8) -> u64
+        requires { file ≤ 7 }
+        ensures { result ≡ length (file_of self.now.base file) }
+    {
+        self.base[file as usize].room() as u64
+    }
+
+    /// Changes one byte in what a read gives and in every image alike, for tests of damage. What is read is
+    /// first taken as what is on the disk, as if each file had been synced, and no call is kept. The plan
+    /// and the counts stay.
+    pub fn poke(&mut self, file: u8, at: u64, byte: u8)
+        requires file { file ≤ 7 }
+        requires within { at < length (file_of self.old.base file) }
+        ensures read { Same (poked file at byte (content_of self.old)) (content_of self.new) }
+        ensures image { (image : Files) → MayLeave self.new image → Same (content_of self.new) image }
+        ensures rooms { rooms_of self.new.base ≡ rooms_of self.old.base }
+        ensures others { self.new ≡ record self.old { base = self.new.base; calls = [] } }
+    {
+        self.files[file as usize].write(at as usize, &[byte]);
+        copy_over(&self.files, &mut self.base);
+        self.log.clear();
+    }
+
     // The files that this choice of an image leaves.
     fn image(&self, alloc: Global, choice: Crash) -> Result<Vec<PlainFile>, AllocError>
         ensures count { IfOk result (λ files. length files.items ≡ 8) }
@@ -92,6 +121,7 @@ impl MemoryDisk {
             Crash::Old => self.settled(alloc),
             Crash::New => copies(alloc, &self.files),
             Crash::Fill(byte) => self.filled(alloc, byte),
+            Crash::Mixed(seed) => self.mixed(alloc, seed),
         }
     }
 
@@ -114,6 +144,19 @@ impl MemoryDisk {
     {
         let mut files = copies(alloc, &self.files)?;
         self.log.fill(&mut files, byte);
+        Ok(files)
+    }
+
+    // The files as they are read, with the next byte drawn from the seed at each pending place.
+    fn mixed(&self, alloc: Global, seed: u64) -> Result<Vec<PlainFile>, AllocError>
+        ensures count { IfOk result (λ files. length files.items ≡ 8) }
+        ensures rooms { IfOk result (λ files. rooms_of files.items ≡ rooms_of self.now.base) }
+        ensures exact { IfOk result (λ files. Same (left_by (Crash.Mixed seed) self.now) (contents files.items)) }
+    {
+        let mut marks = no_marks(alloc, &self.files)?;
+        self.log.fill(&mut marks, 1);
+        let mut files = copies(alloc, &self.files)?;
+        draw_marked(&mut files, &marks, seed);
         Ok(files)
     }
 
@@ -265,6 +308,19 @@ mod tests {
     use super::*;
     use std::test::Fail;
 
+    const ROOM: Room = Room {
+        calls: 8,
+        bytes: 16,
+    };
+
+    // A plan in which no call fails.
+    fn no_faults(alloc: Global) -> FaultPlan {
+        FaultPlan {
+            fails: Vec::new(alloc),
+            stop: None,
+        }
+    }
+
     // What four bytes of file 2 read.
     fn front(disk: &mut MemoryDisk) -> [u8; 4] {
         let mut out = [9; 4];
@@ -274,9 +330,9 @@ mod tests {
 
     #[test]
     fn leaves_each_image_after_the_faults_of_a_plan(rt: HostRuntime) -> Result<(), Fail> {
-        // The calls are write, sync, write, write, read. The call that fails, the byte at pending places, and what
-        // is read before a loss of power and after it.
-        let cases: [(u64, Option<u64>, Crash, &[u8], &[u8]); 9] = [
+        // The calls are write, sync, write, write, a write to file 1, read. The call that fails, the byte at pending
+        // places, and what is read before a loss of power and after it. The first draw goes to file 1.
+        let cases: [(u64, Option<u64>, Crash, &[u8], &[u8]); 11] = [
             (0, None, Crash::New, b"abxy", b"abxy"),
             (0, None, Crash::Fill(7), b"abxy", b"a\x07\x07\x07"),
             (2, None, Crash::Fill(7), b"abxy", b"\x07\x07\x07\x07"),
@@ -285,29 +341,38 @@ mod tests {
             (0, None, Crash::Old, b"abxy", b"ab\0\0"),
             (2, None, Crash::Old, b"abxy", b"\0\0\0\0"),
             (4, None, Crash::Old, b"ax\0\0", b"ab\0\0"),
+            (0, None, Crash::Mixed(1), b"abxy", b"a\x59\xcc\xe6"),
+            (2, None, Crash::Mixed(1), b"abxy", b"\x59\xcc\xe6\x5a"),
             (9, Some(3), Crash::New, b"\x09\x09\x09\x09", b"ab\0\0"),
         ];
         for (fails, stop, choice, before, after) in cases {
-            let room = Room {
-                calls: 8,
-                bytes: 16,
-            };
             let plan = FaultPlan {
                 fails: Vec::from_slice(rt.alloc(), &[fails])?,
                 stop,
             };
-            let mut disk = MemoryDisk::new(rt.alloc(), 1, room, plan)?;
+            let mut disk = MemoryDisk::new(rt.alloc(), 1, ROOM, plan)?;
             let _ = disk.write(2, 0, b"ab");
             let _ = disk.sync(2);
             let _ = disk.write(2, 1, b"x");
             let _ = disk.write(2, 1, b"bxy");
+            let _ = disk.write(1, 5, b"q");
             assert_eq!(rt; front(&mut disk).as_slice(), before, "call {fails} fails");
-            let none = FaultPlan {
-                fails: Vec::new(rt.alloc()),
-                stop: None,
-            };
-            let mut left = disk.after_crash(rt.alloc(), choice, room, none)?;
+            let mut left = disk.after_crash(rt.alloc(), choice, ROOM, no_faults(rt.alloc()))?;
             assert_eq!(rt; front(&mut left).as_slice(), after, "call {fails} fails");
+        }
+        Ok(())
+    }
+
+    #[test]
+    fn a_poked_byte_is_read_and_left_by_each_crash(rt: HostRuntime) -> Result<(), Fail> {
+        let mut disk = MemoryDisk::new(rt.alloc(), 1, ROOM, no_faults(rt.alloc()))?;
+        disk.write(2, 0, b"abc")?;
+        assert_eq!(rt; disk.room(2), 64);
+        disk.poke(2, 1, b'z');
+        assert_eq!(rt; &front(&mut disk), b"azc\0");
+        for choice in [Crash::Old, Crash::New, Crash::Fill(7), Crash::Mixed(1)] {
+            let mut left = disk.after_crash(rt.alloc(), choice, ROOM, no_faults(rt.alloc()))?;
+            assert_eq!(rt; &front(&mut left), b"azc\0", "{choice:?}");
         }
         Ok(())
     }

@@ -1,5 +1,10 @@
-ghost use Rattle.std.specs.Prelude.{◌≡◌, ◌+◌, ◌≤◌, ◌<◌, ℕ, List, length, slice_index, take, drop, ◌++◌, replicate, IfOk, nat_le, nat_lt, ◌&&◌, if◌then◌else◌};
+ghost use Rattle.std.specs.Prelude.{◌≡◌, ◌+◌, ◌≤◌, ◌<◌, ◌%◌, ℕ, List, length, slice_index, take, drop, ◌++◌, replicate, IfOk, nat_le, nat_lt, ◌&&◌, if◌then◌else◌};
+ghost use Rattle.disk_model.specs.Generator.{drawn, state_after};
+ghost use Rattle.disk_model.specs.Marks.{is_marked};
+ghost use Rattle.disk_model.specs.Places.{count_below};
+ghost use Rattle.disk_model.specs.PlainDisk.{rooms_of};
 
+use crate::generator::Generator;
 use std::alloc::{AllocError, Global};
 use std::marker::Model;
 
@@ -69,6 +74,24 @@ impl PlainFile {
         self.bytes[at..at + count].fill(byte);
     }
 
+    /// Puts the next drawn byte at each place that is marked.
+    pub(crate) fn draw_marked(&mut self, marks: &PlainFile, generator: &mut Generator)
+        requires { length marks.now ≡ length self.old }
+        ensures room { length self.new ≡ length self.old }
+        ensures bytes { (i : ℕ) → slice_index self.new i ≡ (if is_marked marks.now i then drawn generator.old (count_below (is_marked marks.now) i) % 256 else slice_index self.old i) }
+        ensures draws { generator.new ≡ state_after generator.old (count_below (is_marked marks.now) (length marks.now)) }
+    {
+        draw_bytes(&mut self.bytes, &marks.bytes, generator);
+    }
+
+    /// Puts the bytes of another file with the same room in the place of these.
+    pub(crate) fn copy_from(&mut self, other: &PlainFile)
+        requires { length other.now ≡ length self.old }
+        ensures { self.new ≡ other.now }
+    {
+        self.bytes.copy_from_slice(&other.bytes);
+    }
+
     /// A file of the same bytes.
     pub(crate) fn copy(&self, alloc: Global) -> Result<PlainFile, AllocError>
         ensures { IfOk result (λ f. f ≡ self.now) }
@@ -76,6 +99,29 @@ impl PlainFile {
         Ok(PlainFile {
             bytes: Vec::from_slice(alloc, &self.bytes)?,
         })
+    }
+}
+
+// Puts the next drawn byte at each place that is marked.
+fn draw_bytes(bytes: &mut [u8], marks: &[u8], generator: &mut Generator)
+    requires { length marks.now ≡ length bytes.old }
+    ensures bytes { (i : ℕ) → slice_index bytes.new i ≡ (if is_marked marks.now i then drawn generator.old (count_below (is_marked marks.now) i) % 256 else slice_index bytes.old i) }
+    ensures draws { generator.new ≡ state_after generator.old (count_below (is_marked marks.now) (length marks.now)) }
+{
+    for i in 0..bytes.len() {
+        if marks[i] > 0 {
+            bytes[i] = (generator.draw() % 256) as u8;
+        }
+    }
+}
+
+/// Puts these files in the place of others with the same rooms.
+pub(crate) fn copy_over(files: &[PlainFile], others: &mut [PlainFile])
+    requires { rooms_of files.now ≡ rooms_of others.old }
+    ensures { others.new ≡ files.now }
+{
+    for i in 0..others.len() {
+        others[i].copy_from(&files[i]);
     }
 }
 
