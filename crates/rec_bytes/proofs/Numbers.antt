@@ -32,7 +32,7 @@ get_or-as_64 xs k lt =
     (λ (past : length xs ≤ k). get_or-append_right xs (replicate 64 0) (length xs) k 0 refl past ∙ get_or-replicate 64 (k - length xs) 0 0 (omega arith) ∙ sym (get_or_past xs k 0 past))
     (cases_lt k (length xs))
 
-as_64-whole : (xs : List ℕ) → length xs ≡ 64 → as_64 xs ≡ xs
+pub as_64-whole : (xs : List ℕ) → length xs ≡ 64 → as_64 xs ≡ xs
 unfolding as_64
 as_64-whole xs long = take_at xs (replicate 64 0) 64 long
 
@@ -126,3 +126,11 @@ unfolding with_field with_bytes
 set-byte_is r at value long small =
     let low : value % 256 ≡ value = mod-eq_of_lt small in
     rw (as_64-whole r.bytes long, low) refl
+
+-- bytes written to the front of a record
+pub front-with_bytes : (xs bs : List ℕ) → length xs ≡ 64 → length bs ≤ 64 → bs ++ drop (length bs) xs ≡ with_bytes (as_64 xs) 0 bs
+front-with_bytes xs bs long fits =
+    let whole = as_64-whole xs long in
+    let is : with_bytes xs 0 bs ≡ take 0 xs ++ (bs ++ drop (0 + length bs) xs) = with_bytes-is xs 0 bs (omega arith) in
+    let start : 0 + length bs ≡ length bs = omega arith in
+    sym (ap (λ ys. with_bytes ys 0 bs) whole ∙ is ∙ ap (λ n. bs ++ drop n xs) start)

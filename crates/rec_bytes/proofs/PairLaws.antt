@@ -21,31 +21,31 @@ keys_total = then_total (on_total (λ (k : Key). k.file) nat_cmp_total) (on_tota
 pub exact_keys : (a b : Key) → key_cmp a b ≡ Equal → a ≡ b
 exact_keys a b h = ap (λ (p : ℕ × ℕ). record { file = p.0; id = p.1 }) (exact_pairs nat_cmp nat_cmp exact_unsigned exact_unsigned (a.file, a.id) (b.file, b.id) h)
 
-same_cmp : (a b : Key) → a ≡ b → key_cmp a b ≡ Equal
+pub same_cmp : (a b : Key) → a ≡ b → key_cmp a b ≡ Equal
 same_cmp a b e = subst (λ q. key_cmp a q ≡ Equal) e (tied_itself keys_total a)
 
 -- a key that is told apart by the order is another
-apart : (a b : Key) (o : Ordering) → key_cmp a b ≡ o → o ≢ Equal → key_eq a b ≡ false
+pub apart : (a b : Key) (o : Ordering) → key_cmp a b ≡ o → o ≢ Equal → key_eq a b ≡ false
 apart a b o h ne = key_eq-other a b (λ e. ne (sym h ∙ same_cmp a b e))
 
-reverse : (a b : Key) (o : Ordering) → key_cmp a b ≡ o → key_cmp b a ≡ ordering_reverse o
+pub reverse : (a b : Key) (o : Ordering) → key_cmp a b ≡ o → key_cmp b a ≡ ordering_reverse o
 reverse a b o h = keys_total.antisymm b a ∙ ap ordering_reverse h
 
-by_cmp : (a b : Key) (P : Type 0) → (key_cmp a b ≡ Less → P) → (key_cmp a b ≡ Equal → P) → (key_cmp a b ≡ Greater → P) → P
+pub by_cmp : (a b : Key) (P : Type 0) → (key_cmp a b ≡ Less → P) → (key_cmp a b ≡ Equal → P) → (key_cmp a b ≡ Greater → P) → P
 by_cmp a b P l e g = (elim (key_cmp a b) as (λ o. key_cmp a b ≡ o → P) [ Less ↦ l | Equal ↦ e | Greater ↦ g ]) refl
 
 -- one step of `with_pair`
-step : (pair : Key × Rec) (rest : Pairs) (key : Key) (rec : Rec) (o : Ordering) → key_cmp key pair.0 ≡ o
+pub step : (pair : Key × Rec) (rest : Pairs) (key : Key) (rec : Rec) (o : Ordering) → key_cmp key pair.0 ≡ o
     → with_pair (pair ∷ rest) key rec ≡ by_order o ((key, rec) ∷ pair ∷ rest) ((key, rec) ∷ rest) (pair ∷ with_pair rest key rec)
 unfolding with_pair
 step pair rest key rec o h = ap (λ q. by_order q ((key, rec) ∷ pair ∷ rest) ((key, rec) ∷ rest) (pair ∷ with_pair rest key rec)) h
 
-below_all : (a b : Key) (rest : Pairs) → key_cmp a b ≡ Less → IsBelow b rest → IsBelow a rest
+pub below_all : (a b : Key) (rest : Pairs) → key_cmp a b ≡ Less → IsBelow b rest → IsBelow a rest
 below_all a b [] h below = tt
 below_all a b (pair ∷ rest) h below = (keys_total.trans a b pair.0 h below.0, below_all a b rest h below.1)
 
 -- a key that is below all isn't there
-below_out : (ps : Pairs) (key : Key) → IsBelow key ps → find_pair ps key ≡ None
+pub below_out : (ps : Pairs) (key : Key) → IsBelow key ps → find_pair ps key ≡ None
 below_out [] key below = refl
 below_out (pair ∷ rest) key below = rw (apart key pair.0 Less below.0 (λ e. cc)) (below_out rest key below.1)
 

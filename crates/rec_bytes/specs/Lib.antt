@@ -1,4 +1,7 @@
 pub mod Key
+pub mod Merge
 pub mod Meta
 pub mod Pairs
 pub mod Record
+pub mod RecordFiles
+pub mod Shape

@@ -1,6 +1,9 @@
-//! The places of fields in a record, counted in bytes from its start. Numbers stand with the lowest byte first.
+//! The places of fields in a record, counted in bytes from its start, by the kind of record. Numbers stand with
+//! the lowest byte first: a short has 2 bytes, a number 4, a wide number 8.
 
-/// The record 0 of the meta file: the four bytes `MARK`.
+// The store, record 0 of the meta file.
+
+/// The four bytes `MARK`.
 pub const STORE_MARK: u8 = 0;
 /// The version of the format, a short.
 pub const STORE_VERSION: u8 = 4;
@@ -8,32 +11,43 @@ pub const STORE_VERSION: u8 = 4;
 pub const STORE_THRESHOLD: u8 = 6;
 /// How many records a file may have, a number.
 pub const STORE_LIMIT: u8 = 8;
-
-/// A record 1 to 6 of the meta file: the first number in its file that was never given out.
-pub const META_HIGH: u8 = 0;
-/// The first record of the free list, or `NIL`.
-pub const META_FREE: u8 = 4;
-/// How many records are in use.
-pub const META_LIVE: u8 = 8;
+/// From here on a store's record has zeros.
+pub const STORE_REST: u8 = 12;
 
 /// What a store begins with.
 pub const MARK: [u8; 4] = *b"GRS1";
 /// The version of the format that this code writes.
 pub const VERSION: u16 = 1;
 
-/// The kind of a node or a name, a byte: `FREE`, or one of those behind it.
-pub const KIND: u8 = 0;
+// A file of records, record 1 to 6 of the meta file.
 
+/// The first number in the file that was never given out.
+pub const META_HIGH: u8 = 0;
+/// The first record of the free list, or `NIL`.
+pub const META_FREE: u8 = 4;
+/// How many records are in use.
+pub const META_LIVE: u8 = 8;
+
+// Each record of another file.
+
+/// The kind of the record, a byte: `FREE`, or one of its file's own.
+pub const KIND: u8 = 0;
 /// A record that is not in use.
 pub const FREE: u8 = 0;
+
+// A free record of the files 1 to 5.
+
+/// The next record of the free list, or `NIL`.
+pub const FREE_NEXT: u8 = 4;
+
+// A node.
+
 /// A node with one chain of relationships.
 pub const SPARSE: u8 = 1;
 /// A node with a chain of groups, each with chains of relationships of its own.
 pub const DENSE: u8 = 2;
-/// A name in use.
-pub const NAMED: u8 = 1;
 
-/// A node: its label's number.
+/// Its label's number.
 pub const NODE_LABEL: u8 = 4;
 /// The first relationship of a sparse node, the first group of a dense one, or `NIL`.
 pub const NODE_FIRST_LINK: u8 = 8;
@@ -42,7 +56,92 @@ pub const NODE_FIRST_PROPERTY: u8 = 12;
 /// How many relationships it has, a loop counted once.
 pub const NODE_DEGREE: u8 = 16;
 
-/// A name: how many bytes it has, a byte from 1 to 48.
+// A relationship.
+
+/// A relationship in use.
+pub const RELATED: u8 = 1;
+
+/// Its type's number.
+pub const RELATIONSHIP_TYPE: u8 = 4;
+/// The node that it leaves.
+pub const RELATIONSHIP_SOURCE: u8 = 8;
+/// The node that it enters.
+pub const RELATIONSHIP_TARGET: u8 = 12;
+/// The one before it in its chain at the source, or `NIL`.
+pub const RELATIONSHIP_SOURCE_PREVIOUS: u8 = 16;
+/// The one behind it in its chain at the source, or `NIL`.
+pub const RELATIONSHIP_SOURCE_NEXT: u8 = 20;
+/// The one before it in its chain at the target, or `NIL`.
+pub const RELATIONSHIP_TARGET_PREVIOUS: u8 = 24;
+/// The one behind it in its chain at the target, or `NIL`.
+pub const RELATIONSHIP_TARGET_NEXT: u8 = 28;
+/// Its first property, or `NIL`.
+pub const RELATIONSHIP_FIRST_PROPERTY: u8 = 32;
+
+// A group: the relationships of one type at one dense node.
+
+/// A group in use.
+pub const GROUPED: u8 = 1;
+
+/// The type's number.
+pub const GROUP_TYPE: u8 = 4;
+/// The node.
+pub const GROUP_OWNER: u8 = 8;
+/// The group before it at its node, or `NIL`.
+pub const GROUP_PREVIOUS: u8 = 12;
+/// The group behind it at its node, or `NIL`.
+pub const GROUP_NEXT: u8 = 16;
+/// The first of the relationships that leave the node, or `NIL`.
+pub const GROUP_FIRST_OUT: u8 = 20;
+/// The first of those that enter it, or `NIL`.
+pub const GROUP_FIRST_IN: u8 = 24;
+/// The first of those that do both, or `NIL`.
+pub const GROUP_FIRST_LOOP: u8 = 28;
+
+// A property.
+
+/// A property whose value is a number.
+pub const INT: u8 = 1;
+/// A property whose value is true or false.
+pub const BOOL: u8 = 2;
+/// A property whose value is a text that stands in the record.
+pub const TEXT_INLINE: u8 = 3;
+/// A property whose value is a text that stands in a chain of blocks.
+pub const TEXT_IN_BLOCKS: u8 = 4;
+
+/// How many bytes the text has, a short.
+pub const PROPERTY_LENGTH: u8 = 2;
+/// Its key's number.
+pub const PROPERTY_KEY: u8 = 4;
+/// The next property of the same node or relationship, or `NIL`.
+pub const PROPERTY_NEXT: u8 = 8;
+/// The first block of a text in blocks.
+pub const PROPERTY_FIRST_BLOCK: u8 = 12;
+/// The value of an `INT`, a wide number.
+pub const PROPERTY_NUMBER: u8 = 16;
+/// The value of a `BOOL`, a byte 0 or 1.
+pub const PROPERTY_TRUTH: u8 = 16;
+/// The bytes of a text that stands in the record, at most 40.
+pub const PROPERTY_TEXT: u8 = 24;
+
+// A block of a long text.
+
+/// A block in use.
+pub const BLOCK: u8 = 1;
+
+/// How many bytes of the text it has, a byte from 1 to 48.
+pub const BLOCK_LENGTH: u8 = 1;
+/// The next block of the text, or `NIL`.
+pub const BLOCK_NEXT: u8 = 4;
+/// The bytes.
+pub const BLOCK_TEXT: u8 = 8;
+
+// A name.
+
+/// A name in use.
+pub const NAMED: u8 = 1;
+
+/// How many bytes it has, a byte from 1 to 48.
 pub const NAME_LENGTH: u8 = 1;
 /// The bytes of the name, and zeros up to byte 56.
 pub const NAME_TEXT: u8 = 8;

@@ -1,6 +1,23 @@
+ghost use Rattle.std.specs.Prelude.{◌↔◌, IsTrue};
+ghost use Rattle.rec_bytes.specs.Key.{IsKey};
+
+use crate::files::LOG;
+
 /// Which record: its file, and its number in the file. Keys are ordered by file and then by number.
 #[derive(Clone, Copy, Debug, PartialEq, Eq, PartialOrd, Ord)]
 pub struct Key {
     pub file: u8,
     pub id: u32,
+}
+
+/// No record of any file has a number from this one on.
+pub const MOST_IDS: u32 = 1 << 25;
+
+impl Key {
+    /// Whether a store can have a record of this key.
+    pub fn is_valid(&self) -> bool
+        ensures { IsTrue result ↔ IsKey self.now }
+    {
+        self.file < LOG && self.id < MOST_IDS
+    }
 }

@@ -4,6 +4,7 @@ ghost use Rattle.std.specs.List.Sorted.{IsSearchInRange};
 ghost use Rattle.rec_bytes.specs.Pairs.{find_pair, growth, growth_by, merged, with_pair, FindsMerged, FindsPut, IsGapFor, IsOrdered, IsPlaceOf};
 
 use crate::key::Key;
+use crate::merge;
 use crate::record::Rec;
 use std::alloc::{AllocError, Global};
 use std::marker::Model;
@@ -87,19 +88,20 @@ impl WriteSet {
         }
     }
 
-    /// Puts each record of another set. Room for its new keys has to be there, so nothing is refused.
-    /// Each new key shifts the records behind its place, so many new keys in a large set are slow.
+    /// Puts each record of another set. Room for its new keys has to be there, so nothing is refused. The cost is
+    /// linear in the records of both sets.
     pub fn merge(&mut self, other: &WriteSet)
         requires { growth_by self.old.pairs other.now.pairs ≤ self.old.room }
         ensures pairs { self.new.pairs ≡ merged self.old.pairs other.now.pairs }
         ensures finds { FindsMerged self.old.pairs other.now.pairs self.new.pairs }
     {
-        for pair in &other.pairs {
-            let placed = self.put(pair.0, pair.1);
-            if placed.is_err() {
-                unreachable!();
-            }
+        let front = self.pairs.len();
+        let added = merge::new_keys(&self.pairs, &other.pairs);
+        // What is appended is written over, so any pairs will do.
+        if self.pairs.extend_from_slice(&other.pairs[..added]).is_err() {
+            unreachable!();
         }
+        merge::fill(&mut self.pairs, front, &other.pairs);
     }
 
     /// Forgets all records and keeps the room.

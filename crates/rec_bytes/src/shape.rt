@@ -1,0 +1,87 @@
+ghost use Rattle.std.specs.Prelude.{◌≡◌, IfSome, IsTrue, nat_eq};
+ghost use Rattle.std.specs.List.{list_all};
+ghost use Rattle.rec_bytes.specs.Shape.{is_allowed, is_store_record, shape_of_record, with_mark, with_shape};
+
+use crate::fields::{MARK, STORE_LIMIT, STORE_REST, STORE_THRESHOLD, STORE_VERSION, VERSION};
+use crate::record::Rec;
+
+/// The least threshold that a store may have.
+pub const LEAST_THRESHOLD: u16 = 2;
+/// The greatest threshold that a store may have.
+pub const GREATEST_THRESHOLD: u16 = 200;
+/// The least limit that a store may have.
+pub const LEAST_LIMIT: u32 = 16;
+/// The greatest limit that a store may have.
+pub const GREATEST_LIMIT: u32 = 16_777_216;
+
+/// The shape of a store: a node with more relationships than the threshold is dense, and the limit says how
+/// many records a file may have.
+#[derive(Clone, Copy, Debug, PartialEq, Eq)]
+pub struct Shape {
+    pub threshold: u16,
+    pub limit: u32,
+}
+
+impl Shape {
+    /// Reads it from record 0 of the meta file. There is none where the record has another mark or version, a
+    /// shape that isn't allowed, or anything behind the fields.
+    pub fn of(rec: &Rec) -> Option<Shape>
+        ensures value { result ≡ shape_of_record rec.now }
+        ensures allowed { IfSome result (λ shape. IsTrue (is_allowed shape)) }
+    {
+        let shape = Shape {
+            threshold: rec.short(STORE_THRESHOLD),
+            limit: rec.number(STORE_LIMIT),
+        };
+        if is_store(rec) && shape.is_allowed() {
+            Some(shape)
+        } else {
+            None
+        }
+    }
+
+    /// Whether a store may have it.
+    pub fn is_allowed(&self) -> bool
+        ensures { result ≡ is_allowed self.now }
+    {
+        LEAST_THRESHOLD <= self.threshold
+            && self.threshold <= GREATEST_THRESHOLD
+            && LEAST_LIMIT <= self.limit
+            && self.limit <= GREATEST_LIMIT
+    }
+
+    /// Writes it into a record, with the mark and the version. The bytes behind stay.
+    pub fn write(&self, rec: &mut Rec)
+        ensures set { rec.new ≡ with_shape rec.old self.now }
+        ensures got { rec.old ≡ Rec.ZEROS → IsTrue (is_allowed self.now)
+            → shape_of_record rec.new ≡ Some self.now }
+    {
+        write_mark(rec);
+        rec.set_short(STORE_VERSION, VERSION);
+        rec.set_short(STORE_THRESHOLD, self.threshold);
+        rec.set_number(STORE_LIMIT, self.limit);
+    }
+}
+
+fn is_store(rec: &Rec) -> bool
+    ensures { result ≡ is_store_record rec.now }
+{
+    rec.bytes.starts_with(&MARK)
+        && rec.short(STORE_VERSION) == VERSION
+        && are_zeros(&rec.bytes[STORE_REST as usize..])
+}
+
+fn are_zeros(bytes: &[u8]) -> bool
+    ensures { result ≡ list_all (λ b. nat_eq b 0) bytes.now }
+{
+    bytes.iter().all(|b| *b == 0)
+}
+
+fn write_mark(rec: &mut Rec)
+    ensures { rec.new ≡ with_mark rec.old }
+{
+    rec.bytes[..MARK.len()].copy_from_slice(&MARK);
+}
+
+#[cfg(test)]
+mod tests;
