@@ -1,0 +1,30 @@
+-- The bytes of written records, one behind the other.
+use Rattle.std.proofs.Common.{◌≡◌, ◌∙◌, ap, sym, ℕ, ◌+◌, ◌-◌, ◌<◌, ◌≤◌, List, [], ◌∷◌, ◌++◌, length, take, drop, get_or, arith, length-drop}
+use Rattle.std.specs.Prelude.{Some}
+use Rattle.std.specs.List.{flat_map, slice_get}
+use Rattle.std.proofs.lemmas.List.{flat_map_more, take_more, get_or-drop}
+use Rattle.std.proofs.lemmas.Option.{slice_get_within, get_or_from_slice_get}
+use Rattle.rec_bytes.specs.declared.key.Key.{Key}
+use Rattle.rec_bytes.specs.declared.record.Rec.{Rec}
+use Rattle.rec_bytes.specs.Pairs.{Pairs}
+use Rattle.redo_log.specs.Appending.{write_bytes}
+
+-- one record more of those from a place on
+take-drop-more : (writes : Pairs) (from i : ℕ) (write : Key × Rec) → from ≤ i → slice_get writes i ≡ Some write → take (i + 1 - from) (drop from writes) ≡ take (i - from) (drop from writes) ++ write ∷ []
+take-drop-more writes from i write first got =
+    let within : i < length writes = slice_get_within writes i write got in
+    let inside : i - from < length (drop from writes) = omega (arith, length-drop from writes) in
+    let count : i + 1 - from ≡ (i - from) + 1 = omega arith in
+    let place : from + (i - from) ≡ i = omega arith in
+    let is : get_or (drop from writes) (i - from) write ≡ write =
+    get_or-drop from writes (i - from) write ∙ ap (λ k. get_or writes k write) place ∙ get_or_from_slice_get writes i write write got in
+    ap (λ n. take n (drop from writes)) count ∙ take_more (drop from writes) (i - from) write inside ∙ ap (λ (w : Key × Rec). take (i - from) (drop from writes) ++ w ∷ []) is
+
+-- the bytes of one record more
+pub filled-more : (old now new : List ℕ) (writes : Pairs) (from i : ℕ) (write : Key × Rec) → from ≤ i → slice_get writes i ≡ Some write
+    → now ≡ old ++ flat_map write_bytes (take (i - from) (drop from writes)) → new ≡ now ++ write_bytes write
+    → new ≡ old ++ flat_map write_bytes (take (i + 1 - from) (drop from writes))
+filled-more old now new writes from i write first got is next =
+    next ∙ ap (λ bytes. bytes ++ write_bytes write) is
+    ∙ flat_map_more write_bytes old (take (i - from) (drop from writes)) write
+    ∙ ap (λ (ws : Pairs). old ++ flat_map write_bytes ws) (sym (take-drop-more writes from i write first got))

@@ -1,0 +1,12 @@
+pub mod Appends
+pub mod Bytes
+pub mod Contents
+pub mod Entries
+pub mod EntryForms
+pub mod Laid
+pub mod LogBytes
+pub mod OnlyReading
+pub mod Rising
+pub mod Sending
+pub mod Torn
+pub mod Worked

@@ -1,0 +1,4 @@
+pub mod Appending
+pub mod Entries
+pub mod Reading
+pub mod Redo
