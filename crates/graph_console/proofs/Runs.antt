@@ -1,21 +1,25 @@
 -- A run of the console, as far as the program's loop has come.
-use Rattle.std.proofs.Common.{◌≡◌, inl, inr, ℕ, ◌+◌, ◌^◌, Bool, false, List, [], ◌∷◌, ◌++◌, length, take, map, refl, sym, ◌∙◌, ap, subst, arith, append_assoc, length-append, Some, cond}
+use Rattle.std.proofs.Common.{◌≡◌, ◌⊎◌, inl, inr, ℕ, ◌+◌, ◌-◌, ◌^◌, ◌≤◌, Bool, true, false, List, [], ◌∷◌, ◌++◌, length, take, map, refl, sym, ◌∙◌, ap, subst, arith, append_assoc, length-append, Some, cond}
+use Rattle.std.proofs.lemmas.Bool.{cases_lt}
 use Rattle.std.proofs.lemmas.List.{append-nil, map_push}
 use Rattle.std.proofs.lemmas.Grind.{flat_map-append}
+use Rattle.fault_count.specs.Cause.{Rose}
 use Rattle.stream_io.specs.Lines.{InputLine, Pieces, pieces_of, line_of, lines_of, ended_lines}
 use Rattle.stream_io.specs.Answers.{TakesLine}
 use Rattle.stream_io.specs.Reading.{Reading, ahead, IsFresh}
 use Rattle.stream_io.specs.Streams.{TakesFront}
 use Rattle.plain_graph.specs.Reply.{Reply, reply_text}
+use Rattle.node_log.specs.declared.open_fault.OpenFault.{OpenFault}
+use Rattle.graph_session.specs.Session.{health_of}
 use Rattle.graph_session.specs.State.{State, IsQuit}
 use Rattle.graph_session.specs.Console.{Step}
 use Rattle.graph_session.specs.declared.health.Health.{Health}
 use Rattle.graph_session.specs.declared.health.Health.TheVariants.{Live, Failed}
-use Rattle.graph_console.specs.Run.{Exchange, Run, run_lines, run_text, NoQuit}
-use Rattle.graph_console.specs.Main.{Serves, ServesAll, ServesEnded, Writes}
+use Rattle.graph_console.specs.Run.{Exchange, Run, run_lines, run_text, rises, NoQuit, AreUpToQuit, AreFirstOf, LacksEnd}
+use Rattle.graph_console.specs.Main.{CountsRises, RunTo, Serves, ServesAll, ServesEnded, Writes}
 use Rattle.graph_console.specs.Serving.{TurnSays, Exchanges, Ends, Breaks}
 use Rattle.graph_console.specs.declared.exit.Exit.{Exit}
-use Rattle.graph_console.specs.declared.exit.Exit.TheVariants.{Done, StoreFailed, Usage, InputFault, OutputFault, NoMemory, InputTooLong}
+use Rattle.graph_console.specs.declared.exit.Exit.TheVariants.{Done, StoreFailed, Usage, InputFault, OutputFault, NoMemory, BadFiles, ConfigDiffers, DiskFault, InputTooLong}
 use Rattle.graph_console.proofs.LineLaws.{piece_first, piece_alone, pieces_joined, lines-piece, lines-last}
 
 -- one step more
@@ -35,6 +39,29 @@ run_text_on run x =
 run_lines_on : (run : List Exchange) (x : Exchange) → run_lines (run ++ x ∷ []) ≡ run_lines run ++ x.line ∷ []
 run_lines_on run x = map_push (λ (y : Exchange). y.line) run x
 
+rises_on : (run : List Exchange) (x : Exchange) → rises (run ++ x ∷ []) ≡ rises run + cond x.rose 1 0
+rises_on [] x = omega arith
+rises_on (y ∷ run) x = omega (arith, rises_on run x)
+
+-- a call in which the disk failed, or didn't, lets its count rise as the call says
+count_on : (rose : Bool) (total before middle after : ℕ) → (total + before ≤ middle) ⊎ (2 ^ 64 - 1 ≤ middle) → (rose ≡ true → Rose middle after) → middle ≤ after
+    → ((total + cond rose 1 0) + before ≤ after) ⊎ (2 ^ 64 - 1 ≤ after)
+count_on rose total before middle after (inr last) counted later = inr (omega arith)
+count_on false total before middle after (inl counts) counted later = inl (omega arith)
+count_on true total before middle after (inl counts) counted later =
+    let one_more : Rose middle after = counted refl in
+    elim (cases_lt middle after) [ inl below ↦ inl (omega arith) | inr not_below ↦ inr (omega arith) ]
+
+-- a count that kept up with a run keeps up with it and one exchange more
+counts_on : (before middle after : ℕ) (run : List Exchange) (x : Exchange) → CountsRises before middle run → (x.rose ≡ true → Rose middle after) → middle ≤ after → CountsRises before after (run ++ x ∷ [])
+counts_on before middle after run x counts counted later =
+    subst (λ (n : ℕ). (n + before ≤ after) ⊎ (2 ^ 64 - 1 ≤ after)) (sym (rises_on run x)) (count_on x.rose (rises run) before middle after counts counted later)
+
+-- a count that kept up with a run keeps up with it later, and from an earlier one on
+pub counts_within : (earlier before middle after : ℕ) (run : List Exchange) → earlier ≤ before → CountsRises before middle run → middle ≤ after → CountsRises earlier after run
+counts_within earlier before middle after run begins (inl counts) later = inl (omega arith)
+counts_within earlier before middle after run begins (inr last) later = inr (omega arith)
+
 -- the line that was taken is the first of those ahead
 first_line : (line : InputLine) (before after : List ℕ) (ended : Bool) → TakesLine line before after ended → lines_of before ≡ line ∷ lines_of after
 first_line line before after ended t = elim t.split [
@@ -53,65 +80,88 @@ pub record Boundary (input ahead_of : List ℕ) (lines : List InputLine) : Type 
   pub no_rest : (pieces_of used).rest ≡ []
   pub lines_are : ended_lines used ≡ lines
 
-pub record Serving (first : State) (input before : List ℕ) (session : State) (reader : Reading) (left output : List ℕ) : Type 0 where
+-- Where the loop stands: the reader, what the source has left, what the sink has taken, and how often the disk has failed.
+pub record Moment : Type 0 where
+  pub reader : Reading
+  pub left : List ℕ
+  pub taken : List ℕ
+  pub faults : ℕ
+
+abbrev pub bytes_ahead : Moment → List ℕ
+bytes_ahead m = ahead m.reader m.left
+
+-- A run from the first state has come from the start to this moment, and to a state that the session is at.
+pub record Serving (first : State) (is_at : State → Type 0) (start now : Moment) : Type 0 where
   pub run : List Exchange
-  pub steps : Run first run session
+  pub state : State
+  pub steps : Run first run state
+  pub arrives : is_at state
   pub no_quit : NoQuit (run_lines run)
-  pub text : output ≡ before ++ run_text run
-  pub lines : run_lines run ++ lines_of (ahead reader left) ≡ lines_of input
-  pub boundary : reader.ended ≡ false → Boundary input (ahead reader left) (run_lines run)
-  pub counted : reader.taken + length left ≡ length input
+  pub text : now.taken ≡ start.taken ++ run_text run
+  pub lines : run_lines run ++ lines_of (bytes_ahead now) ≡ lines_of start.left
+  pub boundary : now.reader.ended ≡ false → Boundary start.left (bytes_ahead now) (run_lines run)
+  pub counted : now.reader.taken + length now.left ≡ length start.left
+  pub counts : CountsRises start.faults now.faults run
 
 fresh_ahead : (reader : Reading) (left : List ℕ) → reader.ended ≡ false → reader.held ≡ [] → ahead reader left ≡ left
 fresh_ahead reader left goes_on none = ap (λ (b : Bool). cond b reader.held (reader.held ++ left)) goes_on ∙ ap (λ (bs : List ℕ). bs ++ left) none
 
-pub serving_first : (input output : List ℕ) (session : State) (reader : Reading) → IsFresh reader → Serving session input output session reader input output
-serving_first input output session reader fresh =
-    let same = fresh_ahead reader input fresh.ended fresh.held in
+pub serving_first : (first : State) (is_at : State → Type 0) (start : Moment) → is_at first → IsFresh start.reader → Serving first is_at start start
+serving_first first is_at start at_first fresh =
+    let same = fresh_ahead start.reader start.left fresh.ended fresh.held in
     record {
       run = [];
+      state = first;
       steps = refl;
+      arrives = at_first;
       no_quit = tt;
-      text = sym (append-nil output);
+      text = sym (append-nil start.taken);
       lines = ap lines_of same;
       boundary = λ _. record { used = []; input_is = sym same; no_rest = refl; lines_are = refl };
-      counted = ap (λ n. n + length input) fresh.taken ∙ omega arith;
+      counted = ap (λ n. n + length start.left) fresh.taken ∙ omega arith;
+      counts = inl (omega arith);
     }
 
+-- What is said of the whole run: its end, by the state that the session is then at and by the disk's count.
+abbrev Closes : (State → Type 0) → (List Exchange → State → Type 0) → ℕ → ℕ → Type 0
+Closes is_at ends before after = (run : List Exchange) (last : State) → is_at last → CountsRises before after run → ends run last
+
 -- What is served when a line's exchange has come to its end.
-module _ (first : State) (input before : List ℕ) (old new : State) (reading_old reading_new : Reading) (left_old left_new output_old : List ℕ)
-    (s : Serving first input before old reading_old left_old output_old)
-    (says : InputLine → Reply → Type 0) (e : Exchanges old new (ahead reading_old left_old) (ahead reading_new left_new) reading_new.ended says) where
+module _ (first : State) (old_is_at is_at : State → Type 0) (start old new : Moment) (s : Serving first old_is_at start old)
+    (says : State → InputLine → Reply → Type 0) (e : Exchanges s.state is_at (bytes_ahead old) (bytes_ahead new) old.faults new.faults new.reader.ended says) where
   abbrev exchange : Exchange
-  exchange = record { line = e.line; rose = false; reply = e.reply }
+  exchange = record { line = e.line; rose = e.rose; reply = e.reply }
 
   abbrev run_after : List Exchange
   run_after = s.run ++ exchange ∷ []
 
-  steps_after : Run first run_after new
-  steps_after = run_on first old new s.run exchange s.steps e.step
+  steps_after : Run first run_after e.new
+  steps_after = run_on first s.state e.new s.run exchange s.steps e.step
+
+  counts_after : old.faults ≤ new.faults → CountsRises start.faults new.faults run_after
+  counts_after later = counts_on start.faults old.faults new.faults s.run exchange s.counts e.counted later
 
   lines_after : run_lines run_after ≡ run_lines s.run ++ e.line ∷ []
   lines_after = run_lines_on s.run exchange
 
-  all_lines : lines_of input ≡ run_lines run_after ++ lines_of (ahead reading_new left_new)
+  all_lines : lines_of start.left ≡ run_lines run_after ++ lines_of (bytes_ahead new)
   all_lines =
       sym s.lines
-      ∙ ap (λ (ls : List InputLine). run_lines s.run ++ ls) (first_line e.line (ahead reading_old left_old) (ahead reading_new left_new) reading_new.ended e.takes)
-      ∙ sym (append_assoc (run_lines s.run) (e.line ∷ []) (lines_of (ahead reading_new left_new)))
-      ∙ ap (λ (ls : List InputLine). ls ++ lines_of (ahead reading_new left_new)) (sym lines_after)
+      ∙ ap (λ (ls : List InputLine). run_lines s.run ++ ls) (first_line e.line (bytes_ahead old) (bytes_ahead new) new.reader.ended e.takes)
+      ∙ sym (append_assoc (run_lines s.run) (e.line ∷ []) (lines_of (bytes_ahead new)))
+      ∙ ap (λ (ls : List InputLine). ls ++ lines_of (bytes_ahead new)) (sym lines_after)
 
-  text_after : before ++ run_text run_after ≡ output_old ++ reply_text e.reply
+  text_after : start.taken ++ run_text run_after ≡ old.taken ++ reply_text e.reply
   text_after =
-      ap (λ (text : List ℕ). before ++ text) (run_text_on s.run exchange)
-      ∙ sym (append_assoc before (run_text s.run) (reply_text e.reply))
+      ap (λ (text : List ℕ). start.taken ++ text) (run_text_on s.run exchange)
+      ∙ sym (append_assoc start.taken (run_text s.run) (reply_text e.reply))
       ∙ ap (λ (text : List ℕ). text ++ reply_text e.reply) (sym s.text)
 
   no_quit_after : ¬ IsQuit e.line → NoQuit (run_lines run_after)
   no_quit_after not_quit = subst NoQuit (sym lines_after) (no_quit_on (run_lines s.run) e.line s.no_quit not_quit)
 
   -- behind a newline the bytes used end with a line again
-  boundary_after : reading_old.ended ≡ false → reading_new.ended ≡ false → Boundary input (ahead reading_new left_new) (run_lines run_after)
+  boundary_after : old.reader.ended ≡ false → new.reader.ended ≡ false → Boundary start.left (bytes_ahead new) (run_lines run_after)
   boundary_after old_goes_on new_goes_on = elim e.takes.split [
     | inl by_newline ↦
         let b = s.boundary old_goes_on in
@@ -126,8 +176,8 @@ module _ (first : State) (input before : List ℕ) (old new : State) (reading_ol
           input_is =
               b.input_is
               ∙ ap (λ (bs : List ℕ). b.used ++ bs) by_newline
-              ∙ sym (append_assoc b.used piece (10 ∷ ahead reading_new left_new))
-              ∙ sym (append_assoc (b.used ++ piece) (10 ∷ []) (ahead reading_new left_new));
+              ∙ sym (append_assoc b.used piece (10 ∷ bytes_ahead new))
+              ∙ sym (append_assoc (b.used ++ piece) (10 ∷ []) (bytes_ahead new));
           no_rest = ap (λ (ps : Pieces). ps.rest) joined;
           lines_are =
               ap (λ (ps : Pieces). map line_of ps.ended) joined
@@ -139,87 +189,103 @@ module _ (first : State) (input before : List ℕ) (old new : State) (reading_ol
     | inr at_end ↦ absurd (cc (at_end.3, new_goes_on))
   ]
 
-  pub serving_on : (output_new : List ℕ) → ¬ IsQuit e.line → output_new ≡ output_old ++ reply_text e.reply → (reading_new.ended ≡ false → reading_old.ended ≡ false)
-      → reading_new.taken + length left_new ≡ reading_old.taken + length left_old → Serving first input before new reading_new left_new output_new
-  serving_on output_new not_quit text stays counted = record {
+  pub serving_on : ¬ IsQuit e.line → new.taken ≡ old.taken ++ reply_text e.reply → old.faults ≤ new.faults → (new.reader.ended ≡ false → old.reader.ended ≡ false)
+      → new.reader.taken + length new.left ≡ old.reader.taken + length old.left → Serving first is_at start new
+  serving_on not_quit text later stays counted = record {
     run = run_after;
+    state = e.new;
     steps = steps_after;
+    arrives = e.arrives;
     no_quit = no_quit_after not_quit;
     text = text ∙ sym text_after;
     lines = sym all_lines;
     boundary = λ goes_on. boundary_after (stays goes_on) goes_on;
     counted = counted ∙ s.counted;
+    counts = counts_after later;
   }
 
-  pub serves_quit : (output_new : List ℕ) (health : Health) → new.health ≡ health → IsQuit e.line → output_new ≡ output_old ++ reply_text e.reply → Writes before output_new (ServesAll first health input)
-  serves_quit output_new health ends is_quit text = (
-    run_text run_after,
-    text ∙ sym text_after,
-    record {
+  module _ (ends : List Exchange → State → Type 0) (unopened : OpenFault → Type 0) (closes : Closes is_at ends start.faults new.faults) (later : old.faults ≤ new.faults) where
+    -- the run with this exchange ends so
+    closed : (P : List Exchange → State → Type 0) → P run_after e.new → RunTo (λ state. state ≡ first) ends P
+    closed P says_so = record {
+      first = first;
+      begins = refl;
       run = run_after;
-      last = new;
+      last = e.new;
       steps = steps_after;
-      says = (
-        ends,
+      arrives = closes run_after e.new e.arrives (counts_after later);
+      says = says_so;
+    }
+
+    pub serves_quit : (health : Health) → health_of e.new.standing ≡ health → IsQuit e.line → new.taken ≡ old.taken ++ reply_text e.reply
+        → Writes start.taken new.taken (ServesAll (λ state. state ≡ first) ends unopened health start.left)
+    serves_quit health ends_so is_quit text = (
+      run_text run_after,
+      text ∙ sym text_after,
+      closed (λ run last. (health_of last.standing ≡ health) × AreUpToQuit (lines_of start.left) (run_lines run) × (run_text run_after ≡ run_text run)) (
+        ends_so,
         inr (record {
           before = run_lines s.run;
           quit = e.line;
-          later = lines_of (ahead reading_new left_new);
+          later = lines_of (bytes_ahead new);
           no_quit = s.no_quit;
           is_quit = is_quit;
           done_is = lines_after;
           lines_are = all_lines;
         }),
         refl,
-      );
-    },
-  )
+      ),
+    )
 
-  pub serves_short : (output_new : List ℕ) → ¬ IsQuit e.line → TakesFront output_old output_new (reply_text e.reply) → Writes before output_new (Serves first OutputFault input left_new)
-  serves_short output_new not_quit front = (
-    run_text s.run ++ take front.0 (reply_text e.reply),
-    front.2 ∙ ap (λ (text : List ℕ). text ++ take front.0 (reply_text e.reply)) s.text ∙ append_assoc before (run_text s.run) (take front.0 (reply_text e.reply)),
-    inl (record {
-      run = run_after;
-      last = new;
-      steps = steps_after;
-      says = (
-        (lines_of (ahead reading_new left_new), all_lines),
+    pub serves_short : ¬ IsQuit e.line → TakesFront old.taken new.taken (reply_text e.reply) → Writes start.taken new.taken (Serves (λ state. state ≡ first) ends unopened OutputFault start.left new.left)
+    serves_short not_quit front = let written : List ℕ = run_text s.run ++ take front.0 (reply_text e.reply) in (
+      written,
+      front.2 ∙ ap (λ (text : List ℕ). text ++ take front.0 (reply_text e.reply)) s.text ∙ append_assoc start.taken (run_text s.run) (take front.0 (reply_text e.reply)),
+      inl (closed (λ run last. AreFirstOf (lines_of start.left) (run_lines run) × NoQuit (run_lines run) × LacksEnd run written) (
+        (lines_of (bytes_ahead new), all_lines),
         no_quit_after not_quit,
         record { before = s.run; last = exchange; length_of_front = front.0; run_is = refl; short = front.1; text_is = refl },
-      );
-    }),
-  )
+      )),
+    )
 
--- What is served when the run ends without a line.
-module _ (first : State) (input before : List ℕ) (session : State) (reading_old reading_new : Reading) (left_old left_new output_old output_new : List ℕ)
-    (s : Serving first input before session reading_old left_old output_old) where
-  pub serves_end : (health : Health) → session.health ≡ health → ahead reading_old left_old ≡ [] → output_new ≡ output_old → Writes before output_new (ServesAll first health input)
-  serves_end health ends none same = let all = sym (append-nil (run_lines s.run)) ∙ ap (λ (bs : List ℕ). run_lines s.run ++ lines_of bs) (sym none) ∙ s.lines in (
+-- What is served when the run ends without a line, in a state that the session is still at.
+module _ (first : State) (old_is_at is_at : State → Type 0) (start old new : Moment) (s : Serving first old_is_at start old) (arrives : is_at s.state)
+    (ends : List Exchange → State → Type 0) (unopened : OpenFault → Type 0) (closes : Closes is_at ends start.faults new.faults) (later : old.faults ≤ new.faults) where
+  -- the run so far ends so
+  closed_here : (P : List Exchange → State → Type 0) → P s.run s.state → RunTo (λ state. state ≡ first) ends P
+  closed_here P says_so = record {
+    first = first;
+    begins = refl;
+    run = s.run;
+    last = s.state;
+    steps = s.steps;
+    arrives = closes s.run s.state arrives (counts_within start.faults start.faults old.faults new.faults s.run (omega arith) s.counts later);
+    says = says_so;
+  }
+
+  pub serves_end : (health : Health) → health_of s.state.standing ≡ health → bytes_ahead old ≡ [] → new.taken ≡ old.taken
+      → Writes start.taken new.taken (ServesAll (λ state. state ≡ first) ends unopened health start.left)
+  serves_end health ends_so none same = let all = sym (append-nil (run_lines s.run)) ∙ ap (λ (bs : List ℕ). run_lines s.run ++ lines_of bs) (sym none) ∙ s.lines in (
     run_text s.run,
     same ∙ s.text,
-    record {
-      run = s.run;
-      last = session;
-      steps = s.steps;
-      says = (ends, inl (subst NoQuit all s.no_quit, all), refl);
-    },
+    closed_here (λ run last. (health_of last.standing ≡ health) × AreUpToQuit (lines_of start.left) (run_lines run) × (run_text s.run ≡ run_text run))
+        (ends_so, inl (subst NoQuit all s.no_quit, all), refl),
   )
 
-  module _ (b : Breaks reading_old reading_new (ahead reading_old left_old) (ahead reading_new left_new) output_old output_new) where
-    boundary : Boundary input (ahead reading_old left_old) (run_lines s.run)
+  module _ (b : Breaks s.state is_at (bytes_ahead old) (bytes_ahead new) old.faults new.faults old.reader new.reader old.taken new.taken) where
+    boundary : Boundary start.left (bytes_ahead old) (run_lines s.run)
     boundary = s.boundary b.stops.had_not_ended
 
-    left_ahead : ahead reading_new left_new ≡ left_new
-    left_ahead = fresh_ahead reading_new left_new b.stops.has_not_ended b.stops.none_held
+    left_ahead : bytes_ahead new ≡ new.left
+    left_ahead = fresh_ahead new.reader new.left b.stops.has_not_ended b.stops.none_held
 
-    input_is_taken : input ≡ (boundary.used ++ b.drops.piece) ++ left_new
+    input_is_taken : start.left ≡ (boundary.used ++ b.drops.piece) ++ new.left
     input_is_taken =
         boundary.input_is
         ∙ ap (λ (bs : List ℕ). boundary.used ++ bs) (b.drops.split ∙ ap (λ (bs : List ℕ). b.drops.piece ++ bs) left_ahead)
-        ∙ sym (append_assoc boundary.used b.drops.piece left_new)
+        ∙ sym (append_assoc boundary.used b.drops.piece new.left)
 
-    abbrev serves_ended : ServesEnded input left_new s.run
+    abbrev serves_ended : ServesEnded start.left new.left s.run
     serves_ended = record {
       taken = boundary.used ++ b.drops.piece;
       input_is = input_is_taken;
@@ -231,29 +297,40 @@ module _ (first : State) (input before : List ℕ) (session : State) (reading_ol
       no_quit = s.no_quit;
     }
 
-    pub serves_fault : Writes before output_new (Serves first InputFault input left_new)
-    serves_fault = (run_text s.run, b.output ∙ s.text, record { run = s.run; last = session; steps = s.steps; says = (serves_ended, refl) })
+    pub serves_fault : Writes start.taken new.taken (Serves (λ state. state ≡ first) ends unopened InputFault start.left new.left)
+    serves_fault = (
+      run_text s.run,
+      b.output ∙ s.text,
+      closed_here (λ run last. ServesEnded start.left new.left run × (run_text s.run ≡ run_text run)) (serves_ended, refl),
+    )
 
-    pub serves_too_long : reading_new.taken ≡ 2 ^ 30 → reading_new.taken + length left_new ≡ reading_old.taken + length left_old → Writes before output_new (Serves first InputTooLong input left_new)
+    pub serves_too_long : new.reader.taken ≡ 2 ^ 30 → new.reader.taken + length new.left ≡ old.reader.taken + length old.left → Writes start.taken new.taken (Serves (λ state. state ≡ first) ends unopened InputTooLong start.left new.left)
     serves_too_long limit counted =
         let all = boundary.used ++ b.drops.piece in
-        let size : length input ≡ length all + length left_new = ap length input_is_taken ∙ length-append all left_new in
-        (run_text s.run, b.output ∙ s.text, record { run = s.run; last = session; steps = s.steps; says = (serves_ended, omega (arith, size, limit, counted, s.counted), refl) })
+        let size : length start.left ≡ length all + length new.left = ap length input_is_taken ∙ length-append all new.left in (
+          run_text s.run,
+          b.output ∙ s.text,
+          closed_here (λ run last. (ended : ServesEnded start.left new.left run) × (length ended.taken ≡ 2 ^ 30) × (run_text s.run ≡ run_text run)) (serves_ended, omega (arith, size, limit, counted, s.counted), refl),
+        )
 
 -- What a turn that ends the run has served.
-module _ (first : State) (input before : List ℕ) (old new : State) (reading_old reading_new : Reading) (left_old left_new output_old output_new : List ℕ)
-    (s : Serving first input before old reading_old left_old output_old) (counted : reading_new.taken + length left_new ≡ reading_old.taken + length left_old) where
-  serves_all : (health : Health) → Ends old new (ahead reading_old left_old) (ahead reading_new left_new) output_old output_new reading_new.ended health → Writes before output_new (ServesAll first health input)
-  serves_all health says = elim says.1 [
-    | inl at_end ↦ serves_end first input before old reading_old reading_new left_old left_new output_old output_new s health (ap (λ (state : State). state.health) (sym at_end.1) ∙ says.0) at_end.0 at_end.2
-    | inr quits ↦ serves_quit first input before old new reading_old reading_new left_old left_new output_old s _ quits output_new health says.0 quits.more.0 quits.more.1
-  ]
+module _ (first : State) (old_is_at is_at : State → Type 0) (start old new : Moment) (s : Serving first old_is_at start old)
+    (ends : List Exchange → State → Type 0) (unopened : OpenFault → Type 0) (closes : Closes is_at ends start.faults new.faults) (later : old.faults ≤ new.faults)
+    (counted : new.reader.taken + length new.left ≡ old.reader.taken + length old.left) where
+  serves_all : (health : Health) → Ends s.state is_at (bytes_ahead old) (bytes_ahead new) old.faults new.faults old.taken new.taken new.reader.ended health
+      → Writes start.taken new.taken (ServesAll (λ state. state ≡ first) ends unopened health start.left)
+  serves_all health (inl at_end) = serves_end first old_is_at is_at start old new s at_end.2 ends unopened closes later health at_end.1 at_end.0 at_end.3
+  serves_all health (inr quits) = serves_quit first old_is_at is_at start old new s _ quits ends unopened closes later health quits.more.1 quits.more.0 quits.more.2
 
-  pub served : (exit : Exit) → TurnSays old new reading_old reading_new (ahead reading_old left_old) (ahead reading_new left_new) output_old output_new (Some exit) → Writes before output_new (Serves first exit input left_new)
+  pub served : (exit : Exit) → TurnSays s.state is_at (bytes_ahead old) (bytes_ahead new) old.faults new.faults old.reader new.reader old.taken new.taken (Some exit)
+      → Writes start.taken new.taken (Serves (λ state. state ≡ first) ends unopened exit start.left new.left)
   served Done says = serves_all Live says
   served StoreFailed says = serves_all Failed says
   served Usage says = absurd says
+  served InputFault says = serves_fault first old_is_at is_at start old new s says.arrives ends unopened closes later says
+  served OutputFault says = serves_short first old_is_at is_at start old new s _ says ends unopened closes later says.more.0 says.more.1
   served NoMemory says = absurd says
-  served InputFault says = serves_fault first input before old reading_old reading_new left_old left_new output_old output_new s says
-  served OutputFault says = serves_short first input before old new reading_old reading_new left_old left_new output_old s _ says output_new says.more.0 says.more.1
-  served InputTooLong says = serves_too_long first input before old reading_old reading_new left_old left_new output_old output_new s says.0 says.1 counted
+  served BadFiles says = absurd says
+  served ConfigDiffers says = absurd says
+  served DiskFault says = absurd says
+  served InputTooLong says = serves_too_long first old_is_at is_at start old new s says.0.arrives ends unopened closes later says.0 says.1 counted

@@ -1,7 +1,7 @@
 -- The exit statuses.
 use Rattle.std.specs.Prelude.{ℕ}
 use Rattle.graph_console.specs.declared.exit.Exit.{Exit}
-use Rattle.graph_console.specs.declared.exit.Exit.TheVariants.{Done, StoreFailed, Usage, InputFault, OutputFault, NoMemory, InputTooLong}
+use Rattle.graph_console.specs.declared.exit.Exit.TheVariants.{Done, StoreFailed, Usage, InputFault, OutputFault, NoMemory, BadFiles, ConfigDiffers, DiskFault, InputTooLong}
 
 abbrev pub status : Exit → ℕ
 status Done = 0
@@ -10,4 +10,7 @@ status Usage = 2
 status InputFault = 3
 status OutputFault = 4
 status NoMemory = 5
+status BadFiles = 6
+status ConfigDiffers = 7
+status DiskFault = 8
 status InputTooLong = 9

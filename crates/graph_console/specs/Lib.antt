@@ -1,4 +1,5 @@
 pub mod Exit
 pub mod Main
+pub mod Opening
 pub mod Run
 pub mod Serving

@@ -1,12 +1,12 @@
 -- Runs of the console: one step after another.
-use Rattle.std.specs.Prelude.{◌≡◌, ◌⊎◌, ℕ, ◌≤◌, Bool, List, [], ◌∷◌, ◌++◌, map, flat_map, length, take}
+use Rattle.std.specs.Prelude.{◌≡◌, ◌⊎◌, ℕ, ◌+◌, ◌≤◌, Bool, if◌then◌else◌, List, [], ◌∷◌, ◌++◌, map, flat_map, length, take}
 use Rattle.std.specs.List.{AllByRecursion}
 use Rattle.stream_io.specs.Lines.{InputLine}
 use Rattle.plain_graph.specs.Reply.{Reply, reply_text}
 use Rattle.graph_session.specs.State.{State, IsQuit}
 use Rattle.graph_session.specs.Console.{Step}
 
--- a line and its reply; rose is to say whether the disk failed in the line, and no step uses it yet
+-- a line, whether the disk failed in it, and the reply
 pub record Exchange : Type 0 where
   pub line : InputLine
   pub rose : Bool
@@ -21,6 +21,11 @@ run_lines run = map (λ exchange. exchange.line) run
 
 abbrev pub run_text : List Exchange → List ℕ
 run_text run = flat_map (λ exchange. reply_text exchange.reply) run
+
+-- in how many lines the disk failed
+abbrev pub rises : List Exchange → ℕ
+rises [] = 0
+rises (exchange ∷ later) = (if exchange.rose then 1 else 0) + rises later
 
 -- none of the lines is quit
 abbrev pub NoQuit : List InputLine → Type 0

@@ -16,6 +16,12 @@ pub enum Exit {
     OutputFault,
     /// There was no memory to begin with.
     NoMemory,
+    /// The files hold no store, or a damaged one.
+    BadFiles,
+    /// The store has another shape than the one that was asked for.
+    ConfigDiffers,
+    /// The disk failed while the store was opened.
+    DiskFault,
     /// A run may take no more bytes of the input, and its end wasn't reached.
     InputTooLong,
 }
@@ -32,6 +38,9 @@ impl Exit {
             Exit::InputFault => 3,
             Exit::OutputFault => 4,
             Exit::NoMemory => 5,
+            Exit::BadFiles => 6,
+            Exit::ConfigDiffers => 7,
+            Exit::DiskFault => 8,
             Exit::InputTooLong => 9,
         }
     }

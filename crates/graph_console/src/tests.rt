@@ -1,6 +1,8 @@
-//! Whole runs of the program over a source and a sink in memory.
+//! Whole runs of the program over a source, a sink and a disk in memory.
+mod stored;
+
 use crate::{Exit, graph_main};
-use disk_model::PlainDisk;
+use disk_model::{Disk, PlainDisk};
 use std::alloc::{AllocError, Global};
 use std::process::Abort;
 use std::test::Fail;
@@ -32,12 +34,13 @@ fn words_of(alloc: Global, words: &[&str]) -> Result<Vec<String>, AllocError> {
     Ok(all)
 }
 
-fn run_with(
+fn run_on<D: Disk>(
     rt: &impl Abort,
     alloc: Global,
     words: &[&str],
     input: &[u8],
     streams: &Streams,
+    disk: &mut D,
 ) -> Result<Ended, AllocError> {
     let words = words_of(alloc, words)?;
     let piece = streams.piece;
@@ -46,9 +49,20 @@ fn run_with(
     let mut source = Bytes::new(Vec::from_slice(alloc, input)?, piece, failing_reads)?;
     let failing_puts = Vec::from_slice(alloc, &[streams.failing_put])?;
     let mut output = Page::new(alloc, ROOM, failing_puts)?;
-    let mut disk = PlainDisk::new(alloc, 16)?;
-    let exit = graph_main(alloc, words, &mut source, &mut output, &mut disk);
+    let exit = graph_main(alloc, words, &mut source, &mut output, disk);
     Ok(Ended { exit, output })
+}
+
+/// A run over a disk on which no store was made.
+fn run_with(
+    rt: &impl Abort,
+    alloc: Global,
+    words: &[&str],
+    input: &[u8],
+    streams: &Streams,
+) -> Result<Ended, AllocError> {
+    let mut disk = PlainDisk::new(alloc, 16)?;
+    run_on(rt, alloc, words, input, streams, &mut disk)
 }
 
 /// `node a` with blanks behind it up to so many bytes, and an end.

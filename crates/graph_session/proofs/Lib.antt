@@ -1,6 +1,6 @@
 pub mod Adding
 pub mod Conditions
-pub mod Names
+pub mod Held
 pub mod Nodes
 pub mod Replies
 pub mod Results

@@ -1,5 +1,6 @@
 -- What one call of the session did.
-use Rattle.std.specs.Prelude.{◌≡◌, ◌↔◌, ℕ, false, List, ◌++◌}
+use Rattle.std.specs.Prelude.{◌≡◌, ◌↔◌, ℕ, Bool, true, List, ◌++◌}
+use Rattle.fault_count.specs.Cause.{Rose}
 use Rattle.stream_io.specs.Lines.{InputLine}
 use Rattle.stream_io.specs.Streams.{TakesFront}
 use Rattle.plain_graph.specs.Reply.{Reply, reply_text}
@@ -14,9 +15,14 @@ Delivers Go before after text = after ≡ before ++ text
 Delivers Quit before after text = after ≡ before ++ text
 Delivers SinkFault before after text = TakesFront before after text
 
--- One step of the console, with its reply given to the sink where that tells what it takes. Only quit ends the run.
-pub record AnswersLine (tells : Type 0) (line : InputLine) (old new : State) (before after : List ℕ) (turn : Turn) : Type 0 where
+-- One step of the console, with its reply given to the sink where that tells what it takes, to a state that the session is
+-- at. Only quit ends the run. The disk counted a fault where the step says that it failed.
+pub record AnswersLine (tells : Type 0) (line : InputLine) (old : State) (is_at : State → Type 0) (before after : List ℕ) (faults_before faults_after : ℕ) (turn : Turn) : Type 0 where
+  pub new : State
+  pub arrives : is_at new
+  pub rose : Bool
+  pub counted : rose ≡ true → Rose faults_before faults_after
   pub reply : Reply
-  pub step : Step old line false reply new
+  pub step : Step old line rose reply new
   pub text : tells → Delivers turn before after (reply_text reply)
   pub quit : (turn ≡ Quit) ↔ IsQuit line

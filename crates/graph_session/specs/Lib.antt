@@ -1,7 +1,7 @@
 pub mod Answer
-pub mod Config
 pub mod Console
 pub mod Numbers
+pub mod Opening
 pub mod Refusals
 pub mod Session
 pub mod State

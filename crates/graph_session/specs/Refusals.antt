@@ -1,15 +1,16 @@
 -- Why a line is refused: conditions in the order in which they count.
-use Rattle.std.specs.Prelude.{◌≡◌, ◌≢◌, ◌⊎◌, ℕ, ◌<◌, ◌≤◌, List, [], ◌∷◌, length, Contains}
+use Rattle.std.specs.Prelude.{◌≡◌, ◌⊎◌, ℕ, ◌≤◌, List, [], ◌∷◌, length, Contains}
 use Rattle.stream_io.specs.Lines.{InputLine, Whole, Long}
 use Rattle.plain_graph.specs.declared.command.Command.{Command}
 use Rattle.plain_graph.specs.declared.command.Command.TheVariants as commands
 use Rattle.gremlin_parse.specs.Grammar.{Spells}
 use Rattle.plain_graph.specs.declared.refusal.Refusal.{Refusal}
-use Rattle.plain_graph.specs.declared.refusal.Refusal.TheVariants.{LongLine, Syntax, NameLength, FullNodes, FullNames, Memory}
+use Rattle.plain_graph.specs.declared.refusal.Refusal.TheVariants.{LongLine, Syntax, NameLength, Failed, FullNodes, FullNames, FullLog, Memory}
 use Rattle.gremlin_parse.specs.Faults.{HasFault, IsLeftmostFault}
 use Rattle.gremlin_parse.specs.declared.line_fault.LineFault.{LineFault}
 use Rattle.gremlin_parse.specs.declared.line_fault.LineFault.TheVariants as faults
-use Rattle.graph_session.specs.State.{State, SpellsLine}
+use Rattle.node_log.specs.Adding.{FitsAt}
+use Rattle.graph_session.specs.State.{State, IsFailed, IsSilent, SpellsLine}
 
 -- in this state the line is refused so
 abbrev pub Condition : Type 1
@@ -25,9 +26,15 @@ grammar_fault state Long why = ⊥
 grammar_fault state (Whole line) (Syntax at) = IsLeftmostFault line (faults.Syntax at)
 grammar_fault state (Whole line) (NameLength at) = IsLeftmostFault line (faults.NameLength at)
 grammar_fault state (Whole line) LongLine = ⊥
+grammar_fault state (Whole line) Failed = ⊥
 grammar_fault state (Whole line) FullNodes = ⊥
 grammar_fault state (Whole line) FullNames = ⊥
+grammar_fault state (Whole line) FullLog = ⊥
 grammar_fault state (Whole line) Memory = ⊥
+
+-- the disk has failed the console, which then answers no line but those without a reply
+abbrev pub store_failed : Condition
+store_failed state line why = IsFailed state.standing × (¬ IsSilent line) × (why ≡ Failed)
 
 -- a node more would be more than the limit
 abbrev pub nodes_full : Condition
@@ -37,9 +44,17 @@ nodes_full state line why = (label : List ℕ) × SpellsLine line (commands.Node
 abbrev pub names_full : Condition
 names_full state line why = (label : List ℕ) × SpellsLine line (commands.Node label) × (¬ Contains state.graph.names label) × (4096 ≤ length state.graph.names) × (why ≡ FullNames)
 
+-- the log has room for the records of a node with this label
+abbrev pub FitsLog : State → List ℕ → Type 0
+FitsLog state label = FitsAt state.graph.names state.log label
+
+-- the node's entry would pass the end of the log
+abbrev pub log_full : Condition
+log_full state line why = (label : List ℕ) × SpellsLine line (commands.Node label) × (¬ FitsLog state label) × (why ≡ FullLog)
+
 -- the order in which they count
 abbrev pub refusal_order : List Condition
-refusal_order = line_too_long ∷ grammar_fault ∷ nodes_full ∷ names_full ∷ []
+refusal_order = line_too_long ∷ grammar_fault ∷ store_failed ∷ nodes_full ∷ names_full ∷ log_full ∷ []
 
 -- the first condition that holds refuses the line so
 abbrev pub FirstHolds : List Condition → State → InputLine → Refusal → Type 0
@@ -61,17 +76,3 @@ pub record SpellsOnly (line : List ℕ) (command : Command) : Type 0 where
   pub spelled : Spells line command
   pub only : (other : Command) → Spells line other → other ≡ command
   pub no_fault : (fault : LineFault) → ¬ HasFault line fault
-
--- the graph takes a node with this label
-pub record TakesNode (state : State) (label : List ℕ) : Type 0 where
-  pub nodes : length state.graph.nodes ≢ state.shape.limit
-  pub names : Contains state.graph.names label ⊎ (length state.graph.names < 4096)
-
--- why it takes none
-abbrev pub RefusesNode : State → List ℕ → Refusal → Type 0
-RefusesNode state label FullNodes = length state.graph.nodes ≡ state.shape.limit
-RefusesNode state label FullNames = (length state.graph.nodes ≢ state.shape.limit) × (¬ Contains state.graph.names label) × (4096 ≤ length state.graph.names)
-RefusesNode state label LongLine = ⊥
-RefusesNode state label (Syntax at) = ⊥
-RefusesNode state label (NameLength at) = ⊥
-RefusesNode state label Memory = ⊥

@@ -1,22 +1,36 @@
 -- What the console knows between two lines, and lines as it sees them.
-use Rattle.std.specs.Prelude.{◌⊎◌}
+use Rattle.std.specs.Prelude.{◌≡◌, ◌⊎◌, ℕ, List, Contains}
 use Rattle.stream_io.specs.Lines.{InputLine, Whole, Long}
-use Rattle.plain_graph.specs.Graph.{Graph, Shape, empty_graph}
+use Rattle.plain_graph.specs.Graph.{Graph}
 use Rattle.plain_graph.specs.declared.command.Command.{Command}
 use Rattle.plain_graph.specs.declared.command.Command.TheVariants as commands
 use Rattle.gremlin_parse.specs.Grammar.{Spells}
-use Rattle.graph_session.specs.declared.health.Health.{Health}
-use Rattle.graph_session.specs.declared.health.Health.TheVariants.{Live}
+use Rattle.rec_bytes.specs.declared.shape.Shape.{Shape}
 
--- the shape of the store, the graph, and whether a device has failed
+-- The disk has not failed the console, or it has, and holds one of these graphs.
+pub data Standing : Type 0 where
+  Live : Standing
+  Failed : (graphs : List Graph) → Standing
+
+-- the shape of the store, the graph, how many bytes of the log are taken, and how the console stands with the disk
 pub record State : Type 0 where
   pub shape : Shape
   pub graph : Graph
-  pub health : Health
+  pub log : ℕ
+  pub standing : Standing
 
--- a console over the empty graph
-abbrev pub first_state : Shape → State
-first_state shape = record { shape = shape; graph = empty_graph; health = Live }
+-- the disk of a console that stands so may hold this graph
+abbrev pub AdmitsFrom : Graph → Standing → Graph → Type 0
+AdmitsFrom graph Live stored = stored ≡ graph
+AdmitsFrom graph (Failed graphs) stored = Contains graphs stored
+
+-- the disk may hold this graph: the console's, or where it has failed one of those that it left open
+abbrev pub Admits : State → Graph → Type 0
+Admits state stored = AdmitsFrom state.graph state.standing stored
+
+abbrev pub IsFailed : Standing → Type 0
+IsFailed Live = ⊥
+IsFailed (Failed graphs) = Unit {0}
 
 abbrev pub SpellsLine : InputLine → Command → Type 0
 SpellsLine (Whole bytes) command = Spells bytes command

@@ -1,70 +1,58 @@
-ghost use Rattle.std.specs.Prelude.{◌≡◌, ◌≢◌, ℕ, ◌≤◌, List, IfOk, MatchOption, OnErr};
+ghost use Rattle.std.specs.Prelude.{◌≡◌, ◌≢◌, ◌≤◌, List, ℕ};
 ghost use Rattle.fault_count.specs.Cause.{Rose};
-ghost use Rattle.stream_io.specs.Lines.{Whole, Long};
+ghost use Rattle.stream_io.specs.Lines.{Long, Whole};
+ghost use Rattle.plain_graph.specs.Names.{IsShortName};
 ghost use Rattle.plain_graph.specs.Reply.{Refused, reply_text};
-ghost use Rattle.graph_session.specs.Config.{model_shape};
-ghost use Rattle.graph_session.specs.Refusals.{SpellsOnly, TakesNode, RefusesNode};
-ghost use Rattle.graph_session.specs.State.{first_state};
-ghost use Rattle.graph_session.specs.Console.{Makes};
 ghost use Rattle.graph_session.specs.Answer.{AnswersLine, Delivers};
+ghost use Rattle.graph_session.specs.Refusals.{SpellsOnly};
+ghost use Rattle.graph_session.specs.Session.{FailsBy, IsAt};
+ghost use Rattle.graph_session.specs.State.{State};
+ghost use Rattle.graph_session.specs.declared.health.Health.TheVariants as healths;
 
 use crate::query_reply::query_reply;
-use crate::{Health, Shape, Turn};
+use crate::{Health, Turn};
+use disk_model::Disk;
 use fault_count::Failed;
 use gremlin_parse::{LineFault, parse_line};
-use indexmap::IndexSet;
-use plain_graph::{Command, NAMES, Query, Refusal, Text, node_made, refused};
+use node_log::{AddFault, NodeLog};
+use plain_graph::{Command, Query, Refusal, Text, disk_fault, node_made, refused};
 use std::alloc::{AllocError, Global};
 use std::marker::Model;
 use stream_io::Sink;
 
-/// The console over a graph that is kept in memory. Contracts see the state of the console.
+/// The console over the log of a store. Each call is handed the disk. Contracts see the log in memory and the
+/// health.
 #[derive(Drop)]
 pub(crate) struct Console {
     alloc: Global,
-    shape: Shape,
+    log: NodeLog,
     health: Health,
-    /// The names in the order of their first use.
-    names: IndexSet<Vec<u8>>,
-    /// For each node, by identifier, the number of its label's name.
-    labels: Vec<u32>,
     /// The reply under way to a query. Its room is kept from line to line.
     answer: Vec<u8>,
 }
 
 impl Model for Console {
-    ghost use Rattle.std.specs.Prelude.{length};
-    ghost use Rattle.graph_session.specs.Config.{model_shape};
-    ghost use Rattle.graph_session.specs.State.{State};
-    ghost use Rattle.graph_session.specs.Numbers.{AreNumbered, graph_of, name_bytes};
+    ghost use Rattle.graph_session.specs.Session.{Held};
 
-    ghost Value = { State };
+    ghost Value = { Held };
 
-    ghost view = { λ c. record {
-      shape = model_shape c.shape;
-      graph = graph_of (name_bytes c.names.keys) c.labels.items;
-      health = c.health;
-    } };
-
-    ghost invariant = { λ c. AreNumbered (length c.names.keys) c.labels.items c.shape.limit };
+    ghost view = { λ c. record { log = c.log; health = c.health } };
 }
 
 impl Console {
-    /// A console over the empty graph. It takes no memory.
-    pub(crate) fn new(alloc: Global, shape: Shape) -> Console
-        ensures { result ≡ first_state (model_shape shape) }
+    /// A console over a log that was opened. It takes no memory.
+    pub(crate) fn new(alloc: Global, log: NodeLog) -> Console
+        ensures { result ≡ record { log = log; health = healths.Live } }
     {
         Console {
             alloc,
-            shape,
+            log,
             health: Health::Live,
-            names: IndexSet::new(alloc),
-            labels: Vec::new(alloc),
             answer: Vec::new(alloc),
         }
     }
 
-    /// Whether a device has failed the console.
+    /// Whether the disk has failed the console.
     pub(crate) fn health(&self) -> Health
         ensures { result ≡ self.now.health }
     {
@@ -73,16 +61,24 @@ impl Console {
 
     /// Answers one line, by one reply to the sink; a line of blanks and `quit` get none. Where memory lacks, the
     /// reply says so and nothing changes.
-    pub(crate) fn step<K: Sink>(&mut self, line: &[u8], output: &mut K) -> Turn
-        ensures answers { AnswersLine K.tells (Whole line.now) self.old self.new (K.taken output.old) (K.taken output.new) result }
+    pub(crate) fn step<K: Sink, D: Disk>(
+        &mut self,
+        disk: &mut D,
+        line: &[u8],
+        output: &mut K,
+    ) -> Turn
+        ensures answers { (state : State) → IsAt (D.tells_reads × D.tells_images) (D.may_leave disk.old) self.old state
+            → AnswersLine K.tells (Whole line.now) state (IsAt (D.tells_reads × D.tells_images) (D.may_leave disk.new) self.new) (K.taken output.old) (K.taken output.new) (D.faults disk.old) (D.faults disk.new) result }
         ensures cause { result ≡ Turn.SinkFault → Rose (K.faults output.old) (K.faults output.new) }
         ensures later { K.faults output.old ≤ K.faults output.new }
+        ensures disk_later { D.faults disk.old ≤ D.faults disk.new }
+        ensures fails { FailsBy self.old.health self.new.health (D.faults disk.old) (D.faults disk.new) }
     {
         match parse_line(self.alloc, line) {
             Ok(Command::Blank) => Turn::Go,
             Ok(Command::Quit) => Turn::Quit,
-            Ok(Command::Node { label }) => self.answer_node(label, output),
-            Ok(Command::Query(query)) => self.answer_query(&query, output),
+            Ok(Command::Node { label }) => self.answer_node(disk, label, output),
+            Ok(Command::Query(query)) => self.answer_query(disk, &query, output),
             Err(LineFault::Memory) => refuse(output, Refusal::Memory),
             Err(LineFault::Syntax { at }) => refuse(output, Refusal::Syntax { at }),
             Err(LineFault::NameLength { at }) => refuse(output, Refusal::NameLength { at }),
@@ -90,9 +86,9 @@ impl Console {
     }
 
     /// Answers a line of more than 8,192 bytes.
-    pub(crate) fn too_long<K: Sink>(&mut self, output: &mut K) -> Turn
-        ensures answers { AnswersLine K.tells Long self.old self.new (K.taken output.old) (K.taken output.new) result }
-        ensures stays { self.new ≡ self.old }
+    pub(crate) fn too_long<K: Sink, D: Disk>(&self, disk: &D, output: &mut K) -> Turn
+        ensures answers { (state : State) → IsAt (D.tells_reads × D.tells_images) (D.may_leave disk.now) self.now state
+            → AnswersLine K.tells Long state (IsAt (D.tells_reads × D.tells_images) (D.may_leave disk.now) self.now) (K.taken output.old) (K.taken output.new) (D.faults disk.now) (D.faults disk.now) result }
         ensures cause { result ≡ Turn.SinkFault → Rose (K.faults output.old) (K.faults output.new) }
         ensures later { K.faults output.old ≤ K.faults output.new }
     {
@@ -100,56 +96,43 @@ impl Console {
     }
 
     /// Answers a line that asks for a new node.
-    fn answer_node<K: Sink>(&mut self, label: Text, output: &mut K) -> Turn
-        ensures answers { (line : List ℕ) → SpellsOnly line (Command.Node label)
-            → AnswersLine K.tells (Whole line) self.old self.new (K.taken output.old) (K.taken output.new) result }
+    fn answer_node<K: Sink, D: Disk>(&mut self, disk: &mut D, label: Text, output: &mut K) -> Turn
+        requires { IsShortName label }
+        ensures answers { (line : List ℕ) (state : State) → SpellsOnly line (Command.Node label) → IsAt (D.tells_reads × D.tells_images) (D.may_leave disk.old) self.old state
+            → AnswersLine K.tells (Whole line) state (IsAt (D.tells_reads × D.tells_images) (D.may_leave disk.new) self.new) (K.taken output.old) (K.taken output.new) (D.faults disk.old) (D.faults disk.new) result }
         ensures cause { result ≡ Turn.SinkFault → Rose (K.faults output.old) (K.faults output.new) }
         ensures later { K.faults output.old ≤ K.faults output.new }
+        ensures disk_later { D.faults disk.old ≤ D.faults disk.new }
+        ensures fails { FailsBy self.old.health self.new.health (D.faults disk.old) (D.faults disk.new) }
     {
-        if let Some(why) = self.refusal_of(&label) {
-            return refuse(output, why);
+        if let Health::Failed = self.health {
+            return refuse(output, Refusal::Failed);
         }
-        match self.add_node(label) {
+        match self.log.add_node(disk, label) {
             Ok(id) => give(output, node_made(id).as_bytes()),
-            Err(AllocError) => refuse(output, Refusal::Memory),
+            Err(AddFault::FullNodes) => refuse(output, Refusal::FullNodes),
+            Err(AddFault::FullNames) => refuse(output, Refusal::FullNames),
+            Err(AddFault::FullLog) => refuse(output, Refusal::FullLog),
+            Err(AddFault::Memory) => refuse(output, Refusal::Memory),
+            Err(AddFault::Disk) => {
+                self.health = Health::Failed;
+                give(output, disk_fault())
+            }
         }
-    }
-
-    /// Why the graph takes no node with this label, if it doesn't.
-    fn refusal_of(&self, label: &Text) -> Option<Refusal>
-        ensures { MatchOption result (TakesNode self.now label.now) (RefusesNode self.now label.now) }
-    {
-        if self.labels.len() == self.shape.limit as usize {
-            return Some(Refusal::FullNodes);
-        }
-        if self.names.len() >= NAMES && !self.names.contains(label.as_bytes()) {
-            return Some(Refusal::FullNames);
-        }
-        None
-    }
-
-    /// Adds a node with this label, and gives its identifier. All memory is taken before anything changes.
-    fn add_node(&mut self, label: Text) -> Result<u32, AllocError>
-        requires { TakesNode self.old label }
-        ensures added { IfOk result (λ id. Makes self.old label id self.new) }
-        ensures stays { OnErr result (self.new ≡ self.old) }
-    {
-        self.labels.reserve(1)?;
-        let (number, _) = self.names.insert_full(label.into_bytes())?;
-        let id = self.labels.len() as u32;
-        self.labels.push_reserved(number as u32);
-        Ok(id)
     }
 
     /// Answers a line that asks for the results of a query.
-    fn answer_query<K: Sink>(&mut self, query: &Query, output: &mut K) -> Turn
-        ensures answers { (line : List ℕ) → SpellsOnly line (Command.Query query.now)
-            → AnswersLine K.tells (Whole line) self.old self.new (K.taken output.old) (K.taken output.new) result }
-        ensures stays { self.new ≡ self.old }
+    fn answer_query<K: Sink, D: Disk>(&mut self, disk: &D, query: &Query, output: &mut K) -> Turn
+        ensures answers { (line : List ℕ) (state : State) → SpellsOnly line (Command.Query query.now) → IsAt (D.tells_reads × D.tells_images) (D.may_leave disk.now) self.old state
+            → AnswersLine K.tells (Whole line) state (IsAt (D.tells_reads × D.tells_images) (D.may_leave disk.now) self.new) (K.taken output.old) (K.taken output.new) (D.faults disk.now) (D.faults disk.now) result }
         ensures cause { result ≡ Turn.SinkFault → Rose (K.faults output.old) (K.faults output.new) }
         ensures later { K.faults output.old ≤ K.faults output.new }
+        ensures health { self.new.health ≡ self.old.health }
     {
-        let vertices = self.labels.len() as u32;
+        if let Health::Failed = self.health {
+            return refuse(output, Refusal::Failed);
+        }
+        let vertices = self.log.nodes();
         match query_reply(&mut self.answer, vertices, query.steps.as_slice()) {
             Ok(()) => give(output, &self.answer),
             Err(AllocError) => refuse(output, Refusal::Memory),

@@ -5,7 +5,8 @@ use Rattle.plain_graph.specs.declared.command.Command.TheVariants as commands
 use Rattle.plain_graph.specs.declared.query.Query.{Query}
 use Rattle.plain_graph.specs.declared.query.Step.{Step}
 use Rattle.plain_graph.specs.declared.query.Step.TheVariants as steps
-use Rattle.gremlin_parse.specs.Grammar.{Blanks, Gap, Exactly, Name, IsName, KeepsBounds, is_blank}
+use Rattle.gremlin_parse.specs.Grammar.{Blanks, Gap, Exactly, Name, KeepsBounds, is_blank}
+use Rattle.plain_graph.specs.Names.{IsName}
 use Rattle.gremlin_parse.specs.Reading.{first_byte, CutsRun, CutsName, Then, ThenTokens, HasLongLabel, IsNode, IsQuery, IsTail}
 use Rattle.gremlin_parse.proofs.Behind.{IsSolid, EndsNames, Then-word, Then-blanks, Then-name}
 use Rattle.gremlin_parse.proofs.Names.{Then-name-starts, StartsName-solid}

@@ -2,7 +2,8 @@
 use Rattle.std.proofs.Common.{◌≡◌, ◌≢◌, ℕ, List, [], ◌∷◌, ◌++◌, refl, sym, ap, ◌∙◌, subst, true}
 use Rattle.std.specs.List.{AllByRecursion}
 use Rattle.std.proofs.lemmas.List.{append_cancel_left}
-use Rattle.gremlin_parse.specs.Grammar.{Blanks, Gap, Exactly, Name, IsName, is_blank, is_name_byte}
+use Rattle.gremlin_parse.specs.Grammar.{Blanks, Gap, Exactly, Name, is_blank}
+use Rattle.plain_graph.specs.Names.{IsName, is_name_byte}
 use Rattle.gremlin_parse.specs.Faults.{EndsName}
 use Rattle.gremlin_parse.specs.Reading.{EndsRun, CutsRun, CutsName, Then}
 use Rattle.gremlin_parse.proofs.Runs.{run_is_unique, EndsRun-first_byte, EndsRun-EndsName}

@@ -2,7 +2,8 @@
 use Rattle.std.proofs.Common.{◌≡◌, ℕ, ◌≤◌, ◌||◌, ◌&&◌, nat_le, true, false, List, [], ◌∷◌, ◌++◌, length, take, drop, get_or, sym, ap, ◌∙◌, subst, arith}
 use Rattle.std.specs.List.{prefix_len}
 use Rattle.std.proofs.lemmas.Bool.Decides.{nat_tests}
-use Rattle.gremlin_parse.specs.Grammar.{Name, IsName, is_blank, is_name_byte, is_name_start}
+use Rattle.gremlin_parse.specs.Grammar.{Name, is_blank}
+use Rattle.plain_graph.specs.Names.{IsName, is_name_byte, is_name_start}
 use Rattle.gremlin_parse.specs.Faults.{EndsName}
 use Rattle.gremlin_parse.specs.Reading.{first_byte, EndsRun, CutsRun, CutsName, StartsName, Then}
 use Rattle.gremlin_parse.proofs.Runs.{cut_run, EndsRun-first_byte, EndsRun-EndsName, EndsName-EndsRun}

@@ -1,7 +1,8 @@
 -- The faults of a line that spells no command, with their places.
 use Rattle.std.specs.Prelude.{◌≡◌, ℕ, ◌≤◌, ◌<◌, false, List, [], ◌∷◌, ◌++◌, length, take}
 use Rattle.plain_graph.specs.declared.command.Command.{Command}
-use Rattle.gremlin_parse.specs.Grammar.{Part, Name, IsName, IsMadeOf, parts_of, IsCommand, IsLine, is_name_byte}
+use Rattle.gremlin_parse.specs.Grammar.{Part, Name, IsMadeOf, parts_of, IsCommand, IsLine}
+use Rattle.plain_graph.specs.Names.{IsName, is_name_byte}
 use Rattle.gremlin_parse.specs.declared.line_fault.LineFault.{LineFault}
 use Rattle.gremlin_parse.specs.declared.line_fault.LineFault.TheVariants.{Memory, Syntax, NameLength}
 

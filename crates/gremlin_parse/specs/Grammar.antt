@@ -1,6 +1,7 @@
 -- Which lines spell which commands. A command is spelled by parts, one behind the other.
 use Rattle.std.specs.Prelude.{◌≡◌, ◌≢◌, ℕ, ◌≤◌, Bool, true, ◌==◌, ◌&&◌, ◌||◌, nat_le, List, [], ◌∷◌, ◌++◌, length, codes, flat_map}
 use Rattle.std.specs.List.{AllByRecursion}
+use Rattle.plain_graph.specs.Names.{IsName}
 use Rattle.plain_graph.specs.declared.command.Command.{Command}
 use Rattle.plain_graph.specs.declared.command.Command.TheVariants as commands
 use Rattle.plain_graph.specs.declared.query.Query.{Query}
@@ -11,21 +12,8 @@ use Rattle.plain_graph.specs.declared.query.Step.TheVariants as steps
 abbrev pub is_blank : ℕ → Bool
 is_blank b = b == 32 || b == 9
 
--- A to Z, a to z or _
-abbrev pub is_name_start : ℕ → Bool
-is_name_start b = (nat_le 65 b && nat_le b 90) || (nat_le 97 b && nat_le b 122) || b == 95
-
--- such a byte, or a digit
-abbrev pub is_name_byte : ℕ → Bool
-is_name_byte b = is_name_start b || (nat_le 48 b && nat_le b 57)
-
 abbrev pub AreBlanks : List ℕ → Type 0
 AreBlanks bytes = AllByRecursion (λ b. is_blank b ≡ true) bytes
-
--- a name of any length: no digit first
-abbrev pub IsName : List ℕ → Type 0
-IsName [] = ⊥
-IsName (b ∷ bytes) = (is_name_start b ≡ true) × AllByRecursion (λ c. is_name_byte c ≡ true) bytes
 
 -- A part of a spelled command: any blanks, one blank or more, a word or a sign of the grammar, or a name.
 pub data Part : Type 0 where

@@ -4,7 +4,8 @@ use Rattle.std.specs.List.{AllByRecursion}
 use Rattle.plain_graph.specs.declared.command.Command.{Command}
 use Rattle.plain_graph.specs.declared.command.Command.TheVariants as commands
 use Rattle.plain_graph.specs.declared.query.Query.{Query}
-use Rattle.gremlin_parse.specs.Grammar.{Part, Blanks, Gap, Exactly, Name, IsPart, IsMadeOf, IsName, IsCommand, loosely, query_tokens, is_blank, is_name_start}
+use Rattle.gremlin_parse.specs.Grammar.{Part, Blanks, Gap, Exactly, Name, IsPart, IsMadeOf, IsCommand, loosely, query_tokens, is_blank}
+use Rattle.plain_graph.specs.Names.{IsName, is_name_start}
 use Rattle.gremlin_parse.specs.Faults.{IsViable, EndsName}
 use Rattle.gremlin_parse.specs.declared.stop.Stop.{Stop}
 use Rattle.gremlin_parse.specs.declared.stop.Stop.TheVariants as stops

@@ -1,10 +1,11 @@
 ghost use Rattle.std.specs.Prelude.{◌≡◌, ◌≢◌, ◌≤◌, ◌<◌, ◌++◌, [], length, IfOk, IfErr, OnOk};
 ghost use Rattle.std.specs.List.{prefix_len};
-ghost use Rattle.gremlin_parse.specs.Grammar.{is_blank, is_name_start, is_name_byte};
+ghost use Rattle.gremlin_parse.specs.Grammar.{is_blank};
+ghost use Rattle.plain_graph.specs.Names.{is_name_start, is_name_byte};
 ghost use Rattle.gremlin_parse.specs.Reading.{EndsRun, SkipsBlanks, SkipsToken, LeavesWord, SkipsTokens, LeavesTokens, call_tokens, SkipsGap, CutsName, StopsWith, IsNameStop};
 
 use crate::stop::Stop;
-use plain_graph::NAME_BYTES;
+use plain_graph::{NAME_BYTES, is_name_byte, is_name_start};
 
 /// The bytes behind the blanks at the head.
 pub(crate) fn skip_blanks(bytes: &[u8]) -> &[u8]
@@ -118,18 +119,6 @@ fn name_len(bytes: &[u8]) -> usize
     ensures bound { result ≤ length bytes.now }
 {
     bytes.iter().take_while(|byte| is_name_byte(**byte)).count()
-}
-
-fn is_name_start(byte: u8) -> bool
-    ensures { result ≡ is_name_start byte }
-{
-    byte.is_ascii_alphabetic() || byte == b'_'
-}
-
-fn is_name_byte(byte: u8) -> bool
-    ensures { result ≡ is_name_byte byte }
-{
-    is_name_start(byte) || byte.is_ascii_digit()
 }
 
 /// Says that the line ends here.

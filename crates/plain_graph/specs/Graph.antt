@@ -11,11 +11,6 @@ pub record Graph : Type 0 where
   pub nodes : List Node
   pub names : List (List ℕ)
 
--- How a store is laid out: from how many relationships on a node is dense, and how many identifiers of a kind there are.
-pub record Shape : Type 0 where
-  pub threshold : ℕ
-  pub limit : ℕ
-
 abbrev pub empty_graph : Graph
 empty_graph = record { nodes = []; names = [] }
 

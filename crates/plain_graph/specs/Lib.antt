@@ -1,3 +1,4 @@
 pub mod Graph
 pub mod Meaning
+pub mod Names
 pub mod Reply

@@ -1,5 +1,5 @@
 -- The replies of the console, and their bytes.
-use Rattle.std.specs.Prelude.{ℕ, List, [], ◌∷◌, ◌++◌, codes, decimal, flat_map}
+use Rattle.std.specs.Prelude.{ℕ, List, [], ◌∷◌, ◌++◌, codes, decimal, flat_map, slice_index_or}
 use Rattle.std.specs.Fmt.{signed_decimal}
 use Rattle.plain_graph.specs.declared.item.Item.{Item}
 use Rattle.plain_graph.specs.declared.item.Item.TheVariants as items
@@ -12,6 +12,7 @@ pub data Reply : Type 0 where
   Silent : Reply
   NodeMade : (id : ℕ) → Reply
   Results : (results : List Item) → Reply
+  FaultDisk : Reply
   Refused : (why : Refusal) → Reply
 
 -- the text with a newline behind it
@@ -30,8 +31,10 @@ abbrev pub refusal_text : Refusal → List ℕ
 refusal_text refusals.LongLine = codes "error line"
 refusal_text (refusals.Syntax at) = codes "error syntax " ++ decimal at
 refusal_text (refusals.NameLength at) = codes "error name length " ++ decimal at
+refusal_text refusals.Failed = codes "error failed"
 refusal_text refusals.FullNodes = codes "error full nodes"
 refusal_text refusals.FullNames = codes "error names full"
+refusal_text refusals.FullLog = codes "error log full"
 refusal_text refusals.Memory = codes "error memory"
 
 -- the bytes of a reply
@@ -39,4 +42,17 @@ abbrev pub reply_text : Reply → List ℕ
 reply_text Silent = []
 reply_text (NodeMade id) = text_line (codes "node " ++ decimal id)
 reply_text (Results results) = flat_map result_text results ++ text_line (codes "end")
+reply_text FaultDisk = text_line (codes "fault disk")
 reply_text (Refused why) = text_line (refusal_text why)
+
+-- what the lines of the console call each file of the store
+abbrev pub file_name : ℕ → List ℕ
+file_name file = slice_index_or (codes "meta" ∷ codes "nodes" ∷ codes "edges" ∷ codes "groups" ∷ codes "properties" ∷ codes "strings" ∷ codes "names" ∷ []) file (codes "log")
+
+-- the record of this number in the file breaks a rule of the store; for the log the number is the place of an entry
+abbrev pub damaged_text : ℕ → ℕ → List ℕ
+damaged_text file id = codes "damaged " ++ file_name file ++ codes " " ++ decimal id
+
+-- the threshold and the limit of the store
+abbrev pub configuration_text : ℕ → ℕ → List ℕ
+configuration_text threshold limit = codes "configuration " ++ decimal threshold ++ codes " " ++ decimal limit

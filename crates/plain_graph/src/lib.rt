@@ -5,6 +5,7 @@
 mod command;
 mod item;
 mod limits;
+mod name;
 mod query;
 mod refusal;
 mod reply;
@@ -14,8 +15,12 @@ mod text;
 pub use command::Command;
 pub use item::{Item, Value};
 pub use limits::{NAME_BYTES, NAMES};
+pub use name::{is_name_byte, is_name_start, is_short_name};
 pub use query::{Query, Step, StepList};
 pub use refusal::Refusal;
-pub use reply::{end_of_results, node_made, refused, result_line};
+pub use reply::{
+    configuration, damaged, disk_fault, end_of_results, node_made, not_a_store, refused,
+    result_line,
+};
 pub use short_text::ShortText;
 pub use text::Text;

@@ -1,5 +1,5 @@
-ghost use Rattle.std.specs.Prelude.{◌≡◌, codes};
-ghost use Rattle.plain_graph.specs.Reply.{NodeMade, Refused, reply_text, result_text, text_line};
+ghost use Rattle.std.specs.Prelude.{◌≡◌, ◌≤◌, codes, length};
+ghost use Rattle.plain_graph.specs.Reply.{FaultDisk, NodeMade, Refused, configuration_text, damaged_text, file_name, reply_text, result_text, text_line};
 
 use crate::{Item, Refusal, ShortText, Value};
 use itoa::Buffer;
@@ -24,8 +24,10 @@ pub fn refused(why: Refusal) -> ShortText
     let mut digits = Buffer::new();
     match why {
         Refusal::LongLine => text.push(b"error line"),
+        Refusal::Failed => text.push(b"error failed"),
         Refusal::FullNodes => text.push(b"error full nodes"),
         Refusal::FullNames => text.push(b"error names full"),
+        Refusal::FullLog => text.push(b"error log full"),
         Refusal::Memory => text.push(b"error memory"),
         Refusal::Syntax { at } => {
             text.push(b"error syntax ");
@@ -64,4 +66,64 @@ pub fn end_of_results() -> &'static [u8]
     ensures { result.now ≡ text_line (codes "end") }
 {
     b"end\n"
+}
+
+/// The reply to a line in which the disk failed.
+pub fn disk_fault() -> &'static [u8]
+    ensures { result.now ≡ reply_text FaultDisk }
+{
+    b"fault disk\n"
+}
+
+/// The line where the files hold no store.
+pub fn not_a_store() -> &'static [u8]
+    ensures { result.now ≡ text_line (codes "not a store") }
+{
+    b"not a store\n"
+}
+
+/// The line where a record breaks a rule of the store: the name of its file and its number, or for an
+/// entry of the log its place.
+pub fn damaged(file: u8, id: u32) -> ShortText
+    ensures { result ≡ text_line (damaged_text file id) }
+{
+    let mut text = ShortText::new();
+    let mut digits = Buffer::new();
+    text.push(b"damaged ");
+    text.push(file_name(file));
+    text.push(b" ");
+    text.push(digits.format(id).as_bytes());
+    text.push(b"\n");
+    text
+}
+
+/// The line where a store has another shape than the one that was asked for: the stored threshold and limit.
+pub fn configuration(threshold: u16, limit: u32) -> ShortText
+    ensures { result ≡ text_line (configuration_text threshold limit) }
+{
+    let mut text = ShortText::new();
+    let mut digits = Buffer::new();
+    text.push(b"configuration ");
+    text.push(digits.format(threshold).as_bytes());
+    text.push(b" ");
+    text.push(digits.format(limit).as_bytes());
+    text.push(b"\n");
+    text
+}
+
+/// What the lines of the console call a file of the store.
+fn file_name(file: u8) -> &'static [u8]
+    ensures name { result.now ≡ file_name file }
+    ensures short { length result.now ≤ 10 }
+{
+    match file {
+        0 => b"meta",
+        1 => b"nodes",
+        2 => b"edges",
+        3 => b"groups",
+        4 => b"properties",
+        5 => b"strings",
+        6 => b"names",
+        _ => b"log",
+    }
 }

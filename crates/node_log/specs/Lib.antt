@@ -1,0 +1,10 @@
+pub mod Adding
+pub mod Config
+pub mod Finding
+pub mod Loading
+pub mod Opening
+pub mod Records
+pub mod Stands
+pub mod Stored
+pub mod Table
+pub mod Writing
