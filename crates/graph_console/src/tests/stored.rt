@@ -18,8 +18,11 @@ const CALLS: u64 = 20;
 /// The first call that writes: before it come eight syncs and two reads.
 const FIRST_WRITE: u64 = 11;
 
-/// Calls of an opening: a read, and two of a new store's entry.
-const OPENING_CALLS: [u64; 3] = [9, 12, 13];
+/// The first call of a node, behind the four of a new store's entry.
+const FIRST_OF_NODE: u64 = 15;
+
+/// The calls of an opening that makes a new store; another has the first ten.
+const OPENING_CALLS: u64 = 14;
 
 const ROOM: Room = Room {
     calls: 256,
@@ -80,14 +83,14 @@ fn check_left(
     Ok(())
 }
 
-/// Stops the opening of what a loss of power leaves at some of its calls, and opens what that leaves.
+/// Stops the opening of what a loss of power leaves at each of its calls, and opens what that leaves.
 fn check_stopped_openings(
     rt: &impl Abort,
     alloc: Global,
     disk: &MemoryDisk,
     answered: bool,
 ) -> Result<(), AllocError> {
-    for stop in OPENING_CALLS {
+    for stop in 1..=OPENING_CALLS {
         let plan = plan(alloc, &[], Some(stop))?;
         let mut left = disk.after_crash(alloc, Crash::Fill(1), ROOM, plan)?;
         let _ = run(rt, alloc, COUNT, &mut left)?;
@@ -117,8 +120,35 @@ fn nodes_outlive_losses_of_power(rt: HostRuntime) -> Result<(), Fail> {
         ] {
             check_left(&rt, alloc, &disk, choice, answered)?;
         }
-        check_stopped_openings(&rt, alloc, &disk, answered)?;
     }
+    Ok(())
+}
+
+/// Stops the script at each call from the first to the last, and then the opening of what is left.
+fn check_openings_after(
+    rt: &impl Abort,
+    alloc: Global,
+    first: u64,
+    last: u64,
+) -> Result<(), AllocError> {
+    for stop in first..=last {
+        let mut disk = MemoryDisk::new(alloc, 16, ROOM, plan(alloc, &[], Some(stop))?)?;
+        let ended = run(rt, alloc, SCRIPT, &mut disk)?;
+        let answered = ended.output.taken().starts_with(b"node 0\n");
+        check_stopped_openings(rt, alloc, &disk, answered)?;
+    }
+    Ok(())
+}
+
+#[test]
+fn a_new_store_outlives_stopped_openings(rt: HostRuntime) -> Result<(), Fail> {
+    check_openings_after(&rt, rt.alloc(), FIRST_WRITE, FIRST_OF_NODE - 1)?;
+    Ok(())
+}
+
+#[test]
+fn a_node_outlives_stopped_openings(rt: HostRuntime) -> Result<(), Fail> {
+    check_openings_after(&rt, rt.alloc(), FIRST_OF_NODE, FIRST_OF_NODE + 3)?;
     Ok(())
 }
 
