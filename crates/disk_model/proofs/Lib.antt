@@ -1,3 +1,4 @@
+pub mod Contents
 mod Draws
 mod Files
 mod Fills
@@ -8,4 +9,5 @@ mod Moments
 mod PendingMarks
 mod Pokes
 mod ReadFiles
+pub mod Spans
 pub mod Times

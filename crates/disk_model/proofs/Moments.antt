@@ -93,11 +93,11 @@ after_sync : {T E : Type 0} (P : MemoryDiskState → Type 0) (result : Result T 
 after_sync P (Ok x) old new file ok err synced kept = subst P (sym ok) synced
 after_sync P (Err e) old new file ok err synced kept = subst P (sym err) kept
 
-pub stays-sync : {T E : Type 0} (result : Result T E) (old new : MemoryDiskState) (file : ℕ)
+pub keeps-sync : {T E : Type 0} (result : Result T E) (old new : MemoryDiskState) (file : ℕ)
     → OnOk result (new ≡ record old { calls = old.calls ++ Synced file ∷ []; made = raised old.made })
     → OnErr result (new ≡ record old { made = raised old.made; faults = raised old.faults })
     → Same (content_of old) (content_of new)
-stays-sync result old new file ok err =
+keeps-sync result old new file ok err =
     after_sync (λ disk. Same (content_of old) (content_of disk)) result old new file ok err
     (content-synced (contents old.base) old.calls file)
     (λ other place. refl)

@@ -1,6 +1,5 @@
 -- What a crash leaves over several calls, one after the other.
-use Rattle.std.proofs.Common.{◌≡◌, inl, inr, ⊎_elim, ℕ, ◌≤◌, arith}
-use Rattle.std.specs.Prelude.{◌⊎◌}
+use Rattle.std.proofs.Common.{inl, inr, ⊎_elim, ℕ, arith}
 use Rattle.std.proofs.Math.Nat.{le_refl}
 use Rattle.disk_model.specs.Contents.{Files}
 use Rattle.disk_model.specs.Disk.{Elapses, LeavesOnly}

@@ -1,5 +1,5 @@
 -- The contents of a disk of eight files.
-use Rattle.std.specs.Prelude.{◌≡◌, ℕ, ◌+◌, ◌≤◌, ◌<◌, ◌==◌, ◌&&◌, if◌then◌else◌, List, length, slice_index}
+use Rattle.std.specs.Prelude.{◌≡◌, ℕ, zero, suc, ◌+◌, ◌≤◌, ◌<◌, ◌==◌, ◌&&◌, if◌then◌else◌, List, [], ◌∷◌, length, slice_index}
 
 -- A content of the disk: the byte of a file at a place, zero past what was written. Contents are compared place by
 -- place.
@@ -9,6 +9,11 @@ Files = ℕ → ℕ → ℕ
 -- these bytes stand in the file from this place on
 abbrev pub Holds : ℕ → ℕ → List ℕ → Files → Type 0
 Holds file at bytes content = (i : ℕ) → i < length bytes → slice_index bytes i ≡ content file (at + i)
+
+-- the n bytes of a file from a place on
+abbrev pub bytes_from : (ℕ → ℕ) → ℕ → ℕ → List ℕ
+bytes_from file place zero = []
+bytes_from file place (suc n) = file place ∷ bytes_from file (place + 1) n
 
 -- a place in the range of n bytes of the file
 pub record InRange (file at n : ℕ) (other place : ℕ) : Type 0 where

@@ -8,3 +8,4 @@ pub mod Marks
 pub mod MemoryDisk
 pub mod Places
 pub mod PlainDisk
+pub mod Spans

@@ -34,7 +34,7 @@ pub trait Disk {
         requires file { file ≤ 7 }
         requires within { at + length out.old ≤ 2 ^ 40 }
         ensures bytes { tells_reads → OnOk result (Holds file at out.new (reads self.old)) }
-        ensures stays { tells_reads → Same (reads self.old) (reads self.new) }
+        ensures keeps { Same (reads self.old) (reads self.new) }
         ensures crash { tells_images → NoMore (may_leave self.old) (may_leave self.new) }
         ensures time { tells_images → Elapses (moment self.old) (moment self.new) (left_since self.old) (left_since self.new) (may_leave self.new) }
         ensures cause { HasCause (faults self.old) (faults self.new) result };
@@ -45,7 +45,7 @@ pub trait Disk {
         requires file { file ≤ 7 }
         requires within { at + length bytes.now ≤ 2 ^ 40 }
         ensures written { tells_reads → OnOk result (Holds file at bytes.now (reads self.new)) }
-        ensures elsewhere { tells_reads → SameOutside file at (length bytes.now) (reads self.old) (reads self.new) }
+        ensures elsewhere { SameOutside file at (length bytes.now) (reads self.old) (reads self.new) }
         ensures crash { tells_images → TornIn file at (length bytes.now) (may_leave self.old) (may_leave self.new) }
         ensures time { tells_images → Elapses (moment self.old) (moment self.new) (left_since self.old) (left_since self.new) (may_leave self.new) }
         ensures cause { HasCause (faults self.old) (faults self.new) result };
@@ -53,7 +53,7 @@ pub trait Disk {
     /// After a success each image has the file as it is read.
     fn sync(&mut self, file: u8) -> Result<(), Failed>
         requires file { file ≤ 7 }
-        ensures stays { tells_reads → Same (reads self.old) (reads self.new) }
+        ensures keeps { Same (reads self.old) (reads self.new) }
         ensures crash { tells_images → NoMore (may_leave self.old) (may_leave self.new) }
         ensures settled { tells_reads → tells_images → OnOk result (Settled file (reads self.old) (may_leave self.new)) }
         ensures time { tells_images → Elapses (moment self.old) (moment self.new) (left_since self.old) (left_since self.new) (may_leave self.new) }

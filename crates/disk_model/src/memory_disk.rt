@@ -255,7 +255,7 @@ impl Disk for MemoryDisk {
         ensures ok { OnOk result (self.new ≡ record self.old { made = raised self.old.made }) }
         ensures err { OnErr result (self.new ≡ record self.old { made = raised self.old.made; faults = raised self.old.faults }) }
         ensures bytes { OnOk result (Holds file at out.new (content_of self.old)) }
-        ensures stays { Same (content_of self.old) (content_of self.new) }
+        ensures keeps { Same (content_of self.old) (content_of self.new) }
         ensures crash { NoMore (MayLeave self.old) (MayLeave self.new) }
         ensures time { Elapses (length self.old.calls) (length self.new.calls) (LeftSince self.old) (LeftSince self.new) (MayLeave self.new) }
         ensures cause { HasCause self.old.faults self.new.faults result }
@@ -293,7 +293,7 @@ impl Disk for MemoryDisk {
         ensures fails { IsErr result ↔ (NextFails self.old ⊎ IsFull self.old) }
         ensures ok { OnOk result (self.new ≡ record self.old { calls = self.old.calls ++ Synced file ∷ []; made = raised self.old.made }) }
         ensures err { OnErr result (self.new ≡ record self.old { made = raised self.old.made; faults = raised self.old.faults }) }
-        ensures stays { Same (content_of self.old) (content_of self.new) }
+        ensures keeps { Same (content_of self.old) (content_of self.new) }
         ensures crash { NoMore (MayLeave self.old) (MayLeave self.new) }
         ensures settled { OnOk result (Settled file (content_of self.old) (MayLeave self.new)) }
         ensures time { Elapses (length self.old.calls) (length self.new.calls) (LeftSince self.old) (LeftSince self.new) (MayLeave self.new) }

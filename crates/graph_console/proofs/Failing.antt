@@ -1,15 +1,81 @@
--- A health that turned failed in one of two stretches of a run.
-use Rattle.std.proofs.Common.{◌≡◌, ◌⊎◌, ⊎_elim, inl, inr, ℕ, ◌≤◌, arith}
+-- A run that ends failed has told of a fault of the disk, where the disk tells what it reads.
+use Rattle.std.proofs.Common.{◌≡◌, ◌⊎◌, ⊎_elim, inl, inr, ℕ, ◌+◌, ◌-◌, ◌^◌, ◌≤◌, List, [], ◌∷◌, refl, ap, subst, ◌∙◌, arith}
 use Rattle.fault_count.specs.Cause.{Rose}
-use Rattle.graph_session.specs.Session.{FailsBy}
-use Rattle.graph_session.specs.declared.health.Health.{Health}
+use Rattle.disk_model.specs.declared.disk.Disk.{Ghosts}
+use Rattle.plain_graph.specs.Reply as replies
+use Rattle.plain_graph.specs.Reply.{Fault, Reply}
+use Rattle.plain_graph.specs.declared.command.Command.{Command}
+use Rattle.plain_graph.specs.declared.command.Command.TheVariants as commands
+use Rattle.plain_graph.specs.declared.item.Item.{Item}
+use Rattle.console_words.specs.declared.run_options.RunOptions.{RunOptions}
+use Rattle.graph_session.specs.Exchange.{CarriesOut, ConsoleStep, Exchange, MakesChange, Stops, told_fault, told_in}
+use Rattle.graph_session.specs.State.{Failed, Live, Standing, State, health_of}
+use Rattle.graph_session.specs.declared.health.Health.TheVariants as healths
+use Rattle.graph_console.specs.Program.{Serves, Writes, terms_for}
+use Rattle.graph_console.specs.Run.{Run, told_faults}
+use Rattle.graph_console.specs.declared.exit.Exit.{Exit}
+use Rattle.graph_console.specs.declared.exit.Exit.TheVariants.{StoreFailed}
 
-rose_wider : (first before after last : ℕ) → first ≤ before → after ≤ last → Rose before after → Rose first last
-rose_wider first before after last early late rose = omega (arith, early, late, rose)
+module _ (old new : State) (live : old.standing ≡ Live) where
+  stays_live : new ≡ old → new.standing ≡ Live
+  stays_live same = ap (λ (s : State). s.standing) same ∙ live
 
-pub fails_on : (old middle new : Health) (first before after : ℕ) → FailsBy old middle first before → first ≤ before → FailsBy middle new before after → before ≤ after → FailsBy old new first after
-fails_on old middle new first before after one early two late failed =
-    ⊎_elim
-    (λ was. ⊎_elim (λ first_was. inl first_was) (λ rose. inr (rose_wider first first before after (omega arith) late rose)) (one was))
-    (λ rose. inr (rose_wider first before after after early (omega arith) rose))
-    (two failed)
+  changed_live : (command : Command) (reply : Reply) → MakesChange old command reply new → new.standing ≡ Live
+  changed_live command reply (inl (transaction, opened, graph, weight, changes, weighs, is)) = ap (λ (s : State). s.standing) is ∙ live
+  changed_live command reply (inr (closed, graph, changes, is)) = ap (λ (s : State). s.standing) is ∙ live
+
+  -- a command that is carried out fails no console
+  carried_live : (command : Command) (reply : Reply) → CarriesOut old command reply new → new.standing ≡ Live
+  carried_live commands.Blank reply never = absurd never
+  carried_live commands.Begin reply done = ap (λ (s : State). s.standing) done.1 ∙ live
+  carried_live commands.Commit reply done = ap (λ (s : State). s.standing) done.3 ∙ live
+  carried_live commands.Rollback reply done = ap (λ (s : State). s.standing) done.1 ∙ live
+  carried_live commands.Checkpoint reply done = stays_live done.1
+  carried_live commands.Stats reply done = stays_live done.1
+  carried_live commands.Reopen reply done = ap (λ (s : State). s.standing) done.3
+  carried_live commands.Quit reply never = absurd never
+  carried_live (commands.Node label) reply done = changed_live (commands.Node label) reply done
+  carried_live (commands.Delete target) reply done = changed_live (commands.Delete target) reply done
+  carried_live (commands.Query query) reply done = stays_live done.1
+
+  stopped_live : (x : Exchange) (results : List Item) (fault : Fault) → Stops old x.line x.disk_failed results fault new → (told_in fault ≡ 1) ⊎ (new.standing ≡ Live)
+  stopped_live x results replies.NoMemory stops = inr (stays_live stops.1)
+  stopped_live x results replies.DiskFailed stops = inl refl
+  stopped_live x results (replies.DamagedRecord file id) never = absurd never
+
+  -- a step that fails a console tells of the disk
+  step_told : (x : Exchange) → ConsoleStep old x new → (told_fault x.reply ≡ 1) ⊎ (new.standing ≡ Live)
+  step_told x step = by x.reply step
+    where
+      by : (reply : Reply) → ConsoleStep old (record x { reply = reply }) new → (told_fault reply ≡ 1) ⊎ (new.standing ≡ Live)
+      by replies.Silent s = inr (stays_live s.1)
+      by replies.Done s = inr (carried_live s.1 replies.Done s.3)
+      by (replies.NodeMade id) s = inr (carried_live s.1 (replies.NodeMade id) s.3)
+      by (replies.Results results) s = inr (carried_live s.1 (replies.Results results) s.3)
+      by (replies.Counted counts) s = inr (carried_live s.1 (replies.Counted counts) s.3)
+      by (replies.Faulted results fault) s = stopped_live x results fault s
+      by (replies.Refused why) s = inr (stays_live s.1)
+
+run_told : (tells : Type 0) → tells → (first : State) (run : List Exchange) (last : State) → Run tells first run last → first.standing ≡ Live → (1 ≤ told_faults run) ⊎ (last.standing ≡ Live)
+run_told tells told first [] last same live = inr (ap (λ (s : State). s.standing) same ∙ live)
+run_told tells told first (x ∷ later) last steps live = elim (step_told first steps.0 live x (steps.1.step told)) [
+  | inl one ↦ inl (omega (arith, one))
+  | inr still ↦ ⊎_elim (λ more. inl (omega (arith, more))) (λ ends. inr ends) (run_told tells told steps.0 later last steps.2 still)
+]
+
+live-not_failed : (standing : Standing) → standing ≡ Live → ¬ (health_of standing ≡ healths.Failed)
+live-not_failed Live is failed = cc
+live-not_failed (Failed graphs) is failed = cc
+
+count_rose : (before after told : ℕ) → (1 ≤ told) → (told + before ≤ after) ⊎ (2 ^ 64 - 1 ≤ after) → Rose before after
+count_rose before after told one (inl counts) = omega arith
+count_rose before after told one (inr last) = omega arith
+
+-- where a program served its store and ended failed, the disk counted a fault
+pub failed_rose : {D : Type 0} (g : Ghosts D) (options : RunOptions) (old new : D) → g.tells_reads → (exit : Exit) (before after input left : List ℕ)
+    → Writes before after (Serves (terms_for g options old new) exit input left) → exit ≡ StoreFailed → Rose (g.faults old) (g.faults new)
+failed_rose g options old new told exit before after input left serves is =
+    let r = (subst (λ (x : Exit). Writes before after (Serves (terms_for g options old new) x input left)) is serves).2 in
+    let counted : 1 ≤ told_faults r.run =
+    ⊎_elim (λ one. one) (λ live. absurd (live-not_failed r.last.standing live r.says.0)) (run_told g.tells_reads told r.first r.run r.last r.steps r.begins.live) in
+    count_rose (g.faults old) (g.faults new) (told_faults r.run) counted r.arrives.counts

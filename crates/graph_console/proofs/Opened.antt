@@ -1,40 +1,65 @@
 -- The whole run, by what opening the store came to.
-use Rattle.std.proofs.Common.{◌≡◌, ◌≢◌, ◌⊎◌, inl, inr, ℕ, ◌≤◌, List, ◌++◌, take, refl, sym, subst, arith}
+use Rattle.std.proofs.Common.{◌≡◌, ◌≢◌, ◌⊎◌, ⊎_elim, inl, inr, ℕ, [], List, ◌++◌, take, refl, sym, subst, arith}
 use Rattle.disk_model.specs.Contents.{Files}
+use Rattle.disk_model.specs.Spans.{AtEachMoment}
+use Rattle.disk_model.specs.declared.disk.Disk.{Ghosts}
+use Rattle.disk_model.proofs.Spans.{OnlyNow, at_each_moment_none, at_each_moment_on, at_each_moment_weaker}
 use Rattle.stream_io.specs.Streams.{TakesFront}
 use Rattle.rec_bytes.specs.declared.shape.Shape.{Shape}
-use Rattle.node_log.specs.Config.{Suits}
-use Rattle.node_log.specs.Opening.{OnlyDiffers}
-use Rattle.node_log.specs.declared.config.Config.{Config}
-use Rattle.node_log.specs.declared.open_fault.OpenFault.{OpenFault}
-use Rattle.node_log.specs.declared.open_fault.OpenFault.TheVariants as faults
+use Rattle.txn_core.specs.Config.{Suits}
+use Rattle.txn_core.specs.Opening.{OnlyDiffers}
+use Rattle.txn_core.specs.declared.config.Config.{Config}
+use Rattle.txn_core.specs.declared.open_fault.OpenFault.{OpenFault}
+use Rattle.txn_core.specs.declared.open_fault.OpenFault.TheVariants as faults
+use Rattle.console_words.specs.declared.run_options.RunOptions.{RunOptions}
+use Rattle.graph_session.specs.Console.{IsAt, SessionView}
+use Rattle.graph_session.specs.Exchange.{Exchange}
+use Rattle.graph_session.specs.Opening.{IsUnopened, LeavesOldOrSame, Opens, StartsAs}
+use Rattle.graph_session.specs.Stands.{IsAdmitted}
 use Rattle.graph_session.specs.State.{State}
-use Rattle.graph_console.specs.Main.{EndsAs, RunTo, Serves, Writes}
-use Rattle.graph_console.specs.Opening.{EndsUnopened, exit_of, line_of}
-use Rattle.graph_console.specs.Run.{Exchange}
+use Rattle.graph_session.proofs.Openings.{opens_admitted}
+use Rattle.graph_console.specs.Program.{HoldsGraph, Refuses, RunTo, Serves, Terms, Writes, config_for, terms_for, terms_from, usage_line}
+use Rattle.graph_console.specs.Unopened.{EndsUnopened, IsUnopenedExit, exit_of, line_of}
+use Rattle.graph_console.specs.Run.{IsAdmittedInRun, Run}
 use Rattle.graph_console.specs.declared.exit.Exit.{Exit}
 use Rattle.graph_console.specs.declared.exit.Exit.TheVariants as exits
 use Rattle.graph_console.proofs.Runs.{counts_within}
 
--- what is served under premises and promises is served under wider ones
-module _ (starts wider_starts : State → Type 0) (ends wider_ends : List Exchange → State → Type 0) (unopened wider_unopened : OpenFault → Type 0)
-    (begins : (state : State) → starts state → wider_starts state) (closes : (run : List Exchange) (last : State) → ends run last → wider_ends run last)
-    (refuses : (why : OpenFault) → unopened why → wider_unopened why) where
-  runs_wider : (P : List Exchange → State → Type 0) → RunTo starts ends P → RunTo wider_starts wider_ends P
+-- a content that the first state admits is admitted in each run that begins with it
+admitted_first : (tells : Type 0) (first : State) (run : List Exchange) (last : State) → Run tells first run last → (content : Files) → IsAdmitted first content → IsAdmittedInRun tells first run last content
+admitted_first tells first run last steps content is = (first, record { before = []; later = run; run_is = refl; leads = refl; goes_on = steps }, is)
+
+-- what opening left, and what the run left after it
+leaves_from : {D : Type 0} (g : Ghosts D) (old opened new : D) (first : State) (run : List Exchange) (last : State) → Run g.tells_reads first run last
+    → AtEachMoment g old opened (λ content. g.may_leave old content ⊎ IsAdmitted first content) → ((content : Files) → g.may_leave opened content → IsAdmitted first content)
+    → AtEachMoment g opened new (λ content. g.may_leave opened content ⊎ IsAdmittedInRun g.tells_reads first run last content)
+    → AtEachMoment g old new (λ content. g.may_leave old content ⊎ IsAdmittedInRun g.tells_reads first run last content)
+leaves_from g old opened new first run last steps opening opens serving =
+    let P : Files → Type 0 = λ content. g.may_leave old content ⊎ IsAdmittedInRun g.tells_reads first run last content in
+    at_each_moment_on g old opened new P (λ content. g.may_leave opened content ⊎ IsAdmittedInRun g.tells_reads first run last content)
+    (at_each_moment_weaker g old opened (λ content. g.may_leave old content ⊎ IsAdmitted first content) P opening (λ content h. ⊎_elim (λ o. inl o) (λ a. inr (admitted_first g.tells_reads first run last steps content a)) h))
+    serving
+    (λ content h. ⊎_elim (λ o. inr (admitted_first g.tells_reads first run last steps content (opens content o))) (λ a. inr a) h)
+
+-- what is served on terms is served on wider ones
+module _ (tells : Type 0) (terms wider : Terms tells) (begins : (state : State) → terms.starts state → wider.starts state)
+    (closes : (first : State) (run : List Exchange) (last : State) → terms.starts first → Run tells first run last → terms.ends first run last → wider.ends first run last)
+    (refuses : (why : OpenFault) → terms.unopened why → wider.unopened why) where
+  runs_wider : (P : List Exchange → State → Type 0) → RunTo terms P → RunTo wider P
   runs_wider P r = record {
     first = r.first;
     begins = begins r.first r.begins;
     run = r.run;
     last = r.last;
     steps = r.steps;
-    arrives = closes r.run r.last r.arrives;
+    arrives = closes r.first r.run r.last r.begins r.steps r.arrives;
     says = r.says;
   }
 
-  ends_wider : (exit : Exit) (written : List ℕ) → EndsUnopened unopened exit written → EndsUnopened wider_unopened exit written
+  ends_wider : (exit : Exit) (written : List ℕ) → EndsUnopened terms.unopened exit written → EndsUnopened wider.unopened exit written
   ends_wider exit written e = (e.0, refuses e.0 e.1, e.2, e.3)
 
-  serves_wider : (exit : Exit) (input left written : List ℕ) → Serves starts ends unopened exit input left written → Serves wider_starts wider_ends wider_unopened exit input left written
+  serves_wider : (exit : Exit) (input left written : List ℕ) → Serves terms exit input left written → Serves wider exit input left written
   serves_wider exits.Done input left written s = runs_wider _ s
   serves_wider exits.StoreFailed input left written s = runs_wider _ s
   serves_wider exits.Usage input left written s = absurd s
@@ -47,39 +72,76 @@ module _ (starts wider_starts : State → Type 0) (ends wider_ends : List Exchan
   serves_wider exits.DiskFault input left written e = ends_wider exits.DiskFault written e
   serves_wider exits.InputTooLong input left written s = runs_wider _ s
 
--- what a session served is served by the program that opened it, whose disk has failed no more often before
-pub serves_opened : (starts : State → Type 0) (tells : Type 0) (images : Files → Type 0) (earlier before after : ℕ) (unopened : OpenFault → Type 0) (first : State) → starts first → earlier ≤ before
-    → (old new : List ℕ) (exit : Exit) (input left : List ℕ)
-    → Writes old new (Serves (λ state. state ≡ first) (EndsAs tells images before after) (λ _. ⊥) exit input left)
-    → Writes old new (Serves starts (EndsAs tells images earlier after) unopened exit input left)
-serves_opened starts tells images earlier before after unopened first begins rises old new exit input left w = (
+-- What a session served is served by the program that opened it.
+pub serves_opened : {D : Type 0} (g : Ghosts D) (options : RunOptions) (old : D) (session : SessionView D) (new : D) → Opens g (config_for options) old session → HoldsGraph g old
+    → (state : State) → StartsAs g old (config_for options) state → IsAt g session state → (exit : Exit) (old_taken new_taken input left : List ℕ)
+    → Writes old_taken new_taken (Serves (terms_from g state session.disk new) exit input left)
+    → Writes old_taken new_taken (Serves (terms_for g options old new) exit input left)
+serves_opened g options old session new opens holds state starts is_at exit old_taken new_taken input left w = (
   w.0,
   w.1,
-  serves_wider (λ state. state ≡ first) starts (EndsAs tells images before after) (EndsAs tells images earlier after) (λ _. ⊥) unopened
-      (λ state is. subst starts (sym is) begins) (λ run last ends. (ends.0, counts_within earlier before after after run rises ends.1 (omega arith))) (λ _ never. absurd never) exit input left w.0 w.2,
+  serves_wider g.tells_reads (terms_from g state session.disk new) (terms_for g options old new)
+      (λ first is. subst (λ (s : State). (terms_for g options old new).starts s) (sym is) starts)
+      (λ first run last is steps ends. record {
+        durable = ends.durable;
+        crash = λ told.
+            leaves_from g old session.disk new first run last steps
+            (subst (λ (s : State). AtEachMoment g old session.disk (λ content. g.may_leave old content ⊎ IsAdmitted s content)) (sym is) (opens_admitted g old (config_for options) state starts session.disk opens.crash told (holds told.0)))
+            (λ content left. subst (λ (s : State). IsAdmitted s content) (sym is) (is_at.images told content left))
+            (ends.crash told);
+        counts = counts_within (g.faults old) (g.faults session.disk) (g.faults new) (g.faults new) run opens.later ends.counts (omega arith);
+      })
+      (λ why never. absurd never) exit input left w.0 w.2,
 )
 
--- the line of a reason was written, or a front of it
-abbrev WritesReason : OpenFault → Exit → List ℕ → List ℕ → Type 0
-WritesReason why result old new = ((result ≡ exit_of why) × (new ≡ old ++ line_of why)) ⊎ ((result ≡ exits.OutputFault) × TakesFront old new (line_of why))
+-- a line was written whole, or a prefix of it
+abbrev WritesLine : List ℕ → Exit → Exit → List ℕ → List ℕ → Type 0
+WritesLine line exit result old new = ((result ≡ exit) × (new ≡ old ++ line)) ⊎ ((result ≡ exits.OutputFault) × TakesFront old new line)
 
-module _ (starts : State → Type 0) (ends : List Exchange → State → Type 0) (unopened : OpenFault → Type 0) where
-  reason_serves : (why : OpenFault) → unopened why → (input left : List ℕ) → Serves starts ends unopened (exit_of why) input left (line_of why)
+module _ (tells : Type 0) (terms : Terms tells) where
+  reason_serves : (why : OpenFault) → terms.unopened why → (input left : List ℕ) → Serves terms (exit_of why) input left (line_of why)
   reason_serves faults.Memory is input left = (faults.Memory, is, refl, refl)
   reason_serves faults.Disk is input left = (faults.Disk, is, refl, refl)
   reason_serves faults.NotAStore is input left = (faults.NotAStore, is, refl, refl)
   reason_serves (faults.Damaged damage) is input left = (faults.Damaged damage, is, refl, refl)
   reason_serves (faults.ConfigDiffers stored asked) is input left = (faults.ConfigDiffers stored asked, is, refl, refl)
 
-  pub serves_unopened : (why : OpenFault) → unopened why → (old new : List ℕ) (result : Exit) (input left : List ℕ) → WritesReason why result old new
-      → Writes old new (Serves starts ends unopened result input left)
+  pub serves_unopened : (why : OpenFault) → terms.unopened why → (old new : List ℕ) (result : Exit) (input left : List ℕ) → WritesLine (line_of why) (exit_of why) result old new
+      → Writes old new (Serves terms result input left)
   serves_unopened why is old new result input left (inl whole) =
-      (line_of why, whole.1, subst (λ (exit : Exit). Serves starts ends unopened exit input left (line_of why)) (sym whole.0) (reason_serves why is input left))
+      (line_of why, whole.1, subst (λ (exit : Exit). Serves terms exit input left (line_of why)) (sym whole.0) (reason_serves why is input left))
   serves_unopened why is old new result input left (inr front) = let written : List ℕ = take front.1.0 (line_of why) in (
     written,
     front.1.2,
-    subst (λ (exit : Exit). Serves starts ends unopened exit input left written) (sym front.0) (inr (why, is, (front.1.0, front.1.1, refl))),
+    subst (λ (exit : Exit). Serves terms exit input left written) (sym front.0) (inr (why, is, (front.1.0, front.1.1, refl))),
   )
+
+unopened-not_output : (result : Exit) → result ≡ exits.OutputFault → ¬ IsUnopenedExit result
+unopened-not_output result failed (inl is) = cc
+unopened-not_output result failed (inr (inl is)) = cc
+unopened-not_output result failed (inr (inr (inl is))) = cc
+unopened-not_output result failed (inr (inr (inr is))) = cc
+
+-- a program with the exit of a reason wrote the whole line of it
+pub ends_unopened : (P : OpenFault → Type 0) (why : OpenFault) → P why → (old new : List ℕ) (result : Exit) → IsUnopenedExit result → WritesLine (line_of why) (exit_of why) result old new
+    → Writes old new (EndsUnopened P result)
+ends_unopened P why is old new result ends (inl whole) = (line_of why, whole.1, (why, is, sym whole.0, refl))
+ends_unopened P why is old new result ends (inr failed) = absurd (unopened-not_output result failed.0 ends)
+
+-- there was no memory before the disk was used
+pub unopened_memory : {D : Type 0} (g : Ghosts D) → OnlyNow g → (config : Config) (disk : D) → IsUnopened g config disk disk faults.Memory
+unopened_memory g only config disk = record {
+  refused = λ told. inl tt;
+  sound = λ told shape graph stands. tt;
+  crash = λ told stands. at_each_moment_none g disk (LeavesOldOrSame (g.reads disk) (g.may_leave disk) config) only told.1 (λ left was. inl was);
+  later = omega arith;
+  cause = λ is. cc;
+}
+
+-- the usage line was written, or a prefix of it
+pub refuses_usage : (result : Exit) (old new : List ℕ) → WritesLine usage_line exits.Usage result old new → Writes old new (Refuses result)
+refuses_usage result old new (inl whole) = (usage_line, whole.1, inl (whole.0, refl))
+refuses_usage result old new (inr prefix) = (take prefix.1.0 usage_line, prefix.1.2, inr (inr (prefix.0, inl (prefix.1.0, prefix.1.1, refl))))
 
 -- how a program that opened no store ended, whatever its sink tells
 abbrev EndsFor : OpenFault → Exit → Type 0 → Type 0

@@ -1,5 +1,5 @@
 -- A run of the console, as far as the program's loop has come.
-use Rattle.std.proofs.Common.{◌≡◌, ◌⊎◌, inl, inr, ℕ, ◌+◌, ◌-◌, ◌^◌, ◌≤◌, Bool, true, false, List, [], ◌∷◌, ◌++◌, length, take, map, refl, sym, ◌∙◌, ap, subst, arith, append_assoc, length-append, Some, cond}
+use Rattle.std.proofs.Common.{◌≡◌, ◌⊎◌, ⊎_elim, inl, inr, ℕ, ◌+◌, ◌-◌, ◌^◌, ◌≤◌, Bool, true, false, List, [], ◌∷◌, ◌++◌, length, take, map, refl, sym, ◌∙◌, ap, subst, arith, append_assoc, length-append, Some, cond}
 use Rattle.std.proofs.lemmas.Bool.{cases_lt}
 use Rattle.std.proofs.lemmas.List.{append-nil, map_push}
 use Rattle.std.proofs.lemmas.Grind.{flat_map-append}
@@ -8,24 +8,23 @@ use Rattle.stream_io.specs.Lines.{InputLine, Pieces, pieces_of, line_of, lines_o
 use Rattle.stream_io.specs.Answers.{TakesLine}
 use Rattle.stream_io.specs.Reading.{Reading, ahead, IsFresh}
 use Rattle.stream_io.specs.Streams.{TakesFront}
+use Rattle.plain_graph.specs.Reply as replies
 use Rattle.plain_graph.specs.Reply.{Reply, reply_text}
-use Rattle.node_log.specs.declared.open_fault.OpenFault.{OpenFault}
-use Rattle.graph_session.specs.Session.{health_of}
-use Rattle.graph_session.specs.State.{State, IsQuit}
-use Rattle.graph_session.specs.Console.{Step}
+use Rattle.graph_session.specs.Exchange.{Exchange, TakesStep, told_fault}
+use Rattle.graph_session.specs.State.{State, IsQuit, health_at}
 use Rattle.graph_session.specs.declared.health.Health.{Health}
 use Rattle.graph_session.specs.declared.health.Health.TheVariants.{Live, Failed}
-use Rattle.graph_console.specs.Run.{Exchange, Run, run_lines, run_text, rises, NoQuit, AreUpToQuit, AreFirstOf, LacksEnd}
-use Rattle.graph_console.specs.Main.{CountsRises, RunTo, Serves, ServesAll, ServesEnded, Writes}
-use Rattle.graph_console.specs.Serving.{TurnSays, Exchanges, Ends, Breaks}
+use Rattle.graph_console.specs.Run.{CountsRises, Run, run_lines, run_text, told_faults, NoQuit, AreUpToQuit, AreFirstOf, LacksEnd}
+use Rattle.graph_console.specs.Program.{RunTo, Serves, ServesAll, ServesEnded, Terms, Writes}
+use Rattle.graph_console.specs.Serve.{TurnSays, Exchanges, Ends, Breaks, Progress, bytes_ahead}
 use Rattle.graph_console.specs.declared.exit.Exit.{Exit}
 use Rattle.graph_console.specs.declared.exit.Exit.TheVariants.{Done, StoreFailed, Usage, InputFault, OutputFault, NoMemory, BadFiles, ConfigDiffers, DiskFault, InputTooLong}
 use Rattle.graph_console.proofs.LineLaws.{piece_first, piece_alone, pieces_joined, lines-piece, lines-last}
 
 -- one step more
-run_on : (first middle last : State) (run : List Exchange) (x : Exchange) → Run first run middle → Step middle x.line x.rose x.reply last → Run first (run ++ x ∷ []) last
-run_on first middle last [] x steps step = (last, subst (λ (s : State). Step s x.line x.rose x.reply last) steps step, refl)
-run_on first middle last (y ∷ run) x steps step = (steps.0, steps.1, run_on steps.0 middle last run x steps.2 step)
+pub run_on : (tells : Type 0) (first middle last : State) (run : List Exchange) (x : Exchange) → Run tells first run middle → TakesStep tells middle x last → Run tells first (run ++ x ∷ []) last
+run_on tells first middle last [] x steps step = (last, subst (λ (s : State). TakesStep tells s x last) steps step, refl)
+run_on tells first middle last (y ∷ run) x steps step = (steps.0, steps.1, run_on tells steps.0 middle last run x steps.2 step)
 
 no_quit_on : (lines : List InputLine) (line : InputLine) → NoQuit lines → ¬ IsQuit line → NoQuit (lines ++ line ∷ [])
 no_quit_on [] line none not_quit = (not_quit, tt)
@@ -39,23 +38,40 @@ run_text_on run x =
 run_lines_on : (run : List Exchange) (x : Exchange) → run_lines (run ++ x ∷ []) ≡ run_lines run ++ x.line ∷ []
 run_lines_on run x = map_push (λ (y : Exchange). y.line) run x
 
-rises_on : (run : List Exchange) (x : Exchange) → rises (run ++ x ∷ []) ≡ rises run + cond x.rose 1 0
-rises_on [] x = omega arith
-rises_on (y ∷ run) x = omega (arith, rises_on run x)
+told_faults_on : (run : List Exchange) (x : Exchange) → told_faults (run ++ x ∷ []) ≡ told_faults run + told_fault x.reply
+told_faults_on [] x = omega arith
+told_faults_on (y ∷ run) x = omega (arith, told_faults_on run x)
 
--- a call in which the disk failed, or didn't, lets its count rise as the call says
-count_on : (rose : Bool) (total before middle after : ℕ) → (total + before ≤ middle) ⊎ (2 ^ 64 - 1 ≤ middle) → (rose ≡ true → Rose middle after) → middle ≤ after
-    → ((total + cond rose 1 0) + before ≤ after) ⊎ (2 ^ 64 - 1 ≤ after)
-count_on rose total before middle after (inr last) counted later = inr (omega arith)
-count_on false total before middle after (inl counts) counted later = inl (omega arith)
-count_on true total before middle after (inl counts) counted later =
-    let one_more : Rose middle after = counted refl in
-    elim (cases_lt middle after) [ inl below ↦ inl (omega arith) | inr not_below ↦ inr (omega arith) ]
+told_once : (reply : Reply) → (told_fault reply ≡ 0) ⊎ (told_fault reply ≡ 1)
+told_once replies.Silent = inl refl
+told_once replies.Done = inl refl
+told_once (replies.NodeMade id) = inl refl
+told_once (replies.Results results) = inl refl
+told_once (replies.Counted counts) = inl refl
+told_once (replies.Faulted results replies.NoMemory) = inl refl
+told_once (replies.Faulted results replies.DiskFailed) = inr refl
+told_once (replies.Faulted results (replies.DamagedRecord file id)) = inl refl
+told_once (replies.Refused why) = inl refl
+
+-- only a reply to a line in which the disk failed says so
+told_failed : (tells : Type 0) (old : State) (x : Exchange) (new : State) → TakesStep tells old x new → (told_fault x.reply ≡ 0) ⊎ ((told_fault x.reply ≡ 1) × (x.disk_failed ≡ true))
+told_failed tells old x new step = ⊎_elim (λ none. inl none) (λ one. inr (one, step.blames (λ none. cc))) (told_once x.reply)
+
+-- a count rises by one at least where a fault is told
+count_on : (failed : Bool) (told total before middle after : ℕ) → (told ≡ 0) ⊎ ((told ≡ 1) × (failed ≡ true)) → (total + before ≤ middle) ⊎ (2 ^ 64 - 1 ≤ middle) → (failed ≡ true → Rose middle after) → middle ≤ after
+    → ((total + told) + before ≤ after) ⊎ (2 ^ 64 - 1 ≤ after)
+count_on failed told total before middle after is (inr last) counted later = inr (omega arith)
+count_on failed told total before middle after (inl none) (inl counts) counted later = inl (omega arith)
+count_on failed told total before middle after (inr one) (inl counts) counted later =
+    let one_more : Rose middle after = counted one.1 in
+    elim (cases_lt middle after) [ inl below ↦ inl (omega (arith, one.0)) | inr not_below ↦ inr (omega arith) ]
 
 -- a count that kept up with a run keeps up with it and one exchange more
-counts_on : (before middle after : ℕ) (run : List Exchange) (x : Exchange) → CountsRises before middle run → (x.rose ≡ true → Rose middle after) → middle ≤ after → CountsRises before after (run ++ x ∷ [])
-counts_on before middle after run x counts counted later =
-    subst (λ (n : ℕ). (n + before ≤ after) ⊎ (2 ^ 64 - 1 ≤ after)) (sym (rises_on run x)) (count_on x.rose (rises run) before middle after counts counted later)
+counts_on : (tells : Type 0) (before middle after : ℕ) (run : List Exchange) (x : Exchange) (old new : State) → TakesStep tells old x new → CountsRises before middle run → (x.disk_failed ≡ true → Rose middle after) → middle ≤ after
+    → CountsRises before after (run ++ x ∷ [])
+counts_on tells before middle after run x old new step counts counted later =
+    subst (λ (n : ℕ). (n + before ≤ after) ⊎ (2 ^ 64 - 1 ≤ after)) (sym (told_faults_on run x))
+    (count_on x.disk_failed (told_fault x.reply) (told_faults run) before middle after (told_failed tells old x new step) counts counted later)
 
 -- a count that kept up with a run keeps up with it later, and from an earlier one on
 pub counts_within : (earlier before middle after : ℕ) (run : List Exchange) → earlier ≤ before → CountsRises before middle run → middle ≤ after → CountsRises earlier after run
@@ -80,22 +96,12 @@ pub record Boundary (input ahead_of : List ℕ) (lines : List InputLine) : Type 
   pub no_rest : (pieces_of used).rest ≡ []
   pub lines_are : ended_lines used ≡ lines
 
--- Where the loop stands: the reader, what the source has left, what the sink has taken, and how often the disk has failed.
-pub record Moment : Type 0 where
-  pub reader : Reading
-  pub left : List ℕ
-  pub taken : List ℕ
-  pub faults : ℕ
-
-abbrev pub bytes_ahead : Moment → List ℕ
-bytes_ahead m = ahead m.reader m.left
-
--- A run from the first state has come from the start to this moment, and to a state that the session is at.
-pub record Serving (first : State) (is_at : State → Type 0) (start now : Moment) : Type 0 where
+-- A run from the first state has come from the start to here, and to a state that the session is at.
+pub record Serving (tells : Type 0) (first : State) (is_at : List Exchange → State → Type 0) (start now : Progress) : Type 0 where
   pub run : List Exchange
   pub state : State
-  pub steps : Run first run state
-  pub arrives : is_at state
+  pub steps : Run tells first run state
+  pub arrives : is_at run state
   pub no_quit : NoQuit (run_lines run)
   pub text : now.taken ≡ start.taken ++ run_text run
   pub lines : run_lines run ++ lines_of (bytes_ahead now) ≡ lines_of start.left
@@ -106,8 +112,8 @@ pub record Serving (first : State) (is_at : State → Type 0) (start now : Momen
 fresh_ahead : (reader : Reading) (left : List ℕ) → reader.ended ≡ false → reader.held ≡ [] → ahead reader left ≡ left
 fresh_ahead reader left goes_on none = ap (λ (b : Bool). cond b reader.held (reader.held ++ left)) goes_on ∙ ap (λ (bs : List ℕ). bs ++ left) none
 
-pub serving_first : (first : State) (is_at : State → Type 0) (start : Moment) → is_at first → IsFresh start.reader → Serving first is_at start start
-serving_first first is_at start at_first fresh =
+pub serving_first : (tells : Type 0) (first : State) (is_at : List Exchange → State → Type 0) (start : Progress) → is_at [] first → IsFresh start.reader → Serving tells first is_at start start
+serving_first tells first is_at start at_first fresh =
     let same = fresh_ahead start.reader start.left fresh.ended fresh.held in
     record {
       run = [];
@@ -122,43 +128,45 @@ serving_first first is_at start at_first fresh =
       counts = inl (omega arith);
     }
 
+-- A turn that comes to a state carries on what is said of the run so far: by its line, or without one.
+pub record Carries (tells : Type 0) (run : List Exchange) (state : State) (comes_to : State → Type 0) (is_at : List Exchange → State → Type 0) : Type 0 where
+  pub on : (x : Exchange) (last : State) → TakesStep tells state x last → comes_to last → is_at (run ++ x ∷ []) last
+  pub stays : comes_to state → is_at run state
+
 -- What is said of the whole run: its end, by the state that the session is then at and by the disk's count.
-abbrev Closes : (State → Type 0) → (List Exchange → State → Type 0) → ℕ → ℕ → Type 0
-Closes is_at ends before after = (run : List Exchange) (last : State) → is_at last → CountsRises before after run → ends run last
+abbrev Closes : (List Exchange → State → Type 0) → (List Exchange → State → Type 0) → ℕ → ℕ → Type 0
+Closes is_at ends before after = (run : List Exchange) (last : State) → is_at run last → CountsRises before after run → ends run last
 
 -- What is served when a line's exchange has come to its end.
-module _ (first : State) (old_is_at is_at : State → Type 0) (start old new : Moment) (s : Serving first old_is_at start old)
-    (says : State → InputLine → Reply → Type 0) (e : Exchanges s.state is_at (bytes_ahead old) (bytes_ahead new) old.faults new.faults new.reader.ended says) where
-  abbrev exchange : Exchange
-  exchange = record { line = e.line; rose = e.rose; reply = e.reply }
-
+module _ (tells : Type 0) (first : State) (old_is_at is_at : List Exchange → State → Type 0) (comes_to : State → Type 0) (start old new : Progress) (s : Serving tells first old_is_at start old) (carries : Carries tells s.run s.state comes_to is_at)
+    (says : State → Exchange → Type 0) (e : Exchanges tells s.state comes_to old new says) where
   abbrev run_after : List Exchange
-  run_after = s.run ++ exchange ∷ []
+  run_after = s.run ++ e.exchange ∷ []
 
-  steps_after : Run first run_after e.new
-  steps_after = run_on first s.state e.new s.run exchange s.steps e.step
+  steps_after : Run tells first run_after e.after
+  steps_after = run_on tells first s.state e.after s.run e.exchange s.steps e.step
 
   counts_after : old.faults ≤ new.faults → CountsRises start.faults new.faults run_after
-  counts_after later = counts_on start.faults old.faults new.faults s.run exchange s.counts e.counted later
+  counts_after later = counts_on tells start.faults old.faults new.faults s.run e.exchange s.state e.after e.step s.counts e.counted later
 
-  lines_after : run_lines run_after ≡ run_lines s.run ++ e.line ∷ []
-  lines_after = run_lines_on s.run exchange
+  lines_after : run_lines run_after ≡ run_lines s.run ++ e.exchange.line ∷ []
+  lines_after = run_lines_on s.run e.exchange
 
   all_lines : lines_of start.left ≡ run_lines run_after ++ lines_of (bytes_ahead new)
   all_lines =
       sym s.lines
-      ∙ ap (λ (ls : List InputLine). run_lines s.run ++ ls) (first_line e.line (bytes_ahead old) (bytes_ahead new) new.reader.ended e.takes)
-      ∙ sym (append_assoc (run_lines s.run) (e.line ∷ []) (lines_of (bytes_ahead new)))
+      ∙ ap (λ (ls : List InputLine). run_lines s.run ++ ls) (first_line e.exchange.line (bytes_ahead old) (bytes_ahead new) new.reader.ended e.takes)
+      ∙ sym (append_assoc (run_lines s.run) (e.exchange.line ∷ []) (lines_of (bytes_ahead new)))
       ∙ ap (λ (ls : List InputLine). ls ++ lines_of (bytes_ahead new)) (sym lines_after)
 
-  text_after : start.taken ++ run_text run_after ≡ old.taken ++ reply_text e.reply
+  text_after : start.taken ++ run_text run_after ≡ old.taken ++ reply_text e.exchange.reply
   text_after =
-      ap (λ (text : List ℕ). start.taken ++ text) (run_text_on s.run exchange)
-      ∙ sym (append_assoc start.taken (run_text s.run) (reply_text e.reply))
-      ∙ ap (λ (text : List ℕ). text ++ reply_text e.reply) (sym s.text)
+      ap (λ (text : List ℕ). start.taken ++ text) (run_text_on s.run e.exchange)
+      ∙ sym (append_assoc start.taken (run_text s.run) (reply_text e.exchange.reply))
+      ∙ ap (λ (text : List ℕ). text ++ reply_text e.exchange.reply) (sym s.text)
 
-  no_quit_after : ¬ IsQuit e.line → NoQuit (run_lines run_after)
-  no_quit_after not_quit = subst NoQuit (sym lines_after) (no_quit_on (run_lines s.run) e.line s.no_quit not_quit)
+  no_quit_after : ¬ IsQuit e.exchange.line → NoQuit (run_lines run_after)
+  no_quit_after not_quit = subst NoQuit (sym lines_after) (no_quit_on (run_lines s.run) e.exchange.line s.no_quit not_quit)
 
   -- behind a newline the bytes used end with a line again
   boundary_after : old.reader.ended ≡ false → new.reader.ended ≡ false → Boundary start.left (bytes_ahead new) (run_lines run_after)
@@ -189,13 +197,13 @@ module _ (first : State) (old_is_at is_at : State → Type 0) (start old new : M
     | inr at_end ↦ absurd (cc (at_end.3, new_goes_on))
   ]
 
-  pub serving_on : ¬ IsQuit e.line → new.taken ≡ old.taken ++ reply_text e.reply → old.faults ≤ new.faults → (new.reader.ended ≡ false → old.reader.ended ≡ false)
-      → new.reader.taken + length new.left ≡ old.reader.taken + length old.left → Serving first is_at start new
+  pub serving_on : ¬ IsQuit e.exchange.line → new.taken ≡ old.taken ++ reply_text e.exchange.reply → old.faults ≤ new.faults → (new.reader.ended ≡ false → old.reader.ended ≡ false)
+      → new.reader.taken + length new.left ≡ old.reader.taken + length old.left → Serving tells first is_at start new
   serving_on not_quit text later stays counted = record {
     run = run_after;
-    state = e.new;
+    state = e.after;
     steps = steps_after;
-    arrives = e.arrives;
+    arrives = carries.on e.exchange e.after e.step e.arrives;
     no_quit = no_quit_after not_quit;
     text = text ∙ sym text_after;
     lines = sym all_lines;
@@ -204,29 +212,29 @@ module _ (first : State) (old_is_at is_at : State → Type 0) (start old new : M
     counts = counts_after later;
   }
 
-  module _ (ends : List Exchange → State → Type 0) (unopened : OpenFault → Type 0) (closes : Closes is_at ends start.faults new.faults) (later : old.faults ≤ new.faults) where
+  module _ (terms : Terms tells) (begins : terms.starts first) (closes : Closes is_at (terms.ends first) start.faults new.faults) (later : old.faults ≤ new.faults) where
     -- the run with this exchange ends so
-    closed : (P : List Exchange → State → Type 0) → P run_after e.new → RunTo (λ state. state ≡ first) ends P
+    closed : (P : List Exchange → State → Type 0) → P run_after e.after → RunTo terms P
     closed P says_so = record {
       first = first;
-      begins = refl;
+      begins = begins;
       run = run_after;
-      last = e.new;
+      last = e.after;
       steps = steps_after;
-      arrives = closes run_after e.new e.arrives (counts_after later);
+      arrives = closes run_after e.after (carries.on e.exchange e.after e.step e.arrives) (counts_after later);
       says = says_so;
     }
 
-    pub serves_quit : (health : Health) → health_of e.new.standing ≡ health → IsQuit e.line → new.taken ≡ old.taken ++ reply_text e.reply
-        → Writes start.taken new.taken (ServesAll (λ state. state ≡ first) ends unopened health start.left)
+    pub serves_quit : (health : Health) → health_at e.after ≡ health → IsQuit e.exchange.line → new.taken ≡ old.taken ++ reply_text e.exchange.reply
+        → Writes start.taken new.taken (ServesAll terms health start.left)
     serves_quit health ends_so is_quit text = (
       run_text run_after,
       text ∙ sym text_after,
-      closed (λ run last. (health_of last.standing ≡ health) × AreUpToQuit (lines_of start.left) (run_lines run) × (run_text run_after ≡ run_text run)) (
+      closed (λ run last. (health_at last ≡ health) × AreUpToQuit (lines_of start.left) (run_lines run) × (run_text run_after ≡ run_text run)) (
         ends_so,
         inr (record {
           before = run_lines s.run;
-          quit = e.line;
+          quit = e.exchange.line;
           later = lines_of (bytes_ahead new);
           no_quit = s.no_quit;
           is_quit = is_quit;
@@ -237,42 +245,42 @@ module _ (first : State) (old_is_at is_at : State → Type 0) (start old new : M
       ),
     )
 
-    pub serves_short : ¬ IsQuit e.line → TakesFront old.taken new.taken (reply_text e.reply) → Writes start.taken new.taken (Serves (λ state. state ≡ first) ends unopened OutputFault start.left new.left)
-    serves_short not_quit front = let written : List ℕ = run_text s.run ++ take front.0 (reply_text e.reply) in (
+    pub serves_short : ¬ IsQuit e.exchange.line → TakesFront old.taken new.taken (reply_text e.exchange.reply) → Writes start.taken new.taken (Serves terms OutputFault start.left new.left)
+    serves_short not_quit front = let written : List ℕ = run_text s.run ++ take front.0 (reply_text e.exchange.reply) in (
       written,
-      front.2 ∙ ap (λ (text : List ℕ). text ++ take front.0 (reply_text e.reply)) s.text ∙ append_assoc start.taken (run_text s.run) (take front.0 (reply_text e.reply)),
+      front.2 ∙ ap (λ (text : List ℕ). text ++ take front.0 (reply_text e.exchange.reply)) s.text ∙ append_assoc start.taken (run_text s.run) (take front.0 (reply_text e.exchange.reply)),
       inl (closed (λ run last. AreFirstOf (lines_of start.left) (run_lines run) × NoQuit (run_lines run) × LacksEnd run written) (
         (lines_of (bytes_ahead new), all_lines),
         no_quit_after not_quit,
-        record { before = s.run; last = exchange; length_of_front = front.0; run_is = refl; short = front.1; text_is = refl },
+        record { before = s.run; last = e.exchange; length_of_prefix = front.0; run_is = refl; short = front.1; text_is = refl },
       )),
     )
 
 -- What is served when the run ends without a line, in a state that the session is still at.
-module _ (first : State) (old_is_at is_at : State → Type 0) (start old new : Moment) (s : Serving first old_is_at start old) (arrives : is_at s.state)
-    (ends : List Exchange → State → Type 0) (unopened : OpenFault → Type 0) (closes : Closes is_at ends start.faults new.faults) (later : old.faults ≤ new.faults) where
+module _ (tells : Type 0) (first : State) (old_is_at is_at : List Exchange → State → Type 0) (comes_to : State → Type 0) (start old new : Progress) (s : Serving tells first old_is_at start old) (carries : Carries tells s.run s.state comes_to is_at) (arrives : comes_to s.state)
+    (terms : Terms tells) (begins : terms.starts first) (closes : Closes is_at (terms.ends first) start.faults new.faults) (later : old.faults ≤ new.faults) where
   -- the run so far ends so
-  closed_here : (P : List Exchange → State → Type 0) → P s.run s.state → RunTo (λ state. state ≡ first) ends P
+  closed_here : (P : List Exchange → State → Type 0) → P s.run s.state → RunTo terms P
   closed_here P says_so = record {
     first = first;
-    begins = refl;
+    begins = begins;
     run = s.run;
     last = s.state;
     steps = s.steps;
-    arrives = closes s.run s.state arrives (counts_within start.faults start.faults old.faults new.faults s.run (omega arith) s.counts later);
+    arrives = closes s.run s.state (carries.stays arrives) (counts_within start.faults start.faults old.faults new.faults s.run (omega arith) s.counts later);
     says = says_so;
   }
 
-  pub serves_end : (health : Health) → health_of s.state.standing ≡ health → bytes_ahead old ≡ [] → new.taken ≡ old.taken
-      → Writes start.taken new.taken (ServesAll (λ state. state ≡ first) ends unopened health start.left)
+  pub serves_end : (health : Health) → health_at s.state ≡ health → bytes_ahead old ≡ [] → new.taken ≡ old.taken
+      → Writes start.taken new.taken (ServesAll terms health start.left)
   serves_end health ends_so none same = let all = sym (append-nil (run_lines s.run)) ∙ ap (λ (bs : List ℕ). run_lines s.run ++ lines_of bs) (sym none) ∙ s.lines in (
     run_text s.run,
     same ∙ s.text,
-    closed_here (λ run last. (health_of last.standing ≡ health) × AreUpToQuit (lines_of start.left) (run_lines run) × (run_text s.run ≡ run_text run))
+    closed_here (λ run last. (health_at last ≡ health) × AreUpToQuit (lines_of start.left) (run_lines run) × (run_text s.run ≡ run_text run))
         (ends_so, inl (subst NoQuit all s.no_quit, all), refl),
   )
 
-  module _ (b : Breaks s.state is_at (bytes_ahead old) (bytes_ahead new) old.faults new.faults old.reader new.reader old.taken new.taken) where
+  module _ (b : Breaks tells s.state comes_to old new) where
     boundary : Boundary start.left (bytes_ahead old) (run_lines s.run)
     boundary = s.boundary b.stops.had_not_ended
 
@@ -297,14 +305,14 @@ module _ (first : State) (old_is_at is_at : State → Type 0) (start old new : M
       no_quit = s.no_quit;
     }
 
-    pub serves_fault : Writes start.taken new.taken (Serves (λ state. state ≡ first) ends unopened InputFault start.left new.left)
+    pub serves_fault : Writes start.taken new.taken (Serves terms InputFault start.left new.left)
     serves_fault = (
       run_text s.run,
       b.output ∙ s.text,
       closed_here (λ run last. ServesEnded start.left new.left run × (run_text s.run ≡ run_text run)) (serves_ended, refl),
     )
 
-    pub serves_too_long : new.reader.taken ≡ 2 ^ 30 → new.reader.taken + length new.left ≡ old.reader.taken + length old.left → Writes start.taken new.taken (Serves (λ state. state ≡ first) ends unopened InputTooLong start.left new.left)
+    pub serves_too_long : new.reader.taken ≡ 2 ^ 30 → new.reader.taken + length new.left ≡ old.reader.taken + length old.left → Writes start.taken new.taken (Serves terms InputTooLong start.left new.left)
     serves_too_long limit counted =
         let all = boundary.used ++ b.drops.piece in
         let size : length start.left ≡ length all + length new.left = ap length input_is_taken ∙ length-append all new.left in (
@@ -314,23 +322,23 @@ module _ (first : State) (old_is_at is_at : State → Type 0) (start old new : M
         )
 
 -- What a turn that ends the run has served.
-module _ (first : State) (old_is_at is_at : State → Type 0) (start old new : Moment) (s : Serving first old_is_at start old)
-    (ends : List Exchange → State → Type 0) (unopened : OpenFault → Type 0) (closes : Closes is_at ends start.faults new.faults) (later : old.faults ≤ new.faults)
+module _ (tells : Type 0) (first : State) (old_is_at is_at : List Exchange → State → Type 0) (comes_to : State → Type 0) (start old new : Progress) (s : Serving tells first old_is_at start old) (carries : Carries tells s.run s.state comes_to is_at)
+    (terms : Terms tells) (begins : terms.starts first) (closes : Closes is_at (terms.ends first) start.faults new.faults) (later : old.faults ≤ new.faults)
     (counted : new.reader.taken + length new.left ≡ old.reader.taken + length old.left) where
-  serves_all : (health : Health) → Ends s.state is_at (bytes_ahead old) (bytes_ahead new) old.faults new.faults old.taken new.taken new.reader.ended health
-      → Writes start.taken new.taken (ServesAll (λ state. state ≡ first) ends unopened health start.left)
-  serves_all health (inl at_end) = serves_end first old_is_at is_at start old new s at_end.2 ends unopened closes later health at_end.1 at_end.0 at_end.3
-  serves_all health (inr quits) = serves_quit first old_is_at is_at start old new s _ quits ends unopened closes later health quits.more.1 quits.more.0 quits.more.2
+  serves_all : (health : Health) → Ends tells s.state comes_to old new health
+      → Writes start.taken new.taken (ServesAll terms health start.left)
+  serves_all health (inl at_end) = serves_end tells first old_is_at is_at comes_to start old new s carries at_end.2 terms begins closes later health at_end.1 at_end.0 at_end.3
+  serves_all health (inr quits) = serves_quit tells first old_is_at is_at comes_to start old new s carries _ quits terms begins closes later health quits.more.1 quits.more.0 quits.more.2
 
-  pub served : (exit : Exit) → TurnSays s.state is_at (bytes_ahead old) (bytes_ahead new) old.faults new.faults old.reader new.reader old.taken new.taken (Some exit)
-      → Writes start.taken new.taken (Serves (λ state. state ≡ first) ends unopened exit start.left new.left)
+  pub served : (exit : Exit) → TurnSays tells s.state comes_to old new (Some exit)
+      → Writes start.taken new.taken (Serves terms exit start.left new.left)
   served Done says = serves_all Live says
   served StoreFailed says = serves_all Failed says
   served Usage says = absurd says
-  served InputFault says = serves_fault first old_is_at is_at start old new s says.arrives ends unopened closes later says
-  served OutputFault says = serves_short first old_is_at is_at start old new s _ says ends unopened closes later says.more.0 says.more.1
+  served InputFault says = serves_fault tells first old_is_at is_at comes_to start old new s carries says.arrives terms begins closes later says
+  served OutputFault says = serves_short tells first old_is_at is_at comes_to start old new s carries _ says terms begins closes later says.more.0 says.more.1
   served NoMemory says = absurd says
   served BadFiles says = absurd says
   served ConfigDiffers says = absurd says
   served DiskFault says = absurd says
-  served InputTooLong says = serves_too_long first old_is_at is_at start old new s says.0.arrives ends unopened closes later says.0 says.1 counted
+  served InputTooLong says = serves_too_long tells first old_is_at is_at comes_to start old new s carries says.0.arrives terms begins closes later says.0 says.1 counted

@@ -1,39 +1,60 @@
 -- What a line's answer says of a turn of the program's loop.
-use Rattle.std.proofs.Common.{◌≡◌, inr, ℕ, List, refl}
+use Rattle.std.proofs.Common.{◌≡◌, inl, inr, [], Some, refl}
+use Rattle.disk_model.specs.declared.disk.Disk.{Ghosts as DiskGhosts}
+use Rattle.disk_model.proofs.Spans.{OnlyNow}
 use Rattle.stream_io.specs.Lines.{InputLine}
 use Rattle.stream_io.specs.Answers.{TakesLine}
-use Rattle.stream_io.specs.Reading.{Reading}
-use Rattle.plain_graph.specs.Reply.{Reply}
-use Rattle.graph_session.specs.Session.{health_of}
-use Rattle.graph_session.specs.State.{State}
-use Rattle.graph_session.specs.Answer.{AnswersLine}
+use Rattle.stream_io.specs.declared.streams.Sink.{Ghosts as SinkGhosts}
+use Rattle.stream_io.specs.declared.streams.Source.{Ghosts as SourceGhosts}
+use Rattle.graph_session.specs.Answer.{Answers, Terminal}
+use Rattle.graph_session.specs.Console.{IsAt, SessionView}
+use Rattle.graph_session.specs.Exchange.{Exchange}
+use Rattle.graph_session.specs.Moments.{ComesTo}
+use Rattle.graph_session.specs.State.{State, health_at}
 use Rattle.graph_session.specs.declared.health.Health.{Health}
 use Rattle.graph_session.specs.declared.health.Health.TheVariants.{Live, Failed}
 use Rattle.graph_session.specs.declared.turn.Turn.{Turn}
 use Rattle.graph_session.specs.declared.turn.Turn.TheVariants.{Go, Quit, SinkFault}
-use Rattle.graph_console.specs.Serving.{Exchanges, TurnSays, exit_after_turn}
+use Rattle.graph_session.proofs.Staying.{comes-stays, stays-none}
+use Rattle.graph_console.specs.Serve.{Exchanges, Loop, Progress, TurnSays, bytes_ahead, exit_after_turn, exit_at_end, progress}
 
-module _ {tells : Type 0} (told : tells) (line : InputLine) (old : State) (is_at : State → Type 0) (reading_old reading_new : Reading) (before after output_old output_new : List ℕ) (faults_before faults_after : ℕ)
-    (takes : TakesLine line before after reading_new.ended) where
+-- the terminal of a loop
+abbrev pub terminal_of : {S K D : Type 0} → Loop S K D → Terminal D K
+terminal_of now = record { session = now.session; output = now.streams.output }
+
+module _ {S K D : Type 0} (source : SourceGhosts S) {sink : SinkGhosts K} {disk : DiskGhosts D} (told : sink.tells) {line : InputLine} {before : State} (old new : Loop S K D)
+    (takes : TakesLine line (bytes_ahead (progress source sink disk old)) (bytes_ahead (progress source sink disk new)) new.reader.ended) where
   -- the answer as an exchange, of which more is said
-  exchange_of : (turn : Turn) (says : State → InputLine → Reply → Type 0) (a : AnswersLine tells line old is_at output_old output_new faults_before faults_after turn)
-      → says a.new line a.reply → Exchanges old is_at before after faults_before faults_after reading_new.ended says
+  exchange_of : (turn : Turn) (says : State → Exchange → Type 0) (a : Answers disk sink line (terminal_of old) (terminal_of new) turn before)
+      → says a.settles.after (record { line = line; disk_failed = a.settles.disk_failed; reply = a.reply })
+      → Exchanges disk.tells_reads before (ComesTo disk old.session new.session before) (progress source sink disk old) (progress source sink disk new) says
   exchange_of turn says a more = record {
-    line = line;
-    rose = a.rose;
-    reply = a.reply;
-    new = a.new;
+    exchange = record { line = line; disk_failed = a.settles.disk_failed; reply = a.reply };
+    after = a.settles.after;
     takes = takes;
-    step = a.step;
-    counted = a.counted;
-    arrives = a.arrives;
+    step = a.settles.step;
+    counted = a.settles.counted;
+    arrives = a.settles.arrives;
     more = more;
   }
 
-  pub says_after : (turn : Turn) (health : Health) → ((state : State) → is_at state → health_of state.standing ≡ health)
-      → AnswersLine tells line old is_at output_old output_new faults_before faults_after turn
-      → TurnSays old is_at before after faults_before faults_after reading_old reading_new output_old output_new (exit_after_turn turn health)
-  says_after Go health is a = exchange_of Go _ a (λ is_quit. absurd (cc (a.quit.1 is_quit)), a.text told)
-  says_after Quit Live is a = inr (exchange_of Quit _ a (a.quit.0 refl, is a.new a.arrives, a.text told))
-  says_after Quit Failed is a = inr (exchange_of Quit _ a (a.quit.0 refl, is a.new a.arrives, a.text told))
-  says_after SinkFault health is a = exchange_of SinkFault _ a (λ is_quit. absurd (cc (a.quit.1 is_quit)), a.text told)
+  pub says_after : (turn : Turn) → Answers disk sink line (terminal_of old) (terminal_of new) turn before
+      → TurnSays disk.tells_reads before (ComesTo disk old.session new.session before) (progress source sink disk old) (progress source sink disk new) (exit_after_turn turn new.session.console.health)
+  says_after turn a = by turn new.session.console.health a a.settles.arrives.is_at.health
+    where
+      by : (t : Turn) (health : Health) (answer : Answers disk sink line (terminal_of old) (terminal_of new) t before) → health ≡ health_at answer.settles.after
+          → TurnSays disk.tells_reads before (ComesTo disk old.session new.session before) (progress source sink disk old) (progress source sink disk new) (exit_after_turn t health)
+      by Go health answer is = exchange_of Go _ answer (λ is_quit. absurd (cc (answer.quit.1 is_quit)), answer.text told)
+      by Quit Live answer is = inr (exchange_of Quit _ answer (answer.quit.0 refl, cc, answer.text told))
+      by Quit Failed answer is = inr (exchange_of Quit _ answer (answer.quit.0 refl, cc, answer.text told))
+      by SinkFault health answer is = exchange_of SinkFault _ answer (λ is_quit. absurd (cc (answer.quit.1 is_quit)), answer.text told)
+
+-- a session that is not called stays at its state
+pub comes_none : {D : Type 0} (disk : DiskGhosts D) → OnlyNow disk → (session : SessionView D) (state : State) → IsAt disk session state → ComesTo disk session session state state
+comes_none disk only session state is_at = comes-stays is_at (stays-none {g = disk} only session is_at.no_draft)
+
+-- at the end of the input the run ends in the session's health
+pub says_at_end : (tells : Type 0) (before : State) (comes_to : State → Type 0) (old new : Progress) (health : Health) → bytes_ahead old ≡ [] → health ≡ health_at before → comes_to before → new.taken ≡ old.taken
+    → TurnSays tells before comes_to old new (Some (exit_at_end health))
+says_at_end tells before comes_to old new Live none is at same = inl (none, cc, at, same)
+says_at_end tells before comes_to old new Failed none is at same = inl (none, cc, at, same)

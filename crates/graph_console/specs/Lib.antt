@@ -1,5 +1,5 @@
 pub mod Exit
-pub mod Main
-pub mod Opening
+pub mod Program
 pub mod Run
-pub mod Serving
+pub mod Serve
+pub mod Unopened

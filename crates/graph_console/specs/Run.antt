@@ -1,20 +1,34 @@
 -- Runs of the console: one step after another.
-use Rattle.std.specs.Prelude.{◌≡◌, ◌⊎◌, ℕ, ◌+◌, ◌≤◌, Bool, if◌then◌else◌, List, [], ◌∷◌, ◌++◌, map, flat_map, length, take}
+use Rattle.std.specs.Prelude.{◌≡◌, ◌⊎◌, ℕ, ◌+◌, ◌-◌, ◌^◌, ◌≤◌, List, [], ◌∷◌, ◌++◌, map, flat_map, length, take}
 use Rattle.std.specs.List.{AllByRecursion}
+use Rattle.disk_model.specs.Contents.{Files}
 use Rattle.stream_io.specs.Lines.{InputLine}
-use Rattle.plain_graph.specs.Reply.{Reply, reply_text}
+use Rattle.plain_graph.specs.Reply.{reply_text}
+use Rattle.graph_session.specs.Exchange.{Exchange, TakesStep, told_fault}
+use Rattle.graph_session.specs.Stands.{IsAdmitted}
 use Rattle.graph_session.specs.State.{State, IsQuit}
-use Rattle.graph_session.specs.Console.{Step}
 
--- a line, whether the disk failed in it, and the reply
-pub record Exchange : Type 0 where
-  pub line : InputLine
-  pub rose : Bool
-  pub reply : Reply
+-- one step for each exchange, from the first state to the last; what a step does is said where the
+-- disk tells what it reads
+abbrev pub Run : Type 0 → State → List Exchange → State → Type 0
+Run tells first [] last = last ≡ first
+Run tells first (exchange ∷ later) last =
+    (next : State) × TakesStep tells first exchange next × Run tells next later last
 
-abbrev pub Run : State → List Exchange → State → Type 0
-Run first [] last = last ≡ first
-Run first (exchange ∷ later) last = (next : State) × Step first exchange.line exchange.rose exchange.reply next × Run next later last
+-- The run comes by this state. Its exchanges up to some place lead to it, and the others lead from
+-- it to the last.
+pub record ComesBy (tells : Type 0) (first : State) (run : List Exchange) (last state : State)
+    : Type 0 where
+  pub before : List Exchange
+  pub later : List Exchange
+  pub run_is : run ≡ before ++ later
+  pub leads : Run tells first before state
+  pub goes_on : Run tells state later last
+
+-- the content stands for a graph that is admitted before or after a line of the run
+abbrev pub IsAdmittedInRun : Type 0 → State → List Exchange → State → Files → Type 0
+IsAdmittedInRun tells first run last content =
+    (state : State) × ComesBy tells first run last state × IsAdmitted state content
 
 abbrev pub run_lines : List Exchange → List InputLine
 run_lines run = map (λ exchange. exchange.line) run
@@ -22,10 +36,14 @@ run_lines run = map (λ exchange. exchange.line) run
 abbrev pub run_text : List Exchange → List ℕ
 run_text run = flat_map (λ exchange. reply_text exchange.reply) run
 
--- in how many lines the disk failed
-abbrev pub rises : List Exchange → ℕ
-rises [] = 0
-rises (exchange ∷ later) = (if exchange.rose then 1 else 0) + rises later
+-- how many replies say that the disk failed
+abbrev pub told_faults : List Exchange → ℕ
+told_faults [] = 0
+told_faults (exchange ∷ later) = told_fault exchange.reply + told_faults later
+
+-- The disk's count rose by as many faults as replies say at least, or has come to its last value.
+abbrev pub CountsRises : ℕ → ℕ → List Exchange → Type 0
+CountsRises before after run = (told_faults run + before ≤ after) ⊎ (2 ^ 64 - 1 ≤ after)
 
 -- none of the lines is quit
 abbrev pub NoQuit : List InputLine → Type 0
@@ -49,11 +67,11 @@ AreUpToQuit lines done = (NoQuit lines × (done ≡ lines)) ⊎ EndsWithQuit lin
 abbrev pub AreFirstOf : List InputLine → List InputLine → Type 0
 AreFirstOf lines done = (later : List InputLine) × (lines ≡ done ++ later)
 
--- all replies of the run but the last, and a front of the last
+-- all replies of the run but the last, and a prefix of the last
 pub record LacksEnd (run : List Exchange) (text : List ℕ) : Type 0 where
   pub before : List Exchange
   pub last : Exchange
-  pub length_of_front : ℕ
+  pub length_of_prefix : ℕ
   pub run_is : run ≡ before ++ last ∷ []
-  pub short : length_of_front ≤ length (reply_text last.reply)
-  pub text_is : text ≡ run_text before ++ take length_of_front (reply_text last.reply)
+  pub short : length_of_prefix ≤ length (reply_text last.reply)
+  pub text_is : text ≡ run_text before ++ take length_of_prefix (reply_text last.reply)

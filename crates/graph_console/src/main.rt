@@ -33,7 +33,7 @@ fn main(rt: HostRuntime) -> ExitCode {
     let mut disk = FileDisk::new(rt);
     let exit = match words {
         Ok(words) => graph_main(alloc, words, &mut input, &mut output, &mut disk),
-        Err(AllocError) => program::no_memory(&mut output),
+        Err(AllocError) => program::end_without_memory(&mut output),
     };
     ExitCode::from(exit.code())
 }

@@ -1,11 +1,10 @@
-ghost use Rattle.std.specs.Prelude.{◌≡◌, ◌≢◌, ◌⊎◌, ◌+◌, ◌^◌, ◌<◌, ◌≤◌, false, length, IfNone, Some};
-ghost use Rattle.fault_count.specs.Cause.{Rose};
-ghost use Rattle.stream_io.specs.Reading.{IsFresh, ahead, used};
-ghost use Rattle.graph_session.specs.Session.{FailsBy, IsAt};
+ghost use Rattle.std.specs.Prelude.{◌≡◌, ◌+◌, ◌^◌, ◌<◌, ◌≤◌, false, length, IfNone, IfSome};
+ghost use Rattle.stream_io.specs.Reading.{IsFresh, used};
+ghost use Rattle.graph_session.specs.Console.{IsAt, Onward};
+ghost use Rattle.graph_session.specs.Session.{HaveSameDisk, view};
 ghost use Rattle.graph_session.specs.State.{State};
-ghost use Rattle.graph_session.specs.declared.health.Health.TheVariants as healths;
-ghost use Rattle.graph_console.specs.Main.{EndsAs, Serves, Writes};
-ghost use Rattle.graph_console.specs.Serving.{TurnSays, exit_after_turn, exit_at_end};
+ghost use Rattle.graph_console.specs.Program.{HasStreamCause, ServesOn, streams, terms_from};
+ghost use Rattle.graph_console.specs.Serve.{IsRunExit, Turns, exit_after_turn, exit_at_end, loop};
 
 use crate::Exit;
 use disk_model::Disk;
@@ -20,15 +19,14 @@ pub(crate) fn serve<S: Source, K: Sink, D: Disk>(
     output: &mut K,
 ) -> Exit
     requires fresh { IsFresh reader.old }
-    ensures serves { (first : State) → IsAt (D.tells_reads × D.tells_images) (D.may_leave session.old.disk.now) session.old.console first → S.tells → K.tells
-        → Writes (K.taken output.old) (K.taken output.new)
-        (Serves (λ state. state ≡ first) (EndsAs (D.tells_reads × D.tells_images) (D.may_leave session.new.disk.now) (D.faults session.old.disk.now) (D.faults session.new.disk.now)) (λ why. ⊥)
-        result (S.left input.old) (S.left input.new)) }
-    ensures same_disk { session.new.disk.ghost_name ≡ session.old.disk.ghost_name }
-    ensures exits { (result ≢ Exit.Usage) × (result ≢ Exit.NoMemory) × (result ≢ Exit.BadFiles) × (result ≢ Exit.ConfigDiffers) × (result ≢ Exit.DiskFault) }
-    ensures input_fault { result ≡ Exit.InputFault → Rose (S.faults input.old) (S.faults input.new) }
-    ensures output_fault { result ≡ Exit.OutputFault → Rose (K.faults output.old) (K.faults output.new) }
-    ensures store_failed { result ≡ Exit.StoreFailed → (session.old.console.health ≡ healths.Failed) ⊎ Rose (D.faults session.old.disk.now) (D.faults session.new.disk.now) }
+    ensures serves { (first : State) → IsAt D.Disk (view session.old) first
+        → ServesOn S.Source K.Sink
+        (terms_from D.Disk first (view session.old).disk (view session.new).disk) result
+        (streams input.old output.old) (streams input.new output.new) }
+    ensures exits { IsRunExit result }
+    ensures cause { HasStreamCause S.Source K.Sink result
+        (streams input.old output.old) (streams input.new output.new) }
+    ensures same_disk { HaveSameDisk session.old session.new }
 {
     'lines: loop {
         if let Some(exit) = serve_line(reader, session, input, output) {
@@ -44,51 +42,51 @@ fn serve_line<S: Source, K: Sink, D: Disk>(
     input: &mut S,
     output: &mut K,
 ) -> Option<Exit>
-    ensures says { (state : State) → IsAt (D.tells_reads × D.tells_images) (D.may_leave session.old.disk.now) session.old.console state → S.tells → K.tells
-        → TurnSays state (IsAt (D.tells_reads × D.tells_images) (D.may_leave session.new.disk.now) session.new.console)
-        (ahead reader.old (S.left input.old)) (ahead reader.new (S.left input.new)) (D.faults session.old.disk.now) (D.faults session.new.disk.now)
-        reader.old reader.new (K.taken output.old) (K.taken output.new) result }
-    ensures counted { S.tells → reader.new.taken + length (S.left input.new) ≡ reader.old.taken + length (S.left input.old) }
+    ensures turns { Turns S.Source K.Sink D.Disk result
+        (loop reader.old input.old output.old (view session.old))
+        (loop reader.new input.new output.new (view session.new)) }
+    ensures counted { S.tells → reader.new.taken + length (S.left input.new)
+        ≡ reader.old.taken + length (S.left input.old) }
     ensures stays_ended { reader.new.ended ≡ false → reader.old.ended ≡ false }
-    ensures goes_on { IfNone result ((used reader.old < used reader.new) × (used reader.new ≤ 2 ^ 30)) }
-    ensures same_disk { session.new.disk.ghost_name ≡ session.old.disk.ghost_name }
-    ensures exits { (result ≢ Some Exit.Usage) × (result ≢ Some Exit.NoMemory) × (result ≢ Some Exit.BadFiles) × (result ≢ Some Exit.ConfigDiffers) × (result ≢ Some Exit.DiskFault) }
-    ensures input_fault { result ≡ Some Exit.InputFault → Rose (S.faults input.old) (S.faults input.new) }
-    ensures output_fault { result ≡ Some Exit.OutputFault → Rose (K.faults output.old) (K.faults output.new) }
+    ensures goes_on { IfNone result
+        ((used reader.old < used reader.new) × (used reader.new ≤ 2 ^ 30)) }
+    ensures exits { IfSome result IsRunExit }
+    ensures cause { IfSome result (λ exit.
+        HasStreamCause S.Source K.Sink exit
+        (streams input.old output.old) (streams input.new output.new)) }
     ensures input_later { S.faults input.old ≤ S.faults input.new }
     ensures output_later { K.faults output.old ≤ K.faults output.new }
-    ensures disk_later { D.faults session.old.disk.now ≤ D.faults session.new.disk.now }
-    ensures fails { FailsBy session.old.console.health session.new.console.health (D.faults session.old.disk.now) (D.faults session.new.disk.now) }
-    ensures store_failed { result ≡ Some Exit.StoreFailed → session.new.console.health ≡ healths.Failed }
+    ensures onward { Onward D.Disk (view session.old) (view session.new) }
+    ensures same_disk { HaveSameDisk session.old session.new }
 {
     match reader.next(input) {
         LineAnswer::Line(line) => {
             let turn = session.step(line, output);
-            exit_after(turn, session.health())
+            exit_after_turn(turn, session.health())
         }
         LineAnswer::TooLong => {
             let turn = session.too_long(output);
-            exit_after(turn, session.health())
+            exit_after_turn(turn, session.health())
         }
-        LineAnswer::End => Some(at_end(session.health())),
+        LineAnswer::End => Some(exit_at_end(session.health())),
         LineAnswer::SourceFault => Some(Exit::InputFault),
         LineAnswer::Exhausted => Some(Exit::InputTooLong),
     }
 }
 
 /// How the program ends with this turn, if it does.
-fn exit_after(turn: Turn, health: Health) -> Option<Exit>
+fn exit_after_turn(turn: Turn, health: Health) -> Option<Exit>
     ensures { result ≡ exit_after_turn turn health }
 {
     match turn {
         Turn::Go => None,
-        Turn::Quit => Some(at_end(health)),
+        Turn::Quit => Some(exit_at_end(health)),
         Turn::SinkFault => Some(Exit::OutputFault),
     }
 }
 
 /// How the program ends where the run has come to its end.
-fn at_end(health: Health) -> Exit
+fn exit_at_end(health: Health) -> Exit
     ensures { result ≡ exit_at_end health }
 {
     match health {

@@ -1,4 +1,6 @@
 //! Whole runs of the program over a source, a sink and a disk in memory.
+mod rows;
+mod stops;
 mod stored;
 
 use crate::{Exit, graph_main};
@@ -17,6 +19,13 @@ struct Streams {
     failing_put: u64,
 }
 
+/// Lines in pieces of 16 bytes, and no failure.
+const PLAIN: Streams = Streams {
+    piece: 16,
+    failing_read: 0,
+    failing_put: 0,
+};
+
 /// How a run ended, and what it wrote.
 #[derive(Drop)]
 struct Ended {
@@ -24,7 +33,7 @@ struct Ended {
     output: Page,
 }
 
-const ROOM: usize = 4_096;
+const ROOM: usize = 131_072;
 
 fn words_of(alloc: Global, words: &[&str]) -> Result<Vec<String>, AllocError> {
     let mut all = Vec::new(alloc);
@@ -82,15 +91,6 @@ fn long_label(alloc: Global, len: usize) -> Result<Vec<u8>, AllocError> {
         line.push(b'x')?;
     }
     Ok(line)
-}
-
-/// `node a` so many times.
-fn many_nodes(alloc: Global, count: usize) -> Result<Vec<u8>, AllocError> {
-    let mut lines = Vec::new(alloc);
-    for _ in 0..count {
-        lines.extend_from_slice(b"node a\n")?;
-    }
-    Ok(lines)
 }
 
 /// The input gives the output, in whatever pieces it comes.
@@ -184,43 +184,6 @@ fn long_lines_and_labels_have_their_limits(rt: HostRuntime) -> Result<(), Fail> 
     for len in [49, 8_180] {
         let line = long_label(alloc, len)?;
         check(&rt, alloc, &line, b"error name length 5\n")?;
-    }
-    Ok(())
-}
-
-/// The run with these words gives the output.
-fn check_words(
-    rt: &impl Abort,
-    alloc: Global,
-    words: &[&str],
-    input: &[u8],
-    want: &[u8],
-) -> Result<(), AllocError> {
-    let streams = Streams {
-        piece: 16,
-        failing_read: 0,
-        failing_put: 0,
-    };
-    let ended = run_with(rt, alloc, words, input, &streams)?;
-    assert_eq!(rt; ended.exit, Exit::Done, "words {words:?}");
-    assert_eq!(rt; ended.output.taken(), want, "words {words:?}");
-    Ok(())
-}
-
-#[test]
-fn a_full_graph_refuses_nodes(rt: HostRuntime) -> Result<(), Fail> {
-    let alloc = rt.alloc();
-    let mut input = many_nodes(alloc, 17)?;
-    input.extend_from_slice(b"node b\ng.V().count()\n")?;
-    let want: &[u8] =
-        b"node 0\nnode 1\nnode 2\nnode 3\nnode 4\nnode 5\nnode 6\nnode 7\nnode 8\nnode 9\nnode 10\nnode 11\nnode 12\nnode 13\nnode 14\nnode 15\nerror full nodes\nerror full nodes\n==>16\nend\n";
-    let words: [&[&str]; 3] = [
-        &["nipakeel", "run", "--limit", "16"],
-        &["nipakeel", "run", "--limit=16", "--threshold=200"],
-        &["nipakeel", "run", "--threshold", "2", "--limit", "+016"],
-    ];
-    for words in words {
-        check_words(&rt, alloc, words, &input, want)?;
     }
     Ok(())
 }

@@ -1,141 +1,82 @@
--- What the log in memory says of the state that a console is at, and the states that follow.
-use Rattle.std.proofs.Common.{◌≡◌, ◌≢◌, ◌⊎◌, ℕ, ◌<◌, ◌≤◌, List, [], ◌∷◌, length, Contains, inl, inr, refl, sym, ap, subst, ◌∙◌, arith}
-use Rattle.disk_model.specs.Contents.{Files}
-use Rattle.stream_io.specs.Lines.{Whole}
+-- What a live session holds.
+use Rattle.std.proofs.Common.{◌≡◌, ◌⊎◌, ◌∙◌, ◌<◌, ◌≤◌, ℕ, Bool, true, false, nat_eq, Some, None, List, ◌++◌, Contains, length, take, inl, inr, ⊎_elim, true≢false, refl, sym, ap, arith}
+use Rattle.std.specs.Cmp.Lexicographic.{pointwise, same_text}
+use Rattle.std.specs.List.{list_any}
+use Rattle.std.proofs.lemmas.Bool.{cases_lt}
+use Rattle.std.proofs.lemmas.Cmp.{nat_list_eq_equiv}
+use Rattle.std.proofs.lemmas.Map.Views.{Contains-from_any, list_any-from_Contains}
+use Rattle.std.proofs.Math.Seq.{take-append_seam}
+use Rattle.disk_model.specs.declared.disk.Disk.{Ghosts}
 use Rattle.plain_graph.specs.Graph.{Graph}
-use Rattle.plain_graph.specs.declared.command.Command.TheVariants as commands
-use Rattle.plain_graph.specs.Meaning.{after_steps, meaning}
-use Rattle.plain_graph.specs.declared.query.Query.{Query}
-use Rattle.plain_graph.specs.declared.refusal.Refusal.TheVariants as refusals
-use Rattle.node_log.specs.Adding as adding
-use Rattle.node_log.specs.Adding.{Adds, HasRoomFor, IsInDoubt, Log, NeedsRecords}
-use Rattle.node_log.specs.Stands.{IsKept}
-use Rattle.node_log.specs.Table.{graph_of}
-use Rattle.graph_session.specs.Console.{LeavesOpen, Makes}
-use Rattle.graph_session.specs.Numbers.{vertices_below}
-use Rattle.graph_session.specs.Refusals.{FitsLog, IsAccepted, IsRefused, SpellsOnly}
-use Rattle.graph_session.specs.Session.{Held, IsAt, IsStoredAs, health_of}
-use Rattle.graph_session.specs.State.{State, Standing, Live, Failed, IsFailed}
+use Rattle.rec_bytes.specs.Format.{most_names, names_file}
+use Rattle.rec_bytes.specs.declared.key.Key.{Key}
+use Rattle.rec_bytes.specs.declared.record.Rec.{Rec}
+use Rattle.rec_bytes.specs.declared.shape.Shape.{Shape}
+use Rattle.store_rules.specs.Graph.{graph_of, names_of}
+use Rattle.store_rules.specs.Rules.{IsNodeStore}
+use Rattle.store_rules.specs.Views.{high, rec_at, text_of}
+use Rattle.store_rules.proofs.NameRows.{length-rows}
+use Rattle.graph_session.specs.Console.{HoldsGraphs, IsAt, SessionView}
+use Rattle.graph_session.specs.State.{State, Transaction, seen, seen_by}
 use Rattle.graph_session.specs.declared.health.Health.TheVariants as healths
-use Rattle.graph_session.proofs.Adding.{AddsNode-some, AddsNode-only}
-use Rattle.graph_session.proofs.Conditions.{node-accepted, nodes-refused, names-refused, log-refused}
-use Rattle.graph_session.proofs.Nodes.{length-nodes_from, meaning_is}
+use Rattle.graph_session.proofs.Stands.{IsOneOf, own-one}
+use Rattle.graph_session.proofs.States.{is_live}
 
--- a console whose health is live stands so
-standing_live : (standing : Standing) → healths.Live ≡ health_of standing → standing ≡ Live
-standing_live Live e = refl
-standing_live (Failed graphs) e = cc
+-- a line sees the committed graph, or that of the open transaction
+pub seen_closed : (state : State) → state.open_one ≡ None → seen state ≡ state.committed
+seen_closed state none = ap (seen_by state.committed) none
 
-standing_failed : (standing : Standing) → healths.Failed ≡ health_of standing → IsFailed standing
-standing_failed Live e = cc
-standing_failed (Failed graphs) e = tt
+pub seen_open : (state : State) (transaction : Transaction) → state.open_one ≡ Some transaction → seen state ≡ transaction.graph
+seen_open state transaction is = ap (seen_by state.committed) is
 
-live-not_failed : (standing : Standing) → standing ≡ Live → ¬ IsFailed standing
-live-not_failed Live e failed = failed
-live-not_failed (Failed graphs) e failed = cc
+-- as many names as were given out
+pub length-names : (records : Key → Rec) → length (names_of records) ≡ high records names_file
+length-names records = length-rows (λ x. text_of (rec_at records names_file x)) (high records names_file)
 
-module _ (tells : Type 0) (images : Files → Type 0) (held : Held) (state : State) (at : IsAt tells images held state) where
-  pub is_failed : held.health ≡ healths.Failed → IsFailed state.standing
-  is_failed e = standing_failed state.standing (sym e ∙ at.health)
+-- at most as many as a store may have
+pub names-few : (records : Key → Rec) (shape : Shape) → IsNodeStore records shape → length (names_of records) ≤ most_names
+names-few records shape store =
+    let most : high records names_file ≤ most_names = (store.well.ranges.metas names_file refl).high in
+    let count = length-names records in
+    omega (arith, most, count)
 
-  is_live : held.health ≡ healths.Live → state.standing ≡ Live
-  is_live e = standing_live state.standing (sym e ∙ at.health)
+-- a name is known or new
+pub known_or_new : (names : List (List ℕ)) (name : List ℕ) → Contains names name ⊎ (¬ Contains names name)
+known_or_new names name = by (list_any (pointwise nat_eq name) names) refl
+  where
+    by : (known : Bool) → list_any (pointwise nat_eq name) names ≡ known → Contains names name ⊎ (¬ Contains names name)
+    by true e = inl (Contains-from_any (λ x y h. same_text x y (sym h)) name names e)
+    by false e = inr (λ h. absurd (true≢false (sym (list_any-from_Contains nat_list_eq_equiv name names h) ∙ e)))
 
-  pub not_failed : held.health ≡ healths.Live → ¬ IsFailed state.standing
-  not_failed e = live-not_failed state.standing (is_live e)
+-- a name has room where it is known, or there are fewer than there may be
+pub name-room : (names : List (List ℕ)) (name : List ℕ) → length names ≤ most_names → (length names ≡ most_names → (¬ Contains names name) → ⊥) → Contains names name ⊎ (length names < most_names)
+name-room names name few full = ⊎_elim
+    (λ (known : Contains names name). inl known)
+    (λ (new : ¬ Contains names name). ⊎_elim (λ (lt : length names < most_names). inr lt) (λ (ge : most_names ≤ length names). absurd (full (omega (arith, few, ge)) new)) (cases_lt (length names) most_names))
+    (known_or_new names name)
 
-  -- a live console's images have the entries of its log
-  is_kept : held.health ≡ healths.Live → tells → IsKept images held.log.shape held.log.table held.log.tail
-  is_kept e told = subst (IsStoredAs images held.log) (is_live e) (at.stored told)
+-- names that were brought are cut
+pub take-brought : {E : Type 0} (names more : List E) (count : ℕ) → count ≡ length names → take count (names ++ more) ≡ names
+take-brought names more count same = ap (λ n. take n (names ++ more)) same ∙ take-append_seam names more
 
-  length-nodes : length state.graph.nodes ≡ length held.log.table.labels
-  length-nodes = ap (λ (graph : Graph). length graph.nodes) at.graph ∙ length-nodes_from held.log.table.names 0 held.log.table.labels
+module _ {D : Type 0} {g : Ghosts D} {session : SessionView D} {state : State} (at : IsAt g session state) (live : session.console.health ≡ healths.Live) (told : g.tells_reads) where
+  pub held : HoldsGraphs session.console state
+  held = at.holds told (is_live at live)
 
-  names_are : state.graph.names ≡ held.log.table.names
-  names_are = ap (λ (graph : Graph). graph.names) at.graph
+  -- the records of the last commit
+  pub committed-one : IsOneOf state session.console.committed
+  committed-one = own-one state session.console.committed (is_live at live) held.committed held.committed_graph
 
-  -- the results of a query, by the number of labels
-  pub meaning-state : (query : Query) → after_steps query.steps (vertices_below (length held.log.table.labels)) ≡ meaning state.graph query
-  meaning-state query = meaning_is held.log.table query ∙ ap (λ (graph : Graph). meaning graph query) (sym at.graph)
+  -- those of the open transaction
+  pub working-open : (transaction : Transaction) → state.open_one ≡ Some transaction → graph_of session.console.working ≡ transaction.graph
+  working-open transaction is = held.working_graph ∙ seen_open state transaction is
 
-  -- the state takes a node where the log does
-  nodes_free : (label : List ℕ) → HasRoomFor held.log label → length state.graph.nodes ≢ state.shape.limit
-  nodes_free label room = rw (length-nodes, at.shape) room.0
+  -- the names in memory are those of the records
+  pub names-working : session.console.names ≡ names_of session.console.working
+  names-working = held.names ∙ ap (λ (graph : Graph). graph.names) (sym held.working_graph)
 
-  names_free : (label : List ℕ) → HasRoomFor held.log label → Contains state.graph.names label ⊎ (length state.graph.names < 4096)
-  names_free label room = rw names_are room.1
-
-  fits-log : (label : List ℕ) → adding.FitsLog held.log label → FitsLog state label
-  fits-log label h = rw (names_are, at.log) h
-
-  log-fits : (label : List ℕ) → FitsLog state label → adding.FitsLog held.log label
-  log-fits label h = rw (names_are, at.log) at h
-
-  -- a line that spells a node, where the disk has not failed
-  module _ (live : held.health ≡ healths.Live) (line label : List ℕ) (only : SpellsOnly line (commands.Node label)) where
-    pub room-accepted : HasRoomFor held.log label → adding.FitsLog held.log label → IsAccepted state (Whole line)
-    room-accepted room fits = node-accepted state line label only (not_failed live) (nodes_free label room) (names_free label room) (fits-log label fits)
-
-    pub full_nodes-refused : length held.log.table.labels ≡ held.log.shape.limit → IsRefused state (Whole line) refusals.FullNodes
-    full_nodes-refused full = nodes-refused state line label only (not_failed live) (rw (length-nodes, at.shape) full)
-
-    pub full_names-refused : length held.log.table.labels ≢ held.log.shape.limit → ¬ Contains held.log.table.names label → 4096 ≤ length held.log.table.names → IsRefused state (Whole line) refusals.FullNames
-    full_names-refused room new full = names-refused state line label only (not_failed live) (rw (length-nodes, at.shape) room) (rw names_are new) (rw names_are full)
-
-    pub full_log-refused : HasRoomFor held.log label → ¬ adding.FitsLog held.log label → IsRefused state (Whole line) refusals.FullLog
-    full_log-refused room full = log-refused state line label only (not_failed live) (nodes_free label room) (names_free label room) (λ fits. full (log-fits label fits))
-
-  -- the state after a node is added
-  abbrev pub state-adds : Log → State
-  state-adds new = record state { graph = graph_of new.table; log = new.tail }
-
-  pub Makes-adds : (label : List ℕ) (id : ℕ) (new : Log) → Adds held.log label id new → Makes state label id (state-adds new)
-  Makes-adds label id new adds = record {
-    graph = rw at.graph adds.adds;
-    records = adds.count;
-    needs = rw names_are adds.records;
-    log = rw at.log adds.tail;
-    shape = refl;
-    standing = refl;
-  }
-
-  pub IsAt-adds : (label : List ℕ) (id : ℕ) (new : Log) (after : Files → Type 0) → held.health ≡ healths.Live → Adds held.log label id new
-      → (tells → IsKept images held.log.shape held.log.table held.log.tail → IsKept after new.shape new.table new.tail) → IsAt tells after (record held { log = new }) (state-adds new)
-  IsAt-adds label id new after live adds kept = record {
-    shape = at.shape ∙ sym adds.shape;
-    graph = refl;
-    log = refl;
-    health = at.health;
-    stored = λ told. subst (IsStoredAs after new) (sym (is_live live)) (kept told (is_kept live told));
-  }
-
-  -- the graph that the disk may hold beside the state's
-  abbrev pub next_graph : List ℕ → Graph
-  next_graph label = (AddsNode-some state.graph label).0
-
-  -- the state after the disk failed while a node was added
-  abbrev pub state-fault : List ℕ → State
-  state-fault label = record state { standing = Failed (state.graph ∷ next_graph label ∷ []) }
-
-  pub LeavesOpen-fault : (label : List ℕ) → LeavesOpen state label (state-fault label)
-  LeavesOpen-fault label = record { next = next_graph label; adds = (AddsNode-some state.graph label).1; is = refl }
-
-  -- that graph is the one that the log leaves in doubt
-  next_is : (label : List ℕ) (after : Files → Type 0) (doubt : IsInDoubt after held.log label) → graph_of doubt.next ≡ next_graph label
-  next_is label after doubt =
-      AddsNode-only state.graph label (length held.log.table.labels) (length state.graph.nodes) (graph_of doubt.next) (next_graph label) (rw at.graph doubt.adds) (AddsNode-some state.graph label).1
-
-  pub IsAt-fault : (label : List ℕ) (after : Files → Type 0) → held.health ≡ healths.Live → (tells → IsKept images held.log.shape held.log.table held.log.tail → IsInDoubt after held.log label)
-      → IsAt tells after (record held { health = healths.Failed }) (state-fault label)
-  IsAt-fault label after live doubt = record {
-    shape = at.shape;
-    graph = at.graph;
-    log = at.log;
-    health = refl;
-    stored = λ told image leaves.
-        let either = doubt told (is_kept live told) in
-        elim (either.left image leaves) [
-          | inl old ↦ (state.graph, (0, omega arith, refl), rw at.graph old)
-          | inr new ↦ (next_graph label, (1, omega arith, refl), rw (← next_is label after either) new)
-        ];
-  }
+  -- as many names as the last commit had
+  pub names-cut : take (high session.console.committed names_file) session.console.names ≡ state.committed.names
+  names-cut =
+      let count : high session.console.committed names_file ≡ length state.committed.names = sym (length-names session.console.committed) ∙ ap (λ (graph : Graph). length graph.names) held.committed_graph in
+      ap (take (high session.console.committed names_file)) held.brought.1 ∙ take-brought state.committed.names held.brought.0 (high session.console.committed names_file) count

@@ -1,28 +1,55 @@
--- What one call of the session did.
-use Rattle.std.specs.Prelude.{◌≡◌, ◌↔◌, ℕ, Bool, true, List, ◌++◌}
+-- How a session answers one line.
+use Rattle.std.specs.Prelude.{◌≡◌, ◌≢◌, ◌↔◌, ℕ, ◌≤◌, Bool, true, List, ◌++◌}
 use Rattle.fault_count.specs.Cause.{Rose}
+use Rattle.disk_model.specs.declared.disk.Disk.{Ghosts as DiskGhosts}
 use Rattle.stream_io.specs.Lines.{InputLine}
 use Rattle.stream_io.specs.Streams.{TakesFront}
+use Rattle.stream_io.specs.declared.streams.Sink.{Ghosts as SinkGhosts}
 use Rattle.plain_graph.specs.Reply.{Reply, reply_text}
+use Rattle.graph_session.specs.Console.{IsAt, Onward, SessionView}
+use Rattle.graph_session.specs.Exchange.{TakesStep}
+use Rattle.graph_session.specs.Moments.{ComesTo}
 use Rattle.graph_session.specs.State.{State, IsQuit}
-use Rattle.graph_session.specs.Console.{Step}
 use Rattle.graph_session.specs.declared.turn.Turn.{Turn}
 use Rattle.graph_session.specs.declared.turn.Turn.TheVariants.{Go, Quit, SinkFault}
 
--- the sink took the whole text, or failed and took a front of it
+-- the sink took the whole text, or failed and took a prefix of it
 abbrev pub Delivers : Turn → List ℕ → List ℕ → List ℕ → Type 0
 Delivers Go before after text = after ≡ before ++ text
 Delivers Quit before after text = after ≡ before ++ text
 Delivers SinkFault before after text = TakesFront before after text
 
--- One step of the console, with its reply given to the sink where that tells what it takes, to a state that the session is
--- at. Only quit ends the run. The disk counted a fault where the step says that it failed.
-pub record AnswersLine (tells : Type 0) (line : InputLine) (old : State) (is_at : State → Type 0) (before after : List ℕ) (faults_before faults_after : ℕ) (turn : Turn) : Type 0 where
-  pub new : State
-  pub arrives : is_at new
-  pub rose : Bool
-  pub counted : rose ≡ true → Rose faults_before faults_after
+-- The text was given to the sink. A failure is told only where the sink's count of faults rose.
+pub record Gives {K : Type 0} (sink : SinkGhosts K) (text : List ℕ) (old new : K) (turn : Turn) : Type 0 where
+  pub delivers : sink.tells → Delivers turn (sink.taken old) (sink.taken new) text
+  pub goes : turn ≢ Quit
+  pub cause : turn ≡ SinkFault → Rose (sink.faults old) (sink.faults new)
+  pub later : sink.faults old ≤ sink.faults new
+
+-- The line gets this reply, and the session comes to another state by a step of the console. The disk counted a fault where the
+-- step says that it failed.
+pub record Settles {D : Type 0} (disk : DiskGhosts D) (line : InputLine) (old new : SessionView D) (before : State) (reply : Reply) : Type 0 where
+  pub after : State
+  pub arrives : ComesTo disk old new before after
+  pub disk_failed : Bool
+  pub counted : disk_failed ≡ true → Rose (disk.faults old.disk) (disk.faults new.disk)
+  pub step : TakesStep disk.tells_reads before (record { line = line; disk_failed = disk_failed; reply = reply }) after
+
+-- a session, and the sink of its replies
+pub record Terminal (D K : Type 0) : Type 0 where
+  pub session : SessionView D
+  pub output : K
+
+-- The line was settled, and its reply given to the sink where that tells what it takes. Only quit ends the run.
+pub record Answers {D K : Type 0} (disk : DiskGhosts D) (sink : SinkGhosts K) (line : InputLine) (old new : Terminal D K) (turn : Turn) (before : State) : Type 0 where
   pub reply : Reply
-  pub step : Step old line rose reply new
-  pub text : tells → Delivers turn before after (reply_text reply)
+  pub settles : Settles disk line old.session new.session before reply
+  pub text : sink.tells → Delivers turn (sink.taken old.output) (sink.taken new.output) (reply_text reply)
   pub quit : (turn ≡ Quit) ↔ IsQuit line
+
+-- What one call says of its line, from each state that the session is at.
+pub record AnswersLine {D K : Type 0} (disk : DiskGhosts D) (sink : SinkGhosts K) (line : InputLine) (old new : Terminal D K) (turn : Turn) : Type 0 where
+  pub answers : (state : State) → IsAt disk old.session state → Answers disk sink line old new turn state
+  pub cause : turn ≡ SinkFault → Rose (sink.faults old.output) (sink.faults new.output)
+  pub later : sink.faults old.output ≤ sink.faults new.output
+  pub onward : Onward disk old.session new.session

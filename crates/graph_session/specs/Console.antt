@@ -1,37 +1,68 @@
--- One step of the console: from a state, a line may be answered with this reply and lead to that state.
-use Rattle.std.specs.Prelude.{◌≡◌, ◌⊎◌, ℕ, ◌+◌, Bool, true, List, [], ◌∷◌, length}
-use Rattle.stream_io.specs.Lines.{InputLine}
-use Rattle.plain_graph.specs.Graph.{Graph, AddsNode}
-use Rattle.plain_graph.specs.Meaning.{meaning}
-use Rattle.plain_graph.specs.Reply.{Reply, Silent, NodeMade, Results, FaultDisk, Refused}
-use Rattle.plain_graph.specs.declared.command.Command.TheVariants as commands
-use Rattle.plain_graph.specs.declared.query.Query.{Query}
-use Rattle.plain_graph.specs.declared.refusal.Refusal.TheVariants.{Memory}
-use Rattle.redo_log.specs.Entries.{entry_bytes}
-use Rattle.node_log.specs.Adding.{NeedsRecords}
-use Rattle.graph_session.specs.State.{State, Failed, SpellsLine, IsSilent}
-use Rattle.graph_session.specs.Refusals.{IsRefused, IsAccepted}
+-- What a session holds, and which state it is at over its disk.
+use Rattle.std.specs.Prelude.{◌≡◌, ℕ, ◌≤◌, IsTrue, Bool, false, is_some, Some, List, [], ◌++◌}
+use Rattle.disk_model.specs.declared.disk.Disk.{Ghosts}
+use Rattle.rec_bytes.specs.Pairs.{Pairs}
+use Rattle.rec_bytes.specs.declared.key.Key.{Key}
+use Rattle.rec_bytes.specs.declared.record.Rec.{Rec}
+use Rattle.rec_bytes.specs.declared.shape.Shape.{Shape}
+use Rattle.plain_graph.specs.Graph.{Graph}
+use Rattle.store_rules.specs.Graph.{graph_of}
+use Rattle.store_rules.specs.Rules.{IsNodeStore}
+use Rattle.graph_session.specs.Stands.{AreAdmitted, HoldsAdmitted}
+use Rattle.graph_session.specs.State.{Admits, IsFailed, Live, State, Transaction, health_at, seen}
+use Rattle.graph_session.specs.declared.health.Health.{Health}
 
--- a node was added to the graph, which took one more entry of the log, and all else is as before
-pub record Makes (old : State) (label : List ℕ) (id : ℕ) (new : State) : Type 0 where
-  pub graph : AddsNode old.graph label id new.graph
-  pub records : ℕ
-  pub needs : NeedsRecords old.graph.names label records
-  pub log : new.log ≡ old.log + entry_bytes records
-  pub shape : new.shape ≡ old.shape
-  pub standing : new.standing ≡ old.standing
+-- What a console has in memory, and the records beneath it: those of the last commit, those that the open transaction has with
+-- its own, and the draft of a change over them.
+pub record ConsoleView : Type 0 where
+  pub shape : Shape
+  pub health : Health
+  pub is_live : Bool
+  pub is_open : Bool
+  pub weight : ℕ
+  pub names : List (List ℕ)
+  pub committed : Key → Rec
+  pub working : Key → Rec
+  pub draft : Pairs
 
--- the disk failed while a node was added: it holds the graph with the node or without it, and all else is as before
-pub record LeavesOpen (old : State) (label : List ℕ) (new : State) : Type 0 where
-  pub next : Graph
-  pub adds : AddsNode old.graph label (length old.graph.nodes) next
-  pub is : new ≡ record old { standing = Failed (old.graph ∷ next ∷ []) }
+-- a console, and the disk that it works on
+pub record SessionView (D : Type 0) : Type 0 where
+  pub console : ConsoleView
+  pub disk : D
 
--- The step, reply by reply; rose says whether the disk failed in the line. A refusal is the first of the reasons that
--- hold, or that there was no memory, which is free for each line that gets a reply.
-abbrev pub Step : State → InputLine → Bool → Reply → State → Type 0
-Step old line rose Silent new = IsSilent line × (new ≡ old)
-Step old line rose (NodeMade id) new = IsAccepted old line × (label : List ℕ) × SpellsLine line (commands.Node label) × Makes old label id new
-Step old line rose (Results results) new = IsAccepted old line × (query : Query) × SpellsLine line (commands.Query query) × (results ≡ meaning old.graph query) × (new ≡ old)
-Step old line rose FaultDisk new = (rose ≡ true) × IsAccepted old line × (label : List ℕ) × SpellsLine line (commands.Node label) × LeavesOpen old label new
-Step old line rose (Refused why) new = (IsRefused old line why ⊎ ((why ≡ Memory) × ¬ IsSilent line)) × (new ≡ old)
+-- the disk tells what it reads and which images it may leave
+abbrev pub TellsAll : {D : Type 0} → Ghosts D → Type 0
+TellsAll g = g.tells_reads × g.tells_images
+
+-- the names begin with these
+abbrev pub BeginWith : List (List ℕ) → List (List ℕ) → Type 0
+BeginWith names first = (more : List (List ℕ)) × (names ≡ first ++ more)
+
+-- The records of a live console are those of well-formed stores, whose graphs are the committed one and the one that a line
+-- sees. The names in memory are those of the latter: the committed ones, and those that the open transaction brought.
+pub record HoldsGraphs (console : ConsoleView) (state : State) : Type 0 where
+  pub live : IsTrue console.is_live
+  pub committed : IsNodeStore console.committed state.shape
+  pub committed_graph : graph_of console.committed ≡ state.committed
+  pub working : IsNodeStore console.working state.shape
+  pub working_graph : graph_of console.working ≡ seen state
+  pub names : console.names ≡ (seen state).names
+  pub brought : BeginWith console.names state.committed.names
+
+-- The session is at the state. What the disk holds is said where the disk tells it. The names in memory begin with those of each
+-- graph that the disk of a failed console may hold.
+pub record IsAt {D : Type 0} (g : Ghosts D) (session : SessionView D) (state : State) : Type 0 where
+  pub shape : state.shape ≡ session.console.shape
+  pub health : session.console.health ≡ health_at state
+  pub opened : is_some state.open_one ≡ session.console.is_open
+  pub weight : (transaction : Transaction) → state.open_one ≡ Some transaction → session.console.weight ≡ transaction.weight
+  pub no_draft : session.console.draft ≡ []
+  pub closed : IsFailed state.standing → is_some state.open_one ≡ false
+  pub holds : g.tells_reads → state.standing ≡ Live → HoldsGraphs session.console state
+  pub known : g.tells_reads → IsFailed state.standing → (graph : Graph) → Admits state graph → BeginWith session.console.names graph.names
+  pub reads : g.tells_reads → HoldsAdmitted state (g.reads session.disk)
+  pub images : TellsAll g → AreAdmitted state (g.may_leave session.disk)
+
+-- The disk's count of faults doesn't fall.
+pub record Onward {D : Type 0} (g : Ghosts D) (old new : SessionView D) : Type 0 where
+  pub disk_later : g.faults old.disk ≤ g.faults new.disk

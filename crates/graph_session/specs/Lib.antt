@@ -1,7 +1,15 @@
 pub mod Answer
+pub mod Answering
 pub mod Console
-pub mod Numbers
+pub mod Drafting
+pub mod Exchange
+pub mod LineBuffer
+pub mod Moments
+pub mod Naming
 pub mod Opening
+pub mod QueryResults
 pub mod Refusals
 pub mod Session
+pub mod Settling
+pub mod Stands
 pub mod State

@@ -1,24 +1,81 @@
--- The state that a session begins with.
-use Rattle.std.specs.Prelude.{◌≡◌, ◌⊎◌}
+-- What opening a session comes to.
+use Rattle.std.specs.Prelude.{◌≡◌, ◌⊎◌, ◌≤◌, None}
+use Rattle.fault_count.specs.Cause.{Rose}
 use Rattle.disk_model.specs.Contents.{Files}
+use Rattle.disk_model.specs.Spans.{AtEachMoment}
+use Rattle.disk_model.specs.declared.disk.Disk.{Ghosts}
 use Rattle.plain_graph.specs.Graph.{Graph, empty_graph}
-use Rattle.node_log.specs.Config.{Suits, shape_of}
-use Rattle.node_log.specs.Stands.{IsMade, IsUnmade, Stands}
+use Rattle.rec_bytes.specs.declared.damage.Damage.{Damage}
+use Rattle.rec_bytes.specs.declared.key.Key.{Key}
+use Rattle.rec_bytes.specs.declared.record.Rec.{Rec}
 use Rattle.rec_bytes.specs.declared.shape.Shape.{Shape}
-use Rattle.node_log.specs.Table.{Table, graph_of}
-use Rattle.node_log.specs.declared.config.Config.{Config}
-use Rattle.graph_session.specs.State.{State, Live}
+use Rattle.record_file.specs.Records.{IsUnmade}
+use Rattle.record_file.specs.Redone.{Redoes}
+use Rattle.txn_core.specs.Config.{Suits, shape_of}
+use Rattle.txn_core.specs.declared.config.Config.{Config}
+use Rattle.txn_core.specs.declared.open_fault.OpenFault.{OpenFault}
+use Rattle.txn_core.specs.declared.open_fault.OpenFault.TheVariants as faults
+use Rattle.txn_core.specs.Opening.{OnlyDiffers, RefusesOpening}
+use Rattle.name_store.specs.Loading.{IsNameDamage}
+use Rattle.name_store.specs.declared.fault.Fault.{Fault}
+use Rattle.name_store.specs.declared.fault.Fault.TheVariants.{Memory, Disk, Damaged}
+use Rattle.graph_session.specs.Console.{IsAt, SessionView, TellsAll}
+use Rattle.graph_session.specs.Stands.{IsMade, Stands}
+use Rattle.graph_session.specs.State.{Live, State}
 
--- Over this content a session begins so: where no store was made with the empty graph, under the shape that is asked for, and
--- with the 486 bytes of a new store's entry; else with the store's graph, whose shape is what is asked for.
+-- The state that a session over this content begins with: with the empty graph and the shape that is asked for where no store was
+-- made, else with the store's graph, whose shape suits.
 abbrev pub Starts : Files → Config → State → Type 0
 Starts content config state =
-    (IsUnmade content × (state ≡ record { shape = shape_of config; graph = empty_graph; log = 486; standing = Live }))
-    ⊎ ((table : Table) × IsMade content state.shape table state.log × Suits config state.shape × (state.graph ≡ graph_of table) × (state.standing ≡ Live))
+    (IsUnmade content × (state.shape ≡ shape_of config) × (state.committed ≡ empty_graph))
+    ⊎ (IsMade content state.shape state.committed × Suits config state.shape)
 
--- A session begins live, with a shape that is what is asked for, and where the disk tells what it reads, so as this content has it; and the content stands for no other graph.
-pub record StartsAs (tells : Type 0) (content : Files) (config : Config) (state : State) : Type 0 where
+-- A session over this disk begins live, with no open transaction and a shape that suits. Where what the disk reads stands for a
+-- graph, the state has it, and the content stands for no other.
+pub record StartsAs {D : Type 0} (g : Ghosts D) (disk : D) (config : Config) (state : State) : Type 0 where
   pub live : state.standing ≡ Live
+  pub closed : state.open_one ≡ None
   pub suits : Suits config state.shape
-  pub starts : tells → Starts content config state
-  pub same : tells → (shape : Shape) (graph : Graph) → Stands content shape graph → state.graph ≡ graph
+  pub starts : g.tells_reads → Starts (g.reads disk) config state
+  pub same : g.tells_reads → (shape : Shape) (graph : Graph) → Stands (g.reads disk) shape graph → state.committed ≡ graph
+
+-- A crash leaves a content from before; or where no store was made, one that stands for the empty graph; or where one was made,
+-- one that redoes to its records.
+abbrev pub LeavesOldOrSame : Files → (Files → Type 0) → Config → Files → Type 0
+LeavesOldOrSame content images config left =
+    images left ⊎ ((IsUnmade content × Stands left (shape_of config) empty_graph) ⊎ ((¬ IsUnmade content) × (space : Key → Rec) × Redoes content space × Redoes left space))
+
+-- what the disk reads stands for a graph, under some shape
+pub record StandsForOne {D : Type 0} (g : Ghosts D) (disk : D) : Type 0 where
+  pub shape : Shape
+  pub graph : Graph
+  pub stands : Stands (g.reads disk) shape graph
+
+-- at each moment of the opening of a disk that stands for a graph
+abbrev pub LeavesByOpening : {D : Type 0} → Ghosts D → Config → D → D → Type 0
+LeavesByOpening g config old new = TellsAll g → StandsForOne g old → AtEachMoment g old new (LeavesOldOrSame (g.reads old) (g.may_leave old) config)
+
+-- A session was opened. Where what the disk reads stands for a graph, it is at a state that it begins with.
+pub record Opens {D : Type 0} (g : Ghosts D) (config : Config) (old : D) (new : SessionView D) : Type 0 where
+  pub begins : (g.tells_reads → StandsForOne g old) → (state : State) × StartsAs g old config state × IsAt g new state
+  pub crash : LeavesByOpening g config old new.disk
+  pub later : g.faults old ≤ g.faults new.disk
+
+-- Why what the disk reads is not served: the store's log, its own record or its meta records, or its names.
+abbrev pub RefusesContent : Files → Config → OpenFault → Type 0
+RefusesContent content config why =
+    RefusesOpening content config why ⊎ ((damage : Damage) × (why ≡ faults.Damaged damage) × (space : Key → Rec) × Redoes content space × IsNameDamage space damage)
+
+-- No session was opened, for a reason that holds of what the disk reads.
+pub record IsUnopened {D : Type 0} (g : Ghosts D) (config : Config) (old new : D) (why : OpenFault) : Type 0 where
+  pub refused : g.tells_reads → RefusesContent (g.reads old) config why
+  pub sound : g.tells_reads → (shape : Shape) (graph : Graph) → Stands (g.reads old) shape graph → OnlyDiffers shape config why
+  pub crash : LeavesByOpening g config old new
+  pub later : g.faults old ≤ g.faults new
+  pub cause : why ≡ faults.Disk → Rose (g.faults old) (g.faults new)
+
+-- why a store is not served whose names are not loaded
+abbrev pub unloaded : Fault → OpenFault
+unloaded Memory = faults.Memory
+unloaded Disk = faults.Disk
+unloaded (Damaged damage) = faults.Damaged damage

@@ -1,16 +1,19 @@
 -- Why a line is refused: conditions in the order in which they count.
-use Rattle.std.specs.Prelude.{◌≡◌, ◌⊎◌, ℕ, ◌≤◌, List, [], ◌∷◌, length, Contains}
+use Rattle.std.specs.Prelude.{◌≡◌, ◌⊎◌, ℕ, ◌+◌, ◌<◌, ◌≤◌, false, Option, Some, None, List, [], ◌∷◌, length, Contains}
 use Rattle.stream_io.specs.Lines.{InputLine, Whole, Long}
+use Rattle.plain_graph.specs.Changes.{Weighs, most_weight}
+use Rattle.plain_graph.specs.Graph.{has_node}
 use Rattle.plain_graph.specs.declared.command.Command.{Command}
 use Rattle.plain_graph.specs.declared.command.Command.TheVariants as commands
-use Rattle.gremlin_parse.specs.Grammar.{Spells}
+use Rattle.plain_graph.specs.declared.command.Target.TheVariants as targets
 use Rattle.plain_graph.specs.declared.refusal.Refusal.{Refusal}
-use Rattle.plain_graph.specs.declared.refusal.Refusal.TheVariants.{LongLine, Syntax, NameLength, Failed, FullNodes, FullNames, FullLog, Memory}
+use Rattle.plain_graph.specs.declared.refusal.Refusal.TheVariants as refusals
 use Rattle.gremlin_parse.specs.Faults.{HasFault, IsLeftmostFault}
+use Rattle.gremlin_parse.specs.Grammar.{Spells}
 use Rattle.gremlin_parse.specs.declared.line_fault.LineFault.{LineFault}
 use Rattle.gremlin_parse.specs.declared.line_fault.LineFault.TheVariants as faults
-use Rattle.node_log.specs.Adding.{FitsAt}
-use Rattle.graph_session.specs.State.{State, IsFailed, IsSilent, SpellsLine}
+use Rattle.rec_bytes.specs.Format.{most_names}
+use Rattle.graph_session.specs.State.{IsFailed, IsOpen, IsSilent, SpellsLine, State, Transaction, seen}
 
 -- in this state the line is refused so
 abbrev pub Condition : Type 1
@@ -18,43 +21,59 @@ Condition = State → InputLine → Refusal → Type 0
 
 -- the line has more than 8,192 bytes
 abbrev pub line_too_long : Condition
-line_too_long state line why = (line ≡ Long) × (why ≡ LongLine)
+line_too_long state line why = (line ≡ Long) × (why ≡ refusals.LongLine)
+
+-- what is told of a fault of the grammar
+abbrev pub refusal_of : LineFault → Option Refusal
+refusal_of faults.Memory = None
+refusal_of (faults.Syntax at) = Some (refusals.Syntax at)
+refusal_of (faults.NameLength at) = Some (refusals.NameLength at)
+refusal_of (faults.NumberRange at) = Some (refusals.NumberRange at)
 
 -- the line spells no command; its leftmost fault is told
 abbrev pub grammar_fault : Condition
-grammar_fault state Long why = ⊥
-grammar_fault state (Whole line) (Syntax at) = IsLeftmostFault line (faults.Syntax at)
-grammar_fault state (Whole line) (NameLength at) = IsLeftmostFault line (faults.NameLength at)
-grammar_fault state (Whole line) LongLine = ⊥
-grammar_fault state (Whole line) Failed = ⊥
-grammar_fault state (Whole line) FullNodes = ⊥
-grammar_fault state (Whole line) FullNames = ⊥
-grammar_fault state (Whole line) FullLog = ⊥
-grammar_fault state (Whole line) Memory = ⊥
+grammar_fault state line why = (bytes : List ℕ) × (line ≡ Whole bytes) × (fault : LineFault) × IsLeftmostFault bytes fault × (refusal_of fault ≡ Some why)
 
--- the disk has failed the console, which then answers no line but those without a reply
+-- the disk has failed the console, which then answers no line but `reopen` and those without a reply
 abbrev pub store_failed : Condition
-store_failed state line why = IsFailed state.standing × (¬ IsSilent line) × (why ≡ Failed)
+store_failed state line why = IsFailed state.standing × (¬ IsSilent line) × (¬ SpellsLine line commands.Reopen) × (why ≡ refusals.Failed)
+
+-- these need that no transaction is open
+abbrev pub transaction_open : Condition
+transaction_open state line why = IsOpen state × (SpellsLine line commands.Begin ⊎ SpellsLine line commands.Checkpoint ⊎ SpellsLine line commands.Reopen) × (why ≡ refusals.TransactionOpen)
+
+-- and these that one is
+abbrev pub no_transaction : Condition
+no_transaction state line why = (¬ IsOpen state) × (SpellsLine line commands.Commit ⊎ SpellsLine line commands.Rollback) × (why ≡ refusals.NoTransaction)
 
 -- a node more would be more than the limit
 abbrev pub nodes_full : Condition
-nodes_full state line why = (label : List ℕ) × SpellsLine line (commands.Node label) × (length state.graph.nodes ≡ state.shape.limit) × (why ≡ FullNodes)
+nodes_full state line why = (label : List ℕ) × SpellsLine line (commands.Node label) × (length (seen state).nodes ≡ state.shape.limit) × (why ≡ refusals.FullNodes)
 
 -- a new name would be more than 4,096 names
 abbrev pub names_full : Condition
-names_full state line why = (label : List ℕ) × SpellsLine line (commands.Node label) × (¬ Contains state.graph.names label) × (4096 ≤ length state.graph.names) × (why ≡ FullNames)
+names_full state line why = (label : List ℕ) × SpellsLine line (commands.Node label) × (¬ Contains (seen state).names label) × (most_names ≤ length (seen state).names) × (why ≡ refusals.FullNames)
 
--- the log has room for the records of a node with this label
-abbrev pub FitsLog : State → List ℕ → Type 0
-FitsLog state label = FitsAt state.graph.names state.log label
+-- no node has the identifier
+abbrev pub no_node : Condition
+no_node state line why = (id : ℕ) × SpellsLine line (commands.Delete (targets.Node id)) × (has_node (seen state) id ≡ false) × (why ≡ refusals.NoNode id)
 
--- the node's entry would pass the end of the log
-abbrev pub log_full : Condition
-log_full state line why = (label : List ℕ) × SpellsLine line (commands.Node label) × (¬ FitsLog state label) × (why ≡ FullLog)
+-- the open transaction would weigh more than 2,048
+abbrev pub transaction_full : Condition
+transaction_full state line why =
+    (transaction : Transaction) × (state.open_one ≡ Some transaction) × (command : Command) × SpellsLine line command
+    × (weight : ℕ) × Weighs transaction.graph command weight × (most_weight < transaction.weight + weight) × (why ≡ refusals.TransactionFull)
+
+-- the conditions that count before the graph is looked at, and those of changes
+abbrev pub early_order : List Condition
+early_order = line_too_long ∷ grammar_fault ∷ store_failed ∷ transaction_open ∷ no_transaction ∷ []
+
+abbrev pub late_order : List Condition
+late_order = nodes_full ∷ names_full ∷ no_node ∷ transaction_full ∷ []
 
 -- the order in which they count
 abbrev pub refusal_order : List Condition
-refusal_order = line_too_long ∷ grammar_fault ∷ store_failed ∷ nodes_full ∷ names_full ∷ log_full ∷ []
+refusal_order = line_too_long ∷ grammar_fault ∷ store_failed ∷ transaction_open ∷ no_transaction ∷ late_order
 
 -- the first condition that holds refuses the line so
 abbrev pub FirstHolds : List Condition → State → InputLine → Refusal → Type 0
@@ -67,6 +86,10 @@ NoneHolds (condition ∷ later) state line = ((other : Refusal) → ¬ condition
 
 abbrev pub IsRefused : State → InputLine → Refusal → Type 0
 IsRefused state line why = FirstHolds refusal_order state line why
+
+-- no condition refuses the line before the graph is looked at
+abbrev pub IsReached : State → InputLine → Type 0
+IsReached state line = NoneHolds early_order state line
 
 abbrev pub IsAccepted : State → InputLine → Type 0
 IsAccepted state line = NoneHolds refusal_order state line

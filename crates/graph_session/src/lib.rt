@@ -1,16 +1,24 @@
-//! The console of one writer: a line in, one step of the console, its reply out. A node is on the disk
-//! before its reply begins, and a reply is given to the sink in one piece.
+//! The console of one writer: a line in, one step of the console, its reply out. A change is on the disk before its
+//! reply begins. Nothing of the graph is kept in memory but its names; a query reads the records as it goes.
 #![tactic(auto)]
 
-mod console;
+mod answer;
+mod changing;
+mod counting;
+mod giving;
 mod health;
-mod not_opened;
-mod query_reply;
+mod line_buffer;
+mod listing;
+mod node_count;
+mod opening;
+mod query_results;
+mod querying;
 mod session;
+mod storing;
+mod transacting;
 mod turn;
 
 pub use health::Health;
-pub use node_log::{Config, OpenFault};
-pub use not_opened::NotOpened;
 pub use session::Session;
 pub use turn::Turn;
+pub use txn_core::{Config, NotOpened, OpenFault};

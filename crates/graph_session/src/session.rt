@@ -1,106 +1,147 @@
-ghost use Rattle.std.specs.Prelude.{◌≡◌, ◌≤◌, true, IfErr, IfOk};
-ghost use Rattle.fault_count.specs.Cause.{Rose};
+ghost use Rattle.std.specs.Prelude.{◌≡◌, ◌≢◌, ◌≤◌, IsTrue, List, ℕ};
 ghost use Rattle.stream_io.specs.Lines.{Long, Whole};
-ghost use Rattle.plain_graph.specs.Graph.{Graph};
-ghost use Rattle.rec_bytes.specs.Shape.{is_allowed};
-ghost use Rattle.rec_bytes.specs.declared.shape.Shape.{Shape};
-ghost use Rattle.node_log.specs.Config.{shape_of};
-ghost use Rattle.node_log.specs.Opening.{IsOldOrNew, OnlyDiffers, RefusesContent};
-ghost use Rattle.node_log.specs.Stands.{Stands};
 ghost use Rattle.graph_session.specs.Answer.{AnswersLine};
-ghost use Rattle.graph_session.specs.Opening.{StartsAs};
-ghost use Rattle.graph_session.specs.Session.{FailsBy, IsAt};
-ghost use Rattle.graph_session.specs.State.{State};
+ghost use Rattle.graph_session.specs.Answering.{reply_of};
+ghost use Rattle.graph_session.specs.Refusals.{SpellsOnly};
+ghost use Rattle.graph_session.specs.Settling.{HasName, IsLoud, IsPlain, SettlesCommand, told_of};
 ghost use Rattle.graph_session.specs.declared.health.Health.TheVariants as healths;
 
-use crate::console::Console;
-use crate::{Health, NotOpened, Turn};
+use crate::answer::Answer;
+use crate::giving::give_answer;
+use crate::{Health, Turn};
 use disk_model::Disk;
-use node_log::{Config, NodeLog, OpenFault};
+use gremlin_parse::{LineFault, parse_line};
+use name_store::Names;
+use plain_graph::{Command, Refusal, Target};
 use std::alloc::Global;
 use stream_io::Sink;
+use txn_core::Store;
 
 /// One writer's session over a disk.
 #[derive(Drop)]
 pub struct Session<'d, D: Disk> {
-    disk: &'d mut D,
-    console: Console,
+    pub(crate) store: Store<'d, D>,
+    /// The names of the graph that a line sees.
+    pub(crate) names: Names,
+    /// What the open transaction weighs.
+    pub(crate) weight: u32,
+    pub(crate) health: Health,
+    pub(crate) alloc: Global,
+    ghost light: { weight ≤ 2048 },
+    ghost standing: { health ≡ healths.Live → IsTrue store.base.live },
 }
 
 impl<'d, D: Disk> Session<'d, D> {
-    /// Opens the store of the disk, or makes one where there is none. Where it can't, the disk is handed back with the
-    /// reason.
-    pub fn open(
-        alloc: Global,
-        disk: &'d mut D,
-        config: Config,
-    ) -> Result<Session<'d, D>, NotOpened<'d, D>>
-        requires { is_allowed (shape_of config) ≡ true }
-
-        // The state that it begins with is what a read of the disk gives, and each image stands for its graph.
-        ensures starts { IfOk result (λ session. (state : State) × StartsAs D.tells_reads (D.reads disk.old) config state
-            × IsAt (D.tells_reads × D.tells_images) (D.may_leave session.disk.now) session.console state) }
-        ensures live { IfOk result (λ session. session.console.health ≡ healths.Live) }
-        ensures same_disk { IfOk result (λ session. session.disk.ghost_name ≡ disk.entry.ghost_name) }
-        ensures later { IfOk result (λ session. D.faults disk.old ≤ D.faults session.disk.now) }
-
-        // Why it is refused, and what that leaves on the disk.
-        ensures refused { D.tells_reads → IfErr result (λ refusal. RefusesContent (D.reads disk.old) config refusal.why) }
-        ensures sound { D.tells_reads → (shape : Shape) (graph : Graph) → Stands (D.reads disk.old) shape graph → IfErr result (λ refusal. OnlyDiffers shape config refusal.why) }
-        ensures left { D.tells_reads → D.tells_images → IfErr result (λ refusal. IsOldOrNew (D.reads disk.old) (D.may_leave disk.old) (shape_of config) (D.may_leave refusal.disk.now)) }
-        ensures handed_back { IfErr result (λ refusal. refusal.disk.ghost_name ≡ disk.entry.ghost_name) }
-        ensures later_refused { IfErr result (λ refusal. D.faults disk.old ≤ D.faults refusal.disk.now) }
-        ensures cause { IfErr result (λ refusal. refusal.why ≡ OpenFault.Disk → Rose (D.faults disk.old) (D.faults refusal.disk.now)) }
-    {
-        match NodeLog::open(alloc, disk, config) {
-            Ok(log) => Ok(Session {
-                disk,
-                console: Console::new(alloc, log),
-            }),
-            Err(why) => Err(NotOpened { why, disk }),
-        }
-    }
+    ghost use Rattle.graph_session.specs.Session.{HaveSameDisk, view, with_sink};
 
     /// Answers one line, by one reply to the sink; a line of blanks and `quit` get none. A change is on the disk
     /// before its reply begins. Where memory lacks, the reply says so and nothing changes.
     pub fn step<K: Sink>(&mut self, line: &[u8], output: &mut K) -> Turn
-        ensures answers { (state : State) → IsAt (D.tells_reads × D.tells_images) (D.may_leave self.old.disk.now) self.old.console state
-            → AnswersLine K.tells (Whole line.now) state (IsAt (D.tells_reads × D.tells_images) (D.may_leave self.new.disk.now) self.new.console) (K.taken output.old) (K.taken output.new) (D.faults self.old.disk.now) (D.faults self.new.disk.now) result }
-        ensures same_disk { self.new.disk.ghost_name ≡ self.old.disk.ghost_name }
-        ensures cause { result ≡ Turn.SinkFault → Rose (K.faults output.old) (K.faults output.new) }
-        ensures later { K.faults output.old ≤ K.faults output.new }
-        ensures disk_later { D.faults self.old.disk.now ≤ D.faults self.new.disk.now }
-        ensures fails { FailsBy self.old.console.health self.new.console.health (D.faults self.old.disk.now) (D.faults self.new.disk.now) }
+        ensures answers { AnswersLine D.Disk K.Sink (Whole line.now)
+            (with_sink self.old output.old) (with_sink self.new output.new) result }
+        ensures same_disk { HaveSameDisk self.old self.new }
     {
-        self.console.step(self.disk, line, output)
+        match parse_line(self.alloc, line) {
+            Ok(command) => self.answer(&command, output),
+            Err(fault) => give_answer(output, answer_of(fault)),
+        }
     }
 
     /// Answers a line of more than 8,192 bytes.
     pub fn too_long<K: Sink>(&mut self, output: &mut K) -> Turn
-        ensures answers { (state : State) → IsAt (D.tells_reads × D.tells_images) (D.may_leave self.old.disk.now) self.old.console state
-            → AnswersLine K.tells Long state (IsAt (D.tells_reads × D.tells_images) (D.may_leave self.new.disk.now) self.new.console) (K.taken output.old) (K.taken output.new) (D.faults self.old.disk.now) (D.faults self.new.disk.now) result }
-        ensures same_disk { self.new.disk.ghost_name ≡ self.old.disk.ghost_name }
-        ensures cause { result ≡ Turn.SinkFault → Rose (K.faults output.old) (K.faults output.new) }
-        ensures later { K.faults output.old ≤ K.faults output.new }
-        ensures disk_later { D.faults self.old.disk.now ≤ D.faults self.new.disk.now }
-        ensures fails { FailsBy self.old.console.health self.new.console.health (D.faults self.old.disk.now) (D.faults self.new.disk.now) }
+        ensures answers { AnswersLine D.Disk K.Sink Long
+            (with_sink self.old output.old) (with_sink self.new output.new) result }
+        ensures same_disk { HaveSameDisk self.old self.new }
     {
-        self.console.too_long(self.disk, output)
+        give_answer(output, Answer::Refused(Refusal::LongLine))
     }
 
-    /// Ends the session and hands the disk back.
+    /// Ends the session, drops an open transaction, and hands the disk back.
     pub fn close(self) -> &'d mut D
-        ensures same_disk { result.ghost_name ≡ self.entry.disk.ghost_name }
-        ensures disk { result.now ≡ self.entry.disk.now }
+        ensures same_disk { result.ghost_name ≡ self.entry.store.base.disk.ghost_name }
+        ensures disk { result.now ≡ self.entry.store.base.disk.now }
     {
-        let Session { disk, console: _ } = self;
-        disk
+        let Session { store, .. } = self;
+        store.close()
     }
 
     /// Whether the disk has failed the session.
     pub fn health(&self) -> Health
-        ensures { result ≡ self.now.console.health }
+        ensures { result ≡ (view self.now).console.health }
     {
-        self.console.health()
+        self.health
+    }
+
+    // Answers a line of this command.
+    fn answer<K: Sink>(&mut self, command: &Command, output: &mut K) -> Turn
+        requires { HasName command.now }
+        ensures answers { (line : List ℕ) → SpellsOnly line command.now
+            → AnswersLine D.Disk K.Sink (Whole line)
+            (with_sink self.old output.old) (with_sink self.new output.new) result }
+        ensures same_disk { HaveSameDisk self.old self.new }
+    {
+        match command {
+            Command::Blank => Turn::Go,
+            Command::Quit => Turn::Quit,
+            Command::Reopen => {
+                let answer = self.reopen();
+                give_answer(output, answer)
+            }
+            other => self.serve(other, output),
+        }
+    }
+
+    // Answers a line of a command that a session refuses once the disk has failed it.
+    fn serve<K: Sink>(&mut self, command: &Command, output: &mut K) -> Turn
+        requires named { HasName command.now }
+        requires loud { IsLoud command.now }
+        ensures answers { (line : List ℕ) → SpellsOnly line command.now
+            → AnswersLine D.Disk K.Sink (Whole line)
+            (with_sink self.old output.old) (with_sink self.new output.new) result }
+        ensures same_disk { HaveSameDisk self.old self.new }
+    {
+        match self.health {
+            Health::Failed => give_answer(output, Answer::Refused(Refusal::Failed)),
+            Health::Live => match command {
+                Command::Query(query) => self.answer_query(query, output),
+                other => {
+                    let answer = self.settle(other);
+                    give_answer(output, answer)
+                }
+            },
+        }
+    }
+
+    // Carries out a command that has no results. It has no sink: what is said of the disk at its return holds before a
+    // byte of the reply is given.
+    fn settle(&mut self, command: &Command) -> Answer
+        requires live { self.old.health ≡ healths.Live }
+        requires named { HasName command.now }
+        requires plain { IsPlain command.now }
+        ensures settles { SettlesCommand D.Disk command.now (view self.old) (view self.new) (reply_of result) }
+        ensures same_disk { HaveSameDisk self.old self.new }
+    {
+        match command {
+            Command::Begin => self.begin(),
+            Command::Commit => self.commit(),
+            Command::Rollback => self.rollback(),
+            Command::Checkpoint => self.checkpoint(),
+            Command::Stats => self.stats(),
+            Command::Node { label } => self.make_node(label),
+            Command::Delete(Target::Node(id)) => self.remove_node(*id),
+            Command::Blank | Command::Quit | Command::Reopen | Command::Query(_) => unreachable!(),
+        }
+    }
+}
+
+// The answer of a line that spells no command.
+fn answer_of(fault: LineFault) -> Answer
+    ensures { result ≡ told_of fault }
+{
+    match fault {
+        LineFault::Memory => Answer::NoMemory,
+        LineFault::Syntax { at } => Answer::Refused(Refusal::Syntax { at }),
+        LineFault::NameLength { at } => Answer::Refused(Refusal::NameLength { at }),
+        LineFault::NumberRange { at } => Answer::Refused(Refusal::NumberRange { at }),
     }
 }

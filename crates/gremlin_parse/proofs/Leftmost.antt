@@ -1,102 +1,112 @@
--- The leftmost fault of a line that spells no command.
-use Rattle.std.proofs.Common.{◌≡◌, ◌≢◌, ◌≤◌, ◌<◌, ◌+◌, ◌-◌, ℕ, List, [], ◌∷◌, ◌++◌, length, take, refl, sym, ap, ◌∙◌, subst, ⊎_elim, add-zero, length-append, arith}
+-- What a reader's stop says of the line: its leftmost fault, and that it spells no command.
+use Rattle.std.proofs.Common.{◌≡◌, ◌≢◌, ◌≤◌, ◌<◌, ◌+◌, ◌-◌, ℕ, List, ◌++◌, length, take, refl, sym, ap, ◌∙◌, subst, ⊎_elim, add-zero, length-append, arith}
 use Rattle.std.proofs.lemmas.List.{append-nil}
 use Rattle.std.proofs.lemmas.Bool.{cases_lt}
 use Rattle.plain_graph.specs.declared.command.Command.{Command}
-use Rattle.plain_graph.specs.declared.command.Command.TheVariants as commands
-use Rattle.gremlin_parse.specs.Grammar.{Blanks, Name, IsMadeOf, SpellsLoosely, Spells, KeepsBounds, IsLine}
-use Rattle.gremlin_parse.specs.Faults.{IsViable, StopsAt, HasLongName, HasFault, IsLeftmostFault, place_of}
+use Rattle.gremlin_parse.specs.Grammar.{Spells, KeepsBounds, IsLine, NeedsNoMemory}
+use Rattle.gremlin_parse.specs.Faults.{IsViable, StopsAt, HasBadToken, HasFault, IsLeftmostFault, place_of}
+use Rattle.gremlin_parse.specs.Reading.{StopsBefore}
+use Rattle.gremlin_parse.specs.Symbols.{AnyBlanks, Takes}
+use Rattle.gremlin_parse.specs.Stopping.{BadStop, IsStop, left_of, fault_of, bad_fault}
+use Rattle.gremlin_parse.specs.Commands.{BadTail, IsSomeTail, IsTail, LacksMemory}
+use Rattle.gremlin_parse.specs.declared.bad_token.BadToken.{BadToken}
+use Rattle.gremlin_parse.specs.declared.bad_token.BadToken.TheVariants.{LongName, WideNumber}
 use Rattle.gremlin_parse.specs.declared.line_fault.LineFault.{LineFault}
 use Rattle.gremlin_parse.specs.declared.line_fault.LineFault.TheVariants as faults
-use Rattle.gremlin_parse.specs.Reading.{SkipsBlanks, StopsBefore, HasLongLabel, HasNoLongLabel, IsQuit, IsTail, IsSomeTail}
+use Rattle.gremlin_parse.specs.declared.stop.Stop.{Stop}
+use Rattle.gremlin_parse.specs.declared.stop.Stop.TheVariants as stops
 use Rattle.gremlin_parse.proofs.Stops.{StopsBefore-refuses, StopsBefore-StopsAt, take-append-add}
-use Rattle.gremlin_parse.proofs.Lines.{spelled_of_tail, tail_of_spelled, stops_line, IsMadeOf-ThenParts, before_label, long_label_of_name, long_label_cuts}
-use Rattle.gremlin_parse.proofs.Agreement.{long_labels_agree, no_long_label_in, commands_agree}
+use Rattle.gremlin_parse.proofs.Heads.{commands_agree}
+use Rattle.gremlin_parse.proofs.Lines.{BadLine, tail_after, spelled_after, bad_tail_after, no_bad_tail}
 
--- A front of the line with which some line begins is no longer than the place where reading stops.
-viable_is_before : (Language : List ℕ → Type 0) (line : List ℕ) (place at : ℕ) → StopsAt Language line at → place ≤ length line → IsViable Language (take place line) → place ≤ at
-viable_is_before Language line place at stop within viable =
-    ⊎_elim (λ (above : at < place). absurd (stop.longest place above within viable)) (λ (below : place ≤ at). below) (cases_lt at place)
+-- ---- places
 
-no_long_name : (line bytes : List ℕ) → SkipsBlanks line bytes → HasNoLongLabel bytes → (at : ℕ) → ¬ HasLongName line at
-no_long_name line bytes blanks none at = λ has. let (left, label, place) = long_label_of_name line bytes at blanks has in none left label
+-- A prefix of the line with which some line begins is no longer than the place where reading stops.
+viable_is_before : (Language : List ℕ → Type 0) (line read unread : List ℕ) (left at : ℕ) → StopsAt Language line at → line ≡ read ++ unread → left ≡ length unread → IsViable Language read → length line - left ≤ at
+viable_is_before Language line read unread left at stop line_is left_is viable =
+    let len : length line ≡ length read + length unread = ap length line_is ∙ length-append read unread in
+    let prefix : take (length read) line ≡ read = ap (λ k. take k line) (sym (add-zero (length read))) ∙ ap (take (length read + 0)) line_is ∙ take-append-add read unread 0 ∙ append-nil read in
+    ⊎_elim
+    (λ (above : at < length read). absurd (stop.longest (length read) above (omega arith) (subst (IsViable Language) (sym prefix) viable)))
+    (λ (below : length read ≤ at). omega arith)
+    (cases_lt at (length read))
 
-syntax_before : (line : List ℕ) (at : ℕ) → StopsAt IsLine line at → ((place : ℕ) → ¬ HasLongName line place) → (other : LineFault) → HasFault line other → at ≤ place_of other
-syntax_before line at stop none faults.Memory has = absurd has
-syntax_before line at stop none (faults.Syntax place) has = viable_is_before IsLine line at place has.1 stop.within stop.viable
-syntax_before line at stop none (faults.NameLength place) has = absurd (none place has)
+bad_within : (kind : BadToken) (line : List ℕ) (at : ℕ) → HasBadToken kind line at → at ≤ length line
+bad_within kind line at has =
+    let len : length line ≡ length has.prefix + length (has.token ++ has.rest) = ap length has.line_is ∙ length-append has.prefix (has.token ++ has.rest) in
+    omega (arith, has.place, len)
 
-pub syntax_is_leftmost : (line bytes : List ℕ) (left : ℕ) → SkipsBlanks line bytes → StopsBefore IsSomeTail bytes left → HasNoLongLabel bytes → IsLeftmostFault line (faults.Syntax (length line - left))
-syntax_is_leftmost line bytes left blanks stop none =
-    let whole = stops_line line bytes left blanks stop in
-    let at = StopsBefore-StopsAt IsLine line left whole in
-    record { has = (StopsBefore-refuses IsLine line left whole, at); leftmost = syntax_before line (length line - left) at (no_long_name line bytes blanks none) }
+bad_line_at : (kind : BadToken) (line : List ℕ) (at : ℕ) → HasBadToken kind line at → BadLine kind (length line - at) line
+bad_line_at kind line at has = let within = bad_within kind line at has in (at, omega arith, has)
 
--- A long name of the line, and a line of the grammar that begins with the bytes before it.
-record LongNameAt (line : List ℕ) (at : ℕ) : Type 0 where
-  pub has : HasLongName line at
-  pub within : at ≤ length line
-  pub viable : IsViable IsLine (take at line)
+-- ---- the leftmost fault
 
-long_name_at : (line bytes : List ℕ) (left : ℕ) → SkipsBlanks line bytes → HasLongLabel left bytes → LongNameAt line (length line - left)
-long_name_at line bytes left blanks has =
-    let cut = long_label_cuts line bytes left blanks has in
-    let name = has.0 in
-    let (front, rest, whole, front_is, (ends, left_is)) = cut.behind in
-    let line_is : line ≡ cut.front ++ (name ++ rest) = cut.bytes_are ∙ ap (λ r. cut.front ++ r) (whole ∙ ap (λ f. f ++ rest) front_is.0) in
-    let len : length line ≡ length cut.front + (length name + length rest) = ap length line_is ∙ length-append cut.front (name ++ rest) ∙ ap (λ n. length cut.front + n) (length-append name rest) in
-    let place : length line - left ≡ length cut.front = omega arith in
-    let label_front : take (length line - left) line ≡ cut.front = ap (λ k. take k line) (place ∙ sym (add-zero (length cut.front))) ∙ ap (take (length cut.front + 0)) line_is ∙ take-append-add cut.front (name ++ rest) 0 ∙ append-nil cut.front in
-    let spelled : SpellsLoosely (cut.front ++ name) (commands.Node name) = (tt, IsMadeOf-ThenParts (IsMadeOf (Name name ∷ Blanks ∷ [])) before_label cut.front name cut.made (name, [], sym (append-nil name), (refl, front_is.1), ([], [], refl, tt, refl))) in
-    record {
-      has = record {
-        command = commands.Node name;
-        in_grammar = tt;
-        before = before_label;
-        name = name;
-        behind = Blanks ∷ [];
-        parts_are = refl;
-        front = cut.front;
-        rest = rest;
-        line_is = line_is;
-        front_is = cut.made;
-        name_is = front_is.1;
-        ends = ends;
-        long = has.1;
-        place = place;
-      };
-      within = omega arith;
-      viable = subst (IsViable IsLine) (sym label_front) (name, (commands.Node name, spelled));
-    }
+syntax_before : (line : List ℕ) (left : ℕ) → StopsBefore IsLine line left → ((kind : BadToken) (place : ℕ) → ¬ BadLine kind place line) → (other : LineFault) → HasFault line other → length line - left ≤ place_of other
+syntax_before line left stop none faults.Memory has = absurd has
+syntax_before line left stop none (faults.Syntax place) has = viable_is_before IsLine line stop.read stop.unread left place has.1 stop.bytes_are stop.left_is stop.viable
+syntax_before line left stop none (faults.NameLength place) has = absurd (none LongName (length line - place) (bad_line_at LongName line place has))
+syntax_before line left stop none (faults.NumberRange place) has = absurd (none WideNumber (length line - place) (bad_line_at WideNumber line place has))
 
-name_before : (line bytes : List ℕ) (left : ℕ) → SkipsBlanks line bytes → HasLongLabel left bytes → (other : LineFault) → HasFault line other → length line - left ≤ place_of other
-name_before line bytes left blanks has faults.Memory fault = absurd fault
-name_before line bytes left blanks has (faults.Syntax place) fault =
-    let at = long_name_at line bytes left blanks has in
-    viable_is_before IsLine line (length line - left) place fault.1 at.within at.viable
-name_before line bytes left blanks has (faults.NameLength place) fault =
-    let (other, label, other_place) = long_label_of_name line bytes place blanks fault in
-    let same = long_labels_agree bytes left other has label in
+bad_before : (kind : BadToken) (line : List ℕ) (left : ℕ) → BadStop IsLine BadLine kind line left → (other : LineFault) → HasFault line other → length line - left ≤ place_of other
+bad_before kind line left stop faults.Memory has = absurd has
+bad_before kind line left stop (faults.Syntax place) has = viable_is_before IsLine line stop.read stop.unread left place has.1 stop.bytes_are stop.left_is stop.viable
+bad_before kind line left stop (faults.NameLength place) has =
+    let within = bad_within LongName line place has in
+    let le = stop.first LongName (length line - place) (bad_line_at LongName line place has) in
+    omega arith
+bad_before kind line left stop (faults.NumberRange place) has =
+    let within = bad_within WideNumber line place has in
+    let le = stop.first WideNumber (length line - place) (bad_line_at WideNumber line place has) in
     omega arith
 
-pub name_is_leftmost : (line bytes : List ℕ) (left : ℕ) → SkipsBlanks line bytes → HasLongLabel left bytes → IsLeftmostFault line (faults.NameLength (length line - left))
-name_is_leftmost line bytes left blanks has =
-    let at = long_name_at line bytes left blanks has in record { has = at.has; leftmost = name_before line bytes left blanks has }
+has_bad : (kind : BadToken) (line : List ℕ) (left : ℕ) → BadLine kind left line → HasBadToken kind line (length line - left)
+has_bad kind line left (at, place, has) = let at_is : at ≡ length line - left = omega arith in subst (HasBadToken kind line) at_is has
 
-pub no_fault_of : (line bytes : List ℕ) (command : Command) → SkipsBlanks line bytes → IsTail command bytes → KeepsBounds command → (fault : LineFault) → ¬ HasFault line fault
-no_fault_of line bytes command blanks is keeps faults.Memory = λ has. has
-no_fault_of line bytes command blanks is keeps (faults.Syntax place) = λ has. has.0 (command, spelled_of_tail line bytes command blanks is)
-no_fault_of line bytes command blanks is keeps (faults.NameLength place) = λ has.
-    let (left, label, other_place) = long_label_of_name line bytes place blanks has in no_long_label_in command bytes left is keeps label
+bad_leftmost : (kind : BadToken) (line : List ℕ) (left : ℕ) → BadStop IsLine BadLine kind line left → IsLeftmostFault line (bad_fault kind (length line - left))
+bad_leftmost LongName line left stop = record { has = has_bad LongName line left stop.has; leftmost = bad_before LongName line left stop }
+bad_leftmost WideNumber line left stop = record { has = has_bad WideNumber line left stop.has; leftmost = bad_before WideNumber line left stop }
 
-pub only_command : (line bytes : List ℕ) (command : Command) → SkipsBlanks line bytes → IsTail command bytes → (other : Command) → Spells line other → other ≡ command
-only_command line bytes command blanks is other spelled = commands_agree command other bytes is (tail_of_spelled line bytes other blanks spelled.0)
+pub fault_is_leftmost : (Lack : Type 0) (line : List ℕ) (stop : Stop) → IsStop IsLine BadLine Lack line stop → fault_of stop (length line) ≢ faults.Memory → IsLeftmostFault line (fault_of stop (length line))
+fault_is_leftmost Lack line stops.Memory at some = absurd (some refl)
+fault_is_leftmost Lack line (stops.Syntax left) at some = record {
+  has = (StopsBefore-refuses IsLine line left at.0, StopsBefore-StopsAt IsLine line left at.0);
+  leftmost = syntax_before line left at.0 at.1;
+}
+fault_is_leftmost Lack line (stops.Bad kind left) at some = bad_leftmost kind line left at
 
-pub no_command_at_syntax : (line bytes : List ℕ) (left : ℕ) → SkipsBlanks line bytes → StopsBefore IsSomeTail bytes left → (command : Command) → ¬ Spells line command
-no_command_at_syntax line bytes left blanks stop command = λ spelled. StopsBefore-refuses IsLine line left (stops_line line bytes left blanks stop) (command, spelled.0)
+-- a stop is within the line
+pub stop_within : (Lack : Type 0) (line : List ℕ) (stop : Stop) → IsStop IsLine BadLine Lack line stop → left_of stop ≤ length line
+stop_within Lack line stops.Memory at = omega arith
+stop_within Lack line (stops.Syntax left) at =
+    let len : length line ≡ length at.0.read + length at.0.unread = ap length at.0.bytes_are ∙ length-append at.0.read at.0.unread in
+    omega (arith, at.0.left_is, len)
+stop_within Lack line (stops.Bad kind left) at =
+    let len : length line ≡ length at.read + length at.unread = ap length at.bytes_are ∙ length-append at.read at.unread in
+    omega (arith, at.left_is, len)
 
-pub no_command_at_name : (line bytes : List ℕ) (left : ℕ) → SkipsBlanks line bytes → HasLongLabel left bytes → (command : Command) → ¬ Spells line command
-no_command_at_name line bytes left blanks has command = λ spelled. no_long_label_in command bytes left (tail_of_spelled line bytes command blanks spelled.0) spelled.1 has
+-- ---- commands
 
-pub neither_word : (line bytes : List ℕ) → SkipsBlanks line bytes → bytes ≢ [] → ¬ IsQuit bytes → (¬ Spells line commands.Blank) × (¬ Spells line commands.Quit)
-neither_word line bytes blanks some quit = (λ spelled. some (tail_of_spelled line bytes commands.Blank blanks spelled.0), λ spelled. quit (tail_of_spelled line bytes commands.Quit blanks spelled.0))
+pub no_fault_of : (line bytes : List ℕ) (command : Command) → Takes AnyBlanks tt line bytes → IsTail command bytes → KeepsBounds command → (fault : LineFault) → ¬ HasFault line fault
+no_fault_of line bytes command takes tail keeps faults.Memory = λ has. has
+no_fault_of line bytes command takes tail keeps (faults.Syntax place) = λ has. has.0 (command, spelled_after command line bytes takes tail)
+no_fault_of line bytes command takes tail keeps (faults.NameLength place) = λ has.
+    no_bad_tail command bytes tail keeps LongName (length line - place) (bad_tail_after LongName (length line - place) line bytes takes (bad_line_at LongName line place has))
+no_fault_of line bytes command takes tail keeps (faults.NumberRange place) = λ has.
+    no_bad_tail command bytes tail keeps WideNumber (length line - place) (bad_tail_after WideNumber (length line - place) line bytes takes (bad_line_at WideNumber line place has))
+
+pub only_command : (line bytes : List ℕ) (command : Command) → Takes AnyBlanks tt line bytes → IsTail command bytes → (other : Command) → Spells line other → other ≡ command
+only_command line bytes command takes tail other spelled = commands_agree command other bytes tail (tail_after other line bytes takes spelled.0)
+
+no_command_at_bad : (kind : BadToken) (line bytes : List ℕ) (left : ℕ) → Takes AnyBlanks tt line bytes → BadLine kind left line → (command : Command) → ¬ Spells line command
+no_command_at_bad kind line bytes left takes bad command = λ spelled. no_bad_tail command bytes (tail_after command line bytes takes spelled.0) spelled.1 kind left (bad_tail_after kind left line bytes takes bad)
+
+pub no_command_at : (Lack : Type 0) (line bytes : List ℕ) (stop : Stop) → Takes AnyBlanks tt line bytes → IsStop IsLine BadLine Lack line stop → fault_of stop (length line) ≢ faults.Memory → (command : Command) → ¬ Spells line command
+no_command_at Lack line bytes stops.Memory takes at some = absurd (some refl)
+no_command_at Lack line bytes (stops.Syntax left) takes at some = λ command spelled. StopsBefore-refuses IsLine line left at.0 (command, spelled.0)
+no_command_at Lack line bytes (stops.Bad kind left) takes at some = no_command_at_bad kind line bytes left takes at.has
+
+pub no_such_command : (line bytes : List ℕ) (stop : Stop) → Takes AnyBlanks tt line bytes → IsStop IsSomeTail BadTail (LacksMemory bytes) bytes stop → fault_of stop (length line) ≡ faults.Memory → (command : Command) → NeedsNoMemory command → ¬ Spells line command
+no_such_command line bytes stops.Memory takes lacks same = λ command none spelled. lacks command none (tail_after command line bytes takes spelled.0)
+no_such_command line bytes (stops.Syntax left) takes at same = cc
+no_such_command line bytes (stops.Bad LongName left) takes at same = cc
+no_such_command line bytes (stops.Bad WideNumber left) takes at same = cc

@@ -1,128 +1,316 @@
--- From the bytes behind the blanks to the whole line.
-use Rattle.std.proofs.Common.{◌≡◌, ◌+◌, ℕ, List, [], ◌∷◌, ◌++◌, codes, length, refl, sym, ap, ◌∙◌, subst, append_assoc, length-append, arith}
+-- From the bytes after the blanks to the whole line.
+use Rattle.std.proofs.Common.{◌≡◌, ◌+◌, ◌⊎◌, inl, inr, ℕ, List, [], ◌∷◌, ◌++◌, codes, flat_map, length, refl, sym, ap, ◌∙◌, subst, ⊎_elim, append_assoc, length-append, arith}
+use Rattle.std.specs.List.{AllByRecursion}
 use Rattle.plain_graph.specs.declared.command.Command.{Command}
 use Rattle.plain_graph.specs.declared.command.Command.TheVariants as commands
-use Rattle.gremlin_parse.specs.Grammar.{Part, Blanks, Gap, Exactly, Name, IsMadeOf, loosely, query_tokens, parts_of, SpellsLoosely, IsLine, is_blank}
-use Rattle.gremlin_parse.specs.Faults.{HasLongName}
-use Rattle.gremlin_parse.specs.Reading.{first_byte, EndsRun, SkipsBlanks, StopsBefore, Then, BeginsWithName, HasLongLabel, IsTail, IsSomeTail}
-use Rattle.gremlin_parse.proofs.Stops.{Continues, stops_behind}
-use Rattle.gremlin_parse.proofs.Behind.{IsSolid, Then-blanks, continues_blanks}
-use Rattle.gremlin_parse.proofs.Tokens.{Then-word-solid}
-use Rattle.gremlin_parse.proofs.Nodes.{word}
-use Rattle.gremlin_parse.proofs.Tails.{first_of, IsTail-first_byte}
+use Rattle.plain_graph.specs.declared.command.Target.TheVariants as targets
+use Rattle.gremlin_parse.specs.Grammar.{Part, Blanks, Gap, Exactly, Number, IsPart, IsMadeOf, IsBounded, parts_of, IsCommand, KeepsBounds, SpellsLoosely, IsLine, AreBlanks, is_blank, step_tokens}
+use Rattle.gremlin_parse.specs.Faults.{EndsRun, EndsToken, IsOutOfBounds, HasBadToken}
+use Rattle.gremlin_parse.specs.Reading.{Then}
+use Rattle.gremlin_parse.specs.Keywords.{Entry}
+use Rattle.gremlin_parse.specs.Symbols.{AnyBlanks, Values, Takes}
+use Rattle.gremlin_parse.specs.Stopping.{Bads, IsStop}
+use Rattle.gremlin_parse.specs.Commands.{head_words, production, LastValue, last_parts, command_of, BadAfter, SpellsAfter, IsSomeTail, BadTail, IsTail}
+use Rattle.gremlin_parse.specs.declared.bad_token.BadToken.{BadToken}
+use Rattle.gremlin_parse.specs.declared.head.Head.{Head}
+use Rattle.gremlin_parse.specs.declared.head.Head.TheVariants as heads
+use Rattle.gremlin_parse.specs.declared.word.Word.TheVariants as words
+use Rattle.gremlin_parse.specs.declared.stop.Stop.{Stop}
+use Rattle.gremlin_parse.proofs.Runs.{Halts}
+use Rattle.gremlin_parse.proofs.Tables.{lookup_in, words_agree}
+use Rattle.gremlin_parse.proofs.Symbols.{takes_again, after_symbol}
+use Rattle.gremlin_parse.proofs.Productions.{Goes, stop_after}
+use Rattle.gremlin_parse.proofs.Spelling.{parts_with, AllowsAll, made_of_then, then_of_made, IsBadPart, BadParts, HasNoBad, loosely_no_bad, bad_of_parts, parts_of_bad, no_bad_within}
+use Rattle.gremlin_parse.proofs.Heads.{word_of, named, entry_word, production_is, last_closes, last_is, bad_after_halts, spells_halts, Spelled, spelled_of_values, values_of_spelled, some_spelled, spelled_is_some, word_halts, head_table, no_word_in_nothing}
 
--- No command begins with a blank behind the blanks.
-first_of-solid : (command : Command) (bytes : List ℕ) → first_byte bytes ≡ first_of command → EndsRun is_blank bytes
-first_of-solid command [] first = tt
-first_of-solid commands.Blank (b ∷ bytes) first = cc
-first_of-solid commands.Quit (b ∷ bytes) first = let is : b ≡ 113 = cc in ap is_blank is
-first_of-solid (commands.Node label) (b ∷ bytes) first = let is : b ≡ 110 = cc in ap is_blank is
-first_of-solid (commands.Query query) (b ∷ bytes) first = let is : b ≡ 103 = cc in ap is_blank is
+-- ---- a command and its values
 
-IsTail-solid : (command : Command) → IsSolid (IsTail command)
-IsTail-solid command = λ bytes is. first_of-solid command bytes (IsTail-first_byte command bytes is)
+-- the parts after a command's first word
+abbrev tail_parts : (head : Head) → Values (production head) → LastValue head → List Part
+tail_parts head values last = parts_with (production head) values ++ last_parts head last
 
-pub then_of_spelled : (command : Command) (line : List ℕ) → SpellsLoosely line command → Then Blanks (IsTail command) line
-then_of_spelled commands.Blank line (in_grammar, made) = made
-then_of_spelled commands.Quit line (in_grammar, made) = made
-then_of_spelled (commands.Node label) line (in_grammar, made) = made
-then_of_spelled (commands.Query query) line (in_grammar, (front, rest, whole, are, made)) = (front, rest, whole, are, (in_grammar, made))
+command_parts : (head : Head) (values : Values (production head)) (last : LastValue head) → AllowsAll (production head) values → parts_of (command_of head values last) ≡ Blanks ∷ Exactly (word_of head) ∷ tail_parts head values last
+command_parts (heads.Alone words.Begin) values last allows = refl
+command_parts (heads.Alone words.Commit) values last allows = refl
+command_parts (heads.Alone words.Rollback) values last allows = refl
+command_parts (heads.Alone words.Checkpoint) values last allows = refl
+command_parts (heads.Alone words.Stats) values last allows = refl
+command_parts (heads.Alone words.Reopen) values last allows = refl
+command_parts (heads.Alone words.Quit) values last allows = refl
+command_parts heads.Node values last allows = refl
+command_parts heads.Delete values last allows =
+    let make : List ℕ → List Part = λ word. Blanks ∷ Exactly (codes "delete") ∷ Gap ∷ Exactly word ∷ Gap ∷ Number values.1.1.1.0 ∷ Blanks ∷ [] in
+    ⊎_elim (λ (same : (values.1.0, tt) ≡ (codes "node", tt)). ap make (sym (ap (λ (e : Entry (Unit {0})). e.0) same))) (λ (none : ⊥). absurd none) allows.1.0
+command_parts heads.Query values last allows = refl
 
-spelled_of_then : (command : Command) (line : List ℕ) → Then Blanks (IsTail command) line → SpellsLoosely line command
-spelled_of_then commands.Blank line made = (tt, made)
-spelled_of_then commands.Quit line made = (tt, made)
-spelled_of_then (commands.Node label) line made = (tt, made)
-spelled_of_then (commands.Query query) line (front, rest, whole, are, (in_grammar, made)) = (in_grammar, (front, rest, whole, are, made))
+is_command : (head : Head) (values : Values (production head)) (last : LastValue head) → IsCommand (command_of head values last)
+is_command (heads.Alone words.Begin) values last = tt
+is_command (heads.Alone words.Commit) values last = tt
+is_command (heads.Alone words.Rollback) values last = tt
+is_command (heads.Alone words.Checkpoint) values last = tt
+is_command (heads.Alone words.Stats) values last = tt
+is_command (heads.Alone words.Reopen) values last = tt
+is_command (heads.Alone words.Quit) values last = tt
+is_command heads.Node values last = tt
+is_command heads.Delete values last = tt
+is_command heads.Query values last = last.1
 
-pub spelled_of_tail : (line bytes : List ℕ) (command : Command) → SkipsBlanks line bytes → IsTail command bytes → SpellsLoosely line command
-spelled_of_tail line bytes command (blanks, cut) is = spelled_of_then command line (blanks, bytes, cut.bytes_are, cut.passes, is)
+record Sentence (command : Command) : Type 0 where
+  pub head : Head
+  pub values : Values (production head)
+  pub allowed : AllowsAll (production head) values
+  pub last : LastValue head
+  pub is : command ≡ command_of head values last
 
-pub tail_of_spelled : (line bytes : List ℕ) (command : Command) → SkipsBlanks line bytes → SpellsLoosely line command → IsTail command bytes
-tail_of_spelled line bytes command (blanks, cut) spelled = Then-blanks (IsTail command) (IsTail-solid command) line blanks bytes cut (then_of_spelled command line spelled)
+sentence_of : (command : Command) → IsCommand command → (command ≡ commands.Blank) ⊎ Sentence command
+sentence_of commands.Blank is = inl refl
+sentence_of commands.Begin is = inr (record { head = heads.Alone words.Begin; values = (tt, tt); allowed = (tt, tt); last = tt; is = refl })
+sentence_of commands.Commit is = inr (record { head = heads.Alone words.Commit; values = (tt, tt); allowed = (tt, tt); last = tt; is = refl })
+sentence_of commands.Rollback is = inr (record { head = heads.Alone words.Rollback; values = (tt, tt); allowed = (tt, tt); last = tt; is = refl })
+sentence_of commands.Checkpoint is = inr (record { head = heads.Alone words.Checkpoint; values = (tt, tt); allowed = (tt, tt); last = tt; is = refl })
+sentence_of commands.Stats is = inr (record { head = heads.Alone words.Stats; values = (tt, tt); allowed = (tt, tt); last = tt; is = refl })
+sentence_of commands.Reopen is = inr (record { head = heads.Alone words.Reopen; values = (tt, tt); allowed = (tt, tt); last = tt; is = refl })
+sentence_of commands.Quit is = inr (record { head = heads.Alone words.Quit; values = (tt, tt); allowed = (tt, tt); last = tt; is = refl })
+sentence_of (commands.Node label) is = inr (record { head = heads.Node; values = (tt, (label, (tt, tt))); allowed = (tt, (tt, (tt, tt))); last = tt; is = refl })
+sentence_of (commands.Delete (targets.Node id)) is = inr (record { head = heads.Delete; values = (tt, (codes "node", (tt, (id, (tt, tt))))); allowed = (tt, (inl refl, (tt, (tt, (tt, tt))))); last = tt; is = refl })
+sentence_of (commands.Query query) is = inr (record {
+  head = heads.Query;
+  values = (tt, (tt, (tt, (tt, (tt, (tt, (tt, (tt, (tt, tt)))))))));
+  allowed = (tt, (tt, (tt, (tt, (tt, (tt, (tt, (tt, (tt, tt)))))))));
+  last = (query.steps, is);
+  is = refl;
+})
 
-pub stops_line : (line bytes : List ℕ) (left : ℕ) → SkipsBlanks line bytes → StopsBefore IsSomeTail bytes left → StopsBefore IsLine line left
-stops_line line bytes left (blanks, cut) stop =
-    let goes : (command : Command) → Continues (Then Blanks (IsTail command)) blanks (IsTail command) bytes = λ command. continues_blanks (IsTail command) (IsTail-solid command) line blanks bytes cut in
-    let whole : Continues IsLine blanks IsSomeTail bytes = record {
-      onto = λ more (command, is). (command, spelled_of_then command (blanks ++ more) ((goes command).onto more is));
-      back = λ more same (command, spelled). (command, (goes command).back more same (then_of_spelled command (blanks ++ more) spelled));
-    } in
-    stops_behind IsLine IsSomeTail line blanks bytes left cut.bytes_are whole stop
+sentence_parts : (command : Command) → (sentence : Sentence command) → parts_of command ≡ Blanks ∷ Exactly (word_of sentence.head) ∷ tail_parts sentence.head sentence.values sentence.last
+sentence_parts command sentence = ap parts_of sentence.is ∙ command_parts sentence.head sentence.values sentence.last sentence.allowed
 
--- parts, and behind them bytes of a language
-abbrev pub ThenParts : List Part → (List ℕ → Type 0) → List ℕ → Type 0
-ThenParts [] Behind bytes = Behind bytes
-ThenParts (part ∷ parts) Behind bytes = Then part (ThenParts parts Behind) bytes
+-- ---- spelled by parts, and by the table
 
-pub IsMadeOf-ThenParts : (Behind : List ℕ → Type 0) (parts : List Part) (front rest : List ℕ) → IsMadeOf parts front → Behind rest → ThenParts parts Behind (front ++ rest)
-IsMadeOf-ThenParts Behind [] front rest made is = subst (λ f. Behind (f ++ rest)) (sym made) is
-IsMadeOf-ThenParts Behind (part ∷ parts) front rest (first, more, whole, part_is, made) is =
-    (first, more ++ rest, ap (λ f. f ++ rest) whole ∙ append_assoc first more rest, part_is, IsMadeOf-ThenParts Behind parts more rest made is)
+pub tail_of_spelled : (command : Command) (line : List ℕ) → SpellsLoosely line command → Then Blanks (IsTail command) line
+tail_of_spelled command line (is, made) =
+    ⊎_elim
+    (λ (blank : command ≡ commands.Blank).
+    let (prefix, rest, whole, are, end) = subst (λ c. IsMadeOf (parts_of c) line) blank made in
+    let found : Then Blanks (IsTail command) line = (prefix, rest, whole, are, inl (blank, end)) in
+    found)
+    (λ (sentence : Sentence command).
+    let head = sentence.head in
+    let parts = parts_with (production head) sentence.values in
+    let these : IsMadeOf (Blanks ∷ Exactly (word_of head) ∷ tail_parts head sentence.values sentence.last) line = subst (λ parts. IsMadeOf parts line) (sentence_parts command sentence) made in
+    let (prefix, rest, whole, are, (word, after, rest_is, word_is, tail)) = these in
+    let spelled : Spelled command head after = record { values = sentence.values; allowed = sentence.allowed; last = sentence.last; is = sentence.is; made = then_of_made parts (last_parts head sentence.last) after tail } in
+    let found : Then Blanks (IsTail command) line = (prefix, rest, whole, are, inr ((word_of head, head), lookup_in head_words (word_of head) head (named head), (word, after, rest_is, word_is, spelled_of_values command head after spelled))) in
+    found)
+    (sentence_of command is)
 
--- Bytes that are cut into parts and bytes of a language.
-pub record CutsParts (parts : List Part) (Behind : List ℕ → Type 0) (bytes : List ℕ) : Type 0 where
-  pub front : List ℕ
+pub spelled_of_tail : (command : Command) (line : List ℕ) → Then Blanks (IsTail command) line → SpellsLoosely line command
+spelled_of_tail command line (prefix, rest, whole, are, inl (blank, end)) =
+    subst (SpellsLoosely line) (sym blank) (tt, (prefix, rest, whole, are, end))
+spelled_of_tail command line (prefix, rest, whole, are, inr (entry, within, (word, after, rest_is, word_is, spells))) =
+    let head = entry.1 in
+    let spelled = values_of_spelled command head after spells in
+    let tail : IsMadeOf (tail_parts head spelled.values spelled.last) after = made_of_then (parts_with (production head) spelled.values) (last_parts head spelled.last) after spelled.made in
+    let these : IsMadeOf (Blanks ∷ Exactly (word_of head) ∷ tail_parts head spelled.values spelled.last) line = (prefix, rest, whole, are, (word, after, rest_is, word_is ∙ entry_word entry within, tail)) in
+    let made : IsMadeOf (parts_of (command_of head spelled.values spelled.last)) line = subst (λ parts. IsMadeOf parts line) (sym (command_parts head spelled.values spelled.last spelled.allowed)) these in
+    subst (SpellsLoosely line) (sym spelled.is) (is_command head spelled.values spelled.last, made)
+
+tail_halts : (command : Command) → Halts is_blank (IsTail command)
+tail_halts command = λ bytes tail. ends bytes tail
+  where
+    ends : (bytes : List ℕ) → IsTail command bytes → EndsRun is_blank bytes
+    ends bytes (inl (blank, end)) = subst (EndsRun is_blank) (sym end) tt
+    ends bytes (inr word) = word_halts (SpellsAfter command) bytes word
+
+-- the tail after the blanks
+pub tail_after : (command : Command) (line bytes : List ℕ) → Takes AnyBlanks tt line bytes → SpellsLoosely line command → IsTail command bytes
+tail_after command line bytes takes spelled = (after_symbol AnyBlanks refl (IsTail command) (tail_halts command) tt tt tt line bytes takes (tail_of_spelled command line spelled)).1
+
+pub spelled_after : (command : Command) (line bytes : List ℕ) → Takes AnyBlanks tt line bytes → IsTail command bytes → SpellsLoosely line command
+spelled_after command line bytes takes tail = spelled_of_tail command line (takes.prefix, bytes, takes.bytes_are, takes.is, tail)
+
+some_tail : (command : Command) (bytes : List ℕ) → IsTail command bytes → IsSomeTail bytes
+some_tail command bytes (inl (blank, end)) = inl end
+some_tail command bytes (inr (entry, within, (word, after, whole, word_is, spells))) = inr (entry, within, (word, after, whole, word_is, spelled_is_some command entry.1 after spells))
+
+tail_some : (bytes : List ℕ) → IsSomeTail bytes → (command : Command) × IsTail command bytes
+tail_some bytes (inl end) = (commands.Blank, inl (refl, end))
+tail_some bytes (inr (entry, within, (word, after, whole, word_is, is))) =
+    let found = some_spelled entry.1 after is in
+    (found.0, inr (entry, within, (word, after, whole, word_is, found.1)))
+
+-- ---- bad tokens of the line
+
+-- a bad token of the line, as many bytes from its end
+abbrev pub BadLine : Bads
+BadLine kind left line = (at : ℕ) × (at + left ≡ length line) × HasBadToken kind line at
+
+bad_at : (kind : BadToken) (before after : List Part) (this : Part) (prefix token rest : List ℕ) → IsMadeOf before prefix → IsPart this token → EndsToken this rest → IsOutOfBounds this kind → BadParts kind (length (token ++ rest)) (before ++ this ∷ after) (prefix ++ (token ++ rest))
+bad_at kind [] after this prefix token rest made part_is ends bad =
+    subst (λ p. BadParts kind (length (token ++ rest)) (this ∷ after) (p ++ (token ++ rest))) (sym made) (inl (token, rest, refl, part_is, ends, bad, refl))
+bad_at kind (first ∷ before) after this prefix token rest (head, tail, whole, head_is, made) part_is ends bad =
+    inr (head, tail ++ (token ++ rest), ap (λ p. p ++ (token ++ rest)) whole ∙ append_assoc head tail (token ++ rest), head_is, bad_at kind before after this tail token rest made part_is ends bad)
+
+bad_parts : (kind : BadToken) (line : List ℕ) (at left : ℕ) → at + left ≡ length line → (has : HasBadToken kind line at) → BadParts kind left (parts_of has.command) line
+bad_parts kind line at left place has =
+    let found = bad_at kind has.before has.after has.part has.prefix has.token has.rest has.prefix_is has.token_is has.ends has.bad in
+    let len : length line ≡ length has.prefix + length (has.token ++ has.rest) = ap length has.line_is ∙ length-append has.prefix (has.token ++ has.rest) in
+    let left_is : length (has.token ++ has.rest) ≡ left = omega (arith, has.place, len, place) in
+    let moved : BadParts kind left (has.before ++ has.part ∷ has.after) (has.prefix ++ (has.token ++ has.rest)) = subst (λ n. BadParts kind n (has.before ++ has.part ∷ has.after) (has.prefix ++ (has.token ++ has.rest))) left_is found in
+    let these : BadParts kind left (has.before ++ has.part ∷ has.after) line = subst (BadParts kind left (has.before ++ has.part ∷ has.after)) (sym has.line_is) moved in
+    subst (λ parts. BadParts kind left parts line) (sym has.parts_are) these
+
+-- such a token among the parts
+record FoundBad (kind : BadToken) (left : ℕ) (parts : List Part) (bytes : List ℕ) : Type 0 where
+  pub before : List Part
+  pub part : Part
+  pub after : List Part
+  pub parts_are : parts ≡ before ++ part ∷ after
+  pub prefix : List ℕ
+  pub token : List ℕ
   pub rest : List ℕ
-  pub bytes_are : bytes ≡ front ++ rest
-  pub made : IsMadeOf parts front
-  pub behind : Behind rest
+  pub bytes_are : bytes ≡ prefix ++ (token ++ rest)
+  pub prefix_is : IsMadeOf before prefix
+  pub token_is : IsPart part token
+  pub ends : EndsToken part rest
+  pub bad : IsOutOfBounds part kind
+  pub left_is : left ≡ length (token ++ rest)
 
-pub ThenParts-cuts : (Behind : List ℕ → Type 0) (parts : List Part) (bytes : List ℕ) → ThenParts parts Behind bytes → CutsParts parts Behind bytes
-ThenParts-cuts Behind [] bytes is = record { front = []; rest = bytes; bytes_are = refl; made = refl; behind = is }
-ThenParts-cuts Behind (part ∷ parts) bytes (first, more, whole, part_is, is) =
-    let cut = ThenParts-cuts Behind parts more is in
+found_bad : (kind : BadToken) (left : ℕ) (parts : List Part) (bytes : List ℕ) → BadParts kind left parts bytes → FoundBad kind left parts bytes
+found_bad kind left [] bytes bad = absurd bad
+found_bad kind left (this ∷ parts) bytes (inl (token, rest, whole, part_is, ends, bad, left_is)) = record {
+  before = [];
+  part = this;
+  after = parts;
+  parts_are = refl;
+  prefix = [];
+  token = token;
+  rest = rest;
+  bytes_are = whole;
+  prefix_is = refl;
+  token_is = part_is;
+  ends = ends;
+  bad = bad;
+  left_is = left_is ∙ ap length whole;
+}
+found_bad kind left (this ∷ parts) bytes (inr (first, tail, whole, first_is, later)) =
+    let found = found_bad kind left parts tail later in
     record {
-      front = first ++ cut.front;
-      rest = cut.rest;
-      bytes_are = whole ∙ ap (λ r. first ++ r) cut.bytes_are ∙ sym (append_assoc first cut.front cut.rest);
-      made = (first, cut.front, refl, part_is, cut.made);
-      behind = cut.behind;
+      before = this ∷ found.before;
+      part = found.part;
+      after = found.after;
+      parts_are = ap (λ list. this ∷ list) found.parts_are;
+      prefix = first ++ found.prefix;
+      token = found.token;
+      rest = found.rest;
+      bytes_are = whole ∙ ap (λ r. first ++ r) found.bytes_are ∙ sym (append_assoc first found.prefix (found.token ++ found.rest));
+      prefix_is = (first, found.prefix, refl, first_is, found.prefix_is);
+      token_is = found.token_is;
+      ends = found.ends;
+      bad = found.bad;
+      left_is = found.left_is;
     }
 
--- the parts before a label
-abbrev pub before_label : List Part
-before_label = Blanks ∷ Exactly word ∷ Gap ∷ []
+bad_line : (command : Command) (kind : BadToken) (left : ℕ) (line : List ℕ) → IsCommand command → BadParts kind left (parts_of command) line → BadLine kind left line
+bad_line command kind left line is bad =
+    let found = found_bad kind left (parts_of command) line bad in
+    let len : length line ≡ length found.prefix + length (found.token ++ found.rest) = ap length found.bytes_are ∙ length-append found.prefix (found.token ++ found.rest) in (
+      length found.prefix,
+      omega (arith, len, found.left_is),
+      record {
+        command = command;
+        in_grammar = is;
+        before = found.before;
+        part = found.part;
+        after = found.after;
+        parts_are = found.parts_are;
+        prefix = found.prefix;
+        token = found.token;
+        rest = found.rest;
+        line_is = found.bytes_are;
+        prefix_is = found.prefix_is;
+        token_is = found.token_is;
+        ends = found.ends;
+        bad = found.bad;
+        place = refl;
+      },
+    )
 
-no_name_loosely : (tokens : List (List ℕ)) (before behind : List Part) (name : List ℕ) → loosely tokens ≡ before ++ Name name ∷ behind → ⊥
-no_name_loosely [] [] behind name same = cc
-no_name_loosely [] (p ∷ before) behind name same = cc
-no_name_loosely (token ∷ tokens) [] behind name same = cc
-no_name_loosely (token ∷ tokens) (p ∷ []) behind name same = cc
-no_name_loosely (token ∷ tokens) (p ∷ q ∷ before) behind name same =
-    let tails : loosely tokens ≡ before ++ Name name ∷ behind = cc in no_name_loosely tokens before behind name tails
+last_no_bad : (head : Head) (last : LastValue head) → HasNoBad (last_parts head last)
+last_no_bad (heads.Alone word) last = λ kind left bytes bad. bad
+last_no_bad heads.Node last = λ kind left bytes bad. bad
+last_no_bad heads.Delete last = λ kind left bytes bad. bad
+last_no_bad heads.Query last = loosely_no_bad (flat_map step_tokens last.0)
 
--- The grammar has a name only as a label.
-name_in_parts : (command : Command) (before behind : List Part) (name : List ℕ) → parts_of command ≡ before ++ Name name ∷ behind → before ≡ before_label
-name_in_parts commands.Blank [] behind name same = cc
-name_in_parts commands.Blank (p ∷ []) behind name same = cc
-name_in_parts commands.Blank (p ∷ q ∷ before) behind name same = cc
-name_in_parts commands.Quit [] behind name same = cc
-name_in_parts commands.Quit (p ∷ []) behind name same = cc
-name_in_parts commands.Quit (p ∷ q ∷ []) behind name same = cc
-name_in_parts commands.Quit (p ∷ q ∷ r ∷ []) behind name same = cc
-name_in_parts commands.Quit (p ∷ q ∷ r ∷ s ∷ before) behind name same = cc
-name_in_parts (commands.Node label) [] behind name same = cc
-name_in_parts (commands.Node label) (p ∷ []) behind name same = cc
-name_in_parts (commands.Node label) (p ∷ q ∷ []) behind name same = cc
-name_in_parts (commands.Node label) (p ∷ q ∷ r ∷ []) behind name same = cc
-name_in_parts (commands.Node label) (p ∷ q ∷ r ∷ s ∷ []) behind name same = cc
-name_in_parts (commands.Node label) (p ∷ q ∷ r ∷ s ∷ t ∷ []) behind name same = cc
-name_in_parts (commands.Node label) (p ∷ q ∷ r ∷ s ∷ t ∷ u ∷ before) behind name same = cc
-name_in_parts (commands.Query query) [] behind name same = cc
-name_in_parts (commands.Query query) (p ∷ before) behind name same =
-    let tails : loosely (query_tokens query) ≡ before ++ Name name ∷ behind = cc in absurd (no_name_loosely (query_tokens query) before behind name tails)
+some_last : (head : Head) → LastValue head
+some_last (heads.Alone word) = tt
+some_last heads.Node = tt
+some_last heads.Delete = tt
+some_last heads.Query = ([], omega arith)
 
--- A long name of the line is a long label, as many bytes from the end.
-pub long_label_of_name : (line bytes : List ℕ) (at : ℕ) → SkipsBlanks line bytes → HasLongName line at → (left : ℕ) × HasLongLabel left bytes × (at + left ≡ length line)
-long_label_of_name line bytes at (blanks, cut) has =
-    let left : ℕ = length has.name + length has.rest in
-    let made : IsMadeOf before_label has.front = subst (λ parts. IsMadeOf parts has.front) (name_in_parts has.command has.before has.behind has.name has.parts_are) has.front_is in
-    let begins : BeginsWithName has.name left (has.name ++ has.rest) = (has.name, has.rest, refl, (refl, has.name_is), (has.ends, refl)) in
-    let whole : ThenParts before_label (BeginsWithName has.name left) line = subst (ThenParts before_label (BeginsWithName has.name left)) (sym has.line_is) (IsMadeOf-ThenParts (BeginsWithName has.name left) before_label has.front (has.name ++ has.rest) made begins) in
-    let inner = Then-blanks (Then (Exactly word) (Then Gap (BeginsWithName has.name left))) (Then-word-solid (Then Gap (BeginsWithName has.name left)) 110 (codes "ode") refl) line blanks bytes cut whole in
-    let len : length line ≡ length has.front + (length has.name + length has.rest) = ap length has.line_is ∙ length-append has.front (has.name ++ has.rest) ∙ ap (λ n. length has.front + n) (length-append has.name has.rest) in
-    (left, (has.name, has.long, inner), omega (arith, has.place))
+-- a bad token after the blanks
+bad_onto : (kind : BadToken) (left : ℕ) (blanks bytes : List ℕ) → AreBlanks blanks → BadTail kind left bytes → BadLine kind left (blanks ++ bytes)
+bad_onto kind left blanks bytes are (entry, within, (word, after, whole, word_is, bad)) =
+    let head = entry.1 in
+    let last = some_last head in
+    let found = parts_of_bad (production head) (production_is head) (last_parts head last) kind left after bad in
+    let these : BadParts kind left (Blanks ∷ Exactly (word_of head) ∷ tail_parts head found.values last) (blanks ++ bytes) = inr (blanks, bytes, refl, are, inr (word, after, whole, word_is ∙ entry_word entry within, found.bad)) in
+    bad_line (command_of head found.values last) kind left (blanks ++ bytes) (is_command head found.values last) (subst (λ parts. BadParts kind left parts (blanks ++ bytes)) (sym (command_parts head found.values last found.allowed)) these)
 
--- the front before a long label
-pub long_label_cuts : (line bytes : List ℕ) (left : ℕ) → SkipsBlanks line bytes → (is : HasLongLabel left bytes) → CutsParts before_label (BeginsWithName is.0 left) line
-long_label_cuts line bytes left (blanks, cut) (name, long, inner) = ThenParts-cuts (BeginsWithName name left) before_label line (blanks, bytes, cut.bytes_are, cut.passes, inner)
+bad_tail_of_sentence : (command : Command) (kind : BadToken) (left : ℕ) (line : List ℕ) → Sentence command → BadParts kind left (parts_of command) line → Then Blanks (BadTail kind left) line
+bad_tail_of_sentence command kind left line sentence bad = blanks_first (subst (λ parts. BadParts kind left parts line) (sentence_parts command sentence) bad)
+  where
+    word_first : (bytes : List ℕ) → BadParts kind left (Exactly (word_of sentence.head) ∷ tail_parts sentence.head sentence.values sentence.last) bytes → BadTail kind left bytes
+    word_first bytes (inl here) = absurd here.5
+    word_first bytes (inr (word, after, whole, word_is, later)) =
+        ((word_of sentence.head, sentence.head), lookup_in head_words (word_of sentence.head) sentence.head (named sentence.head), (word, after, whole, word_is, bad_of_parts (production sentence.head) sentence.values sentence.allowed (last_parts sentence.head sentence.last) (last_no_bad sentence.head sentence.last) kind left after later))
+
+    blanks_first : BadParts kind left (Blanks ∷ Exactly (word_of sentence.head) ∷ tail_parts sentence.head sentence.values sentence.last) line → Then Blanks (BadTail kind left) line
+    blanks_first (inl here) = absurd here.5
+    blanks_first (inr (blanks, rest, whole, are, later)) = (blanks, rest, whole, are, word_first rest later)
+
+blank_no_bad : (kind : BadToken) (left : ℕ) (line : List ℕ) → ¬ BadParts kind left (Blanks ∷ []) line
+blank_no_bad kind left line = λ bad. ⊎_elim (λ (here : IsBadPart Blanks kind left line). absurd here.5) (λ ((prefix, rest, whole, are, later) : Then Blanks (BadParts kind left []) line). later) bad
+
+bad_tail_of_line : (kind : BadToken) (left : ℕ) (line : List ℕ) → BadLine kind left line → Then Blanks (BadTail kind left) line
+bad_tail_of_line kind left line (at, place, has) =
+    let bad = bad_parts kind line at left place has in
+    ⊎_elim
+    (λ (blank : has.command ≡ commands.Blank). absurd (blank_no_bad kind left line (subst (λ c. BadParts kind left (parts_of c) line) blank bad)))
+    (λ (sentence : Sentence has.command). bad_tail_of_sentence has.command kind left line sentence bad)
+    (sentence_of has.command has.in_grammar)
+
+pub bad_tail_after : (kind : BadToken) (left : ℕ) (line bytes : List ℕ) → Takes AnyBlanks tt line bytes → BadLine kind left line → BadTail kind left bytes
+bad_tail_after kind left line bytes takes bad = (after_symbol AnyBlanks refl (BadTail kind left) (word_halts (λ head. BadAfter head kind left)) tt tt tt line bytes takes (bad_tail_of_line kind left line bad)).1
+
+-- ---- stops and faults of the line
+
+goes_line : (line bytes : List ℕ) → (takes : Takes AnyBlanks tt line bytes) → Goes IsLine BadLine takes.prefix IsSomeTail BadTail bytes
+goes_line line bytes takes = record {
+  line = record {
+    onto = λ more some.
+        let found = tail_some more some in
+        (found.0, spelled_of_tail found.0 (takes.prefix ++ more) (takes.prefix, more, refl, takes.is, found.1));
+    back = λ more same (command, spelled). some_tail command more (tail_after command (takes.prefix ++ more) more (takes_again AnyBlanks tt line bytes more takes same) spelled);
+  };
+  onto = λ kind left bad. bad_onto kind left takes.prefix bytes takes.is bad;
+  back = λ kind left bad. bad_tail_after kind left (takes.prefix ++ bytes) bytes (takes_again AnyBlanks tt line bytes bytes takes refl) bad;
+}
+
+pub stop_of_line : (Lack : Type 0) (line bytes : List ℕ) (stop : Stop) → Takes AnyBlanks tt line bytes → IsStop IsSomeTail BadTail Lack bytes stop → IsStop IsLine BadLine Lack line stop
+stop_of_line Lack line bytes stop takes at = stop_after IsLine BadLine Lack IsSomeTail BadTail Lack line takes.prefix bytes stop takes.bytes_are (λ lack. lack) (goes_line line bytes takes) at
+
+all_left : (P : Part → Type 0) (one two : List Part) → AllByRecursion P (one ++ two) → AllByRecursion P one
+all_left P [] two all = tt
+all_left P (first ∷ one) two all = (all.0, all_left P one two all.1)
+
+-- A command within its bounds leaves no bad token.
+pub no_bad_tail : (command : Command) (bytes : List ℕ) → IsTail command bytes → KeepsBounds command → (kind : BadToken) (left : ℕ) → ¬ BadTail kind left bytes
+no_bad_tail command bytes (inl (blank, end)) keeps kind left = λ bad. no_word_in_nothing (λ head. BadAfter head kind left) bytes end bad
+no_bad_tail command bytes (inr word) keeps kind left = λ bad.
+    let both = words_agree head_words head_table (SpellsAfter command) (λ head. BadAfter head kind left) (spells_halts command) (bad_after_halts kind left) bytes word bad in
+    let head = both.kind in
+    let spelled = values_of_spelled command head both.rest both.one in
+    let parts = parts_with (production head) spelled.values in
+    let last : List Part = last_parts head spelled.last in
+    let all : AllByRecursion IsBounded (Blanks ∷ Exactly (word_of head) ∷ (parts ++ last)) = subst (AllByRecursion IsBounded) (ap parts_of spelled.is ∙ command_parts head spelled.values spelled.last spelled.allowed) keeps in
+    no_bad_within (production head) (production_is head) spelled.values spelled.allowed (all_left IsBounded parts last all.1.1) (IsMadeOf last) (λ class rest made. (last_closes head).ends class rest (last_is head spelled.last rest made)) kind left both.rest spelled.made both.two

@@ -1,13 +1,21 @@
--- Runs of bytes that pass a test, and the byte behind a run.
-use Rattle.std.proofs.Common.{◌≡◌, ℕ, suc, ◌+◌, Bool, true, false, List, [], ◌∷◌, ◌++◌, take, drop, refl, sym, ap, ◌∙◌, ⊎_elim, subst, arith}
-use Rattle.std.specs.List.{prefix_len, AllByRecursion}
+-- Runs of bytes that pass a test, and the byte after a run.
+use Rattle.std.proofs.Common.{◌≡◌, ℕ, suc, ◌+◌, Bool, true, false, not, ◌&&◌, List, [], ◌∷◌, ◌++◌, take, drop, refl, sym, ap, ◌∙◌, ⊎_elim, subst, arith}
+use Rattle.std.specs.List.{prefix_len}
 use Rattle.std.proofs.lemmas.Bool.{cases_Bool, cond-true, cond-false}
-use Rattle.plain_graph.specs.Names.{is_name_byte}
-use Rattle.gremlin_parse.specs.Faults.{EndsName}
-use Rattle.gremlin_parse.specs.Reading.{first_byte, EndsRun, CutsRun}
+use Rattle.gremlin_parse.specs.Faults.{EndsRun}
+use Rattle.gremlin_parse.specs.Reading.{first_byte, Passes, CutsRun}
 
-abbrev Passes : (ℕ → Bool) → List ℕ → Type 0
-Passes p bytes = AllByRecursion (λ b. p b ≡ true) bytes
+pub both : (a b : Bool) → a && b ≡ true → (a ≡ true) × (b ≡ true)
+both true b is = (refl, is)
+both false b is = cc
+
+pub turned : (a : Bool) → not a ≡ true → a ≡ false
+turned true is = cc
+turned false is = refl
+
+-- No line of the language begins with a byte that passes.
+abbrev pub Halts : (ℕ → Bool) → (List ℕ → Type 0) → Type 0
+Halts p Language = (bytes : List ℕ) → Language bytes → EndsRun p bytes
 
 -- The bytes at the head that pass are a run as long as it can be.
 pub cut_run : (p : ℕ → Bool) (bytes : List ℕ) → CutsRun p bytes (take (prefix_len p bytes) bytes) (drop (prefix_len p bytes) bytes)
@@ -26,6 +34,11 @@ cut_run p (b ∷ bytes) =
     let at_zero : Cut 0 = none in
     subst Cut (sym (cond-false (p b) (1 + prefix_len p bytes) 0 no)) at_zero)
     (cases_Bool (p b))
+
+-- the run of so many bytes
+pub cut_run_at : (p : ℕ → Bool) (bytes run rest : List ℕ) (n : ℕ) → n ≡ prefix_len p bytes → run ≡ take n bytes → rest ≡ drop n bytes → CutsRun p bytes run rest
+cut_run_at p bytes run rest n count prefix_is rest_is =
+    subst (λ list. CutsRun p bytes list rest) (sym prefix_is) (subst (CutsRun p bytes (take n bytes)) (sym rest_is) (subst (λ k. CutsRun p bytes (take k bytes) (drop k bytes)) (sym count) (cut_run p bytes)))
 
 -- what ends a run depends on the first byte only
 pub EndsRun-first_byte : (p : ℕ → Bool) (bytes more : List ℕ) → first_byte more ≡ first_byte bytes → EndsRun p bytes → EndsRun p more
@@ -48,13 +61,5 @@ run_is_unique p (b ∷ run) [] rest (c ∷ more) ps qs ends stops e =
 run_is_unique p (b ∷ run) (c ∷ other) rest more ps qs ends stops e =
     let tails : run ++ rest ≡ other ++ more = cc in
     let heads : b ≡ c = cc in
-    let (here, behind) = run_is_unique p run other rest more ps.1 qs.1 ends stops tails in
-    (cc, behind)
-
-pub EndsRun-EndsName : (bytes : List ℕ) → EndsName bytes → EndsRun is_name_byte bytes
-EndsRun-EndsName [] ends = tt
-EndsRun-EndsName (b ∷ bytes) ends = ends
-
-pub EndsName-EndsRun : (bytes : List ℕ) → EndsRun is_name_byte bytes → EndsName bytes
-EndsName-EndsRun [] ends = tt
-EndsName-EndsRun (b ∷ bytes) ends = ends
+    let (here, after) = run_is_unique p run other rest more ps.1 qs.1 ends stops tails in
+    (cc, after)

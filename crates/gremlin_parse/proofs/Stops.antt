@@ -5,7 +5,7 @@ use Rattle.gremlin_parse.specs.Grammar.{Exactly}
 use Rattle.gremlin_parse.specs.Faults.{IsViable, StopsAt}
 use Rattle.gremlin_parse.specs.Reading.{first_byte, LeavesWord, StopsBefore, Then}
 
--- Behind the read bytes, a line of the first language goes on as one of the second language, where the unread bytes begin with the same byte.
+-- After the read bytes, a line of the first language goes on as one of the second language, where the unread bytes begin with the same byte.
 pub record Continues (Whole : List ℕ → Type 0) (read : List ℕ) (Left : List ℕ → Type 0) (unread : List ℕ) : Type 0 where
   pub onto : (more : List ℕ) → Left more → Whole (read ++ more)
   pub back : (more : List ℕ) → first_byte more ≡ first_byte unread → Whole (read ++ more) → Left more
@@ -14,9 +14,9 @@ pub first_byte-append : (read more unread : List ℕ) → first_byte more ≡ fi
 first_byte-append [] more unread same = same
 first_byte-append (b ∷ read) more unread same = refl
 
--- where reading stops behind what was read
-pub stops_behind : (Whole Left : List ℕ → Type 0) (bytes read rest : List ℕ) (left : ℕ) → bytes ≡ read ++ rest → Continues Whole read Left rest → StopsBefore Left rest left → StopsBefore Whole bytes left
-stops_behind Whole Left bytes read rest left bytes_are goes stop = record {
+-- where reading stops after what was read
+pub stops_after : (Whole Left : List ℕ → Type 0) (bytes read rest : List ℕ) (left : ℕ) → bytes ≡ read ++ rest → Continues Whole read Left rest → StopsBefore Left rest left → StopsBefore Whole bytes left
+stops_after Whole Left bytes read rest left bytes_are goes stop = record {
   read = read ++ stop.read;
   unread = stop.unread;
   bytes_are = bytes_are ∙ ap (λ r. read ++ r) stop.bytes_are ∙ sym (append_assoc read stop.read stop.unread);
@@ -34,21 +34,21 @@ pub stops_here : (Language : List ℕ → Type 0) (bytes line : List ℕ) → La
 stops_here Language bytes line some none = record { read = []; unread = bytes; bytes_are = refl; left_is = refl; viable = (line, some); none = none }
 
 -- Reading stops in a word, where the bytes differ from it.
-pub stops_in_word : (Behind : List ℕ → Type 0) (word bytes line : List ℕ) (left : ℕ) → Behind line → LeavesWord word bytes left → StopsBefore (Then (Exactly word) Behind) bytes left
-stops_in_word Behind word bytes line left some leaves = record {
+pub stops_in_word : (After : List ℕ → Type 0) (word bytes line : List ℕ) (left : ℕ) → After line → LeavesWord word bytes left → StopsBefore (Then (Exactly word) After) bytes left
+stops_in_word After word bytes line left some leaves = record {
   read = leaves.read;
   unread = leaves.unread;
   bytes_are = leaves.bytes_are;
   left_is = leaves.left_is;
   viable = ((leaves.next ∷ leaves.more) ++ line, (word, line, sym (append_assoc leaves.read (leaves.next ∷ leaves.more) line) ∙ ap (λ w. w ++ line) (sym leaves.word_is), refl, some));
-  none = λ more same (front, rest, whole, front_is, behind).
-      let goes_on : more ≡ leaves.next ∷ (leaves.more ++ rest) = append_cancel_left leaves.read more (leaves.next ∷ (leaves.more ++ rest)) (whole ∙ ap (λ w. w ++ rest) (front_is ∙ leaves.word_is) ∙ append_assoc leaves.read (leaves.next ∷ leaves.more) rest) in
+  none = λ more same (prefix, rest, whole, prefix_is, after).
+      let goes_on : more ≡ leaves.next ∷ (leaves.more ++ rest) = append_cancel_left leaves.read more (leaves.next ∷ (leaves.more ++ rest)) (whole ∙ ap (λ w. w ++ rest) (prefix_is ∙ leaves.word_is) ∙ append_assoc leaves.read (leaves.next ∷ leaves.more) rest) in
       leaves.differs (sym same ∙ ap first_byte goes_on);
 }
 
 -- the same lines
 pub stops_of_same : (Whole Left : List ℕ → Type 0) (bytes : List ℕ) (left : ℕ) → ((more : List ℕ) → Left more → Whole more) → ((more : List ℕ) → first_byte more ≡ first_byte bytes → Whole more → Left more) → StopsBefore Left bytes left → StopsBefore Whole bytes left
-stops_of_same Whole Left bytes left onto back stop = stops_behind Whole Left bytes [] bytes left refl (record { onto = onto; back = back }) stop
+stops_of_same Whole Left bytes left onto back stop = stops_after Whole Left bytes [] bytes left refl (record { onto = onto; back = back }) stop
 
 pub StopsBefore-refuses : (Language : List ℕ → Type 0) (bytes : List ℕ) (left : ℕ) → StopsBefore Language bytes left → ¬ Language bytes
 StopsBefore-refuses Language bytes left stop is = stop.none stop.unread refl (subst Language stop.bytes_are is)
@@ -57,7 +57,7 @@ pub take-append-add : (read unread : List ℕ) (n : ℕ) → take (length read +
 take-append-add [] unread n = ap (λ k. take k unread) (zero-add n)
 take-append-add (b ∷ read) unread n =
     let longer : length (b ∷ read) + n ≡ suc (length read + n) = omega arith in
-    ap (λ k. take k (b ∷ (read ++ unread))) longer ∙ ap (λ front. b ∷ front) (take-append-add read unread n)
+    ap (λ k. take k (b ∷ (read ++ unread))) longer ∙ ap (λ prefix. b ∷ prefix) (take-append-add read unread n)
 
 first_byte-take : (n : ℕ) (bytes more : List ℕ) → 0 < n → n ≤ length bytes → first_byte (take n bytes ++ more) ≡ first_byte bytes
 first_byte-take n [] more some within = absurd (omega arith)
@@ -69,13 +69,13 @@ pub StopsBefore-StopsAt : (Language : List ℕ → Type 0) (bytes : List ℕ) (l
 StopsBefore-StopsAt Language bytes left stop =
     let len : length bytes ≡ length stop.read + left = ap length stop.bytes_are ∙ length-append stop.read stop.unread ∙ ap (λ n. length stop.read + n) (sym stop.left_is) in
     let at : length bytes - left ≡ length stop.read = omega arith in
-    let front : take (length bytes - left) bytes ≡ stop.read = ap (λ k. take k bytes) (at ∙ sym (add-zero (length stop.read))) ∙ ap (take (length stop.read + 0)) stop.bytes_are ∙ take-append-add stop.read stop.unread 0 ∙ append-nil stop.read in
+    let prefix : take (length bytes - left) bytes ≡ stop.read = ap (λ k. take k bytes) (at ∙ sym (add-zero (length stop.read))) ∙ ap (take (length stop.read + 0)) stop.bytes_are ∙ take-append-add stop.read stop.unread 0 ∙ append-nil stop.read in
     record {
       within = omega arith;
-      viable = subst (IsViable Language) (sym front) stop.viable;
+      viable = subst (IsViable Language) (sym prefix) stop.viable;
       longest = λ longer above fits (more, line).
           let n : ℕ = longer - length stop.read in
           let longer_is : longer ≡ length stop.read + n = omega arith in
-          let long_front : take longer bytes ≡ stop.read ++ take n stop.unread = ap (λ k. take k bytes) longer_is ∙ ap (take (length stop.read + n)) stop.bytes_are ∙ take-append-add stop.read stop.unread n in
-          stop.none (take n stop.unread ++ more) (first_byte-take n stop.unread more (omega arith) (omega arith)) (subst Language (ap (λ f. f ++ more) long_front ∙ append_assoc stop.read (take n stop.unread) more) line);
+          let long_prefix : take longer bytes ≡ stop.read ++ take n stop.unread = ap (λ k. take k bytes) longer_is ∙ ap (take (length stop.read + n)) stop.bytes_are ∙ take-append-add stop.read stop.unread n in
+          stop.none (take n stop.unread ++ more) (first_byte-take n stop.unread more (omega arith) (omega arith)) (subst Language (ap (λ f. f ++ more) long_prefix ∙ append_assoc stop.read (take n stop.unread) more) line);
     }

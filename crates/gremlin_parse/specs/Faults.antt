@@ -1,53 +1,80 @@
 -- The faults of a line that spells no command, with their places.
-use Rattle.std.specs.Prelude.{◌≡◌, ℕ, ◌≤◌, ◌<◌, false, List, [], ◌∷◌, ◌++◌, length, take}
+use Rattle.std.specs.Prelude.{◌≡◌, ℕ, ◌≤◌, ◌<◌, Bool, false, List, [], ◌∷◌, ◌++◌, length, take}
 use Rattle.plain_graph.specs.declared.command.Command.{Command}
-use Rattle.gremlin_parse.specs.Grammar.{Part, Name, IsMadeOf, parts_of, IsCommand, IsLine}
-use Rattle.plain_graph.specs.Names.{IsName, is_name_byte}
+use Rattle.plain_graph.specs.Names.{is_name_byte}
+use Rattle.gremlin_parse.specs.Numbers.{is_digit}
+use Rattle.gremlin_parse.specs.Grammar.{Part, Blanks, Gap, Exactly, Name, Number, IsPart, IsMadeOf}
+use Rattle.gremlin_parse.specs.Grammar.{parts_of, IsCommand, IsLine, most_name_bytes, most_id}
+use Rattle.gremlin_parse.specs.declared.bad_token.BadToken.{BadToken}
+use Rattle.gremlin_parse.specs.declared.bad_token.BadToken.TheVariants.{LongName, WideNumber}
 use Rattle.gremlin_parse.specs.declared.line_fault.LineFault.{LineFault}
-use Rattle.gremlin_parse.specs.declared.line_fault.LineFault.TheVariants.{Memory, Syntax, NameLength}
+use Rattle.gremlin_parse.specs.declared.line_fault.LineFault.TheVariants.{Memory, Syntax}
+use Rattle.gremlin_parse.specs.declared.line_fault.LineFault.TheVariants.{NameLength, NumberRange}
 
 -- some line of the language begins with these bytes
 abbrev pub IsViable : (List ℕ → Type 0) → List ℕ → Type 0
 IsViable Language bytes = (more : List ℕ) × Language (bytes ++ more)
 
--- The longest front of the line with which some line of the language begins has this many bytes.
+-- The longest prefix of the line with which some line of the language begins has this many bytes.
 pub record StopsAt (Language : List ℕ → Type 0) (line : List ℕ) (at : ℕ) : Type 0 where
   pub within : at ≤ length line
   pub viable : IsViable Language (take at line)
-  pub longest : (longer : ℕ) → at < longer → longer ≤ length line → ¬ IsViable Language (take longer line)
+  pub longest :
+      (longer : ℕ) → at < longer → longer ≤ length line → ¬ IsViable Language (take longer line)
 
--- what stands behind a name ends it
-abbrev pub EndsName : List ℕ → Type 0
-EndsName [] = Unit {0}
-EndsName (b ∷ bytes) = is_name_byte b ≡ false
+-- The bytes begin with no byte that passes.
+abbrev pub EndsRun : (ℕ → Bool) → List ℕ → Type 0
+EndsRun p [] = Unit {0}
+EndsRun p (b ∷ bytes) = p b ≡ false
 
--- A name of more than 48 bytes stands whole in the line at this place, where the grammar has a name.
-pub record HasLongName (line : List ℕ) (at : ℕ) : Type 0 where
+-- what stands after a name or a number ends it
+abbrev pub EndsToken : Part → List ℕ → Type 0
+EndsToken Blanks rest = ⊥
+EndsToken Gap rest = ⊥
+EndsToken (Exactly word) rest = ⊥
+EndsToken (Name name) rest = EndsRun is_name_byte rest
+EndsToken (Number number) rest = EndsRun is_digit rest
+
+-- The part is a token out of its bounds.
+abbrev pub IsOutOfBounds : Part → BadToken → Type 0
+IsOutOfBounds Blanks kind = ⊥
+IsOutOfBounds Gap kind = ⊥
+IsOutOfBounds (Exactly word) kind = ⊥
+IsOutOfBounds (Name name) LongName = most_name_bytes < length name
+IsOutOfBounds (Name name) WideNumber = ⊥
+IsOutOfBounds (Number number) LongName = ⊥
+IsOutOfBounds (Number number) WideNumber = most_id < number
+
+-- Such a token stands whole in the line at this place, where the grammar has it.
+pub record HasBadToken (kind : BadToken) (line : List ℕ) (at : ℕ) : Type 0 where
   pub command : Command
   pub in_grammar : IsCommand command
   pub before : List Part
-  pub name : List ℕ
-  pub behind : List Part
-  pub parts_are : parts_of command ≡ before ++ Name name ∷ behind
-  pub front : List ℕ
+  pub part : Part
+  pub after : List Part
+  pub parts_are : parts_of command ≡ before ++ part ∷ after
+  pub prefix : List ℕ
+  pub token : List ℕ
   pub rest : List ℕ
-  pub line_is : line ≡ front ++ (name ++ rest)
-  pub front_is : IsMadeOf before front
-  pub name_is : IsName name
-  pub ends : EndsName rest
-  pub long : 48 < length name
-  pub place : at ≡ length front
+  pub line_is : line ≡ prefix ++ (token ++ rest)
+  pub prefix_is : IsMadeOf before prefix
+  pub token_is : IsPart part token
+  pub ends : EndsToken part rest
+  pub bad : IsOutOfBounds part kind
+  pub place : at ≡ length prefix
 
 -- The line has the fault at its place.
 abbrev pub HasFault : List ℕ → LineFault → Type 0
 HasFault line (Syntax at) = (¬ IsLine line) × StopsAt IsLine line at
-HasFault line (NameLength at) = HasLongName line at
+HasFault line (NameLength at) = HasBadToken LongName line at
+HasFault line (NumberRange at) = HasBadToken WideNumber line at
 HasFault line Memory = ⊥
 
 -- the place of a fault
 abbrev pub place_of : LineFault → ℕ
 place_of (Syntax at) = at
 place_of (NameLength at) = at
+place_of (NumberRange at) = at
 place_of Memory = 0
 
 -- the leftmost of the faults that the line has

@@ -1,12 +1,24 @@
--- Which lines spell which commands. A command is spelled by parts, one behind the other.
-use Rattle.std.specs.Prelude.{◌≡◌, ◌≢◌, ℕ, ◌≤◌, Bool, true, ◌==◌, ◌&&◌, ◌||◌, nat_le, List, [], ◌∷◌, ◌++◌, length, codes, flat_map}
+-- Which lines spell which commands. A command is spelled by parts, one after the other.
+use Rattle.std.specs.Prelude.{◌≡◌, ◌≢◌, ℕ, ◌≤◌, Bool, true, ◌==◌, ◌||◌}
+use Rattle.std.specs.Prelude.{List, [], ◌∷◌, ◌++◌, length, codes, flat_map}
 use Rattle.std.specs.List.{AllByRecursion}
 use Rattle.plain_graph.specs.Names.{IsName}
 use Rattle.plain_graph.specs.declared.command.Command.{Command}
 use Rattle.plain_graph.specs.declared.command.Command.TheVariants as commands
+use Rattle.plain_graph.specs.declared.command.Target.{Target}
+use Rattle.plain_graph.specs.declared.command.Target.TheVariants as targets
 use Rattle.plain_graph.specs.declared.query.Query.{Query}
 use Rattle.plain_graph.specs.declared.query.Step.{Step}
 use Rattle.plain_graph.specs.declared.query.Step.TheVariants as steps
+use Rattle.gremlin_parse.specs.Numbers.{IsNumber}
+
+-- how many bytes a name has at most
+abbrev pub most_name_bytes : ℕ
+most_name_bytes = 48
+
+-- the greatest identifier
+abbrev pub most_id : ℕ
+most_id = 4294967294
 
 -- a space or a tab
 abbrev pub is_blank : ℕ → Bool
@@ -15,56 +27,80 @@ is_blank b = b == 32 || b == 9
 abbrev pub AreBlanks : List ℕ → Type 0
 AreBlanks bytes = AllByRecursion (λ b. is_blank b ≡ true) bytes
 
--- A part of a spelled command: any blanks, one blank or more, a word or a sign of the grammar, or a name.
+-- A part of a spelled command: any blanks, one blank or more, a word or a sign of the grammar,
+-- a name, or a number.
 pub data Part : Type 0 where
   Blanks : Part
   Gap : Part
   Exactly : (word : List ℕ) → Part
   Name : (name : List ℕ) → Part
+  Number : (number : ℕ) → Part
 
 abbrev pub IsPart : Part → List ℕ → Type 0
 IsPart Blanks bytes = AreBlanks bytes
 IsPart Gap bytes = AreBlanks bytes × (bytes ≢ [])
 IsPart (Exactly word) bytes = bytes ≡ word
 IsPart (Name name) bytes = (bytes ≡ name) × IsName name
+IsPart (Number number) bytes = IsNumber number bytes
 
--- the bytes are these parts, one behind the other
+-- the bytes are these parts, one after the other
 abbrev pub IsMadeOf : List Part → List ℕ → Type 0
 IsMadeOf [] bytes = bytes ≡ []
-IsMadeOf (part ∷ parts) bytes = (front : List ℕ) × (rest : List ℕ) × (bytes ≡ front ++ rest) × IsPart part front × IsMadeOf parts rest
+IsMadeOf (part ∷ parts) bytes =
+    (prefix : List ℕ) × (rest : List ℕ) × (bytes ≡ prefix ++ rest) × IsPart part prefix
+    × IsMadeOf parts rest
 
 abbrev pub step_tokens : Step → List (List ℕ)
 step_tokens steps.Count = codes "." ∷ codes "count" ∷ codes "(" ∷ codes ")" ∷ []
 
 -- g.V() and a dot before each step
 abbrev pub query_tokens : Query → List (List ℕ)
-query_tokens query = (codes "g" ∷ codes "." ∷ codes "V" ∷ codes "(" ∷ codes ")" ∷ []) ++ flat_map step_tokens query.steps
+query_tokens query =
+    (codes "g" ∷ codes "." ∷ codes "V" ∷ codes "(" ∷ codes ")" ∷ [])
+    ++ flat_map step_tokens query.steps
 
--- tokens with any blanks behind each
+-- tokens with any blanks after each
 abbrev pub loosely : List (List ℕ) → List Part
 loosely [] = []
 loosely (token ∷ tokens) = Exactly token ∷ Blanks ∷ loosely tokens
 
+-- a word and nothing else
+abbrev pub alone : List ℕ → List Part
+alone word = Blanks ∷ Exactly word ∷ Blanks ∷ []
+
+abbrev pub target_parts : Target → List Part
+target_parts (targets.Node id) = Exactly (codes "node") ∷ Gap ∷ Number id ∷ []
+
 -- the parts that spell a command
 abbrev pub parts_of : Command → List Part
 parts_of commands.Blank = Blanks ∷ []
-parts_of commands.Quit = Blanks ∷ Exactly (codes "quit") ∷ Blanks ∷ []
+parts_of commands.Begin = alone (codes "begin")
+parts_of commands.Commit = alone (codes "commit")
+parts_of commands.Rollback = alone (codes "rollback")
+parts_of commands.Checkpoint = alone (codes "checkpoint")
+parts_of commands.Stats = alone (codes "stats")
+parts_of commands.Reopen = alone (codes "reopen")
+parts_of commands.Quit = alone (codes "quit")
 parts_of (commands.Node label) = Blanks ∷ Exactly (codes "node") ∷ Gap ∷ Name label ∷ Blanks ∷ []
+parts_of (commands.Delete target) =
+    (Blanks ∷ Exactly (codes "delete") ∷ Gap ∷ []) ++ target_parts target ++ Blanks ∷ []
 parts_of (commands.Query query) = Blanks ∷ loosely (query_tokens query)
 
 -- a command of the grammar: a query has one step at most
 abbrev pub IsCommand : Command → Type 0
-IsCommand commands.Blank = Unit {0}
-IsCommand commands.Quit = Unit {0}
-IsCommand (commands.Node label) = Unit {0}
 IsCommand (commands.Query query) = length query.steps ≤ 1
+IsCommand _ = Unit {0}
 
--- the bounds that are no part of the loose grammar: a name has at most 48 bytes
+-- The part is within the bounds that are no part of the loose grammar.
+abbrev pub IsBounded : Part → Type 0
+IsBounded Blanks = Unit {0}
+IsBounded Gap = Unit {0}
+IsBounded (Exactly word) = Unit {0}
+IsBounded (Name name) = length name ≤ most_name_bytes
+IsBounded (Number number) = number ≤ most_id
+
 abbrev pub KeepsBounds : Command → Type 0
-KeepsBounds commands.Blank = Unit {0}
-KeepsBounds commands.Quit = Unit {0}
-KeepsBounds (commands.Node label) = length label ≤ 48
-KeepsBounds (commands.Query query) = Unit {0}
+KeepsBounds command = AllByRecursion IsBounded (parts_of command)
 
 -- the line spells the command but for the bounds
 abbrev pub SpellsLoosely : List ℕ → Command → Type 0
@@ -77,3 +113,9 @@ Spells line command = SpellsLoosely line command × KeepsBounds command
 -- a line of the loose grammar
 abbrev pub IsLine : List ℕ → Type 0
 IsLine line = (command : Command) × SpellsLoosely line command
+
+-- The command is read without asking for memory.
+abbrev pub NeedsNoMemory : Command → Type 0
+NeedsNoMemory (commands.Node label) = ⊥
+NeedsNoMemory (commands.Query query) = ⊥
+NeedsNoMemory _ = Unit {0}

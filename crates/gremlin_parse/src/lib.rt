@@ -2,10 +2,18 @@
 //! fault with its place. A line is read once; its label is copied once.
 #![tactic(auto)]
 
+mod bad_token;
+mod command;
+mod head;
+mod keyword;
 mod line_fault;
+mod number;
 mod parts;
+mod query;
 mod reader;
 mod stop;
+mod target;
+mod word;
 
 pub use line_fault::LineFault;
 pub use reader::parse_line;

@@ -12,4 +12,7 @@ pub enum LineFault {
     /// The name at `at` has more than 48 bytes.
     #[error("a name of more than 48 bytes at byte {at}")]
     NameLength { at: usize },
+    /// The number at `at` is above 4,294,967,294.
+    #[error("a number out of range at byte {at}")]
+    NumberRange { at: usize },
 }

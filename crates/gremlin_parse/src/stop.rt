@@ -1,3 +1,5 @@
+use crate::bad_token::BadToken;
+
 /// Why reading stopped. `left` is the number of bytes from there to the line's end.
 #[derive(Clone, Copy)]
 pub(crate) enum Stop {
@@ -5,6 +7,6 @@ pub(crate) enum Stop {
     Memory,
     /// No line of the grammar goes on so.
     Syntax { left: usize },
-    /// A name of more than 48 bytes stands there.
-    NameLength { left: usize },
+    /// Such a token stands there.
+    Bad { token: BadToken, left: usize },
 }

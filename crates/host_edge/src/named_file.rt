@@ -39,14 +39,15 @@ impl NamedFile {
         self.opened(rt)?.write_all_at(bytes, at)
     }
 
-    /// Makes the file's bytes and its length durable, and its entry in the folder too, as far as the
-    /// system lets a folder be synced. The entry is synced once in each run, also where the file was
-    /// there: the run that made it may have ended before it synced.
+    /// Makes the file's bytes and its length durable, and its entry in the folder too, where the system
+    /// syncs folders at all. The entry is synced once in each run, also where the file was there: the run
+    /// that made it may have ended before it synced. A sync of the folder that fails is tried again.
     pub(crate) fn sync(&mut self, rt: &HostRuntime) -> io::Result<()> {
         // A sync of the data includes a length that grew.
         self.opened(rt)?.sync_data()?;
         if !self.has_synced_folder {
-            self.has_synced_folder = sync_folder(rt).is_ok();
+            sync_folder(rt)?;
+            self.has_synced_folder = true;
         }
         Ok(())
     }
@@ -78,6 +79,10 @@ fn above_streams(file: File) -> io::Result<File> {
     file.try_clone()
 }
 
+/// Syncs the current folder. Some file systems sync no folder, and say so.
 fn sync_folder(rt: &HostRuntime) -> io::Result<()> {
-    File::open(rt, ".")?.sync_all()
+    match File::open(rt, ".")?.sync_all() {
+        Err(error) if error.kind() == ErrorKind::InvalidInput => Ok(()),
+        answer => answer,
+    }
 }

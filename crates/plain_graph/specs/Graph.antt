@@ -1,5 +1,6 @@
 -- The plain property graph: lists, and nothing of records, chains or logs.
-use Rattle.std.specs.Prelude.{◌≡◌, ◌⊎◌, ℕ, List, [], ◌∷◌, ◌++◌, length, Contains}
+use Rattle.std.specs.Prelude.{◌≡◌, ◌⊎◌, ℕ, ◌<◌, nat_eq, nat_lt, Bool, true, false, not, cond, List, [], ◌∷◌, ◌++◌, Contains}
+use Rattle.std.specs.List.{filter, list_any}
 
 -- a node, with its label's bytes
 pub record Node : Type 0 where
@@ -14,12 +15,39 @@ pub record Graph : Type 0 where
 abbrev pub empty_graph : Graph
 empty_graph = record { nodes = []; names = [] }
 
+-- the row at its place among rows of ascending numbers
+abbrev pub with_row : {E : Type 0} → (E → ℕ) → E → List E → List E
+with_row of e [] = e ∷ []
+with_row of e (first ∷ later) = cond (nat_lt (of e) (of first)) (e ∷ first ∷ later) (first ∷ with_row of e later)
+
+-- the rows without those of a number
+abbrev pub without_row : {E : Type 0} → (E → ℕ) → ℕ → List E → List E
+without_row of id rows = filter (λ e. not (nat_eq (of e) id)) rows
+
+abbrev pub node_number : Node → ℕ
+node_number node = node.id
+
+-- a node of the graph has this identifier
+abbrev pub has_node : Graph → ℕ → Bool
+has_node graph id = list_any (λ node. nat_eq (node_number node) id) graph.nodes
+
 -- A name that is known is used again, and a new one goes to the end.
 abbrev pub UsesName : List (List ℕ) → List ℕ → List (List ℕ) → Type 0
 UsesName old name new = (Contains old name × (new ≡ old)) ⊎ ((¬ Contains old name) × (new ≡ old ++ name ∷ []))
 
--- The new graph is the old one with one more node. Its identifier is the number of nodes so far.
-pub record AddsNode (old : Graph) (label : List ℕ) (id : ℕ) (new : Graph) : Type 0 where
-  pub identifier : id ≡ length old.nodes
-  pub nodes : new.nodes ≡ old.nodes ++ record { id = id; label = label } ∷ []
+-- The new graph has one more node. Its identifier is one below the limit that no node has.
+pub record AddsNode (limit : ℕ) (old : Graph) (label : List ℕ) (id : ℕ) (new : Graph) : Type 0 where
+  pub below : id < limit
+  pub fresh : has_node old id ≡ false
+  pub nodes : new.nodes ≡ with_row node_number (record { id = id; label = label }) old.nodes
   pub names : UsesName old.names label new.names
+
+-- The new graph lacks the node of this identifier. Names stay.
+pub record RemovesNode (old : Graph) (id : ℕ) (new : Graph) : Type 0 where
+  pub there : has_node old id ≡ true
+  pub nodes : new.nodes ≡ without_row node_number id old.nodes
+  pub names : new.names ≡ old.names
+
+-- a name takes a place of its own where it is new
+abbrev pub NeedsNames : List (List ℕ) → List ℕ → ℕ → Type 0
+NeedsNames names label count = (Contains names label × (count ≡ 0)) ⊎ ((¬ Contains names label) × (count ≡ 1))

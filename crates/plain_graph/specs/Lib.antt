@@ -1,3 +1,5 @@
+pub mod Changes
+pub mod Counts
 pub mod Graph
 pub mod Meaning
 pub mod Names

@@ -1,18 +1,27 @@
 -- The replies of the console, and their bytes.
 use Rattle.std.specs.Prelude.{ℕ, List, [], ◌∷◌, ◌++◌, codes, decimal, flat_map, slice_index_or}
 use Rattle.std.specs.Fmt.{signed_decimal}
+use Rattle.plain_graph.specs.declared.counts.Counts.{Counts}
 use Rattle.plain_graph.specs.declared.item.Item.{Item}
 use Rattle.plain_graph.specs.declared.item.Item.TheVariants as items
 use Rattle.plain_graph.specs.declared.item.Value.TheVariants as values
 use Rattle.plain_graph.specs.declared.refusal.Refusal.{Refusal}
 use Rattle.plain_graph.specs.declared.refusal.Refusal.TheVariants as refusals
 
--- what a line of the console is answered with
+-- why a line is not carried out, or not to its end: no memory, the disk, or a record that breaks a rule of the store
+pub data Fault : Type 0 where
+  NoMemory : Fault
+  DiskFailed : Fault
+  DamagedRecord : (file id : ℕ) → Fault
+
+-- What a line of the console is answered with. A fault comes after a prefix of the results that a query has shown by then.
 pub data Reply : Type 0 where
   Silent : Reply
+  Done : Reply
   NodeMade : (id : ℕ) → Reply
   Results : (results : List Item) → Reply
-  FaultDisk : Reply
+  Counted : (counts : Counts) → Reply
+  Faulted : (results : List Item) → (fault : Fault) → Reply
   Refused : (why : Refusal) → Reply
 
 -- the text with a newline behind it
@@ -34,16 +43,18 @@ refusal_text (refusals.NameLength at) = codes "error name length " ++ decimal at
 refusal_text refusals.Failed = codes "error failed"
 refusal_text refusals.FullNodes = codes "error full nodes"
 refusal_text refusals.FullNames = codes "error names full"
-refusal_text refusals.FullLog = codes "error log full"
-refusal_text refusals.Memory = codes "error memory"
+refusal_text (refusals.NumberRange at) = codes "error number range " ++ decimal at
+refusal_text refusals.TransactionOpen = codes "error transaction open"
+refusal_text refusals.NoTransaction = codes "error no transaction"
+refusal_text (refusals.NoNode id) = codes "error no node " ++ decimal id
+refusal_text (refusals.HasRelationships id) = codes "error node " ++ decimal id ++ codes " has relationships"
+refusal_text refusals.TransactionFull = codes "error transaction full"
 
--- the bytes of a reply
-abbrev pub reply_text : Reply → List ℕ
-reply_text Silent = []
-reply_text (NodeMade id) = text_line (codes "node " ++ decimal id)
-reply_text (Results results) = flat_map result_text results ++ text_line (codes "end")
-reply_text FaultDisk = text_line (codes "fault disk")
-reply_text (Refused why) = text_line (refusal_text why)
+-- how many there are of each part of the graph
+abbrev pub counts_text : Counts → List ℕ
+counts_text counts =
+    codes "nodes " ++ decimal counts.nodes ++ codes " edges " ++ decimal counts.edges ++ codes " properties " ++ decimal counts.properties ++ codes " blocks " ++ decimal counts.blocks
+    ++ codes " names " ++ decimal counts.names
 
 -- what the lines of the console call each file of the store
 abbrev pub file_name : ℕ → List ℕ
@@ -52,6 +63,22 @@ file_name file = slice_index_or (codes "meta" ∷ codes "nodes" ∷ codes "edges
 -- the record of this number in the file breaks a rule of the store; for the log the number is the place of an entry
 abbrev pub damaged_text : ℕ → ℕ → List ℕ
 damaged_text file id = codes "damaged " ++ file_name file ++ codes " " ++ decimal id
+
+-- the line of a fault
+abbrev pub fault_line : Fault → List ℕ
+fault_line NoMemory = text_line (codes "error memory")
+fault_line DiskFailed = text_line (codes "fault disk")
+fault_line (DamagedRecord file id) = text_line (damaged_text file id)
+
+-- the bytes of a reply
+abbrev pub reply_text : Reply → List ℕ
+reply_text Silent = []
+reply_text Done = text_line (codes "ok")
+reply_text (NodeMade id) = text_line (codes "node " ++ decimal id)
+reply_text (Results results) = flat_map result_text results ++ text_line (codes "end")
+reply_text (Counted counts) = text_line (counts_text counts)
+reply_text (Faulted results fault) = flat_map result_text results ++ fault_line fault
+reply_text (Refused why) = text_line (refusal_text why)
 
 -- the threshold and the limit of the store
 abbrev pub configuration_text : ℕ → ℕ → List ℕ

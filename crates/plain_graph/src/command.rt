@@ -1,14 +1,35 @@
 use crate::{Query, Text};
 
+/// An element of the graph that a line names.
+#[derive(Clone, Copy, Debug, PartialEq, Eq)]
+pub enum Target {
+    /// The node of this identifier.
+    Node(u32),
+}
+
 /// What a line of the console asks for.
 #[derive(Drop)]
 pub enum Command {
     /// Nothing: a line of blanks.
     Blank,
+    /// A transaction, which later lines change the graph in.
+    Begin,
+    /// The open transaction's changes, for good.
+    Commit,
+    /// The graph without the open transaction's changes.
+    Rollback,
+    /// All records in their files, and an empty log.
+    Checkpoint,
+    /// How many nodes and names there are.
+    Stats,
+    /// The store anew, as the disk holds it.
+    Reopen,
     /// The end of the run.
     Quit,
     /// A new node with this label.
     Node { label: Text },
+    /// The graph without this element.
+    Delete(Target),
     /// The results of a query.
     Query(Query),
 }

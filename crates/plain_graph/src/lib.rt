@@ -3,6 +3,7 @@
 #![tactic(auto)]
 
 mod command;
+mod counts;
 mod item;
 mod limits;
 mod name;
@@ -12,15 +13,16 @@ mod reply;
 mod short_text;
 mod text;
 
-pub use command::Command;
+pub use command::{Command, Target};
+pub use counts::Counts;
 pub use item::{Item, Value};
 pub use limits::{NAME_BYTES, NAMES};
 pub use name::{is_name_byte, is_name_start, is_short_name};
 pub use query::{Query, Step, StepList};
 pub use refusal::Refusal;
 pub use reply::{
-    configuration, damaged, disk_fault, end_of_results, node_made, not_a_store, refused,
-    result_line,
+    configuration, counted, damaged, disk_fault, done, end_of_results, no_memory, node_made,
+    not_a_store, refused, result_line,
 };
 pub use short_text::ShortText;
 pub use text::Text;

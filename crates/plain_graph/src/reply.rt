@@ -1,7 +1,7 @@
-ghost use Rattle.std.specs.Prelude.{◌≡◌, ◌≤◌, codes, length};
-ghost use Rattle.plain_graph.specs.Reply.{FaultDisk, NodeMade, Refused, configuration_text, damaged_text, file_name, reply_text, result_text, text_line};
+ghost use Rattle.std.specs.Prelude.{◌≡◌, ◌≤◌, ◌+◌, ◌++◌, codes, decimal, length};
+ghost use Rattle.plain_graph.specs.Reply.{Counted, DamagedRecord, DiskFailed, Done, NoMemory, NodeMade, Refused, configuration_text, damaged_text, fault_line, file_name, reply_text, result_text, text_line};
 
-use crate::{Item, Refusal, ShortText, Value};
+use crate::{Counts, Item, Refusal, ShortText, Value};
 use itoa::Buffer;
 
 /// The reply to a line that made a node: `node ID`.
@@ -16,6 +16,38 @@ pub fn node_made(id: u32) -> ShortText
     text
 }
 
+/// The reply to a line that was carried out and has nothing else to tell: `ok`.
+pub fn done() -> &'static [u8]
+    ensures { result.now ≡ reply_text Done }
+{
+    b"ok\n"
+}
+
+/// The reply to `stats`: how many there are of each part of the graph.
+pub fn counted(counts: Counts) -> ShortText
+    ensures { result ≡ reply_text (Counted counts) }
+{
+    let mut text = ShortText::new();
+    push_count(&mut text, b"nodes ", counts.nodes);
+    push_count(&mut text, b" edges ", counts.edges);
+    push_count(&mut text, b" properties ", counts.properties);
+    push_count(&mut text, b" blocks ", counts.blocks);
+    push_count(&mut text, b" names ", counts.names);
+    text.push(b"\n");
+    text
+}
+
+/// Puts a word and a number at the end.
+fn push_count(text: &mut ShortText, word: &[u8], count: u32)
+    requires { length text.old + length word.now ≤ 117 }
+    ensures text { text.new ≡ text.old ++ word.now ++ decimal count }
+    ensures length { length text.new ≤ length text.old + length word.now + 10 }
+{
+    let mut digits = Buffer::new();
+    text.push(word);
+    text.push(digits.format(count).as_bytes());
+}
+
 /// The reply to a line that is refused: `error ..`.
 pub fn refused(why: Refusal) -> ShortText
     ensures { result ≡ reply_text (Refused why) }
@@ -27,8 +59,22 @@ pub fn refused(why: Refusal) -> ShortText
         Refusal::Failed => text.push(b"error failed"),
         Refusal::FullNodes => text.push(b"error full nodes"),
         Refusal::FullNames => text.push(b"error names full"),
-        Refusal::FullLog => text.push(b"error log full"),
-        Refusal::Memory => text.push(b"error memory"),
+        Refusal::TransactionOpen => text.push(b"error transaction open"),
+        Refusal::NoTransaction => text.push(b"error no transaction"),
+        Refusal::TransactionFull => text.push(b"error transaction full"),
+        Refusal::NoNode { id } => {
+            text.push(b"error no node ");
+            text.push(digits.format(id).as_bytes());
+        }
+        Refusal::HasRelationships { id } => {
+            text.push(b"error node ");
+            text.push(digits.format(id).as_bytes());
+            text.push(b" has relationships");
+        }
+        Refusal::NumberRange { at } => {
+            text.push(b"error number range ");
+            text.push(digits.format(at).as_bytes());
+        }
         Refusal::Syntax { at } => {
             text.push(b"error syntax ");
             text.push(digits.format(at).as_bytes());
@@ -68,9 +114,16 @@ pub fn end_of_results() -> &'static [u8]
     b"end\n"
 }
 
-/// The reply to a line in which the disk failed.
+/// The line where there was no memory for what a line asks for.
+pub fn no_memory() -> &'static [u8]
+    ensures { result.now ≡ fault_line NoMemory }
+{
+    b"error memory\n"
+}
+
+/// The line where the disk failed.
 pub fn disk_fault() -> &'static [u8]
-    ensures { result.now ≡ reply_text FaultDisk }
+    ensures { result.now ≡ fault_line DiskFailed }
 {
     b"fault disk\n"
 }
@@ -85,7 +138,8 @@ pub fn not_a_store() -> &'static [u8]
 /// The line where a record breaks a rule of the store: the name of its file and its number, or for an
 /// entry of the log its place.
 pub fn damaged(file: u8, id: u32) -> ShortText
-    ensures { result ≡ text_line (damaged_text file id) }
+    ensures text { result ≡ text_line (damaged_text file id) }
+    ensures fault { result ≡ fault_line (DamagedRecord file id) }
 {
     let mut text = ShortText::new();
     let mut digits = Buffer::new();

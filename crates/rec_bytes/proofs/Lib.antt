@@ -1,6 +1,12 @@
+pub mod CreationPairs
+pub mod Format
 pub mod KeyLaws
-pub mod MergeLaws
+pub mod MetaBytes
 pub mod Metas
 pub mod Numbers
+pub mod OrderLaws
 pub mod PairLaws
+pub mod RecordFiles
 pub mod Shapes
+pub mod Spaces
+pub mod Tables

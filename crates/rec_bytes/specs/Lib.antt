@@ -1,7 +1,14 @@
+pub mod Creation
+pub mod Format
 pub mod Key
-pub mod Merge
+pub mod Lending
+pub mod MapSpace
 pub mod Meta
+pub mod PairLending
+pub mod PairOrder
 pub mod Pairs
 pub mod Record
 pub mod RecordFiles
 pub mod Shape
+pub mod Space
+pub mod Tables

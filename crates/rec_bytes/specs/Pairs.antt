@@ -1,5 +1,5 @@
 -- Records by key, as a list of pairs in the order of the keys.
-use Rattle.std.specs.Prelude.{◌≡◌, ℕ, zero, suc, List, [], ◌∷◌, Some, None, Option, is_some, ◌+◌, if◌then◌else◌}
+use Rattle.std.specs.Prelude.{◌≡◌, ℕ, zero, suc, List, [], ◌∷◌, Some, None, Option, is_some, unwrap_or, ◌+◌, if◌then◌else◌}
 use Rattle.std.specs.Option.{option_or}
 use Rattle.std.specs.declared.cmp.Ordering.{Ordering}
 use Rattle.std.specs.declared.cmp.Ordering.TheVariants.{Less, Equal, Greater}
@@ -9,6 +9,10 @@ use Rattle.rec_bytes.specs.Key.{key_eq, key_cmp}
 
 abbrev pub Pairs : Type 0
 Pairs = List (Key × Rec)
+
+-- a write set holds no more pairs
+abbrev pub most_pairs : ℕ
+most_pairs = 65535
 
 -- the pairs, and for how many more there is room
 pub record Held : Type 0 where
@@ -53,6 +57,10 @@ IsGapFor [] key zero = Unit {0}
 IsGapFor [] key (suc i) = ⊥
 IsGapFor (pair ∷ rest) key zero = IsBelow key (pair ∷ rest)
 IsGapFor (pair ∷ rest) key (suc i) = (key_cmp key pair.0 ≡ Greater) × IsGapFor rest key i
+
+-- the record at a key, `absent` where none is held
+abbrev pub held_at : Pairs → Key → Rec → Rec
+held_at pairs key absent = unwrap_or (find_pair pairs key) absent
 
 -- how many pairs a record at a key adds
 abbrev pub growth : Pairs → Key → ℕ

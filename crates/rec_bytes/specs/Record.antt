@@ -3,6 +3,11 @@
 use Rattle.std.specs.Prelude.{ℕ, suc, List, [], ◌∷◌, ◌++◌, ◌%◌, ◌^◌, take, drop, replicate, slice_set}
 use Rattle.byteorder.specs.Endian.{little_number, little_bytes}
 use Rattle.rec_bytes.specs.declared.record.Rec.{Rec}
+use Rattle.rec_bytes.specs.Format.{record_bytes}
+
+-- the record of zeros
+abbrev pub zeros : Rec
+zeros = record { bytes = replicate record_bytes 0 }
 
 -- the list with these bytes from a place on
 unfoldable pub with_bytes : List ℕ → ℕ → List ℕ → List ℕ

@@ -3,25 +3,36 @@ use Rattle.std.specs.Prelude.{Bool, ◌&&◌, nat_eq, nat_le, drop, Option, Some
 use Rattle.std.specs.List.{list_all, starts_with}
 use Rattle.rec_bytes.specs.declared.record.Rec.{Rec}
 use Rattle.rec_bytes.specs.declared.shape.Shape.{Shape}
-use Rattle.rec_bytes.specs.declared.shape.TheConstants.{LEAST_THRESHOLD, GREATEST_THRESHOLD, LEAST_LIMIT, GREATEST_LIMIT}
-use Rattle.rec_bytes.specs.declared.fields.TheConstants.{MARK, VERSION, STORE_MARK, STORE_VERSION, STORE_THRESHOLD, STORE_LIMIT, STORE_REST}
-use Rattle.rec_bytes.specs.Record.{as_64, field, with_bytes, with_field}
+use Rattle.rec_bytes.specs.Format.{
+  least_threshold,
+  greatest_threshold,
+  least_limit,
+  greatest_limit,
+  mark,
+  version,
+  store_mark,
+  store_version,
+  store_threshold,
+  store_limit,
+  store_rest,
+}
+use Rattle.rec_bytes.specs.Record.{as_64, field, with_bytes, with_field, zeros}
 
 -- both numbers are within what a store may have
 abbrev pub is_allowed : Shape → Bool
-is_allowed shape = nat_le LEAST_THRESHOLD shape.threshold && nat_le shape.threshold GREATEST_THRESHOLD && nat_le LEAST_LIMIT shape.limit && nat_le shape.limit GREATEST_LIMIT
+is_allowed shape = nat_le least_threshold shape.threshold && nat_le shape.threshold greatest_threshold && nat_le least_limit shape.limit && nat_le shape.limit greatest_limit
 
 -- nothing stands behind the fields
 abbrev pub has_zeros_behind : Rec → Bool
-has_zeros_behind r = list_all (λ b. nat_eq b 0) (drop STORE_REST r.bytes)
+has_zeros_behind r = list_all (λ b. nat_eq b 0) (drop store_rest r.bytes)
 
 -- the mark stands in front, the version is known, and nothing stands behind
 abbrev pub is_store_record : Rec → Bool
-is_store_record r = starts_with nat_eq r.bytes MARK && nat_eq (field 2 r STORE_VERSION) VERSION && has_zeros_behind r
+is_store_record r = starts_with nat_eq r.bytes mark && nat_eq (field 2 r store_version) version && has_zeros_behind r
 
 -- two numbers, one behind the other
 abbrev pub numbers_of_shape : Rec → Shape
-numbers_of_shape r = record { threshold = field 2 r STORE_THRESHOLD; limit = field 4 r STORE_LIMIT }
+numbers_of_shape r = record { threshold = field 2 r store_threshold; limit = field 4 r store_limit }
 
 -- the shape that the record says, where it is of this format and the shape is allowed
 abbrev pub shape_of_record : Rec → Option Shape
@@ -29,8 +40,12 @@ shape_of_record r = if is_store_record r && is_allowed (numbers_of_shape r) then
 
 -- the record with the mark in front
 abbrev pub with_mark : Rec → Rec
-with_mark r = record { bytes = with_bytes (as_64 r.bytes) STORE_MARK MARK }
+with_mark r = record { bytes = with_bytes (as_64 r.bytes) store_mark mark }
 
 -- the record with the mark, the version and this shape
 abbrev pub with_shape : Rec → Shape → Rec
-with_shape r shape = with_field 4 (with_field 2 (with_field 2 (with_mark r) STORE_VERSION VERSION) STORE_THRESHOLD shape.threshold) STORE_LIMIT shape.limit
+with_shape r shape = with_field 4 (with_field 2 (with_field 2 (with_mark r) store_version version) store_threshold shape.threshold) store_limit shape.limit
+
+-- a store's own record
+abbrev pub shape_record : Shape → Rec
+shape_record shape = with_shape zeros shape

@@ -121,27 +121,33 @@ pub const PROPERTY_FIRST_BLOCK: u8 = 12;
 pub const PROPERTY_NUMBER: u8 = 16;
 /// The value of a `BOOL`, a byte 0 or 1.
 pub const PROPERTY_TRUTH: u8 = 16;
-/// The bytes of a text that stands in the record, at most 40.
+/// The bytes of a text that stands in the record.
 pub const PROPERTY_TEXT: u8 = 24;
+/// How many bytes such a text has at most.
+pub const PROPERTY_TEXT_BYTES: usize = 40;
 
 // A block of a long text.
 
 /// A block in use.
 pub const BLOCK: u8 = 1;
 
-/// How many bytes of the text it has, a byte from 1 to 48.
+/// How many bytes of the text it has, a byte from 1 to `BLOCK_TEXT_BYTES`.
 pub const BLOCK_LENGTH: u8 = 1;
 /// The next block of the text, or `NIL`.
 pub const BLOCK_NEXT: u8 = 4;
 /// The bytes.
 pub const BLOCK_TEXT: u8 = 8;
+/// How many bytes of a text a block has at most.
+pub const BLOCK_TEXT_BYTES: usize = 48;
 
 // A name.
 
 /// A name in use.
 pub const NAMED: u8 = 1;
 
-/// How many bytes it has, a byte from 1 to 48.
+/// How many bytes it has, a byte from 1 to `NAME_TEXT_BYTES`.
 pub const NAME_LENGTH: u8 = 1;
 /// The bytes of the name, and zeros up to byte 56.
 pub const NAME_TEXT: u8 = 8;
+/// How many bytes a name has at most.
+pub const NAME_TEXT_BYTES: usize = 48;

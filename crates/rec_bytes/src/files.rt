@@ -17,6 +17,12 @@ pub const NAMES: u8 = 6;
 /// The redo log, which has no records.
 pub const LOG: u8 = 7;
 
+/// How many records the meta file has: the store's own and one for each other file of records.
+pub const META_RECORDS: u32 = 7;
+
+/// How many names there may be.
+pub const MOST_NAMES: u32 = 4_096;
+
 /// How many bytes a record has.
 pub const RECORD_BYTES: usize = 64;
 

@@ -1,7 +1,7 @@
 ghost use Rattle.std.specs.Prelude.{◌↔◌, IsTrue};
 ghost use Rattle.rec_bytes.specs.Key.{IsKey};
 
-use crate::files::LOG;
+use crate::record_files::is_record_file;
 
 /// Which record: its file, and its number in the file. Keys are ordered by file and then by number.
 #[derive(Clone, Copy, Debug, PartialEq, Eq, PartialOrd, Ord)]
@@ -18,6 +18,6 @@ impl Key {
     pub fn is_valid(&self) -> bool
         ensures { IsTrue result ↔ IsKey self.now }
     {
-        self.file < LOG && self.id < MOST_IDS
+        is_record_file(self.file) && self.id < MOST_IDS
     }
 }

@@ -1,7 +1,19 @@
-ghost use Rattle.std.specs.Prelude.{◌≡◌};
-ghost use Rattle.rec_bytes.specs.RecordFiles.{meta_key_of, records_of};
+ghost use Rattle.std.specs.Prelude.{◌≡◌, nat_eq};
+ghost use Rattle.std.specs.List.{list_any};
+ghost use Rattle.rec_bytes.specs.RecordFiles.{
+  is_meta_file,
+  is_record_file,
+  meta_key_of,
+  meta_rooms,
+  record_rooms,
+  records_of,
+  room_of,
+  rooms_of,
+};
 
-use crate::files::{GROUPS, META, NAMES, NODES, PROPERTIES, RELATIONSHIPS, STRINGS};
+use crate::files::{
+    GROUPS, META, META_RECORDS, MOST_NAMES, NAMES, NODES, PROPERTIES, RELATIONSHIPS, STRINGS,
+};
 use crate::key::Key;
 use crate::shape::Shape;
 
@@ -36,11 +48,27 @@ pub struct RecordFile {
     pub room: RecordRoom,
 }
 
+impl RecordFile {
+    /// All files of records, by ascending number.
+    pub fn all() -> &'static [RecordFile]
+        ensures { rooms_of result.now ≡ record_rooms }
+    {
+        &RECORD_FILES
+    }
+
+    /// Those that have a meta record: all but the meta file, which is the first.
+    pub fn all_but_meta() -> &'static [RecordFile]
+        ensures { rooms_of result.now ≡ meta_rooms }
+    {
+        &RECORD_FILES[1..]
+    }
+}
+
 /// All files of records, by ascending number.
 pub const RECORD_FILES: [RecordFile; 7] = [
     RecordFile {
         file: META,
-        room: RecordRoom::Fixed(7),
+        room: RecordRoom::Fixed(META_RECORDS),
     },
     RecordFile {
         file: NODES,
@@ -64,9 +92,35 @@ pub const RECORD_FILES: [RecordFile; 7] = [
     },
     RecordFile {
         file: NAMES,
-        room: RecordRoom::Fixed(4_096),
+        room: RecordRoom::Fixed(MOST_NAMES),
     },
 ];
+
+/// Whether a file has records.
+pub fn is_record_file(file: u8) -> bool
+    ensures { result ≡ is_record_file file }
+{
+    is_among(RecordFile::all(), file)
+}
+
+/// Whether a file has a meta record.
+pub fn is_meta_file(file: u8) -> bool
+    ensures { result ≡ is_meta_file file }
+{
+    is_among(RecordFile::all_but_meta(), file)
+}
+
+/// How many records a file has room for in a store of this shape, and 0 where it has no records.
+pub fn room_of(file: u8, shape: Shape) -> u64
+    ensures { result ≡ room_of shape file }
+{
+    for entry in RecordFile::all() {
+        if file == entry.file {
+            return entry.room.records(shape);
+        }
+    }
+    0
+}
 
 /// The key of the meta record of a file.
 pub fn meta_key(file: u8) -> Key
@@ -76,6 +130,12 @@ pub fn meta_key(file: u8) -> Key
         file: META,
         id: file as u32,
     }
+}
+
+fn is_among(files: &[RecordFile], file: u8) -> bool
+    ensures { result ≡ list_any (λ entry. nat_eq file entry.file) files.now }
+{
+    files.iter().any(|entry| file == entry.file)
 }
 
 #[cfg(test)]

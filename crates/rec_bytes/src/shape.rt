@@ -1,6 +1,13 @@
-ghost use Rattle.std.specs.Prelude.{◌≡◌, IfSome, IsTrue, nat_eq};
+ghost use Rattle.std.specs.Prelude.{◌≡◌, IfSome, IsTrue, Some, nat_eq, true};
 ghost use Rattle.std.specs.List.{list_all};
-ghost use Rattle.rec_bytes.specs.Shape.{is_allowed, is_store_record, shape_of_record, with_mark, with_shape};
+ghost use Rattle.rec_bytes.specs.Shape.{
+  is_allowed,
+  is_store_record,
+  shape_of_record,
+  shape_record,
+  with_mark,
+  with_shape,
+};
 
 use crate::fields::{MARK, STORE_LIMIT, STORE_REST, STORE_THRESHOLD, STORE_VERSION, VERSION};
 use crate::record::Rec;
@@ -13,6 +20,10 @@ pub const GREATEST_THRESHOLD: u16 = 200;
 pub const LEAST_LIMIT: u32 = 16;
 /// The greatest limit that a store may have.
 pub const GREATEST_LIMIT: u32 = 16_777_216;
+/// The threshold of a store that isn't asked for another.
+pub const DEFAULT_THRESHOLD: u16 = 50;
+/// The limit of a store that isn't asked for another.
+pub const DEFAULT_LIMIT: u32 = 1_048_576;
 
 /// The shape of a store: a node with more relationships than the threshold is dense, and the limit says how
 /// many records a file may have.
@@ -60,6 +71,16 @@ impl Shape {
         rec.set_short(STORE_VERSION, VERSION);
         rec.set_short(STORE_THRESHOLD, self.threshold);
         rec.set_number(STORE_LIMIT, self.limit);
+    }
+
+    /// The record 0 of the meta file of a store of this shape.
+    pub fn to_record(&self) -> Rec
+        ensures is { result ≡ shape_record self.now }
+        ensures got { is_allowed self.now ≡ true → shape_of_record result ≡ Some self.now }
+    {
+        let mut rec = Rec::ZEROS;
+        self.write(&mut rec);
+        rec
     }
 }
 

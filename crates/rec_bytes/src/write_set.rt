@@ -1,47 +1,78 @@
-ghost use Rattle.std.specs.Prelude.{◌≡◌, ◌+◌, ◌≤◌, ◌<◌, [], length, IfOk, IfErr, OnOk, OnErr, IsOk, IsSome};
-ghost use Rattle.std.specs.List.{slice_get};
+ghost use Rattle.std.specs.Prelude.{◌≡◌, ◌+◌, ◌≤◌, ◌<◌, [], Some, length, IfOk, IfErr, OnOk, OnErr, IsOk, IsSome};
+ghost use Rattle.std.specs.Borrow.{sem};
+ghost use Rattle.std.specs.List.{slice_get, AllByRecursion};
 ghost use Rattle.std.specs.List.Sorted.{IsSearchInRange};
-ghost use Rattle.rec_bytes.specs.Pairs.{find_pair, growth, growth_by, merged, with_pair, FindsMerged, FindsPut, IsGapFor, IsOrdered, IsPlaceOf};
+ghost use Rattle.rec_bytes.specs.Key.{IsKey};
+ghost use Rattle.rec_bytes.specs.PairOrder.{SetsAlike};
+ghost use Rattle.rec_bytes.specs.Pairs.{find_pair, growth, growth_by, held_at, merged, with_pair, FindsMerged, FindsPut, IsGapFor, IsOrdered, IsPlaceOf};
 
 use crate::key::Key;
-use crate::merge;
 use crate::record::Rec;
 use std::alloc::{AllocError, Global};
+use std::cmp::Ordering;
 use std::marker::Model;
 
-/// Written records, at most one for a key, in the order of their keys. Contracts see the pairs, and for
-/// how many more there is room.
+/// A set has at most so many records, since a place among them has 16 bits.
+const MOST_PAIRS: usize = 65_535;
+
+/// Written records, at most one for a key and 65,535 in all. Contracts see the pairs by ascending
+/// key, and how many more records need no memory.
 #[derive(Debug, Drop)]
 pub struct WriteSet {
+    // In the order of first put.
     pairs: Vec<(Key, Rec)>,
+    // The places of the pairs, by ascending key.
+    order: Vec<u16>,
 }
 
 impl Model for WriteSet {
-    ghost use Rattle.rec_bytes.specs.Pairs.{Held, IsOrdered};
-    ghost use Rattle.std.specs.Prelude.{◌-◌, vec_capacity, length};
+    ghost use Rattle.rec_bytes.specs.Pairs.{most_pairs, Held};
+    ghost use Rattle.rec_bytes.specs.PairOrder.{in_order, IsInOrder};
+    ghost use Rattle.std.specs.Prelude.{◌-◌, min, vec_capacity, length};
 
     ghost Value = { Held };
 
-    ghost view = { λ s. record { pairs = s.pairs.items; room = vec_capacity s.pairs - length s.pairs.items } };
+    ghost view = { λ s. record {
+      pairs = in_order s.pairs.items s.order.items;
+      room = min (min (vec_capacity s.pairs) (vec_capacity s.order)) most_pairs - length s.pairs.items;
+    } };
 
-    ghost invariant = { λ s. IsOrdered s.pairs.items };
+    ghost invariant = { λ s. IsInOrder s.pairs.items s.order.items };
 }
 
 impl WriteSet {
+    ghost use Rattle.rec_bytes.specs.PairLending.{LendsPair};
+    ghost use Rattle.rec_bytes.specs.declared.key.Key.{Key};
+    ghost use Rattle.rec_bytes.specs.declared.record.Rec.{Rec};
+
     /// A set with no records.
     pub fn new(alloc: Global) -> Self
         ensures { result.pairs ≡ [] }
     {
         WriteSet {
             pairs: Vec::new(alloc),
+            order: Vec::new(alloc),
         }
     }
 
     /// How many records there are.
     pub fn len(&self) -> usize
-        ensures { result ≡ length self.now.pairs }
+        ensures value { result ≡ length self.now.pairs }
+        ensures rising { IsOrdered self.now.pairs }
+        ensures keys { AllByRecursion (λ (pair : Key × Rec). IsKey pair.0) self.now.pairs }
     {
-        self.pairs.len()
+        self.order.len()
+    }
+
+    /// The i-th record by ascending key, from 0, with its key.
+    pub fn at(&self, i: usize) -> (Key, Rec)
+        requires { i < length self.now.pairs }
+        ensures value { slice_get self.now.pairs i ≡ Some result }
+        ensures key { IsKey result.0 }
+        ensures whole { length result.1.bytes ≡ 64 }
+    {
+        let place = self.order[i] as usize;
+        pair_at(&self.pairs, place)
     }
 
     /// The i-th record by ascending key, from 0, with its key.
@@ -49,7 +80,11 @@ impl WriteSet {
         ensures value { result ≡ slice_get self.now.pairs i }
         ensures rising { IsOrdered self.now.pairs }
     {
-        self.pairs.get(i).copied()
+        if i < self.len() {
+            Some(self.at(i))
+        } else {
+            None
+        }
     }
 
     /// The record at a key.
@@ -57,21 +92,28 @@ impl WriteSet {
         ensures { result ≡ find_pair self.now.pairs key }
     {
         match self.search(key) {
-            Ok(at) => Some(self.pairs[at].1),
+            Ok(i) => Some(self.at(i).1),
             Err(_) => None,
         }
     }
 
-    /// Makes room for so many more.
+    /// Makes room for so many more. More than 65,535 in all are refused like a lack of memory.
     pub fn reserve(&mut self, more: usize) -> Result<(), AllocError>
         ensures pairs { self.new.pairs ≡ self.old.pairs }
         ensures room { OnOk result (more ≤ self.new.room) }
+        ensures keeps { self.old.room ≤ self.new.room }
+        ensures succeeds { more ≤ self.old.room → IsOk result }
     {
+        if more > MOST_PAIRS - self.pairs.len() {
+            return Err(AllocError);
+        }
+        self.order.reserve(more)?;
         self.pairs.reserve(more)
     }
 
     /// Sets the record at a key. It needs memory only where the key is new and there is no room.
     pub fn put(&mut self, key: Key, rec: Rec) -> Result<(), AllocError>
+        requires { IsKey key }
         ensures ok { OnOk result (self.new.pairs ≡ with_pair self.old.pairs key rec) }
         ensures finds { OnOk result (FindsPut self.old.pairs self.new.pairs key rec) }
         ensures err { OnErr result (self.new.pairs ≡ self.old.pairs) }
@@ -80,28 +122,64 @@ impl WriteSet {
         ensures room { OnOk result (self.old.room ≤ self.new.room + growth self.old.pairs key) }
     {
         match self.search(key) {
-            Ok(at) => {
-                self.pairs[at] = (key, rec);
-                Ok(())
+            Ok(i) => self.replace(i, key, rec),
+            Err(i) => {
+                self.reserve(1)?;
+                self.add(i, key, rec);
             }
-            Err(at) => Ok(self.pairs.insert(at, (key, rec))?),
         }
+        Ok(())
     }
 
-    /// Puts each record of another set. Room for its new keys has to be there, so nothing is refused. The cost is
-    /// linear in the records of both sets.
+    /// Sets the record at a key, where there is room for one more.
+    pub fn put_reserved(&mut self, key: Key, rec: Rec)
+        requires key { IsKey key }
+        requires room { 0 < self.old.room }
+        ensures pairs { self.new.pairs ≡ with_pair self.old.pairs key rec }
+        ensures finds { FindsPut self.old.pairs self.new.pairs key rec }
+        ensures room { self.old.room ≡ self.new.room + growth self.old.pairs key }
+    {
+        self.put_in_room(key, rec);
+    }
+
+    /// Hands out the record at a key, `absent` where there is none.
+    pub fn edit(&mut self, key: Key, absent: Rec) -> Result<&mut Rec, AllocError>
+        requires { IsKey key }
+        ensures* lends { sem 𝓛 (LendsPair self.entry key result) }
+        ensures got { IfOk result (λ rec. rec.now ≡ held_at self.old.pairs key absent) }
+        ensures succeeds { 0 < self.old.room → IsOk result }
+        ensures in_place { IsSome (find_pair self.old.pairs key) → IsOk result }
+    {
+        let i = self.place_for(key, absent)?;
+        let place = self.order[i] as usize;
+        let pair = &mut self.pairs[place];
+        Ok(&mut pair.1)
+    }
+
+    /// How many records of another set have a key that is new here.
+    pub fn growth_by(&self, other: &WriteSet) -> usize
+        ensures { result ≡ growth_by self.now.pairs other.now.pairs }
+    {
+        let mut count = 0;
+        for i in 0..other.len() {
+            if self.search(other.at(i).0).is_err() {
+                count += 1;
+            }
+        }
+        count
+    }
+
+    /// Puts each record of another set, where there is room for its new keys.
     pub fn merge(&mut self, other: &WriteSet)
         requires { growth_by self.old.pairs other.now.pairs ≤ self.old.room }
         ensures pairs { self.new.pairs ≡ merged self.old.pairs other.now.pairs }
         ensures finds { FindsMerged self.old.pairs other.now.pairs self.new.pairs }
+        ensures room { length self.old.pairs + self.old.room ≤ length self.new.pairs + self.new.room }
     {
-        let front = self.pairs.len();
-        let added = merge::new_keys(&self.pairs, &other.pairs);
-        // What is appended is written over, so any pairs will do.
-        if self.pairs.extend_from_slice(&other.pairs[..added]).is_err() {
-            unreachable!();
+        for i in 0..other.len() {
+            let (key, rec) = other.at(i);
+            self.put_in_room(key, rec);
         }
-        merge::fill(&mut self.pairs, front, &other.pairs);
     }
 
     /// Forgets all records and keeps the room.
@@ -110,16 +188,95 @@ impl WriteSet {
         ensures room { self.new.room ≡ self.old.room + length self.old.pairs }
     {
         self.pairs.clear();
+        self.order.clear();
     }
 
-    // Where the key is, or where it would go.
+    // Where in the order the key is, or where it would go.
     fn search(&self, key: Key) -> Result<usize, usize>
         ensures bound { IsSearchInRange result (length self.now.pairs) }
         ensures found { IfOk result (IsPlaceOf self.now.pairs key) }
         ensures absent { IfErr result (IsGapFor self.now.pairs key) }
     {
-        self.pairs.binary_search_by_key(&key, |&(k, _)| k)
+        let mut low = 0;
+        let mut high = self.order.len();
+        while low < high {
+            let middle = low + (high - low) / 2;
+            let place = self.order[middle] as usize;
+            match self.pairs[place].0.cmp(&key) {
+                Ordering::Less => low = middle + 1,
+                Ordering::Equal => return Ok(middle),
+                Ordering::Greater => high = middle,
+            }
+        }
+        Err(low)
     }
+
+    // Sets the record at a key that is the i-th by ascending key.
+    fn replace(&mut self, i: usize, key: Key, rec: Rec)
+        requires place { IsPlaceOf self.old.pairs key i }
+        ensures pairs { self.new.pairs ≡ with_pair self.old.pairs key rec }
+        ensures room { self.new.room ≡ self.old.room }
+    {
+        let place = self.order[i] as usize;
+        self.pairs[place] = (key, rec);
+    }
+
+    // Adds a record at a new key, which becomes the i-th by ascending key.
+    fn add(&mut self, i: usize, key: Key, rec: Rec)
+        requires key { IsKey key }
+        requires gap { IsGapFor self.old.pairs key i }
+        requires room { 0 < self.old.room }
+        ensures pairs { self.new.pairs ≡ with_pair self.old.pairs key rec }
+        ensures room { self.old.room ≡ self.new.room + 1 }
+    {
+        let place = self.pairs.len() as u16;
+        self.pairs.push_reserved((key, rec));
+        if self.order.insert(i, place).is_err() {
+            unreachable!();
+        }
+    }
+
+    // Sets the record at a key. A new key needs room.
+    fn put_in_room(&mut self, key: Key, rec: Rec)
+        requires key { IsKey key }
+        requires room { growth self.old.pairs key ≤ self.old.room }
+        ensures pairs { self.new.pairs ≡ with_pair self.old.pairs key rec }
+        ensures room { self.old.room ≡ self.new.room + growth self.old.pairs key }
+        ensures count { length self.new.pairs ≡ length self.old.pairs + growth self.old.pairs key }
+    {
+        match self.search(key) {
+            Ok(i) => self.replace(i, key, rec),
+            Err(i) => self.add(i, key, rec),
+        }
+    }
+
+    // Where in the order the key is, with this record where it was absent.
+    fn place_for(&mut self, key: Key, absent: Rec) -> Result<usize, AllocError>
+        requires { IsKey key }
+        ensures place { IfOk result (IsPlaceOf self.new.pairs key) }
+        ensures sets { OnOk result (SetsAlike self.old.pairs self.new.pairs key) }
+        ensures found { OnOk result (find_pair self.new.pairs key ≡ Some (held_at self.old.pairs key absent)) }
+        ensures err { OnErr result (self.new.pairs ≡ self.old.pairs) }
+        ensures succeeds { 0 < self.old.room → IsOk result }
+        ensures in_place { IsSome (find_pair self.old.pairs key) → IsOk result }
+    {
+        match self.search(key) {
+            Ok(i) => Ok(i),
+            Err(i) => {
+                self.reserve(1)?;
+                self.add(i, key, absent);
+                Ok(i)
+            }
+        }
+    }
+}
+
+// The pair at a place. The type of what a call gives says that a record is whole.
+fn pair_at(pairs: &[(Key, Rec)], place: usize) -> (Key, Rec)
+    requires { place < length pairs.now }
+    ensures { slice_get pairs.now place ≡ Some result }
+{
+    pairs[place]
 }
 
 #[cfg(test)]

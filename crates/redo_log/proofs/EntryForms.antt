@@ -2,7 +2,7 @@
 use Rattle.std.proofs.Common.{◌≡◌, ℕ, zero, suc, ◌+◌, ◌*◌, ◌<◌, Some, length, sym, ap, ◌∙◌, subst, arith, refl}
 use Rattle.std.specs.List.{slice_get}
 use Rattle.disk_model.specs.Contents.{Files}
-use Rattle.rec_bytes.specs.declared.files.TheConstants.{LOG}
+use Rattle.rec_bytes.specs.Format.{log_file}
 use Rattle.rec_bytes.specs.declared.key.Key.{Key}
 use Rattle.rec_bytes.specs.declared.record.Rec.{Rec}
 use Rattle.redo_log.specs.Entries.{Fits, IsEntry, count_at, entry_at, write_at, write_place, writes_from}
@@ -26,7 +26,7 @@ pub entry_get : (content : Files) (place index : ℕ) (write : Key × Rec) → i
 entry_get content place index write below read = slice_get-writes_from content (place + 3) (count_at content place) index below ∙ ap Some (sym read)
 
 -- an open gate, a count that an entry may have, and keys that rise
-pub is_entry : (content : Files) (place count : ℕ) → content LOG place ≡ 1 → count ≡ count_at content place → IsEntrySize place count → AreRisingAbove None (writes_from content (place + 3) count) → IsEntry content place
+pub is_entry : (content : Files) (place count : ℕ) → content log_file place ≡ 1 → count ≡ count_at content place → IsEntrySize place count → AreRisingAbove None (writes_from content (place + 3) count) → IsEntry content place
 is_entry content place count open_gate is size rising =
     let long : length (entry_at content place) ≡ count = length-writes_from content (place + 3) (count_at content place) ∙ sym is in
     let keys = subst (λ (n : ℕ). AreRisingAbove None (writes_from content (place + 3) n)) is rising in
@@ -51,4 +51,4 @@ has_itself reads piece kept = record { same = λ file place. refl; kept = kept }
 
 -- the kept bytes are those that the disk shows
 pub still_kept : (content reads : Files) (piece : Piece) → HasContent content reads piece → IsPieceOf reads piece
-still_kept content reads piece has = λ i lt. has.kept i lt ∙ sym (has.same LOG (piece.start + i))
+still_kept content reads piece has = λ i lt. has.kept i lt ∙ sym (has.same log_file (piece.start + i))

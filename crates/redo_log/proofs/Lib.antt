@@ -1,11 +1,11 @@
 pub mod Appends
 pub mod Bytes
-pub mod Contents
+pub mod Damage
 pub mod Entries
 pub mod EntryForms
 pub mod Laid
 pub mod LogBytes
-pub mod OnlyReading
+pub mod Resets
 pub mod Rising
 pub mod Sending
 pub mod Torn

@@ -28,7 +28,7 @@ unfolding bytes_from log content node
 HasEntries-worked = (
   record {
     open_gate = refl;
-    form = record { some = lit< tt; few = lit≤ tt; keys = (record { file = lit≤ tt; id = lit< tt }, tt); rising = (tt, tt) };
+    form = record { some = lit< tt; few = lit≤ tt; keys = (record { file = refl; id = lit< tt }, tt); rising = (tt, tt) };
     fits = lit≤ tt;
   },
   refl,

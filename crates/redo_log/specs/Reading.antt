@@ -2,12 +2,11 @@
 use Rattle.std.specs.Prelude.{◌≡◌, ◌≢◌, ℕ, ◌+◌, ◌≤◌, ◌<◌, List, [], ◌∷◌, length, Option, None, Some}
 use Rattle.std.specs.declared.cmp.Ordering.TheVariants.{Less}
 use Rattle.disk_model.specs.Contents.{Files, Holds, Same}
-use Rattle.disk_model.specs.Disk.{NoMore, LeavesOnly}
-use Rattle.rec_bytes.specs.declared.files.TheConstants.{LOG}
+use Rattle.rec_bytes.specs.Format.{log_file}
 use Rattle.rec_bytes.specs.declared.key.Key.{Key}
 use Rattle.rec_bytes.specs.Key.{IsKey, key_cmp}
 use Rattle.rec_bytes.specs.Pairs.{Pairs}
-use Rattle.redo_log.specs.Entries.{IsEntry, IsDamaged, Fits, count_at, entry_bytes}
+use Rattle.redo_log.specs.Entries.{IsEntry, IsDamaged, Fits, count_at, entry_bytes, most_writes, open_byte}
 use Rattle.redo_log.specs.declared.entry_answer.EntryAnswer.{EntryAnswer}
 use Rattle.redo_log.specs.declared.entry_answer.EntryAnswer.TheVariants.{Entry, End, Disk, Damaged}
 
@@ -18,18 +17,18 @@ pub record Piece : Type 0 where
 
 -- the kept bytes are those of this content
 abbrev pub IsPieceOf : Files → Piece → Type 0
-IsPieceOf content piece = Holds LOG piece.start piece.bytes content
+IsPieceOf content piece = Holds log_file piece.start piece.bytes content
 
--- what stands at the place of the log: an entry with so many records and the place behind it, a closed gate, or an open gate over anything else
+-- what stands at the place of the log: an entry with so many records and the place after it, a closed gate, or an open gate over anything else
 abbrev pub Tells : Files → ℕ → EntryAnswer → Type 0
 Tells content place (Entry count next) = IsEntry content place × (count ≡ count_at content place) × (next ≡ place + entry_bytes count)
-Tells content place End = content LOG place ≢ 1
+Tells content place End = content log_file place ≢ open_byte
 Tells content place Disk = Unit {0}
 Tells content place (Damaged damaged) = (damaged ≡ place) × IsDamaged content place
 
 -- an answer of an entry names one that fits in the log, and of damage the place that was asked for, whatever the disk tells
 abbrev pub IsInLog : ℕ → EntryAnswer → Type 0
-IsInLog place (Entry count next) = (0 < count) × (count ≤ 2048) × (next ≡ place + entry_bytes count) × Fits place count
+IsInLog place (Entry count next) = (0 < count) × (count ≤ most_writes) × (next ≡ place + entry_bytes count) × Fits place count
 IsInLog place End = Unit {0}
 IsInLog place Disk = Unit {0}
 IsInLog place (Damaged damaged) = damaged ≡ place
@@ -51,7 +50,7 @@ KeepsContent old new before now = (content : Files) → HasContent content old b
 -- an entry of so many records can stand at the place
 pub record IsEntrySize (place count : ℕ) : Type 0 where
   pub some : 0 < count
-  pub few : count ≤ 2048
+  pub few : count ≤ most_writes
   pub fits : Fits place count
 
 -- the key is greater than this one, where there is one
@@ -68,9 +67,3 @@ pub record IsNextKey (last : Option Key) (key : Key) : Type 0 where
 abbrev pub AreRisingAbove : Option Key → Pairs → Type 0
 AreRisingAbove last [] = Unit {0}
 AreRisingAbove last (write ∷ later) = IsNextKey last write.0 × AreRisingAbove (Some write.0) later
-
--- Calls that only read a disk leave what is read and what a crash may leave, at each moment since the first of them.
-pub record OnlyReads {D : Type 0} (tells_reads : Type 0) (reads : D → Files) (tells_images : Type 0) (may_leave : D → Files → Type 0) (moment : D → ℕ) (left_since : D → ℕ → Files → Type 0) (old new : D) : Type 0 where
-  pub stays : tells_reads → Same (reads old) (reads new)
-  pub crash : tells_images → NoMore (may_leave old) (may_leave new)
-  pub time : tells_images → LeavesOnly (moment old) (moment new) (left_since old) (left_since new) (may_leave old)

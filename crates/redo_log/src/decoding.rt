@@ -1,6 +1,6 @@
 ghost use Rattle.std.specs.Prelude.{◌≡◌, ◌≤◌, ◌↔◌, ℕ, length, take, IsTrue};
 ghost use Rattle.disk_model.specs.Contents.{Files};
-ghost use Rattle.rec_bytes.specs.declared.files.TheConstants.{LOG};
+ghost use Rattle.rec_bytes.specs.Format.{log_file};
 ghost use Rattle.redo_log.specs.Entries.{count_at, log_bytes, write_at};
 
 use crate::entry::{KEY_BYTES, OPEN, WRITE_BYTES};
@@ -17,7 +17,7 @@ pub(crate) struct Head {
 /// Reads it from its three bytes.
 pub(crate) fn head_of(bytes: &[u8]) -> Head
     requires { length bytes.now ≡ 3 }
-    ensures gate { (content : Files) (place : ℕ) → bytes.now ≡ log_bytes content place 3 → IsTrue result.is_open ↔ (content LOG place ≡ 1) }
+    ensures gate { (content : Files) (place : ℕ) → bytes.now ≡ log_bytes content place 3 → IsTrue result.is_open ↔ (content log_file place ≡ 1) }
     ensures count { (content : Files) (place : ℕ) → bytes.now ≡ log_bytes content place 3 → result.count ≡ count_at content place }
 {
     Head {

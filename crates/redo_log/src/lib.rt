@@ -10,9 +10,11 @@ mod log_reader;
 mod payload;
 mod piece;
 mod reading;
+mod resetting;
 
 pub use appending::append;
 pub use entry::{LAST_PLACE, MOST_WRITES, fits};
 pub use entry_answer::EntryAnswer;
 pub use log_reader::LogReader;
 pub use reading::{entry_at, write_at};
+pub use resetting::reset;

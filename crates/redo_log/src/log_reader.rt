@@ -1,10 +1,10 @@
 ghost use Rattle.std.specs.Prelude.{◌≡◌, ◌≢◌, ◌≤◌, ◌<◌, ◌+◌, ◌^◌, ◌↔◌, [], length, None, Some, IfOk, OnOk, IsTrue};
 ghost use Rattle.std.specs.List.{slice_get};
 ghost use Rattle.fault_count.specs.Cause.{HasCause, Rose};
-ghost use Rattle.disk_model.specs.Contents.{Files, Same};
-ghost use Rattle.disk_model.specs.Disk.{LeavesOnly, NoMore};
+ghost use Rattle.disk_model.specs.Contents.{Files};
+ghost use Rattle.disk_model.specs.Spans.{OnlyReads};
 ghost use Rattle.redo_log.specs.Entries.{count_at, entry_at, log_bytes, write_at, write_place, writes_from};
-ghost use Rattle.redo_log.specs.Reading.{AreRisingAbove, Covers, HasContent, IsEntrySize, IsInLog, IsNextKey, IsPieceOf, KeepsContent, OnlyReads, Tells};
+ghost use Rattle.redo_log.specs.Reading.{AreRisingAbove, Covers, HasContent, IsEntrySize, IsInLog, IsNextKey, IsPieceOf, KeepsContent, Tells};
 
 use crate::decoding::{head_of, key_of, write_of};
 use crate::entry::{
@@ -56,9 +56,7 @@ impl LogReader {
         ensures tells { D.tells_reads → IsPieceOf (D.reads disk.old) self.old → Tells (D.reads disk.old) place result }
         ensures keeps { D.tells_reads → IsPieceOf (D.reads disk.old) self.old → IsPieceOf (D.reads disk.new) self.new }
         ensures in_log { IsInLog place result }
-        ensures stays { D.tells_reads → Same (D.reads disk.old) (D.reads disk.new) }
-        ensures crash { D.tells_images → NoMore (D.may_leave disk.old) (D.may_leave disk.new) }
-        ensures time { D.tells_images → LeavesOnly (D.moment disk.old) (D.moment disk.new) (D.left_since disk.old) (D.left_since disk.new) (D.may_leave disk.old) }
+        ensures only_reads { OnlyReads D.Disk disk.old disk.new }
         ensures cause { result ≡ EntryAnswer.Disk → Rose (D.faults disk.old) (D.faults disk.new) }
         ensures later { D.faults disk.old ≤ D.faults disk.new }
     {
@@ -79,9 +77,7 @@ impl LogReader {
         ensures bytes { D.tells_reads → IsPieceOf (D.reads disk.old) self.old → IfOk result (λ write. write ≡ write_at (D.reads disk.old) (write_place place index)) }
         ensures of_entry { D.tells_reads → IsPieceOf (D.reads disk.old) self.old → index < count_at (D.reads disk.old) place → IfOk result (λ write. slice_get (entry_at (D.reads disk.old) place) index ≡ Some write) }
         ensures keeps { D.tells_reads → IsPieceOf (D.reads disk.old) self.old → IsPieceOf (D.reads disk.new) self.new }
-        ensures stays { D.tells_reads → Same (D.reads disk.old) (D.reads disk.new) }
-        ensures crash { D.tells_images → NoMore (D.may_leave disk.old) (D.may_leave disk.new) }
-        ensures time { D.tells_images → LeavesOnly (D.moment disk.old) (D.moment disk.new) (D.left_since disk.old) (D.left_since disk.new) (D.may_leave disk.old) }
+        ensures only_reads { OnlyReads D.Disk disk.old disk.new }
         ensures cause { HasCause (D.faults disk.old) (D.faults disk.new) result }
     {
         let at = place_of_write(place, index);
@@ -96,7 +92,7 @@ impl LogReader {
         ensures in_log { IfOk result (IsInLog place) }
         ensures known { IfOk result (λ answer. answer ≢ EntryAnswer.Disk) }
         ensures keeps { D.tells_reads → KeepsContent (D.reads disk.old) (D.reads disk.new) self.old self.new }
-        ensures only_reads { OnlyReads D.tells_reads D.reads D.tells_images D.may_leave D.moment D.left_since disk.old disk.new }
+        ensures only_reads { OnlyReads D.Disk disk.old disk.new }
         ensures cause { HasCause (D.faults disk.old) (D.faults disk.new) result }
     {
         self.cover(disk, place, HEAD_BYTES as usize)?;
@@ -127,7 +123,7 @@ impl LogReader {
         requires { place ≤ 1048575 }
         ensures keys { D.tells_reads → (content : Files) → HasContent content (D.reads disk.old) self.old → IfOk result (λ rising. IsTrue rising ↔ AreRisingAbove None (writes_from content (place + 3) count)) }
         ensures keeps { D.tells_reads → KeepsContent (D.reads disk.old) (D.reads disk.new) self.old self.new }
-        ensures only_reads { OnlyReads D.tells_reads D.reads D.tells_images D.may_leave D.moment D.left_since disk.old disk.new }
+        ensures only_reads { OnlyReads D.Disk disk.old disk.new }
         ensures cause { HasCause (D.faults disk.old) (D.faults disk.new) result }
     {
         let len = HEAD_BYTES as usize + WRITE_BYTES * count as usize;
@@ -158,7 +154,7 @@ impl LogReader {
         requires piece { len ≤ PIECE_BYTES }
         ensures covers { OnOk result (Covers self.new at len) }
         ensures keeps { D.tells_reads → KeepsContent (D.reads disk.old) (D.reads disk.new) self.old self.new }
-        ensures only_reads { OnlyReads D.tells_reads D.reads D.tells_images D.may_leave D.moment D.left_since disk.old disk.new }
+        ensures only_reads { OnlyReads D.Disk disk.old disk.new }
         ensures cause { HasCause (D.faults disk.old) (D.faults disk.new) result }
     {
         self.len = 0;
@@ -174,7 +170,7 @@ impl LogReader {
         requires piece { len ≤ PIECE_BYTES }
         ensures covers { OnOk result (Covers self.new at len) }
         ensures keeps { D.tells_reads → KeepsContent (D.reads disk.old) (D.reads disk.new) self.old self.new }
-        ensures only_reads { OnlyReads D.tells_reads D.reads D.tells_images D.may_leave D.moment D.left_since disk.old disk.new }
+        ensures only_reads { OnlyReads D.Disk disk.old disk.new }
         ensures cause { HasCause (D.faults disk.old) (D.faults disk.new) result }
     {
         if self.covers(at, len) {
@@ -188,7 +184,7 @@ impl LogReader {
         requires place { at ≤ 2 ^ 32 }
         ensures key { D.tells_reads → (content : Files) → HasContent content (D.reads disk.old) self.old → IfOk result (λ key. key ≡ (write_at content at).0) }
         ensures keeps { D.tells_reads → KeepsContent (D.reads disk.old) (D.reads disk.new) self.old self.new }
-        ensures only_reads { OnlyReads D.tells_reads D.reads D.tells_images D.may_leave D.moment D.left_since disk.old disk.new }
+        ensures only_reads { OnlyReads D.Disk disk.old disk.new }
         ensures cause { HasCause (D.faults disk.old) (D.faults disk.new) result }
     {
         self.cover(disk, at, KEY_BYTES)?;
@@ -205,7 +201,7 @@ impl LogReader {
         requires { start ≤ 1048578 }
         ensures keys { D.tells_reads → (content : Files) → HasContent content (D.reads disk.old) self.old → IfOk result (λ rising. IsTrue rising ↔ AreRisingAbove None (writes_from content start count)) }
         ensures keeps { D.tells_reads → KeepsContent (D.reads disk.old) (D.reads disk.new) self.old self.new }
-        ensures only_reads { OnlyReads D.tells_reads D.reads D.tells_images D.may_leave D.moment D.left_since disk.old disk.new }
+        ensures only_reads { OnlyReads D.Disk disk.old disk.new }
         ensures cause { HasCause (D.faults disk.old) (D.faults disk.new) result }
     {
         let mut last = None;

@@ -1,8 +1,7 @@
 ghost use Rattle.std.specs.Prelude.{◌≡◌, ◌≤◌, ◌<◌, length, IfOk, Some};
 ghost use Rattle.std.specs.List.{slice_get};
 ghost use Rattle.fault_count.specs.Cause.{HasCause, Rose};
-ghost use Rattle.disk_model.specs.Contents.{Same};
-ghost use Rattle.disk_model.specs.Disk.{LeavesOnly, NoMore};
+ghost use Rattle.disk_model.specs.Spans.{OnlyReads};
 ghost use Rattle.redo_log.specs.Entries.{count_at, entry_at, write_at, write_place};
 ghost use Rattle.redo_log.specs.Reading.{IsInLog, Tells};
 
@@ -18,9 +17,7 @@ pub fn entry_at<D: Disk>(disk: &mut D, place: u64) -> EntryAnswer
     requires { place ≤ 1048575 }
     ensures tells { D.tells_reads → Tells (D.reads disk.old) place result }
     ensures in_log { IsInLog place result }
-    ensures stays { D.tells_reads → Same (D.reads disk.old) (D.reads disk.new) }
-    ensures crash { D.tells_images → NoMore (D.may_leave disk.old) (D.may_leave disk.new) }
-    ensures time { D.tells_images → LeavesOnly (D.moment disk.old) (D.moment disk.new) (D.left_since disk.old) (D.left_since disk.new) (D.may_leave disk.old) }
+    ensures only_reads { OnlyReads D.Disk disk.old disk.new }
     ensures cause { result ≡ EntryAnswer.Disk → Rose (D.faults disk.old) (D.faults disk.new) }
     ensures later { D.faults disk.old ≤ D.faults disk.new }
 {
@@ -32,9 +29,7 @@ pub fn write_at<D: Disk>(disk: &mut D, place: u64, index: u16) -> Result<(Key, R
     requires { place ≤ 1048575 }
     ensures bytes { D.tells_reads → IfOk result (λ write. write ≡ write_at (D.reads disk.old) (write_place place index)) }
     ensures of_entry { D.tells_reads → index < count_at (D.reads disk.old) place → IfOk result (λ write. slice_get (entry_at (D.reads disk.old) place) index ≡ Some write) }
-    ensures stays { D.tells_reads → Same (D.reads disk.old) (D.reads disk.new) }
-    ensures crash { D.tells_images → NoMore (D.may_leave disk.old) (D.may_leave disk.new) }
-    ensures time { D.tells_images → LeavesOnly (D.moment disk.old) (D.moment disk.new) (D.left_since disk.old) (D.left_since disk.new) (D.may_leave disk.old) }
+    ensures only_reads { OnlyReads D.Disk disk.old disk.new }
     ensures cause { HasCause (D.faults disk.old) (D.faults disk.new) result }
 {
     let mut bytes = [0; WRITE_BYTES];

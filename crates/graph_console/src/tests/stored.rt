@@ -1,35 +1,28 @@
-//! Runs one after another over a disk: losses of power, faults, and files that hold something else.
-use super::{Ended, Streams, run_on};
+//! Runs one after another over a disk: faults, files that hold something else, and other shapes.
+use super::{Ended, PLAIN, Streams, run_on};
 use crate::Exit;
-use disk_model::{Crash, Disk, FaultPlan, MemoryDisk, PlainDisk, Room};
+use disk_model::{Disk, FaultPlan, MemoryDisk, PlainDisk, Room};
 use std::alloc::{AllocError, Global};
 use std::process::Abort;
 use std::test::Fail;
 
-/// Makes a node, and asks for it.
-const SCRIPT: &[u8] = b"node person\ng.V()\ng.V().count()\nquit\n";
-
 /// Asks how many nodes there are.
-const COUNT: &[u8] = b"g.V().count()\n";
+pub(crate) const COUNT: &[u8] = b"g.V().count()\n";
 
-/// More calls than a run of the script makes: eight syncs, two reads, and four calls for each of two entries.
-const CALLS: u64 = 20;
+/// More calls than any script here makes.
+pub(crate) const CALLS: u64 = 400;
 
-/// The first call that writes: before it come eight syncs and two reads.
-const FIRST_WRITE: u64 = 11;
-
-/// The first call of a node, behind the four of a new store's entry.
-const FIRST_OF_NODE: u64 = 15;
-
-/// The calls of an opening that makes a new store; another has the first ten.
-const OPENING_CALLS: u64 = 14;
-
-const ROOM: Room = Room {
-    calls: 256,
+pub(crate) const ROOM: Room = Room {
+    calls: 512,
     bytes: 65_536,
 };
 
-fn plan(alloc: Global, fails: &[u64], stop: Option<u64>) -> Result<FaultPlan, AllocError> {
+/// The calls of these numbers fail, and all from the number of the stop on.
+pub(crate) fn plan(
+    alloc: Global,
+    fails: &[u64],
+    stop: Option<u64>,
+) -> Result<FaultPlan, AllocError> {
     let fails = Vec::from_slice(alloc, fails)?;
     Ok(FaultPlan { fails, stop })
 }
@@ -42,15 +35,10 @@ fn run_words<D: Disk>(
     input: &[u8],
     disk: &mut D,
 ) -> Result<Ended, AllocError> {
-    let streams = Streams {
-        piece: 16,
-        failing_read: 0,
-        failing_put: 0,
-    };
-    run_on(rt, alloc, words, input, &streams, disk)
+    run_on(rt, alloc, words, input, &PLAIN, disk)
 }
 
-fn run<D: Disk>(
+pub(crate) fn run<D: Disk>(
     rt: &impl Abort,
     alloc: Global,
     input: &[u8],
@@ -59,118 +47,70 @@ fn run<D: Disk>(
     run_words(rt, alloc, &["nipakeel", "run"], input, disk)
 }
 
-/// The count of a later run is right: a node that was answered is there, and one that was not may be.
-fn is_kept(answered: bool, count: &[u8]) -> bool {
-    count == b"==>1\nend\n".as_slice() || (!answered && count == b"==>0\nend\n".as_slice())
-}
-
-/// Opens what a loss of power leaves of the disk, and counts its nodes.
-fn check_left(
+/// A run of the input in which one call of the disk fails.
+fn run_failing(
     rt: &impl Abort,
     alloc: Global,
-    disk: &MemoryDisk,
-    choice: Crash,
-    answered: bool,
-) -> Result<(), AllocError> {
-    let mut left = disk.after_crash(alloc, choice, ROOM, plan(alloc, &[], None)?)?;
-    let ended = run(rt, alloc, COUNT, &mut left)?;
-    let count = ended.output.taken();
-    assert_eq!(rt; ended.exit, Exit::Done, "{choice:?}");
-    assert!(rt;
-        is_kept(answered, count),
-        "{choice:?}, answered {answered}: {count:?}"
-    );
-    Ok(())
-}
-
-/// Stops the opening of what a loss of power leaves at each of its calls, and opens what that leaves.
-fn check_stopped_openings(
-    rt: &impl Abort,
-    alloc: Global,
-    disk: &MemoryDisk,
-    answered: bool,
-) -> Result<(), AllocError> {
-    for stop in 1..=OPENING_CALLS {
-        let plan = plan(alloc, &[], Some(stop))?;
-        let mut left = disk.after_crash(alloc, Crash::Fill(1), ROOM, plan)?;
-        let _ = run(rt, alloc, COUNT, &mut left)?;
-        check_left(rt, alloc, &left, Crash::Fill(1), answered)?;
-    }
-    Ok(())
+    input: &[u8],
+    call: u64,
+) -> Result<(Ended, MemoryDisk), AllocError> {
+    let mut disk = MemoryDisk::new(alloc, 16, ROOM, plan(alloc, &[call], None)?)?;
+    let ended = run(rt, alloc, input, &mut disk)?;
+    Ok((ended, disk))
 }
 
 #[test]
-fn nodes_outlive_losses_of_power(rt: HostRuntime) -> Result<(), Fail> {
+fn each_call_of_the_disk_may_fail(rt: HostRuntime) -> Result<(), Fail> {
     let alloc = rt.alloc();
-    for stop in 1..=CALLS {
-        let mut disk = MemoryDisk::new(alloc, 16, ROOM, plan(alloc, &[], Some(stop))?)?;
-        let ended = run(&rt, alloc, SCRIPT, &mut disk)?;
-        let answered = ended.output.taken().starts_with(b"node 0\n");
-        if stop < FIRST_WRITE {
-            check_left(&rt, alloc, &disk, Crash::New, answered)?;
-            continue;
-        }
-        for choice in [
-            Crash::Old,
-            Crash::New,
-            Crash::Fill(0),
-            Crash::Fill(1),
-            Crash::Fill(7),
-            Crash::Mixed(1),
-        ] {
-            check_left(&rt, alloc, &disk, choice, answered)?;
-        }
-    }
-    Ok(())
-}
-
-/// Stops the script at each call from the first to the last, and then the opening of what is left.
-fn check_openings_after(
-    rt: &impl Abort,
-    alloc: Global,
-    first: u64,
-    last: u64,
-) -> Result<(), AllocError> {
-    for stop in first..=last {
-        let mut disk = MemoryDisk::new(alloc, 16, ROOM, plan(alloc, &[], Some(stop))?)?;
-        let ended = run(rt, alloc, SCRIPT, &mut disk)?;
-        let answered = ended.output.taken().starts_with(b"node 0\n");
-        check_stopped_openings(rt, alloc, &disk, answered)?;
-    }
-    Ok(())
-}
-
-#[test]
-fn a_new_store_outlives_stopped_openings(rt: HostRuntime) -> Result<(), Fail> {
-    check_openings_after(&rt, rt.alloc(), FIRST_WRITE, FIRST_OF_NODE - 1)?;
-    Ok(())
-}
-
-#[test]
-fn a_node_outlives_stopped_openings(rt: HostRuntime) -> Result<(), Fail> {
-    check_openings_after(&rt, rt.alloc(), FIRST_OF_NODE, FIRST_OF_NODE + 3)?;
-    Ok(())
-}
-
-#[test]
-fn a_fault_of_the_disk_is_answered_once(rt: HostRuntime) -> Result<(), Fail> {
-    let alloc = rt.alloc();
+    let script: &[u8] =
+        b"node a\nbegin\nnode b\ndelete node 0\ncommit\ncheckpoint\nreopen\nreopen\nstats\n";
+    let replies: &[u8] =
+        b"node 0\nok\nnode 1\nok\nok\nok\nok\nok\nnodes 1 edges 0 properties 0 blocks 0 names 2\n";
     let mut statuses = Vec::new(alloc);
     for call in 1..=CALLS {
-        let mut disk = MemoryDisk::new(alloc, 16, ROOM, plan(alloc, &[call], None)?)?;
-        let ended = run(&rt, alloc, SCRIPT, &mut disk)?;
+        let (ended, mut disk) = run_failing(&rt, alloc, script, call)?;
         let status = ended.exit.code();
-        let want: &[u8] = match status {
-            8 => b"fault disk\n",
-            1 => b"fault disk\nerror failed\nerror failed\n",
-            _ => b"node 0\n==>v[0]\nend\n==>1\nend\n",
-        };
-        assert_eq!(rt; ended.output.taken(), want, "call {call}, status {status}");
         statuses.push(status)?;
+        let taken = ended.output.taken();
+        if taken == replies {
+            break;
+        }
+        let again = run(&rt, alloc, b"stats\n", &mut disk)?;
+        assert_eq!(rt; again.exit, Exit::Done, "call {call}");
+        if status == 0 {
+            // What the run last saw is what is stored.
+            assert!(rt;
+                taken.ends_with(again.output.taken()),
+                "call {call}: {taken:?}"
+            );
+        }
     }
-    // The opening's calls come first, behind them the node's, and a query makes none.
+    // The opening's calls come first. A fault before the first `reopen` or in it is over with the second,
+    // and one in that isn't.
     statuses.dedup();
-    assert_eq!(rt; statuses.as_slice(), [8, 1, 0].as_slice());
+    assert_eq!(rt; statuses.as_slice(), [8, 0, 1, 0].as_slice());
+    Ok(())
+}
+
+#[test]
+fn a_node_may_be_stored_that_was_not_answered(rt: HostRuntime) -> Result<(), Fail> {
+    let alloc = rt.alloc();
+    let script: &[u8] = b"node a\ng.V()\nreopen\ng.V().count()\n";
+    // The last call of the line is the second sync of the log.
+    let mut last = 0;
+    for call in 1..=CALLS {
+        let (ended, _) = run_failing(&rt, alloc, script, call)?;
+        if ended.output.taken().starts_with(b"node 0\n") {
+            break;
+        }
+        last = call;
+    }
+    let (ended, _) = run_failing(&rt, alloc, script, last)?;
+    let want: &[u8] = b"fault disk\nerror failed\nok\n==>1\nend\n";
+    assert_eq!(rt; ended.output.taken(), want, "call {last}");
+    assert_eq!(rt; ended.exit, Exit::Done);
+    let (ended, _) = run_failing(&rt, alloc, b"node a\n", last)?;
+    assert_eq!(rt; ended.exit, Exit::StoreFailed);
     Ok(())
 }
 

@@ -1,24 +1,42 @@
 use super::*;
+use plain_graph::{Step, Target};
 use std::test::Fail;
 
 /// What a line is wanted to give.
 #[derive(Clone, Copy)]
 enum Wanted<'a> {
     Blank,
+    Begin,
+    Commit,
+    Rollback,
+    Checkpoint,
+    Stats,
+    Reopen,
     Quit,
     Node(&'a [u8]),
+    Delete(u32),
     Query(&'a [Step]),
     Syntax(usize),
     NameLength(usize),
+    NumberRange(usize),
 }
 
 fn is_wanted(given: &Result<Command, LineFault>, wanted: Wanted) -> bool {
     match (given, wanted) {
-        (Ok(Command::Blank), Wanted::Blank) | (Ok(Command::Quit), Wanted::Quit) => true,
+        (Ok(Command::Blank), Wanted::Blank)
+        | (Ok(Command::Begin), Wanted::Begin)
+        | (Ok(Command::Commit), Wanted::Commit)
+        | (Ok(Command::Rollback), Wanted::Rollback)
+        | (Ok(Command::Checkpoint), Wanted::Checkpoint)
+        | (Ok(Command::Stats), Wanted::Stats)
+        | (Ok(Command::Reopen), Wanted::Reopen)
+        | (Ok(Command::Quit), Wanted::Quit) => true,
         (Ok(Command::Node { label }), Wanted::Node(bytes)) => label.as_bytes() == bytes,
+        (Ok(Command::Delete(Target::Node(id))), Wanted::Delete(number)) => *id == number,
         (Ok(Command::Query(query)), Wanted::Query(steps)) => query.steps.as_slice() == steps,
         (Err(LineFault::Syntax { at }), Wanted::Syntax(place)) => *at == place,
         (Err(LineFault::NameLength { at }), Wanted::NameLength(place)) => *at == place,
+        (Err(LineFault::NumberRange { at }), Wanted::NumberRange(place)) => *at == place,
         _ => false,
     }
 }
@@ -26,7 +44,7 @@ fn is_wanted(given: &Result<Command, LineFault>, wanted: Wanted) -> bool {
 #[test]
 fn lines(rt: HostRuntime) {
     let longest = b"abcdefghijklmnopqrstuvwxyz_0123456789ABCDEFGHIJK";
-    let table: [(&[u8], Wanted); 57] = [
+    let table: [(&[u8], Wanted); 60] = [
         (b"", Wanted::Blank),
         (b" \t  ", Wanted::Blank),
         (b"quit", Wanted::Quit),
@@ -102,6 +120,85 @@ fn lines(rt: HostRuntime) {
         (b"g.V().count().count()", Wanted::Syntax(13)),
         (b"g . V ( ) . co unt()", Wanted::Syntax(14)),
         (b"g . V ( ) . count ( ", Wanted::Syntax(20)),
+        (b"node begin", Wanted::Node(b"begin")),
+        (b"nodes", Wanted::Syntax(4)),
+        (b"g begin", Wanted::Syntax(2)),
+    ];
+    for (line, wanted) in table {
+        let given = parse_line(rt.alloc(), line);
+        assert!(rt; is_wanted(&given, wanted), "{line:?}");
+    }
+}
+
+#[test]
+fn words(rt: HostRuntime) {
+    let table: [(&[u8], Wanted); 26] = [
+        (b"begin", Wanted::Begin),
+        (b" commit\t", Wanted::Commit),
+        (b"rollback", Wanted::Rollback),
+        (b"checkpoint ", Wanted::Checkpoint),
+        (b"stats", Wanted::Stats),
+        (b"reopen", Wanted::Reopen),
+        (b"b", Wanted::Syntax(1)),
+        (b"beginx", Wanted::Syntax(5)),
+        (b"begin x", Wanted::Syntax(6)),
+        (b"begin begin", Wanted::Syntax(6)),
+        (b"Begin", Wanted::Syntax(0)),
+        (b"c", Wanted::Syntax(1)),
+        (b"cx", Wanted::Syntax(1)),
+        (b"comit", Wanted::Syntax(3)),
+        (b"commit1", Wanted::Syntax(6)),
+        (b"commit_", Wanted::Syntax(6)),
+        (b"check", Wanted::Syntax(5)),
+        (b"checkpoin", Wanted::Syntax(9)),
+        (b"checkpoints", Wanted::Syntax(10)),
+        (b"r", Wanted::Syntax(1)),
+        (b"re", Wanted::Syntax(2)),
+        (b"ro", Wanted::Syntax(2)),
+        (b"reopn", Wanted::Syntax(4)),
+        (b"rollback!", Wanted::Syntax(8)),
+        (b"st", Wanted::Syntax(2)),
+        (b"stats.", Wanted::Syntax(5)),
+    ];
+    for (line, wanted) in table {
+        let given = parse_line(rt.alloc(), line);
+        assert!(rt; is_wanted(&given, wanted), "{line:?}");
+    }
+}
+
+#[test]
+fn deletions(rt: HostRuntime) {
+    let table: [(&[u8], Wanted); 27] = [
+        (b"d", Wanted::Syntax(1)),
+        (b"delete", Wanted::Syntax(6)),
+        (b"delete ", Wanted::Syntax(7)),
+        (b"deletenode 1", Wanted::Syntax(6)),
+        (b"delete nod", Wanted::Syntax(10)),
+        (b"delete nope 1", Wanted::Syntax(9)),
+        (b"delete edge 1", Wanted::Syntax(7)),
+        (b"delete 1", Wanted::Syntax(7)),
+        (b"delete node", Wanted::Syntax(11)),
+        (b"delete node7", Wanted::Syntax(11)),
+        (b"delete node ", Wanted::Syntax(12)),
+        (b"delete node x", Wanted::Syntax(12)),
+        (b"delete node -1", Wanted::Syntax(12)),
+        (b"delete node 0", Wanted::Delete(0)),
+        (b"delete  node\t7 ", Wanted::Delete(7)),
+        (b"\tdelete\tnode 1020", Wanted::Delete(1020)),
+        (b"delete node 4294967294", Wanted::Delete(4_294_967_294)),
+        (b"delete node 01", Wanted::Syntax(13)),
+        (b"delete node 00", Wanted::Syntax(13)),
+        (b"delete node 12a", Wanted::Syntax(14)),
+        (b"delete node 1 2", Wanted::Syntax(14)),
+        (b"delete node 4294967295", Wanted::NumberRange(12)),
+        (b"  delete node 4294967295 ", Wanted::NumberRange(14)),
+        (b"delete node 4294967295 x", Wanted::NumberRange(12)),
+        (b"delete node 42949672940", Wanted::NumberRange(12)),
+        (b"delete node 18446744073709551616", Wanted::NumberRange(12)),
+        (
+            b"delete node 99999999999999999999x",
+            Wanted::NumberRange(12),
+        ),
     ];
     for (line, wanted) in table {
         let given = parse_line(rt.alloc(), line);
@@ -110,7 +207,11 @@ fn lines(rt: HostRuntime) {
 }
 
 /// Lines of the grammar.
-const LINES: [&[u8]; 6] = [
+const LINES: [&[u8]; 10] = [
+    b"rollback",
+    b" commit ",
+    b"\tcheckpoint",
+    b"delete \tnode  4294967294 ",
     b"node person",
     b" \tnode\tperson ",
     b"g.V()",
@@ -119,9 +220,9 @@ const LINES: [&[u8]; 6] = [
     b" \t ",
 ];
 
-/// Each front of a line of the grammar is such a line too, or has its fault at its end.
+/// Each prefix of a line of the grammar is such a line too, or has its fault at its end.
 #[test]
-fn fronts(rt: HostRuntime) {
+fn prefixes(rt: HostRuntime) {
     for line in LINES {
         for len in 0..line.len() {
             let given = parse_line(rt.alloc(), &line[..len]);

@@ -1,5 +1,4 @@
 use super::*;
-use crate::files::LOG;
 
 #[test]
 fn each_file_has_its_room(rt: HostRuntime) {
@@ -7,20 +6,23 @@ fn each_file_has_its_room(rt: HostRuntime) {
         threshold: 50,
         limit: u32::MAX,
     };
-    let wanted: [u64; 7] = [
-        7,
-        4_294_967_295,
-        4_294_967_295,
-        8_589_934_590,
-        4_294_967_295,
-        4_294_967_295,
-        4_096,
+    let table: [(u8, bool, bool, u64); 10] = [
+        (0, true, false, 7),
+        (1, true, true, 4_294_967_295),
+        (2, true, true, 4_294_967_295),
+        (3, true, true, 8_589_934_590),
+        (4, true, true, 4_294_967_295),
+        (5, true, true, 4_294_967_295),
+        (6, true, true, 4_096),
+        (7, false, false, 0),
+        (8, false, false, 0),
+        (255, false, false, 0),
     ];
-    assert_eq!(rt; RECORD_FILES.len(), LOG as usize);
-    for (number, (file, records)) in RECORD_FILES.into_iter().zip(wanted).enumerate() {
-        assert_eq!(rt; file.file as usize, number);
-        assert_eq!(rt; file.room.records(shape), records);
-        let key = meta_key(file.file);
-        assert_eq!(rt; (key.file as usize, key.id as usize), (0, number));
+    for (file, has_records, has_meta, room) in table {
+        assert_eq!(rt; is_record_file(file), has_records);
+        assert_eq!(rt; is_meta_file(file), has_meta);
+        assert_eq!(rt; room_of(file, shape), room);
+        let key = meta_key(file);
+        assert_eq!(rt; (key.file, key.id), (0, file as u32));
     }
 }

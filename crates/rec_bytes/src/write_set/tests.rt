@@ -12,30 +12,44 @@ fn at(file: u8, id: u32) -> Key {
 }
 
 #[test]
-#[tactic(auto, using(crate::proofs::PairLaws::growth_by_le))]
-fn puts_and_a_merge(rt: HostRuntime) -> Result<(), Fail> {
+fn puts_edits_and_a_merge(rt: HostRuntime) -> Result<(), Fail> {
     let mut set = WriteSet::new(rt.alloc());
     for (file, id, byte) in [(2, 1, 1), (1, 9, 2), (1, 2, 3), (2, 1, 4)] {
-        set.put(at(file, id), marked(byte))?;
+        let key = at(file, id);
+        assert!(rt; key.is_valid());
+        set.put(key, marked(byte))?;
+    }
+    for (file, id, byte) in [(1, 2, 7), (3, 4, 8)] {
+        let key = at(file, id);
+        assert!(rt; key.is_valid());
+        set.edit(key, Rec::ZEROS)?.set_byte(0, byte);
     }
     let mut other = WriteSet::new(rt.alloc());
     for (file, id, byte) in [(1, 9, 5), (0, 7, 6)] {
-        other.put(at(file, id), marked(byte))?;
+        let key = at(file, id);
+        assert!(rt; key.is_valid());
+        other.reserve(1)?;
+        other.put_reserved(key, marked(byte));
     }
-    set.reserve(other.len())?;
+    let more = set.growth_by(&other);
+    assert_eq!(rt; more, 1);
+    set.reserve(more)?;
     set.merge(&other);
     let wanted = [
         (at(0, 7), marked(6)),
-        (at(1, 2), marked(3)),
+        (at(1, 2), marked(7)),
         (at(1, 9), marked(5)),
         (at(2, 1), marked(4)),
+        (at(3, 4), marked(8)),
     ];
     assert_eq!(rt; set.len(), wanted.len());
     for (i, (key, rec)) in wanted.into_iter().enumerate() {
+        assert!(rt; i < set.len());
+        assert_eq!(rt; set.at(i), (key, rec));
         assert_eq!(rt; set.get(i), Some((key, rec)));
         assert_eq!(rt; set.find(key), Some(rec));
     }
-    assert_eq!(rt; set.get(4), None);
+    assert_eq!(rt; set.get(5), None);
     assert_eq!(rt; set.find(at(1, 7)), None);
     set.clear();
     assert_eq!(rt; set.len(), 0);

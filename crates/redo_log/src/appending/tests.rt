@@ -1,6 +1,5 @@
 ghost use Rattle.std.specs.Prelude.{◌≡◌, ◌<◌, ◌^◌, length, IfOk};
 ghost use Rattle.redo_log.specs.Entries.{IsEntryOf};
-ghost use Rattle.redo_log.specs.Appending.{AreWhole};
 
 use super::*;
 use crate::entry_answer::EntryAnswer;
@@ -17,7 +16,7 @@ const ROOM: Room = Room {
     bytes: 8_192,
 };
 
-// The places behind the first entry and behind the second.
+// The places after the first entry and after the second.
 const TAIL: u64 = 72;
 
 const NEXT: u64 = 144;
@@ -26,7 +25,6 @@ const NEXT: u64 = 144;
 fn writes_of(alloc: Global, id: u32) -> Result<WriteSet, AllocError>
     requires { id < 2 ^ 25 }
     ensures form { IfOk result (λ set. IsEntryOf set.pairs) }
-    ensures whole { IfOk result (λ set. AreWhole set.pairs) }
     ensures one { IfOk result (λ set. length set.pairs ≡ 1) }
 {
     let mut writes = WriteSet::new(alloc);
@@ -46,7 +44,7 @@ fn disk_with_entry(alloc: Global, plan: FaultPlan) -> Result<MemoryDisk, Fail> {
     Ok(disk)
 }
 
-// The numbers of the nodes that the log's entries write, one an entry, and what stands behind them.
+// The numbers of the nodes that the log's entries write, one an entry, and what stands after them.
 fn log_of(disk: &mut MemoryDisk) -> Result<([u32; 3], EntryAnswer), Fail> {
     let mut ids = [0; 3];
     let mut place = 0;
@@ -88,7 +86,7 @@ fn try_stops(rt: &impl Abort, alloc: Global, choice: Crash, first: u64) -> Resul
 
 #[test]
 fn a_stop_leaves_the_old_entries_or_one_more(rt: HostRuntime) -> Result<(), Fail> {
-    // The crash, and the first call whose stop leaves the second entry. 11 is a call behind the append.
+    // The crash, and the first call whose stop leaves the second entry. 11 is a call after the append.
     let table = [
         (Crash::Old, 11),
         (Crash::New, 10),

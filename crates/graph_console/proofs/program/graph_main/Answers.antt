@@ -1,72 +1,103 @@
-use Rattle.std.proofs.Common.{◌≡◌, ◌∙◌, ℕ, List, sym, ap, subst, rules, map, string_bytes, Err}
+use Rattle.std.proofs.Common.{◌≡◌, ◌∙◌, sym, ap, subst, rules, Err}
 use Rattle.fault_count.specs.Cause.{Rose}
-use Rattle.disk_model.specs.Contents.{Files}
-use Rattle.node_log.specs.Opening.{RefusesContent, IsOldOrNew}
-use Rattle.node_log.specs.declared.config.Config.{Config}
-use Rattle.node_log.specs.Config.{Suits, shape_of}
-use Rattle.graph_session.specs.Opening.{StartsAs}
-use Rattle.graph_console.specs.Main.{EndsAs, IsUnopened, Serves, Writes, config_for}
-use Rattle.graph_console.proofs.Opened.{at_equal, disk_failed, serves_opened, serves_unopened, sound_for}
+use Rattle.txn_core.specs.Config.{Suits}
+use Rattle.txn_core.specs.declared.config.Config.{Config}
+use Rattle.txn_core.specs.declared.open_fault.OpenFault.{OpenFault}
+use Rattle.txn_core.specs.declared.open_fault.OpenFault.TheVariants.{Memory}
+use Rattle.graph_session.specs.Opening.{IsUnopened, Opens}
+use Rattle.graph_session.specs.Session.{view}
+use Rattle.graph_console.specs.Program.{Serves, Writes, config_for, terms_for}
+use Rattle.graph_console.specs.Unopened.{EndsUnopened}
+use Rattle.graph_console.proofs.Failing.{failed_rose}
+use Rattle.graph_console.proofs.Opened.{at_equal, disk_failed, ends_unopened, refuses_usage, serves_opened, serves_unopened, sound_for, unopened_memory}
 use Rattle.graph_console.proofs.program.graph_main.Goals as goal
 
 pub returns-in-Err-Usage-clause-serves : goal.returns-in-Err-Usage-clause-serves
-returns-in-Err-Usage-clause-serves g c = λ options asks s k. absurd (rw c.deref.ensures.value at (c.in-Err-Usage.ensures.usage (ap Err c.in-Err-Usage.field-0-is)) options asks)
+returns-in-Err-Usage-clause-serves g c = λ options asks holds s k. absurd (rw c.deref.ensures.value at (c.in-Err-Usage.ensures.usage (ap Err c.in-Err-Usage.field-0-is)) options asks)
 
 pub returns-in-Err-Usage-clause-usage : goal.returns-in-Err-Usage-clause-usage
 returns-in-Err-Usage-clause-usage g c = λ is. rw c.deref.ensures.value at (c.in-Err-Usage.ensures.usage (ap Err c.in-Err-Usage.field-0-is))
 
+pub returns-in-Err-Usage-clause-refuses : goal.returns-in-Err-Usage-clause-refuses
+returns-in-Err-Usage-clause-refuses g c = λ asks k. refuses_usage c.end_with_line.result _ _ (c.end_with_line.ensures.written k)
+
+pub returns-in-Err-Memory-clause-serves : goal.returns-in-Err-Memory-clause-serves
+returns-in-Err-Memory-clause-serves g c = λ options asks holds s k.
+    serves_unopened g.D.Disk.tells_reads (terms_for g.D.Disk options c.args.disk.now c.args.disk.now) Memory (unopened_memory g.D.Disk g.met.D.Disk.only_now (config_for options) c.args.disk.now)
+    _ _ c.end_without_memory.result _ _ (c.end_without_memory.ensures.written k)
+
+pub returns-in-Err-Memory-clause-unopened : goal.returns-in-Err-Memory-clause-unopened
+returns-in-Err-Memory-clause-unopened g c = λ options asks ends k.
+    ends_unopened (IsUnopened g.D.Disk (config_for options) c.args.disk.now c.args.disk.now) Memory (unopened_memory g.D.Disk g.met.D.Disk.only_now (config_for options) c.args.disk.now)
+    _ _ c.end_without_memory.result ends (c.end_without_memory.ensures.written k)
+
+pub returns-in_default-clause-serves : goal.returns-in_default-clause-serves
+returns-in_default-clause-serves g c = λ options asks holds s k.
+    serves_unopened g.D.Disk.tells_reads (terms_for g.D.Disk options c.args.disk.now c.args.disk.now) Memory (unopened_memory g.D.Disk g.met.D.Disk.only_now (config_for options) c.args.disk.now)
+    _ _ c.end_without_memory-in_default.result _ _ (c.end_without_memory-in_default.ensures.written k)
+
+pub returns-in_default-clause-unopened : goal.returns-in_default-clause-unopened
+returns-in_default-clause-unopened g c = λ options asks ends k.
+    ends_unopened (IsUnopened g.D.Disk (config_for options) c.args.disk.now c.args.disk.now) Memory (unopened_memory g.D.Disk g.met.D.Disk.only_now (config_for options) c.args.disk.now)
+    _ _ c.end_without_memory-in_default.result ends (c.end_without_memory-in_default.ensures.written k)
+
 pub returns-in-Ok-open-clause-serves : goal.returns-in-Ok-open-clause-serves
-returns-in-Ok-open-clause-serves g c = λ options asks s k.
-    let reads : Type 0 = g.D.Disk.tells_reads in
-    let tells : Type 0 = reads × g.D.Disk.tells_images in
-    let content : Files = g.D.Disk.reads c.args.disk.now in
+returns-in-Ok-open-clause-serves g c = λ options asks holds s k.
     let same = rw c.deref.ensures.value at c.in-Ok.ensures.only options asks in
     let config_is : c.config_of.result ≡ config_for options = c.config_of.ensures ∙ ap config_for (sym same) in
-    let starts = c.in-Ok-open.ensures.starts in
+    let opens = subst (λ (config : Config). Opens g.D.Disk config c.args.disk.now (view c.in-Ok-open.session)) config_is c.in-Ok-open.ensures.opened in
+    let begins = opens.begins holds in
     at_equal
     (λ (disk : g.row.D.Denot). Writes (g.K.Sink.taken c.args.output.now) (g.K.Sink.taken c.serve-exit.new.output)
-    (Serves (StartsAs reads content (config_for options))
-    (EndsAs tells (g.D.Disk.may_leave disk) (g.D.Disk.faults c.args.disk.now) (g.D.Disk.faults disk))
-    (IsUnopened reads g.D.Disk.tells_images content (g.D.Disk.may_leave c.args.disk.now) (g.D.Disk.may_leave disk) (g.D.Disk.faults c.args.disk.now) (g.D.Disk.faults disk) options)
-    c.serve-exit.result (g.S.Source.left c.args.input.now) (g.S.Source.left c.serve-exit.new.input)))
-    c.serve-exit.new.session.disk.now _
-    (serves_opened (StartsAs reads content (config_for options)) tells (g.D.Disk.may_leave c.serve-exit.new.session.disk.now)
-    (g.D.Disk.faults c.args.disk.now) (g.D.Disk.faults c.in-Ok-open.session.disk.now) (g.D.Disk.faults c.serve-exit.new.session.disk.now) _ starts.0
-    (subst (λ (config : Config). StartsAs reads content config starts.0) config_is starts.1)
-    c.in-Ok-open.ensures.later _ _ c.serve-exit.result _ _ (c.serve-exit.ensures.serves starts.0 starts.2 s k))
+    (Serves (terms_for g.D.Disk options c.args.disk.now disk) c.serve-exit.result (g.S.Source.left c.args.input.now) (g.S.Source.left c.serve-exit.new.input)))
+    (view c.serve-exit.new.session).disk _
+    (serves_opened g.D.Disk options c.args.disk.now (view c.in-Ok-open.session) (view c.serve-exit.new.session).disk opens holds begins.0 begins.1 begins.2 c.serve-exit.result _ _ _ _
+    (c.serve-exit.ensures.serves begins.0 begins.2 s k))
+    (search rules)
+
+pub returns-in-Ok-open-clause-store_failed : goal.returns-in-Ok-open-clause-store_failed
+returns-in-Ok-open-clause-store_failed g c = λ options asks told stands s k is.
+    let same = rw c.deref.ensures.value at c.in-Ok.ensures.only options asks in
+    let config_is : c.config_of.result ≡ config_for options = c.config_of.ensures ∙ ap config_for (sym same) in
+    let opens = subst (λ (config : Config). Opens g.D.Disk config c.args.disk.now (view c.in-Ok-open.session)) config_is c.in-Ok-open.ensures.opened in
+    let begins = opens.begins (λ _. stands) in
+    at_equal (λ (disk : g.row.D.Denot). Rose (g.D.Disk.faults c.args.disk.now) (g.D.Disk.faults disk)) (view c.serve-exit.new.session).disk _
+    (failed_rose g.D.Disk options c.args.disk.now (view c.serve-exit.new.session).disk told c.serve-exit.result _ _ _ _
+    (serves_opened g.D.Disk options c.args.disk.now (view c.in-Ok-open.session) (view c.serve-exit.new.session).disk opens (λ _. stands) begins.0 begins.1 begins.2 c.serve-exit.result _ _ _ _
+    (c.serve-exit.ensures.serves begins.0 begins.2 s k)) is)
     (search rules)
 
 pub returns-clause-serves : goal.returns-clause-serves
-returns-clause-serves g c = λ options asks s k.
-    let reads : Type 0 = g.D.Disk.tells_reads in
-    let tells : Type 0 = reads × g.D.Disk.tells_images in
-    let content : Files = g.D.Disk.reads c.args.disk.now in
+returns-clause-serves g c = λ options asks holds s k.
     let same = rw c.deref.ensures.value at c.in-Ok.ensures.only options asks in
     let config_is : c.config_of.result ≡ config_for options = c.config_of.ensures ∙ ap config_for (sym same) in
+    let unopened = subst (λ (config : Config). IsUnopened g.D.Disk config c.args.disk.now c.in-Err.field-0.disk.now c.in-Err.field-0.why) config_is c.in-Err.ensures.unopened in
     at_equal
     (λ (disk : g.row.D.Denot). Writes (g.K.Sink.taken c.args.output.now) (g.K.Sink.taken c.end_unopened.new.output)
-    (Serves (StartsAs reads content (config_for options))
-    (EndsAs tells (g.D.Disk.may_leave disk) (g.D.Disk.faults c.args.disk.now) (g.D.Disk.faults disk))
-    (IsUnopened reads g.D.Disk.tells_images content (g.D.Disk.may_leave c.args.disk.now) (g.D.Disk.may_leave disk) (g.D.Disk.faults c.args.disk.now) (g.D.Disk.faults disk) options)
-    c.end_unopened.result (g.S.Source.left c.args.input.now) (g.S.Source.left c.args.input.now)))
+    (Serves (terms_for g.D.Disk options c.args.disk.now disk) c.end_unopened.result (g.S.Source.left c.args.input.now) (g.S.Source.left c.args.input.now)))
     c.in-Err.field-0.disk.now _
-    (serves_unopened (StartsAs reads content (config_for options)) _ _ c.in-Err.field-0.why
-    (record {
-      refused = λ told. subst (λ (config : Config). RefusesContent content config c.in-Err.field-0.why) config_is (c.in-Err.ensures.refused told);
-      left = λ told told_images. subst (λ (config : Config). IsOldOrNew content (g.D.Disk.may_leave c.args.disk.now) (shape_of config) (g.D.Disk.may_leave c.in-Err.field-0.disk.now)) config_is (c.in-Err.ensures.left told told_images);
-      cause = c.in-Err.ensures.cause;
-    })
-    _ _ c.end_unopened.result _ _ (c.end_unopened.ensures.written k))
+    (serves_unopened g.D.Disk.tells_reads (terms_for g.D.Disk options c.args.disk.now c.in-Err.field-0.disk.now) c.in-Err.field-0.why unopened _ _ c.end_unopened.result _ _ (c.end_unopened.ensures.written k))
+    (search rules)
+
+pub returns-clause-unopened : goal.returns-clause-unopened
+returns-clause-unopened g c = λ options asks ends k.
+    let same = rw c.deref.ensures.value at c.in-Ok.ensures.only options asks in
+    let config_is : c.config_of.result ≡ config_for options = c.config_of.ensures ∙ ap config_for (sym same) in
+    let unopened = subst (λ (config : Config). IsUnopened g.D.Disk config c.args.disk.now c.in-Err.field-0.disk.now c.in-Err.field-0.why) config_is c.in-Err.ensures.unopened in
+    at_equal
+    (λ (disk : g.row.D.Denot). Writes (g.K.Sink.taken c.args.output.now) (g.K.Sink.taken c.end_unopened.new.output) (EndsUnopened (IsUnopened g.D.Disk (config_for options) c.args.disk.now disk) c.end_unopened.result))
+    c.in-Err.field-0.disk.now _
+    (ends_unopened (IsUnopened g.D.Disk (config_for options) c.args.disk.now c.in-Err.field-0.disk.now) c.in-Err.field-0.why unopened _ _ c.end_unopened.result ends (c.end_unopened.ensures.written k))
     (search rules)
 
 pub returns-clause-sound : goal.returns-clause-sound
 returns-clause-sound g c = λ options shape graph asks told stands.
     let same = rw c.deref.ensures.value at c.in-Ok.ensures.only options asks in
     let config_is : c.config_of.result ≡ config_for options = c.config_of.ensures ∙ ap config_for (sym same) in
-    let sound = sound_for shape c.config_of.result c.in-Err.field-0.why (c.in-Err.ensures.sound told shape graph stands) c.end_unopened.result c.end_unopened.ensures.exits in
+    let sound = sound_for shape c.config_of.result c.in-Err.field-0.why (c.in-Err.ensures.unopened.sound told shape graph stands) c.end_unopened.result c.end_unopened.ensures.cause in
     (sound.0, λ is. subst (λ (config : Config). ¬ Suits config shape) config_is (sound.1 is))
 
 pub returns-clause-disk_fault : goal.returns-clause-disk_fault
 returns-clause-disk_fault g c = λ is.
     at_equal (λ (disk : g.row.D.Denot). Rose (g.D.Disk.faults c.args.disk.now) (g.D.Disk.faults disk)) c.in-Err.field-0.disk.now _
-    (c.in-Err.ensures.cause (disk_failed c.in-Err.field-0.why c.end_unopened.result c.end_unopened.ensures.exits is)) (search rules)
+    (c.in-Err.ensures.unopened.cause (disk_failed c.in-Err.field-0.why c.end_unopened.result c.end_unopened.ensures.cause is)) (search rules)

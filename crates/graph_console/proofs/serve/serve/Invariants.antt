@@ -1,21 +1,23 @@
-use Rattle.std.proofs.Common.{◌≡◌, ◌-◌, ◌^◌, ◌≤◌}
+use Rattle.std.proofs.Common.{◌-◌, ◌^◌, ◌≤◌}
 use Rattle.stream_io.specs.Reading.{used}
-use Rattle.graph_session.specs.Session.{FailsBy, IsAt}
+use Rattle.graph_session.specs.Console.{IsAt, Onward}
+use Rattle.graph_session.specs.Session.{HaveSameDisk, view}
 use Rattle.graph_session.specs.State.{State}
+use Rattle.graph_console.specs.Serve.{loop, progress}
+use Rattle.graph_console.proofs.Admitted.{IsAtSince}
 use Rattle.graph_console.proofs.Runs.{Serving}
 use Rattle.graph_console.proofs.serve.serve.Given as goal
 
 abbrev pub invariant-lines : goal.invariant-lines
 invariant-lines g l = record {
-  serving : (first : State) → IsAt (g.D.Disk.tells_reads × g.D.Disk.tells_images) (g.D.Disk.may_leave l.fn.session.disk.now) l.fn.session.console first → g.S.Source.tells → g.K.Sink.tells
-      → Serving first (IsAt (g.D.Disk.tells_reads × g.D.Disk.tells_images) (g.D.Disk.may_leave l.session.disk.now) l.session.console)
-      (record { reader = l.fn.reader; left = g.S.Source.left l.fn.input; taken = g.K.Sink.taken l.fn.output; faults = g.D.Disk.faults l.fn.session.disk.now })
-      (record { reader = l.reader; left = g.S.Source.left l.input; taken = g.K.Sink.taken l.output; faults = g.D.Disk.faults l.session.disk.now });
-  same_disk : l.session.disk.ghost_name ≡ l.fn.session.disk.ghost_name;
+  serving : (first : State) → IsAt g.D.Disk (view l.fn.session) first → g.S.Source.tells → g.K.Sink.tells
+      → Serving g.D.Disk.tells_reads first (IsAtSince g.D.Disk (view l.fn.session) (view l.session) first)
+      (progress g.S.Source g.K.Sink g.D.Disk (loop l.fn.reader l.fn.input l.fn.output (view l.fn.session)))
+      (progress g.S.Source g.K.Sink g.D.Disk (loop l.reader l.input l.output (view l.session)));
+  onward : Onward g.D.Disk (view l.fn.session) (view l.session);
   input_later : g.S.Source.faults l.fn.input ≤ g.S.Source.faults l.input;
-  disk_later : g.D.Disk.faults l.fn.session.disk.now ≤ g.D.Disk.faults l.session.disk.now;
-  fails : FailsBy l.fn.session.console.health l.session.console.health (g.D.Disk.faults l.fn.session.disk.now) (g.D.Disk.faults l.session.disk.now);
   output_later : g.K.Sink.faults l.fn.output ≤ g.K.Sink.faults l.output;
+  same_disk : HaveSameDisk l.fn.session l.session;
 }
 
 abbrev pub decreases-lines : goal.decreases-lines

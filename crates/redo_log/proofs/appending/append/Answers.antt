@@ -2,11 +2,11 @@ use Rattle.std.proofs.Common.{inl, inr, ℕ, ◌+◌, ◌*◌, ◌++◌, ◌∷�
 use Rattle.disk_model.specs.Contents.{Files, Holds}
 use Rattle.disk_model.specs.Disk.{Elapses, LeavesOnly, NoMore, Settled, TornIn}
 use Rattle.disk_model.proofs.Times.{leaves_weaker}
-use Rattle.rec_bytes.specs.declared.files.TheConstants.{LOG}
+use Rattle.rec_bytes.specs.Format.{log_file}
 use Rattle.rec_bytes.specs.Pairs.{Pairs}
 use Rattle.redo_log.specs.Appending.{AreWhole, HasOneMore, IsAppended, IsTornFrom, payload_bytes}
 use Rattle.redo_log.specs.Entries.{AllHaveEntries, Fits, HasEntries, IsEntryOf, entry_bytes}
-use Rattle.redo_log.proofs.Contents.{SameOutside-then, SameOutside-same}
+use Rattle.disk_model.proofs.Contents.{SameOutside-then, SameOutside-same}
 use Rattle.redo_log.proofs.Appends.{HasEntries-behind, HasEntries-read, HasOneMore-read, HasAtMostOneMore-read, IsAppended-torn, leaves_no_more, leaves_gated, AllHaveEntries-settled}
 use Rattle.redo_log.proofs.appending.append.Given.{Over}
 use Rattle.redo_log.proofs.appending.append.Goals as goal
@@ -28,9 +28,9 @@ synced g first before now P images leaves time fewer =
 -- with the gate written too
 gated : (g : Over) (first laid stable now : g.row.D.Denot) (entries : List Pairs) (writes : Pairs) (tail : ℕ) → g.D.Disk.tells_images
     → AllHaveEntries (g.D.Disk.may_leave first) entries tail → IsEntryOf writes → AreWhole writes → Fits tail (length writes)
-    → Leaves g first laid (IsTornFrom (g.D.Disk.may_leave first) (tail + 1) (3 + 69 * length writes)) → Holds LOG (tail + 1) (payload_bytes writes ++ 0 ∷ []) (g.D.Disk.reads laid)
-    → Goes g laid stable → NoMore (g.D.Disk.may_leave laid) (g.D.Disk.may_leave stable) → Settled LOG (g.D.Disk.reads laid) (g.D.Disk.may_leave stable)
-    → Goes g stable now → TornIn LOG tail 1 (g.D.Disk.may_leave stable) (g.D.Disk.may_leave now) → Leaves g first now (IsAppended (g.D.Disk.may_leave first) entries writes tail)
+    → Leaves g first laid (IsTornFrom (g.D.Disk.may_leave first) (tail + 1) (3 + 69 * length writes)) → Holds log_file (tail + 1) (payload_bytes writes ++ 0 ∷ []) (g.D.Disk.reads laid)
+    → Goes g laid stable → NoMore (g.D.Disk.may_leave laid) (g.D.Disk.may_leave stable) → Settled log_file (g.D.Disk.reads laid) (g.D.Disk.may_leave stable)
+    → Goes g stable now → TornIn log_file tail 1 (g.D.Disk.may_leave stable) (g.D.Disk.may_leave now) → Leaves g first now (IsAppended (g.D.Disk.may_leave first) entries writes tail)
 gated g first laid stable now entries writes tail images all form whole fits leaves holds time fewer settled gate_time torn =
     let disk = g.D.Disk in
     let wide = IsTornFrom (disk.may_leave first) (tail + 1) (3 + 69 * length writes) in
@@ -56,12 +56,12 @@ returns-in_err-sync-clause-read g c reads entries has =
     let disk = g.D.Disk in
     let n = 3 + 69 * length c.args.writes.now.pairs in
     inl (HasEntries-behind entries c.args.tail n (disk.reads c.args.disk.now) (disk.reads c.sync.new.self) has
-    (SameOutside-then LOG (c.args.tail + 1) n (disk.reads c.args.disk.now) (disk.reads c.write_payload.new.disk) (disk.reads c.sync.new.self) (c.write_payload.ensures.elsewhere reads)
-    (SameOutside-same LOG (c.args.tail + 1) n (disk.reads c.write_payload.new.disk) (disk.reads c.sync.new.self) (c.sync.ensures.stays reads))))
+    (SameOutside-then log_file (c.args.tail + 1) n (disk.reads c.args.disk.now) (disk.reads c.write_payload.new.disk) (disk.reads c.sync.new.self) (c.write_payload.ensures.elsewhere reads)
+    (SameOutside-same log_file (c.args.tail + 1) n (disk.reads c.write_payload.new.disk) (disk.reads c.sync.new.self) (c.sync.ensures.keeps))))
 
 pub returns-in_err-write-clause-crash : goal.returns-in_err-write-clause-crash
 returns-in_err-write-clause-crash g c reads images entries all =
-    gated g c.args.disk.now c.write_payload.new.disk c.sync.new.self c.write.new.self entries c.args.writes.now.pairs c.args.tail images all c.requires.form c.requires.whole c.requires.fits
+    gated g c.args.disk.now c.write_payload.new.disk c.sync.new.self c.write.new.self entries c.args.writes.now.pairs c.args.tail images all c.requires.form c.in_ok-write_payload.ensures.whole c.requires.fits
     (c.write_payload.ensures.crash images) (c.in_ok-write_payload.ensures.written reads)
     (c.sync.ensures.time images) (c.sync.ensures.crash images) (c.in_ok-sync.ensures.settled reads images)
     (c.write.ensures.time images) (c.write.ensures.crash images)
@@ -70,12 +70,12 @@ pub returns-in_err-write-clause-read : goal.returns-in_err-write-clause-read
 returns-in_err-write-clause-read g c reads entries has =
     let disk = g.D.Disk in
     HasAtMostOneMore-read entries c.args.writes.now.pairs c.args.tail (disk.reads c.args.disk.now) (disk.reads c.write_payload.new.disk) (disk.reads c.sync.new.self) (disk.reads c.write.new.self)
-    c.requires.form c.requires.whole c.requires.fits has
-    (c.write_payload.ensures.elsewhere reads) (c.in_ok-write_payload.ensures.written reads) (c.sync.ensures.stays reads) (c.write.ensures.elsewhere reads)
+    c.requires.form c.in_ok-write_payload.ensures.whole c.requires.fits has
+    (c.write_payload.ensures.elsewhere reads) (c.in_ok-write_payload.ensures.written reads) (c.sync.ensures.keeps) (c.write.ensures.elsewhere)
 
 pub returns-in_err-sync-2-clause-crash : goal.returns-in_err-sync-2-clause-crash
 returns-in_err-sync-2-clause-crash g c reads images entries all =
-    let opened = gated g c.args.disk.now c.write_payload.new.disk c.sync.new.self c.write.new.self entries c.args.writes.now.pairs c.args.tail images all c.requires.form c.requires.whole c.requires.fits
+    let opened = gated g c.args.disk.now c.write_payload.new.disk c.sync.new.self c.write.new.self entries c.args.writes.now.pairs c.args.tail images all c.requires.form c.in_ok-write_payload.ensures.whole c.requires.fits
     (c.write_payload.ensures.crash images) (c.in_ok-write_payload.ensures.written reads)
     (c.sync.ensures.time images) (c.sync.ensures.crash images) (c.in_ok-sync.ensures.settled reads images)
     (c.write.ensures.time images) (c.write.ensures.crash images) in
@@ -86,14 +86,14 @@ returns-in_err-sync-2-clause-read g c reads entries has =
     let disk = g.D.Disk in
     let tail = c.args.tail in
     HasAtMostOneMore-read entries c.args.writes.now.pairs tail (disk.reads c.args.disk.now) (disk.reads c.write_payload.new.disk) (disk.reads c.sync.new.self) (disk.reads c.sync-2.new.self)
-    c.requires.form c.requires.whole c.requires.fits has
-    (c.write_payload.ensures.elsewhere reads) (c.in_ok-write_payload.ensures.written reads) (c.sync.ensures.stays reads)
-    (SameOutside-then LOG tail 1 (disk.reads c.sync.new.self) (disk.reads c.write.new.self) (disk.reads c.sync-2.new.self) (c.write.ensures.elsewhere reads)
-    (SameOutside-same LOG tail 1 (disk.reads c.write.new.self) (disk.reads c.sync-2.new.self) (c.sync-2.ensures.stays reads)))
+    c.requires.form c.in_ok-write_payload.ensures.whole c.requires.fits has
+    (c.write_payload.ensures.elsewhere reads) (c.in_ok-write_payload.ensures.written reads) (c.sync.ensures.keeps)
+    (SameOutside-then log_file tail 1 (disk.reads c.sync.new.self) (disk.reads c.write.new.self) (disk.reads c.sync-2.new.self) (c.write.ensures.elsewhere)
+    (SameOutside-same log_file tail 1 (disk.reads c.write.new.self) (disk.reads c.sync-2.new.self) (c.sync-2.ensures.keeps)))
 
 pub returns-clause-crash : goal.returns-clause-crash
 returns-clause-crash g c reads images entries all =
-    let opened = gated g c.args.disk.now c.write_payload.new.disk c.sync.new.self c.write.new.self entries c.args.writes.now.pairs c.args.tail images all c.requires.form c.requires.whole c.requires.fits
+    let opened = gated g c.args.disk.now c.write_payload.new.disk c.sync.new.self c.write.new.self entries c.args.writes.now.pairs c.args.tail images all c.requires.form c.in_ok-write_payload.ensures.whole c.requires.fits
     (c.write_payload.ensures.crash images) (c.in_ok-write_payload.ensures.written reads)
     (c.sync.ensures.time images) (c.sync.ensures.crash images) (c.in_ok-sync.ensures.settled reads images)
     (c.write.ensures.time images) (c.write.ensures.crash images) in
@@ -104,11 +104,11 @@ one_more : (g : Over) (c : goal.After-len g) → g.D.Disk.tells_reads → (entri
 one_more g c reads entries has =
     let disk = g.D.Disk in
     HasOneMore-read entries c.args.writes.now.pairs c.args.tail (disk.reads c.args.disk.now) (disk.reads c.write_payload.new.disk) (disk.reads c.sync.new.self) (disk.reads c.write.new.self)
-    c.requires.form c.requires.whole c.requires.fits has
-    (c.write_payload.ensures.elsewhere reads) (c.in_ok-write_payload.ensures.written reads) (c.sync.ensures.stays reads) (c.write.ensures.elsewhere reads) (c.in_ok-write.ensures.written reads)
+    c.requires.form c.in_ok-write_payload.ensures.whole c.requires.fits has
+    (c.write_payload.ensures.elsewhere reads) (c.in_ok-write_payload.ensures.written reads) (c.sync.ensures.keeps) (c.write.ensures.elsewhere) (c.in_ok-write.ensures.written reads)
 
 pub returns-clause-appended : goal.returns-clause-appended
-returns-clause-appended g c reads entries has = HasEntries-read (entries ++ c.args.writes.now.pairs ∷ []) (c.args.tail + entry_bytes (length c.args.writes.now.pairs)) (g.D.Disk.reads c.write.new.self) (g.D.Disk.reads c.sync-2.new.self) (one_more g c reads entries has) (c.sync-2.ensures.stays reads LOG)
+returns-clause-appended g c reads entries has = HasEntries-read (entries ++ c.args.writes.now.pairs ∷ []) (c.args.tail + entry_bytes (length c.args.writes.now.pairs)) (g.D.Disk.reads c.write.new.self) (g.D.Disk.reads c.sync-2.new.self) (one_more g c reads entries has) (c.sync-2.ensures.keeps log_file)
 
 pub returns-clause-read : goal.returns-clause-read
 returns-clause-read g c reads entries has = inr (returns-clause-appended g c reads entries has)

@@ -1,11 +1,13 @@
-use Rattle.std.proofs.Common.{◌≡◌, ℕ, ◌+◌, ◌*◌, ◌≤◌, ◌++◌, ◌∷◌, [], ap, sym, subst, ◌∙◌, ◌-◌, length, take, drop, arith, length-append}
+use Rattle.std.proofs.Common.{◌≡◌, ℕ, ◌+◌, ◌*◌, ◌≤◌, ◌++◌, ◌∷◌, [], ap, sym, subst, ◌∙◌, ◌-◌, length, take, drop, arith, length-append, Result, Ok, Err}
+use Rattle.std.specs.Prelude.{OnOk}
 use Rattle.std.specs.List.{flat_map}
 use Rattle.std.proofs.lemmas.Result.{on_ok_weaker}
 use Rattle.disk_model.specs.Contents.{Holds, SameOutside}
 use Rattle.disk_model.specs.Disk.{Elapses, LeavesOnly, TornIn}
-use Rattle.rec_bytes.specs.declared.files.TheConstants.{LOG}
+use Rattle.rec_bytes.specs.Format.{log_file}
 use Rattle.redo_log.specs.Appending.{IsTornFrom, write_bytes}
-use Rattle.redo_log.proofs.Contents.{SameOutside-within, SameOutside-then}
+use Rattle.disk_model.proofs.Contents.{SameOutside-within, SameOutside-then}
+use Rattle.redo_log.proofs.Bytes.{AreWhole-all, AreWholeFrom-then}
 use Rattle.redo_log.proofs.Sending.{IsSent, IsSent-more, IsSent-all}
 use Rattle.redo_log.proofs.Torn.{leaves_torn}
 use Rattle.redo_log.proofs.payload.write_payload.Given.{Over}
@@ -18,7 +20,7 @@ Leaves g first now at n = let disk = g.D.Disk in LeavesOnly (disk.moment first) 
 -- with one write more in the range
 torn_more : (g : Over) (first before now : g.row.D.Denot) (at n place k : ℕ) → g.D.Disk.tells_images → Leaves g first before at n
     → Elapses (g.D.Disk.moment before) (g.D.Disk.moment now) (g.D.Disk.left_since before) (g.D.Disk.left_since now) (g.D.Disk.may_leave now)
-    → TornIn LOG place k (g.D.Disk.may_leave before) (g.D.Disk.may_leave now) → at ≤ place → place + k ≤ at + n → Leaves g first now at n
+    → TornIn log_file place k (g.D.Disk.may_leave before) (g.D.Disk.may_leave now) → at ≤ place → place + k ≤ at + n → Leaves g first now at n
 torn_more g first before now at n place k images leaves time torn behind ends =
     leaves_torn _ _ _ _ _ _ (g.D.Disk.may_leave first) (g.D.Disk.may_leave before) _ at n place k leaves time torn
     (λ image left. g.met.D.Disk.counts_now before (g.D.Disk.moment first) image images leaves.later left) behind ends
@@ -60,15 +62,16 @@ loop-next-preserved g c =
       sent = λ reads.
           subst (λ k. IsSent new at (place + k) next_piece writes later) (sym step)
           (IsSent-more old new at place piece next_piece writes next later (was.sent reads)
-          (subst (λ bytes. Holds LOG place bytes new) c.bytes.ensures (c.in_ok-write.ensures.written reads))
-          (subst (λ bytes. SameOutside LOG place (length bytes) old new) c.bytes.ensures (c.write.ensures.elsewhere reads))
+          (subst (λ bytes. Holds log_file place bytes new) c.bytes.ensures (c.in_ok-write.ensures.written reads))
+          (subst (λ bytes. SameOutside log_file place (length bytes) old new) c.bytes.ensures (c.write.ensures.elsewhere))
           added on);
       elsewhere = λ reads.
-          SameOutside-then LOG at n (disk.reads c.args.disk.now) old new (was.elsewhere reads)
-          (SameOutside-within LOG place (length c.bytes.result.now) at n old new was.behind ends (c.write.ensures.elsewhere reads));
+          SameOutside-then log_file at n (disk.reads c.args.disk.now) old new (was.elsewhere reads)
+          (SameOutside-within log_file place (length c.bytes.result.now) at n old new was.behind ends (c.write.ensures.elsewhere));
       crash = λ images.
           torn_more g c.args.disk.now c.loop-next.disk c.write.new.self at n place (length c.bytes.result.now)
           images (was.crash images) (c.write.ensures.time images) (c.write.ensures.crash images) was.behind ends;
+      whole = AreWholeFrom-then writes 0 next later was.whole c.fill-next-in-loop-next.ensures.whole;
       cause = omega (arith, was.cause, c.write.ensures.cause.later);
     }
 
@@ -76,9 +79,9 @@ pub returns-clause-written : goal.returns-clause-written
 returns-clause-written g c reads =
     let disk = g.D.Disk in
     let was = c.loop-next.invariant in
-    on_ok_weaker {P = Holds LOG c.loop-next.place c.bytes-2.result.now (disk.reads c.write-2.new.self)} c.write-2.result (λ holds.
+    on_ok_weaker {P = Holds log_file c.loop-next.place c.bytes-2.result.now (disk.reads c.write-2.new.self)} c.write-2.result (λ holds.
     IsSent-all (disk.reads c.loop-next.disk) (disk.reads c.write-2.new.self) c.args.at c.loop-next.place c.loop-next.piece c.bytes-2.result.now c.args.writes.now.pairs c.loop-next.next (0 ∷ [])
-    (was.sent reads) (omega (arith, was.within)) (c.bytes-2.ensures ∙ c.push.ensures) holds (c.write-2.ensures.elsewhere reads)) (c.write-2.ensures.written reads)
+    (was.sent reads) (omega (arith, was.within)) (c.bytes-2.ensures ∙ c.push.ensures) holds (c.write-2.ensures.elsewhere)) (c.write-2.ensures.written reads)
 
 pub returns-clause-crash : goal.returns-clause-crash
 returns-clause-crash g c images =
@@ -86,3 +89,11 @@ returns-clause-crash g c images =
     let size : length c.bytes-2.result.now ≡ length c.loop-next.piece + 1 = ap length (c.bytes-2.ensures ∙ c.push.ensures) ∙ length-append c.loop-next.piece (0 ∷ []) in
     torn_more g c.args.disk.now c.loop-next.disk c.write-2.new.self c.args.at (3 + 69 * length c.args.writes.now.pairs) c.loop-next.place (length c.bytes-2.result.now)
     images (was.crash images) (c.write-2.ensures.time images) (c.write-2.ensures.crash images) was.behind (omega (arith, was.ends, was.within, size))
+
+on_ok_always : {T E P : Type 0} (result : Result T E) → P → OnOk result P
+on_ok_always (Ok x) p = p
+on_ok_always (Err e) p = tt
+
+pub returns-clause-whole : goal.returns-clause-whole
+returns-clause-whole g c =
+    on_ok_always c.write-2.result (AreWhole-all c.args.writes.now.pairs c.loop-next.next (omega (arith, c.loop-next.invariant.within)) c.loop-next.invariant.whole)

@@ -1,8 +1,8 @@
 use Rattle.std.proofs.Common.{◌-◌, ◌≡◌, ◌+◌, ◌*◌, ◌≤◌, length}
 use Rattle.disk_model.specs.Contents.{SameOutside}
-use Rattle.disk_model.specs.Disk.{LeavesOnly}
-use Rattle.rec_bytes.specs.declared.files.TheConstants.{LOG}
-use Rattle.redo_log.specs.Appending.{IsTornFrom}
+use Rattle.disk_model.specs.Spans.{AtEachMoment}
+use Rattle.rec_bytes.specs.Format.{log_file}
+use Rattle.redo_log.specs.Appending.{AreWholeFrom, IsTornFrom}
 use Rattle.redo_log.proofs.Sending.{IsSent}
 use Rattle.redo_log.proofs.payload.write_payload.Given as goal
 
@@ -13,8 +13,9 @@ invariant-loop-next g l = let disk = g.D.Disk in record {
   behind : l.at ≤ l.place;
   ends : l.place + length l.piece ≡ l.at + 2 + 69 * l.next;
   sent : disk.tells_reads → IsSent (disk.reads l.disk) l.at l.place l.piece l.writes.pairs l.next;
-  elsewhere : disk.tells_reads → SameOutside LOG l.at (3 + 69 * length l.writes.pairs) (disk.reads l.fn.disk) (disk.reads l.disk);
-  crash : disk.tells_images → LeavesOnly (disk.moment l.fn.disk) (disk.moment l.disk) (disk.left_since l.fn.disk) (disk.left_since l.disk) (IsTornFrom (disk.may_leave l.fn.disk) l.at (3 + 69 * length l.writes.pairs));
+  elsewhere : disk.tells_reads → SameOutside log_file l.at (3 + 69 * length l.writes.pairs) (disk.reads l.fn.disk) (disk.reads l.disk);
+  crash : disk.tells_images → AtEachMoment disk l.fn.disk l.disk (IsTornFrom (disk.may_leave l.fn.disk) l.at (3 + 69 * length l.writes.pairs));
+  whole : AreWholeFrom l.writes.pairs 0 l.next;
   cause : disk.faults l.fn.disk ≤ disk.faults l.disk;
 }
 

@@ -1,25 +1,64 @@
-use Rattle.std.proofs.Common.{inl, inr, refl, ap}
-use Rattle.node_log.specs.Adding.{Log}
-use Rattle.node_log.specs.Table.{graph_of}
-use Rattle.graph_session.specs.State.{State, Live}
+use Rattle.std.proofs.Common.{Err, ap, inl, refl}
+use Rattle.name_store.specs.declared.names.Names.{Names}
+use Rattle.graph_session.proofs.Beginnings.{loaded-opens, loaded-refused, opening-leaves, opening-sound}
 use Rattle.graph_session.proofs.session.Session.open.Goals as goal
 
--- the state of a live console over this log
-abbrev pub state_of : Log → State
-state_of log = record { shape = log.shape; graph = graph_of log.table; log = log.tail; standing = Live }
+-- the store isn't opened
+pub returns-in-Err-clause-unopened : goal.returns-in-Err-clause-unopened
+returns-in-Err-clause-unopened g c =
+    let d = g.D.Disk in
+    let old = c.args.disk.now in
+    let refusal = c.in-Err.refusal in
+    record {
+      refused = λ told. inl (c.in-Err.ensures.refused told);
+      sound = λ told. opening-sound (d.reads old) c.args.config refusal.why (λ space shape redoes made. c.in-Err.ensures.sound told space shape redoes made) (λ unmade. c.in-Err.ensures.unmade told unmade);
+      crash = opening-leaves d c.args.config old refusal.disk.now c.requires (record {
+        made = λ told images space shape redoes made. c.in-Err.ensures.left told images space shape redoes made;
+        blank = λ told images unmade. c.in-Err.ensures.left_new told images unmade;
+      });
+      later = c.in-Err.ensures.later_refused;
+      cause = c.in-Err.ensures.cause;
+    }
 
-pub returns-in-Ok-clause-starts : goal.returns-in-Ok-clause-starts
-returns-in-Ok-clause-starts g c = (
-  state_of c.in-Ok.log,
-  record {
-    live = refl;
-    suits = c.in-Ok.ensures.suits;
-    starts = λ told.
-        elim (c.in-Ok.ensures.begins told) [
-          | inl new ↦ inl (new.0, ap state_of new.1)
-          | inr made ↦ inr (c.in-Ok.log.table, made.0, made.1, refl, refl)
-        ];
-    same = c.in-Ok.ensures.same;
-  },
-  rw c.new.ensures (record { shape = refl; graph = refl; log = refl; health = refl; stored = λ told. c.in-Ok.ensures.kept told.0 told.1 }),
-)
+-- its names are loaded
+pub returns-in-Ok-load-clause-opened : goal.returns-in-Ok-load-clause-opened
+returns-in-Ok-load-clause-opened g c =
+    loaded-opens g.met.D.Disk.counts_now c.args.config c.args.disk.now c.in-Ok.store c.load.new.space
+    (record {
+      allowed = c.requires;
+      opened = c.in-Ok.ensures.opened;
+      suits = c.in-Ok.ensures.suits;
+      live = c.in-Ok.ensures.live;
+      closed = c.in-Ok.ensures.closed;
+      own = c.in-Ok.ensures.own;
+      draft = c.in-Ok.ensures.draft;
+      stored = c.in-Ok.ensures.stored;
+      leaves = record {
+        made = λ told images space shape redoes made. c.in-Ok.ensures.crash told images space shape redoes made;
+        blank = λ told images unmade. c.in-Ok.ensures.crash_new told images unmade;
+      };
+      later = c.in-Ok.ensures.later;
+    })
+    c.load.ensures.onward c.load.ensures.cause.later _ refl refl refl refl refl refl refl c.in-Ok-load.ensures.loaded refl c.in-Ok-load.ensures.reads
+
+-- they aren't
+pub returns-in-Err-load-clause-unopened : goal.returns-in-Err-load-clause-unopened
+returns-in-Err-load-clause-unopened g c =
+    loaded-refused g.met.D.Disk.counts_now c.args.config c.args.disk.now c.in-Ok.store c.load.new.space
+    (record {
+      allowed = c.requires;
+      opened = c.in-Ok.ensures.opened;
+      suits = c.in-Ok.ensures.suits;
+      live = c.in-Ok.ensures.live;
+      closed = c.in-Ok.ensures.closed;
+      own = c.in-Ok.ensures.own;
+      draft = c.in-Ok.ensures.draft;
+      stored = c.in-Ok.ensures.stored;
+      leaves = record {
+        made = λ told images space shape redoes made. c.in-Ok.ensures.crash told images space shape redoes made;
+        blank = λ told images unmade. c.in-Ok.ensures.crash_new told images unmade;
+      };
+      later = c.in-Ok.ensures.later;
+    })
+    c.load.ensures.onward c.load.ensures.cause.later Names c.close.result.now c.why_of.result c.in-Err-load.fault c.close.ensures.disk c.why_of.ensures c.in-Err-load.ensures.damaged c.in-Err-load.ensures.sound
+    (λ e. c.in-Err-load.ensures.cause.disk (ap Err e))

@@ -1,11 +1,61 @@
-use Rattle.std.proofs.Common.{rules, []}
-use Rattle.std.proofs.lemmas.List.Sorted.{answers_always}
-use Rattle.rec_bytes.proofs.PairLaws.{searched}
+use Rattle.std.proofs.Common.{◌≤◌, ◌<◌, ◌+◌, ◌-◌, ◌/◌, sym, ap, ◌∙◌, subst, arith, length}
+use Rattle.rec_bytes.specs.declared.record.Rec.{Rec}
+use Rattle.rec_bytes.specs.declared.key.Key.{Key}
+use Rattle.rec_bytes.specs.Key.{key_cmp}
+use Rattle.rec_bytes.specs.Pairs.{Held, IsPlaceOf, IsGapFor}
+use Rattle.rec_bytes.specs.PairOrder.{no_pair, in_order}
+use Rattle.rec_bytes.proofs.PairLaws.{search_start, search_less, search_equal, search_greater, search_end}
+use Rattle.rec_bytes.proofs.OrderLaws.{all_at, length-in_order, place_within, read_at}
 use Rattle.rec_bytes.proofs.write_set.WriteSet.search.Goals as goal
 
--- the closure gives a pair's key, and the slice is the set's pairs
-pub returns : goal.returns
-returns c =
-    let facts = c.binary_search_by_key.ensures in
-    let by_key = facts.position (λ pair. pair.0) (answers_always _ _ _ (λ f a r g called. search rules)) in
-    rw (← c.self.view_is, ← c.deref.ensures.value) (searched c.deref.result.now c.args.key c.binary_search_by_key.result (c.args.key, record { bytes = [] }) (rw c.deref.ensures.value c.self.invariant) facts.bound by_key)
+pub loop-low-init : goal.loop-low-init
+loop-low-init c =
+    search_start (in_order c.self.inside.pairs.items c.self.inside.order.items) c.args.key no_pair c.len-high.result
+    (c.len-high.ensures ∙ c.self.inside.order.ok.0 ∙ sym (length-in_order c.self.inside.pairs.items c.self.inside.order.items))
+
+pub index-requires : goal.index-requires
+index-requires c =
+    let middle : c.loop-low.low + (c.loop-low.high - c.loop-low.low) / 2 < c.loop-low.high = omega arith in
+    rw (c.self.inside.order.ok.0) (place_within c.self.inside.pairs.items c.self.inside.order.items _ (omega (arith, middle, c.loop-low.invariant.within)))
+
+pub index-requires-in-loop-low : goal.index-requires-in-loop-low
+index-requires-in-loop-low c =
+    let i = c.loop-low.low + (c.loop-low.high - c.loop-low.low) / 2 in
+    let middle : i < c.loop-low.high = omega arith in
+    rw (c.self.inside.pairs.ok.0) (subst (λ n. n < length c.self.inside.pairs.items) (sym c.index.ensures)
+    (all_at (λ n. n < length c.self.inside.pairs.items) c.self.inside.order.items i c.index.result.now c.self.invariant.places
+    (place_within c.self.inside.pairs.items c.self.inside.order.items i (omega (arith, middle, c.loop-low.invariant.within)))))
+
+pub loop-low-preserved-in-Less : goal.loop-low-preserved-in-Less
+loop-low-preserved-in-Less c =
+    let ps = in_order c.self.inside.pairs.items c.self.inside.order.items in
+    let i = c.loop-low.low + (c.loop-low.high - c.loop-low.low) / 2 in
+    let middle : i < c.loop-low.high = omega arith in
+    let pair = read_at c.self.inside.pairs.items c.self.inside.order.items i c.index.result.now c.index-in-loop-low.result.now c.self.invariant (omega (arith, middle, c.loop-low.invariant.within)) c.index.ensures c.index-in-loop-low.ensures in
+    search_less ps c.args.key no_pair c.loop-low.low c.loop-low.high i c.self.invariant.rising c.loop-low.invariant middle
+    (ap (λ (p : Key × Rec). key_cmp p.0 c.args.key) pair ∙ sym c.in-Less.ensures)
+
+pub returns-in-Equal-clause-found : goal.returns-in-Equal-clause-found
+returns-in-Equal-clause-found c =
+    let ps = in_order c.self.inside.pairs.items c.self.inside.order.items in
+    let i = c.loop-low.low + (c.loop-low.high - c.loop-low.low) / 2 in
+    let middle : i < c.loop-low.high = omega arith in
+    let pair = read_at c.self.inside.pairs.items c.self.inside.order.items i c.index.result.now c.index-in-loop-low.result.now c.self.invariant (omega (arith, middle, c.loop-low.invariant.within)) c.index.ensures c.index-in-loop-low.ensures in
+    subst (λ (v : Held). IsPlaceOf v.pairs c.args.key i) c.self.view_is
+    (search_equal ps c.args.key no_pair c.loop-low.low c.loop-low.high i c.self.invariant.rising c.loop-low.invariant middle
+    (ap (λ (p : Key × Rec). key_cmp p.0 c.args.key) pair ∙ sym c.in-Equal.ensures))
+
+pub loop-low-preserved : goal.loop-low-preserved
+loop-low-preserved c =
+    let ps = in_order c.self.inside.pairs.items c.self.inside.order.items in
+    let i = c.loop-low.low + (c.loop-low.high - c.loop-low.low) / 2 in
+    let middle : i < c.loop-low.high = omega arith in
+    let from : c.loop-low.low ≤ i = omega arith in
+    let pair = read_at c.self.inside.pairs.items c.self.inside.order.items i c.index.result.now c.index-in-loop-low.result.now c.self.invariant (omega (arith, middle, c.loop-low.invariant.within)) c.index.ensures c.index-in-loop-low.ensures in
+    search_greater ps c.args.key no_pair c.loop-low.low c.loop-low.high i c.self.invariant.rising c.loop-low.invariant from middle
+    (ap (λ (p : Key × Rec). key_cmp p.0 c.args.key) pair ∙ sym c.in-Greater.ensures)
+
+pub returns-clause-absent : goal.returns-clause-absent
+returns-clause-absent c =
+    subst (λ (v : Held). IsGapFor v.pairs c.args.key c.loop-low.low) c.self.view_is
+    (search_end (in_order c.self.inside.pairs.items c.self.inside.order.items) c.args.key no_pair c.loop-low.low c.loop-low.high c.loop-low.invariant c.loop-low-test.false)

@@ -4,7 +4,6 @@ use Rattle.rec_bytes.specs.declared.record.Rec.{Rec}
 use Rattle.rec_bytes.specs.Key.{IsKey}
 use Rattle.rec_bytes.specs.Pairs.{Pairs, with_pair}
 use Rattle.redo_log.specs.Entries.{IsEntryOf}
-use Rattle.redo_log.specs.Appending.{AreWhole}
 use Rattle.redo_log.proofs.appending.tests.writes_of.Goals as goal
 
 one_pair : (new old : Pairs) (key : Key) (rec : Rec) → new ≡ with_pair old key rec → old ≡ [] → new ≡ (key, rec) ∷ []
@@ -16,10 +15,7 @@ IsEntryOf-one key rec is_key = record { some = lit< tt; few = lit≤ tt; keys = 
 
 pub returns-clause-form : goal.returns-clause-form
 returns-clause-form c =
-    subst IsEntryOf (sym (one_pair _ _ _ _ c.in_ok-put.ensures.ok c.new-writes.ensures)) (IsEntryOf-one _ _ (record { file = lit≤ tt; id = c.requires }))
-
-pub returns-clause-whole : goal.returns-clause-whole
-returns-clause-whole c = subst AreWhole (sym (one_pair _ _ _ _ c.in_ok-put.ensures.ok c.new-writes.ensures)) (refl, tt)
+    subst IsEntryOf (sym (one_pair _ _ _ _ c.in_ok-put.ensures.ok c.new-writes.ensures)) (IsEntryOf-one _ _ (record { file = refl; id = c.requires }))
 
 pub returns-clause-one : goal.returns-clause-one
 returns-clause-one c = ap length (one_pair _ _ _ _ c.in_ok-put.ensures.ok c.new-writes.ensures)

@@ -1,5 +1,5 @@
 use Rattle.std.proofs.Common.{arith, rules}
-use Rattle.redo_log.proofs.OnlyReading.{only_reads_on}
+use Rattle.disk_model.proofs.Spans.{only_reads_on}
 use Rattle.redo_log.proofs.Rising.{rising_goes_on, rising_ends}
 use Rattle.redo_log.proofs.log_reader.LogReader.has_rising_keys.Goals as goal
 
@@ -20,6 +20,6 @@ loop-index-preserved g c = record {
       rising_goes_on content c.args.start c.loop-index.index c.args.count c.loop-index.last c.in_ok-key.key _ (omega arith)
       (c.in_ok-key.ensures.key told content (c.loop-index.invariant.keeps told content has)) (c.if-not-is_next_key.ensures.0 (search rules)) (c.loop-index.invariant.keys told content has);
   keeps = λ told content has. c.key_at.ensures.keeps told content (c.loop-index.invariant.keeps told content has);
-  only_reads = only_reads_on _ _ _ _ _ _ _ _ _ c.loop-index.invariant.only_reads c.key_at.ensures.only_reads;
+  only_reads = only_reads_on g.D.Disk c.args.disk.now c.loop-index.disk c.key_at.new.disk c.loop-index.invariant.only_reads c.key_at.ensures.only_reads;
   later = omega (arith, c.loop-index.invariant.later, c.key_at.ensures.cause.later);
 }

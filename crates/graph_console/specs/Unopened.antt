@@ -1,0 +1,40 @@
+-- How the program ends where its store is not opened.
+use Rattle.std.specs.Prelude.{◌≡◌, ◌⊎◌, ℕ, List, [], codes}
+use Rattle.stream_io.specs.Streams.{TakesFront}
+use Rattle.plain_graph.specs.Reply.{DamagedRecord, DiskFailed, NoMemory, configuration_text, fault_line, text_line}
+use Rattle.txn_core.specs.declared.open_fault.OpenFault.{OpenFault}
+use Rattle.txn_core.specs.declared.open_fault.OpenFault.TheVariants as faults
+use Rattle.graph_console.specs.declared.exit.Exit.{Exit}
+use Rattle.graph_console.specs.declared.exit.Exit.TheVariants as exits
+
+-- the exit of each reason
+abbrev pub exit_of : OpenFault → Exit
+exit_of faults.Memory = exits.NoMemory
+exit_of faults.Disk = exits.DiskFault
+exit_of faults.NotAStore = exits.BadFiles
+exit_of (faults.Damaged damage) = exits.BadFiles
+exit_of (faults.ConfigDiffers stored asked) = exits.ConfigDiffers
+
+-- one of these exits
+abbrev pub IsUnopenedExit : Exit → Type 0
+IsUnopenedExit exit =
+    (exit ≡ exits.NoMemory) ⊎ (exit ≡ exits.BadFiles)
+    ⊎ (exit ≡ exits.ConfigDiffers) ⊎ (exit ≡ exits.DiskFault)
+
+-- the one line that is written
+abbrev pub line_of : OpenFault → List ℕ
+line_of faults.Memory = fault_line NoMemory
+line_of faults.Disk = fault_line DiskFailed
+line_of faults.NotAStore = text_line (codes "not a store")
+line_of (faults.Damaged damage) = fault_line (DamagedRecord damage.file damage.id)
+line_of (faults.ConfigDiffers stored asked) =
+    text_line (configuration_text stored.threshold stored.limit)
+
+-- The program ended with the exit and the line of a reason that has P.
+abbrev pub EndsUnopened : (OpenFault → Type 0) → Exit → List ℕ → Type 0
+EndsUnopened P exit written =
+    (why : OpenFault) × P why × (exit_of why ≡ exit) × (written ≡ line_of why)
+
+-- The sink failed in the line of such a reason, and took a prefix of it.
+abbrev pub FailsUnopened : (OpenFault → Type 0) → List ℕ → Type 0
+FailsUnopened P written = (why : OpenFault) × P why × TakesFront [] written (line_of why)

@@ -1,0 +1,111 @@
+//! Rows of lines and their replies: nodes that come and go, transactions, and what has its limit.
+use super::{PLAIN, run_on, run_with};
+use crate::Exit;
+use disk_model::PlainDisk;
+use std::alloc::{AllocError, Global};
+use std::process::Abort;
+use std::test::Fail;
+
+/// `node a` so many times.
+fn many_nodes(alloc: Global, count: usize) -> Result<Vec<u8>, AllocError> {
+    let mut lines = Vec::new(alloc);
+    for _ in 0..count {
+        lines.extend_from_slice(b"node a\n")?;
+    }
+    Ok(lines)
+}
+
+/// The run with these words gives the output.
+fn check_words(
+    rt: &impl Abort,
+    alloc: Global,
+    words: &[&str],
+    input: &[u8],
+    want: &[u8],
+) -> Result<(), AllocError> {
+    let ended = run_with(rt, alloc, words, input, &PLAIN)?;
+    assert_eq!(rt; ended.exit, Exit::Done, "words {words:?}");
+    assert_eq!(rt; ended.output.taken(), want, "words {words:?}");
+    Ok(())
+}
+
+#[test]
+fn rows_of_lines(rt: HostRuntime) -> Result<(), Fail> {
+    let cases: [(&[u8], &[u8]); 6] = [
+        (
+            b"node a\nnode a\nnode a\ndelete node 1\ndelete node 0\nnode a\nnode a\ng.V().count()\n",
+            b"node 0\nnode 1\nnode 2\nok\nok\nnode 0\nnode 1\n==>3\nend\n",
+        ),
+        (
+            b"begin\nnode temp\nstats\nrollback\nstats\nnode temp\n",
+            b"ok\nnode 0\nnodes 1 edges 0 properties 0 blocks 0 names 1\nok\nnodes 0 edges 0 properties 0 blocks 0 names 0\nnode 0\n",
+        ),
+        (
+            b"commit\nrollback\nbegin\nbegin\ncheckpoint\nreopen\n",
+            b"error no transaction\nerror no transaction\nok\nerror transaction open\nerror transaction open\nerror transaction open\n",
+        ),
+        (
+            b"delete node 0\nnode a\ndelete node 1\ndelete node 0\ndelete node 0\n",
+            b"error no node 0\nnode 0\nerror no node 1\nok\nerror no node 0\n",
+        ),
+        (
+            b"node a\nbegin\nnode b\ndelete node 0\ng.V()\ncommit\ng.V()\nbegin\ncommit\nstats\n",
+            b"node 0\nok\nnode 1\nok\n==>v[1]\nend\nok\n==>v[1]\nend\nok\nok\nnodes 1 edges 0 properties 0 blocks 0 names 2\n",
+        ),
+        (
+            b"node a\ncheckpoint\nreopen\nnode a\ng.V()\n",
+            b"node 0\nok\nok\nnode 1\n==>v[0]\n==>v[1]\nend\n",
+        ),
+    ];
+    for (input, want) in cases {
+        check_words(&rt, rt.alloc(), &["nipakeel", "run"], input, want)?;
+    }
+    Ok(())
+}
+
+#[test]
+fn a_full_graph_refuses_nodes(rt: HostRuntime) -> Result<(), Fail> {
+    let alloc = rt.alloc();
+    let mut input = many_nodes(alloc, 17)?;
+    input.extend_from_slice(b"node b\ndelete node 3\nnode a\ng.V().count()\n")?;
+    let want: &[u8] =
+        b"node 0\nnode 1\nnode 2\nnode 3\nnode 4\nnode 5\nnode 6\nnode 7\nnode 8\nnode 9\nnode 10\nnode 11\nnode 12\nnode 13\nnode 14\nnode 15\nerror full nodes\nerror full nodes\nok\nnode 3\n==>16\nend\n";
+    let words: [&[&str]; 3] = [
+        &["nipakeel", "run", "--limit", "16"],
+        &["nipakeel", "run", "--limit=16", "--threshold=200"],
+        &["nipakeel", "run", "--threshold", "2", "--limit", "+016"],
+    ];
+    for words in words {
+        check_words(&rt, alloc, words, &input, want)?;
+    }
+    Ok(())
+}
+
+/// The replies to the input end so, over a disk with room for a store of 8,192 nodes.
+fn check_end(rt: &impl Abort, alloc: Global, input: &[u8], end: &[u8]) -> Result<(), AllocError> {
+    let mut disk = PlainDisk::new(alloc, 8_192)?;
+    let ended = run_on(rt, alloc, &["nipakeel", "run"], input, &PLAIN, &mut disk)?;
+    assert_eq!(rt; ended.exit, Exit::Done);
+    assert!(rt; ended.output.taken().ends_with(end));
+    Ok(())
+}
+
+#[test]
+fn a_transaction_has_its_weight(rt: HostRuntime) -> Result<(), Fail> {
+    let alloc = rt.alloc();
+    let mut input = Vec::from_slice(alloc, b"begin\n")?;
+    input.extend_from_slice(&many_nodes(alloc, 2_042)?)?;
+    input.extend_from_slice(b"commit\nstats\n")?;
+    let end: &[u8] =
+        b"node 2040\nerror transaction full\nok\nnodes 2041 edges 0 properties 0 blocks 0 names 1\n";
+    check_end(&rt, alloc, &input, end)?;
+    Ok(())
+}
+
+#[test]
+fn a_full_log_is_emptied(rt: HostRuntime) -> Result<(), Fail> {
+    let alloc = rt.alloc();
+    let input = many_nodes(alloc, 7_433)?;
+    check_end(&rt, alloc, &input, b"node 7431\nnode 7432\n")?;
+    Ok(())
+}

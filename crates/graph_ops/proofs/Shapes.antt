@@ -1,0 +1,24 @@
+-- The shape that a well-formed store says is one that it may have.
+use Rattle.std.proofs.Common.{◌≡◌, ℕ, ◌+◌, ◌<◌, ◌≤◌, ◌^◌, Bool, true, false, cond, ◌&&◌, Option, Some, None, sym, ap, ◌∙◌, subst, arith, refl}
+use Rattle.rec_bytes.specs.declared.record.Rec.{Rec}
+use Rattle.rec_bytes.specs.declared.shape.Shape.{Shape}
+use Rattle.rec_bytes.specs.Format.{meta_file}
+use Rattle.rec_bytes.specs.RecordFiles.{meta_key_of, room_of}
+use Rattle.rec_bytes.specs.Shape.{is_allowed, is_store_record, numbers_of_shape, shape_of_record}
+use Rattle.rec_bytes.proofs.RecordFiles.{room_of-most}
+use Rattle.store_rules.specs.Ranges.{AreInRange}
+use Rattle.store_rules.specs.Views.{Records}
+
+allowed_of : (r : Rec) (shape : Shape) → shape_of_record r ≡ Some shape → is_allowed shape ≡ true
+allowed_of r shape = by (is_store_record r) (is_allowed (numbers_of_shape r)) refl
+  where
+    by : (a b : Bool) → is_allowed (numbers_of_shape r) ≡ b → cond (a && b) (Some (numbers_of_shape r)) None ≡ Some shape → is_allowed shape ≡ true
+    by true true e h = ap is_allowed (inner (numbers_of_shape r) shape h) ∙ e
+      where
+        inner : (x y : Shape) → Some x ≡ Some y → y ≡ x
+        inner x y e = cc
+    by true false e h = absurd cc
+    by false b e h = absurd cc
+
+pub room_small : (records : Records) (shape : Shape) (file : ℕ) → AreInRange records shape → room_of shape file < 2 ^ 32
+room_small records shape file ranges = let most = room_of-most shape file (allowed_of (records (meta_key_of meta_file)) shape ranges.own) in omega arith

@@ -1,0 +1,4 @@
+pub mod ChangeFault
+pub mod NodeAdding
+pub mod NodeDeleting
+pub mod Store

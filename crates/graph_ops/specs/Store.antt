@@ -1,0 +1,15 @@
+-- The stores that changes are made in.
+use Rattle.std.specs.Prelude.{◌≡◌, ℕ, List}
+use Rattle.plain_graph.specs.Graph.{Graph}
+use Rattle.rec_bytes.specs.Space.{State}
+use Rattle.store_rules.specs.Graph.{graph_of, names_of}
+use Rattle.store_rules.specs.Rules.{IsNodeStore}
+
+-- a well-formed store, and its names beside it
+pub record IsStore (s : State) (kept : List (List ℕ)) : Type 0 where
+  pub store : IsNodeStore s.records s.shape
+  pub names : kept ≡ names_of s.records
+
+-- the graph that a space stands for
+abbrev pub graph_in : State → Graph
+graph_in s = graph_of s.records

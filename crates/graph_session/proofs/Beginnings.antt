@@ -1,0 +1,329 @@
+-- What a session begins with over a store that was opened and whose names were loaded, and why there is none.
+use Rattle.std.proofs.Common.{◌≡◌, ◌⊎◌, ◌∙◌, ℕ, zero, suc, ◌≤◌, Bool, true, false, IsTrue, Some, None, is_some, Err, List, [], ◌∷◌, if◌then◌else◌, inl, inr, refl, sym, ap, subst, arith}
+use Rattle.std.proofs.lemmas.Bool.{true≢false}
+use Rattle.std.proofs.lemmas.List.{append-nil}
+use Rattle.fault_count.specs.Cause.{Rose}
+use Rattle.disk_model.specs.Contents.{Files}
+use Rattle.disk_model.specs.Spans.{AtEachMoment, OnlyReads}
+use Rattle.disk_model.specs.declared.disk.Disk.{Ghosts}
+use Rattle.disk_model.proofs.Spans.{CountsNow, at_each_moment_read, at_each_moment_weaker}
+use Rattle.plain_graph.specs.Graph.{Graph}
+use Rattle.rec_bytes.specs.Creation.{own_key}
+use Rattle.rec_bytes.specs.Pairs.{Pairs, find_pair}
+use Rattle.rec_bytes.specs.Record.{zeros}
+use Rattle.rec_bytes.specs.Format.{meta_file}
+use Rattle.rec_bytes.specs.Shape.{is_allowed, shape_of_record}
+use Rattle.rec_bytes.specs.Space as spaces
+use Rattle.rec_bytes.specs.Space.{after_gets, laid_over}
+use Rattle.rec_bytes.specs.declared.key.Key.{Key}
+use Rattle.rec_bytes.specs.declared.record.Rec.{Rec}
+use Rattle.rec_bytes.specs.declared.shape.Shape.{Shape}
+use Rattle.rec_bytes.proofs.KeyLaws.{key_eq-same}
+use Rattle.rec_bytes.proofs.Spaces.{laid_over-none}
+use Rattle.redo_log.specs.Redo.{redone}
+use Rattle.record_file.specs.Records.{IsUnmade, record_at}
+use Rattle.record_file.specs.Redone.{Redoes}
+use Rattle.record_file.specs.Unique.{entries_unique}
+use Rattle.record_file.proofs.Redone.{Redoes-kept}
+use Rattle.recovery.specs.Finding as finding
+use Rattle.txn_core.specs.Base.{OnlyReadsBase}
+use Rattle.txn_core.specs.Config.{Suits, shape_of}
+use Rattle.txn_core.specs.Kept.{IsOnDisk}
+use Rattle.txn_core.specs.MetaRecords.{with_metas}
+use Rattle.txn_core.specs.Opening as opening
+use Rattle.txn_core.specs.Opening.{IsOldOrNew, IsWant, OnlyDiffers, made_over}
+use Rattle.txn_core.specs.Store.{committed, content, drafted, state_of, working}
+use Rattle.txn_core.specs.declared.config.Config.{Config}
+use Rattle.txn_core.specs.declared.open_fault.OpenFault.{OpenFault}
+use Rattle.txn_core.specs.declared.open_fault.OpenFault.TheVariants as refusals
+use Rattle.txn_core.specs.declared.store.Store.{Store}
+use Rattle.store_rules.specs.Graph.{graph_of, names_of}
+use Rattle.store_rules.specs.Rules.{IsNodeStore}
+use Rattle.store_rules.proofs.NewStores.{new_store_empty, new_store_well}
+use Rattle.name_store.specs.Fault.{NotDamaged}
+use Rattle.name_store.specs.Loading.{AreLoadable, IsLoadFault, after_names, name_mark}
+use Rattle.name_store.specs.declared.fault.Fault.{Fault}
+use Rattle.name_store.specs.declared.fault.Fault.TheVariants.{Memory, Disk, Damaged}
+use Rattle.name_store.proofs.NameDamage.{AreLoadable-AreInRange}
+use Rattle.graph_session.specs.Console.{IsAt, SessionView, TellsAll}
+use Rattle.graph_session.specs.Opening.{IsUnopened, LeavesByOpening, LeavesOldOrSame, Opens, RefusesContent, StandsForOne, Starts, StartsAs, unloaded}
+use Rattle.graph_session.specs.Stands.{IsMade, Stands}
+use Rattle.graph_session.specs.State.{Live, State}
+use Rattle.graph_session.specs.declared.health.Health.TheVariants as healths
+use Rattle.graph_session.proofs.Openings.{starts-stands}
+use Rattle.graph_session.proofs.Stands.{IsMade-redoes, Redoes-only, Stands-only, all-admitted, own-one, redone-held, unmade-not_made}
+use Rattle.graph_session.proofs.States.{same_one}
+
+-- ---- the records of the store
+
+-- a well-formed store is one that recovery finds
+found-made : (space : Key → Rec) (shape : Shape) → IsNodeStore space shape → finding.IsMade space shape
+found-made space shape store = record { own = store.well.ranges.own; metas = store.well.ranges.metas }
+
+-- its names are loaded
+loadable : (space : Key → Rec) (shape : Shape) → IsNodeStore space shape → AreLoadable space
+loadable space shape store = AreLoadable-AreInRange space shape store.well.ranges store.well.names
+
+-- recovery finds no store in a content where none was made
+unmade-not_found : (content : Files) (shape : Shape) (space : Key → Rec) → IsUnmade content → Redoes content space → ¬ finding.IsMade space shape
+unmade-not_found content shape space unmade redoes made =
+    let entries : redoes.entries ≡ [] = entries_unique redoes.entries [] 0 redoes.tail 0 content redoes.log unmade.log in
+    let same : record_at content ≡ space = ap (λ (found : List Pairs). redone (record_at content) found) (sym entries) ∙ redoes.makes in
+    let own : zeros ≡ space own_key = sym (unmade.blank meta_file refl) ∙ ap (λ (records : Key → Rec). records own_key) same in
+    none (ap shape_of_record own ∙ made.own)
+  where
+    none : ¬ (None ≡ Some shape)
+    none e = cc
+
+-- a new store is well-formed
+new-store : (content : Files) (config : Config) (shape : Shape) (space : Key → Rec) → is_allowed (shape_of config) ≡ true → shape ≡ shape_of config → space ≡ made_over content shape → IsNodeStore space shape
+new-store content config shape space allowed shape_is space_is =
+    subst (λ (records : Key → Rec). IsNodeStore records shape) (sym space_is)
+    (subst (λ (s : Shape). IsNodeStore (made_over content s) s) (sym shape_is) (new_store_well (record_at content) (shape_of config) allowed))
+
+-- The store that is opened is well-formed, where the content stands for a graph.
+opened-store : (content : Files) (config : Config) (shape : Shape) (space : Key → Rec) → is_allowed (shape_of config) ≡ true → opening.Opens content config shape space
+    → (other : Shape) (graph : Graph) → Stands content other graph → IsNodeStore space shape
+opened-store content config shape space allowed (inl new) other graph stands = new-store content config shape space allowed new.1 new.2
+opened-store content config shape space allowed (inr found) other graph (inl unmade) = absurd (unmade-not_found content shape space unmade.0 found.0 found.1)
+opened-store content config shape space allowed (inr found) other graph (inr made) =
+    let same : made.space ≡ space = Redoes-only content made.space space made.redoes found.0 in
+    let shapes : other ≡ shape = same_one other shape (sym made.store.well.ranges.own ∙ ap (λ (records : Key → Rec). shape_of_record (records own_key)) same ∙ found.1.own) in
+    subst (λ (s : Shape). IsNodeStore space s) shapes (subst (λ (records : Key → Rec). IsNodeStore records other) same made.store)
+
+-- the state that a session over these records begins with
+abbrev pub beginning : Shape → (Key → Rec) → State
+beginning shape space = record { shape = shape; committed = graph_of space; open_one = None; standing = Live }
+
+opened-starts : (content : Files) (config : Config) (shape : Shape) (space : Key → Rec) → opening.Opens content config shape space → IsNodeStore space shape → Starts content config (beginning shape space)
+opened-starts content config shape space (inl new) store = inl (new.0, new.1, ap graph_of new.2 ∙ new_store_empty (record_at content) shape)
+opened-starts content config shape space (inr found) store = inr (IsMade-redoes content space shape found.0 store, found.2)
+
+-- ---- what a crash leaves
+
+left-made : (content : Files) (images : Files → Type 0) (config : Config) (shape : Shape) (graph : Graph) (made : IsMade content shape graph)
+    → (left : Files) → images left ⊎ Redoes left made.space → LeavesOldOrSame content images config left
+left-made content images config shape graph made left (inl old) = inl old
+left-made content images config shape graph made left (inr redoes) = inr (inr ((λ unmade. unmade-not_made content shape graph unmade made), made.space, made.redoes, redoes))
+
+left-new : (content : Files) (images : Files → Type 0) (config : Config) → is_allowed (shape_of config) ≡ true → IsUnmade content
+    → (left : Files) → images left ⊎ IsOldOrNew content (shape_of config) left → LeavesOldOrSame content images config left
+left-new content images config allowed unmade left (inl old) = inl old
+left-new content images config allowed unmade left (inr (inl blank)) = inr (inl (unmade, inl (blank, refl)))
+left-new content images config allowed unmade left (inr (inr redoes)) =
+    inr (inl (
+      unmade,
+      inr (record {
+        space = made_over content (shape_of config);
+        redoes = redoes;
+        store = new_store_well (record_at content) (shape_of config) allowed;
+        graph_is = sym (new_store_empty (record_at content) (shape_of config));
+      }),
+    ))
+
+-- What is left at each moment, where the opening of the store says it.
+pub record LeavesStore {D : Type 0} (g : Ghosts D) (config : Config) (old new : D) : Type 0 where
+  pub made : g.tells_reads → g.tells_images → (space : Key → Rec) (shape : Shape) → Redoes (g.reads old) space → finding.IsMade space shape → AtEachMoment g old new (λ left. g.may_leave old left ⊎ Redoes left space)
+  pub blank : g.tells_reads → g.tells_images → IsUnmade (g.reads old) → AtEachMoment g old new (λ left. g.may_leave old left ⊎ IsOldOrNew (g.reads old) (shape_of config) left)
+
+module _ {D : Type 0} (g : Ghosts D) (config : Config) (old : D) where
+  leaves-by : (new : D) (shape : Shape) (graph : Graph) → is_allowed (shape_of config) ≡ true → LeavesStore g config old new → TellsAll g → Stands (g.reads old) shape graph
+      → AtEachMoment g old new (LeavesOldOrSame (g.reads old) (g.may_leave old) config)
+  leaves-by new shape graph allowed leaves told (inl unmade) =
+      at_each_moment_weaker g old new (λ left. g.may_leave old left ⊎ IsOldOrNew (g.reads old) (shape_of config) left) (LeavesOldOrSame (g.reads old) (g.may_leave old) config)
+      (leaves.blank told.0 told.1 unmade.0) (left-new (g.reads old) (g.may_leave old) config allowed unmade.0)
+  leaves-by new shape graph allowed leaves told (inr made) =
+      at_each_moment_weaker g old new (λ left. g.may_leave old left ⊎ Redoes left made.space) (LeavesOldOrSame (g.reads old) (g.may_leave old) config)
+      (leaves.made told.0 told.1 made.space shape made.redoes (found-made made.space shape made.store)) (left-made (g.reads old) (g.may_leave old) config shape graph made)
+
+  pub opening-leaves : (new : D) → is_allowed (shape_of config) ≡ true → LeavesStore g config old new → LeavesByOpening g config old new
+  opening-leaves new allowed leaves told one = leaves-by new one.shape one.graph allowed leaves told one.stands
+
+  -- and by calls that only read
+  loading-leaves : (mid new : D) → CountsNow g → LeavesByOpening g config old mid → OnlyReads g mid new → LeavesByOpening g config old new
+  loading-leaves mid new counts leaves reads told one = at_each_moment_read g old mid new (LeavesOldOrSame (g.reads old) (g.may_leave old) config) counts told.1 (leaves told one) reads
+
+-- ---- why there is no session
+
+want-only : (shape : Shape) (config : Config) (why : OpenFault) → IsWant why → OnlyDiffers shape config why
+want-only shape config refusals.Memory want = tt
+want-only shape config refusals.Disk want = tt
+want-only shape config refusals.NotAStore want = want
+want-only shape config (refusals.Damaged damage) want = want
+want-only shape config (refusals.ConfigDiffers stored asked) want = absurd want
+
+pub opening-sound : (content : Files) (config : Config) (why : OpenFault) → ((space : Key → Rec) (shape : Shape) → Redoes content space → finding.IsMade space shape → OnlyDiffers shape config why) → (IsUnmade content → IsWant why)
+    → (shape : Shape) (graph : Graph) → Stands content shape graph → OnlyDiffers shape config why
+opening-sound content config why sound blank shape graph (inl unmade) = want-only shape config why (blank unmade.0)
+opening-sound content config why sound blank shape graph (inr made) = sound made.space shape made.redoes (found-made made.space shape made.store)
+
+load-refuses : (T : Type 0) (content : Files) (config : Config) (shape : Shape) (space : Key → Rec) (fault : Fault) → is_allowed (shape_of config) ≡ true → opening.Opens content config shape space
+    → IsLoadFault space fault → (AreLoadable space → NotDamaged {T = T} (Err fault)) → RefusesContent content config (unloaded fault)
+load-refuses T content config shape space Memory allowed opens is sound = inl tt
+load-refuses T content config shape space Disk allowed opens is sound = inl tt
+load-refuses T content config shape space (Damaged damage) allowed (inl new) is sound = absurd (sound (loadable space shape (new-store content config shape space allowed new.1 new.2)))
+load-refuses T content config shape space (Damaged damage) allowed (inr found) is sound = inr (damage, refl, space, found.0, is)
+
+load-sound : (T : Type 0) (shape : Shape) (config : Config) (fault : Fault) → NotDamaged {T = T} (Err fault) → OnlyDiffers shape config (unloaded fault)
+load-sound T shape config Memory sound = tt
+load-sound T shape config Disk sound = tt
+load-sound T shape config (Damaged damage) sound = sound
+
+unloaded-disk : (fault : Fault) → unloaded fault ≡ refusals.Disk → fault ≡ Disk
+unloaded-disk Memory e = cc
+unloaded-disk Disk e = refl
+unloaded-disk (Damaged damage) e = cc
+
+rose-later : (before mid now : ℕ) → before ≤ mid → Rose mid now → Rose before now
+rose-later before mid now later rose = omega (arith, later, rose)
+
+-- ---- a store whose names were loaded
+
+-- reads write no key
+written-gets : (n : ℕ) (s : spaces.State) → (after_gets n s).written ≡ s.written
+unfolding after_gets
+written-gets zero s = refl
+written-gets (suc n) s = written-gets n s
+
+none-found : (pairs : Pairs) → ((key : Key) → is_some (find_pair pairs key) ≡ false) → pairs ≡ []
+none-found [] none = refl
+none-found (pair ∷ rest) none = absurd (true≢false (ap (λ (b : Bool). is_some (if b then Some pair.1 else find_pair rest pair.0)) (sym (key_eq-same pair.0)) ∙ none pair.0))
+
+module _ {D : Type 0} {g : Ghosts D} (opened loaded : Store D g) (reads : OnlyReadsBase opened.base loaded.base) where
+  same-content : content loaded ≡ content opened
+  same-content i file place = reads.disk.keeps file place i
+
+  same-committed : committed loaded ≡ committed opened
+  same-committed i = laid_over (with_metas (reads.metas i).records (record_at (same-content i))) (reads.changed i).pairs
+
+  same-working : opened.base.own.pairs ≡ [] → working loaded ≡ committed opened
+  same-working own = (λ i. laid_over (same-committed i) (reads.own i).pairs) ∙ ap (laid_over (committed opened)) own ∙ laid_over-none (committed opened)
+
+  same-draft : opened.draft.pairs ≡ [] → state_of loaded ≡ after_names (state_of opened) → loaded.draft.pairs ≡ []
+  same-draft none state =
+      let written : (state_of loaded).written ≡ (state_of opened).written = ap (λ (s : spaces.State). s.written) state ∙ written-gets (name_mark (state_of opened).records) (state_of opened) in
+      none-found loaded.draft.pairs (λ key. ap (λ (keys : Key → Bool). keys key) written ∙ ap (λ (pairs : Pairs). is_some (find_pair pairs key)) none)
+
+  -- what it has on the disk
+  same-stored : (space : Key → Rec) → IsOnDisk g opened.base.disk.now (λ left. Redoes left space) → IsOnDisk g loaded.base.disk.now (λ left. Redoes left space)
+  same-stored space stored = record {
+    read = λ told. Redoes-kept space (g.reads opened.base.disk.now) (g.reads loaded.base.disk.now) (stored.read told) reads.disk.keeps;
+    images = λ told images image left. stored.images told images image (reads.disk.crash images image left);
+  }
+
+-- the records with the draft are the committed ones
+drafted-none : {D : Type 0} {g : Ghosts D} (store : Store D g) → store.base.own.pairs ≡ [] → store.draft.pairs ≡ [] → drafted store ≡ committed store
+drafted-none store own draft = ap (laid_over (working store)) draft ∙ laid_over-none (working store) ∙ ap (laid_over (committed store)) own ∙ laid_over-none (committed store)
+
+-- What a session holds that begins over these records.
+record BeginsOver {D : Type 0} (g : Ghosts D) (session : SessionView D) (shape : Shape) (space : Key → Rec) : Type 0 where
+  shape_is : session.console.shape ≡ shape
+  health : session.console.health ≡ healths.Live
+  live : IsTrue session.console.is_live
+  closed : session.console.is_open ≡ false
+  no_draft : session.console.draft ≡ []
+  store : g.tells_reads → IsNodeStore space shape
+  committed : session.console.committed ≡ space
+  working : session.console.working ≡ space
+  names : g.tells_reads → session.console.names ≡ names_of space
+  stored : IsOnDisk g session.disk (λ left. Redoes left space)
+
+module _ {D : Type 0} (g : Ghosts D) where
+  begins-at : (session : SessionView D) (shape : Shape) (space : Key → Rec) → BeginsOver g session shape space → IsAt g session (beginning shape space)
+  begins-at session shape space begins =
+      let state = beginning shape space in
+      record {
+        shape = sym begins.shape_is;
+        health = begins.health;
+        opened = sym begins.closed;
+        weight = λ transaction is. absurd cc;
+        no_draft = begins.no_draft;
+        closed = λ failed. refl;
+        holds = λ told live. record {
+          live = begins.live;
+          committed = rw begins.committed (begins.store told);
+          committed_graph = ap graph_of begins.committed;
+          working = rw begins.working (begins.store told);
+          working_graph = ap graph_of begins.working;
+          names = begins.names told;
+          brought = ([], begins.names told ∙ sym (append-nil (names_of space)));
+        };
+        known = λ told failed. absurd failed;
+        reads = λ told. redone-held state space (g.reads session.disk) (own-one state space refl (begins.store told) refl) (begins.stored.read told);
+        images = λ told. all-admitted state space (g.may_leave session.disk) (own-one state space refl (begins.store told.0) refl) (begins.stored.images told.0 told.1);
+      }
+
+  begins-starts : (config : Config) (old : D) (shape : Shape) (space : Key → Rec) → Suits config shape → (g.tells_reads → opening.Opens (g.reads old) config shape space) → (g.tells_reads → IsNodeStore space shape)
+      → StartsAs g old config (beginning shape space)
+  begins-starts config old shape space suits opens store =
+      let starts : g.tells_reads → Starts (g.reads old) config (beginning shape space) = λ told. opened-starts (g.reads old) config shape space (opens told) (store told) in
+      record {
+        live = refl;
+        closed = refl;
+        suits = suits;
+        starts = starts;
+        same = λ told other graph stands. Stands-only (g.reads old) shape other (graph_of space) graph (starts-stands (g.reads old) config (beginning shape space) (starts told)) stands;
+      }
+
+-- What the opening of a store says of it.
+pub record OpensStore {D : Type 0} (g : Ghosts D) (config : Config) (old : D) (store : Store D g) : Type 0 where
+  pub allowed : is_allowed (shape_of config) ≡ true
+  pub opened : g.tells_reads → opening.Opens (g.reads old) config store.base.shape (committed store)
+  pub suits : Suits config store.base.shape
+  pub live : IsTrue store.base.live
+  pub closed : store.base.in_transaction ≡ false
+  pub own : store.base.own.pairs ≡ []
+  pub draft : store.draft.pairs ≡ []
+  pub stored : IsOnDisk g store.base.disk.now (λ left. Redoes left (committed store))
+  pub leaves : LeavesStore g config old store.base.disk.now
+  pub later : g.faults old ≤ g.faults store.base.disk.now
+
+module _ {D : Type 0} {g : Ghosts D} (counts : CountsNow g) (config : Config) (old : D) (opened loaded : Store D g) (opens : OpensStore g config old opened) (reads : OnlyReadsBase opened.base loaded.base)
+    (later : g.faults opened.base.disk.now ≤ g.faults loaded.base.disk.now) where
+  loaded-leaves : LeavesByOpening g config old loaded.base.disk.now
+  loaded-leaves = loading-leaves g config old opened.base.disk.now loaded.base.disk.now counts (opening-leaves g config old opened.base.disk.now opens.allowed opens.leaves) reads.disk
+
+  store-of : (g.tells_reads → StandsForOne g old) → g.tells_reads → IsNodeStore (committed opened) opened.base.shape
+  store-of stands told = let one = stands told in opened-store (g.reads old) config opened.base.shape (committed opened) opens.allowed (opens.opened told) one.shape one.graph one.stands
+
+  -- The names were loaded.
+  pub loaded-opens : (session : SessionView D) → session.console.shape ≡ loaded.base.shape → session.console.health ≡ healths.Live → session.console.is_live ≡ loaded.base.live
+      → session.console.is_open ≡ loaded.base.in_transaction → session.console.draft ≡ loaded.draft.pairs → session.console.committed ≡ committed loaded → session.console.working ≡ working loaded
+      → (g.tells_reads → session.console.names ≡ names_of (state_of opened).records) → session.disk ≡ loaded.base.disk.now → state_of loaded ≡ after_names (state_of opened)
+      → Opens g config old session
+  loaded-opens session shape health live closed draft same_committed same_working names disk state = record {
+    begins = λ stands. (
+      beginning opened.base.shape (committed opened),
+      begins-starts g config old opened.base.shape (committed opened) opens.suits opens.opened (store-of stands),
+      begins-at g session opened.base.shape (committed opened) (record {
+        shape_is = shape ∙ reads.shape;
+        health = health;
+        live = live ∙ reads.live ∙ opens.live;
+        closed = closed ∙ reads.in_transaction ∙ opens.closed;
+        no_draft = draft ∙ same-draft opened loaded reads opens.draft state;
+        store = store-of stands;
+        committed = same_committed ∙ same-committed opened loaded reads;
+        working = same_working ∙ same-working opened loaded reads opens.own;
+        names = λ told. names told ∙ ap names_of (drafted-none opened opens.own opens.draft);
+        stored = subst (λ (d : D). IsOnDisk g d (λ left. Redoes left (committed opened))) (sym disk) (same-stored opened loaded reads (committed opened) opens.stored);
+      }),
+    );
+    crash = subst (λ (d : D). LeavesByOpening g config old d) (sym disk) loaded-leaves;
+    later = omega (arith, opens.later, later, ap g.faults disk);
+  }
+
+  -- They were not.
+  pub loaded-refused : (T : Type 0) (disk : D) (why : OpenFault) (fault : Fault) → disk ≡ loaded.base.disk.now → why ≡ unloaded fault → (g.tells_reads → IsLoadFault (state_of opened).records fault)
+      → (g.tells_reads → AreLoadable (state_of opened).records → NotDamaged {T = T} (Err fault)) → (fault ≡ Disk → Rose (g.faults opened.base.disk.now) (g.faults loaded.base.disk.now)) → IsUnopened g config old disk why
+  loaded-refused T disk why fault disk_is why_is damaged sound cause =
+      let same : drafted opened ≡ committed opened = drafted-none opened opens.own opens.draft in
+      let right : g.tells_reads → AreLoadable (committed opened) → NotDamaged {T = T} (Err fault) = λ told loads. sound told (subst (λ (records : Key → Rec). AreLoadable records) (sym same) loads) in
+      let is : IsUnopened g config old loaded.base.disk.now (unloaded fault) = record {
+        refused = λ told. load-refuses T (g.reads old) config opened.base.shape (committed opened) fault opens.allowed (opens.opened told) (subst (λ (records : Key → Rec). IsLoadFault records fault) same (damaged told)) (right told);
+        sound = λ told shape graph stands.
+            load-sound T shape config fault (right told (loadable (committed opened) opened.base.shape (opened-store (g.reads old) config opened.base.shape (committed opened) opens.allowed (opens.opened told) shape graph stands)));
+        crash = loaded-leaves;
+        later = omega (arith, opens.later, later);
+        cause = λ e. rose-later (g.faults old) (g.faults opened.base.disk.now) (g.faults loaded.base.disk.now) opens.later (cause (unloaded-disk fault e));
+      } in
+      subst (λ (d : D). IsUnopened g config old d why) (sym disk_is) (subst (λ (w : OpenFault). IsUnopened g config old loaded.base.disk.now w) (sym why_is) is)

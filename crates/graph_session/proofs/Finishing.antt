@@ -1,0 +1,197 @@
+-- A change, from its draft to its reply.
+use Rattle.std.proofs.Common.{◌≡◌, ◌∙◌, ◌+◌, ◌<◌, ◌≤◌, ℕ, true, Ok, Err, Result, Some, List, [], ◌∷◌, length, take, inl, inr, refl, sym, ap, subst, arith}
+use Rattle.fault_count.specs.Cause.{Rose}
+use Rattle.disk_model.specs.Spans.{OnlyReads}
+use Rattle.disk_model.specs.declared.disk.Disk.{Ghosts}
+use Rattle.stream_io.specs.Lines.{Whole}
+use Rattle.plain_graph.specs.Changes.{Changes, IsChange, Weighs, most_weight}
+use Rattle.plain_graph.specs.Graph.{Graph}
+use Rattle.plain_graph.specs.Reply.{DiskFailed, Faulted}
+use Rattle.plain_graph.specs.declared.command.Command.{Command}
+use Rattle.plain_graph.specs.declared.refusal.Refusal.TheVariants as refusals
+use Rattle.rec_bytes.specs.declared.key.Key.{Key}
+use Rattle.rec_bytes.specs.declared.record.Rec.{Rec}
+use Rattle.rec_bytes.specs.declared.shape.Shape.{Shape}
+use Rattle.store_rules.specs.Graph.{graph_of, names_of}
+use Rattle.store_rules.specs.Rules.{IsNodeStore}
+use Rattle.txn_core.specs.Store.{drafted, state_of, working}
+use Rattle.graph_ops.specs.Store.{graph_in}
+use Rattle.graph_session.specs.Answer.{Settles}
+use Rattle.graph_session.specs.Answering.{reply_of}
+use Rattle.graph_session.specs.Console.{IsAt, SessionView}
+use Rattle.graph_session.specs.Drafting.{Discards, Drafts, Finishes, HasDraft, HasStore, IsStopped, KeepsDraft, OnlyDrafts, Sees, TellsChange}
+use Rattle.graph_session.specs.Refusals.{IsAccepted, IsReached, NoneHolds, SpellsOnly, names_full, no_node, nodes_full, transaction_full}
+use Rattle.graph_session.specs.Session.{HaveSameDisk, view}
+use Rattle.graph_session.specs.Settling.{SettlesCommand}
+use Rattle.graph_session.specs.State.{State, Transaction}
+use Rattle.graph_session.specs.declared.answer.Answer.{Answer}
+use Rattle.graph_session.specs.declared.answer.Answer.TheVariants as answers
+use Rattle.graph_session.specs.declared.changing.Drafted.{Drafted}
+use Rattle.graph_session.specs.declared.health.Health.TheVariants as healths
+use Rattle.graph_session.specs.declared.session.Session.{Session}
+use Rattle.graph_session.proofs.Answering.{IsGood, settles-damaged, settles-memory, settles-refused}
+use Rattle.graph_session.proofs.Changes.{Keeps, change-reached, settles-change_fault, settles-kept}
+use Rattle.graph_session.proofs.Conditions.{Fails, heavy-refused, weight-light}
+use Rattle.graph_session.proofs.Drafts.{committed-beneath, committed-read, drafted-none, working-beneath, working-read}
+use Rattle.graph_session.proofs.Held.{held, names-working, seen_open, take-brought}
+use Rattle.graph_session.proofs.Spelling.{change-spared, spared-only}
+use Rattle.graph_session.proofs.States.{is_open}
+use Rattle.graph_session.proofs.Staying.{Stays, comes-stays}
+
+-- no condition refuses the line
+pub accepted-change : (state : State) (line : List ℕ) → IsReached state (Whole line) → NoneHolds (nodes_full ∷ names_full ∷ no_node ∷ []) state (Whole line) → Fails transaction_full state line → IsAccepted state (Whole line)
+accepted-change state line reach free weight =
+    (reach.0, (reach.1.0, (reach.1.1.0, (reach.1.1.1.0, (reach.1.1.1.1.0, (free.0, (free.1.0, (free.1.1.0, (weight, tt)))))))))
+
+-- the answer of a change that is made is none of a fault
+pub tells-good : (answer : Answer) → TellsChange answer → IsGood (reply_of answer)
+tells-good answers.Done tells = tt
+tells-good (answers.NodeMade id) tells = tt
+tells-good (answers.Counted counts) tells = absurd tells
+tells-good (answers.Refused why) tells = absurd tells
+tells-good answers.NoMemory tells = absurd tells
+tells-good answers.DiskFailed tells = absurd tells
+tells-good (answers.Damaged damage) tells = absurd tells
+
+module _ {D : Type 0} {g : Ghosts D} where
+  -- the store, and the graph that a line sees
+  module _ (old : Session D g) {state : State} (at : IsAt g (view old) state) (live : old.health ≡ healths.Live) (told : g.tells_reads) where
+    pub has-store : HasStore old
+    has-store =
+        let none : drafted old.store ≡ working old.store = drafted-none old at.no_draft in
+        record {
+          store = subst (λ (shape : Shape). IsNodeStore (drafted old.store) shape) at.shape (subst (λ (records : Key → Rec). IsNodeStore records state.shape) (sym none) (held at live told).working);
+          names = names-working at live told ∙ ap names_of (sym none);
+        }
+
+    pub has-sees : Sees (state_of old.store) state
+    has-sees = record { shape = at.shape; graph = sym (held at live told).working_graph ∙ ap graph_of (sym (drafted-none old at.no_draft)) }
+
+  -- no change was drafted
+  module _ {old new : SessionView D} {state : State} (at : IsAt g old state) (live : old.console.health ≡ healths.Live) {line : List ℕ} {command : Command} (spelled : SpellsOnly line command)
+      (change : IsChange command) (base : Session D g) (now : D) (has : g.tells_reads → HasStore base) (sees : g.tells_reads → Sees (state_of base.store) state) where
+    pub settles-stopped : (why : Answer) → IsStopped command base now why → (¬ (why ≡ answers.DiskFailed) → Stays g old new)
+        → (why ≡ answers.DiskFailed → Rose (g.faults base.store.base.disk.now) (g.faults now) → Settles g (Whole line) old new state (Faulted [] DiskFailed)) → Settles g (Whole line) old new state (reply_of why)
+    settles-stopped answers.Done stopped stays fault = absurd stopped
+    settles-stopped (answers.NodeMade id) stopped stays fault = absurd stopped
+    settles-stopped (answers.Counted counts) stopped stays fault = absurd stopped
+    settles-stopped (answers.Refused why) stopped stays fault =
+        settles-refused at (stays (λ e. cc)) why (λ told. stopped told (has told) state line spelled (sees told) (change-reached at live spelled change))
+    settles-stopped answers.NoMemory stopped stays fault = settles-memory at (stays (λ e. cc)) (λ spares. change-spared command change (spared-only spelled spares))
+    settles-stopped answers.DiskFailed stopped stays fault = fault refl stopped
+    settles-stopped (answers.Damaged damage) stopped stays fault =
+        settles-damaged damage.file damage.id state (comes-stays at (stays (λ e. cc))) (λ told. stopped told (has told))
+
+  -- a change in the open transaction
+  module _ {old mid : Session D g} (new : Session D g) (live : old.health ≡ healths.Live) (opened : old.store.base.in_transaction ≡ true) (only : OnlyDrafts old mid) where
+    stays-discarded : (count : ℕ) → count ≡ length old.names.names → Discards count mid new → Stays g (view old) (view new)
+    stays-discarded count counts drops = record {
+      beneath = record {
+        shape = drops.beneath.shape ∙ only.base.shape;
+        is_live = drops.beneath.live ∙ only.base.live;
+        committed = λ told. committed-beneath mid.store.base new.store.base drops.beneath ∙ committed-read old.store.base mid.store.base only.base;
+        no_draft = drops.draft;
+        disk = subst (λ (disk : D). OnlyReads g old.store.base.disk.now disk) (sym drops.beneath.disk) only.base.disk;
+      };
+      health = drops.health ∙ only.health;
+      is_open = drops.in_transaction ∙ only.base.in_transaction;
+      weight = λ is. drops.weight ∙ only.weight;
+      names = drops.names ∙ ap (take count) only.brought.1 ∙ take-brought old.names.names only.brought.0 count counts;
+      working = λ told. working-beneath mid.store.base new.store.base drops.beneath drops.own ∙ working-read old.store.base mid.store.base only.base;
+    }
+
+    keeps-kept : (more : ℕ) → KeepsDraft more mid new → Keeps g (view old) (view new) more
+    keeps-kept more kept = record {
+      beneath = record {
+        shape = kept.beneath.shape ∙ only.base.shape;
+        is_live = kept.beneath.live ∙ only.base.live;
+        committed = λ told. committed-beneath mid.store.base new.store.base kept.beneath ∙ committed-read old.store.base mid.store.base only.base;
+        no_draft = kept.draft;
+        disk = subst (λ (disk : D). OnlyReads g old.store.base.disk.now disk) (sym kept.beneath.disk) only.base.disk;
+      };
+      health = kept.health ∙ only.health;
+      is_open = kept.in_transaction ∙ only.base.in_transaction;
+      weighs = kept.weight ∙ ap (λ (n : ℕ). n + more) only.weight;
+      brought = (only.brought.0, kept.names ∙ only.brought.1);
+    }
+
+    module _ {command : Command} (change : IsChange command) {line : List ℕ} {state : State} (spelled : SpellsOnly line command) (at : IsAt g (view old) state) (made : Drafted)
+        (has : g.tells_reads → HasStore old → HasDraft command old mid made) (transaction : Transaction) (is : state.open_one ≡ Some transaction) where
+      has-draft : g.tells_reads → HasDraft command old mid made
+      has-draft told = has told (has-store old at live told)
+
+      same-graph : g.tells_reads → graph_in (state_of old.store) ≡ transaction.graph
+      same-graph told = sym (has-sees old at live told).graph ∙ seen_open state transaction is
+
+      weighs-it : g.tells_reads → Weighs transaction.graph command made.weight
+      weighs-it told = subst (λ (graph : Graph). Weighs graph command made.weight) (same-graph told) (has-draft told).weighs
+
+      settles-full : Stays g (view old) (view new) → most_weight < mid.weight + made.weight → Settles g (Whole line) (view old) (view new) state (reply_of (answers.Refused refusals.TransactionFull))
+      settles-full stays more =
+          settles-refused at stays refusals.TransactionFull
+          (λ told.
+          heavy-refused state spelled ((has-draft told).free state line spelled (has-sees old at live told)) (change-reached at live spelled change) transaction is made.weight (weighs-it told)
+          (let a = at.weight transaction is in let b = only.weight in omega (arith, a, b, more)))
+
+      settles-made : TellsChange made.answer → KeepsDraft made.weight mid new → Settles g (Whole line) (view old) (view new) state (reply_of made.answer)
+      settles-made tells kept =
+          settles-kept at live transaction is spelled change (reply_of made.answer) (tells-good made.answer tells) made.weight (keeps-kept made.weight kept)
+          (λ told. record {
+            store =
+                subst (λ (shape : Shape). IsNodeStore (working new.store) shape) (only.base.shape ∙ sym at.shape)
+                (subst (λ (records : Key → Rec). IsNodeStore records mid.store.base.shape) (sym kept.working) (has-draft told).store.store);
+            named = kept.names ∙ (has-draft told).store.names ∙ ap names_of (sym kept.working);
+          })
+          (λ told.
+          accepted-change state line (change-reached at live spelled change) ((has-draft told).free state line spelled (has-sees old at live told))
+          (weight-light state spelled transaction is made.weight (weighs-it told)
+          (let a = at.weight transaction is in let b = only.weight in let fits = kept.fits in omega (arith, a, b, fits))))
+          (λ told.
+          subst (λ (limit : ℕ). Changes limit transaction.graph command (reply_of made.answer) (graph_of (working new.store))) (ap (λ (shape : Shape). shape.limit) (sym at.shape))
+          (subst (λ (graph : Graph). Changes old.store.base.shape.limit graph command (reply_of made.answer) (graph_of (working new.store))) (same-graph told)
+          (subst (λ (records : Key → Rec). Changes old.store.base.shape.limit (graph_in (state_of old.store)) command (reply_of made.answer) (graph_of records)) (sym kept.working) (has-draft told).changes)))
+          weighs-it
+
+    later-on : (disk : D) → disk ≡ mid.store.base.disk.now → g.faults old.store.base.disk.now ≤ g.faults disk
+    later-on disk same = subst (λ (now : D). g.faults old.store.base.disk.now ≤ g.faults now) (sym same) only.later
+
+    module _ {command : Command} (change : IsChange command) (count : ℕ) (counts : count ≡ length old.names.names) where
+      settles-unmade : {line : List ℕ} {state : State} → SpellsOnly line command → IsAt g (view old) state → (why : Answer) → IsStopped command old mid.store.base.disk.now why → Discards count mid new
+          → Settles g (Whole line) (view old) (view new) state (reply_of why)
+      settles-unmade {state = state} spelled at why stopped drops =
+          let stays = stays-discarded count counts drops in
+          settles-stopped at live spelled change old mid.store.base.disk.now (has-store old at live) (has-sees old at live) why stopped (λ other. stays)
+          (λ is rose. let one = is_open at opened in settles-change_fault at live one.0 one.1 spelled change stays
+          (subst (λ (disk : D). Rose (g.faults old.store.base.disk.now) (g.faults disk)) (sym drops.beneath.disk) rose))
+
+      pub settles-finish : (result : Result Drafted Answer) (answer : Answer) → Drafts command old mid result → Finishes result count mid new answer
+          → SettlesCommand g command (view old) (view new) (reply_of answer)
+      settles-finish (Ok made) answer drafts (inl (told_so, kept)) = record {
+        settles = λ line state spelled served at.
+            let one = is_open at opened in
+            subst (λ (a : Answer). Settles g (Whole line) (view old) (view new) state (reply_of a)) (sym told_so) (settles-made change spelled at made drafts.1 one.0 one.1 drafts.0 kept);
+        onward = record { disk_later = later-on new.store.base.disk.now kept.beneath.disk };
+      }
+      settles-finish (Ok made) answer drafts (inr (inl (told_so, more), drops)) = record {
+        settles = λ line state spelled served at.
+            let one = is_open at opened in
+            subst (λ (a : Answer). Settles g (Whole line) (view old) (view new) state (reply_of a)) (sym told_so)
+            (settles-full change spelled at made drafts.1 one.0 one.1 (stays-discarded count counts drops) more);
+        onward = record { disk_later = later-on new.store.base.disk.now drops.beneath.disk };
+      }
+      settles-finish (Ok made) answer drafts (inr (inr told_so, drops)) = record {
+        settles = λ line state spelled served at.
+            subst (λ (a : Answer). Settles g (Whole line) (view old) (view new) state (reply_of a)) (sym told_so)
+            (settles-memory at (stays-discarded count counts drops) (λ spares. change-spared command change (spared-only spelled spares)));
+        onward = record { disk_later = later-on new.store.base.disk.now drops.beneath.disk };
+      }
+      settles-finish (Err why) answer drafts (told_so, drops) = record {
+        settles = λ line state spelled served at.
+            subst (λ (a : Answer). Settles g (Whole line) (view old) (view new) state (reply_of a)) (sym told_so) (settles-unmade spelled at why drafts drops);
+        onward = record { disk_later = later-on new.store.base.disk.now drops.beneath.disk };
+      }
+
+    pub finish-disk : (result : Result Drafted Answer) (count : ℕ) (answer : Answer) → Finishes result count mid new answer → HaveSameDisk old new
+    finish-disk (Ok made) count answer (inl h) = h.1.beneath.same_disk ∙ only.base.same_disk
+    finish-disk (Ok made) count answer (inr h) = h.1.beneath.same_disk ∙ only.base.same_disk
+    finish-disk (Err why) count answer h = h.1.beneath.same_disk ∙ only.base.same_disk

@@ -1,0 +1,226 @@
+-- A change that is a transaction by itself, from its draft to its reply.
+use Rattle.std.proofs.Common.{◌≡◌, ◌⊎◌, ◌∙◌, ◌≤◌, ℕ, false, Ok, Err, Result, List, [], ◌∷◌, ◌++◌, length, take, inl, inr, true≢false, refl, sym, ap, subst, arith}
+use Rattle.fault_count.specs.Cause.{Rose}
+use Rattle.disk_model.specs.Spans.{AtEachMoment, OnlyReads}
+use Rattle.disk_model.specs.declared.disk.Disk.{Ghosts}
+use Rattle.stream_io.specs.Lines.{Whole}
+use Rattle.plain_graph.specs.Changes.{Changes, IsChange}
+use Rattle.plain_graph.specs.Graph.{Graph}
+use Rattle.plain_graph.specs.declared.command.Command.{Command}
+use Rattle.rec_bytes.specs.Pairs.{Pairs}
+use Rattle.rec_bytes.specs.declared.key.Key.{Key}
+use Rattle.rec_bytes.specs.declared.record.Rec.{Rec}
+use Rattle.rec_bytes.specs.declared.shape.Shape.{Shape}
+use Rattle.record_file.specs.Redone.{Redoes}
+use Rattle.store_rules.specs.Graph.{graph_of}
+use Rattle.store_rules.specs.Rules.{IsNodeStore}
+use Rattle.txn_core.specs.Base.{SameBeneath}
+use Rattle.txn_core.specs.Store.{committed, drafted, state_of}
+use Rattle.graph_session.specs.Answer.{Settles}
+use Rattle.graph_session.specs.Answering.{reply_of}
+use Rattle.graph_session.specs.Console.{IsAt}
+use Rattle.graph_session.specs.Drafting.{CommitsRecords, DoubtsRecords, Drafts, DropsAlone, FinishesAlone, HasDraft, HasStore, IsStopped, OnlyDrafts, Sees, TellsChange, TriesCommit}
+use Rattle.graph_session.specs.Refusals.{IsAccepted, SpellsOnly}
+use Rattle.graph_session.specs.Session.{HaveSameDisk, view}
+use Rattle.graph_session.specs.Settling.{SettlesCommand}
+use Rattle.graph_session.specs.State.{State}
+use Rattle.graph_session.specs.declared.answer.Answer.{Answer}
+use Rattle.graph_session.specs.declared.answer.Answer.TheVariants as answers
+use Rattle.graph_session.specs.declared.changing.Drafted.{Drafted}
+use Rattle.graph_session.specs.declared.health.Health.TheVariants as healths
+use Rattle.graph_session.specs.declared.session.Session.{Session}
+use Rattle.graph_session.proofs.Answering.{settles-memory}
+use Rattle.graph_session.proofs.Changes.{CommitsAlone, CommitsFrom, FailsAlone, IsAloneInDoubt, change-reached, settles-alone, settles-alone_fault, settles-alone_read_fault}
+use Rattle.graph_session.proofs.Conditions.{alone-light}
+use Rattle.graph_session.proofs.Drafts.{committed-beneath, committed-read, drafted-none, stored-either, working-none}
+use Rattle.graph_session.proofs.Finishing.{accepted-change, settles-stopped, tells-good}
+use Rattle.graph_session.proofs.Held.{held, seen_closed, take-brought}
+use Rattle.graph_session.proofs.Spelling.{change-spared, spared-only}
+use Rattle.graph_session.proofs.States.{is_closed}
+use Rattle.graph_session.proofs.Staying.{Stays}
+use Rattle.graph_session.proofs.Streams.{Rose-from}
+
+-- a list of no elements
+no_pairs : (pairs : Pairs) → length pairs ≡ 0 → pairs ≡ []
+no_pairs [] e = refl
+no_pairs (pair ∷ rest) e = cc
+
+module _ {D : Type 0} {g : Ghosts D} {begun mid : Session D g} (old new : Session D g) (live : old.health ≡ healths.Live) (closed : old.store.base.in_transaction ≡ false) (idle : length old.store.base.own.pairs ≡ 0)
+    (same : SameBeneath old.store.base begun.store.base) (own : begun.store.base.own.pairs ≡ []) (draft : begun.store.draft.pairs ≡ []) (names : begun.names.names ≡ old.names.names) (health : begun.health ≡ old.health)
+    (only : OnlyDrafts begun mid) where
+  drafted-begun : drafted begun.store ≡ committed old.store
+  drafted-begun = drafted-none begun draft ∙ working-none begun.store.base own ∙ committed-beneath old.store.base begun.store.base same
+
+  committed-mid : committed mid.store ≡ committed old.store
+  committed-mid = committed-read begun.store.base mid.store.base only.base ∙ committed-beneath old.store.base begun.store.base same
+
+  shape-mid : mid.store.base.shape ≡ old.store.base.shape
+  shape-mid = only.base.shape ∙ same.shape
+
+  reads-mid : OnlyReads g old.store.base.disk.now mid.store.base.disk.now
+  reads-mid = subst (λ (disk : D). OnlyReads g disk mid.store.base.disk.now) same.disk only.base.disk
+
+  names-mid : mid.names.names ≡ old.names.names ++ only.brought.0
+  names-mid = only.brought.1 ∙ ap (λ (known : List (List ℕ)). known ++ only.brought.0) names
+
+  later-mid : g.faults old.store.base.disk.now ≤ g.faults mid.store.base.disk.now
+  later-mid = subst (λ (disk : D). g.faults disk ≤ g.faults mid.store.base.disk.now) same.disk only.later
+
+  module _ {state : State} (at : IsAt g (view old) state) (told : g.tells_reads) where
+    begun-graph : graph_of (drafted begun.store) ≡ state.committed
+    begun-graph = ap graph_of drafted-begun ∙ (held at live told).committed_graph
+
+    has-begun : HasStore begun
+    has-begun = record {
+      store =
+          subst (λ (shape : Shape). IsNodeStore (drafted begun.store) shape) (at.shape ∙ sym same.shape)
+          (subst (λ (records : Key → Rec). IsNodeStore records state.shape) (sym drafted-begun) (held at live told).committed);
+      names = names ∙ (held at live told).names ∙ ap (λ (graph : Graph). graph.names) (seen_closed state (is_closed at closed) ∙ sym begun-graph);
+    }
+
+    sees-begun : Sees (state_of begun.store) state
+    sees-begun = record { shape = at.shape ∙ sym same.shape; graph = seen_closed state (is_closed at closed) ∙ sym begun-graph }
+
+  module _ (count : ℕ) (counts : count ≡ length old.names.names) (answer : Answer) (drops : DropsAlone count mid new answer) where
+    disk-dropped : OnlyReads g old.store.base.disk.now new.store.base.disk.now
+    disk-dropped = subst (λ (disk : D). OnlyReads g old.store.base.disk.now disk) (sym drops.beneath.disk) reads-mid
+
+    committed-dropped : committed new.store ≡ committed old.store
+    committed-dropped = committed-beneath mid.store.base new.store.base drops.beneath ∙ committed-mid
+
+    names-dropped : new.names.names ≡ old.names.names
+    names-dropped = drops.names ∙ ap (take count) names-mid ∙ take-brought old.names.names only.brought.0 count counts
+
+    stays-dropped : ¬ (answer ≡ answers.DiskFailed) → Stays g (view old) (view new)
+    stays-dropped other = record {
+      beneath = record {
+        shape = drops.beneath.shape ∙ shape-mid;
+        is_live = drops.beneath.live ∙ only.base.live ∙ same.live;
+        committed = λ told. committed-dropped;
+        no_draft = drops.closes.draft;
+        disk = disk-dropped;
+      };
+      health = drops.healthy other ∙ only.health ∙ health;
+      is_open = drops.closes.in_transaction ∙ sym closed;
+      weight = λ is. absurd (true≢false (sym is ∙ closed));
+      names = names-dropped;
+      working = λ told. working-none new.store.base drops.closes.own ∙ committed-dropped ∙ sym (working-none old.store.base (no_pairs old.store.base.own.pairs idle));
+    }
+
+    fails-dropped : answer ≡ answers.DiskFailed → FailsAlone g (view old) (view new)
+    fails-dropped is = record {
+      ends = record { shape = drops.beneath.shape ∙ shape-mid; is_open = drops.closes.in_transaction; no_draft = drops.closes.draft };
+      health = drops.failed is;
+      names = names-dropped;
+      disk = disk-dropped;
+    }
+
+    rose-dropped : Rose (g.faults begun.store.base.disk.now) (g.faults mid.store.base.disk.now) → Rose (g.faults old.store.base.disk.now) (g.faults new.store.base.disk.now)
+    rose-dropped rose =
+        subst (λ (disk : D). Rose (g.faults old.store.base.disk.now) (g.faults disk)) (sym drops.beneath.disk) (subst (λ (disk : D). Rose (g.faults disk) (g.faults mid.store.base.disk.now)) same.disk rose)
+
+    later-dropped : g.faults old.store.base.disk.now ≤ g.faults new.store.base.disk.now
+    later-dropped = subst (λ (disk : D). g.faults old.store.base.disk.now ≤ g.faults disk) (sym drops.beneath.disk) later-mid
+
+    unmade-alone : {command : Command} → IsChange command → {line : List ℕ} {state : State} → SpellsOnly line command → IsAt g (view old) state → IsStopped command begun mid.store.base.disk.now answer
+        → Settles g (Whole line) (view old) (view new) state (reply_of answer)
+    unmade-alone change spelled at stopped =
+        settles-stopped at live spelled change begun mid.store.base.disk.now (has-begun at) (sees-begun at) answer stopped stays-dropped
+        (λ is rose. settles-alone_read_fault at live closed spelled change (fails-dropped is) (rose-dropped rose))
+
+  module _ (made : Drafted) (answer : Answer) (tries : TriesCommit (drafted mid.store) mid new made.answer answer) where
+    from-mid : CommitsFrom g (view old) (view new) (drafted mid.store)
+    from-mid = record {
+      mid = mid.store.base.disk.now;
+      reads = reads-mid;
+      crash = λ told.
+          subst (λ (records : Key → Rec). AtEachMoment g mid.store.base.disk.now new.store.base.disk.now (λ left. Redoes left records ⊎ Redoes left (drafted mid.store))) committed-mid
+          (tries.crash told.0 told.1);
+    }
+
+    later-tried : g.faults old.store.base.disk.now ≤ g.faults new.store.base.disk.now
+    later-tried = let a = later-mid in let b = tries.later in omega (arith, a, b)
+
+    commits-mid : CommitsRecords (drafted mid.store) mid new → CommitsAlone g (view old) (view new) (drafted mid.store)
+    commits-mid commits = record {
+      ends = record { shape = commits.closes.same.shape ∙ shape-mid; is_open = commits.closes.in_transaction; no_draft = commits.closes.draft };
+      health = commits.health ∙ only.health ∙ health;
+      live = commits.live;
+      committed = commits.committed;
+      working = λ told. working-none new.store.base commits.closes.own;
+      stored = record { read = commits.stored.read; images = λ told. commits.stored.images told.0 told.1 };
+    }
+
+    doubts-mid : DoubtsRecords (drafted mid.store) mid new → IsAloneInDoubt g (view old) (view new) (drafted mid.store)
+    doubts-mid doubts =
+        let stored = stored-either new.store.base.disk.now (committed mid.store) (drafted mid.store) (committed old.store) (drafted mid.store) committed-mid refl doubts.stored in
+        record {
+          ends = record { shape = doubts.closes.same.shape ∙ shape-mid; is_open = doubts.closes.in_transaction; no_draft = doubts.closes.draft };
+          health = doubts.health;
+          brought = (only.brought.0, doubts.names ∙ names-mid);
+          stored = record { read = stored.read; images = λ told. stored.images told.0 told.1 };
+        }
+
+    module _ {command : Command} (change : IsChange command) (tells : TellsChange made.answer) (has : g.tells_reads → HasStore begun → HasDraft command begun mid made) {line : List ℕ} {state : State}
+        (spelled : SpellsOnly line command) (at : IsAt g (view old) state) where
+      alone-draft : g.tells_reads → HasDraft command begun mid made
+      alone-draft told = has told (has-begun at told)
+
+      alone-store : g.tells_reads → IsNodeStore (drafted mid.store) state.shape
+      alone-store told = subst (λ (shape : Shape). IsNodeStore (drafted mid.store) shape) (shape-mid ∙ sym at.shape) (alone-draft told).store.store
+
+      alone-changes : g.tells_reads → Changes state.shape.limit state.committed command (reply_of made.answer) (graph_of (drafted mid.store))
+      alone-changes told =
+          subst (λ (limit : ℕ). Changes limit state.committed command (reply_of made.answer) (graph_of (drafted mid.store))) (ap (λ (shape : Shape). shape.limit) (same.shape ∙ sym at.shape))
+          (subst (λ (graph : Graph). Changes begun.store.base.shape.limit graph command (reply_of made.answer) (graph_of (drafted mid.store))) (begun-graph at told) (alone-draft told).changes)
+
+      settles-tried : Settles g (Whole line) (view old) (view new) state (reply_of answer)
+      settles-tried = by tries.ends
+        where
+          accepted : g.tells_reads → IsAccepted state (Whole line)
+          accepted told =
+              accepted-change state line (change-reached at live spelled change) ((alone-draft told).free state line spelled (sees-begun at told)) (alone-light state spelled (is_closed at closed))
+
+          by : ((answer ≡ made.answer) × CommitsRecords (drafted mid.store) mid new) ⊎ ((answer ≡ answers.DiskFailed) × DoubtsRecords (drafted mid.store) mid new)
+              → Settles g (Whole line) (view old) (view new) state (reply_of answer)
+          by (inl (is, commits)) =
+              subst (λ (a : Answer). Settles g (Whole line) (view old) (view new) state (reply_of a)) (sym is)
+              (settles-alone at live closed (drafted mid.store) spelled change (reply_of made.answer) (tells-good made.answer tells) from-mid (commits-mid commits)
+              (λ told. record { store = alone-store told; named = commits.names ∙ (alone-draft told).store.names }) accepted alone-changes)
+          by (inr (is, doubts)) =
+              subst (λ (a : Answer). Settles g (Whole line) (view old) (view new) state (reply_of a)) (sym is)
+              (settles-alone_fault at live closed (drafted mid.store) spelled change (reply_of made.answer) from-mid (doubts-mid doubts)
+              (λ told. record { store = alone-store told; named = doubts.names ∙ (alone-draft told).store.names }) accepted alone-changes
+              (Rose-from (g.faults old.store.base.disk.now) (g.faults mid.store.base.disk.now) (g.faults new.store.base.disk.now) later-mid doubts.rose))
+
+  module _ {command : Command} (change : IsChange command) (count : ℕ) (counts : count ≡ length old.names.names) where
+    pub settles-finish_alone : (result : Result Drafted Answer) (answer : Answer) → Drafts command begun mid result → FinishesAlone result count mid new answer
+        → SettlesCommand g command (view old) (view new) (reply_of answer)
+    settles-finish_alone (Ok made) answer drafts (inl tries) = record {
+      settles = λ line state spelled served at. settles-tried made answer tries change drafts.0 drafts.1 spelled at;
+      onward = record { disk_later = later-tried made answer tries };
+    }
+    settles-finish_alone (Ok made) answer drafts (inr (is, drops)) = record {
+      settles = λ line state spelled served at.
+          subst (λ (a : Answer). Settles g (Whole line) (view old) (view new) state (reply_of a)) (sym is)
+          (settles-memory at (stays-dropped count counts answer drops (λ failed. let clash : answers.NoMemory ≡ answers.DiskFailed = sym is ∙ failed in cc))
+          (λ spares. change-spared command change (spared-only spelled spares)));
+      onward = record { disk_later = later-dropped count counts answer drops };
+    }
+    settles-finish_alone (Err why) answer drafts (is, drops) = record {
+      settles = λ line state spelled served at.
+          unmade-alone count counts answer drops change spelled at (subst (λ (a : Answer). IsStopped command begun mid.store.base.disk.now a) (sym is) drafts);
+      onward = record { disk_later = later-dropped count counts answer drops };
+    }
+
+  tried-disk : (now : Key → Rec) (made answer : Answer) → TriesCommit now mid new made answer → HaveSameDisk mid new
+  tried-disk now made answer tries = by tries.ends
+    where
+      by : ((answer ≡ made) × CommitsRecords now mid new) ⊎ ((answer ≡ answers.DiskFailed) × DoubtsRecords now mid new) → HaveSameDisk mid new
+      by (inl h) = h.1.closes.same.same_disk
+      by (inr h) = h.1.closes.same.same_disk
+
+  pub finish_alone-disk : (result : Result Drafted Answer) (count : ℕ) (answer : Answer) → FinishesAlone result count mid new answer → HaveSameDisk old new
+  finish_alone-disk (Ok made) count answer (inl tries) = tried-disk (drafted mid.store) made.answer answer tries ∙ only.base.same_disk ∙ same.same_disk
+  finish_alone-disk (Ok made) count answer (inr h) = h.1.beneath.same_disk ∙ only.base.same_disk ∙ same.same_disk
+  finish_alone-disk (Err why) count answer h = h.1.beneath.same_disk ∙ only.base.same_disk ∙ same.same_disk

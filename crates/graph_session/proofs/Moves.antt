@@ -1,0 +1,259 @@
+-- What the store's calls leave of a session, as its lines are settled.
+use Rattle.std.proofs.Common.{◌≡◌, ◌⊎◌, ◌∙◌, ℕ, ◌≤◌, true, false, List, [], ◌∷◌, length, take, inl, inr, refl, sym, ap, subst, arith}
+use Rattle.fault_count.specs.Cause.{Rose}
+use Rattle.disk_model.specs.Spans.{AtEachMoment, OnlyReads}
+use Rattle.disk_model.specs.declared.disk.Disk.{Ghosts}
+use Rattle.disk_model.proofs.Spans.{OnlyNow, only_reads_none}
+use Rattle.plain_graph.specs.Reply.{Counted, DiskFailed, Done, Faulted, Refused}
+use Rattle.plain_graph.specs.declared.command.Command.TheVariants as commands
+use Rattle.plain_graph.specs.declared.counts.Counts.{Counts}
+use Rattle.plain_graph.specs.declared.refusal.Refusal.TheVariants as refusals
+use Rattle.rec_bytes.specs.Format.{names_file, nodes_file}
+use Rattle.rec_bytes.specs.Pairs.{Held}
+use Rattle.rec_bytes.specs.Space.{laid_over, meta_in, meta_of}
+use Rattle.rec_bytes.specs.declared.key.Key.{Key}
+use Rattle.rec_bytes.specs.declared.meta.Meta.{Meta}
+use Rattle.rec_bytes.specs.declared.record.Rec.{Rec}
+use Rattle.rec_bytes.proofs.Spaces.{laid_over-none}
+use Rattle.record_file.specs.Records.{record_at}
+use Rattle.record_file.specs.Redone.{Redoes}
+use Rattle.store_rules.specs.Views.{high}
+use Rattle.txn_core.specs.Base.{SameBeneath, SameStore}
+use Rattle.txn_core.specs.Base as base
+use Rattle.txn_core.specs.Kept.{IsOnDisk}
+use Rattle.txn_core.specs.MetaRecords.{with_metas}
+use Rattle.txn_core.specs.Outcomes.{HasFailed, IsCheckpointed, IsInDoubt, IsWritten}
+use Rattle.txn_core.specs.Store.{committed, drafted, state_of, working}
+use Rattle.txn_core.specs.declared.base.Base.{Base}
+use Rattle.txn_core.specs.declared.store.Store.{Store}
+use Rattle.graph_session.specs.Console.{SessionView}
+use Rattle.graph_session.specs.Settling.{SettlesCommand}
+use Rattle.graph_session.specs.declared.health.Health.{Health}
+use Rattle.graph_session.specs.declared.health.Health.TheVariants as healths
+use Rattle.graph_session.proofs.Answering.{settles-refused_at_once}
+use Rattle.graph_session.proofs.Conditions.{NeedsNone, closed-refused, open-refused}
+use Rattle.graph_session.proofs.Counts.{settles-stats}
+use Rattle.graph_session.proofs.Stands.{IsStored}
+use Rattle.graph_session.proofs.States.{is_open, not_failed, not_open}
+use Rattle.graph_session.proofs.Staying.{KeepsBeneath, stays-none}
+use Rattle.graph_session.proofs.Storage.{settles-checkpoint, settles-checkpoint_fault}
+use Rattle.graph_session.proofs.Transactions.{Ends, settles-begin, settles-commit, settles-commit_fault, settles-rollback}
+
+-- a session's view, from its parts
+abbrev pub seen_as : {D : Type 0} {g : Ghosts D} → Store D g → Health → ℕ → List (List ℕ) → SessionView D
+seen_as store health weight names = record {
+  console = record {
+    shape = store.base.shape;
+    health = health;
+    is_live = store.base.live;
+    is_open = store.base.in_transaction;
+    weight = weight;
+    names = names;
+    committed = committed store;
+    working = working store;
+    draft = store.draft.pairs;
+  };
+  disk = store.base.disk.now;
+}
+
+pub length-none : {X : Type 0} (xs : List X) → length xs ≡ 0 → xs ≡ []
+length-none [] none = refl
+length-none (x ∷ xs) none = absurd (omega (arith, none))
+
+begin-one : ¬ NeedsNone commands.Commit
+begin-one (inl e) = cc
+begin-one (inr (inl e)) = cc
+begin-one (inr (inr e)) = cc
+
+rollback-one : ¬ NeedsNone commands.Rollback
+rollback-one (inl e) = cc
+rollback-one (inr (inl e)) = cc
+rollback-one (inr (inr e)) = cc
+
+abbrev counts_so : ℕ → ℕ → Counts
+counts_so nodes names = record { nodes = nodes; edges = 0; properties = 0; blocks = 0; names = names }
+
+module _ {D : Type 0} {g : Ghosts D} where
+  -- the disk wasn't called, so the same is committed
+  committed-beneath : (old new : Base D g) → SameBeneath old new → base.committed new ≡ base.committed old
+  committed-beneath old new same = λ i. laid_over (with_metas (same.metas i).records (record_at (g.reads (same.disk i)))) (same.changed i).pairs
+
+  -- a transaction that has written nothing
+  pub working-none : (s : Store D g) → s.base.own.pairs ≡ [] → working s ≡ committed s
+  working-none s none = ap (laid_over (committed s)) none ∙ laid_over-none (committed s)
+
+  -- an empty draft
+  pub drafted-none : (s : Store D g) → s.draft.pairs ≡ [] → drafted s ≡ working s
+  drafted-none s none = ap (laid_over (working s)) none ∙ laid_over-none (working s)
+
+  stored-one : (disk : D) (space : Key → Rec) → IsOnDisk g disk (λ left. Redoes left space) → IsStored g disk (λ left. Redoes left space)
+  stored-one disk space stored = record { read = stored.read; images = λ told image left. stored.images told.0 told.1 image left }
+
+  stored-either : (disk : D) (a b : Key → Rec) → IsOnDisk g disk (λ left. Redoes left a ⊎ Redoes left b) → IsStored g disk (λ left. Redoes left a ⊎ Redoes left b)
+  stored-either disk a b stored = record { read = stored.read; images = λ told image left. stored.images told.0 told.1 image left }
+
+  -- a line that is refused at once, for a transaction that is open or none
+  module _ (only_now : OnlyNow g) (old : SessionView D) (live : old.console.health ≡ healths.Live) where
+    pub refused-begin : old.console.is_open ≡ true → SettlesCommand g commands.Begin old old (Refused refusals.TransactionOpen)
+    refused-begin opened = record {
+      settles = λ line state only served at.
+          settles-refused_at_once only_now at refusals.TransactionOpen (λ told. open-refused state only (inl (not_failed at live)) (inl refl) (is_open at opened));
+      onward = record { disk_later = omega arith };
+    }
+
+    pub refused-checkpoint : old.console.is_open ≡ true → SettlesCommand g commands.Checkpoint old old (Refused refusals.TransactionOpen)
+    refused-checkpoint opened = record {
+      settles = λ line state only served at.
+          settles-refused_at_once only_now at refusals.TransactionOpen (λ told. open-refused state only (inl (not_failed at live)) (inr (inl refl)) (is_open at opened));
+      onward = record { disk_later = omega arith };
+    }
+
+    pub refused-commit : old.console.is_open ≡ false → SettlesCommand g commands.Commit old old (Refused refusals.NoTransaction)
+    refused-commit closed = record {
+      settles = λ line state only served at.
+          settles-refused_at_once only_now at refusals.NoTransaction (λ told. closed-refused state only (inl (not_failed at live)) (inl refl) begin-one (not_open at closed));
+      onward = record { disk_later = omega arith };
+    }
+
+    pub refused-rollback : old.console.is_open ≡ false → SettlesCommand g commands.Rollback old old (Refused refusals.NoTransaction)
+    refused-rollback closed = record {
+      settles = λ line state only served at.
+          settles-refused_at_once only_now at refusals.NoTransaction (λ told. closed-refused state only (inl (not_failed at live)) (inr refl) rollback-one (not_open at closed));
+      onward = record { disk_later = omega arith };
+    }
+
+  pub refused-reopen : (only_now : OnlyNow g) (old : SessionView D) → old.console.is_open ≡ true → SettlesCommand g commands.Reopen old old (Refused refusals.TransactionOpen)
+  refused-reopen only_now old opened = record {
+    settles = λ line state only served at.
+        settles-refused_at_once only_now at refusals.TransactionOpen (λ told. open-refused state only (inr refl) (inr (inr refl)) (is_open at opened));
+    onward = record { disk_later = omega arith };
+  }
+
+  module _ (only_now : OnlyNow g) (s t : Store D g) (same : SameBeneath s.base t.base) (draft : t.draft.pairs ≡ []) where
+    -- the disk wasn't called
+    beneath : (health healthier : Health) (weight weigher : ℕ) (names named : List (List ℕ)) → KeepsBeneath g (seen_as s health weight names) (seen_as t healthier weigher named)
+    beneath health healthier weight weigher names named = record {
+      shape = same.shape;
+      is_live = same.live;
+      committed = λ told. committed-beneath s.base t.base same;
+      no_draft = draft;
+      disk = subst (λ (disk : D). OnlyReads g s.base.disk.now disk) (sym same.disk) (only_reads_none g s.base.disk.now only_now);
+    }
+
+    later : g.faults s.base.disk.now ≤ g.faults t.base.disk.now
+    later = subst (λ (disk : D). g.faults s.base.disk.now ≤ g.faults disk) (sym same.disk) (omega arith)
+
+    module _ (own : t.base.own.pairs ≡ []) (health : Health) (live : health ≡ healths.Live) (weight : ℕ) (names : List (List ℕ)) where
+      pub began : s.base.in_transaction ≡ false → t.base.in_transaction ≡ true → SettlesCommand g commands.Begin (seen_as s health weight names) (seen_as t health 6 names) Done
+      began closed opened = record {
+        settles = λ line state only served at.
+            settles-begin at live only closed (record {
+              beneath = beneath health health weight 6 names names;
+              health = refl;
+              is_open = opened;
+              weight = refl;
+              names = refl;
+              working = λ told. working-none t own ∙ committed-beneath s.base t.base same;
+            });
+        onward = record { disk_later = later };
+      }
+
+      -- the names that were brought are cut
+      pub dropped : (named : List (List ℕ)) → s.base.in_transaction ≡ true → t.base.in_transaction ≡ false → (meta : Meta) → meta ≡ meta_of (state_of t) names_file → named ≡ take meta.high names
+          → SettlesCommand g commands.Rollback (seen_as s health weight names) (seen_as t health weight named) Done
+      dropped named opened closed meta is cut = record {
+        settles = λ line state only served at.
+            settles-rollback at live only opened (record {
+              beneath = beneath health health weight weight names named;
+              health = refl;
+              is_open = closed;
+              names = cut ∙ ap (λ (m : Meta). take m.high names) is ∙ ap (λ (records : Key → Rec). take (high records names_file) names) (drafted-none t draft ∙ working-none t own);
+              working = λ told. working-none t own ∙ committed-beneath s.base t.base same;
+            });
+        onward = record { disk_later = later };
+      }
+
+  module _ (s t : Store D g) (same : SameStore s.base t.base) (closed : t.base.in_transaction ≡ false) (draft : t.draft.pairs ≡ []) (later_on : g.faults s.base.disk.now ≤ g.faults t.base.disk.now) where
+    ends : (health healthier : Health) (weight : ℕ) (names : List (List ℕ)) → Ends (seen_as s health weight names) (seen_as t healthier weight names)
+    ends health healthier weight names = record { shape = same.shape; is_open = closed; no_draft = draft }
+
+    module _ (opened : s.base.in_transaction ≡ true)
+        (crash : g.tells_reads → g.tells_images → AtEachMoment g s.base.disk.now t.base.disk.now (λ left. Redoes left (committed s) ⊎ Redoes left (working s)))
+        (health : Health) (live : health ≡ healths.Live) (weight : ℕ) (names : List (List ℕ)) where
+      -- what the transaction had is committed
+      pub committed_one : t.base.own.pairs ≡ [] → IsWritten s.base t.base → SettlesCommand g commands.Commit (seen_as s health weight names) (seen_as t health weight names) Done
+      committed_one own written = record {
+        settles = λ line state only served at.
+            let open_one = is_open at opened in
+            settles-commit at live open_one.0 open_one.1 only opened (λ told. crash told.0 told.1) (record {
+              ends = ends health health weight names;
+              health = refl;
+              live = written.live;
+              names = refl;
+              committed = written.space;
+              working = λ told. working-none t own;
+              stored = stored-one t.base.disk.now (working s) written.stored;
+            });
+        onward = record { disk_later = later_on };
+      }
+
+      -- or it is left open whether it is
+      pub left_open : IsInDoubt s.base t.base → Rose (g.faults s.base.disk.now) (g.faults t.base.disk.now)
+          → SettlesCommand g commands.Commit (seen_as s health weight names) (seen_as t healths.Failed weight names) (Faulted [] DiskFailed)
+      left_open doubt rose = record {
+        settles = λ line state only served at.
+            let open_one = is_open at opened in
+            settles-commit_fault at live open_one.0 open_one.1 only opened (λ told. crash told.0 told.1) (record {
+              ends = ends health healths.Failed weight names;
+              health = refl;
+              names = refl;
+              stored = stored-either t.base.disk.now (committed s) (working s) doubt.stored;
+            }) rose;
+        onward = record { disk_later = later_on };
+      }
+
+  module _ (s t : Store D g) (same : SameStore s.base t.base) (was_closed : s.base.in_transaction ≡ false) (closed : t.base.in_transaction ≡ false) (draft : t.draft ≡ s.draft)
+      (later_on : g.faults s.base.disk.now ≤ g.faults t.base.disk.now) (crash : g.tells_reads → g.tells_images → AtEachMoment g s.base.disk.now t.base.disk.now (λ left. Redoes left (committed s)))
+      (health : Health) (live : health ≡ healths.Live) (weight : ℕ) (names : List (List ℕ)) where
+    no_draft : s.draft.pairs ≡ [] → t.draft.pairs ≡ []
+    no_draft none = ap (λ (held : Held). held.pairs) draft ∙ none
+
+    -- all that is committed is in its files
+    pub brought : t.base.own ≡ s.base.own → length s.base.own.pairs ≡ 0 → IsCheckpointed s.base t.base → SettlesCommand g commands.Checkpoint (seen_as s health weight names) (seen_as t health weight names) Done
+    brought own none done = record {
+      settles = λ line state only served at.
+          settles-checkpoint at live was_closed only (λ told. crash told.0 told.1) (record {
+            ends = record { shape = same.shape; is_open = closed; no_draft = no_draft at.no_draft };
+            health = refl;
+            live = done.live;
+            names = refl;
+            committed = done.space;
+            working = λ told. working-none t (ap (λ (held : Held). held.pairs) own ∙ length-none s.base.own.pairs none);
+            stored = stored-one t.base.disk.now (committed s) done.stored;
+          });
+      onward = record { disk_later = later_on };
+    }
+
+    -- the disk failed
+    pub stopped_so : HasFailed s.base t.base → Rose (g.faults s.base.disk.now) (g.faults t.base.disk.now)
+        → SettlesCommand g commands.Checkpoint (seen_as s health weight names) (seen_as t healths.Failed weight names) (Faulted [] DiskFailed)
+    stopped_so failed rose = record {
+      settles = λ line state only served at.
+          settles-checkpoint_fault at live was_closed only (λ told. crash told.0 told.1) (record {
+            ends = record { shape = same.shape; is_open = closed; no_draft = no_draft at.no_draft };
+            health = refl;
+            names = refl;
+            stored = stored-one t.base.disk.now (committed s) failed.stored;
+          }) rose;
+      onward = record { disk_later = later_on };
+    }
+
+  -- what is counted
+  pub counted : OnlyNow g → (s : Store D g) (health : Health) → health ≡ healths.Live → (weight : ℕ) (names : List (List ℕ)) (meta : Meta) (count : ℕ) → meta ≡ meta_of (state_of s) nodes_file → count ≡ length names
+      → SettlesCommand g commands.Stats (seen_as s health weight names) (seen_as s health weight names) (Counted (record { nodes = meta.live; edges = 0; properties = 0; blocks = 0; names = count }))
+  counted only_now s health live weight names meta count is all = record {
+    settles = λ line state only served at.
+        settles-stats at live only (stays-none only_now (seen_as s health weight names) at.no_draft) (counts_so meta.live count)
+        (ap (λ (m : Meta). counts_so m.live count) is ∙ ap (λ (records : Key → Rec). counts_so (meta_in records nodes_file).live count) (drafted-none s at.no_draft) ∙ ap (λ (n : ℕ). counts_so (meta_in (working s) nodes_file).live n) all);
+    onward = record { disk_later = omega arith };
+  }

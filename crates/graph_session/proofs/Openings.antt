@@ -1,0 +1,55 @@
+-- What the opening of a session leaves: contents from before, or contents that stand for the graph that it begins with.
+use Rattle.std.proofs.Common.{◌≡◌, ◌⊎◌, ◌∙◌, inl, inr, refl, sym, subst}
+use Rattle.disk_model.specs.Contents.{Files}
+use Rattle.disk_model.specs.Spans.{AtEachMoment}
+use Rattle.disk_model.specs.declared.disk.Disk.{Ghosts}
+use Rattle.disk_model.proofs.Spans.{at_each_moment_weaker}
+use Rattle.plain_graph.specs.Graph.{Graph, empty_graph}
+use Rattle.rec_bytes.specs.declared.key.Key.{Key}
+use Rattle.rec_bytes.specs.declared.record.Rec.{Rec}
+use Rattle.rec_bytes.specs.declared.shape.Shape.{Shape}
+use Rattle.record_file.specs.Redone.{Redoes}
+use Rattle.txn_core.specs.declared.config.Config.{Config}
+use Rattle.graph_session.specs.Console.{TellsAll}
+use Rattle.graph_session.specs.Opening.{LeavesByOpening, LeavesOldOrSame, StandsForOne, Starts, StartsAs}
+use Rattle.graph_session.specs.Stands.{IsAdmitted, IsMade, Stands}
+use Rattle.graph_session.specs.State.{Admits, Live, State}
+use Rattle.graph_session.proofs.Stands.{Redoes-only, admits-own, unmade-not_made}
+
+-- what redoes to the records of a made store stands for its graph
+redone-made : (content left : Files) (shape : Shape) (graph : Graph) (space : Key → Rec) → IsMade content shape graph → Redoes content space → Redoes left space → IsMade left shape graph
+redone-made content left shape graph space made redoes left_redoes = record {
+  space = made.space;
+  redoes = subst (λ (records : Key → Rec). Redoes left records) (Redoes-only content space made.space redoes made.redoes) left_redoes;
+  store = made.store;
+  graph_is = made.graph_is;
+}
+
+-- what an opening leaves is from before, or the state that the session begins with admits it
+leaves-admitted : (content : Files) (images : Files → Type 0) (config : Config) (state : State) → state.standing ≡ Live → Starts content config state
+    → (left : Files) → LeavesOldOrSame content images config left → images left ⊎ IsAdmitted state left
+leaves-admitted content images config state live starts left (inl old) = inl old
+leaves-admitted content images config state live (inl new) left (inr (inl same)) =
+    inr (state.committed, admits-own state live, rw (new.1, new.2) same.1)
+leaves-admitted content images config state live (inr made) left (inr (inl same)) = absurd (unmade-not_made content state.shape state.committed same.0 made.0)
+leaves-admitted content images config state live (inl new) left (inr (inr same)) = absurd (same.0 new.0)
+leaves-admitted content images config state live (inr made) left (inr (inr same)) =
+    inr (state.committed, admits-own state live, inr (redone-made content left state.shape state.committed same.1 made.0 same.2 same.3))
+
+-- a content that a session begins with stands for its graph
+pub starts-stands : (content : Files) (config : Config) (state : State) → Starts content config state → Stands content state.shape state.committed
+starts-stands content config state (inl new) = inl (new.0, new.2)
+starts-stands content config state (inr made) = inr made.0
+
+module _ {D : Type 0} (g : Ghosts D) (old : D) (config : Config) (state : State) (starts : StartsAs g old config state) where
+  starts-one : g.tells_reads → StandsForOne g old
+  starts-one told = record { shape = state.shape; graph = state.committed; stands = starts-stands (g.reads old) config state (starts.starts told) }
+
+  pub opens_admitted : (opened : D) → LeavesByOpening g config old opened → TellsAll g → StandsForOne g old → AtEachMoment g old opened (λ left. g.may_leave old left ⊎ IsAdmitted state left)
+  opens_admitted opened leaves told stands =
+      at_each_moment_weaker g old opened (LeavesOldOrSame (g.reads old) (g.may_leave old) config) (λ left. g.may_leave old left ⊎ IsAdmitted state left)
+      (leaves told (starts-one told.0)) (leaves-admitted (g.reads old) (g.may_leave old) config state starts.live (starts.starts told.0))
+
+  -- it begins with the one graph that what the disk reads stands for
+  pub starts_admitted : g.tells_reads → (other : State) → IsAdmitted other (g.reads old) → Admits other state.committed
+  starts_admitted told other admitted = subst (λ (graph : Graph). Admits other graph) (sym (starts.same told other.shape admitted.0 admitted.2)) admitted.1

@@ -1,0 +1,158 @@
+-- A store that is found again, and its names.
+use Rattle.std.proofs.Common.{◌≡◌, ◌⊎◌, ◌∙◌, ℕ, zero, suc, ◌≤◌, Bool, false, Some, is_some, if◌then◌else◌, List, [], ◌∷◌, length, refl, sym, ap, subst, arith}
+use Rattle.std.proofs.lemmas.Bool.{true≢false}
+use Rattle.fault_count.specs.Cause.{Rose}
+use Rattle.disk_model.specs.Spans.{AtEachMoment}
+use Rattle.disk_model.specs.declared.disk.Disk.{Ghosts}
+use Rattle.disk_model.proofs.Spans.{CountsNow}
+use Rattle.plain_graph.specs.Graph.{Graph}
+use Rattle.plain_graph.specs.Reply.{DamagedRecord, DiskFailed, Faulted}
+use Rattle.plain_graph.specs.declared.command.Command.TheVariants as commands
+use Rattle.rec_bytes.specs.Pairs.{Held, Pairs, find_pair}
+use Rattle.rec_bytes.specs.Space as spaces
+use Rattle.rec_bytes.specs.Space.{after_gets, laid_over}
+use Rattle.rec_bytes.specs.declared.key.Key.{Key}
+use Rattle.rec_bytes.specs.declared.record.Rec.{Rec}
+use Rattle.rec_bytes.specs.declared.shape.Shape.{Shape}
+use Rattle.rec_bytes.proofs.KeyLaws.{key_eq-same}
+use Rattle.record_file.specs.Records.{record_at}
+use Rattle.record_file.specs.Redone.{Redoes}
+use Rattle.record_file.proofs.Redone.{Redoes-kept}
+use Rattle.recovery.specs.Finding as finding
+use Rattle.store_rules.specs.Graph.{names_of}
+use Rattle.txn_core.specs.Again.{IsRecovered}
+use Rattle.txn_core.specs.Base.{OnlyReadsBase, SameStore}
+use Rattle.txn_core.specs.MetaRecords.{with_metas}
+use Rattle.txn_core.specs.Store.{committed, content, drafted, state_of}
+use Rattle.txn_core.specs.declared.store.Store.{Store}
+use Rattle.graph_session.specs.Answering.{reply_of}
+use Rattle.graph_session.specs.Console.{BeginWith, IsAt}
+use Rattle.graph_session.specs.Naming.{IsNamed, IsUnnamed, TakesNames}
+use Rattle.graph_session.specs.Settling.{SettlesCommand}
+use Rattle.graph_session.specs.State.{State}
+use Rattle.graph_session.specs.declared.answer.Answer.{Answer}
+use Rattle.graph_session.specs.declared.answer.Answer.TheVariants as answers
+use Rattle.graph_session.specs.declared.health.Health.{Health}
+use Rattle.graph_session.specs.declared.health.Health.TheVariants as healths
+use Rattle.graph_session.proofs.Known.{known-admitted}
+use Rattle.graph_session.proofs.Moves.{drafted-none, length-none, seen_as, working-none}
+use Rattle.graph_session.proofs.Storage.{IsFound, IsLost, LeavesSame, leaves-same_read, settles-reopen, settles-reopen_damaged, settles-reopen_fault}
+use Rattle.graph_session.proofs.Transactions.{Ends}
+
+-- reads write no key
+written-gets : (n : ℕ) (s : spaces.State) → (after_gets n s).written ≡ s.written
+unfolding after_gets
+written-gets zero s = refl
+written-gets (suc n) s = written-gets n s
+
+pub none-found : (pairs : Pairs) → ((key : Key) → is_some (find_pair pairs key) ≡ false) → pairs ≡ []
+none-found [] none = refl
+none-found (pair ∷ rest) none = absurd (true≢false (ap (λ (b : Bool). is_some (if b then Some pair.1 else find_pair rest pair.0)) (sym (key_eq-same pair.0)) ∙ none pair.0))
+
+module _ {D : Type 0} {g : Ghosts D} where
+  -- after calls that only read the draft is empty yet
+  pub draft-read : (t u : Store D g) (count : ℕ) → state_of u ≡ after_gets count (state_of t) → t.draft.pairs ≡ [] → u.draft.pairs ≡ []
+  draft-read t u count is none =
+      let written : (state_of u).written ≡ (state_of t).written = ap (λ (s : spaces.State). s.written) is ∙ written-gets count (state_of t) in
+      none-found u.draft.pairs (λ key. ap (λ (keys : Key → Bool). keys key) written ∙ ap (λ (pairs : Pairs). is_some (find_pair pairs key)) none)
+
+  same-content : (t u : Store D g) → OnlyReadsBase t.base u.base → content u ≡ content t
+  same-content t u reads = λ i file place. reads.disk.keeps file place i
+
+  same-committed : (t u : Store D g) → OnlyReadsBase t.base u.base → committed u ≡ committed t
+  same-committed t u reads = λ i. laid_over (with_metas (reads.metas i).records (record_at (same-content t u reads i))) (reads.changed i).pairs
+
+  module _ (counts : CountsNow g) (s t : Store D g) (same : SameStore s.base t.base) (was_closed : s.base.in_transaction ≡ false) (closed : t.base.in_transaction ≡ false) (draft : t.draft.pairs ≡ [])
+      (later_on : g.faults s.base.disk.now ≤ g.faults t.base.disk.now)
+      (crash : g.tells_reads → g.tells_images → (space : Key → Rec) → Redoes (content s) space → AtEachMoment g s.base.disk.now t.base.disk.now (λ left. g.may_leave s.base.disk.now left ⊎ Redoes left space))
+      (read : g.tells_reads → (space : Key → Rec) → Redoes (content s) space → Redoes (content t) space) (health : Health) (weight : ℕ) (names : List (List ℕ)) where
+    leaves : LeavesSame g s.base.disk.now t.base.disk.now
+    leaves told space redoes = crash told.0 told.1 space redoes
+
+    lost-at_once : IsLost g (seen_as s health weight names) (seen_as t healths.Failed weight names)
+    lost-at_once = record { ends = record { shape = same.shape; is_open = closed; no_draft = draft }; health = refl; names = refl; read = read }
+
+    -- the disk failed in the recovery
+    pub lost_disk : Rose (g.faults s.base.disk.now) (g.faults t.base.disk.now) → SettlesCommand g commands.Reopen (seen_as s health weight names) (seen_as t healths.Failed weight names) (Faulted [] DiskFailed)
+    lost_disk rose = record { settles = λ line state only served at. settles-reopen_fault counts at was_closed only leaves lost-at_once rose; onward = record { disk_later = later_on } }
+
+    -- what is read was told to be no store
+    pub lost_damaged : (file id : ℕ) → (g.tells_reads → (space : Key → Rec) → Redoes (content s) space → finding.IsMade space s.base.shape → ⊥)
+        → SettlesCommand g commands.Reopen (seen_as s health weight names) (seen_as t healths.Failed weight names) (Faulted [] (DamagedRecord file id))
+    lost_damaged file id sound = record {
+      settles = λ line state only served at. settles-reopen_damaged counts at was_closed file id leaves lost-at_once (λ told. none at told);
+      onward = record { disk_later = later_on };
+    }
+      where
+        none : {state : State} → IsAt g (seen_as s health weight names) state → g.tells_reads → ⊥
+        none at told =
+            let had = (at.reads told).2 in
+            sound told had.space had.redoes (subst (λ (shape : Shape). finding.IsMade had.space shape) at.shape (record { own = had.store.well.ranges.own; metas = had.store.well.ranges.metas }))
+
+    module _ (own : t.base.own ≡ s.base.own) (no_own : length s.base.own.pairs ≡ 0) (recovered : IsRecovered s.base t.base) (u : Store D g) (reads : OnlyReadsBase t.base u.base) (no_draft : u.draft.pairs ≡ [])
+        (later_still : g.faults t.base.disk.now ≤ g.faults u.base.disk.now) where
+      leaves_all : LeavesSame g s.base.disk.now u.base.disk.now
+      leaves_all = leaves-same_read g s.base.disk.now t.base.disk.now u.base.disk.now counts leaves reads.disk
+
+      ends : (healthier : Health) (weigher : ℕ) (named : List (List ℕ)) → Ends (seen_as s health weight names) (seen_as u healthier weigher named)
+      ends healthier weigher named = record { shape = reads.shape ∙ same.shape; is_open = reads.in_transaction ∙ closed; no_draft = no_draft }
+
+      read_on : g.tells_reads → (space : Key → Rec) → Redoes (content s) space → Redoes (content u) space
+      read_on told space redoes = Redoes-kept space (content t) (content u) (read told space redoes) reads.disk.keeps
+
+      no_own-now : t.base.own.pairs ≡ []
+      no_own-now = ap (λ (held : Held). held.pairs) own ∙ length-none s.base.own.pairs no_own
+
+      -- the records that are served are those that what was read redoes to
+      drafted-space : g.tells_reads → (space : Key → Rec) → Redoes (content s) space → drafted t ≡ space
+      drafted-space told space redoes = drafted-none t draft ∙ working-none t no_own-now ∙ recovered.space told space redoes
+
+      far : g.faults s.base.disk.now ≤ g.faults u.base.disk.now
+      far = omega (arith, later_on, later_still)
+
+      found : (healthier : Health) (weigher : ℕ) (named : List (List ℕ)) → IsNamed t named healthier → IsFound g (seen_as s health weight names) (seen_as u healthier weigher named)
+      found healthier weigher named is = record {
+        ends = ends healthier weigher named;
+        health = is.live;
+        live = reads.live ∙ recovered.live;
+        names = λ told space redoes. is.named told ∙ ap names_of (drafted-space told space redoes);
+        committed = λ told space redoes. same-committed t u reads ∙ recovered.space told space redoes;
+        working = λ told. working-none u (ap (λ (held : Held). held.pairs) reads.own ∙ no_own-now);
+        read = read_on;
+        images = λ told image left. subst (λ (space : Key → Rec). Redoes image space) (sym (same-committed t u reads)) (recovered.stored.images told.0 told.1 image (reads.disk.crash told.1 image left));
+      }
+
+      lost : (healthier : Health) (weigher : ℕ) (named : List (List ℕ)) → IsUnnamed names named healthier → IsLost g (seen_as s health weight names) (seen_as u healthier weigher named)
+      lost healthier weigher named is = record { ends = ends healthier weigher named; health = is.failed; names = is.same; read = read_on }
+
+      -- the names in memory begin with those of the graph that the disk has
+      names-begin : {state : State} → IsAt g (seen_as s health weight names) state → g.tells_reads → BeginWith names (names_of (drafted t))
+      names-begin at told =
+          let had = at.reads told in
+          subst (λ (first : List (List ℕ)). BeginWith names first)
+          (ap (λ (graph : Graph). graph.names) had.2.graph_is ∙ ap names_of (sym (drafted-space told had.2.space had.2.redoes)))
+          (known-admitted at told had.0 had.1)
+
+      -- the store was found, and its names were taken again
+      pub named_again : (healthier : Health) (weigher : ℕ) (named : List (List ℕ)) (answer : Answer) → TakesNames t u names named healthier answer
+          → SettlesCommand g commands.Reopen (seen_as s health weight names) (seen_as u healthier weigher named) (reply_of answer)
+      named_again healthier weigher named answers.Done takes = record {
+        settles = λ line state only served at. settles-reopen at was_closed (found healthier weigher named takes) only leaves_all;
+        onward = record { disk_later = far };
+      }
+      named_again healthier weigher named (answers.NodeMade id) takes = absurd takes
+      named_again healthier weigher named (answers.Counted counts_are) takes = absurd takes
+      named_again healthier weigher named (answers.Refused why) takes = absurd takes
+      named_again healthier weigher named answers.NoMemory takes = absurd takes
+      named_again healthier weigher named answers.DiskFailed takes = record {
+        settles = λ line state only served at. settles-reopen_fault counts at was_closed only leaves_all (lost healthier weigher named takes.0) (rose-on later_on takes.1);
+        onward = record { disk_later = far };
+      }
+        where
+          rose-on : {before mid now : ℕ} → before ≤ mid → Rose mid now → Rose before now
+          rose-on on rose = omega (arith, on, rose)
+      named_again healthier weigher named (answers.Damaged damage) takes = record {
+        settles = λ line state only served at.
+            settles-reopen_damaged counts at was_closed damage.file damage.id leaves_all (lost healthier weigher named takes.0) (λ told. takes.1 told (names-begin at told));
+        onward = record { disk_later = far };
+      }

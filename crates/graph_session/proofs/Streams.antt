@@ -1,0 +1,52 @@
+-- What a sink took, piece after piece.
+use Rattle.std.proofs.Common.{◌≡◌, ◌∙◌, ◌+◌, ◌≤◌, ℕ, List, ◌++◌, length, take, append_assoc, sym, ap, subst, arith}
+use Rattle.std.proofs.Math.Seq.{take-append-add}
+use Rattle.std.proofs.lemmas.List.{length-append, take-append-le}
+use Rattle.fault_count.specs.Cause.{Rose}
+use Rattle.stream_io.specs.Streams.{TakesFront}
+use Rattle.stream_io.specs.declared.streams.Sink.{Ghosts}
+use Rattle.graph_session.specs.Answer.{Delivers, Gives}
+use Rattle.graph_session.specs.LineBuffer.{Adds}
+use Rattle.graph_session.specs.declared.turn.Turn.{Turn}
+use Rattle.graph_session.specs.declared.turn.Turn.TheVariants.{Go, Quit, SinkFault}
+
+-- a count that rose since a later moment rose since an earlier one
+pub Rose-from : (a b c : ℕ) → a ≤ b → Rose b c → Rose a c
+Rose-from a b c le rose = omega arith
+
+-- and it rose until later
+pub Rose-until : (a b c : ℕ) → Rose a b → b ≤ c → Rose a c
+Rose-until a b c rose le = omega arith
+
+-- a prefix of a longer text
+pub takes-more : (old new bytes more : List ℕ) → TakesFront old new bytes → TakesFront old new (bytes ++ more)
+takes-more old new bytes more (n, short, is) =
+    let long = length-append bytes more in
+    (n, omega (arith, short, long), is ∙ ap (λ (xs : List ℕ). old ++ xs) (sym (take-append-le n bytes more short)))
+
+-- a prefix of what comes after what was taken
+pub takes-after : (old mid new given bytes : List ℕ) → mid ≡ old ++ given → TakesFront mid new bytes → TakesFront old new (given ++ bytes)
+takes-after old mid new given bytes at (n, short, is) =
+    let long = length-append given bytes in (
+      length given + n,
+      omega (arith, short, long),
+      is ∙ ap (λ (xs : List ℕ). xs ++ take n bytes) at ∙ append_assoc old given (take n bytes) ∙ ap (λ (xs : List ℕ). old ++ xs) (sym (take-append-add given bytes n)),
+    )
+
+pub delivers-after : (turn : Turn) (old mid new given bytes : List ℕ) → mid ≡ old ++ given → Delivers turn mid new bytes → Delivers turn old new (given ++ bytes)
+delivers-after Go old mid new given bytes at is = is ∙ ap (λ (xs : List ℕ). xs ++ bytes) at ∙ append_assoc old given bytes
+delivers-after Quit old mid new given bytes at is = is ∙ ap (λ (xs : List ℕ). xs ++ bytes) at ∙ append_assoc old given bytes
+delivers-after SinkFault old mid new given bytes at is = takes-after old mid new given bytes at is
+
+module _ {K : Type 0} {sink : Ghosts K} {line old new : List ℕ} {before mid after : K} where
+  -- a line was gathered, and then all was given
+  pub adds-gives : Adds sink line old new before mid Go → (turn : Turn) → Gives sink new mid after turn → Gives sink (old ++ line) before after turn
+  adds-gives adds turn gives = record {
+    delivers = λ told.
+        let had = adds.gathers told in
+        subst (λ (bytes : List ℕ). Delivers turn (sink.taken before) (sink.taken after) bytes) had.2
+        (delivers-after turn (sink.taken before) (sink.taken mid) (sink.taken after) had.0 new had.1 (gives.delivers told));
+    goes = gives.goes;
+    cause = λ is. Rose-from (sink.faults before) (sink.faults mid) (sink.faults after) adds.later (gives.cause is);
+    later = let first = adds.later in let second = gives.later in omega (arith, first, second);
+  }

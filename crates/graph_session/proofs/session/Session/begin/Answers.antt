@@ -1,0 +1,9 @@
+use Rattle.std.proofs.Common.{sym}
+use Rattle.graph_session.proofs.Moves.{began}
+use Rattle.graph_session.proofs.session.Session.begin.Goals as goal
+
+pub returns-clause-settles : goal.returns-clause-settles
+returns-clause-settles g c =
+    let s = c.args.self.now in
+    began g.met.D.Disk.only_now s.store c.begin.new.self c.begin.ensures.same c.begin.ensures.draft c.begin.ensures.own s.health c.requires.live s.weight s.names.names (sym c.if-in_transaction.ensures.is)
+    c.begin.ensures.in_transaction

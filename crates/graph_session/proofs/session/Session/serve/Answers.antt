@@ -1,0 +1,15 @@
+use Rattle.std.proofs.Common.{List, ℕ, inl, inr, subst}
+use Rattle.graph_session.specs.Answering.{reply_of}
+use Rattle.graph_session.specs.Settling.{IsLoud}
+use Rattle.graph_session.proofs.Dispatch.{answers-failed, answers-settled, loud-not_mute, loud-not_reopen}
+use Rattle.graph_session.proofs.session.Session.serve.Goals as goal
+
+pub returns-in-Failed-clause-answers : goal.returns-in-Failed-clause-answers
+returns-in-Failed-clause-answers g c = λ line only.
+    answers-failed g.D.Disk g.met.D.Disk.only_now g.K.Sink only c.in-Failed.is (loud-not_mute c.args.command.now c.requires.loud) (loud-not_reopen c.args.command.now c.requires.loud) c.give_answer.ensures
+
+pub returns-in_default : goal.returns-in_default
+returns-in_default g c = record {
+  answers = λ line only. answers-settled only (reply_of c.settle-answer.result) (λ e. subst IsLoud e c.requires.loud) (inl c.in-Live.is) c.settle-answer.ensures.settles c.give_answer-in_default.ensures;
+  same_disk = c.settle-answer.ensures.same_disk;
+}

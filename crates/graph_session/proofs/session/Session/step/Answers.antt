@@ -1,0 +1,12 @@
+use Rattle.std.proofs.Common.{Err, ap, rules}
+use Rattle.graph_session.proofs.Dispatch.{answers-fault}
+use Rattle.graph_session.proofs.session.Session.step.Goals as goal
+
+pub returns-in-Ok-clause-answers : goal.returns-in-Ok-clause-answers
+returns-in-Ok-clause-answers g c =
+    c.answer.ensures.answers c.args.line.now (record { spelled = c.in-Ok.ensures.spelled; only = c.in-Ok.ensures.only; no_fault = c.in-Ok.ensures.no_fault })
+
+pub returns-in-Err-clause-answers : goal.returns-in-Err-clause-answers
+returns-in-Err-clause-answers g c =
+    answers-fault g.D.Disk g.met.D.Disk.only_now g.K.Sink c.args.line.now c.in-Err.fault c.in-Err.ensures.fault c.in-Err.ensures.none (λ e. c.in-Err.ensures.memory (ap Err e))
+    (rw c.answer_of.ensures at c.give_answer.ensures)

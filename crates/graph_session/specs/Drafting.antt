@@ -1,0 +1,187 @@
+-- What the steps of a change say: its draft, and what becomes of that.
+use Rattle.std.specs.Prelude.{◌≡◌, ◌⊎◌, ℕ, ◌+◌, ◌<◌, ◌≤◌, IsTrue, false, Result, Ok, Err, List, [], ◌∷◌, ◌++◌, take}
+use Rattle.fault_count.specs.Cause.{Rose}
+use Rattle.disk_model.specs.Spans.{AtEachMoment}
+use Rattle.disk_model.specs.declared.disk.Disk.{Ghosts}
+use Rattle.stream_io.specs.Lines.{Whole}
+use Rattle.plain_graph.specs.Changes.{Changes, Weighs, most_weight}
+use Rattle.plain_graph.specs.declared.command.Command.{Command}
+use Rattle.plain_graph.specs.declared.refusal.Refusal.{Refusal}
+use Rattle.plain_graph.specs.declared.refusal.Refusal.TheVariants as refusals
+use Rattle.rec_bytes.specs.declared.key.Key.{Key}
+use Rattle.rec_bytes.specs.declared.record.Rec.{Rec}
+use Rattle.rec_bytes.specs.Space.{State as Space}
+use Rattle.record_file.specs.Redone.{Redoes}
+use Rattle.txn_core.specs.Base.{OnlyReadsBase, SameBeneath, SameStore}
+use Rattle.txn_core.specs.Kept.{IsOnDisk}
+use Rattle.txn_core.specs.Store.{committed, drafted, state_of, working}
+use Rattle.graph_ops.specs.Store.{IsStore, graph_in}
+use Rattle.graph_ops.specs.declared.change_fault.ChangeFault.{ChangeFault}
+use Rattle.graph_ops.specs.declared.change_fault.ChangeFault.TheVariants as faults
+use Rattle.graph_session.specs.Answering.{reply_of}
+use Rattle.graph_session.specs.Refusals.{IsReached, IsRefused, NoneHolds, SpellsOnly, names_full, no_node, nodes_full}
+use Rattle.graph_session.specs.State.{State, seen}
+use Rattle.graph_session.specs.declared.answer.Answer.{Answer}
+use Rattle.graph_session.specs.declared.answer.Answer.TheVariants as answers
+use Rattle.graph_session.specs.declared.changing.Drafted.{Drafted}
+use Rattle.graph_session.specs.declared.health.Health.TheVariants as healths
+use Rattle.graph_session.specs.declared.session.Session.{Session}
+
+-- the answer of a change that is refused
+abbrev pub answer_for : ChangeFault → Answer
+answer_for (faults.NoNode id) = answers.Refused (refusals.NoNode id)
+answer_for (faults.HasRelationships id degree) = answers.Refused (refusals.HasRelationships id)
+answer_for (faults.Full file live) = answers.Refused refusals.FullNodes
+answer_for (faults.NamesFull count) = answers.Refused refusals.FullNames
+answer_for faults.Memory = answers.NoMemory
+answer_for faults.Disk = answers.DiskFailed
+answer_for (faults.Damaged damage) = answers.Damaged damage
+
+-- the answer of a change that is made
+abbrev pub TellsChange : Answer → Type 0
+TellsChange answers.Done = Unit {0}
+TellsChange (answers.NodeMade id) = Unit {0}
+TellsChange (answers.Counted counts) = ⊥
+TellsChange (answers.Refused why) = ⊥
+TellsChange answers.NoMemory = ⊥
+TellsChange answers.DiskFailed = ⊥
+TellsChange (answers.Damaged damage) = ⊥
+
+-- The graph that a line sees at this state is that of the space.
+pub record Sees (space : Space) (state : State) : Type 0 where
+  pub shape : state.shape ≡ space.shape
+  pub graph : seen state ≡ graph_in space
+
+-- no condition but the weight refuses a line of the command
+abbrev pub IsFree : Command → Space → Type 0
+IsFree command space = (state : State) (line : List ℕ) → SpellsOnly line command
+    → Sees space state → NoneHolds (nodes_full ∷ names_full ∷ no_node ∷ []) state (Whole line)
+
+-- a line of the command is refused so
+abbrev pub Refuses : Command → Space → Refusal → Type 0
+Refuses command space why = (state : State) (line : List ℕ) → SpellsOnly line command
+    → Sees space state → IsReached state (Whole line) → IsRefused state (Whole line) why
+
+module _ {D : Type 0} {g : Ghosts D} where
+  -- the records with the draft are a well-formed store, whose names are those in memory
+  abbrev pub HasStore : Session D g → Type 0
+  HasStore session = IsStore (state_of session.store) session.names.names
+
+  -- Nothing but the draft changed, and the names grew, over a disk that was only read.
+  pub record OnlyDrafts (old new : Session D g) : Type 0 where
+    pub base : OnlyReadsBase old.store.base new.store.base
+    pub weight : new.weight ≡ old.weight
+    pub health : new.health ≡ old.health
+    pub brought : (rest : List (List ℕ)) × (new.names.names ≡ old.names.names ++ rest)
+    pub later : g.faults old.store.base.disk.now ≤ g.faults new.store.base.disk.now
+
+  -- The draft has the change of this command, which gets this reply.
+  pub record HasDraft (command : Command) (old new : Session D g) (made : Drafted) : Type 0 where
+    pub store : HasStore new
+    pub changes : Changes old.store.base.shape.limit (graph_in (state_of old.store)) command
+        (reply_of made.answer) (graph_in (state_of new.store))
+    pub weighs : Weighs (graph_in (state_of old.store)) command made.weight
+    pub free : IsFree command (state_of old.store)
+
+  -- why no change was drafted, over the disk as it is then
+  abbrev pub IsStopped : Command → Session D g → D → Answer → Type 0
+  IsStopped command old now answers.Done = ⊥
+  IsStopped command old now (answers.NodeMade id) = ⊥
+  IsStopped command old now (answers.Counted counts) = ⊥
+  IsStopped command old now (answers.Refused why) = g.tells_reads → HasStore old
+      → Refuses command (state_of old.store) why
+  IsStopped command old now answers.NoMemory = Unit {0}
+  IsStopped command old now answers.DiskFailed =
+      Rose (g.faults old.store.base.disk.now) (g.faults now)
+  IsStopped command old now (answers.Damaged damage) = g.tells_reads → HasStore old → ⊥
+
+  -- what came of drafting
+  abbrev pub Drafts : Command → Session D g → Session D g → Result Drafted Answer → Type 0
+  Drafts command old new (Ok made) = TellsChange made.answer
+      × (g.tells_reads → HasStore old → HasDraft command old new made)
+  Drafts command old new (Err why) = IsStopped command old new.store.base.disk.now why
+
+  -- The draft was dropped, and the names cut back to so many. The transaction is as it was.
+  pub record Discards (count : ℕ) (old new : Session D g) : Type 0 where
+    pub beneath : SameBeneath old.store.base new.store.base
+    pub own : new.store.base.own.pairs ≡ old.store.base.own.pairs
+    pub in_transaction : new.store.base.in_transaction ≡ old.store.base.in_transaction
+    pub draft : new.store.draft.pairs ≡ []
+    pub names : new.names.names ≡ take count old.names.names
+    pub weight : new.weight ≡ old.weight
+    pub health : new.health ≡ old.health
+
+  -- The transaction has the draft.
+  pub record KeepsDraft (more : ℕ) (old new : Session D g) : Type 0 where
+    pub fits : old.weight + more ≤ most_weight
+    pub beneath : SameBeneath old.store.base new.store.base
+    pub in_transaction : new.store.base.in_transaction ≡ old.store.base.in_transaction
+    pub working : working new.store ≡ drafted old.store
+    pub draft : new.store.draft.pairs ≡ []
+    pub names : new.names.names ≡ old.names.names
+    pub weight : new.weight ≡ old.weight + more
+    pub health : new.health ≡ old.health
+
+  -- why the draft is not kept
+  abbrev pub IsUnkept : ℕ → Session D g → Answer → Type 0
+  IsUnkept weight old answer =
+      ((answer ≡ answers.Refused refusals.TransactionFull) × (most_weight < old.weight + weight))
+      ⊎ (answer ≡ answers.NoMemory)
+
+  -- what becomes of a draft in an open transaction
+  abbrev pub Finishes : Result Drafted Answer → ℕ → Session D g → Session D g → Answer → Type 0
+  Finishes (Ok made) count old new answer =
+      ((answer ≡ made.answer) × KeepsDraft made.weight old new)
+      ⊎ (IsUnkept made.weight old answer × Discards count old new)
+  Finishes (Err why) count old new answer = (answer ≡ why) × Discards count old new
+
+  -- No transaction is open any more, over the same store.
+  pub record Closes (old new : Session D g) : Type 0 where
+    pub same : SameStore old.store.base new.store.base
+    pub in_transaction : new.store.base.in_transaction ≡ false
+    pub own : new.store.base.own.pairs ≡ []
+    pub draft : new.store.draft.pairs ≡ []
+
+  -- These records are committed.
+  pub record CommitsRecords (now : Key → Rec) (old new : Session D g) : Type 0 where
+    pub closes : Closes old new
+    pub health : new.health ≡ old.health
+    pub live : IsTrue new.store.base.live
+    pub names : new.names.names ≡ old.names.names
+    pub committed : g.tells_reads → committed new.store ≡ now
+    pub stored : IsOnDisk g new.store.base.disk.now (λ left. Redoes left now)
+
+  -- The disk failed, and has what was committed, or these records.
+  pub record DoubtsRecords (now : Key → Rec) (old new : Session D g) : Type 0 where
+    pub closes : Closes old new
+    pub health : new.health ≡ healths.Failed
+    pub names : new.names.names ≡ old.names.names
+    pub stored : IsOnDisk g new.store.base.disk.now
+        (λ left. Redoes left (committed old.store) ⊎ Redoes left now)
+    pub rose : Rose (g.faults old.store.base.disk.now) (g.faults new.store.base.disk.now)
+
+  -- A commit was tried. At each moment of it a crash leaves what was committed, or these records.
+  pub record TriesCommit (now : Key → Rec) (old new : Session D g) (made answer : Answer)
+      : Type 0 where
+    pub crash : g.tells_reads → g.tells_images
+        → AtEachMoment g old.store.base.disk.now new.store.base.disk.now
+        (λ left. Redoes left (committed old.store) ⊎ Redoes left now)
+    pub later : g.faults old.store.base.disk.now ≤ g.faults new.store.base.disk.now
+    pub ends : ((answer ≡ made) × CommitsRecords now old new)
+        ⊎ ((answer ≡ answers.DiskFailed) × DoubtsRecords now old new)
+
+  -- The change was dropped with the names that it brought. Where the disk is blamed, the session
+  -- is failed.
+  pub record DropsAlone (count : ℕ) (old new : Session D g) (answer : Answer) : Type 0 where
+    pub beneath : SameBeneath old.store.base new.store.base
+    pub closes : Closes old new
+    pub names : new.names.names ≡ take count old.names.names
+    pub failed : answer ≡ answers.DiskFailed → new.health ≡ healths.Failed
+    pub healthy : ¬ (answer ≡ answers.DiskFailed) → new.health ≡ old.health
+
+  -- what becomes of a draft that is a transaction by itself
+  abbrev pub FinishesAlone : Result Drafted Answer → ℕ → Session D g → Session D g → Answer → Type 0
+  FinishesAlone (Ok made) count old new answer =
+      TriesCommit (drafted old.store) old new made.answer answer
+      ⊎ ((answer ≡ answers.NoMemory) × DropsAlone count old new answer)
+  FinishesAlone (Err why) count old new answer = (answer ≡ why) × DropsAlone count old new answer

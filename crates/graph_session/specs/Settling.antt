@@ -1,0 +1,65 @@
+-- What a call says that settles a line of a command.
+use Rattle.std.specs.Prelude.{◌≡◌, ◌⊎◌, ◌≤◌, ℕ, List}
+use Rattle.disk_model.specs.declared.disk.Disk.{Ghosts}
+use Rattle.stream_io.specs.declared.streams.Sink.{Ghosts as SinkGhosts}
+use Rattle.stream_io.specs.Lines.{Whole}
+use Rattle.plain_graph.specs.Names.{IsShortName}
+use Rattle.plain_graph.specs.Reply.{Reply}
+use Rattle.plain_graph.specs.declared.command.Command.{Command}
+use Rattle.plain_graph.specs.declared.command.Command.TheVariants as commands
+use Rattle.plain_graph.specs.declared.refusal.Refusal.TheVariants as refusals
+use Rattle.gremlin_parse.specs.declared.line_fault.LineFault.{LineFault}
+use Rattle.gremlin_parse.specs.declared.line_fault.LineFault.TheVariants as faults
+use Rattle.graph_session.specs.declared.answer.Answer.{Answer}
+use Rattle.graph_session.specs.declared.answer.Answer.TheVariants as answers
+use Rattle.graph_session.specs.Answer.{Answers, Settles, Terminal}
+use Rattle.graph_session.specs.Console.{ConsoleView, IsAt, Onward, SessionView}
+use Rattle.graph_session.specs.Refusals.{SpellsOnly}
+use Rattle.graph_session.specs.State.{State}
+use Rattle.graph_session.specs.declared.health.Health.TheVariants as healths
+use Rattle.graph_session.specs.declared.turn.Turn.{Turn}
+use Rattle.graph_session.specs.declared.turn.Turn.TheVariants.{SinkFault}
+use Rattle.fault_count.specs.Cause.{Rose}
+
+-- a console that the disk has failed serves `reopen` alone
+abbrev pub IsServed : ConsoleView → Command → Type 0
+IsServed console command = (console.health ≡ healths.Live) ⊎ (command ≡ commands.Reopen)
+
+-- the answer of a line that spells no command
+abbrev pub told_of : LineFault → Answer
+told_of faults.Memory = answers.NoMemory
+told_of (faults.Syntax at) = answers.Refused (refusals.Syntax at)
+told_of (faults.NameLength at) = answers.Refused (refusals.NameLength at)
+told_of (faults.NumberRange at) = answers.Refused (refusals.NumberRange at)
+
+-- the label of a new node is a name
+abbrev pub HasName : Command → Type 0
+HasName (commands.Node label) = IsShortName label
+HasName _ = Unit {0}
+
+-- a command that gets a reply, and only of a live session another than a refusal
+abbrev pub IsLoud : Command → Type 0
+IsLoud commands.Blank = ⊥
+IsLoud commands.Quit = ⊥
+IsLoud commands.Reopen = ⊥
+IsLoud _ = Unit {0}
+
+-- a command without results that only a live session carries out
+abbrev pub IsPlain : Command → Type 0
+IsPlain commands.Blank = ⊥
+IsPlain commands.Quit = ⊥
+IsPlain commands.Reopen = ⊥
+IsPlain (commands.Query query) = ⊥
+IsPlain _ = Unit {0}
+
+-- A session settles each line that spells just this command, from each state that it is at.
+pub record SettlesCommand {D : Type 0} (g : Ghosts D) (command : Command) (old new : SessionView D) (reply : Reply) : Type 0 where
+  pub settles : (line : List ℕ) (state : State) → SpellsOnly line command → IsServed old.console command → IsAt g old state → Settles g (Whole line) old new state reply
+  pub onward : Onward g old new
+
+-- A session answers each line that spells just this command, from each state that it is at.
+pub record AnswersCommand {D K : Type 0} (g : Ghosts D) (sink : SinkGhosts K) (command : Command) (old new : Terminal D K) (turn : Turn) : Type 0 where
+  pub answers : (line : List ℕ) (state : State) → SpellsOnly line command → IsServed old.session.console command → IsAt g old.session state → Answers g sink (Whole line) old new turn state
+  pub cause : turn ≡ SinkFault → Rose (sink.faults old.output) (sink.faults new.output)
+  pub later : sink.faults old.output ≤ sink.faults new.output
+  pub onward : Onward g old.session new.session

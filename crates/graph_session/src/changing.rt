@@ -1,0 +1,215 @@
+ghost use Rattle.std.specs.Prelude.{◌≡◌, IfErr, IsTrue, OnErr, OnOk};
+ghost use Rattle.plain_graph.specs.declared.command.Command.TheVariants as commands;
+ghost use Rattle.plain_graph.specs.declared.command.Target.TheVariants as targets;
+ghost use Rattle.plain_graph.specs.Names.{IsShortName};
+ghost use Rattle.graph_session.specs.Answering.{reply_of};
+ghost use Rattle.graph_session.specs.Drafting.{answer_for};
+ghost use Rattle.graph_session.specs.Settling.{SettlesCommand};
+ghost use Rattle.graph_session.specs.declared.health.Health.TheVariants as healths;
+
+use crate::answer::Answer;
+use crate::{Health, Session};
+use disk_model::Disk;
+use fault_count::Failed;
+use graph_ops::{Added, ChangeFault, add_node, delete_node};
+use plain_graph::{Refusal, Text};
+
+/// What a transaction may weigh. A change's weight bounds the records that it writes.
+const MOST_WEIGHT: u32 = 2_048;
+
+/// A change that stands in the store's draft: its answer, and what it weighs.
+#[derive(Clone, Copy, Debug)]
+struct Drafted {
+    answer: Answer,
+    weight: u32,
+}
+
+impl<'d, D: Disk> Session<'d, D> {
+    ghost use Rattle.txn_core.specs.Store.{working};
+    ghost use Rattle.graph_session.specs.Drafting.{
+      Discards,
+      Drafts,
+      DropsAlone,
+      Finishes,
+      FinishesAlone,
+      IsUnkept,
+      KeepsDraft,
+      OnlyDrafts,
+      TriesCommit,
+    };
+    ghost use Rattle.graph_session.specs.Session.{HaveSameDisk, view};
+
+    /// Makes a node with this label.
+    pub(crate) fn make_node(&mut self, label: &Text) -> Answer
+        requires named { IsShortName label.now }
+        requires live { self.old.health ≡ healths.Live }
+        ensures settles { SettlesCommand D.Disk (commands.Node label.now)
+            (view self.old) (view self.new) (reply_of result) }
+        ensures same_disk { HaveSameDisk self.old self.new }
+    {
+        let names = self.names.count();
+        if self.store.in_transaction() {
+            let drafted = self.draft_node(label);
+            return self.finish(drafted, names);
+        }
+        self.store.begin();
+        let drafted = self.draft_node(label);
+        self.finish_alone(drafted, names)
+    }
+
+    /// Deletes the node of this identifier.
+    pub(crate) fn remove_node(&mut self, id: u32) -> Answer
+        requires live { self.old.health ≡ healths.Live }
+        ensures settles { SettlesCommand D.Disk (commands.Delete (targets.Node id))
+            (view self.old) (view self.new) (reply_of result) }
+        ensures same_disk { HaveSameDisk self.old self.new }
+    {
+        let names = self.names.count();
+        if self.store.in_transaction() {
+            let drafted = self.draft_deletion(id);
+            return self.finish(drafted, names);
+        }
+        self.store.begin();
+        let drafted = self.draft_deletion(id);
+        self.finish_alone(drafted, names)
+    }
+
+    // A new node in the draft.
+    fn draft_node(&mut self, label: &Text) -> Result<Drafted, Answer>
+        requires { IsShortName label.now }
+        ensures only { OnlyDrafts self.old self.new }
+        ensures drafts { Drafts (commands.Node label.now) self.old self.new result }
+    {
+        match add_node(&mut self.store, &mut self.names, label) {
+            Ok(Added { id, weight }) => Ok(Drafted {
+                answer: Answer::NodeMade(id),
+                weight,
+            }),
+            Err(fault) => Err(answer_of(fault)),
+        }
+    }
+
+    // A deletion in the draft.
+    fn draft_deletion(&mut self, id: u32) -> Result<Drafted, Answer>
+        ensures only { OnlyDrafts self.old self.new }
+        ensures drafts { Drafts (commands.Delete (targets.Node id)) self.old self.new result }
+    {
+        match delete_node(&mut self.store, &self.names, id) {
+            Ok(weight) => Ok(Drafted {
+                answer: Answer::Done,
+                weight,
+            }),
+            Err(fault) => Err(answer_of(fault)),
+        }
+    }
+
+    // Takes a drafted change into the open transaction, or drops it with the names that it brought.
+    fn finish(&mut self, drafted: Result<Drafted, Answer>, names: u32) -> Answer
+        requires { IsTrue self.old.store.base.in_transaction }
+        ensures { Finishes drafted names self.old self.new result }
+    {
+        match drafted {
+            Ok(Drafted { answer, weight }) => match self.keep_draft(weight, names) {
+                Ok(()) => answer,
+                Err(refusal) => refusal,
+            },
+            Err(answer) => {
+                self.drop_draft(names);
+                answer
+            }
+        }
+    }
+
+    // Takes the draft into the open transaction where that has room for its weight, and else
+    // drops it.
+    fn keep_draft(&mut self, weight: u32, names: u32) -> Result<(), Answer>
+        requires { IsTrue self.old.store.base.in_transaction }
+        ensures kept { OnOk result (KeepsDraft weight self.old self.new) }
+        ensures unkept { IfErr result (IsUnkept weight self.old) }
+        ensures dropped { OnErr result (Discards names self.old self.new) }
+    {
+        if weight > MOST_WEIGHT - self.weight {
+            self.drop_draft(names);
+            return Err(Answer::Refused(Refusal::TransactionFull));
+        }
+        match self.store.keep() {
+            Ok(()) => {
+                self.weight += weight;
+                Ok(())
+            }
+            Err(_) => {
+                self.drop_draft(names);
+                Err(Answer::NoMemory)
+            }
+        }
+    }
+
+    // Drops the draft with the names that it brought.
+    fn drop_draft(&mut self, names: u32)
+        ensures { Discards names self.old self.new }
+    {
+        self.store.discard();
+        self.names.cut(names);
+    }
+
+    // Commits a drafted change that is a transaction by itself.
+    fn finish_alone(&mut self, drafted: Result<Drafted, Answer>, names: u32) -> Answer
+        requires opened { IsTrue self.old.store.base.in_transaction }
+        requires live { IsTrue self.old.store.base.live }
+        ensures { FinishesAlone drafted names self.old self.new result }
+    {
+        match drafted {
+            Ok(Drafted { answer, .. }) => match self.store.keep() {
+                Ok(()) => self.commit_alone(answer),
+                Err(_) => self.drop_alone(Answer::NoMemory, names),
+            },
+            Err(answer) => self.drop_alone(answer, names),
+        }
+    }
+
+    // Commits the change, or leaves open whether it is on the disk.
+    fn commit_alone(&mut self, answer: Answer) -> Answer
+        requires opened { IsTrue self.old.store.base.in_transaction }
+        requires live { IsTrue self.old.store.base.live }
+        ensures { TriesCommit (working self.old.store) self.old self.new answer result }
+    {
+        match self.store.commit() {
+            Ok(()) => answer,
+            Err(Failed) => {
+                self.health = Health::Failed;
+                Answer::DiskFailed
+            }
+        }
+    }
+
+    // Drops the change. Where the disk failed in it, the session is failed.
+    fn drop_alone(&mut self, answer: Answer, names: u32) -> Answer
+        requires { IsTrue self.old.store.base.in_transaction }
+        ensures answer { result ≡ answer }
+        ensures drops { DropsAlone names self.old self.new answer }
+    {
+        self.drop_draft(names);
+        self.store.rollback();
+        if matches!(answer, Answer::DiskFailed) {
+            self.health = Health::Failed;
+        }
+        answer
+    }
+}
+
+// The answer of a change that is refused.
+fn answer_of(fault: ChangeFault) -> Answer
+    ensures { result ≡ answer_for fault }
+{
+    match fault {
+        ChangeFault::NoNode { id } => Answer::Refused(Refusal::NoNode { id }),
+        ChangeFault::Full { .. } => Answer::Refused(Refusal::FullNodes),
+        ChangeFault::NamesFull { .. } => Answer::Refused(Refusal::FullNames),
+        ChangeFault::Memory => Answer::NoMemory,
+        ChangeFault::Disk => Answer::DiskFailed,
+        ChangeFault::HasRelationships { id, .. } => {
+            Answer::Refused(Refusal::HasRelationships { id })
+        }
+        ChangeFault::Damaged(damage) => Answer::Damaged(damage),
+    }
+}

@@ -1,0 +1,60 @@
+ghost use Rattle.std.specs.Prelude.{◌≡◌, IfErr, IfOk, true};
+ghost use Rattle.rec_bytes.specs.Shape.{is_allowed};
+ghost use Rattle.txn_core.specs.Config.{shape_of};
+ghost use Rattle.graph_session.specs.Opening.{IsUnopened, Opens, unloaded};
+
+use crate::{Health, NotOpened, Session};
+use disk_model::Disk;
+use name_store::{Fault, load};
+use std::alloc::Global;
+use txn_core::{Config, OpenFault, Store};
+
+impl<'d, D: Disk> Session<'d, D> {
+    ghost use Rattle.graph_session.specs.Session.{view};
+
+    /// Opens the store of the disk, or makes one where there is none, and reads its names. Where it
+    /// can't, the disk is handed back with the reason.
+    pub fn open(
+        alloc: Global,
+        disk: &'d mut D,
+        config: Config,
+    ) -> Result<Session<'d, D>, NotOpened<'d, D>>
+        requires { is_allowed (shape_of config) ≡ true }
+        ensures opened { IfOk result (λ session. Opens D.Disk config disk.old (view session)) }
+        ensures unopened { IfErr result (λ refusal.
+            IsUnopened D.Disk config disk.old refusal.disk.now refusal.why) }
+        ensures same_disk { IfOk result (λ session.
+            session.store.base.disk.ghost_name ≡ disk.entry.ghost_name) }
+        ensures handed_back { IfErr result (λ refusal.
+            refusal.disk.ghost_name ≡ disk.entry.ghost_name) }
+    {
+        let mut store = match Store::open(alloc, disk, config) {
+            Ok(store) => store,
+            Err(refusal) => return Err(refusal),
+        };
+        match load(alloc, &mut store) {
+            Ok(names) => Ok(Session {
+                store,
+                names,
+                weight: 0,
+                health: Health::Live,
+                alloc,
+            }),
+            Err(fault) => Err(NotOpened {
+                why: why_of(fault),
+                disk: store.close(),
+            }),
+        }
+    }
+}
+
+// Why a store is not served whose names are not loaded.
+fn why_of(fault: Fault) -> OpenFault
+    ensures { result ≡ unloaded fault }
+{
+    match fault {
+        Fault::Memory => OpenFault::Memory,
+        Fault::Disk => OpenFault::Disk,
+        Fault::Damaged(damage) => OpenFault::Damaged(damage),
+    }
+}

@@ -1,0 +1,66 @@
+ghost use Rattle.std.specs.Prelude.{◌≡◌};
+ghost use Rattle.stream_io.specs.Lines.{Whole};
+ghost use Rattle.plain_graph.specs.declared.command.Command.TheVariants as commands;
+ghost use Rattle.graph_session.specs.Answering.{reply_of};
+ghost use Rattle.graph_session.specs.Settling.{SettlesCommand};
+ghost use Rattle.graph_session.specs.declared.health.Health.TheVariants as healths;
+
+use crate::answer::Answer;
+use crate::{Health, Session};
+use disk_model::Disk;
+use fault_count::Failed;
+use plain_graph::Refusal;
+use rec_bytes::{NAMES, Reads};
+
+/// What a transaction weighs before its first change: the meta records of the files.
+const LEAST_WEIGHT: u32 = 6;
+
+impl<'d, D: Disk> Session<'d, D> {
+    ghost use Rattle.graph_session.specs.Session.{HaveSameDisk, view};
+
+    /// Begins a transaction. It makes no call of the disk.
+    pub(crate) fn begin(&mut self) -> Answer
+        requires live { self.old.health ≡ healths.Live }
+        ensures settles { SettlesCommand D.Disk commands.Begin (view self.old) (view self.new) (reply_of result) }
+        ensures same_disk { HaveSameDisk self.old self.new }
+    {
+        if self.store.in_transaction() {
+            return Answer::Refused(Refusal::TransactionOpen);
+        }
+        self.store.begin();
+        self.weight = LEAST_WEIGHT;
+        Answer::Done
+    }
+
+    /// Commits the open transaction, or leaves open whether it is on the disk.
+    pub(crate) fn commit(&mut self) -> Answer
+        requires live { self.old.health ≡ healths.Live }
+        ensures settles { SettlesCommand D.Disk commands.Commit (view self.old) (view self.new) (reply_of result) }
+        ensures same_disk { HaveSameDisk self.old self.new }
+    {
+        if !self.store.in_transaction() {
+            return Answer::Refused(Refusal::NoTransaction);
+        }
+        match self.store.commit() {
+            Ok(()) => Answer::Done,
+            Err(Failed) => {
+                self.health = Health::Failed;
+                Answer::DiskFailed
+            }
+        }
+    }
+
+    /// Drops the open transaction, with the names that it brought. It makes no call of the disk.
+    pub(crate) fn rollback(&mut self) -> Answer
+        requires live { self.old.health ≡ healths.Live }
+        ensures settles { SettlesCommand D.Disk commands.Rollback (view self.old) (view self.new) (reply_of result) }
+        ensures same_disk { HaveSameDisk self.old self.new }
+    {
+        if !self.store.in_transaction() {
+            return Answer::Refused(Refusal::NoTransaction);
+        }
+        self.store.rollback();
+        self.names.cut(self.store.meta(NAMES).high);
+        Answer::Done
+    }
+}

@@ -1,0 +1,280 @@
+-- Where reading stops in a production, from what is left to the whole, for every fault at once.
+use Rattle.std.proofs.Common.{◌≡◌, ◌≢◌, ◌≤◌, ◌+◌, inl, inr, ℕ, nat_eq, cond, Bool, true, false, ◌&&◌, Some, List, [], ◌∷◌, ◌++◌, length, codes, refl, sym, ap, ◌∙◌, subst, ⊎_elim, append_assoc, length-append, arith}
+use Rattle.std.specs.List.{AllByRecursion}
+use Rattle.std.specs.Cmp.Lexicographic.{pointwise, other_text}
+use Rattle.std.proofs.lemmas.Bool.{cases_Bool}
+use Rattle.plain_graph.specs.Names.{IsName}
+use Rattle.gremlin_parse.specs.Grammar.{Gap, Exactly, Name, Number, AreBlanks, is_blank}
+use Rattle.gremlin_parse.specs.Faults.{EndsRun, IsOutOfBounds}
+use Rattle.gremlin_parse.specs.Reading.{StopsBefore, Then, StartsName, StartsNumber}
+use Rattle.gremlin_parse.specs.Keywords.{Entry, InTable, lookup, ThenWord, plain}
+use Rattle.gremlin_parse.specs.Symbols.{Symbol, AnyBlanks, AnyGap, Sign, OneWord, AnyName, AnyNumber, Value, Values, part, Allows, Takes, Reads, ReadsAll, IsBad, LeavesAt, Leaves, LeavesOne, Follows, BadFollows}
+use Rattle.gremlin_parse.specs.Stopping.{Bads, IsStop}
+use Rattle.gremlin_parse.specs.declared.bad_token.BadToken.{BadToken}
+use Rattle.gremlin_parse.specs.declared.stop.Stop.{Stop}
+use Rattle.gremlin_parse.specs.declared.stop.Stop.TheVariants as stops
+use Rattle.gremlin_parse.proofs.Runs.{both, Halts, EndsRun-first_byte}
+use Rattle.gremlin_parse.proofs.Stops.{Continues, stops_after, stops_here, stops_in_word, stops_of_same}
+use Rattle.gremlin_parse.proofs.Differing.{LeavesWord-refuses}
+use Rattle.gremlin_parse.proofs.Names.{name_starts, StartsName-first_byte}
+use Rattle.gremlin_parse.proofs.Decimals.{number_starts, StartsNumber-first_byte}
+use Rattle.gremlin_parse.proofs.Tables.{IsWordTable, is_word, stops_in_table, no_word}
+use Rattle.gremlin_parse.proofs.Symbols.{Class, passes, class_of, are_keywords, is_symbol, halts, takes_unique, takes_again, after_symbol, part_halts, bad_halts, not_bad, example}
+
+-- ---- productions
+
+-- Each symbol is ended by what follows it.
+abbrev pub is_production : List Symbol → Bool
+is_production [] = true
+is_production (symbol ∷ symbols) = is_symbol symbol && (halts (class_of symbol) symbols && is_production symbols)
+
+pub record IsProduction (symbol : Symbol) (symbols : List Symbol) : Type 0 where
+  pub head : is_symbol symbol ≡ true
+  pub ended : halts (class_of symbol) symbols ≡ true
+  pub later : is_production symbols ≡ true
+
+pub split : (symbol : Symbol) (symbols : List Symbol) → is_production (symbol ∷ symbols) ≡ true → IsProduction symbol symbols
+split symbol symbols is =
+    let one = both (is_symbol symbol) (halts (class_of symbol) symbols && is_production symbols) is in
+    let two = both (halts (class_of symbol) symbols) (is_production symbols) one.1 in
+    record { head = one.0; ended = two.0; later = two.1 }
+
+abbrev pub HaltsAll : (List ℕ → Type 0) → Type 0
+HaltsAll Language = (class : Class) → Halts (passes class) Language
+
+abbrev pub AreWithin : Bads → Type 0
+AreWithin Bad = (kind : BadToken) (place : ℕ) (bytes : List ℕ) → Bad kind place bytes → place ≤ length bytes
+
+-- What may stand after the last symbol of any production.
+pub record Closes (Last : List ℕ → Type 0) (Bad : Bads) : Type 0 where
+  pub ends : HaltsAll Last
+  pub bads_end : (kind : BadToken) (left : ℕ) → HaltsAll (Bad kind left)
+  pub within : AreWithin Bad
+  pub line : List ℕ
+  pub some : Last line
+
+pub follows_halts : (class : Class) (symbols : List Symbol) → halts class symbols ≡ true → (Last : Values symbols → List ℕ → Type 0) → ((values : Values symbols) → HaltsAll (Last values)) → Halts (passes class) (Follows symbols Last)
+follows_halts class [] is Last last = λ bytes at. last tt class bytes at
+follows_halts class (symbol ∷ symbols) is Last last = λ bytes (value, allows, (prefix, rest, bytes_are, part_is, later)).
+    subst (EndsRun (passes class)) (sym bytes_are) (part_halts class symbol symbols is value allows prefix rest part_is (λ more. follows_halts class symbols more (λ values. Last (value, values)) (λ values. last (value, values)) rest later))
+
+pub bad_follows_halts : (class : Class) (symbols : List Symbol) → halts class symbols ≡ true → (Bad : Bads) → ((kind : BadToken) (left : ℕ) → HaltsAll (Bad kind left)) → (kind : BadToken) (left : ℕ) → Halts (passes class) (BadFollows symbols Bad kind left)
+bad_follows_halts class [] is Bad bads kind left = λ bytes at. bads kind left class bytes at
+bad_follows_halts class (symbol ∷ symbols) is Bad bads kind left = λ bytes at.
+    ⊎_elim
+    (λ (here : IsBad symbol kind left bytes). bad_halts class symbol symbols is kind left bytes here)
+    (λ ((value, allows, (prefix, rest, bytes_are, part_is, later)) : (value : Value symbol) × Allows symbol value × Then (part symbol value) (BadFollows symbols Bad kind left) bytes).
+    subst (EndsRun (passes class)) (sym bytes_are) (part_halts class symbol symbols is value allows prefix rest part_is (λ more. bad_follows_halts class symbols more Bad bads kind left rest later)))
+    at
+
+-- some line of a production
+pub some_line : (symbols : List Symbol) → is_production symbols ≡ true → (Last : Values symbols → List ℕ → Type 0) → ((values : Values symbols) → (line : List ℕ) × Last values line) → (line : List ℕ) × Follows symbols Last line
+some_line [] is Last some = some tt
+some_line (symbol ∷ symbols) is Last some =
+    let all = split symbol symbols is in
+    let one = example symbol all.head in
+    let later = some_line symbols all.later (λ values. Last (one.value, values)) (λ values. some (one.value, values)) in
+    (one.prefix ++ later.0, (one.value, one.allowed, (one.prefix, later.0, refl, one.is, later.1)))
+
+follows_within : (symbols : List Symbol) (Bad : Bads) → AreWithin Bad → AreWithin (BadFollows symbols Bad)
+follows_within [] Bad within = within
+follows_within (symbol ∷ symbols) Bad within = λ kind place bytes at.
+    ⊎_elim
+    (λ ((value, bad, rest, takes, place_is) : IsBad symbol kind place bytes). omega (arith, place_is))
+    (λ ((value, allows, (prefix, rest, bytes_are, part_is, later)) : (value : Value symbol) × Allows symbol value × Then (part symbol value) (BadFollows symbols Bad kind place) bytes).
+    let le = follows_within symbols Bad within kind place rest later in
+    let len : length bytes ≡ length prefix + length rest = ap length bytes_are ∙ length-append prefix rest in
+    omega (arith, le, len))
+    at
+
+-- what was read and what follows it
+pub read_follows : (symbols : List Symbol) (values : Values symbols) (Last : Values symbols → List ℕ → Type 0) (bytes rest : List ℕ) → ReadsAll symbols values bytes rest → Last values rest → Follows symbols Last bytes
+read_follows [] values Last bytes rest same last = subst (Last tt) (sym same) last
+read_follows (symbol ∷ symbols) values Last bytes rest (middle, reads, later) last =
+    (values.0, reads.allowed, (reads.takes.prefix, middle, reads.takes.bytes_are, reads.takes.is, read_follows symbols values.1 (λ others. Last (values.0, others)) middle rest later last))
+
+-- ---- from what is left to the whole
+
+-- After the read bytes, a language and its bad tokens go on as another language and its bad tokens.
+pub record Goes (Line : List ℕ → Type 0) (Bad : Bads) (read : List ℕ) (Left : List ℕ → Type 0) (BadLeft : Bads) (rest : List ℕ) : Type 0 where
+  pub line : Continues Line read Left rest
+  pub onto : (kind : BadToken) (left : ℕ) → BadLeft kind left rest → Bad kind left (read ++ rest)
+  pub back : (kind : BadToken) (left : ℕ) → Bad kind left (read ++ rest) → BadLeft kind left rest
+
+-- a stop after what was read
+pub stop_after : (Line : List ℕ → Type 0) (Bad : Bads) (Lack : Type 0) (Left : List ℕ → Type 0) (BadLeft : Bads) (LackLeft : Type 0) (bytes read rest : List ℕ) (stop : Stop) → bytes ≡ read ++ rest → (LackLeft → Lack) → Goes Line Bad read Left BadLeft rest → IsStop Left BadLeft LackLeft rest stop → IsStop Line Bad Lack bytes stop
+stop_after Line Bad Lack Left BadLeft LackLeft bytes read rest stops.Memory bytes_are lack goes stop = lack stop
+stop_after Line Bad Lack Left BadLeft LackLeft bytes read rest (stops.Syntax left) bytes_are lack goes stop =
+    (stops_after Line Left bytes read rest left bytes_are goes.line stop.0, λ kind place bad. stop.1 kind place (goes.back kind place (subst (Bad kind place) bytes_are bad)))
+stop_after Line Bad Lack Left BadLeft LackLeft bytes read rest (stops.Bad kind left) bytes_are lack goes stop = record {
+  has = subst (Bad kind left) (sym bytes_are) (goes.onto kind left stop.has);
+  first = λ other place bad. stop.first other place (goes.back other place (subst (Bad other place) bytes_are bad));
+  read = read ++ stop.read;
+  unread = stop.unread;
+  bytes_are = bytes_are ∙ ap (λ r. read ++ r) stop.bytes_are ∙ sym (append_assoc read stop.read stop.unread);
+  left_is = stop.left_is;
+  viable = (stop.viable.0, subst Line (sym (append_assoc read stop.read stop.viable.0)) (goes.line.onto (stop.read ++ stop.viable.0) stop.viable.1));
+}
+
+-- ---- a stop at a symbol
+
+no_blank : (prefix rest : List ℕ) → EndsRun is_blank (prefix ++ rest) → AreBlanks prefix → prefix ≢ [] → ⊥
+no_blank [] rest ends are some = some refl
+no_blank (b ∷ prefix) rest ends are some = let clash : true ≡ false = sym are.0 ∙ ends in cc
+
+no_gap : (After : List ℕ → Type 0) (bytes : List ℕ) → EndsRun is_blank bytes → ¬ Then Gap After bytes
+no_gap After bytes ends = λ (prefix, rest, whole, part_is, after). no_blank prefix rest (subst (EndsRun is_blank) whole ends) part_is.0 part_is.1
+
+Then-name-starts : (After : List ℕ → Type 0) (name bytes : List ℕ) → Then (Name name) After bytes → StartsName bytes
+Then-name-starts After name bytes (prefix, rest, whole, part_is, after) = subst StartsName (sym whole) (name_starts prefix rest (subst IsName (sym part_is.0) part_is.1))
+
+Then-number-starts : (After : List ℕ → Type 0) (number : ℕ) (bytes : List ℕ) → Then (Number number) After bytes → StartsNumber bytes
+Then-number-starts After number bytes (prefix, rest, whole, part_is, after) = subst StartsNumber (sym whole) (number_starts prefix rest part_is.0)
+
+pointwise_same : (word : List ℕ) → pointwise nat_eq word word ≡ true
+pointwise_same word = ⊎_elim (λ (same : pointwise nat_eq word word ≡ true). same) (λ (other : pointwise nat_eq word word ≡ false). absurd (other_text word word (sym other) refl)) (cases_Bool (pointwise nat_eq word word))
+
+-- words that stand for themselves are a table
+listed : (words : List (List ℕ)) (entry : Entry (Unit {0})) → InTable entry (plain words) → lookup (plain words) entry.0 ≡ Some entry.1
+listed [] entry within = absurd within
+listed (word ∷ words) entry within =
+    ⊎_elim
+    (λ (same : entry ≡ (word, tt)). here entry.0 (ap (λ (e : Entry (Unit {0})). e.0) same))
+    (λ (later : InTable entry (plain words)). there (listed words entry later) (pointwise nat_eq word entry.0))
+    within
+  where
+    here : (run : List ℕ) → run ≡ word → lookup (plain (word ∷ words)) run ≡ Some tt
+    here run same = subst (λ w. lookup (plain (word ∷ words)) w ≡ Some tt) (sym same) (ap (λ t. cond t (Some tt) (lookup (plain words) word)) (pointwise_same word))
+
+    there : lookup (plain words) entry.0 ≡ Some entry.1 → (t : Bool) → cond t (Some tt) (lookup (plain words) entry.0) ≡ Some entry.1
+    there later true = refl
+    there later false = later
+
+all_of : (P : Entry (Unit {0}) → Type 0) (table : List (Entry (Unit {0}))) → ((entry : Entry (Unit {0})) → InTable entry table → P entry) → AllByRecursion P table
+all_of P [] each = tt
+all_of P (first ∷ table) each = (each first (inl refl), all_of P table (λ entry within. each entry (inr within)))
+
+keywords_are_words : (words : List (List ℕ)) → are_keywords words ≡ true → AllByRecursion (λ (entry : Entry (Unit {0})). is_word entry.0 ≡ true) (plain words)
+keywords_are_words [] are = tt
+keywords_are_words ([] ∷ words) are = cc
+keywords_are_words ((b ∷ word) ∷ words) are = let two = both (is_word (b ∷ word)) (are_keywords words) are in (two.0, keywords_are_words words two.1)
+
+plain_table : (words : List (List ℕ)) → are_keywords words ≡ true → IsWordTable (plain words)
+plain_table words are = record { words = keywords_are_words words are; named = all_of (λ entry. lookup (plain words) entry.0 ≡ Some entry.1) (plain words) (listed words) }
+
+-- bytes of the symbol, and then of the language
+abbrev One : Symbol → (List ℕ → Type 0) → List ℕ → Type 0
+One symbol After bytes = (value : Value symbol) × Allows symbol value × Then (part symbol value) After bytes
+
+-- Where no part of the symbol goes on so, no line of it and no bad token stands there.
+record Refuses (symbol : Symbol) (After : List ℕ → Type 0) (bytes : List ℕ) (left : ℕ) : Type 0 where
+  pub stop : StopsBefore (One symbol After) bytes left
+  pub no_bad : (kind : BadToken) (place : ℕ) → ¬ IsBad symbol kind place bytes
+
+abbrev Ended : Symbol → (List ℕ → Type 0) → Type 0
+Ended symbol After = Halts (passes (class_of symbol)) After
+
+refuses_at : (symbol : Symbol) (After : List ℕ → Type 0) → is_symbol symbol ≡ true → Ended symbol After → (line : List ℕ) → After line → (bytes : List ℕ) (left : ℕ) → LeavesAt symbol bytes left → Refuses symbol After bytes left
+refuses_at AnyBlanks After is ends line some bytes left leaves = absurd leaves
+refuses_at AnyGap After is ends line some bytes left (left_is, blankless) = record {
+  stop = subst (StopsBefore (One AnyGap After) bytes) (sym left_is) (stops_here (One AnyGap After) bytes (codes " " ++ line) (tt, tt, (codes " ", line, refl, ((refl, tt), λ none. cc), some)) (λ more same (value, allows, then). no_gap After more (EndsRun-first_byte is_blank bytes more same blankless) then));
+  no_bad = λ kind place bad. bad.1;
+}
+refuses_at (Sign sign) After is ends line some bytes left leaves = record {
+  stop = stops_of_same (One (Sign sign) After) (Then (Exactly sign) After) bytes left (λ more then. (tt, tt, then)) (λ more same (value, allows, then). then) (stops_in_word After sign bytes line left some leaves);
+  no_bad = λ kind place bad. bad.1;
+}
+refuses_at (OneWord []) After is ends line some bytes left leaves = cc
+refuses_at (OneWord (word ∷ words)) After is ends line some bytes left leaves = record {
+  stop = stops_of_same (One (OneWord (word ∷ words)) After) (ThenWord (plain (word ∷ words)) (λ _. After)) bytes left
+      (λ more (entry, within, then). (entry.0, within, then))
+      (λ more same (this, within, then). ((this, tt), within, then))
+      (stops_in_table (word, tt) (plain words) (plain_table (word ∷ words) is) (λ _. After) (λ _. ends) (λ _. (line, some)) bytes left leaves);
+  no_bad = λ kind place bad. bad.1;
+}
+refuses_at AnyName After is ends line some bytes left (left_is, nameless) = record {
+  stop = subst (StopsBefore (One AnyName After) bytes) (sym left_is) (stops_here (One AnyName After) bytes (codes "a" ++ line) (codes "a", tt, (codes "a", line, refl, (refl, (refl, tt)), some)) (λ more same (name, allows, then). nameless (StartsName-first_byte more bytes same (Then-name-starts After name more then))));
+  no_bad = λ kind place (name, bad, rest, takes, at). nameless (subst StartsName (sym takes.bytes_are) (name_starts takes.prefix rest (subst IsName (sym takes.is.0) takes.is.1)));
+}
+refuses_at AnyNumber After is ends line some bytes left (left_is, numberless) = record {
+  stop = subst (StopsBefore (One AnyNumber After) bytes) (sym left_is) (stops_here (One AnyNumber After) bytes (codes "0" ++ line) (0, tt, (codes "0", line, refl, (refl, refl), some)) (λ more same (number, allows, then). numberless (StartsNumber-first_byte more bytes same (Then-number-starts After number more then))));
+  no_bad = λ kind place (number, bad, rest, takes, at). numberless (subst StartsNumber (sym takes.bytes_are) (number_starts takes.prefix rest takes.is.0));
+}
+
+-- No line of the symbol stands where reading stops in it.
+no_one : (symbol : Symbol) (After : List ℕ → Type 0) → is_symbol symbol ≡ true → Ended symbol After → (bytes : List ℕ) (left : ℕ) → LeavesAt symbol bytes left → ¬ One symbol After bytes
+no_one AnyBlanks After is ends bytes left leaves = λ one. leaves
+no_one AnyGap After is ends bytes left leaves = λ (value, allows, then). no_gap After bytes leaves.1 then
+no_one (Sign sign) After is ends bytes left leaves = λ (value, allows, (prefix, rest, whole, part_is, after)). LeavesWord-refuses sign bytes rest left leaves (whole ∙ ap (λ w. w ++ rest) part_is)
+no_one (OneWord []) After is ends bytes left leaves = cc
+no_one (OneWord (word ∷ words)) After is ends bytes left leaves = λ (this, within, then). no_word (plain (word ∷ words)) (plain_table (word ∷ words) is) (λ _. After) (λ _. ends) bytes left leaves ((this, tt), within, then)
+no_one AnyName After is ends bytes left leaves = λ (name, allows, then). leaves.1 (Then-name-starts After name bytes then)
+no_one AnyNumber After is ends bytes left leaves = λ (number, allows, then). leaves.1 (Then-number-starts After number bytes then)
+
+module _ (symbol : Symbol) (symbols : List Symbol) (is : is_production (symbol ∷ symbols) ≡ true) (Last : List ℕ → Type 0) (Bad : Bads) (closes : Closes Last Bad) where
+  -- after a symbol within its bounds
+  goes_symbol : (value : Value symbol) (bytes rest : List ℕ) → (reads : Reads symbol value bytes rest) → Goes (Follows (symbol ∷ symbols) (λ _. Last)) (BadFollows (symbol ∷ symbols) Bad) reads.takes.prefix (Follows symbols (λ _. Last)) (BadFollows symbols Bad) rest
+  goes_symbol value bytes rest reads =
+      let all = split symbol symbols is in
+      let takes = reads.takes in
+      let ends : Ended symbol (Follows symbols (λ _. Last)) = follows_halts (class_of symbol) symbols all.ended (λ _. Last) (λ _. closes.ends) in
+      let bads : (kind : BadToken) (left : ℕ) → Ended symbol (BadFollows symbols Bad kind left) = bad_follows_halts (class_of symbol) symbols all.ended Bad closes.bads_end in
+      let here : Takes symbol value (takes.prefix ++ rest) rest = takes_again symbol value bytes rest rest takes refl in
+      record {
+        line = record {
+          onto = λ more after. (value, reads.allowed, (takes.prefix, more, refl, takes.is, after));
+          back = λ more same (other, allows, then). (after_symbol symbol all.head (Follows symbols (λ _. Last)) ends value other allows (takes.prefix ++ more) more (takes_again symbol value bytes rest more takes same) then).1;
+        };
+        onto = λ kind left bad. inr (value, reads.allowed, (takes.prefix, rest, refl, takes.is, bad));
+        back = λ kind left bad. ⊎_elim
+            (λ ((other, out, more, there, place) : IsBad symbol kind left (takes.prefix ++ rest)).
+            let same = takes_unique symbol value other (takes.prefix ++ rest) rest more here there in
+            let is_out : IsOutOfBounds (part symbol value) kind = subst (λ v. IsOutOfBounds (part symbol v) kind) (sym same.0) out in
+            absurd (not_bad kind (part symbol value) reads.bounded is_out))
+            (λ ((other, allows, then) : One symbol (BadFollows symbols Bad kind left) (takes.prefix ++ rest)).
+            (after_symbol symbol all.head (BadFollows symbols Bad kind left) (bads kind left) value other allows (takes.prefix ++ rest) rest here then).1)
+            bad;
+      }
+
+  stop_at_symbol : (Lack : Type 0) (bytes : List ℕ) (stop : Stop) → Leaves symbol bytes stop → IsStop (Follows (symbol ∷ symbols) (λ _. Last)) (BadFollows (symbol ∷ symbols) Bad) Lack bytes stop
+  stop_at_symbol Lack bytes stops.Memory leaves = absurd leaves
+  stop_at_symbol Lack bytes (stops.Syntax left) leaves =
+      let all = split symbol symbols is in
+      let ends : Ended symbol (Follows symbols (λ _. Last)) = follows_halts (class_of symbol) symbols all.ended (λ _. Last) (λ _. closes.ends) in
+      let bads : (kind : BadToken) (place : ℕ) → Ended symbol (BadFollows symbols Bad kind place) = bad_follows_halts (class_of symbol) symbols all.ended Bad closes.bads_end in
+      let line = some_line symbols all.later (λ _. Last) (λ _. (closes.line, closes.some)) in
+      let refuses = refuses_at symbol (Follows symbols (λ _. Last)) all.head ends line.0 line.1 bytes left leaves in (
+        refuses.stop,
+        λ kind place bad. ⊎_elim
+            (λ (here : IsBad symbol kind place bytes). refuses.no_bad kind place here)
+            (λ (one : One symbol (BadFollows symbols Bad kind place) bytes). no_one symbol (BadFollows symbols Bad kind place) all.head (bads kind place) bytes left leaves one)
+            bad,
+      )
+  stop_at_symbol Lack bytes (stops.Bad kind left) leaves =
+      let line = some_line (symbol ∷ symbols) is (λ _. Last) (λ _. (closes.line, closes.some)) in
+      let left_is : left ≡ length bytes = leaves.4 in
+      record {
+        has = inl leaves;
+        first = λ other place bad. let le = follows_within (symbol ∷ symbols) Bad closes.within other place bytes bad in omega (arith, le, left_is);
+        read = [];
+        unread = bytes;
+        bytes_are = refl;
+        left_is = left_is;
+        viable = line;
+      }
+
+-- where reading stops in a symbol of a production
+pub stop_among : (symbols : List Symbol) → is_production symbols ≡ true → (Last : List ℕ → Type 0) (Bad : Bads) → Closes Last Bad → (Lack : Type 0) (bytes : List ℕ) (stop : Stop) → LeavesOne symbols bytes stop → IsStop (Follows symbols (λ _. Last)) (BadFollows symbols Bad) Lack bytes stop
+stop_among [] is Last Bad closes Lack bytes stop leaves = absurd leaves
+stop_among (symbol ∷ symbols) is Last Bad closes Lack bytes stop leaves =
+    ⊎_elim
+    (λ (here : Leaves symbol bytes stop). stop_at_symbol symbol symbols is Last Bad closes Lack bytes stop here)
+    (λ ((value, middle, reads, later) : (value : Value symbol) × (middle : List ℕ) × Reads symbol value bytes middle × LeavesOne symbols middle stop).
+    stop_after (Follows (symbol ∷ symbols) (λ _. Last)) (BadFollows (symbol ∷ symbols) Bad) Lack (Follows symbols (λ _. Last)) (BadFollows symbols Bad) Lack bytes reads.takes.prefix middle stop reads.takes.bytes_are (λ lack. lack) (goes_symbol symbol symbols is Last Bad closes value bytes middle reads) (stop_among symbols (split symbol symbols is).later Last Bad closes Lack middle stop later))
+    leaves
+
+-- where reading stops after a production
+pub stop_after_all : (symbols : List Symbol) → is_production symbols ≡ true → (Last : List ℕ → Type 0) (Bad : Bads) → Closes Last Bad → (Lack : Type 0) (values : Values symbols) (bytes rest : List ℕ) (stop : Stop) → ReadsAll symbols values bytes rest → IsStop Last Bad Lack rest stop → IsStop (Follows symbols (λ _. Last)) (BadFollows symbols Bad) Lack bytes stop
+stop_after_all [] is Last Bad closes Lack values bytes rest stop same at = subst (λ b. IsStop Last Bad Lack b stop) (sym same) at
+stop_after_all (symbol ∷ symbols) is Last Bad closes Lack values bytes rest stop (middle, reads, later) at =
+    stop_after (Follows (symbol ∷ symbols) (λ _. Last)) (BadFollows (symbol ∷ symbols) Bad) Lack (Follows symbols (λ _. Last)) (BadFollows symbols Bad) Lack bytes reads.takes.prefix middle stop reads.takes.bytes_are (λ lack. lack) (goes_symbol symbol symbols is Last Bad closes values.0 bytes middle reads) (stop_after_all symbols (split symbol symbols is).later Last Bad closes Lack values.1 middle rest stop later at)

@@ -1,0 +1,26 @@
+ghost use Rattle.std.specs.Prelude.{IfOk, IfErr};
+ghost use Rattle.gremlin_parse.specs.Commands.{target_words};
+ghost use Rattle.gremlin_parse.specs.Keywords.{TakesWord, LeavesTable};
+ghost use Rattle.gremlin_parse.specs.Stopping.{StopsWith};
+
+use crate::keyword::read_keyword;
+use crate::stop::Stop;
+
+/// The word for what a command changes.
+#[derive(Clone, Copy)]
+pub(crate) enum TargetWord {
+    Node,
+}
+
+const TARGETS: [(&[u8], TargetWord); 1] = [(b"node", TargetWord::Node)];
+
+/// The word for what a command changes, and the bytes after it.
+///
+/// # Errors
+/// A fault of syntax after the longest prefix of such a word.
+pub(crate) fn read_target(bytes: &[u8]) -> Result<(TargetWord, &[u8]), Stop>
+    ensures ok { IfOk result (λ r. TakesWord target_words bytes.now r.0 r.1.now) }
+    ensures err { IfErr result (StopsWith (LeavesTable target_words bytes.now)) }
+{
+    read_keyword(bytes, &TARGETS)
+}

@@ -1,0 +1,5 @@
+pub mod FreeListLaws
+pub mod Leaving
+pub mod Making
+pub mod Splits
+pub mod TakeDamages

@@ -1,0 +1,4 @@
+pub mod FreeLists
+pub mod Giving
+pub mod TakeFault
+pub mod Taking

@@ -1,0 +1,30 @@
+-- What a comparison of the names that are kept with those of a space finds.
+use Rattle.std.specs.Prelude.{◌≡◌, ◌≢◌, ℕ, ◌<◌, nat_lt, List, Some, length, slice_get, if◌then◌else◌}
+use Rattle.rec_bytes.specs.declared.damage.Damage.{Damage}
+use Rattle.rec_bytes.specs.Space.{State, after_get}
+use Rattle.store_rules.specs.Views.{Records}
+use Rattle.name_store.specs.declared.row_fault.RowFault.{RowFault}
+use Rattle.name_store.specs.declared.row_fault.RowFault.TheVariants.{Disk, Damaged}
+use Rattle.name_store.specs.Loading.{name_damage, name_mark, text_at}
+
+-- the record is the first of the space's whose name isn't the one that is kept, or is past those
+pub record IsFirstOther (records : Records) (names : List (List ℕ)) (damage : Damage) : Type 0 where
+  pub id : ℕ
+  pub is : damage ≡ name_damage id 6
+  pub below : id < name_mark records
+  pub before : (x : ℕ) → x < id → slice_get names x ≡ Some (text_at records x)
+  pub other : slice_get names id ≢ Some (text_at records id)
+
+abbrev pub IsAgainFault : Records → List (List ℕ) → RowFault → Type 0
+IsAgainFault records names Disk = Unit {0}
+IsAgainFault records names (Damaged damage) = IsFirstOther records names damage
+
+-- the name of this number isn't the one that is kept
+abbrev pub HasOther : Records → List (List ℕ) → ℕ → RowFault → Type 0
+HasOther records names id Disk = Unit {0}
+HasOther records names id (Damaged damage) =
+    (damage ≡ name_damage id 6) × (slice_get names id ≢ Some (text_at records id))
+
+-- a name past those that are kept isn't read
+abbrev pub after_compare : State → List (List ℕ) → ℕ → State
+after_compare s names id = if nat_lt id (length names) then after_get s else s

@@ -1,0 +1,8 @@
+pub mod Again
+pub mod Fault
+pub mod InternFault
+pub mod Interning
+pub mod Loading
+pub mod NameRecord
+pub mod Names
+pub mod RowFault

@@ -1,0 +1,18 @@
+//! The names of a store, each once, in the order of first use: in memory, where a name is found by its
+//! hash, and in a space. A load reads each record once, and a new name costs two writes.
+#![tactic(auto)]
+
+mod again;
+mod fault;
+mod intern_fault;
+mod interning;
+mod loading;
+mod name_record;
+mod names;
+mod row_fault;
+
+pub use fault::Fault;
+pub use intern_fault::InternFault;
+pub use loading::load;
+pub use names::Names;
+pub use row_fault::RowFault;

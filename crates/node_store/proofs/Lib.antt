@@ -1,0 +1,3 @@
+pub mod NodeRecords
+pub mod Rows
+pub mod UnknownKinds

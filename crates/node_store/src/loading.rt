@@ -1,0 +1,42 @@
+ghost use Rattle.std.specs.Prelude.{◌≡◌, IfErr, IfOk, IfSome};
+ghost use Rattle.rec_bytes.specs.Key.{IsKey};
+ghost use Rattle.node_store.specs.Loading.{after_load, row_at, IsNodeFault, IsReadable};
+ghost use Rattle.node_store.specs.NodeRecord.{node_key};
+ghost use Rattle.node_store.specs.RowFault.{HasRowCause, NotDamaged};
+
+use crate::node_record::{RANGE_RULE, read_row};
+use crate::{NodeRow, RowFault};
+use rec_bytes::{Damage, Key, META, NODES, Reads, room_of};
+
+/// Reads the node of an identifier. It is none where the identifier isn't live. A record of an
+/// unknown kind is damaged, and so is the meta record of the nodes where it counts the identifier
+/// and there is no room for it.
+#[tactic(auto, unfolding(store_rules::specs::Views::kind_in))]
+pub fn load<R: Reads>(space: &mut R, id: u32) -> Result<Option<NodeRow>, RowFault>
+    ensures found { R.tells → IfOk result (λ row. row ≡ row_at (R.state space.old).records id) }
+    ensures damaged { R.tells → IfErr result (IsNodeFault (R.state space.old) id) }
+    ensures sound { R.tells → IsReadable (R.state space.old) id → NotDamaged result }
+    ensures key { IfOk result (λ row. IfSome row (λ _. IsKey (node_key id))) }
+    ensures state { R.state space.new ≡ after_load (R.state space.old) id }
+    ensures onward { R.onward space.old space.new }
+    ensures cause { HasRowCause (R.faults space.old) (R.faults space.new) result }
+{
+    if id >= space.meta(NODES).high {
+        return Ok(None);
+    }
+    // A damaged mark may be so high that no record has the identifier.
+    if id as u64 >= room_of(NODES, space.shape()) {
+        return Err(RowFault::Damaged(Damage {
+            file: META,
+            id: NODES as u32,
+            rule: RANGE_RULE,
+        }));
+    }
+    match space.get(Key { file: NODES, id }) {
+        Ok(rec) => read_row(&rec, id),
+        Err(_) => Err(RowFault::Disk),
+    }
+}
+
+#[cfg(test)]
+mod tests;

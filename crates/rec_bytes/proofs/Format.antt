@@ -1,0 +1,42 @@
+-- The code's constants are the numbers of the format: those that no proved function of this crate uses, a group each.
+use Rattle.std.proofs.Common.{◌≡◌, [], ◌∷◌, refl}
+use Rattle.rec_bytes.specs.declared.fields.TheConstants.{KIND, FREE, FREE_NEXT, SPARSE, DENSE, NODE_LABEL, NODE_FIRST_LINK, NODE_FIRST_PROPERTY, NODE_DEGREE, RELATED, RELATIONSHIP_TYPE, RELATIONSHIP_SOURCE, RELATIONSHIP_TARGET, RELATIONSHIP_SOURCE_PREVIOUS, RELATIONSHIP_SOURCE_NEXT, RELATIONSHIP_TARGET_PREVIOUS, RELATIONSHIP_TARGET_NEXT, RELATIONSHIP_FIRST_PROPERTY, GROUPED, GROUP_TYPE, GROUP_OWNER, GROUP_PREVIOUS, GROUP_NEXT, GROUP_FIRST_OUT, GROUP_FIRST_IN, GROUP_FIRST_LOOP, INT, BOOL, TEXT_INLINE, TEXT_IN_BLOCKS, PROPERTY_LENGTH, PROPERTY_KEY, PROPERTY_NEXT, PROPERTY_FIRST_BLOCK, PROPERTY_NUMBER, PROPERTY_TRUTH, PROPERTY_TEXT, PROPERTY_TEXT_BYTES, BLOCK, BLOCK_LENGTH, BLOCK_NEXT, BLOCK_TEXT, BLOCK_TEXT_BYTES, NAMED, NAME_LENGTH, NAME_TEXT, NAME_TEXT_BYTES}
+use Rattle.rec_bytes.specs.declared.files.TheConstants.{LOG, RECORD_BYTES}
+use Rattle.rec_bytes.specs.declared.shape.TheConstants.{DEFAULT_THRESHOLD, DEFAULT_LIMIT}
+use Rattle.rec_bytes.specs.Format as format
+
+pub format_of_files : LOG ∷ RECORD_BYTES ∷ []
+    ≡ format.log_file ∷ format.record_bytes ∷ []
+format_of_files = refl
+
+pub format_of_defaults : DEFAULT_THRESHOLD ∷ DEFAULT_LIMIT ∷ []
+    ≡ format.default_threshold ∷ format.default_limit ∷ []
+format_of_defaults = refl
+
+pub format_of_records : KIND ∷ FREE ∷ FREE_NEXT ∷ []
+    ≡ format.kind ∷ format.free_kind ∷ format.free_next ∷ []
+format_of_records = refl
+
+pub format_of_nodes : SPARSE ∷ DENSE ∷ NODE_LABEL ∷ NODE_FIRST_LINK ∷ NODE_FIRST_PROPERTY ∷ NODE_DEGREE ∷ []
+    ≡ format.sparse ∷ format.dense ∷ format.node_label ∷ format.node_first_link ∷ format.node_first_property ∷ format.node_degree ∷ []
+format_of_nodes = refl
+
+pub format_of_relationships : RELATED ∷ RELATIONSHIP_TYPE ∷ RELATIONSHIP_SOURCE ∷ RELATIONSHIP_TARGET ∷ RELATIONSHIP_SOURCE_PREVIOUS ∷ RELATIONSHIP_SOURCE_NEXT ∷ RELATIONSHIP_TARGET_PREVIOUS ∷ RELATIONSHIP_TARGET_NEXT ∷ RELATIONSHIP_FIRST_PROPERTY ∷ []
+    ≡ format.related ∷ format.relationship_type ∷ format.relationship_source ∷ format.relationship_target ∷ format.relationship_source_previous ∷ format.relationship_source_next ∷ format.relationship_target_previous ∷ format.relationship_target_next ∷ format.relationship_first_property ∷ []
+format_of_relationships = refl
+
+pub format_of_groups : GROUPED ∷ GROUP_TYPE ∷ GROUP_OWNER ∷ GROUP_PREVIOUS ∷ GROUP_NEXT ∷ GROUP_FIRST_OUT ∷ GROUP_FIRST_IN ∷ GROUP_FIRST_LOOP ∷ []
+    ≡ format.grouped ∷ format.group_type ∷ format.group_owner ∷ format.group_previous ∷ format.group_next ∷ format.group_first_out ∷ format.group_first_in ∷ format.group_first_loop ∷ []
+format_of_groups = refl
+
+pub format_of_properties : INT ∷ BOOL ∷ TEXT_INLINE ∷ TEXT_IN_BLOCKS ∷ PROPERTY_LENGTH ∷ PROPERTY_KEY ∷ PROPERTY_NEXT ∷ PROPERTY_FIRST_BLOCK ∷ PROPERTY_NUMBER ∷ PROPERTY_TRUTH ∷ PROPERTY_TEXT ∷ PROPERTY_TEXT_BYTES ∷ []
+    ≡ format.int ∷ format.bool ∷ format.text_inline ∷ format.text_in_blocks ∷ format.property_length ∷ format.property_key ∷ format.property_next ∷ format.property_first_block ∷ format.property_number ∷ format.property_truth ∷ format.property_text ∷ format.property_text_bytes ∷ []
+format_of_properties = refl
+
+pub format_of_blocks : BLOCK ∷ BLOCK_LENGTH ∷ BLOCK_NEXT ∷ BLOCK_TEXT ∷ BLOCK_TEXT_BYTES ∷ []
+    ≡ format.block ∷ format.block_length ∷ format.block_next ∷ format.block_text ∷ format.block_text_bytes ∷ []
+format_of_blocks = refl
+
+pub format_of_names : NAMED ∷ NAME_LENGTH ∷ NAME_TEXT ∷ NAME_TEXT_BYTES ∷ []
+    ≡ format.named ∷ format.name_length ∷ format.name_text ∷ format.name_text_bytes ∷ []
+format_of_names = refl

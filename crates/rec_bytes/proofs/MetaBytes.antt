@@ -1,0 +1,65 @@
+-- A meta record that is written twice.
+use Rattle.std.specs.Prelude.{replicate}
+use Rattle.std.proofs.Common.{◌≡◌, ℕ, ◌+◌, ◌≤◌, List, [], ◌++◌, length, drop, sym, ap, ◌∙◌, arith, refl}
+use Rattle.std.proofs.lemmas.List.{drop_at, drop-drop, length-append, length-drop, length-replicate, length-take-le, append_assoc}
+use Rattle.std.proofs.Math.Seq.{drop-append-add, take-append_seam}
+use Rattle.byteorder.specs.Endian.{little_bytes}
+use Rattle.byteorder.specs.Numbers.{length-bytes_low_first}
+use Rattle.rec_bytes.specs.declared.record.Rec.{Rec}
+use Rattle.rec_bytes.specs.declared.meta.Meta.{Meta}
+use Rattle.rec_bytes.specs.Meta.{with_meta}
+use Rattle.rec_bytes.specs.Record.{with_field, as_64, with_bytes}
+use Rattle.rec_bytes.proofs.Numbers.{with_bytes-is, as_64-whole}
+
+length-as_64 : (xs : List ℕ) → length (as_64 xs) ≡ 64
+unfolding as_64
+length-as_64 xs = length-take-le 64 (xs ++ replicate 64 0) (omega (arith, length-append xs (replicate 64 0), length-replicate {A = ℕ} 64 0))
+
+-- bytes written behind a part of a list
+write_behind : (part rest bs : List ℕ) (at : ℕ) → at ≡ length part → length bs ≤ length rest → with_bytes (part ++ rest) at bs ≡ (part ++ bs) ++ drop (length bs) rest
+write_behind part rest bs at e fits =
+    ap (λ n. with_bytes (part ++ rest) n bs) e ∙ with_bytes-is (part ++ rest) (length part) bs (omega (arith, length-append part rest))
+    ∙ ap (λ xs. xs ++ (bs ++ drop (length part + length bs) (part ++ rest))) (take-append_seam part rest)
+    ∙ ap (λ xs. part ++ (bs ++ xs)) (drop-append-add part rest (length bs)) ∙ sym (append_assoc part bs (drop (length bs) rest))
+
+-- the twelve bytes of the three numbers
+meta_bytes : Meta → List ℕ
+meta_bytes m = (([] ++ little_bytes 4 m.high) ++ little_bytes 4 m.free) ++ little_bytes 4 m.live
+
+length-meta_bytes : (m : Meta) → length (meta_bytes m) ≡ 12
+unfolding meta_bytes
+length-meta_bytes m =
+    let a = length-bytes_low_first 0 4 m.high in let b = length-bytes_low_first 0 4 m.free in let c = length-bytes_low_first 0 4 m.live in
+    omega (arith, length-append ([] ++ little_bytes 4 m.high ++ little_bytes 4 m.free) (little_bytes 4 m.live), length-append ([] ++ little_bytes 4 m.high) (little_bytes 4 m.free))
+
+with_meta-is : (r : Rec) (m : Meta) → with_meta r m ≡ record { bytes = meta_bytes m ++ drop 12 (as_64 r.bytes) }
+unfolding with_field meta_bytes
+with_meta-is r m =
+    let xs = as_64 r.bytes in
+    let a = little_bytes 4 m.high in let b = little_bytes 4 m.free in let c = little_bytes 4 m.live in
+    let la : length a ≡ 4 = length-bytes_low_first 0 4 m.high in
+    let lb : length b ≡ 4 = length-bytes_low_first 0 4 m.free in
+    let lc : length c ≡ 4 = length-bytes_low_first 0 4 m.live in
+    let long : length xs ≡ 64 = length-as_64 r.bytes in
+    let one : with_bytes xs 0 a ≡ ([] ++ a) ++ drop 4 xs = write_behind [] xs a 0 refl (omega arith) ∙ ap (λ n. ([] ++ a) ++ drop n xs) la in
+    let d4 : length (drop 4 xs) ≡ 60 = length-drop 4 xs ∙ omega arith in
+    let long1 : length (([] ++ a) ++ drop 4 xs) ≡ 64 = omega (arith, length-append a (drop 4 xs)) in
+    let whole1 : as_64 (with_bytes xs 0 a) ≡ ([] ++ a) ++ drop 4 xs = ap as_64 one ∙ as_64-whole (([] ++ a) ++ drop 4 xs) long1 in
+    let two : with_bytes (([] ++ a) ++ drop 4 xs) 4 b ≡ (([] ++ a) ++ b) ++ drop 8 xs = write_behind ([] ++ a) (drop 4 xs) b 4 (sym la) (omega arith) ∙ ap (λ n. (([] ++ a) ++ b) ++ drop n (drop 4 xs)) lb ∙ ap (λ ys. (([] ++ a) ++ b) ++ ys) (drop-drop 4 4 xs) in
+    let lab : length (([] ++ a) ++ b) ≡ 8 = omega (arith, length-append a b) in
+    let d8 : length (drop 8 xs) ≡ 56 = length-drop 8 xs ∙ omega arith in
+    let long2 : length ((([] ++ a) ++ b) ++ drop 8 xs) ≡ 64 = omega (arith, length-append (([] ++ a) ++ b) (drop 8 xs)) in
+    let whole2 : as_64 (with_bytes (as_64 (with_bytes xs 0 a)) 4 b) ≡ (([] ++ a) ++ b) ++ drop 8 xs = ap (λ ys. as_64 (with_bytes ys 4 b)) whole1 ∙ ap as_64 two ∙ as_64-whole ((([] ++ a) ++ b) ++ drop 8 xs) long2 in
+    let three : with_bytes ((([] ++ a) ++ b) ++ drop 8 xs) 8 c ≡ ((([] ++ a) ++ b) ++ c) ++ drop 12 xs = write_behind (([] ++ a) ++ b) (drop 8 xs) c 8 (sym lab) (omega arith) ∙ ap (λ n. ((([] ++ a) ++ b) ++ c) ++ drop n (drop 8 xs)) lc ∙ ap (λ ys. ((([] ++ a) ++ b) ++ c) ++ ys) (drop-drop 4 8 xs) in
+    ap (λ ys. record { bytes = with_bytes ys 8 c }) whole2 ∙ ap (λ ys. record { bytes = ys }) three
+
+-- the numbers that were written before don't matter
+pub with_meta-again : (r : Rec) (a b : Meta) → with_meta (with_meta r a) b ≡ with_meta r b
+with_meta-again r a b =
+    let xs = as_64 r.bytes in
+    let la = length-meta_bytes a in
+    let long : length xs ≡ 64 = length-as_64 r.bytes in
+    let whole : as_64 (meta_bytes a ++ drop 12 xs) ≡ meta_bytes a ++ drop 12 xs = as_64-whole (meta_bytes a ++ drop 12 xs) (omega (arith, length-append (meta_bytes a) (drop 12 xs), length-drop 12 xs)) in
+    ap (λ q. with_meta q b) (with_meta-is r a) ∙ with_meta-is (record { bytes = meta_bytes a ++ drop 12 xs }) b
+    ∙ ap (λ ys. record { bytes = meta_bytes b ++ drop 12 ys }) whole ∙ ap (λ ys. record { bytes = meta_bytes b ++ ys }) (drop_at (meta_bytes a) (drop 12 xs) 12 la)
+    ∙ sym (with_meta-is r b)

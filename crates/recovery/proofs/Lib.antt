@@ -1,0 +1,6 @@
+pub mod EntrySteps
+pub mod LogSteps
+pub mod Metas
+pub mod Settled
+pub mod StoreForms
+pub mod Unmade

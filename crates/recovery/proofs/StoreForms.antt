@@ -1,0 +1,121 @@
+-- What the records of the meta file say of a store.
+use Rattle.std.proofs.Common.{◌≡◌, ◌∙◌, ap, sym, subst, ⊎_elim, inl, inr, ℕ, zero, suc, ◌+◌, ◌<◌, Bool, true, false, nat_lt, List, [], ◌∷◌, Some, None, is_some, length, get_or, refl, arith}
+use Rattle.std.proofs.lemmas.Bool.{false≢true}
+use Rattle.std.proofs.lemmas.Bool.Decides.{nat_tests}
+use Rattle.disk_model.specs.Contents.{Files}
+use Rattle.rec_bytes.specs.Creation.{own_key}
+use Rattle.rec_bytes.specs.declared.key.Key.{Key}
+use Rattle.rec_bytes.specs.declared.record.Rec.{Rec}
+use Rattle.rec_bytes.specs.declared.shape.Shape.{Shape}
+use Rattle.rec_bytes.specs.Pairs.{Pairs}
+use Rattle.rec_bytes.specs.Record.{zeros}
+use Rattle.rec_bytes.specs.RecordFiles.{is_record_file, meta_key_of, record_files}
+use Rattle.rec_bytes.specs.Shape.{shape_of_record}
+use Rattle.rec_bytes.proofs.RecordFiles.{passes}
+use Rattle.redo_log.specs.Entries.{HasEntries, entry_bytes}
+use Rattle.redo_log.specs.Redo.{redone}
+use Rattle.redo_log.proofs.Damage.{HasEntries-damaged}
+use Rattle.redo_log.proofs.Entries.{HasEntriesFrom-tail}
+use Rattle.record_file.specs.Records.{IsUnmade, record_at}
+use Rattle.record_file.specs.Redone.{Redoes}
+use Rattle.record_file.specs.Unique.{Redoes-unique, entries_unique}
+use Rattle.recovery.specs.declared.meta_records.MetaRecords.{MetaRecords}
+use Rattle.recovery.specs.declared.recover_fault.RecoverFault.{RecoverFault}
+use Rattle.recovery.specs.declared.recover_fault.RecoverFault.TheVariants as faults
+use Rattle.recovery.specs.Finding.{HasMetaInRange, Refuses, RefusesRecords, Stands}
+use Rattle.recovery.specs.MetaRecords.{AreMetas, HasMetas, IsLogFault}
+
+-- the files of records are those of the first numbers
+record_file-low : (file : ℕ) → is_record_file file ≡ true → file < 7
+record_file-low file is = let low = passes (λ f. nat_lt f 7) record_files file refl is in grind (arith, nat_tests)
+
+low-record_file : (file : ℕ) → file < 7 → is_record_file file ≡ true
+low-record_file zero below = refl
+low-record_file (suc zero) below = refl
+low-record_file (suc (suc zero)) below = refl
+low-record_file (suc (suc (suc zero))) below = refl
+low-record_file (suc (suc (suc (suc zero)))) below = refl
+low-record_file (suc (suc (suc (suc (suc zero))))) below = refl
+low-record_file (suc (suc (suc (suc (suc (suc zero)))))) below = refl
+low-record_file (suc (suc (suc (suc (suc (suc (suc n))))))) below = absurd (omega (arith, below))
+
+-- a log that ends where it begins has no entry
+no_entries : (entries : List Pairs) (content : Files) → HasEntries content entries 0 → entries ≡ []
+no_entries [] content has = refl
+no_entries (entry ∷ later) content has = absurd (omega (arith, HasEntriesFrom-tail later (0 + entry_bytes (length entry)) 0 content has.2))
+
+-- no entry, and no byte of the meta file
+pub IsUnmade-of : (content : Files) (metas : MetaRecords) → HasMetas content metas → metas.tail ≡ 0 → ((id : ℕ) → id < 7 → get_or metas.records id zeros ≡ zeros) → IsUnmade content
+IsUnmade-of content metas has at_start blank =
+    let log : HasEntries content has.entries 0 = subst (λ t. HasEntries content has.entries t) at_start has.log in
+    let none = no_entries has.entries content log in
+    record {
+      log = subst (λ (es : List Pairs). HasEntries content es 0) none log;
+      blank = λ file is.
+          let below = record_file-low file is in
+          ap (λ (es : List Pairs). redone (record_at content) es (meta_key_of file)) (sym none) ∙ sym (has.are file below) ∙ blank file below;
+    }
+
+pub at_start-unmade : (content : Files) (metas : MetaRecords) → HasMetas content metas → IsUnmade content → metas.tail ≡ 0
+at_start-unmade content metas has unmade =
+    let none : has.entries ≡ [] = entries_unique has.entries [] 0 metas.tail 0 content has.log unmade.log in
+    let log : HasEntries content [] metas.tail = subst (λ (es : List Pairs). HasEntries content es metas.tail) none has.log in
+    sym log.0
+
+pub blank-unmade : (content : Files) (metas : MetaRecords) → HasMetas content metas → IsUnmade content → (id : ℕ) → id < 7 → get_or metas.records id zeros ≡ zeros
+blank-unmade content metas has unmade id below =
+    let none : has.entries ≡ [] = entries_unique has.entries [] 0 metas.tail 0 content has.log unmade.log in
+    has.are id below ∙ ap (λ (es : List Pairs). redone (record_at content) es (meta_key_of id)) none ∙ unmade.blank id (low-record_file id below)
+
+-- the records of the meta file make the space that the content redoes to
+pub Redoes-metas : (content : Files) (metas : MetaRecords) (has : HasMetas content metas) → Redoes content (redone (record_at content) has.entries)
+Redoes-metas content metas has = record { entries = has.entries; tail = metas.tail; log = has.log; makes = refl }
+
+-- a fault of the log's form refuses the content
+pub Refuses-log : (content : Files) (fault : RecoverFault) → IsLogFault content fault → Refuses content fault
+Refuses-log content faults.Disk is = tt
+Refuses-log content faults.NotAStore is = absurd is
+Refuses-log content (faults.Damaged damage) is = inl is
+
+-- and so does one of the records
+pub Refuses-records : (content : Files) (space : Key → Rec) (fault : RecoverFault) → Redoes content space → RefusesRecords content space fault → Refuses content fault
+Refuses-records content space faults.Disk redoes is = tt
+Refuses-records content space faults.NotAStore redoes is = (space, redoes, is)
+Refuses-records content space (faults.Damaged damage) redoes is = inr (space, redoes, is)
+
+-- the own record of a disk where no store was made says no shape
+unmade_shape : (content : Files) (space : Key → Rec) → Redoes content space → IsUnmade content → shape_of_record (space own_key) ≡ None
+unmade_shape content space redoes unmade =
+    let none : redoes.entries ≡ [] = entries_unique redoes.entries [] 0 redoes.tail 0 content redoes.log unmade.log in
+    let own : space own_key ≡ zeros = ap (λ (s : Key → Rec). s own_key) (sym redoes.makes) ∙ ap (λ (es : List Pairs). redone (record_at content) es own_key) none ∙ unmade.blank 0 refl in
+    ap shape_of_record own
+
+-- what stands is refused for nothing but the disk
+pub Stands-refused : (content : Files) (space : Key → Rec) (fault : RecoverFault) → Redoes content space → Stands content space → Refuses content fault → fault ≡ faults.Disk
+Stands-refused content space faults.Disk redoes stands refuses = refl
+Stands-refused content space faults.NotAStore redoes stands refuses =
+    absurd (⊎_elim
+    (λ unmade. refuses.2.1 unmade)
+    (λ made.
+    let same = Redoes-unique content space refuses.0 redoes refuses.1 in
+    let some : shape_of_record (refuses.0 own_key) ≡ Some made.0 = ap (λ (s : Key → Rec). shape_of_record (s own_key)) (sym same) ∙ made.1.own in
+    false≢true (ap is_some (sym refuses.2.0 ∙ some)))
+    stands)
+Stands-refused content space (faults.Damaged damage) redoes stands refuses =
+    absurd (⊎_elim
+    (λ log. HasEntries-damaged redoes.entries redoes.tail damage.id content redoes.log log.2)
+    (λ records.
+    let other = records.0 in
+    let same : other ≡ space = Redoes-unique content other space records.1 redoes in
+    let shape = records.2.0 in
+    let damaged = records.2.2 in
+    let own : shape_of_record (space own_key) ≡ Some shape = ap (λ (s : Key → Rec). shape_of_record (s own_key)) (sym same) ∙ records.2.1 in
+    ⊎_elim
+    (λ unmade. false≢true (ap is_some (sym (unmade_shape content space redoes unmade) ∙ own)))
+    (λ made.
+    let some : Some made.0 ≡ Some shape = sym made.1.own ∙ own in
+    let shapes : made.0 ≡ shape = cc in
+    let right : HasMetaInRange space made.0 damage.id = made.1.metas damage.id damaged.has_meta in
+    damaged.out (subst (λ (s : Key → Rec). HasMetaInRange s shape damage.id) (sym same) (subst (λ (s : Shape). HasMetaInRange space s damage.id) shapes right)))
+    stands)
+    refuses)

@@ -1,0 +1,44 @@
+use Rattle.std.proofs.Common.{◌≡◌, subst, sym, Result, Ok, Err, IfOk, IfErr}
+use Rattle.std.specs.Prelude.{OnOk}
+use Rattle.disk_model.specs.Contents.{Files}
+use Rattle.rec_bytes.specs.declared.key.Key.{Key}
+use Rattle.rec_bytes.specs.declared.record.Rec.{Rec}
+use Rattle.redo_log.specs.Redo.{redone}
+use Rattle.record_file.specs.Records.{record_at}
+use Rattle.record_file.specs.Unique.{Redoes-unique}
+use Rattle.recovery.specs.Finding.{IsFound, RefusesRecords, Refuses}
+use Rattle.recovery.specs.MetaRecords.{HasMetas}
+use Rattle.recovery.specs.declared.recover_fault.RecoverFault.{RecoverFault}
+use Rattle.recovery.proofs.Metas.{same_content}
+use Rattle.recovery.proofs.StoreForms.{Redoes-metas, Refuses-records}
+use Rattle.recovery.proofs.finding.find_store.Goals as goal
+
+on_ok_always : {T E P : Type 0} (result : Result T E) → P → OnOk result P
+on_ok_always (Ok x) p = p
+on_ok_always (Err e) p = tt
+
+if_err_weaker : {T : Type 0} (result : Result T RecoverFault) (P Q : RecoverFault → Type 0) → ((fault : RecoverFault) → P fault → Q fault) → IfErr result P → IfErr result Q
+if_err_weaker (Ok x) P Q weaker is = tt
+if_err_weaker (Err e) P Q weaker is = weaker e is
+
+pub returns-clause-found : goal.returns-clause-found
+returns-clause-found g c reads space redoes =
+    let first = g.D.Disk.reads c.args.disk.now in
+    let synced = g.D.Disk.reads c.sync_files.new.disk in
+    let has : HasMetas first c.in_ok-metas.metas = subst (λ (content : Files). HasMetas content c.in_ok-metas.metas) (same_content first synced c.sync_files.ensures.only_reads.keeps) (c.in_ok-metas.ensures.found reads) in
+    subst (λ (s : Key → Rec). IfOk c.found_of.result (IsFound first s)) (Redoes-unique first (redone (record_at first) has.entries) space (Redoes-metas first c.in_ok-metas.metas has) redoes) (c.found_of.ensures.found first has)
+
+pub returns-clause-intact : goal.returns-clause-intact
+returns-clause-intact g c reads =
+    let first = g.D.Disk.reads c.args.disk.now in
+    let synced = g.D.Disk.reads c.sync_files.new.disk in
+    let has : HasMetas first c.in_ok-metas.metas = subst (λ (content : Files). HasMetas content c.in_ok-metas.metas) (same_content first synced c.sync_files.ensures.only_reads.keeps) (c.in_ok-metas.ensures.found reads) in
+    on_ok_always c.found_of.result (redone (record_at first) has.entries, Redoes-metas first c.in_ok-metas.metas has)
+
+pub returns-clause-refused : goal.returns-clause-refused
+returns-clause-refused g c reads =
+    let first = g.D.Disk.reads c.args.disk.now in
+    let synced = g.D.Disk.reads c.sync_files.new.disk in
+    let has : HasMetas first c.in_ok-metas.metas = subst (λ (content : Files). HasMetas content c.in_ok-metas.metas) (same_content first synced c.sync_files.ensures.only_reads.keeps) (c.in_ok-metas.ensures.found reads) in
+    let space = redone (record_at first) has.entries in
+    if_err_weaker c.found_of.result (RefusesRecords first space) (Refuses first) (λ fault. Refuses-records first space fault (Redoes-metas first c.in_ok-metas.metas has)) (c.found_of.ensures.refused first has)

@@ -1,0 +1,45 @@
+use Rattle.std.proofs.Common.{◌≡◌, ◌∙◌, ap, sym, subst, ℕ, ◌+◌, arith, refl}
+use Rattle.disk_model.specs.Contents.{Files}
+use Rattle.disk_model.proofs.Spans.{only_reads_none, only_reads_on}
+use Rattle.rec_bytes.specs.declared.key.Key.{Key}
+use Rattle.rec_bytes.specs.declared.record.Rec.{Rec}
+use Rattle.redo_log.specs.Entries.{count_at, entry_at, entry_bytes}
+use Rattle.redo_log.specs.declared.entry_answer.EntryAnswer.TheVariants.{End, Entry}
+use Rattle.record_file.specs.Records.{record_at}
+use Rattle.recovery.specs.MetaRecords.{AreMetas, HasMetas}
+use Rattle.rec_bytes.specs.Space.{laid_over}
+use Rattle.recovery.proofs.LogSteps.{IsAtEntry-read}
+use Rattle.recovery.proofs.Metas.{HasEntries-read_to, IsReadTo-more, Tells-same, same_content}
+use Rattle.recovery.proofs.meta_records.find_metas.Goals as goal
+
+pub loop-count-preserved : goal.loop-count-preserved
+loop-count-preserved g c =
+    let disk = g.D.Disk in
+    let first = disk.reads c.args.disk.now in
+    let old = disk.reads c.loop-count.disk in
+    let mid = disk.reads c.entry_at.new.disk in
+    let place = c.loop-count.place in
+    let log = c.in-Entry.ensures.in_log in
+    let was = c.loop-count.invariant in
+    let to_mid = only_reads_on disk c.args.disk.now c.loop-count.disk c.entry_at.new.disk was.only_reads c.entry_at.ensures.only_reads in
+    record {
+      within = omega (arith, log.2, log.3);
+      kept = λ reads. c.take_entry.ensures.keeps reads (c.entry_at.ensures.keeps reads (was.kept reads));
+      read = λ reads.
+          let tells = c.in-Entry.ensures.tells reads (was.kept reads) in
+          let at = IsAtEntry-read old mid c.entry_at.new.self place c.in-Entry.count tells.0 tells.1 c.entry_at.ensures.only_reads.keeps (c.entry_at.ensures.keeps reads (was.kept reads)) in
+          let told = Tells-same first old place (Entry c.in-Entry.count c.in-Entry.next) was.only_reads.keeps tells in
+          let same : mid ≡ first = same_content first mid to_mid.keeps in
+          IsReadTo-more first place c.in-Entry.next c.loop-count.records c.take_entry.new.records (was.read reads) told.0 (told.2 ∙ ap (λ n. place + entry_bytes n) told.1)
+          (λ space are. subst (λ (content : Files). AreMetas c.take_entry.new.records (laid_over space (entry_at content place))) same (c.in_ok-take_entry-in-Entry.ensures.taken reads at space are));
+      only_reads = only_reads_on disk c.args.disk.now c.entry_at.new.disk c.take_entry.new.disk to_mid c.take_entry.ensures.only_reads;
+      later = omega (arith, was.later, c.entry_at.ensures.later, c.take_entry.ensures.cause.later);
+    }
+
+pub returns-in-End-clause-found : goal.returns-in-End-clause-found
+returns-in-End-clause-found g c reads =
+    let first = g.D.Disk.reads c.args.disk.now in
+    let was = c.loop-count.invariant in
+    let read = was.read reads in
+    let closed = Tells-same first (g.D.Disk.reads c.loop-count.disk) c.loop-count.place End was.only_reads.keeps (c.in-End.ensures.tells reads (was.kept reads)) in
+    record { entries = read.entries; log = HasEntries-read_to first c.loop-count.place c.loop-count.records read closed; are = read.are }

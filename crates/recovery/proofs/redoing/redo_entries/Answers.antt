@@ -1,0 +1,103 @@
+use Rattle.std.proofs.Common.{◌≡◌, ◌∙◌, ap, ℕ, ◌+◌, List, arith}
+use Rattle.std.proofs.lemmas.Result.{err_from_is_err_and}
+use Rattle.disk_model.specs.Spans.{AtEachMoment, OnlyReads}
+use Rattle.disk_model.proofs.Spans.{at_each_moment_now, at_each_moment_on, at_each_moment_read}
+use Rattle.rec_bytes.specs.declared.key.Key.{Key}
+use Rattle.rec_bytes.specs.declared.record.Rec.{Rec}
+use Rattle.rec_bytes.specs.Pairs.{Pairs}
+use Rattle.redo_log.specs.Entries.{HasEntries, IsEntry, count_at, entry_at, entry_bytes}
+use Rattle.redo_log.specs.Reading.{IsPieceOf, Piece, Tells}
+use Rattle.redo_log.specs.declared.entry_answer.EntryAnswer.TheVariants.{Entry}
+use Rattle.record_file.specs.Records.{IsTornInRecords, record_at}
+use Rattle.record_file.proofs.Records.{record_at-kept}
+use Rattle.recovery.specs.Redoing.{IsAtEntry, IsTornInLogged}
+use Rattle.recovery.proofs.LogSteps.{IsAtEntry-read, IsNext-entry, IsRedoneTo, IsRedoneTo-end, IsRedoneTo-more, IsRedoneTo-read, IsTornInLogged-entry, SameButLogged-entry, SameButLogged-then, none_damaged}
+use Rattle.recovery.proofs.redoing.redo_entries.Given.{Over}
+use Rattle.recovery.proofs.redoing.redo_entries.Goals as goal
+
+-- with a read of the log and an entry redone
+crash_more : (g : Over) (first old mid now : g.row.D.Denot) (entries : List Pairs) (tail : ℕ) (piece : Piece) (place : ℕ) → g.D.Disk.tells_images → IsRedoneTo entries tail (g.D.Disk.reads first) (g.D.Disk.reads mid) piece place
+    → IsEntry (g.D.Disk.reads mid) place → AtEachMoment g.D.Disk first old (IsTornInLogged (g.D.Disk.may_leave first) entries) → OnlyReads g.D.Disk old mid
+    → AtEachMoment g.D.Disk mid now (IsTornInRecords (g.D.Disk.may_leave mid) (entry_at (g.D.Disk.reads mid) place)) → AtEachMoment g.D.Disk first now (IsTornInLogged (g.D.Disk.may_leave first) entries)
+crash_more g first old mid now entries tail piece place images was entry before reads more =
+    let disk = g.D.Disk in
+    let P = IsTornInLogged (disk.may_leave first) entries in
+    let at_mid = at_each_moment_read disk first old mid P g.met.D.Disk.counts_now images before reads in
+    at_each_moment_on disk first mid now P (IsTornInRecords (disk.may_leave mid) (entry_at (disk.reads mid) place)) at_mid more
+    (IsTornInLogged-entry (disk.may_leave first) (disk.may_leave mid) entries tail (disk.reads mid) place was.done was.left (IsNext-entry entries tail (disk.reads mid) place was.done was.left entry was.rest was.all)
+    (at_each_moment_now disk first mid P g.met.D.Disk.counts_now images at_mid))
+
+-- What the reader told of the place: an entry stands there, after those that are redone.
+record IsTold (g : Over) (first old mid : g.row.D.Denot) (entries : List Pairs) (tail : ℕ) (piece : Piece) (place count next : ℕ) : Type 0 where
+  at : IsAtEntry (g.D.Disk.reads mid) piece place count
+  now : IsRedoneTo entries tail (g.D.Disk.reads first) (g.D.Disk.reads mid) piece place
+  next_is : next ≡ place + entry_bytes (count_at (g.D.Disk.reads mid) place)
+
+told : (g : Over) (first old mid : g.row.D.Denot) (entries : List Pairs) (tail : ℕ) (piece seen : Piece) (place count next : ℕ) → (was : IsRedoneTo entries tail (g.D.Disk.reads first) (g.D.Disk.reads old) piece place)
+    → (IsPieceOf (g.D.Disk.reads old) piece → Tells (g.D.Disk.reads old) place (Entry count next)) → next ≡ place + entry_bytes count → OnlyReads g.D.Disk old mid
+    → (IsPieceOf (g.D.Disk.reads old) piece → IsPieceOf (g.D.Disk.reads mid) seen) → IsTold g first old mid entries tail seen place count next
+told g first old mid entries tail piece seen place count next was tells next_is reads keeps =
+    let disk = g.D.Disk in
+    let kept = keeps was.kept in
+    let at = IsAtEntry-read (disk.reads old) (disk.reads mid) seen place count (tells was.kept).0 (tells was.kept).1 reads.keeps kept in
+    record {
+      at = at;
+      now = IsRedoneTo-read entries tail (disk.reads first) (disk.reads old) (disk.reads mid) piece seen place was reads.keeps kept;
+      next_is = next_is ∙ ap (λ n. place + entry_bytes n) at.count_is;
+    }
+
+pub returns-in_err-redo_entry-in-Entry-clause-elsewhere : goal.returns-in_err-redo_entry-in-Entry-clause-elsewhere
+returns-in_err-redo_entry-in-Entry-clause-elsewhere g c reads entries tail has =
+    let disk = g.D.Disk in
+    let first = disk.reads c.args.disk.now in
+    let mid = disk.reads c.entry_at.new.disk in
+    let is = told g c.args.disk.now c.loop-count.disk c.entry_at.new.disk entries tail c.loop-count.reader c.entry_at.new.self c.loop-count.place c.in-Entry.count c.in-Entry.next
+    (c.loop-count.invariant.made reads entries tail has) (c.in-Entry.ensures.tells reads) c.in-Entry.ensures.in_log.2 c.entry_at.ensures.only_reads (c.entry_at.ensures.keeps reads) in
+    let next = IsNext-entry entries tail mid c.loop-count.place is.now.done is.now.left is.at.entry is.now.rest is.now.all in
+    SameButLogged-then entries first mid (disk.reads c.redo_entry.new.disk) is.now.same
+    (SameButLogged-entry entries is.now.done next.later (entry_at mid c.loop-count.place) mid (disk.reads c.redo_entry.new.disk) next.left_is (c.redo_entry.ensures.elsewhere reads is.at))
+
+pub returns-in_err-redo_entry-in-Entry-clause-crash : goal.returns-in_err-redo_entry-in-Entry-clause-crash
+returns-in_err-redo_entry-in-Entry-clause-crash g c reads images entries tail has =
+    let is = told g c.args.disk.now c.loop-count.disk c.entry_at.new.disk entries tail c.loop-count.reader c.entry_at.new.self c.loop-count.place c.in-Entry.count c.in-Entry.next
+    (c.loop-count.invariant.made reads entries tail has) (c.in-Entry.ensures.tells reads) c.in-Entry.ensures.in_log.2 c.entry_at.ensures.only_reads (c.entry_at.ensures.keeps reads) in
+    crash_more g c.args.disk.now c.loop-count.disk c.entry_at.new.disk c.redo_entry.new.disk entries tail c.entry_at.new.self c.loop-count.place images is.now is.at.entry (c.loop-count.invariant.crash reads images entries tail has)
+    c.entry_at.ensures.only_reads (c.redo_entry.ensures.crash reads images is.at)
+
+pub returns-in_err-redo_entry-in-Entry-clause-sound : goal.returns-in_err-redo_entry-in-Entry-clause-sound
+returns-in_err-redo_entry-in-Entry-clause-sound g c reads entries tail has =
+    let p = err_from_is_err_and c.from_residual.result c.from_residual.ensures.1 in
+    rw (p.1, p.2) (c.in_err-redo_entry-in-Entry.ensures.sound reads (told g c.args.disk.now c.loop-count.disk c.entry_at.new.disk entries tail c.loop-count.reader c.entry_at.new.self c.loop-count.place c.in-Entry.count c.in-Entry.next
+    (c.loop-count.invariant.made reads entries tail has) (c.in-Entry.ensures.tells reads) c.in-Entry.ensures.in_log.2 c.entry_at.ensures.only_reads (c.entry_at.ensures.keeps reads)).at)
+
+pub loop-count-preserved : goal.loop-count-preserved
+loop-count-preserved g c =
+    let disk = g.D.Disk in
+    let log = c.in-Entry.ensures.in_log in
+    record {
+      within = omega (arith, log.2, log.3);
+      made = λ reads entries tail has.
+          let is = told g c.args.disk.now c.loop-count.disk c.entry_at.new.disk entries tail c.loop-count.reader c.entry_at.new.self c.loop-count.place c.in-Entry.count c.in-Entry.next
+          (c.loop-count.invariant.made reads entries tail has) (c.in-Entry.ensures.tells reads) c.in-Entry.ensures.in_log.2 c.entry_at.ensures.only_reads (c.entry_at.ensures.keeps reads) in
+          IsRedoneTo-more entries tail (disk.reads c.args.disk.now) (disk.reads c.entry_at.new.disk) (disk.reads c.redo_entry.new.disk) c.entry_at.new.self c.redo_entry.new.reader c.loop-count.place c.in-Entry.next is.now is.at.entry
+          is.next_is (c.redo_entry.ensures.elsewhere reads is.at) (c.in_ok-redo_entry-in-Entry.ensures.written reads is.at) (c.redo_entry.ensures.keeps reads is.at);
+      crash = λ reads images entries tail has.
+          let is = told g c.args.disk.now c.loop-count.disk c.entry_at.new.disk entries tail c.loop-count.reader c.entry_at.new.self c.loop-count.place c.in-Entry.count c.in-Entry.next
+          (c.loop-count.invariant.made reads entries tail has) (c.in-Entry.ensures.tells reads) c.in-Entry.ensures.in_log.2 c.entry_at.ensures.only_reads (c.entry_at.ensures.keeps reads) in
+          crash_more g c.args.disk.now c.loop-count.disk c.entry_at.new.disk c.redo_entry.new.disk entries tail c.entry_at.new.self c.loop-count.place images is.now is.at.entry (c.loop-count.invariant.crash reads images entries tail has)
+          c.entry_at.ensures.only_reads (c.redo_entry.ensures.crash reads images is.at);
+      later = omega (arith, c.loop-count.invariant.later, c.entry_at.ensures.later, c.redo_entry.ensures.cause.later);
+    }
+
+pub returns-in-End-clause-redone : goal.returns-in-End-clause-redone
+returns-in-End-clause-redone g c reads entries tail has =
+    let disk = g.D.Disk in
+    let was = c.loop-count.invariant.made reads entries tail has in
+    let records : record_at (disk.reads c.entry_at.new.disk) ≡ record_at (disk.reads c.loop-count.disk) = λ i key. record_at-kept key (disk.reads c.loop-count.disk) (disk.reads c.entry_at.new.disk) c.entry_at.ensures.only_reads.keeps i in
+    records ∙ IsRedoneTo-end entries tail (disk.reads c.args.disk.now) (disk.reads c.loop-count.disk) c.loop-count.reader c.loop-count.place was (c.in-End.ensures.tells reads was.kept)
+
+pub returns-in-Damaged-clause-sound : goal.returns-in-Damaged-clause-sound
+returns-in-Damaged-clause-sound g c reads entries tail has =
+    let was = c.loop-count.invariant.made reads entries tail has in
+    let tells = c.in-Damaged.ensures.tells reads was.kept in
+    absurd (none_damaged was.left c.loop-count.place tail (g.D.Disk.reads c.loop-count.disk) was.rest tells.1.0 tells.1.1)

@@ -1,0 +1,20 @@
+//! Recovery: what the log says comes into the files of records, at a checkpoint and after a stop. A checkpoint
+//! costs a write for each changed record, and eight syncs; recovery reads the log twice and syncs all files twice.
+#![tactic(auto)]
+
+mod checkpointing;
+mod finding;
+mod found;
+mod meta_records;
+mod recover_fault;
+mod recovering;
+mod redoing;
+mod syncing;
+mod writing;
+
+pub use checkpointing::checkpoint;
+pub use found::Found;
+pub use recover_fault::RecoverFault;
+pub use recovering::recover;
+pub use syncing::{sync_files, sync_record_files};
+pub use writing::write_records;

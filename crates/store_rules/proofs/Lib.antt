@@ -1,0 +1,17 @@
+pub mod ChainLaws
+pub mod Changes
+pub mod Counts
+pub mod Frames
+pub mod Made
+pub mod MetaLaws
+pub mod NameMade
+pub mod NameRows
+pub mod NewStores
+pub mod NodeChange
+pub mod NodeGone
+pub mod NodeMade
+pub mod NodeStores
+pub mod NumberLaws
+pub mod RowLaws
+pub mod Untouched
+pub mod ViewLaws

@@ -1,0 +1,51 @@
+-- What a store's meta records say after a change of one.
+use Rattle.std.specs.Prelude.{replicate}
+use Rattle.std.proofs.Common.{◌≡◌, ◌≢◌, ◌⊎◌, ⊎_elim, subst, ℕ, ◌+◌, ◌<◌, ◌≤◌, ◌^◌, ◌*◌, Bool, true, false, ◌||◌, ◌&&◌, cond, nat_eq, List, [], ◌∷◌, ◌++◌, length, take, drop, sym, ap, ◌∙◌, arith, refl}
+use Rattle.std.specs.List.{list_any, list_all}
+use Rattle.std.proofs.lemmas.Bool.{true≢false}
+use Rattle.std.proofs.lemmas.Bool.Decides.{nat_tests}
+use Rattle.rec_bytes.specs.declared.record.Rec.{Rec}
+use Rattle.rec_bytes.specs.declared.key.Key.{Key}
+use Rattle.rec_bytes.specs.declared.meta.Meta.{Meta}
+use Rattle.rec_bytes.specs.Format as format
+use Rattle.rec_bytes.specs.Key.{key_eq}
+use Rattle.rec_bytes.specs.Meta as metas
+use Rattle.rec_bytes.specs.Meta.{with_meta, meta_record, IsMetaInRange}
+use Rattle.rec_bytes.specs.Record.{field, with_field, as_64, with_bytes, zeros}
+use Rattle.rec_bytes.specs.RecordFiles.{is_meta_file, meta_files, meta_key_of}
+use Rattle.rec_bytes.specs.Space.{put, meta_in}
+use Rattle.rec_bytes.proofs.MetaBytes.{with_meta-again}
+use Rattle.rec_bytes.proofs.Metas.{meta_reads_back}
+use Rattle.rec_bytes.proofs.Numbers.{field-lt}
+use Rattle.rec_bytes.proofs.RecordFiles.{is_meta_file-not_meta}
+use Rattle.store_rules.specs.Ranges.{is_reused}
+use Rattle.store_rules.specs.Views.{Records, key_in}
+use Rattle.store_rules.proofs.NumberLaws.{and_parts}
+
+pub meta_of_reused : (file : ℕ) → is_reused file ≡ true → is_meta_file file ≡ true
+meta_of_reused file h = (and_parts (is_meta_file file) (cond (nat_eq file format.names_file) false true) h).0
+
+-- a record of a file with a meta record is no meta record
+pub not_meta_key : (file x g : ℕ) → is_meta_file file ≡ true → key_in file x ≢ meta_key_of g
+not_meta_key file x g is e = is_meta_file-not_meta file is (ap (λ (k : Key). k.file) e)
+
+-- the numbers of a meta record fit
+pub high_fits : (records : Records) (file : ℕ) → (meta_in records file).high < 2 ^ 32
+high_fits records file = field-lt 4 (records (meta_key_of file)) format.meta_high
+
+pub free_fits : (records : Records) (file : ℕ) → (meta_in records file).free < 2 ^ 32
+free_fits records file = field-lt 4 (records (meta_key_of file)) format.meta_free
+
+pub live_fits : (records : Records) (file : ℕ) → (meta_in records file).live < 2 ^ 32
+live_fits records file = field-lt 4 (records (meta_key_of file)) format.meta_live
+
+-- a meta record in range stays so with other numbers that are
+pub meta_in_range : (most : ℕ) (r : Rec) (m : Meta) → IsMetaInRange most r → m.high ≤ most → most < 2 ^ 32 → (m.free ≡ format.nil) ⊎ (m.free < m.high) → m.live < 2 ^ 32 → IsMetaInRange most (with_meta r m)
+meta_in_range most r m old high small free live =
+    let free_small : m.free < 2 ^ 32 = ⊎_elim (λ (e : m.free ≡ format.nil). omega arith) (λ (lt : m.free < m.high). omega arith) free in
+    let back : metas.meta_of (with_meta r m) ≡ m = meta_reads_back r m (omega arith) free_small live in
+    record {
+      high = subst (λ (q : Meta). q.high ≤ most) (sym back) high;
+      free = subst (λ (q : Meta). (q.free ≡ format.nil) ⊎ (q.free < q.high)) (sym back) free;
+      rest = ap (λ q. with_meta q m) old.rest ∙ with_meta-again zeros (metas.meta_of r) m ∙ ap meta_record (sym back);
+    }

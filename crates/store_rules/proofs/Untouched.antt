@@ -1,0 +1,76 @@
+-- The rules where no relationship, group, property or block changed.
+use Rattle.std.proofs.Common.{◌≡◌, ◌≢◌, ◌⊎◌, ℕ, ◌≤◌, Bool, true, false, nat_eq, not, Option, None, Some, List, sym, ap, ◌∙◌, subst, inl, inr, ⊎_elim, arith, refl}
+use Rattle.std.proofs.lemmas.Bool.{true≢false}
+use Rattle.rec_bytes.specs.declared.record.Rec.{Rec}
+use Rattle.rec_bytes.specs.declared.key.Key.{Key}
+use Rattle.rec_bytes.specs.Format as format
+use Rattle.rec_bytes.specs.RecordFiles.{is_meta_file}
+use Rattle.store_rules.specs.Rules.{AllListed, AreCounted, GroupHead, HaveProperties, Head, IsEnd, IsGrouped, IsLinked, IsListed, Owns, PropertyFiles, SparseHead, StandsAt, degree_of, is_to_come, node_head, property_files}
+use Rattle.store_rules.specs.Views.{GroupRow, NodeRow, Records, RelRow, degree, first_link, group_at, group_in, high, kind_at, rec_at, rel_at, rel_in, row_if}
+use Rattle.store_rules.proofs.Changes as ch
+use Rattle.store_rules.proofs.Changes.{IsChanged}
+use Rattle.store_rules.proofs.Frames.{IsSame, grouped_stays, kind_same, live_same}
+
+-- a head stands in a record of the nodes or of the groups
+pub head_file : (kind : ℕ → ℕ) (groups : ℕ → Option GroupRow) (h : Head) (n : ℕ) → Owns kind groups h n → is_meta_file h.key.file ≡ true
+head_file kind groups h n (inl k) = ap (λ (z : Head). is_meta_file z.key.file) k.is
+head_file kind groups h n (inr k) = ap (λ (z : Key). is_meta_file z.file) k.key
+
+module _ (s t : Records) (file id : ℕ) (change : IsChanged s t file id) (apart : is_to_come file ≡ false) where
+  other_file : (f : ℕ) → is_to_come f ≡ true → f ≢ file
+  other_file f is e = true≢false (sym is ∙ ap is_to_come e ∙ apart)
+
+  same : (f : ℕ) → is_meta_file f ≡ true → is_to_come f ≡ true → IsSame s t f
+  same f is come = ch.same_file s t file id change f is (other_file f come)
+
+  pub rels_same : rel_at t ≡ rel_at s
+  rels_same = λ i x. row_if (kind_same s t format.relationships_file (same format.relationships_file refl refl) x i) (rel_in ((same format.relationships_file refl refl).each x i) x)
+
+  pub groups_same : group_at t ≡ group_at s
+  groups_same = λ i x. row_if (kind_same s t format.groups_file (same format.groups_file refl refl) x i) (group_in ((same format.groups_file refl refl).each x i) x)
+
+  group_file_same : rec_at t format.groups_file ≡ rec_at s format.groups_file
+  group_file_same = λ i x. (same format.groups_file refl refl).each x i
+
+  pub properties_same : property_files t ≡ property_files s
+  properties_same = λ i. record {
+    kind = λ x. kind_same s t format.properties_file (same format.properties_file refl refl) x i;
+    property = λ x. (same format.properties_file refl refl).each x i;
+    string = λ x. (same format.strings_file refl refl).each x i;
+    property_live = live_same s t format.properties_file (same format.properties_file refl refl) i;
+    string_live = live_same s t format.strings_file (same format.strings_file refl refl) i;
+  }
+
+  rel_mark : high t format.relationships_file ≡ high s format.relationships_file
+  rel_mark = ch.mark_same s t file id change format.relationships_file (other_file format.relationships_file refl)
+
+  -- the third rule, where the heads of the nodes list what stood at them, and the ends of relationships are the nodes that they were
+  pub linked : ((x n : ℕ) (row : RelRow) → rel_at s x ≡ Some row → IsEnd n row → kind_at t format.nodes_file n ≡ kind_at s format.nodes_file n)
+      → ((h : Head) (n : ℕ) → Owns (kind_at t format.nodes_file) (group_at s) h n → IsListed t h n (StandsAt (rel_at s) (group_at s) h))
+      → IsLinked s (kind_at s format.nodes_file) (rel_at s) (group_at s) → IsLinked t (kind_at t format.nodes_file) (rel_at t) (group_at t)
+  linked stay each old = subst (λ r. IsLinked t (kind_at t format.nodes_file) r (group_at t)) (sym rels_same) (subst (λ g. IsLinked t (kind_at t format.nodes_file) (rel_at s) g) (sym groups_same) (record {
+    ends = λ x row e. let k = old.ends x row e in record {
+      from = λ q. k.from (sym (stay x row.from row e (inl refl)) ∙ q);
+      to = λ q. k.to (sym (stay x row.to row e (inr refl)) ∙ q);
+    };
+    typed = λ x n row e at d. old.typed x n row e at (sym (stay x n row e at) ∙ d);
+    listed = record { each = each };
+  }))
+
+  -- the fourth, where dense nodes are those that they were
+  pub grouped : ((n g : ℕ) (row : GroupRow) → group_at s g ≡ Some row → row.owner ≡ n → kind_at s format.nodes_file n ≡ format.dense → kind_at t format.nodes_file n ≡ format.dense)
+      → ((n : ℕ) → kind_at t format.nodes_file n ≡ format.dense → (kind_at s format.nodes_file n ≡ format.dense) × (first_link t n ≡ first_link s n))
+      → IsGrouped (kind_at s format.nodes_file) (first_link s) (rec_at s format.groups_file) (group_at s) → IsGrouped (kind_at t format.nodes_file) (first_link t) (rec_at t format.groups_file) (group_at t)
+  grouped there back old = subst (λ r. IsGrouped (kind_at t format.nodes_file) (first_link t) r (group_at t)) (sym group_file_same)
+      (subst (λ g. IsGrouped (kind_at t format.nodes_file) (first_link t) (rec_at s format.groups_file) g) (sym groups_same)
+      (grouped_stays (kind_at s format.nodes_file) (kind_at t format.nodes_file) (first_link s) (first_link t) (rec_at s format.groups_file) (group_at s) there back old))
+
+  -- the fifth, by nodes and names that may have changed
+  pub properties : (nodes : ℕ → Option NodeRow) (names : ℕ) → HaveProperties (property_files s) nodes (rel_at s) names → HaveProperties (property_files t) nodes (rel_at t) names
+  properties nodes names old = subst (λ r. HaveProperties (property_files t) nodes r names) (sym rels_same) (subst (λ f. HaveProperties f nodes (rel_at s) names) (sym properties_same) old)
+
+  -- the seventh, by the kinds and degrees of the nodes
+  pub degrees : (threshold : ℕ) → ((n : ℕ) → kind_at t format.nodes_file n ≢ format.free_kind → degree t n ≡ degree_of (rel_at s) (high s format.relationships_file) n)
+      → ((n : ℕ) → kind_at t format.nodes_file n ≡ format.sparse → degree t n ≤ threshold) → AreCounted (kind_at t format.nodes_file) (degree t) (rel_at t) (high t format.relationships_file) threshold
+  degrees threshold each few = subst (λ r. AreCounted (kind_at t format.nodes_file) (degree t) r (high t format.relationships_file) threshold) (sym rels_same)
+      (subst (λ m. AreCounted (kind_at t format.nodes_file) (degree t) (rel_at s) m threshold) (sym rel_mark) (record { each = each; few = few }))

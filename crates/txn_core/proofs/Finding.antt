@@ -1,0 +1,133 @@
+-- What recovery finds, and what a store begins with then.
+use Rattle.std.proofs.Common.{◌≡◌, ◌∙◌, ap, sym, subst, inl, inr, ⊎_elim, ◌⊎◌, ℕ, List, [], Option, Some, None, is_some, Result, Ok, Err, IfOk, IfErr, refl}
+use mathlib.Core.Bool.{false≢true}
+use Rattle.disk_model.specs.Contents.{Files, Same}
+use Rattle.disk_model.specs.Spans.{AtEachMoment, IsAllSettled, OnlyReads}
+use Rattle.disk_model.specs.declared.disk.Disk.{Ghosts}
+use Rattle.disk_model.proofs.Spans.{CountsNow, at_each_moment_on, at_each_moment_read, at_each_moment_weaker}
+use Rattle.rec_bytes.specs.declared.key.Key.{Key}
+use Rattle.rec_bytes.specs.declared.record.Rec.{Rec}
+use Rattle.rec_bytes.specs.declared.shape.Shape.{Shape}
+use Rattle.rec_bytes.specs.Creation.{creation_pairs, own_key}
+use Rattle.rec_bytes.specs.RecordFiles.{meta_key_of}
+use Rattle.rec_bytes.specs.Pairs.{Pairs}
+use Rattle.rec_bytes.specs.Record.{zeros}
+use Rattle.rec_bytes.specs.Shape.{shape_of_record}
+use Rattle.rec_bytes.specs.Space.{laid_over}
+use Rattle.redo_log.specs.Entries.{HasEntries}
+use Rattle.redo_log.specs.Redo.{redone}
+use Rattle.redo_log.proofs.Appends.{HasEntries-read}
+use Rattle.record_file.specs.Records.{IsUnmade, record_at}
+use Rattle.record_file.specs.Redone.{Redoes}
+use Rattle.record_file.specs.Unique.{entries_unique}
+use Rattle.recovery.specs.Finding.{IsFound, IsMade}
+use Rattle.recovery.specs.declared.found.Found.TheVariants.{Made}
+use Rattle.txn_core.specs.Config.{Suits, shape_of}
+use Rattle.txn_core.specs.Kept.{IsKept}
+use Rattle.txn_core.specs.MetaRecords.{AreMetasOf, with_metas}
+use Rattle.txn_core.specs.Opening.{IsOldOrNew, IsRefusal, IsStore, OnlyDiffers, Opens, RefusesOpening, made_over}
+use Rattle.txn_core.specs.declared.open_fault.OpenFault.{OpenFault}
+use Rattle.txn_core.specs.declared.open_fault.OpenFault.TheVariants.{Memory, Disk, NotAStore, Damaged, ConfigDiffers}
+use Rattle.txn_core.specs.declared.config.Config.{Config}
+use Rattle.txn_core.proofs.Kept.{Redoes-same, kept_settled, same_records}
+use Rattle.txn_core.proofs.Metas.{with_metas-same}
+
+-- contents of the same bytes are the same
+pub same_files : (old new : Files) → Same old new → new ≡ old
+same_files old new same = λ i file place. same file place i
+
+-- a content redoes to one space
+pub redoes_unique : (content : Files) (a b : Key → Rec) → Redoes content a → Redoes content b → a ≡ b
+redoes_unique content a b one other =
+    sym one.makes ∙ ap (redone (record_at content)) (entries_unique one.entries other.entries 0 one.tail other.tail content one.log other.log) ∙ other.makes
+
+-- a store that is read is of one shape
+some_same : {X : Type 0} (x y : X) → let one : Option X = Some x in one ≡ Some y → x ≡ y
+some_same x y e = cc
+
+pub one_shape : (content : Files) (space : Key → Rec) (shape other : Shape) → IsStore content shape → Redoes content space → IsMade space other → other ≡ shape
+one_shape content space shape other made redoes has =
+    some_same other shape
+    (sym has.own ∙ ap (λ (records : Key → Rec). shape_of_record (records own_key)) (redoes_unique content space made.space redoes made.redoes) ∙ made.made.own)
+
+-- where none was made there is none
+pub none_made : (content : Files) (shape : Shape) → IsUnmade content → IsStore content shape → ⊥
+none_made content shape unmade made =
+    let same : made.space ≡ record_at content = redoes_unique content made.space (record_at content) made.redoes (record { entries = []; tail = 0; log = unmade.log; makes = refl }) in
+    let own : shape_of_record zeros ≡ Some shape = ap shape_of_record (sym (ap (λ (records : Key → Rec). records own_key) same ∙ unmade.blank 0 refl)) ∙ made.made.own in
+    false≢true (ap (λ (o : Option Shape). is_some o) own)
+
+-- reads leave the disk settled
+pub settled_read : {D : Type 0} (g : Ghosts D) (old new : D) → OnlyReads g old new → g.tells_images → IsAllSettled g old → IsAllSettled g new
+settled_read g old new reads told settled file below image left place = settled file below image (reads.crash told image left) place ∙ sym (reads.keeps file place)
+
+-- the store that is read
+pub made_opened : (content mid now : Files) (config : Config) (shape found : Shape) (metas : List Rec) (changed : Pairs) (made : IsStore content found) → changed ≡ [] → AreMetasOf (record_at mid) metas → Same mid now
+    → record_at mid ≡ made.space → shape ≡ found → Suits config found → Opens content config shape (laid_over (with_metas metas (record_at now)) changed)
+made_opened content mid now config shape found metas changed made none held same is found_is suits =
+    let records : record_at now ≡ record_at mid = same_records mid now same in
+    let space : laid_over (with_metas metas (record_at now)) changed ≡ made.space =
+    ap (laid_over (with_metas metas (record_at now))) none ∙ with_metas-same metas (record_at now) (subst (λ (r : Key → Rec). AreMetasOf r metas) (sym records) held) ∙ records ∙ is in
+    inr (
+      subst (Redoes content) (sym space) made.redoes,
+      subst (λ (s : Shape). IsMade (laid_over (with_metas metas (record_at now)) changed) s) (sym found_is) (subst (λ (r : Key → Rec). IsMade r found) (sym space) made.made),
+      subst (Suits config) (sym found_is) suits,
+    )
+
+pub made_kept : {D : Type 0} (g : Ghosts D) (mid now : D) (metas : List Rec) (changed : Pairs) → changed ≡ [] → OnlyReads g mid now → (g.tells_reads → HasEntries (g.reads mid) [] 0)
+    → (g.tells_reads → g.tells_images → IsAllSettled g mid) → (g.tells_reads → AreMetasOf (record_at (g.reads mid)) metas) → IsKept g now metas changed 0
+made_kept g mid now metas changed none reads log settled held =
+    kept_settled g now metas changed none (λ told. HasEntries-read [] 0 (g.reads mid) (g.reads now) (log told) (reads.keeps 7)) (λ told images. settled_read g mid now reads images (settled told images))
+    (λ told. subst (λ (r : Key → Rec). AreMetasOf r metas) (sym (same_records (g.reads mid) (g.reads now) reads.keeps)) (held told))
+
+-- what a stop leaves before it
+pub unmade_left : {D : Type 0} (g : Ghosts D) (first now : D) (config : Config) → AtEachMoment g first now (λ left. g.may_leave first left ⊎ IsUnmade left)
+    → AtEachMoment g first now (λ left. g.may_leave first left ⊎ IsOldOrNew (g.reads first) (shape_of config) left)
+unmade_left g first now config before = at_each_moment_weaker g first now _ _ before (λ left. ⊎_elim (λ was. inl was) (λ none. inr (inl none)))
+
+-- what a stop leaves while the first entry is appended
+pub unmade_crash : {D : Type 0} (g : Ghosts D) (first mid now : D) (config : Config) (shape : Shape) → IsUnmade (g.reads first) → record_at (g.reads mid) ≡ record_at (g.reads first) → shape ≡ shape_of config
+    → AtEachMoment g first mid (λ left. g.may_leave first left ⊎ IsUnmade left) → AtEachMoment g mid now (IsOldOrNew (g.reads mid) shape)
+    → AtEachMoment g first now (λ left. g.may_leave first left ⊎ IsOldOrNew (g.reads first) (shape_of config) left)
+unmade_crash g first mid now config shape unmade same is before crash =
+    at_each_moment_on g first mid now _ _ (unmade_left g first mid config before) crash
+    (λ left made. inr (⊎_elim (λ none. inl none) (λ redoes. inr (Redoes-same left _ _ (ap (λ (records : Key → Rec). laid_over records (creation_pairs shape)) same ∙ ap (made_over (g.reads first)) is) redoes)) made))
+
+-- the new store
+pub unmade_opened : (content mid : Files) (config : Config) (shape made : Shape) (space : Key → Rec) → IsUnmade content → record_at mid ≡ record_at content → made ≡ shape_of config → shape ≡ made → space ≡ made_over mid made → Opens content config shape space
+unmade_opened content mid config shape made space unmade same made_is shape_is is =
+    inl (unmade, shape_is ∙ made_is, is ∙ ap (λ (records : Key → Rec). laid_over records (creation_pairs made)) same ∙ ap (made_over content) (sym shape_is))
+
+-- none was made after the recovery either
+pub unmade_mid : (content mid : Files) → IsUnmade content → record_at mid ≡ record_at content → HasEntries mid [] 0 → IsUnmade mid
+unmade_mid content mid unmade same log = record { log = log; blank = λ file is_file. ap (λ (records : Key → Rec). records (meta_key_of file)) same ∙ unmade.blank file is_file }
+
+-- a content with no entry redoes to its own records
+pub redoes_own : (content : Files) → IsUnmade content → Redoes content (record_at content)
+redoes_own content unmade = record { entries = []; tail = 0; log = unmade.log; makes = refl }
+
+-- two facts of a success
+pub if_ok_both : {T E : Type 0} (r : Result T E) (P Q : T → Type 0) → IfOk r P → IfOk r Q → IfOk r (λ x. P x × Q x)
+if_ok_both (Ok x) P Q p q = (p, q)
+if_ok_both (Err e) P Q p q = tt
+
+-- a fact of any
+pub if_ok_all : {T E : Type 0} (r : Result T E) (P Q : T → Type 0) → ((x : T) → P x → Q x) → IfOk r P → IfOk r Q
+if_ok_all (Ok x) P Q f p = f x p
+if_ok_all (Err e) P Q f p = tt
+
+-- a store of another shape than is asked for is refused so
+pub refuses_differs : (content : Files) (config : Config) (shape : Shape) (fault : OpenFault) → IsStore content shape → OnlyDiffers shape config fault → RefusesOpening content config fault
+refuses_differs content config shape Memory store only = tt
+refuses_differs content config shape Disk store only = tt
+refuses_differs content config shape NotAStore store only = absurd only
+refuses_differs content config shape (Damaged damage) store only = absurd only
+refuses_differs content config shape (ConfigDiffers stored asked) store only =
+    (subst (IsStore content) (sym only.0) store, only.1, λ suits. only.2 (subst (Suits config) only.0 suits))
+
+pub differs_untouched : {T : Type 0} (config : Config) (shape : Shape) (fault : OpenFault) → OnlyDiffers shape config fault → IsRefusal fault → T
+differs_untouched config shape Memory only is = absurd is
+differs_untouched config shape Disk only is = absurd is
+differs_untouched config shape NotAStore only is = absurd only
+differs_untouched config shape (Damaged damage) only is = absurd only
+differs_untouched config shape (ConfigDiffers stored asked) only is = absurd is

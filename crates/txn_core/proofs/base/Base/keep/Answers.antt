@@ -1,0 +1,25 @@
+use Rattle.std.proofs.Common.{rules, ap, sym, subst, arith, length}
+use Rattle.rec_bytes.specs.Pairs.{IsOrdered, Pairs, growth_by}
+use Rattle.txn_core.proofs.Sets.{length-merged}
+use Rattle.txn_core.proofs.base.Base.keep.Goals as goal
+
+pub invariant_of-self-2 : goal.invariant_of-self-2
+invariant_of-self-2 g c =
+    let was = c.args.self.now.bounded in
+    let draft = c.args.draft.now.pairs in
+    let same = c.reserve.ensures.pairs in
+    record {
+      allowed = c.args.self.now.allowed;
+      bounded = record {
+        room = was.room;
+        few = omega (
+          arith,
+          ap (λ (pairs : Pairs). length pairs) c.merge.ensures.pairs,
+          ap (λ (pairs : Pairs). length pairs) same,
+          ap (λ (pairs : Pairs). growth_by pairs draft) same,
+          length-merged c.reserve.new.self.pairs draft (subst IsOrdered (sym same) c.len-2.ensures.rising),
+        );
+        closed = λ closed. search rules;
+      };
+      kept = c.args.self.now.kept;
+    }

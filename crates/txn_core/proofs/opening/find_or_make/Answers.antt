@@ -1,0 +1,150 @@
+use Rattle.std.proofs.Common.{rules, ◌≡◌, ◌∙◌, ap, sym, subst, inl, inr, ℕ, Result, Ok, Err, IfOk}
+use Rattle.std.proofs.lemmas.Result.{IfErr-weaker}
+use Rattle.disk_model.proofs.Spans.{at_each_moment_read}
+use Rattle.rec_bytes.specs.declared.shape.Shape.{Shape}
+use Rattle.record_file.specs.Records.{IsUnmade, record_at}
+use Rattle.txn_core.specs.Config.{Suits}
+use Rattle.txn_core.specs.Kept.{IsKept}
+use Rattle.txn_core.specs.MetaRecords.{AreMetasOf}
+use Rattle.txn_core.specs.Opening.{IsRefusal, IsStore, IsWant, OnlyDiffers, RefusesOpening}
+use Rattle.txn_core.specs.declared.open_fault.OpenFault.{OpenFault}
+use Rattle.txn_core.specs.declared.opening.Start.{Start}
+use Rattle.txn_core.proofs.Finding.{differs_untouched, if_ok_all, if_ok_both, made_kept, made_opened, none_made, one_shape, redoes_own, refuses_differs, unmade_crash, unmade_left, unmade_mid, unmade_opened}
+use Rattle.txn_core.proofs.opening.find_or_make.Given.{Over}
+use Rattle.txn_core.proofs.opening.find_or_make.Goals as goal
+
+-- the store that is found
+store : (g : Over) (c : goal.After-read_made g) → g.D.Disk.tells_reads → IsStore (g.D.Disk.reads c.args.disk.now) c.in-Ok-Made.shape
+store g c reads =
+    let intact = c.in-Ok-Made.ensures.intact reads in
+    record { space = intact.0; redoes = intact.1; made = rw c.in-Ok-Made.field-0-is at (c.in-Ok-Made.ensures.found reads intact.0 intact.1) }
+
+pub returns-in-Ok-Made-clause-opened : goal.returns-in-Ok-Made-clause-opened
+returns-in-Ok-Made-clause-opened g c reads =
+    let disk = g.D.Disk in
+    let found = c.in-Ok-Made.shape in
+    let mid = disk.reads c.recover.new.disk in
+    let made = store g c reads in
+    let r = c.read_made.result in
+    let held = λ (s : Start). AreMetasOf (record_at mid) s.metas.records in
+    let shape = λ (s : Start). s.shape ≡ found in
+    let suits = λ (s : Start). Suits c.args.config found in
+    if_ok_all r (λ s. held s × (shape s × suits s)) _
+    (λ s of. made_opened (disk.reads c.args.disk.now) mid (disk.reads c.read_made.new.disk) c.args.config s.shape found s.metas.records c.args.changed.now.pairs made c.requires.changed of.0 c.read_made.ensures.only_reads.keeps (c.in-Ok-Made.ensures.space reads made.space made.redoes) of.1.0 of.1.1)
+    (if_ok_both r held _ (c.read_made.ensures.metas reads) (if_ok_both r shape suits c.read_made.ensures.shape c.read_made.ensures.suits))
+
+pub returns-in-Ok-Made-clause-kept : goal.returns-in-Ok-Made-clause-kept
+returns-in-Ok-Made-clause-kept g c =
+    let disk = g.D.Disk in
+    let mid = c.recover.new.disk in
+    let r = c.read_made.result in
+    let held = λ (s : Start). disk.tells_reads → AreMetasOf (record_at (disk.reads mid)) s.metas.records in
+    let tail = λ (s : Start). s.tail ≡ 0 in
+    if_ok_all r (λ s. held s × tail s) _
+    (λ s of. subst (λ (n : ℕ). IsKept disk c.read_made.new.disk s.metas.records c.args.changed.now.pairs n) (sym of.1)
+    (made_kept disk mid c.read_made.new.disk s.metas.records c.args.changed.now.pairs c.requires.changed c.read_made.ensures.only_reads c.in-Ok-Made.ensures.emptied c.in-Ok-Made.ensures.settled of.0))
+    (if_ok_both r held tail (under disk.tells_reads (λ s. AreMetasOf (record_at (disk.reads mid)) s.metas.records) r c.read_made.ensures.metas) c.read_made.ensures.tail)
+  where
+    under : {T E : Type 0} (A : Type 0) (P : T → Type 0) (r : Result T E) → (A → IfOk r P) → IfOk r (λ x. A → P x)
+    under A P (Ok x) f = f
+    under A P (Err e) f = tt
+
+pub returns-in-Ok-Made-clause-crash : goal.returns-in-Ok-Made-clause-crash
+returns-in-Ok-Made-clause-crash g c reads images space shape redoes is =
+    at_each_moment_read g.D.Disk c.args.disk.now c.recover.new.disk c.read_made.new.disk _ g.met.D.Disk.counts_now images (c.recover.ensures.crash reads images space redoes) c.read_made.ensures.only_reads
+
+pub returns-in-Ok-Made-clause-crash_new : goal.returns-in-Ok-Made-clause-crash_new
+returns-in-Ok-Made-clause-crash_new g c reads images unmade = absurd (none_made (g.D.Disk.reads c.args.disk.now) c.in-Ok-Made.shape unmade (store g c reads))
+
+pub returns-in-Ok-Made-clause-refused : goal.returns-in-Ok-Made-clause-refused
+returns-in-Ok-Made-clause-refused g c reads =
+    let content = g.D.Disk.reads c.args.disk.now in
+    IfErr-weaker c.read_made.result (OnlyDiffers c.in-Ok-Made.shape c.args.config) (RefusesOpening content c.args.config) (λ fault only. refuses_differs content c.args.config c.in-Ok-Made.shape fault (store g c reads) only) c.read_made.ensures.refused
+
+pub returns-in-Ok-Made-clause-untouched : goal.returns-in-Ok-Made-clause-untouched
+returns-in-Ok-Made-clause-untouched g c reads =
+    IfErr-weaker c.read_made.result (OnlyDiffers c.in-Ok-Made.shape c.args.config) _ (λ fault only is. differs_untouched c.args.config c.in-Ok-Made.shape fault only is) c.read_made.ensures.refused
+
+pub returns-in-Ok-Made-clause-sound : goal.returns-in-Ok-Made-clause-sound
+returns-in-Ok-Made-clause-sound g c reads space shape redoes has =
+    let same = one_shape (g.D.Disk.reads c.args.disk.now) space c.in-Ok-Made.shape shape (store g c reads) redoes has in
+    IfErr-weaker c.read_made.result (OnlyDiffers c.in-Ok-Made.shape c.args.config) (OnlyDiffers shape c.args.config) (λ fault. subst (λ (s : Shape). OnlyDiffers s c.args.config fault) (sym same)) c.read_made.ensures.refused
+
+pub returns-in-Ok-Made-clause-unmade : goal.returns-in-Ok-Made-clause-unmade
+returns-in-Ok-Made-clause-unmade g c reads unmade = absurd (none_made (g.D.Disk.reads c.args.disk.now) c.in-Ok-Made.shape unmade (store g c reads))
+
+pub returns-in_err-make_new-in-Ok-Unmade-clause-crash : goal.returns-in_err-make_new-in-Ok-Unmade-clause-crash
+returns-in_err-make_new-in-Ok-Unmade-clause-crash g c reads images space shape redoes is =
+    let intact = c.in-Ok-Unmade.ensures.intact reads in
+    let unmade = rw c.in-Ok-Unmade.field-0-is at (c.in-Ok-Unmade.ensures.found reads intact.0 intact.1) in
+    absurd (none_made (g.D.Disk.reads c.args.disk.now) shape unmade (record { space = space; redoes = redoes; made = is }))
+
+pub returns-in_ok-make_new-in-Ok-Unmade-clause-crash : goal.returns-in_ok-make_new-in-Ok-Unmade-clause-crash
+returns-in_ok-make_new-in-Ok-Unmade-clause-crash g c reads images space shape redoes is =
+    let intact = c.in-Ok-Unmade.ensures.intact reads in
+    let unmade = rw c.in-Ok-Unmade.field-0-is at (c.in-Ok-Unmade.ensures.found reads intact.0 intact.1) in
+    absurd (none_made (g.D.Disk.reads c.args.disk.now) shape unmade (record { space = space; redoes = redoes; made = is }))
+
+pub returns-in_err-make_new-in-Ok-Unmade-clause-crash_new : goal.returns-in_err-make_new-in-Ok-Unmade-clause-crash_new
+returns-in_err-make_new-in-Ok-Unmade-clause-crash_new g c reads images unmade =
+    let disk = g.D.Disk in
+    let content = g.D.Disk.reads c.args.disk.now in
+    let same = c.in-Ok-Unmade.ensures.space reads (record_at content) (redoes_own content unmade) in
+    let none_now = unmade_mid content (g.D.Disk.reads c.recover.new.disk) unmade same (c.in-Ok-Unmade.ensures.emptied reads) in
+    unmade_crash disk c.args.disk.now c.recover.new.disk c.make_new.new.disk c.args.config c.shape.result unmade same c.shape.ensures (c.recover.ensures.unmade reads images unmade)
+    (c.make_new.ensures.crash reads images none_now (c.in-Ok-Unmade.ensures.settled reads images))
+
+pub returns-in_ok-make_new-in-Ok-Unmade-clause-crash_new : goal.returns-in_ok-make_new-in-Ok-Unmade-clause-crash_new
+returns-in_ok-make_new-in-Ok-Unmade-clause-crash_new g c reads images unmade =
+    let disk = g.D.Disk in
+    let content = g.D.Disk.reads c.args.disk.now in
+    let same = c.in-Ok-Unmade.ensures.space reads (record_at content) (redoes_own content unmade) in
+    let none_now = unmade_mid content (g.D.Disk.reads c.recover.new.disk) unmade same (c.in-Ok-Unmade.ensures.emptied reads) in
+    unmade_crash disk c.args.disk.now c.recover.new.disk c.make_new.new.disk c.args.config c.shape.result unmade same c.shape.ensures (c.recover.ensures.unmade reads images unmade)
+    (c.make_new.ensures.crash reads images none_now (c.in-Ok-Unmade.ensures.settled reads images))
+
+pub returns-in_ok-make_new-in-Ok-Unmade-clause-opened : goal.returns-in_ok-make_new-in-Ok-Unmade-clause-opened
+returns-in_ok-make_new-in-Ok-Unmade-clause-opened g c reads =
+    let disk = g.D.Disk in
+    let s = c.in_ok-make_new-in-Ok-Unmade.field-0 in
+    let intact = c.in-Ok-Unmade.ensures.intact reads in
+    let unmade = rw c.in-Ok-Unmade.field-0-is at (c.in-Ok-Unmade.ensures.found reads intact.0 intact.1) in
+    let content = g.D.Disk.reads c.args.disk.now in
+    let same = c.in-Ok-Unmade.ensures.space reads (record_at content) (redoes_own content unmade) in
+    let none_now = unmade_mid content (g.D.Disk.reads c.recover.new.disk) unmade same (c.in-Ok-Unmade.ensures.emptied reads) in
+    unmade_opened (disk.reads c.args.disk.now) (disk.reads c.recover.new.disk) c.args.config s.shape c.shape.result _ unmade same c.shape.ensures c.in_ok-make_new-in-Ok-Unmade.ensures.shape
+    (c.in_ok-make_new-in-Ok-Unmade.ensures.space reads none_now)
+
+pub returns-in_ok-make_new-in-Ok-Unmade-clause-kept : goal.returns-in_ok-make_new-in-Ok-Unmade-clause-kept
+returns-in_ok-make_new-in-Ok-Unmade-clause-kept g c = c.in_ok-make_new-in-Ok-Unmade.ensures.kept
+    (λ reads.
+    let intact = c.in-Ok-Unmade.ensures.intact reads in
+    let unmade = rw c.in-Ok-Unmade.field-0-is at (c.in-Ok-Unmade.ensures.found reads intact.0 intact.1) in
+    let content = g.D.Disk.reads c.args.disk.now in
+    let same = c.in-Ok-Unmade.ensures.space reads (record_at content) (redoes_own content unmade) in
+    let none_now = unmade_mid content (g.D.Disk.reads c.recover.new.disk) unmade same (c.in-Ok-Unmade.ensures.emptied reads) in
+    none_now) c.in-Ok-Unmade.ensures.settled
+
+pub returns-in-Err-NotAStore-clause-sound : goal.returns-in-Err-NotAStore-clause-sound
+returns-in-Err-NotAStore-clause-sound g c reads space shape redoes has =
+    let e = sym c.in-Err-NotAStore.field-0-is ∙ c.in-Err-NotAStore.ensures.sound reads space redoes (inr (shape, has)) in cc
+
+pub returns-in-Err-NotAStore-clause-unmade : goal.returns-in-Err-NotAStore-clause-unmade
+returns-in-Err-NotAStore-clause-unmade g c reads unmade =
+    let content = g.D.Disk.reads c.args.disk.now in
+    let e = sym c.in-Err-NotAStore.field-0-is ∙ c.in-Err-NotAStore.ensures.sound reads (record_at content) (redoes_own content unmade) (inl unmade) in cc
+
+pub returns-in-Err-Damaged-clause-sound : goal.returns-in-Err-Damaged-clause-sound
+returns-in-Err-Damaged-clause-sound g c reads space shape redoes has =
+    let e = sym c.in-Err-Damaged.field-0-is ∙ c.in-Err-Damaged.ensures.sound reads space redoes (inr (shape, has)) in cc
+
+pub returns-in-Err-Damaged-clause-unmade : goal.returns-in-Err-Damaged-clause-unmade
+returns-in-Err-Damaged-clause-unmade g c reads unmade =
+    let content = g.D.Disk.reads c.args.disk.now in
+    let e = sym c.in-Err-Damaged.field-0-is ∙ c.in-Err-Damaged.ensures.sound reads (record_at content) (redoes_own content unmade) (inl unmade) in cc
+
+pub returns-in-Err-Disk-clause-crash : goal.returns-in-Err-Disk-clause-crash
+returns-in-Err-Disk-clause-crash g c reads images space shape redoes is = c.recover.ensures.crash reads images space redoes
+
+pub returns-in-Err-Disk-clause-crash_new : goal.returns-in-Err-Disk-clause-crash_new
+returns-in-Err-Disk-clause-crash_new g c reads images unmade = unmade_left g.D.Disk c.args.disk.now c.recover.new.disk c.args.config (c.recover.ensures.unmade reads images unmade)

@@ -1,0 +1,23 @@
+use Rattle.std.proofs.Common.{◌≡◌, ◌∙◌, ap}
+use Rattle.disk_model.specs.declared.disk.Disk.{Ghosts}
+use Rattle.rec_bytes.specs.declared.key.Key.{Key}
+use Rattle.rec_bytes.specs.declared.record.Rec.{Rec}
+use Rattle.rec_bytes.specs.Pairs.{Pairs}
+use Rattle.rec_bytes.specs.Space.{laid_over}
+use Rattle.rec_bytes.proofs.Spaces.{laid_over-merged}
+use Rattle.record_file.specs.Records.{record_at}
+use Rattle.txn_core.specs.MetaRecords.{with_metas}
+use Rattle.txn_core.specs.Base.{SameBeneath, committed}
+use Rattle.txn_core.specs.declared.base.Base.{Base}
+use Rattle.txn_core.proofs.store.Store.keep.Goals as goal
+
+-- the disk wasn't called, so the same is committed
+committed-beneath : {D : Type 0} {g : Ghosts D} (old new : Base D g) → SameBeneath old new → committed new ≡ committed old
+committed-beneath {g = g} old new same = λ i. laid_over (with_metas (same.metas i).records (record_at (g.reads (same.disk i)))) (same.changed i).pairs
+
+pub returns-clause-working : goal.returns-clause-working
+returns-clause-working g c =
+    let old = c.args.self.now in
+    let new = c.keep.new.self in
+    ap (λ (pairs : Pairs). laid_over (committed new) pairs) c.in_ok-keep.ensures.own ∙ laid_over-merged (committed new) old.base.own.pairs old.draft.pairs c.in_ok-keep.ensures.rising
+    ∙ ap (λ (records : Key → Rec). laid_over (laid_over records old.base.own.pairs) old.draft.pairs) (committed-beneath old.base new c.in_ok-keep.ensures.same)

@@ -1,0 +1,36 @@
+-- What holds of a store at each moment between two of its calls.
+use Rattle.std.specs.Prelude.{◌≡◌, ℕ, ◌+◌, ◌≤◌, Bool, false, List, length}
+use Rattle.disk_model.specs.Contents.{Files}
+use Rattle.disk_model.specs.declared.disk.Disk.{Ghosts}
+use Rattle.rec_bytes.specs.declared.record.Rec.{Rec}
+use Rattle.rec_bytes.specs.Pairs.{Held, Pairs}
+use Rattle.record_file.specs.Records.{record_at}
+use Rattle.record_file.specs.Redone.{AreAlike, IsLogged}
+use Rattle.txn_core.specs.MetaRecords.{AreMetasOf}
+
+-- how many records may be changed between two checkpoints
+abbrev pub most_changed : ℕ
+most_changed = 8192
+
+-- how many records a transaction may write
+abbrev pub most_own : ℕ
+most_own = 2048
+
+-- The changed records have room for as many as there may be. The transaction has as many as an entry may have, and none where
+-- none is open.
+pub record AreBounded (in_transaction : Bool) (changed own : Held) : Type 0 where
+  pub room : most_changed ≤ length changed.pairs + changed.room
+  pub few : length own.pairs ≤ most_own
+  pub closed : in_transaction ≡ false → length own.pairs ≡ 0
+
+-- The log is what is read: its entries have the changed records, and it ends at the tail. Each image is what is read, but for the
+-- changed records, and the meta records in memory are those of their file.
+pub record IsKept {D : Type 0} (g : Ghosts D) (disk : D) (metas : List Rec) (changed : Pairs) (tail : ℕ) : Type 0 where
+  pub logged : g.tells_reads → IsLogged (g.reads disk) changed tail
+  pub alike : g.tells_reads → g.tells_images → AreAlike (g.reads disk) changed (g.may_leave disk)
+  pub held : g.tells_reads → AreMetasOf (record_at (g.reads disk)) metas
+
+-- what is read, and each image, has the fact
+pub record IsOnDisk {D : Type 0} (g : Ghosts D) (disk : D) (P : Files → Type 0) : Type 0 where
+  pub read : g.tells_reads → P (g.reads disk)
+  pub images : g.tells_reads → g.tells_images → (image : Files) → g.may_leave disk image → P image

@@ -1,0 +1,10 @@
+pub mod Again
+pub mod Base
+pub mod Config
+pub mod Kept
+pub mod MetaRecords
+pub mod OnlyReading
+pub mod Opening
+pub mod Outcomes
+pub mod Store
+pub mod Unique

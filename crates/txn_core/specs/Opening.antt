@@ -1,0 +1,69 @@
+-- What the opening of a store finds, and why one is refused.
+use Rattle.std.specs.Prelude.{◌≡◌, ◌⊎◌}
+use Rattle.disk_model.specs.Contents.{Files}
+use Rattle.rec_bytes.specs.Creation.{creation_pairs}
+use Rattle.rec_bytes.specs.Space.{laid_over}
+use Rattle.rec_bytes.specs.declared.key.Key.{Key}
+use Rattle.rec_bytes.specs.declared.record.Rec.{Rec}
+use Rattle.rec_bytes.specs.declared.shape.Shape.{Shape}
+use Rattle.record_file.specs.Records.{IsUnmade, record_at}
+use Rattle.record_file.specs.Redone.{Redoes}
+use Rattle.recovery.specs.Finding.{IsMade, Refuses}
+use Rattle.recovery.specs.declared.recover_fault.RecoverFault.TheVariants as recover
+use Rattle.txn_core.specs.Config.{Suits, shape_of}
+use Rattle.txn_core.specs.declared.config.Config.{Config}
+use Rattle.txn_core.specs.declared.open_fault.OpenFault.{OpenFault}
+use Rattle.txn_core.specs.declared.open_fault.OpenFault.TheVariants.{Memory, Disk, NotAStore, Damaged, ConfigDiffers}
+
+-- the records of a new store over those of a content
+abbrev pub made_over : Files → Shape → Key → Rec
+made_over content shape = laid_over (record_at content) (creation_pairs shape)
+
+-- a store of this shape stands in the content
+pub record IsStore (content : Files) (shape : Shape) : Type 0 where
+  pub space : Key → Rec
+  pub redoes : Redoes content space
+  pub made : IsMade space shape
+
+-- The store that is opened over this content: a new one where none was made, of the shape that is asked for; else the one whose
+-- records the content redoes to, of a shape that suits.
+abbrev pub Opens : Files → Config → Shape → (Key → Rec) → Type 0
+Opens content config shape space =
+    (IsUnmade content × (shape ≡ shape_of config) × (space ≡ made_over content shape))
+    ⊎ (Redoes content space × IsMade space shape × Suits config shape)
+
+-- a content with no store, or with the new one
+abbrev pub IsOldOrNew : Files → Shape → Files → Type 0
+IsOldOrNew content shape left = IsUnmade left ⊎ Redoes left (made_over content shape)
+
+-- Why the store of this content is not opened.
+abbrev pub RefusesOpening : Files → Config → OpenFault → Type 0
+RefusesOpening content config Memory = Unit {0}
+RefusesOpening content config Disk = Unit {0}
+RefusesOpening content config NotAStore = Refuses content recover.NotAStore
+RefusesOpening content config (Damaged damage) = Refuses content (recover.Damaged damage)
+RefusesOpening content config (ConfigDiffers stored asked) = IsStore content stored × (asked ≡ config) × ¬ Suits config stored
+
+-- why a store that stands is not opened: memory or the disk, or another shape is asked for
+abbrev pub OnlyDiffers : Shape → Config → OpenFault → Type 0
+OnlyDiffers shape config Memory = Unit {0}
+OnlyDiffers shape config Disk = Unit {0}
+OnlyDiffers shape config NotAStore = ⊥
+OnlyDiffers shape config (Damaged damage) = ⊥
+OnlyDiffers shape config (ConfigDiffers stored asked) = (stored ≡ shape) × (asked ≡ config) × ¬ Suits config shape
+
+-- why no store is made: memory or the disk
+abbrev pub IsWant : OpenFault → Type 0
+IsWant Memory = Unit {0}
+IsWant Disk = Unit {0}
+IsWant NotAStore = ⊥
+IsWant (Damaged damage) = ⊥
+IsWant (ConfigDiffers stored asked) = ⊥
+
+-- the files are refused for what they hold
+abbrev pub IsRefusal : OpenFault → Type 0
+IsRefusal Memory = ⊥
+IsRefusal Disk = ⊥
+IsRefusal NotAStore = Unit {0}
+IsRefusal (Damaged damage) = Unit {0}
+IsRefusal (ConfigDiffers stored asked) = ⊥

@@ -1,0 +1,55 @@
+ghost use Rattle.std.specs.Prelude.{◌≡◌, IsTrue, true};
+ghost use Rattle.rec_bytes.specs.Shape.{is_allowed};
+ghost use Rattle.txn_core.specs.Kept.{AreBounded, IsKept};
+ghost use Rattle.txn_core.specs.Unique.{AreBounded-prop, IsKept-prop};
+
+use crate::meta_records::MetaRecords;
+use disk_model::Disk;
+use rec_bytes::{Shape, WriteSet};
+
+/// How many records may be changed between two checkpoints.
+pub(crate) const MOST_CHANGED: usize = 8_192;
+
+/// How many records a transaction may write.
+pub(crate) const MOST_OWN: usize = 2_048;
+
+/// What lies beneath the draft of a store: its disk, and in memory the meta records as the files have them, the records
+/// changed since the last checkpoint, and those that the open transaction has written.
+#[derive(Drop)]
+pub struct Base<'d, D: Disk> {
+    pub(crate) disk: &'d mut D,
+    pub(crate) shape: Shape,
+    pub(crate) metas: MetaRecords,
+    pub(crate) changed: WriteSet,
+    pub(crate) own: WriteSet,
+    /// Where the log ends.
+    pub(crate) tail: u64,
+    pub(crate) live: bool,
+    /// Whether a transaction is open.
+    pub(crate) in_transaction: bool,
+    ghost allowed: { is_allowed shape ≡ true },
+    ghost bounded: { AreBounded in_transaction changed own } by { AreBounded-prop in_transaction changed own },
+
+    // While the store is live, its log is what is read, and each image is that but for the changed records.
+    ghost kept: { IsTrue live → IsKept D.Disk disk.now metas.records changed.pairs tail } by { IsKept-prop D.Disk disk.now metas.records changed.pairs tail live },
+}
+
+impl<'d, D: Disk> Base<'d, D> {
+    // Hands the disk back.
+    pub(crate) fn into_disk(self) -> &'d mut D
+        ensures same_disk { result.ghost_name ≡ self.entry.disk.ghost_name }
+        ensures disk { result.now ≡ self.entry.disk.now }
+    {
+        let Base {
+            disk,
+            shape: _,
+            metas: _,
+            changed: _,
+            own: _,
+            tail: _,
+            live: _,
+            in_transaction: _,
+        } = self;
+        disk
+    }
+}

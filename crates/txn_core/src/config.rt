@@ -1,0 +1,40 @@
+ghost use Rattle.std.specs.Prelude.{◌≡◌, ◌↔◌, IsTrue};
+ghost use Rattle.txn_core.specs.Config.{IsAsked, Suits, shape_of};
+
+use rec_bytes::Shape;
+
+/// What a store is asked to be; what isn't given is left open.
+#[derive(Clone, Copy, Debug, PartialEq, Eq)]
+pub struct Config {
+    /// A node with more relationships than this is dense. The words allow 2 to 200.
+    pub threshold: Option<u16>,
+    /// How many nodes there may be, and as many of each other kind. The words allow 16 to
+    /// 16,777,216.
+    pub limit: Option<u32>,
+}
+
+/// The threshold of a store that isn't asked for another.
+const THRESHOLD: u16 = 50;
+
+/// The limit of a store that isn't asked for another.
+const LIMIT: u32 = 1_048_576;
+
+impl Config {
+    /// The shape of a new store.
+    pub fn shape(&self) -> Shape
+        ensures { result ≡ shape_of self.now }
+    {
+        Shape {
+            threshold: self.threshold.unwrap_or(THRESHOLD),
+            limit: self.limit.unwrap_or(LIMIT),
+        }
+    }
+
+    /// Whether a store of this shape is what is asked for.
+    pub fn suits(&self, shape: Shape) -> bool
+        ensures { IsTrue result ↔ Suits self.now shape }
+    {
+        self.threshold.is_none_or(|asked| asked == shape.threshold)
+            && self.limit.is_none_or(|asked| asked == shape.limit)
+    }
+}

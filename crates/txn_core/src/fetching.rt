@@ -1,0 +1,48 @@
+ghost use Rattle.std.specs.Prelude.{◌≡◌, IfOk, length, true};
+ghost use Rattle.fault_count.specs.Cause.{HasCause};
+ghost use Rattle.rec_bytes.specs.Key.{IsKey};
+ghost use Rattle.rec_bytes.specs.RecordFiles.{is_meta_file, meta_key_of};
+ghost use Rattle.txn_core.specs.Base.{OnlyReadsBase, working};
+
+use crate::base::Base;
+use disk_model::Disk;
+use rec_bytes::{DiskFault, Key, Rec, meta_key};
+use record_file::read_record;
+
+impl<'d, D: Disk> Base<'d, D> {
+    // The record at a key as the open transaction has it: at most one call of the disk.
+    pub(crate) fn fetch(&mut self, key: Key) -> Result<Rec, DiskFault>
+        requires { IsKey key }
+        ensures got { D.tells_reads → IfOk result (λ rec. rec ≡ working self.old key) }
+        ensures whole { IfOk result (λ rec. length rec.bytes ≡ 64) }
+        ensures records { working self.new ≡ working self.old }
+        ensures onward { OnlyReadsBase self.old self.new }
+        ensures cause { HasCause (D.faults self.old.disk.now) (D.faults self.new.disk.now) result }
+    {
+        if let Some(rec) = self.own.find(key) {
+            return Ok(rec);
+        }
+        if let Some(rec) = self.changed.find(key) {
+            return Ok(rec);
+        }
+        if let Some(rec) = self.metas.find(key) {
+            return Ok(rec);
+        }
+        read_record(self.disk, key)
+    }
+
+    // The meta record of a file, which is in memory.
+    pub(crate) fn meta_record(&self, file: u8) -> Rec
+        requires { is_meta_file file ≡ true }
+        ensures { result ≡ working self.now (meta_key_of file) }
+    {
+        let key = meta_key(file);
+        if let Some(rec) = self.own.find(key) {
+            return rec;
+        }
+        if let Some(rec) = self.changed.find(key) {
+            return rec;
+        }
+        self.metas.of_file(file)
+    }
+}

@@ -1,0 +1,26 @@
+//! A store over a disk: what is committed, the open transaction, and the draft of one change over both. A commit is one entry of
+//! the redo log, with two syncs; a read costs at most three searches in memory and one call of the disk.
+#![tactic(auto)]
+
+mod again_fault;
+mod base;
+mod checking_point;
+mod committing;
+mod config;
+mod fetching;
+mod health;
+mod meta_records;
+mod not_opened;
+mod open_fault;
+mod opening;
+mod recovering_again;
+mod space;
+mod store;
+mod transacting;
+
+pub use again_fault::AgainFault;
+pub use config::Config;
+pub use health::Health;
+pub use not_opened::NotOpened;
+pub use open_fault::OpenFault;
+pub use store::Store;

@@ -1,0 +1,206 @@
+ghost use Rattle.std.specs.Prelude.{◌≡◌, ◌⊎◌, ◌≤◌, ◌+◌, [], Err, IsTrue, IfErr, IfOk, OnErr, OnOk, false, true, length};
+ghost use Rattle.fault_count.specs.Cause.{HasCause, Rose};
+ghost use Rattle.disk_model.specs.Spans.{AtEachMoment, IsAllSettled, OnlyReads};
+ghost use Rattle.rec_bytes.specs.Creation.{creation_pairs};
+ghost use Rattle.rec_bytes.specs.Shape.{is_allowed};
+ghost use Rattle.rec_bytes.specs.Space.{laid_over};
+ghost use Rattle.rec_bytes.specs.declared.key.Key.{Key as AKey};
+ghost use Rattle.rec_bytes.specs.declared.record.Rec.{Rec as ARec};
+ghost use Rattle.rec_bytes.specs.declared.shape.Shape.{Shape as AShape};
+ghost use Rattle.redo_log.specs.Entries.{HasEntries};
+ghost use Rattle.record_file.specs.Records.{IsUnmade, record_at};
+ghost use Rattle.record_file.specs.Redone.{Redoes};
+ghost use Rattle.recovery.specs.Finding.{IsMade};
+ghost use Rattle.txn_core.specs.Base.{committed};
+ghost use Rattle.txn_core.specs.Config.{Suits, shape_of};
+ghost use Rattle.txn_core.specs.Kept.{IsKept};
+ghost use Rattle.txn_core.specs.MetaRecords.{AreMetasOf, with_metas};
+ghost use Rattle.txn_core.specs.Opening.{IsOldOrNew, IsRefusal, IsWant, OnlyDiffers, Opens, RefusesOpening, made_over};
+
+use crate::base::{Base, MOST_CHANGED};
+use crate::meta_records::MetaRecords;
+use crate::{Config, NotOpened, OpenFault};
+use disk_model::Disk;
+use rec_bytes::{DiskFault, Shape, WriteSet, creation};
+use recovery::{Found, RecoverFault, recover};
+use redo_log::append;
+use std::alloc::{AllocError, Global};
+
+// What a store begins with.
+#[derive(Clone, Copy)]
+struct Start {
+    shape: Shape,
+    metas: MetaRecords,
+    tail: u64,
+}
+
+// The sets of a store that is being opened.
+#[derive(Drop)]
+struct Sets {
+    changed: WriteSet,
+    creation: WriteSet,
+}
+
+impl<'d, D: Disk> Base<'d, D> {
+    // Opens the store of the disk, or makes one where there is none.
+    pub(crate) fn open(
+        alloc: Global,
+        disk: &'d mut D,
+        config: Config,
+    ) -> Result<Base<'d, D>, NotOpened<'d, D>>
+        requires allowed { is_allowed (shape_of config) ≡ true }
+        ensures opened { D.tells_reads → IfOk result (λ base. Opens (D.reads disk.old) config base.shape (committed base)) }
+        ensures suits { IfOk result (λ base. Suits config base.shape) }
+        ensures live { IfOk result (λ base. IsTrue base.live) }
+        ensures closed { IfOk result (λ base. base.in_transaction ≡ false) }
+        ensures own { IfOk result (λ base. base.own.pairs ≡ []) }
+        ensures crash { D.tells_reads → D.tells_images → (space : AKey → ARec) (shape : AShape) → Redoes (D.reads disk.old) space → IsMade space shape
+            → IfOk result (λ base. AtEachMoment D.Disk disk.old base.disk.now (λ left. D.may_leave disk.old left ⊎ Redoes left space)) }
+        ensures crash_new { D.tells_reads → D.tells_images → IsUnmade (D.reads disk.old)
+            → IfOk result (λ base. AtEachMoment D.Disk disk.old base.disk.now (λ left. D.may_leave disk.old left ⊎ IsOldOrNew (D.reads disk.old) (shape_of config) left)) }
+        ensures same_disk { IfOk result (λ base. base.disk.ghost_name ≡ disk.entry.ghost_name) }
+        ensures later { IfOk result (λ base. D.faults disk.old ≤ D.faults base.disk.now) }
+        ensures refused { D.tells_reads → IfErr result (λ refusal. RefusesOpening (D.reads disk.old) config refusal.why) }
+        ensures sound { D.tells_reads → (space : AKey → ARec) (shape : AShape) → Redoes (D.reads disk.old) space → IsMade space shape → IfErr result (λ refusal. OnlyDiffers shape config refusal.why) }
+        ensures unmade { D.tells_reads → IsUnmade (D.reads disk.old) → IfErr result (λ refusal. IsWant refusal.why) }
+        ensures left { D.tells_reads → D.tells_images → (space : AKey → ARec) (shape : AShape) → Redoes (D.reads disk.old) space → IsMade space shape
+            → IfErr result (λ refusal. AtEachMoment D.Disk disk.old refusal.disk.now (λ left. D.may_leave disk.old left ⊎ Redoes left space)) }
+        ensures left_new { D.tells_reads → D.tells_images → IsUnmade (D.reads disk.old)
+            → IfErr result (λ refusal. AtEachMoment D.Disk disk.old refusal.disk.now (λ left. D.may_leave disk.old left ⊎ IsOldOrNew (D.reads disk.old) (shape_of config) left)) }
+        ensures untouched { D.tells_reads → IfErr result (λ refusal. IsRefusal refusal.why → OnlyReads D.Disk disk.old refusal.disk.now) }
+        ensures handed_back { IfErr result (λ refusal. refusal.disk.ghost_name ≡ disk.entry.ghost_name) }
+        ensures later_refused { IfErr result (λ refusal. D.faults disk.old ≤ D.faults refusal.disk.now) }
+        ensures cause { IfErr result (λ refusal. refusal.why ≡ OpenFault.Disk → Rose (D.faults disk.old) (D.faults refusal.disk.now)) }
+    {
+        let Ok(
+            Sets {
+                mut changed,
+                creation,
+            },
+        ) = Sets::new(alloc, config)
+        else {
+            return Err(NotOpened {
+                why: OpenFault::Memory,
+                disk,
+            });
+        };
+        match find_or_make(disk, config, &creation, &mut changed) {
+            Ok(Start { shape, metas, tail }) => Ok(Base {
+                disk,
+                shape,
+                metas,
+                changed,
+                own: WriteSet::new(alloc),
+                tail,
+                live: true,
+                in_transaction: false,
+            }),
+            Err(why) => Err(NotOpened { why, disk }),
+        }
+    }
+}
+
+impl Sets {
+    // All memory of an opening, with the records of a new store as it is asked for.
+    fn new(alloc: Global, config: Config) -> Result<Sets, AllocError>
+        ensures changed { IfOk result (λ sets. sets.changed.pairs ≡ []) }
+        ensures room { IfOk result (λ sets. 8192 ≤ sets.changed.room) }
+        ensures creation { IfOk result (λ sets. sets.creation.pairs ≡ creation_pairs (shape_of config)) }
+    {
+        let mut changed = WriteSet::new(alloc);
+        changed.reserve(MOST_CHANGED)?;
+        Ok(Sets {
+            changed,
+            creation: creation(alloc, config.shape())?,
+        })
+    }
+}
+
+// Recovers the disk and reads the meta records of its store, or makes one where there is none.
+fn find_or_make<D: Disk>(
+    disk: &mut D,
+    config: Config,
+    creation: &WriteSet,
+    changed: &mut WriteSet,
+) -> Result<Start, OpenFault>
+    requires allowed { is_allowed (shape_of config) ≡ true }
+    requires creation { creation.now.pairs ≡ creation_pairs (shape_of config) }
+    requires changed { changed.old.pairs ≡ [] }
+    requires room { 8192 ≤ changed.old.room }
+    ensures opened { D.tells_reads → IfOk result (λ s. Opens (D.reads disk.old) config s.shape (laid_over (with_metas s.metas.records (record_at (D.reads disk.new))) changed.new.pairs)) }
+    ensures suits { IfOk result (λ s. Suits config s.shape) }
+    ensures allowed { IfOk result (λ s. is_allowed s.shape ≡ true) }
+    ensures room { 8192 ≤ length changed.new.pairs + changed.new.room }
+    ensures kept { IfOk result (λ s. IsKept D.Disk disk.new s.metas.records changed.new.pairs s.tail) }
+    ensures crash { D.tells_reads → D.tells_images → (space : AKey → ARec) (shape : AShape) → Redoes (D.reads disk.old) space → IsMade space shape
+        → AtEachMoment D.Disk disk.old disk.new (λ left. D.may_leave disk.old left ⊎ Redoes left space) }
+    ensures crash_new { D.tells_reads → D.tells_images → IsUnmade (D.reads disk.old)
+        → AtEachMoment D.Disk disk.old disk.new (λ left. D.may_leave disk.old left ⊎ IsOldOrNew (D.reads disk.old) (shape_of config) left) }
+    ensures untouched { D.tells_reads → IfErr result (λ fault. IsRefusal fault → OnlyReads D.Disk disk.old disk.new) }
+    ensures refused { D.tells_reads → IfErr result (RefusesOpening (D.reads disk.old) config) }
+    ensures sound { D.tells_reads → (space : AKey → ARec) (shape : AShape) → Redoes (D.reads disk.old) space → IsMade space shape → IfErr result (OnlyDiffers shape config) }
+    ensures unmade { D.tells_reads → IsUnmade (D.reads disk.old) → IfErr result IsWant }
+    ensures cause { result ≡ Err OpenFault.Disk → Rose (D.faults disk.old) (D.faults disk.new) }
+    ensures later { D.faults disk.old ≤ D.faults disk.new }
+{
+    match recover(disk) {
+        Ok(Found::Made(shape)) => read_made(disk, config, shape),
+        Ok(Found::Unmade) => Ok(make_new(disk, config.shape(), creation, changed)?),
+        Err(RecoverFault::NotAStore) => Err(OpenFault::NotAStore),
+        Err(RecoverFault::Damaged(damage)) => Err(OpenFault::Damaged(damage)),
+        Err(RecoverFault::Disk) => Err(OpenFault::Disk),
+    }
+}
+
+// Reads the meta records of a store of this shape, whose log has no entry.
+fn read_made<D: Disk>(disk: &mut D, config: Config, shape: Shape) -> Result<Start, OpenFault>
+    ensures shape { IfOk result (λ s. s.shape ≡ shape) }
+    ensures tail { IfOk result (λ s. s.tail ≡ 0) }
+    ensures metas { D.tells_reads → IfOk result (λ s. AreMetasOf (record_at (D.reads disk.old)) s.metas.records) }
+    ensures suits { IfOk result (λ s. Suits config shape) }
+    ensures refused { IfErr result (OnlyDiffers shape config) }
+    ensures only_reads { OnlyReads D.Disk disk.old disk.new }
+    ensures cause { result ≡ Err OpenFault.Disk → Rose (D.faults disk.old) (D.faults disk.new) }
+    ensures later { D.faults disk.old ≤ D.faults disk.new }
+{
+    if !config.suits(shape) {
+        return Err(OpenFault::ConfigDiffers {
+            stored: shape,
+            asked: config,
+        });
+    }
+    Ok(Start {
+        shape,
+        metas: MetaRecords::read(disk)?,
+        tail: 0,
+    })
+}
+
+// Makes a store of this shape, by the first entry of the log.
+fn make_new<D: Disk>(
+    disk: &mut D,
+    shape: Shape,
+    creation: &WriteSet,
+    changed: &mut WriteSet,
+) -> Result<Start, DiskFault>
+    requires creation { creation.now.pairs ≡ creation_pairs shape }
+    requires changed { changed.old.pairs ≡ [] }
+    requires room { 8192 ≤ changed.old.room }
+    ensures shape { IfOk result (λ s. s.shape ≡ shape) }
+    ensures kept { (D.tells_reads → IsUnmade (D.reads disk.old)) → (D.tells_reads → D.tells_images → IsAllSettled D.Disk disk.old)
+        → IfOk result (λ s. IsKept D.Disk disk.new s.metas.records changed.new.pairs s.tail) }
+    ensures space { D.tells_reads → IsUnmade (D.reads disk.old)
+        → IfOk result (λ s. laid_over (with_metas s.metas.records (record_at (D.reads disk.new))) changed.new.pairs ≡ made_over (D.reads disk.old) shape) }
+    ensures crash { D.tells_reads → D.tells_images → IsUnmade (D.reads disk.old) → IsAllSettled D.Disk disk.old
+        → AtEachMoment D.Disk disk.old disk.new (IsOldOrNew (D.reads disk.old) shape) }
+    ensures room { 8192 ≤ length changed.new.pairs + changed.new.room }
+    ensures cause { HasCause (D.faults disk.old) (D.faults disk.new) result }
+{
+    let tail = append(disk, 0, creation)?;
+    changed.merge(creation);
+    Ok(Start {
+        shape,
+        metas: MetaRecords::blank(),
+        tail,
+    })
+}

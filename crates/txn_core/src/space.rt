@@ -1,0 +1,63 @@
+ghost use Rattle.std.specs.Prelude.{◌≡◌};
+ghost use Rattle.txn_core.specs.Base.{OnlyReadsBase};
+ghost use Rattle.txn_core.specs.OnlyReading.{only_reads_base_none, only_reads_base_on};
+ghost use Rattle.txn_core.specs.Store.{state_of};
+
+use crate::Store;
+use disk_model::Disk;
+use rec_bytes::{Key, Meta, Reads, Rec, Shape, Space, SpaceFault, meta_key};
+
+impl<'d, D: Disk> Reads for Store<'d, D> {
+    ghost tells = { D.tells_reads };
+
+    ghost state = { λ s. state_of s };
+
+    ghost faults = { λ s. D.faults s.base.disk.now };
+
+    ghost onward = { λ a b. OnlyReadsBase a.base b.base };
+
+    ghost stays_onward = { λ a. only_reads_base_none D.only_now a.base };
+
+    ghost further_onward = { λ a b c first more. only_reads_base_on first more };
+
+    fn get(&mut self, key: Key) -> Result<Rec, SpaceFault> {
+        self.reads = self.reads.saturating_add(1);
+        if let Some(rec) = self.draft.find(key) {
+            return Ok(rec);
+        }
+        match self.base.fetch(key) {
+            Ok(rec) => Ok(rec),
+            Err(_) => Err(SpaceFault::Disk),
+        }
+    }
+
+    fn meta(&self, file: u8) -> Meta {
+        match self.draft.find(meta_key(file)) {
+            Some(rec) => Meta::of(&rec),
+            None => Meta::of(&self.base.meta_record(file)),
+        }
+    }
+
+    fn shape(&self) -> Shape {
+        self.base.shape
+    }
+}
+
+impl<'d, D: Disk> Space for Store<'d, D> {
+    fn put(&mut self, key: Key, rec: Rec) -> Result<(), SpaceFault> {
+        match self.draft.put(key, rec) {
+            Ok(()) => Ok(()),
+            Err(_) => Err(SpaceFault::Memory),
+        }
+    }
+
+    fn edit(&mut self, key: Key) -> Result<&mut Rec, SpaceFault> {
+        match self.get(key) {
+            Ok(below) => match self.draft.edit(key, below) {
+                Ok(rec) => Ok(rec),
+                Err(_) => Err(SpaceFault::Memory),
+            },
+            Err(fault) => Err(fault),
+        }
+    }
+}
