@@ -2,9 +2,9 @@
 use Rattle.std.specs.List.{Contains, list_any}
 use Rattle.std.specs.Prelude.{slice_get}
 use Rattle.std.proofs.lemmas.Option.{slice_get_within}
-use Rattle.std.proofs.Common.{◌≡◌, ◌≢◌, ◌⊎◌, ℕ, ◌+◌, ◌<◌, ◌≤◌, ◌^◌, nat_eq, Bool, true, false, Option, Some, List, [], ◌∷◌, ◌++◌, length, sym, ap, ◌∙◌, subst, inl, inr, ⊎_elim, arith, refl}
+use Rattle.std.proofs.Common.{◌≡◌, ◌≢◌, ℕ, ◌+◌, ◌<◌, nat_eq, false, Some, List, [], ◌∷◌, ◌++◌, length, sym, ap, ◌∙◌, subst, ⊎_elim, arith, refl}
 use Rattle.std.proofs.lemmas.Bool.{true≢false}
-use Rattle.plain_graph.specs.Graph.{AddsNode, Graph, UsesName, has_node, node_number, with_row}
+use Rattle.plain_graph.specs.Graph.{AddsNode, UsesName, has_node, node_number, with_row}
 use Rattle.plain_graph.specs.Names.{IsShortName}
 use Rattle.rec_bytes.specs.declared.key.Key.{Key}
 use Rattle.rec_bytes.specs.declared.meta.Meta.{Meta}
@@ -13,12 +13,12 @@ use Rattle.rec_bytes.specs.declared.shape.Shape.{Shape}
 use Rattle.rec_bytes.specs.Format as format
 use Rattle.rec_bytes.specs.Meta as metas
 use Rattle.rec_bytes.specs.Record.{field}
-use Rattle.rec_bytes.specs.RecordFiles.{meta_key_of, room_of}
-use Rattle.rec_bytes.specs.Space.{State, after_put, meta_in, meta_of, put}
+use Rattle.rec_bytes.specs.RecordFiles.{meta_key_of}
+use Rattle.rec_bytes.specs.Space.{State, after_put, meta_of, put}
 use Rattle.rec_bytes.proofs.Spaces.{put_same, put_other}
 use Rattle.store_rules.specs.Chains.{IsWalk}
 use Rattle.store_rules.specs.Graph.{graph_of, names_of}
-use Rattle.store_rules.specs.Rules.{IsNodeStore, IsSplit, IsWellFormed, is_to_come, next_free}
+use Rattle.store_rules.specs.Rules.{IsNodeStore, IsSplit, is_to_come, next_free}
 use Rattle.store_rules.specs.Views.{Records, high, is_live, key_in, rec_at, text_of}
 use Rattle.store_rules.proofs.ChainLaws.{walk_stays}
 use Rattle.store_rules.proofs.Changes as ch

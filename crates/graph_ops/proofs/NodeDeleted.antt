@@ -1,14 +1,15 @@
 -- The whole of deleting a node, by what the calls left.
-use Rattle.std.specs.Prelude.{Result, Ok, Err}
-use Rattle.std.proofs.Common.{◌≡◌, ◌≢◌, ℕ, ◌<◌, nat_lt, Bool, true, false, cond, ◌&&◌, Option, Some, None, List, sym, ap, ◌∙◌, subst, arith, refl}
+use Rattle.std.specs.Prelude.{Err}
+use Rattle.std.proofs.Common.{◌≡◌, ◌≢◌, ℕ, nat_lt, Bool, true, false, cond, ◌&&◌, Option, Some, None, List, sym, ap, ◌∙◌, subst, refl}
 use Rattle.std.proofs.lemmas.Bool.{true≢false}
 use Rattle.plain_graph.specs.Graph.{RemovesNode, has_node}
-use Rattle.rec_bytes.specs.declared.shape.Shape.{Shape}
 use Rattle.rec_bytes.specs.Format as format
 use Rattle.rec_bytes.specs.Space.{State, after_get}
-use Rattle.store_rules.specs.Graph.{graph_of, names_of}
+use Rattle.rec_bytes.specs.declared.row_fault.RowFault.{RowFault}
+use Rattle.rec_bytes.specs.declared.row_fault.RowFault.TheVariants as row
+use Rattle.rec_bytes.specs.RowFault.{NotDamaged}
 use Rattle.store_rules.specs.Rules.{IsNodeStore, is_to_come}
-use Rattle.store_rules.specs.Views.{Records, degree, kind_at, rec_at}
+use Rattle.store_rules.specs.Views.{degree, kind_at}
 use Rattle.store_rules.proofs.Changes as ch
 use Rattle.store_rules.proofs.Made.{IsGone}
 use Rattle.store_rules.proofs.NodeChange.{names_stay}
@@ -18,10 +19,7 @@ use Rattle.id_freelist.specs.FreeLists.{IsFreeList}
 use Rattle.id_freelist.specs.Giving.{CanGive, HasGiven}
 use Rattle.id_freelist.proofs.Leaving.{is_gone, not_free_id}
 use Rattle.node_store.specs.declared.node_row.NodeRow.{NodeRow}
-use Rattle.node_store.specs.declared.row_fault.RowFault.{RowFault}
-use Rattle.node_store.specs.declared.row_fault.RowFault.TheVariants as row
 use Rattle.node_store.specs.Loading.{after_load, node_mark, node_room, row_at}
-use Rattle.node_store.specs.RowFault.{NotDamaged}
 use Rattle.node_store.proofs.Rows.{kind-row_at-None, kind-row_at-Some}
 use Rattle.graph_ops.specs.ChangeFault.{of_row}
 use Rattle.graph_ops.specs.NodeDeleting.{IsDeleteFault}

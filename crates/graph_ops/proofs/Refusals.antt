@@ -1,7 +1,6 @@
 -- Why a node isn't added, by the refusals of the calls below.
-use Rattle.std.specs.List.{Contains}
 use Rattle.std.specs.Prelude.{Result, Ok, Err, IfErr, IsErrAnd}
-use Rattle.std.proofs.Common.{◌≡◌, ◌≢◌, ℕ, List, length, sym, ap, ◌∙◌, subst, refl}
+use Rattle.std.proofs.Common.{◌≡◌, ℕ, List, length, sym, ap, ◌∙◌, subst, refl}
 use Rattle.std.proofs.lemmas.Result.{err_from_is_err_and}
 use Rattle.rec_bytes.specs.Format as format
 use Rattle.rec_bytes.specs.Space.{State, meta_of}
@@ -13,11 +12,11 @@ use Rattle.id_freelist.specs.TakeFault.{NotDamaged}
 use Rattle.id_freelist.proofs.Splits.{can_take}
 use Rattle.name_store.specs.declared.intern_fault.InternFault.{InternFault}
 use Rattle.name_store.specs.declared.intern_fault.InternFault.TheVariants as intern
-use Rattle.name_store.specs.Interning.{AreFull, IsFullFault}
+use Rattle.name_store.specs.Interning.{IsFullFault}
 use Rattle.graph_ops.specs.declared.change_fault.ChangeFault.{ChangeFault}
-use Rattle.graph_ops.specs.declared.change_fault.ChangeFault.TheVariants.{Full, NamesFull}
+use Rattle.graph_ops.specs.declared.change_fault.ChangeFault.TheVariants.{Full}
 use Rattle.graph_ops.specs.ChangeFault.{of_intern, of_take}
-use Rattle.graph_ops.specs.NodeAdding.{IsAddFault, IsFullOfNames, IsFullOfNodes}
+use Rattle.graph_ops.specs.NodeAdding.{IsAddFault, IsFullOfNodes}
 use Rattle.graph_ops.specs.Store.{IsStore, graph_in}
 
 module _ (s : State) (names : List (List ℕ)) (label : List ℕ) (store : IsStore s names) where

@@ -3,14 +3,15 @@ use Rattle.std.specs.Prelude.{ℕ, ◌≤◌, Result, IsErrOf}
 use Rattle.fault_count.specs.Cause.{Rose}
 use Rattle.rec_bytes.specs.declared.space.SpaceFault.{SpaceFault}
 use Rattle.rec_bytes.specs.declared.space.SpaceFault.TheVariants as space
+use Rattle.rec_bytes.specs.declared.row_fault.RowFault.{RowFault}
+use Rattle.rec_bytes.specs.declared.row_fault.RowFault.TheVariants as row
+use Rattle.rec_bytes.specs.Space.{State, SameButReads}
 use Rattle.id_freelist.specs.declared.take_fault.TakeFault.{TakeFault}
 use Rattle.id_freelist.specs.declared.take_fault.TakeFault.TheVariants as take
 use Rattle.name_store.specs.declared.intern_fault.InternFault.{InternFault}
 use Rattle.name_store.specs.declared.intern_fault.InternFault.TheVariants as intern
-use Rattle.node_store.specs.declared.row_fault.RowFault.{RowFault}
-use Rattle.node_store.specs.declared.row_fault.RowFault.TheVariants as row
 use Rattle.graph_ops.specs.declared.change_fault.ChangeFault.{ChangeFault}
-use Rattle.graph_ops.specs.declared.change_fault.ChangeFault.TheVariants.{Full, NamesFull, Memory, Disk, Damaged}
+use Rattle.graph_ops.specs.declared.change_fault.ChangeFault.TheVariants.{NoNode, HasRelationships, Full, NamesFull, Memory, Disk, Damaged}
 
 abbrev pub of_space : SpaceFault → ChangeFault
 of_space space.Memory = Memory
@@ -30,6 +31,17 @@ of_intern intern.Disk = Disk
 abbrev pub of_row : RowFault → ChangeFault
 of_row row.Disk = Disk
 of_row (row.Damaged damage) = Damaged damage
+
+-- A refusal for a node or for damage comes before the first write. One for a name's room comes
+-- after an identifier was taken.
+abbrev pub LeavesSpace : State → State → ChangeFault → Type 0
+LeavesSpace old new (NoNode id) = SameButReads old new
+LeavesSpace old new (HasRelationships id degree) = SameButReads old new
+LeavesSpace old new (Full file live) = SameButReads old new
+LeavesSpace old new (NamesFull count) = Unit {0}
+LeavesSpace old new Memory = Unit {0}
+LeavesSpace old new Disk = Unit {0}
+LeavesSpace old new (Damaged damage) = SameButReads old new
 
 -- the disk is blamed only where it failed
 pub record HasChangeCause {T : Type 0} (before now : ℕ) (result : Result T ChangeFault) : Type 0 where

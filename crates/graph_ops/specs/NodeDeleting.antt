@@ -1,11 +1,13 @@
 -- A node that is deleted.
-use Rattle.std.specs.Prelude.{◌≡◌, ℕ, false, List, [], ◌∷◌}
+use Rattle.std.specs.Prelude.{◌≡◌, ◌≢◌, ℕ, false, None, Some, List, [], ◌∷◌}
 use Rattle.plain_graph.specs.Graph.{has_node}
 use Rattle.rec_bytes.specs.declared.key.Key.{Key}
 use Rattle.rec_bytes.specs.Format as format
 use Rattle.rec_bytes.specs.RecordFiles.{meta_key_of}
 use Rattle.rec_bytes.specs.Space.{State}
-use Rattle.store_rules.specs.Views.{key_in}
+use Rattle.store_rules.specs.Views.{Records, key_in}
+use Rattle.node_store.specs.declared.node_row.NodeRow.{NodeRow}
+use Rattle.node_store.specs.Loading.{IsNodeDamage, row_at}
 use Rattle.graph_ops.specs.Store.{graph_in}
 use Rattle.graph_ops.specs.declared.change_fault.ChangeFault.{ChangeFault}
 use Rattle.graph_ops.specs.declared.change_fault.ChangeFault.TheVariants.{NoNode, HasRelationships, Full, NamesFull, Memory, Disk, Damaged}
@@ -19,6 +21,23 @@ IsDeleteFault s id (NamesFull count) = ⊥
 IsDeleteFault s id Memory = Unit {0}
 IsDeleteFault s id Disk = Unit {0}
 IsDeleteFault s id (Damaged damage) = ⊥
+
+-- the node has so many relationships
+pub record HasDegree (records : Records) (id degree : ℕ) : Type 0 where
+  pub row : NodeRow
+  pub found : row_at records id ≡ Some row
+  pub is : row.degree ≡ degree
+
+-- the same of any records, by what was read of them
+abbrev pub IsDeleteCause : State → ℕ → ChangeFault → Type 0
+IsDeleteCause s id (NoNode missing) = (missing ≡ id) × (row_at s.records id ≡ None)
+IsDeleteCause s id (HasRelationships of degree) =
+    (of ≡ id) × HasDegree s.records id degree × (degree ≢ 0)
+IsDeleteCause s id (Full file live) = ⊥
+IsDeleteCause s id (NamesFull count) = ⊥
+IsDeleteCause s id Memory = Unit {0}
+IsDeleteCause s id Disk = Unit {0}
+IsDeleteCause s id (Damaged damage) = IsNodeDamage s id damage
 
 -- the keys that a deleted node adds to the written ones
 abbrev pub gone_keys : ℕ → List Key

@@ -1,7 +1,6 @@
 use id_freelist::TakeFault;
 use name_store::InternFault;
-use node_store::RowFault;
-use rec_bytes::{Damage, SpaceFault};
+use rec_bytes::{Damage, RowFault, SpaceFault};
 use thiserror::Error;
 
 /// Why a change was refused.

@@ -3,7 +3,7 @@ ghost use Rattle.plain_graph.specs.Graph.{AddsNode};
 ghost use Rattle.plain_graph.specs.Names.{IsShortName};
 ghost use Rattle.rec_bytes.specs.Format.{nodes_file};
 ghost use Rattle.rec_bytes.specs.Space.{WritesOnly};
-ghost use Rattle.graph_ops.specs.ChangeFault.{HasChangeCause};
+ghost use Rattle.graph_ops.specs.ChangeFault.{HasChangeCause, LeavesSpace};
 ghost use Rattle.graph_ops.specs.NodeAdding.{
   IsAddFault,
   IsFullOfNames,
@@ -36,9 +36,10 @@ pub fn add_node<S: Space>(
     ensures names_full { IsFullOfNames names.old.names label.now → IsErr result }
     ensures refused { S.tells → IsStore (S.state space.old) names.old.names
         → IfErr result (IsAddFault (S.state space.old) names.old.names label.now) }
+    ensures leaves { IfErr result (LeavesSpace (S.state space.old) (S.state space.new)) }
     ensures weight { IfOk result (λ added. WeighsNode names.old.names label.now added.weight) }
     ensures prefix { (rest : List (List ℕ)) × (names.new.names ≡ names.old.names ++ rest) }
-    ensures shape { S.tells → OnOk result ((S.state space.new).shape ≡ (S.state space.old).shape) }
+    ensures shape { S.tells → (S.state space.new).shape ≡ (S.state space.old).shape }
     ensures writes { IfOk result (λ added. WritesOnly (S.state space.old) (S.state space.new) (node_keys added.id added.weight (length names.old.names))) }
     ensures refused_writes { OnErr result (WritesOnly (S.state space.old) (S.state space.new) (refused_keys (length names.old.names))) }
     ensures onward { S.onward space.old space.new }

@@ -1,8 +1,8 @@
 ghost use Rattle.std.specs.Prelude.{◌≡◌, IfErr, IfOk, OnOk};
 ghost use Rattle.plain_graph.specs.Graph.{RemovesNode};
 ghost use Rattle.rec_bytes.specs.Space.{WritesOnly};
-ghost use Rattle.graph_ops.specs.ChangeFault.{HasChangeCause};
-ghost use Rattle.graph_ops.specs.NodeDeleting.{IsDeleteFault, gone_keys};
+ghost use Rattle.graph_ops.specs.ChangeFault.{HasChangeCause, LeavesSpace};
+ghost use Rattle.graph_ops.specs.NodeDeleting.{HasDegree, IsDeleteCause, IsDeleteFault, gone_keys};
 ghost use Rattle.graph_ops.specs.Store.{IsStore, graph_in};
 
 use crate::ChangeFault;
@@ -17,8 +17,11 @@ pub fn delete_node<S: Space>(space: &mut S, names: &Names, id: u32) -> Result<u3
     ensures removes { S.tells → OnOk result (IsStore (S.state space.old) names.now.names
         → RemovesNode (graph_in (S.state space.old)) id (graph_in (S.state space.new))) }
     ensures refused { S.tells → IsStore (S.state space.old) names.now.names → IfErr result (IsDeleteFault (S.state space.old) id) }
+    ensures found { S.tells → IfErr result (IsDeleteCause (S.state space.old) id) }
+    ensures lone { S.tells → OnOk result (HasDegree (S.state space.old).records id 0) }
+    ensures leaves { IfErr result (LeavesSpace (S.state space.old) (S.state space.new)) }
     ensures weight { IfOk result (λ weight. weight ≡ 1) }
-    ensures shape { S.tells → OnOk result ((S.state space.new).shape ≡ (S.state space.old).shape) }
+    ensures shape { S.tells → (S.state space.new).shape ≡ (S.state space.old).shape }
     ensures writes { WritesOnly (S.state space.old) (S.state space.new) (gone_keys id) }
     ensures onward { S.onward space.old space.new }
     ensures cause { HasChangeCause (S.faults space.old) (S.faults space.new) result }

@@ -1,5 +1,5 @@
 -- What taking and giving an identifier leaves of a file's free list.
-use Rattle.std.proofs.Common.{◌≡◌, ◌≢◌, ◌+◌, ◌-◌, ◌≤◌, ◌<◌, ◌^◌, Bool, true, false, ℕ, List, [], ◌∷◌, sym, ap, ◌∙◌, subst, arith, refl}
+use Rattle.std.proofs.Common.{◌≡◌, ◌≢◌, ◌+◌, ◌-◌, ◌<◌, ◌^◌, true, ℕ, List, [], ◌∷◌, sym, ap, ◌∙◌, subst, arith, refl}
 use Rattle.rec_bytes.specs.declared.key.Key.{Key}
 use Rattle.rec_bytes.specs.declared.meta.Meta.{Meta}
 use Rattle.rec_bytes.specs.Format as format
@@ -7,13 +7,13 @@ use Rattle.rec_bytes.specs.Meta as metas
 use Rattle.rec_bytes.specs.Meta.{with_meta}
 use Rattle.rec_bytes.specs.Record.{field, zeros}
 use Rattle.rec_bytes.specs.RecordFiles.{is_meta_file, meta_key_of}
-use Rattle.rec_bytes.specs.Space.{State, after_get, after_meta, after_put, meta_in, meta_of, put}
+use Rattle.rec_bytes.specs.Space.{State, after_put, meta_in, meta_of, put}
 use Rattle.rec_bytes.proofs.Metas.{meta_reads_back}
 use Rattle.rec_bytes.proofs.Numbers.{field-lt, field-with_field_same}
 use Rattle.rec_bytes.proofs.Spaces.{put_same, put_other}
 use Rattle.store_rules.specs.Chains.{In, IsWalk}
 use Rattle.store_rules.specs.Rules.{next_free}
-use Rattle.store_rules.specs.Views.{Records, high, key_in, rec_at}
+use Rattle.store_rules.specs.Views.{Records, key_in, rec_at}
 use Rattle.store_rules.proofs.ChainLaws.{walk_stays}
 use Rattle.store_rules.proofs.MetaLaws.{free_fits, high_fits, live_fits, not_meta_key}
 use Rattle.id_freelist.specs.FreeLists.{IsFreeList, free_record}

@@ -1,30 +1,26 @@
 -- An identifier given back: one record less in use.
-use Rattle.std.proofs.Common.{get_or, None, ◌≡◌, ◌≢◌, ◌⊎◌, ℕ, ◌+◌, ◌-◌, ◌<◌, ◌≤◌, ◌^◌, nat_eq, nat_lt, Bool, true, false, not, ◌&&◌, ◌||◌, Option, Some, List, [], ◌∷◌, length, sym, ap, ◌∙◌, subst, inl, inr, ⊎_elim, arith, refl}
+use Rattle.std.proofs.Common.{get_or, None, ◌≡◌, ◌≢◌, ◌⊎◌, ℕ, ◌+◌, ◌<◌, ◌≤◌, ◌^◌, nat_lt, Bool, true, false, ◌&&◌, ◌||◌, Some, List, [], ◌∷◌, length, sym, ap, ◌∙◌, subst, inl, inr, ⊎_elim, arith, refl}
 use Rattle.std.specs.List.{list_any}
-use Rattle.std.specs.Prelude.{nat_le, replicate, cond}
+use Rattle.std.specs.Prelude.{nat_le, cond}
 use Rattle.std.proofs.lemmas.Bool.{cases_lt, true≢false}
 use Rattle.std.proofs.lemmas.Bool.Decides.{nat_tests}
 use Rattle.std.proofs.lemmas.List.{get_or-replicate}
-use Rattle.rec_bytes.specs.declared.key.Key.{Key}
-use Rattle.rec_bytes.specs.declared.meta.Meta.{Meta}
-use Rattle.rec_bytes.specs.declared.record.Rec.{Rec}
 use Rattle.rec_bytes.specs.declared.shape.Shape.{Shape}
 use Rattle.rec_bytes.specs.Format as format
-use Rattle.rec_bytes.specs.Meta as metas
 use Rattle.rec_bytes.specs.Meta.{IsMetaInRange}
 use Rattle.rec_bytes.specs.Record.{field, zeros}
-use Rattle.rec_bytes.specs.RecordFiles.{is_meta_file, meta_key_of, room_of}
+use Rattle.rec_bytes.specs.RecordFiles.{meta_key_of, room_of}
 use Rattle.rec_bytes.specs.Space.{meta_in}
 use Rattle.rec_bytes.proofs.Numbers.{byte-is, field-with_field_other, field-with_field_same}
 use Rattle.store_rules.specs.Chains.{In}
-use Rattle.store_rules.specs.Ranges.{free_layout, Fits, IsBlankOutside, Layout, bytes_of, is_in, is_reused, layout_by, layout_of, may, points}
+use Rattle.store_rules.specs.Ranges.{free_layout, Fits, Layout, bytes_of, is_in, is_reused, layout_by, may}
 use Rattle.store_rules.specs.Rows.{ids}
 use Rattle.store_rules.specs.Rules.{IsSplit}
-use Rattle.store_rules.specs.Views.{Records, high, is_live, key_in, kind_at, rec_at}
+use Rattle.store_rules.specs.Views.{Records, high, is_live, kind_at, rec_at}
 use Rattle.store_rules.proofs.Changes.{IsChanged, live_other}
 use Rattle.store_rules.proofs.Counts.{ids_with}
 use Rattle.store_rules.proofs.Made.{IsGone}
-use Rattle.store_rules.proofs.MetaLaws.{free_fits, live_fits, meta_in_range, meta_of_reused, not_meta_key}
+use Rattle.store_rules.proofs.MetaLaws.{free_fits, live_fits, meta_in_range, meta_of_reused}
 use Rattle.store_rules.proofs.NumberLaws.{eq_true, lt_true, nat_cases}
 use Rattle.store_rules.proofs.ViewLaws.{kind_below, kind_low, live_false, live_true}
 use Rattle.id_freelist.specs.FreeLists.{free_record}

@@ -1,5 +1,5 @@
 -- A taken identifier whose record is written: one more record in use.
-use Rattle.std.proofs.Common.{◌≡◌, ◌≢◌, ◌⊎◌, ℕ, ◌+◌, ◌<◌, ◌≤◌, ◌^◌, nat_eq, Bool, true, false, not, List, [], ◌∷◌, length, sym, ap, ◌∙◌, subst, inl, inr, ⊎_elim, arith, refl}
+use Rattle.std.proofs.Common.{◌≡◌, ◌≢◌, ◌⊎◌, ℕ, ◌+◌, ◌<◌, ◌≤◌, ◌^◌, true, List, [], ◌∷◌, sym, ap, ◌∙◌, subst, inl, inr, ⊎_elim, arith, refl}
 use Rattle.std.proofs.lemmas.Bool.{cases_lt, true≢false}
 use Rattle.rec_bytes.specs.declared.key.Key.{Key}
 use Rattle.rec_bytes.specs.declared.meta.Meta.{Meta}
@@ -10,10 +10,8 @@ use Rattle.rec_bytes.specs.Meta as metas
 use Rattle.rec_bytes.specs.Meta.{IsMetaInRange}
 use Rattle.rec_bytes.specs.Record.{field}
 use Rattle.rec_bytes.specs.RecordFiles.{is_meta_file, meta_key_of, room_of}
-use Rattle.rec_bytes.specs.Space.{meta_in, put}
-use Rattle.rec_bytes.proofs.Spaces.{put_same, put_other}
+use Rattle.rec_bytes.specs.Space.{meta_in}
 use Rattle.store_rules.specs.Chains.{In, IsWalk}
-use Rattle.store_rules.specs.Rows.{ids}
 use Rattle.store_rules.specs.Rules.{IsSplit, next_free}
 use Rattle.store_rules.specs.Views.{Records, high, is_live, key_in, kind_at, rec_at}
 use Rattle.store_rules.proofs.ChainLaws.{head_once, walk_stays}
@@ -21,7 +19,6 @@ use Rattle.store_rules.proofs.Changes.{IsChanged, live_other}
 use Rattle.store_rules.proofs.Counts.{ids_with}
 use Rattle.store_rules.proofs.Made.{IsMade}
 use Rattle.store_rules.proofs.MetaLaws.{live_fits, meta_in_range, not_meta_key}
-use Rattle.store_rules.proofs.NumberLaws.{nat_cases}
 use Rattle.store_rules.proofs.ViewLaws.{kind_high, kind_low, live_false, live_true, not_live}
 use Rattle.id_freelist.specs.Taking.{HasTaken, first_of, mark_after, rest_of}
 

@@ -1,9 +1,7 @@
 -- A file whose live and free identifiers split those below the mark can give one.
-use Rattle.std.proofs.Common.{◌≡◌, ℕ, ◌<◌, ◌≤◌, Bool, true, false, List, [], ◌∷◌, length, sym, ap, ◌∙◌, subst, inl, arith, refl}
+use Rattle.std.proofs.Common.{◌≡◌, ℕ, ◌≤◌, Bool, true, false, List, [], ◌∷◌, ◌∙◌, inl, arith, refl}
 use Rattle.rec_bytes.specs.RecordFiles.{room_of}
 use Rattle.rec_bytes.specs.Space.{State, meta_of}
-use Rattle.store_rules.specs.Chains.{In}
-use Rattle.store_rules.specs.Rows.{ids}
 use Rattle.store_rules.specs.Rules.{IsSplit}
 use Rattle.store_rules.specs.Views.{high, is_live, kind_at}
 use Rattle.store_rules.proofs.Counts.{ids_all, ids_fewer}

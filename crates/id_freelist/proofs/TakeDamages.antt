@@ -1,6 +1,6 @@
 -- Where no record is damaged, none is said to be.
 use Rattle.std.specs.Prelude.{nat_le, Result, Ok, Err, IfErr}
-use Rattle.std.proofs.Common.{◌≡◌, ◌≢◌, ◌⊎◌, ℕ, ◌+◌, ◌<◌, ◌≤◌, nat_lt, nat_eq, Bool, true, false, cond, not, ◌&&◌, ◌||◌, List, [], ◌∷◌, length, sym, ap, ◌∙◌, subst, inl, inr, ⊎_elim, arith, refl}
+use Rattle.std.proofs.Common.{◌≡◌, ◌≢◌, ◌⊎◌, ℕ, ◌<◌, ◌≤◌, nat_lt, nat_eq, Bool, true, false, cond, ◌&&◌, ◌||◌, List, [], ◌∷◌, sym, ap, ◌∙◌, subst, inl, inr, ⊎_elim, arith, refl}
 use Rattle.std.proofs.lemmas.Bool.{true≢false}
 use Rattle.std.proofs.lemmas.Bool.Decides.{nat_tests}
 use Rattle.rec_bytes.specs.declared.damage.Damage.{Damage}
@@ -9,7 +9,6 @@ use Rattle.rec_bytes.specs.declared.record.Rec.{Rec}
 use Rattle.rec_bytes.specs.Format as format
 use Rattle.rec_bytes.specs.Record.{field}
 use Rattle.rec_bytes.specs.Space.{State, meta_of}
-use Rattle.store_rules.specs.Chains.{In}
 use Rattle.store_rules.specs.Rules.{next_free}
 use Rattle.store_rules.specs.Views.{high, kind_at, rec_at}
 use Rattle.store_rules.proofs.NumberLaws.{nat_cases}
@@ -17,7 +16,7 @@ use Rattle.store_rules.proofs.ViewLaws.{kind_high, kind_low}
 use Rattle.id_freelist.specs.declared.take_fault.TakeFault.{TakeFault}
 use Rattle.id_freelist.specs.declared.take_fault.TakeFault.TheVariants.{Full, Memory, Disk, Damaged}
 use Rattle.id_freelist.specs.TakeFault.{NotDamaged}
-use Rattle.id_freelist.specs.Taking.{BadNext, CanTake, InUse, IsRanged, IsTakeDamage, IsTakeFault, Overcounted, Uncounted, Unranged, is_counted, is_ranged, meta_damage, record_damage, room}
+use Rattle.id_freelist.specs.Taking.{BadNext, CanTake, InUse, IsNextLow, IsRanged, IsTakeDamage, IsTakeFault, IsUndamaged, Overcounted, Uncounted, Unranged, is_counted, is_ranged, meta_damage, record_damage, room}
 
 module _ (s : State) (file : ℕ) where
   ranged : (free : List ℕ) → CanTake s file free → IsRanged (meta_of s file) (room s file)
@@ -81,6 +80,31 @@ module _ (s : State) (file : ℕ) where
 
       above : (m : Meta) → m.free ≢ format.nil → is_counted m ≡ false → m.high ≤ m.live
       above m ne k = let t : nat_eq m.free format.nil ≡ false = grind (arith, nat_tests, ne) in let z : nat_lt m.live m.high ≡ false = sym (ap (λ b. cond b (nat_eq m.live m.high) (nat_lt m.live m.high)) t) ∙ k in grind (arith, nat_tests)
+
+  -- ---- the tests that held
+  ranged_of : (m : Meta) → is_ranged m (room s file) ≡ true → IsRanged m (room s file)
+  ranged_of m = by (nat_le m.high (room s file)) (nat_eq m.free format.nil) (nat_lt m.free m.high) refl refl refl
+    where
+      by : (a b c : Bool) → nat_le m.high (room s file) ≡ a → nat_eq m.free format.nil ≡ b → nat_lt m.free m.high ≡ c → (a && (b || c)) ≡ true → IsRanged m (room s file)
+      by true true c x y z e = record { mark = grind (arith, nat_tests); first = inl (grind (arith, nat_tests)) }
+      by true false true x y z e = record { mark = grind (arith, nat_tests); first = inr (grind (arith, nat_tests)) }
+      by true false false x y z e = absurd (true≢false (sym e))
+      by false b c x y z e = absurd (true≢false (sym e))
+
+  counted_all : (m : Meta) → is_counted m ≡ true → m.free ≡ format.nil → m.live ≡ m.high
+  counted_all m k e = let t : nat_eq m.free format.nil ≡ true = grind (arith, nat_tests) in let z : nat_eq m.live m.high ≡ true = sym (ap (λ b. cond b (nat_eq m.live m.high) (nat_lt m.live m.high)) t) ∙ k in grind (arith, nat_tests)
+
+  counted_some : (m : Meta) → is_counted m ≡ true → m.free ≢ format.nil → m.live < m.high
+  counted_some m k ne = let t : nat_eq m.free format.nil ≡ false = grind (arith, nat_tests, ne) in let z : nat_lt m.live m.high ≡ true = sym (ap (λ b. cond b (nat_eq m.live m.high) (nat_lt m.live m.high)) t) ∙ k in grind (arith, nat_tests)
+
+  -- where each test held, nothing that was read is damaged
+  pub undamaged : is_ranged (meta_of s file) (room s file) ≡ true → is_counted (meta_of s file) ≡ true → ((meta_of s file).free ≢ format.nil → kind_at s.records file (meta_of s file).free ≡ format.free_kind)
+      → ((meta_of s file).free ≢ format.nil → IsNextLow s file) → IsUndamaged s file
+  undamaged ranged counted unused low d (Unranged f) = f (ranged_of (meta_of s file) ranged)
+  undamaged ranged counted unused low d (Uncounted e ne) = ne (counted_all (meta_of s file) counted e)
+  undamaged ranged counted unused low d (Overcounted ne le) = let lt = counted_some (meta_of s file) counted ne in omega arith
+  undamaged ranged counted unused low d (InUse ne used) = used (unused ne)
+  undamaged ranged counted unused low d (BadNext ne some le) = ⊎_elim some (λ (lt : next_free s.records file (meta_of s file).free < high s.records file). omega arith) (low ne)
 
   pub in_use : (rec : Rec) (meta : Meta) → meta ≡ meta_of s file → meta.free ≢ format.nil → meta.free < meta.high → rec ≡ rec_at s.records file meta.free → field 1 rec format.kind ≢ format.free_kind → IsTakeDamage s file (record_damage file meta.free 2)
   in_use rec meta is ne lt there used =

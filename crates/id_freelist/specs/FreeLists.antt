@@ -1,12 +1,12 @@
 -- The free list of a file.
-use Rattle.std.specs.Prelude.{◌≡◌, ℕ, ◌+◌, ◌<◌, ◌≤◌, List, length}
+use Rattle.std.specs.Prelude.{ℕ, List}
 use Rattle.rec_bytes.specs.declared.record.Rec.{Rec}
 use Rattle.rec_bytes.specs.Format as format
 use Rattle.rec_bytes.specs.Record.{with_field, zeros}
 use Rattle.rec_bytes.specs.Space.{meta_in}
-use Rattle.store_rules.specs.Chains.{In, IsWalk}
+use Rattle.store_rules.specs.Chains.{IsWalk}
 use Rattle.store_rules.specs.Rules.{next_free}
-use Rattle.store_rules.specs.Views.{Records, high, kind_at}
+use Rattle.store_rules.specs.Views.{Records}
 
 -- the file's free list has these identifiers, in this order
 abbrev pub IsFreeList : Records → ℕ → List ℕ → Type 0

@@ -1,10 +1,10 @@
 -- What taking an identifier makes of a space.
-use Rattle.std.specs.Prelude.{◌≡◌, ◌≢◌, ◌⊎◌, ℕ, ◌+◌, ◌<◌, ◌≤◌, nat_eq, nat_le, nat_lt, Bool, ◌&&◌, ◌||◌, if◌then◌else◌, List, [], ◌∷◌, length, Result, Ok, Err}
+use Rattle.std.specs.Prelude.{◌≡◌, ◌≢◌, ◌⊎◌, ℕ, ◌+◌, ◌<◌, ◌≤◌, nat_eq, nat_le, nat_lt, Bool, ◌&&◌, ◌||◌, if◌then◌else◌, List, [], ◌∷◌}
 use Rattle.rec_bytes.specs.declared.damage.Damage.{Damage}
 use Rattle.rec_bytes.specs.declared.key.Key.{Key}
 use Rattle.rec_bytes.specs.declared.meta.Meta.{Meta}
 use Rattle.rec_bytes.specs.Format as format
-use Rattle.rec_bytes.specs.Meta.{IsMetaInRange, with_meta}
+use Rattle.rec_bytes.specs.Meta.{with_meta}
 use Rattle.rec_bytes.specs.RecordFiles.{meta_key_of, room_of}
 use Rattle.rec_bytes.specs.Space.{State, after_get, after_meta, meta_in, meta_of}
 use Rattle.store_rules.specs.Chains.{In}
@@ -104,6 +104,16 @@ pub data IsTakeDamage (s : State) (file : ℕ) : Damage → Type 0 where
   InUse : (meta_of s file).free ≢ format.nil → kind_at s.records file (meta_of s file).free ≢ format.free_kind → IsTakeDamage s file (record_damage file (meta_of s file).free 2)
   BadNext : (meta_of s file).free ≢ format.nil → next_free s.records file (meta_of s file).free ≢ format.nil → high s.records file ≤ next_free s.records file (meta_of s file).free
       → IsTakeDamage s file (record_damage file (meta_of s file).free 1)
+
+-- no record that a take reads breaks a rule
+abbrev pub IsUndamaged : State → ℕ → Type 0
+IsUndamaged s file = (damage : Damage) → IsTakeDamage s file damage → ⊥
+
+-- the record after the first free one is none, or below the mark
+abbrev pub IsNextLow : State → ℕ → Type 0
+IsNextLow s file =
+    let next = next_free s.records file (meta_of s file).free in
+    (next ≡ format.nil) ⊎ (next < high s.records file)
 
 abbrev pub IsTakeFault : State → ℕ → TakeFault → Type 0
 IsTakeFault s file (Full full live) = (full ≡ file) × (live ≡ (meta_of s file).live) × (live ≡ room s file)

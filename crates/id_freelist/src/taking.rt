@@ -3,7 +3,7 @@ ghost use Rattle.rec_bytes.specs.Format.{free_kind, most_ids};
 ghost use Rattle.rec_bytes.specs.Key.{IsKey};
 ghost use Rattle.rec_bytes.specs.RecordFiles.{is_meta_file, meta_key_of, room_of};
 ghost use Rattle.rec_bytes.specs.Shape.{is_allowed};
-ghost use Rattle.rec_bytes.specs.Space.{HasCause, WritesOnly, after_get, meta_of};
+ghost use Rattle.rec_bytes.specs.Space.{HasCause, SameButReads, WritesOnly, after_get, meta_of};
 ghost use Rattle.store_rules.specs.Ranges.{is_reused};
 ghost use Rattle.store_rules.specs.Rules.{next_free};
 ghost use Rattle.store_rules.specs.Views.{key_in, kind_at};
@@ -12,7 +12,9 @@ ghost use Rattle.id_freelist.specs.FreeLists.{IsFreeList};
 ghost use Rattle.id_freelist.specs.Taking.{
   CanTake,
   HasTaken,
+  IsNextLow,
   IsTakeFault,
+  IsUndamaged,
   free_taken,
   is_counted,
   is_ranged,
@@ -43,6 +45,8 @@ pub fn take<S: Space>(space: &mut S, file: u8) -> Result<u32, TakeFault>
         → result ≡ Err (TakeFault.Full file (meta_of (S.state space.old) file).live) }
     ensures refused { S.tells → IfErr result (IsTakeFault (S.state space.old) file) }
     ensures sound { S.tells → (free : List ℕ) → CanTake (S.state space.old) file free → NotDamaged result }
+    ensures undamaged { S.tells → OnOk result (IsUndamaged (S.state space.old) file) }
+    ensures err { OnErr result (SameButReads (S.state space.old) (S.state space.new)) }
     ensures ok { S.tells → OnOk result (S.state space.new ≡ taken (S.state space.old) file) }
     ensures is { IfOk result (λ id. id ≡ taken_id (meta_of (S.state space.old) file)) }
     ensures small { IfOk result (λ id. id < room_of (S.state space.old).shape file) }
@@ -107,6 +111,7 @@ fn take_mark<S: Space>(space: &mut S, file: u8, meta: Meta) -> Result<u32, Space
     ensures fresh { IfOk result (λ id. kind_at (S.state space.old).records file id ≡ free_kind) }
     ensures is { IfOk result (λ id. id ≡ meta.high) }
     ensures ok { S.tells → OnOk result (S.state space.new ≡ mark_taken (S.state space.old) file) }
+    ensures err { OnErr result (SameButReads (S.state space.old) (S.state space.new)) }
     ensures writes { WritesOnly (S.state space.old) (S.state space.new) (meta_key_of file ∷ []) }
     ensures onward { S.onward space.old space.new }
     ensures cause { HasCause (S.faults space.old) (S.faults space.new) result }
@@ -134,7 +139,9 @@ fn take_free<S: Space>(space: &mut S, file: u8, meta: Meta) -> Result<u32, TakeF
     ensures fresh { S.tells → IfOk result (λ id. kind_at (S.state space.old).records file id ≡ free_kind) }
     ensures is { IfOk result (λ id. id ≡ meta.free) }
     ensures ok { S.tells → OnOk result (S.state space.new ≡ free_taken (S.state space.old) file) }
+    ensures low { S.tells → OnOk result (IsNextLow (S.state space.old) file) }
     ensures refused { S.tells → IfErr result (IsTakeFault (S.state space.old) file) }
+    ensures err { OnErr result (SameButReads (S.state space.old) (S.state space.new)) }
     ensures writes { WritesOnly (S.state space.old) (S.state space.new) (meta_key_of file ∷ []) }
     ensures onward { S.onward space.old space.new }
     ensures cause { HasTakeCause (S.faults space.old) (S.faults space.new) result }
@@ -158,6 +165,7 @@ fn next_free<R: Reads>(space: &mut R, file: u8, meta: Meta) -> Result<u32, TakeF
     requires mark { meta.high ≤ most_ids }
     ensures fresh { R.tells → OnOk result (kind_at (R.state space.old).records file meta.free ≡ free_kind) }
     ensures is { R.tells → IfOk result (λ next. next ≡ next_free (R.state space.old).records file meta.free) }
+    ensures low { R.tells → OnOk result (IsNextLow (R.state space.old) file) }
     ensures refused { R.tells → IfErr result (IsTakeFault (R.state space.old) file) }
     ensures state { R.state space.new ≡ after_get (R.state space.old) }
     ensures onward { R.onward space.old space.new }

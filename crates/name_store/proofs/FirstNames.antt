@@ -1,5 +1,5 @@
 -- The first names of a space's records.
-use Rattle.std.proofs.Common.{◌≡◌, ℕ, ◌+◌, ◌<◌, ◌≤◌, List, [], ◌∷◌, ◌++◌, Some, slice_get, take, length, Contains, ⊎_elim, sym, ap, subst, ◌∙◌, arith}
+use Rattle.std.proofs.Common.{◌≡◌, ℕ, zero, suc, ◌+◌, ◌<◌, ◌≤◌, List, [], ◌∷◌, ◌++◌, Some, slice_get, take, length, Contains, ⊎_elim, refl, sym, ap, subst, ◌∙◌, arith}
 use Rattle.std.proofs.lemmas.Bool.{cases_lt}
 use Rattle.std.proofs.lemmas.List.{ext_get_or, get_or_append_left, get_or-take, length-append, length-take-le}
 use Rattle.std.proofs.lemmas.Option.{get_or_from_slice_get, slice_get-get_or, slice_get_within}
@@ -7,7 +7,12 @@ use Rattle.std.proofs.Math.Seq.{get_or-append_seam}
 use Rattle.store_rules.specs.Graph.{names_of}
 use Rattle.store_rules.specs.Views.{Records}
 use Rattle.store_rules.proofs.NameRows.{length-rows, row_at}
-use Rattle.name_store.specs.Loading.{HoldsFirst, name_mark, text_at}
+use Rattle.rec_bytes.specs.Format.{names_file}
+use Rattle.store_rules.specs.Rules.{AreNames}
+use Rattle.store_rules.specs.Views.{rec_at}
+use Rattle.name_store.specs.Loading.{AreLoadableTo, HasNoForm, HoldsFirst, name_mark, text_at}
+use Rattle.name_store.specs.Names.{AreDistinct, AreHeldNames}
+use Rattle.name_store.proofs.KeptNames.{short_at}
 
 pub length-names_of : (records : Records) → length (names_of records) ≡ name_mark records
 length-names_of records = length-rows (text_at records) (name_mark records)
@@ -55,3 +60,25 @@ names_of-take records names fits before =
     names_of-first records (take (name_mark records) names) (λ id lt.
     let low : id < name_mark records = omega arith in
     slice_get-get_or (take (name_mark records) names) id [] lt ∙ ap Some (get_or-take (name_mark records) names id [] low) ∙ sym (slice_get-get_or names id [] (omega arith)) ∙ before id low) long
+
+-- distinct texts stand at one place each
+distinct_at : (texts : List (List ℕ)) (x y : ℕ) (text : List ℕ) → AreDistinct texts → slice_get texts x ≡ Some text → slice_get texts y ≡ Some text → x ≡ y
+distinct_at [] x y text distinct a b = absurd cc
+distinct_at (first ∷ texts) zero zero text distinct a b = refl
+distinct_at (first ∷ texts) zero (suc y) text distinct a b = absurd (distinct.0 (contains_at texts y first (b ∙ sym a)))
+distinct_at (first ∷ texts) (suc x) zero text distinct a b = absurd (distinct.0 (contains_at texts x first (a ∙ sym b)))
+distinct_at (first ∷ texts) (suc x) (suc y) text distinct a b = ap suc (distinct_at texts x y text distinct.1 a b)
+
+-- names that are kept and are the records' first keep the sixth rule
+AreNames-first : (records : Records) (names : List (List ℕ)) → AreHeldNames names → HoldsFirst records names → AreNames (rec_at records names_file) (length names)
+AreNames-first records names held first = record {
+  form = λ x lt. short_at names x (text_at records x) held (first x lt);
+  distinct = λ x y a b same. distinct_at names x y (text_at records x) held.distinct (first x a) (first y b ∙ ap Some (sym same));
+}
+
+pub AreLoadableTo-first : (records : Records) (names : List (List ℕ)) → AreHeldNames names → HoldsFirst records names → ((x : ℕ) → x < length names → ¬ HasNoForm records x) → AreLoadableTo records (length names)
+AreLoadableTo-first records names held first form = record { form = form; names = AreNames-first records names held first }
+
+-- one more record has a name's form
+pub form_next : (records : Records) (n m : ℕ) → m ≡ n + 1 → ((x : ℕ) → x < n → ¬ HasNoForm records x) → ¬ HasNoForm records n → (x : ℕ) → x < m → ¬ HasNoForm records x
+form_next records n m more before here x lt = ⊎_elim (λ (low : x < n). before x low) (λ (past : n ≤ x). let same : n ≡ x = omega arith in subst (λ i. ¬ HasNoForm records i) same here) (cases_lt x n)

@@ -1,13 +1,13 @@
 -- What several calls that read a space leave of it.
-use Rattle.std.proofs.Common.{◌≡◌, ℕ, ◌+◌, ◌<◌, ◌≤◌, Bool, true, false, nat_lt, if◌then◌else◌, List, length, Result, Option, None, Some, is_some, refl, sym, ap, ◌∙◌, arith}
+use Rattle.std.proofs.Common.{◌≡◌, ℕ, ◌+◌, ◌<◌, ◌≤◌, Bool, true, false, nat_lt, if◌then◌else◌, List, length, Result, Option, None, Some, is_some, true≢false, refl, sym, ap, ◌∙◌, arith}
 use Rattle.std.proofs.lemmas.Bool.Decides.{nat_tests}
 use Rattle.fault_count.specs.Cause.{Rose}
 use Rattle.rec_bytes.specs.Space.{State, after_get, after_gets}
+use Rattle.rec_bytes.specs.RowFault.{HasRowCause}
 use Rattle.rec_bytes.proofs.Spaces.{after_gets-zero, after_gets_more, records-after_gets}
 use Rattle.name_store.specs.Again.{after_compare}
 use Rattle.name_store.specs.Fault.{HasFaultCause}
 use Rattle.name_store.specs.Loading.{ReadsAtMost}
-use Rattle.name_store.specs.RowFault.{HasRowCause}
 
 rose_earlier : (a b c : ℕ) → a ≤ b → Rose b c → Rose a c
 rose_earlier a b c le rose = omega arith
@@ -38,6 +38,9 @@ reads_compared names n old mid new le first next = by (nat_lt n (length names)) 
 pub none_from : {X : Type 0} (o : Option X) (b : Bool) → b ≡ is_some o → b ≡ false → o ≡ None
 none_from None b is lacks = refl
 none_from (Some x) b is lacks = absurd cc
+
+pub some_from : {X : Type 0} (o : Option X) (b : Bool) → b ≡ is_some o → b ≡ true → o ≡ None → ⊥
+some_from o b is has none = true≢false (sym has ∙ is ∙ ap is_some none)
 
 -- reads change no record
 pub records_there : (n : ℕ) (old mid : State) → mid ≡ after_gets n old → mid.records ≡ old.records

@@ -2,9 +2,9 @@
 use Rattle.std.specs.Prelude.{◌≡◌, ◌≢◌, ℕ, ◌<◌, nat_lt, List, Some, length, slice_get, if◌then◌else◌}
 use Rattle.rec_bytes.specs.declared.damage.Damage.{Damage}
 use Rattle.rec_bytes.specs.Space.{State, after_get}
+use Rattle.rec_bytes.specs.declared.row_fault.RowFault.{RowFault}
+use Rattle.rec_bytes.specs.declared.row_fault.RowFault.TheVariants.{Disk, Damaged}
 use Rattle.store_rules.specs.Views.{Records}
-use Rattle.name_store.specs.declared.row_fault.RowFault.{RowFault}
-use Rattle.name_store.specs.declared.row_fault.RowFault.TheVariants.{Disk, Damaged}
 use Rattle.name_store.specs.Loading.{name_damage, name_mark, text_at}
 
 -- the record is the first of the space's whose name isn't the one that is kept, or is past those

@@ -5,4 +5,3 @@ pub mod Interning
 pub mod Loading
 pub mod NameRecord
 pub mod Names
-pub mod RowFault

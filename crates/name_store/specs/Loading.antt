@@ -30,14 +30,14 @@ HasNoForm records id = layout_of format.names_file (rec_at records format.names_
 
 -- The record that is said to be damaged breaks the rule that is named. By the first rule the meta
 -- record counts no more names than there may be, and a name's record has a kind and a length of its
--- file. By the sixth its text is a name, and no earlier record has it.
+-- file. By the sixth the text of one that has them is a name, and no earlier record has it.
 pub data IsNameDamage (records : Records) : Damage → Type 0 where
   HighMark : format.most_names < name_mark records → IsNameDamage records mark_damage
   WrongForm : (id : ℕ) → id < name_mark records → HasNoForm records id
       → IsNameDamage records (name_damage id 1)
-  WrongText : (id : ℕ) → id < name_mark records → ¬ IsShortName (text_at records id)
-      → IsNameDamage records (name_damage id 6)
-  SameText : (id earlier : ℕ) → id < name_mark records → earlier < id
+  WrongText : (id : ℕ) → id < name_mark records → ¬ HasNoForm records id
+      → ¬ IsShortName (text_at records id) → IsNameDamage records (name_damage id 6)
+  SameText : (id earlier : ℕ) → id < name_mark records → ¬ HasNoForm records id → earlier < id
       → text_at records earlier ≡ text_at records id → IsNameDamage records (name_damage id 6)
 
 abbrev pub IsLoadFault : Records → Fault → Type 0
@@ -50,6 +50,24 @@ pub record AreLoadable (records : Records) : Type 0 where
   pub mark : name_mark records ≤ format.most_names
   pub form : (id : ℕ) → id < name_mark records → ¬ HasNoForm records id
   pub names : AreNames (rec_at records format.names_file) (name_mark records)
+
+-- the records of the first n names keep them
+pub record AreLoadableTo (records : Records) (n : ℕ) : Type 0 where
+  pub form : (id : ℕ) → id < n → ¬ HasNoForm records id
+  pub names : AreNames (rec_at records format.names_file) n
+
+-- a name's record that is said to be damaged is the first that is
+abbrev pub IsFirstDamage : Records → Fault → Type 0
+IsFirstDamage records Memory = Unit {0}
+IsFirstDamage records Disk = Unit {0}
+IsFirstDamage records (Damaged damage) =
+    damage.file ≡ format.names_file → AreLoadableTo records damage.id
+
+-- what is said to be damaged is the record of this number
+abbrev pub IsDamageAt : ℕ → Fault → Type 0
+IsDamageAt n Memory = Unit {0}
+IsDamageAt n Disk = Unit {0}
+IsDamageAt n (Damaged damage) = damage.id ≡ n
 
 -- these are the first names of the records
 abbrev pub HoldsFirst : Records → List (List ℕ) → Type 0

@@ -3,12 +3,12 @@ ghost use Rattle.std.specs.Prelude.{List, Some, length, slice_get, take, IfErr, 
 ghost use Rattle.store_rules.specs.Graph.{names_of};
 ghost use Rattle.name_store.specs.Again.{HasOther, IsAgainFault, after_compare};
 ghost use Rattle.name_store.specs.Loading.{ReadsAtMost, after_names, name_mark, text_at};
-ghost use Rattle.name_store.specs.RowFault.{HasRowCause, NotDamaged};
+ghost use Rattle.rec_bytes.specs.RowFault.{HasRowCause, NotDamaged};
 
+use crate::Names;
 use crate::loading::NAME_RULE;
 use crate::name_record::text_of;
-use crate::{Names, RowFault};
-use rec_bytes::{Damage, Key, NAMES, Reads};
+use rec_bytes::{Damage, Key, NAMES, Reads, RowFault};
 
 impl Names {
     /// Cuts the names to those of a space, which are to be a prefix of them. Else the names stay,

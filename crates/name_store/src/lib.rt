@@ -9,10 +9,8 @@ mod interning;
 mod loading;
 mod name_record;
 mod names;
-mod row_fault;
 
 pub use fault::Fault;
 pub use intern_fault::InternFault;
 pub use loading::load;
 pub use names::Names;
-pub use row_fault::RowFault;

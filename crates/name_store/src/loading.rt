@@ -3,7 +3,8 @@ ghost use Rattle.rec_bytes.specs.Format.{most_names};
 ghost use Rattle.rec_bytes.specs.Space.{after_get};
 ghost use Rattle.store_rules.specs.Graph.{names_of};
 ghost use Rattle.name_store.specs.Fault.{HasFaultCause, NotDamaged};
-ghost use Rattle.name_store.specs.Loading.{AreLoadable, HoldsFirst, IsLoadFault, ReadsAtMost};
+ghost use Rattle.name_store.specs.Loading.{AreLoadable, HasNoForm, HoldsFirst, IsDamageAt};
+ghost use Rattle.name_store.specs.Loading.{IsFirstDamage, IsLoadFault, ReadsAtMost};
 ghost use Rattle.name_store.specs.Loading.{after_names, most_reads, name_damage, name_mark};
 ghost use Rattle.name_store.specs.Loading.{text_at};
 
@@ -25,6 +26,8 @@ pub fn load<R: Reads>(alloc: Global, space: &mut R) -> Result<Names, Fault>
     ensures loaded { R.tells
         → IfOk result (λ names. names.names ≡ names_of (R.state space.old).records) }
     ensures damaged { R.tells → IfErr result (IsLoadFault (R.state space.old).records) }
+    ensures first { R.tells → IfErr result (IsFirstDamage (R.state space.old).records) }
+    ensures right { R.tells → OnOk result (AreLoadable (R.state space.old).records) }
     ensures sound { R.tells → AreLoadable (R.state space.old).records → NotDamaged result }
     ensures reads { OnOk result (R.state space.new ≡ after_names (R.state space.old)) }
     ensures at_most { ReadsAtMost (most_reads (R.state space.old))
@@ -54,6 +57,9 @@ fn load_next<R: Reads>(alloc: Global, space: &mut R, names: &mut Names) -> Resul
     ensures next { R.tells → OnOk result (names.new.names
         ≡ names.old.names ++ text_at (R.state space.old).records (length names.old.names) ∷ []) }
     ensures count { OnOk result (length names.new.names ≡ length names.old.names + 1) }
+    ensures form { R.tells
+        → OnOk result (¬ HasNoForm (R.state space.old).records (length names.old.names)) }
+    ensures at { IfErr result (IsDamageAt (length names.old.names)) }
     ensures damaged { R.tells → HoldsFirst (R.state space.old).records names.old.names
         → IfErr result (IsLoadFault (R.state space.old).records) }
     ensures state { R.state space.new ≡ after_get (R.state space.old) }

@@ -4,9 +4,9 @@ use Rattle.rec_bytes.specs.declared.record.Rec.{Rec}
 use Rattle.rec_bytes.specs.Format as format
 use Rattle.rec_bytes.specs.Record.{field}
 use Rattle.rec_bytes.specs.Space.{State}
+use Rattle.rec_bytes.specs.declared.row_fault.RowFault.TheVariants.{Damaged}
 use Rattle.store_rules.specs.Ranges.{layout_by}
 use Rattle.store_rules.specs.Views.{rec_at}
-use Rattle.node_store.specs.declared.row_fault.RowFault.TheVariants.{Damaged}
 use Rattle.node_store.specs.Loading.{IsNodeFault, node_mark}
 use Rattle.node_store.specs.Loading.IsNodeDamage.{UnknownKind}
 use Rattle.node_store.specs.NodeRecord.{range_damage, read_row, row_of}

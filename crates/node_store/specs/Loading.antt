@@ -4,11 +4,11 @@ use Rattle.rec_bytes.specs.declared.damage.Damage.{Damage}
 use Rattle.rec_bytes.specs.Format as format
 use Rattle.rec_bytes.specs.RecordFiles.{room_of}
 use Rattle.rec_bytes.specs.Space.{State, after_get}
+use Rattle.rec_bytes.specs.declared.row_fault.RowFault.{RowFault}
+use Rattle.rec_bytes.specs.declared.row_fault.RowFault.TheVariants.{Disk, Damaged}
 use Rattle.store_rules.specs.Ranges.{layout_of}
 use Rattle.store_rules.specs.Views.{Records, high, kind_at, rec_at, row_if}
 use Rattle.node_store.specs.declared.node_row.NodeRow.{NodeRow}
-use Rattle.node_store.specs.declared.row_fault.RowFault.{RowFault}
-use Rattle.node_store.specs.declared.row_fault.RowFault.TheVariants.{Disk, Damaged}
 use Rattle.node_store.specs.NodeRecord.{range_damage, row_of}
 
 -- the row of a node in use, and none where the identifier isn't live
@@ -43,6 +43,11 @@ pub data IsNodeDamage (s : State) (id : ℕ) : Damage → Type 0 where
 abbrev pub IsNodeFault : State → ℕ → RowFault → Type 0
 IsNodeFault s id Disk = Unit {0}
 IsNodeFault s id (Damaged damage) = IsNodeDamage s id damage
+
+-- an identifier that was given out has room, and a record of a kind that the file has
+pub record IsKnown (s : State) (id : ℕ) : Type 0 where
+  pub room : id < node_mark s → id < node_room s
+  pub kind : id < node_mark s → ¬ HasNoKind s.records id
 
 -- the mark and the record are right by the first rule
 pub record IsReadable (s : State) (id : ℕ) : Type 0 where

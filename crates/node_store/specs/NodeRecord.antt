@@ -6,9 +6,9 @@ use Rattle.rec_bytes.specs.declared.record.Rec.{Rec}
 use Rattle.rec_bytes.specs.Format as format
 use Rattle.rec_bytes.specs.Record.{field, zeros}
 use Rattle.rec_bytes.specs.Tables.{Fields, with_fields}
+use Rattle.rec_bytes.specs.declared.row_fault.RowFault.{RowFault}
+use Rattle.rec_bytes.specs.declared.row_fault.RowFault.TheVariants.{Damaged}
 use Rattle.node_store.specs.declared.node_row.NodeRow.{NodeRow}
-use Rattle.node_store.specs.declared.row_fault.RowFault.{RowFault}
-use Rattle.node_store.specs.declared.row_fault.RowFault.TheVariants.{Damaged}
 
 abbrev pub node_key : ℕ → Key
 node_key id = record { file = format.nodes_file; id = id }

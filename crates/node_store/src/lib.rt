@@ -5,10 +5,8 @@
 mod loading;
 mod node_record;
 mod node_row;
-mod row_fault;
 mod saving;
 
 pub use loading::load;
 pub use node_row::NodeRow;
-pub use row_fault::RowFault;
 pub use saving::save;

@@ -1,12 +1,12 @@
-ghost use Rattle.std.specs.Prelude.{◌≡◌, IfErr, IfOk, IfSome};
+ghost use Rattle.std.specs.Prelude.{◌≡◌, IfErr, IfOk, IfSome, OnOk};
 ghost use Rattle.rec_bytes.specs.Key.{IsKey};
-ghost use Rattle.node_store.specs.Loading.{after_load, row_at, IsNodeFault, IsReadable};
+ghost use Rattle.node_store.specs.Loading.{after_load, row_at, IsKnown, IsNodeFault, IsReadable};
 ghost use Rattle.node_store.specs.NodeRecord.{node_key};
-ghost use Rattle.node_store.specs.RowFault.{HasRowCause, NotDamaged};
+ghost use Rattle.rec_bytes.specs.RowFault.{HasRowCause, NotDamaged};
 
+use crate::NodeRow;
 use crate::node_record::{RANGE_RULE, read_row};
-use crate::{NodeRow, RowFault};
-use rec_bytes::{Damage, Key, META, NODES, Reads, room_of};
+use rec_bytes::{Damage, Key, META, NODES, Reads, RowFault, room_of};
 
 /// Reads the node of an identifier. It is none where the identifier isn't live. A record of an
 /// unknown kind is damaged, and so is the meta record of the nodes where it counts the identifier
@@ -15,6 +15,7 @@ use rec_bytes::{Damage, Key, META, NODES, Reads, room_of};
 pub fn load<R: Reads>(space: &mut R, id: u32) -> Result<Option<NodeRow>, RowFault>
     ensures found { R.tells → IfOk result (λ row. row ≡ row_at (R.state space.old).records id) }
     ensures damaged { R.tells → IfErr result (IsNodeFault (R.state space.old) id) }
+    ensures known { R.tells → OnOk result (IsKnown (R.state space.old) id) }
     ensures sound { R.tells → IsReadable (R.state space.old) id → NotDamaged result }
     ensures key { IfOk result (λ row. IfSome row (λ _. IsKey (node_key id))) }
     ensures state { R.state space.new ≡ after_load (R.state space.old) id }

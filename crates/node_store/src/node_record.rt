@@ -1,10 +1,10 @@
 ghost use Rattle.std.specs.Prelude.{◌≡◌};
 ghost use Rattle.node_store.specs.NodeRecord.{kind_of, node_record, read_row, row_of};
 
-use crate::{NodeRow, RowFault};
+use crate::NodeRow;
 use rec_bytes::{
     DENSE, Damage, FREE, KIND, NODE_DEGREE, NODE_FIRST_LINK, NODE_FIRST_PROPERTY, NODE_LABEL,
-    NODES, Rec, SPARSE,
+    NODES, Rec, RowFault, SPARSE,
 };
 
 /// The rule that a record's kind and its numbers are ones that may stand there.

@@ -9,6 +9,7 @@ pub mod PairOrder
 pub mod Pairs
 pub mod Record
 pub mod RecordFiles
+pub mod RowFault
 pub mod Shape
 pub mod Space
 pub mod Tables

@@ -37,6 +37,10 @@ unfoldable pub after_gets : ℕ → State → State
 after_gets zero s = s
 after_gets (suc n) s = after_get (after_gets n s)
 
+-- the same but for the count of reads
+abbrev pub SameButReads : State → State → Type 0
+SameButReads old new = new ≡ record old { reads = new.reads }
+
 -- after a record was replaced
 abbrev pub after_put : State → Key → Rec → State
 after_put s key rec = record s { records = put s.records key rec; written = marked s.written key }

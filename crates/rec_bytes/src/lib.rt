@@ -14,6 +14,7 @@ mod map_space;
 mod meta;
 mod record;
 mod record_files;
+mod row_fault;
 mod shape;
 mod space;
 mod write_set;
@@ -44,6 +45,7 @@ pub use record::Rec;
 pub use record_files::{
     RECORD_FILES, RecordFile, RecordRoom, is_meta_file, is_record_file, meta_key, room_of,
 };
+pub use row_fault::RowFault;
 pub use shape::{
     DEFAULT_LIMIT, DEFAULT_THRESHOLD, GREATEST_LIMIT, GREATEST_THRESHOLD, LEAST_LIMIT,
     LEAST_THRESHOLD, Shape,

@@ -1,7 +1,5 @@
-use Rattle.std.specs.Prelude.{slice_get, Some, Err}
-use Rattle.std.specs.List.{Contains}
-use Rattle.std.proofs.Common.{rules, arith, ℕ, List, length, ◌≡◌, ◌≢◌, ◌∙◌, sym, subst, ap}
-use Rattle.plain_graph.specs.Graph.{AddsNode, UsesName}
+use Rattle.std.proofs.Common.{rules, ◌∙◌, sym, subst, ap}
+use Rattle.plain_graph.specs.Graph.{AddsNode}
 use Rattle.plain_graph.specs.Names.{IsShortName}
 use Rattle.rec_bytes.specs.Format as format
 use Rattle.rec_bytes.specs.Space.{State}
@@ -10,7 +8,7 @@ use Rattle.graph_ops.specs.NodeAdding.{IsAddFault}
 use Rattle.graph_ops.specs.Store.{IsStore, graph_in}
 use Rattle.graph_ops.proofs.NodeAdded.{HasAdded, has_added}
 use Rattle.graph_ops.proofs.Refusals.{can_add, fault_exit, full_exit, full_result, intern_refused, not_full, take_refused}
-use Rattle.graph_ops.proofs.StateShapes.{interned-shape, taken-shape}
+use Rattle.graph_ops.proofs.StateShapes.{taken-shape}
 use Rattle.graph_ops.proofs.node_adding.add_node.Goals as goal
 use Rattle.graph_ops.proofs.node_adding.add_node.Goals.{In_ok-save}
 use Rattle.graph_ops.proofs.node_adding.add_node.Given.{Over}
@@ -62,7 +60,14 @@ pub returns-clause-adds : goal.returns-clause-adds
 returns-clause-adds g c tells store =
     subst (λ l. AddsNode (g.S.Reads.state c.args.space.now).shape.limit (graph_in (g.S.Reads.state c.args.space.now)) l c.in_ok-id.id (graph_in (g.S.Reads.state c.save.new.space))) c.as_bytes.ensures (all_added g (goal.at.returns-clause-adds g c).In_ok-save tells store).adds
 
+pub returns-in_err-number-clause-shape : goal.returns-in_err-number-clause-shape
+returns-in_err-number-clause-shape g c tells =
+    c.intern.ensures.shape tells ∙ ap (λ (s : State). s.shape) (c.in_ok-id.ensures.ok tells) ∙ taken-shape (g.S.Reads.state c.args.space.now) format.nodes_file
+
+pub returns-in_err-save-clause-shape : goal.returns-in_err-save-clause-shape
+returns-in_err-save-clause-shape g c tells =
+    ap (λ (s : State). s.shape) c.in_err-save.ensures.err ∙ c.intern.ensures.shape tells ∙ ap (λ (s : State). s.shape) (c.in_ok-id.ensures.ok tells) ∙ taken-shape (g.S.Reads.state c.args.space.now) format.nodes_file
+
 pub returns-clause-shape : goal.returns-clause-shape
 returns-clause-shape g c tells =
-    ap (λ (s : State). s.shape) c.in_ok-save.ensures.ok ∙ ap (λ (s : State). s.shape) (c.in_ok-number.ensures.ok tells) ∙ interned-shape (g.S.Reads.state c.take.new.space) c.args.names.now.names c.as_bytes.result.now
-    ∙ ap (λ (s : State). s.shape) (c.in_ok-id.ensures.ok tells) ∙ taken-shape (g.S.Reads.state c.args.space.now) format.nodes_file
+    ap (λ (s : State). s.shape) c.in_ok-save.ensures.ok ∙ c.intern.ensures.shape tells ∙ ap (λ (s : State). s.shape) (c.in_ok-id.ensures.ok tells) ∙ taken-shape (g.S.Reads.state c.args.space.now) format.nodes_file

@@ -1,6 +1,4 @@
-use Rattle.std.proofs.Common.{rules, arith, ◌≡◌, ◌∙◌, refl, sym, subst, ap, Some}
-use Rattle.rec_bytes.specs.Key.{IsKey}
-use Rattle.store_rules.specs.Views.{key_in}
+use Rattle.std.proofs.Common.{rules, ◌∙◌, refl, sym}
 use Rattle.graph_ops.proofs.NodeDeleted.{has_deleted, has_no_relationships, none_of}
 use Rattle.graph_ops.proofs.node_deleting.delete_node.Goals as goal
 

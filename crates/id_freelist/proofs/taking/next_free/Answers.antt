@@ -1,4 +1,4 @@
-use Rattle.std.proofs.Common.{rules, arith, sym, subst}
+use Rattle.std.proofs.Common.{arith, sym, subst}
 use Rattle.id_freelist.specs.Taking.{IsTakeFault}
 use Rattle.id_freelist.proofs.TakeDamages.{bad_next, in_use, not_in_use}
 use Rattle.id_freelist.proofs.taking.next_free.Goals as goal

@@ -3,10 +3,10 @@ use Rattle.std.proofs.lemmas.Result.{err_from_is_err_and}
 use Rattle.rec_bytes.specs.declared.meta.Meta.{Meta}
 use Rattle.rec_bytes.specs.Space.{after_gets}
 use Rattle.rec_bytes.proofs.Spaces.{after_gets-zero}
-use Rattle.name_store.specs.Loading.{HoldsFirst, IsLoadFault, most_reads, name_mark, text_at}
+use Rattle.name_store.specs.Loading.{AreLoadableTo, HasNoForm, HoldsFirst, IsFirstDamage, IsLoadFault, most_reads, name_mark, text_at}
 use Rattle.name_store.specs.Loading.IsNameDamage.{HighMark}
-use Rattle.name_store.proofs.FirstNames.{HoldsFirst-next, names_of-first}
-use Rattle.name_store.proofs.NameDamage.{NotDamaged-loadable}
+use Rattle.name_store.proofs.FirstNames.{AreLoadableTo-first, HoldsFirst-next, form_next, names_of-first}
+use Rattle.name_store.proofs.NameDamage.{IsFirstDamage-at, NotDamaged-loadable}
 use Rattle.name_store.proofs.Reading.{reads_next, reads_none, records_there, state_next}
 use Rattle.name_store.proofs.loading.load.Goals as goal
 
@@ -25,6 +25,7 @@ each-init g c =
     let none : length c.new-names.result.names ≡ 0 = ap length c.new-names.ensures in
     record {
       first = λ tells id lt. absurd (omega arith);
+      form = λ tells id lt. absurd (omega arith);
       count = omega arith;
       state = sym (ap (λ n. after_gets n s) none ∙ after_gets-zero s);
       onward = g.met.R.Reads.stays_onward c.args.space.now;
@@ -47,6 +48,7 @@ each-preserved g c =
     let more = c.in_ok-load_next.ensures.count in
     record {
       first = λ tells. HoldsFirst-next s.records names c.load_next.new.names.names (c.each.invariant.first tells) (c.in_ok-load_next.ensures.next tells ∙ ap (λ records. names ++ text_at records (length names) ∷ []) there);
+      form = λ tells. form_next s.records (length names) (length c.load_next.new.names.names) more (c.each.invariant.form tells) (subst (λ records. ¬ HasNoForm records (length names)) there (c.in_ok-load_next.ensures.form tells));
       count = omega (arith, c.each-test.true, c.count.ensures.value);
       state = state_next (length names) (length c.load_next.new.names.names) s m (g.R.Reads.state c.load_next.new.space) c.each.invariant.state c.load_next.ensures.state more;
       onward = g.met.R.Reads.further_onward c.args.space.now c.each.space c.load_next.new.space c.each.invariant.onward c.load_next.ensures.onward;
@@ -62,6 +64,14 @@ returns-in_err-load_next-clause-damaged g c = λ tells.
     let p = err_from_is_err_and c.from_residual.result c.from_residual.ensures.1 in
     let fault = c.in_err-load_next.ensures.damaged tells (subst (λ records. HoldsFirst records c.each.names.names) (sym there) (c.each.invariant.first tells)) in
     rw (p.1, p.2) (subst (λ records. IsLoadFault records c.in_err-load_next.field-0.0) there fault)
+
+pub returns-in_err-load_next-clause-first : goal.returns-in_err-load_next-clause-first
+returns-in_err-load_next-clause-first g c = λ tells.
+    let s = g.R.Reads.state c.args.space.now in
+    let names = c.each.names.names in
+    let p = err_from_is_err_and c.from_residual.result c.from_residual.ensures.1 in
+    let before = AreLoadableTo-first s.records names c.count.ensures.are_names (c.each.invariant.first tells) (c.each.invariant.form tells) in
+    rw (p.1, p.2) (IsFirstDamage-at s.records (length names) c.in_err-load_next.field-0.0 before c.in_err-load_next.ensures.at)
 
 pub returns-in_err-load_next-clause-sound : goal.returns-in_err-load_next-clause-sound
 returns-in_err-load_next-clause-sound g c = λ tells right.
@@ -85,3 +95,11 @@ returns-clause-loaded g c = λ tells.
     let s = g.R.Reads.state c.args.space.now in
     let mark : c.meta-high.result.high ≡ name_mark s.records = ap (λ (m : Meta). m.high) c.meta-high.ensures in
     names_of-first s.records c.each.names.names (c.each.invariant.first tells) (omega (arith, c.each-test.false, c.count.ensures.value, c.each.invariant.count))
+
+pub returns-clause-right : goal.returns-clause-right
+returns-clause-right g c = λ tells.
+    let s = g.R.Reads.state c.args.space.now in
+    let mark : c.meta-high.result.high ≡ name_mark s.records = ap (λ (m : Meta). m.high) c.meta-high.ensures in
+    let long : length c.each.names.names ≡ name_mark s.records = omega (arith, c.each-test.false, c.count.ensures.value, c.each.invariant.count) in
+    let all = subst (AreLoadableTo s.records) long (AreLoadableTo-first s.records c.each.names.names c.count.ensures.are_names (c.each.invariant.first tells) (c.each.invariant.form tells)) in
+    record { mark = omega arith; form = all.form; names = all.names }
