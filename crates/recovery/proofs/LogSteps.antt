@@ -1,5 +1,5 @@
 -- What a step of writing the log's entries leaves.
-use Rattle.std.proofs.Common.{◌≡◌, ◌≢◌, ◌∙◌, ap, sym, subst, ℕ, ◌+◌, List, [], ◌∷◌, ◌++◌, Option, Some, None, is_some, unwrap_or, length, refl, arith, append_assoc, append-nil}
+use Rattle.std.proofs.Common.{◌≡◌, ◌≢◌, ◌∙◌, ap, sym, subst, ℕ, ◌+◌, List, [], ◌∷◌, ◌++◌, Option, Some, None, is_some, length, refl, arith, append_assoc, append-nil}
 use mathlib.Core.Bool.{false≢true}
 use Rattle.std.specs.Option.{option_or}
 use Rattle.disk_model.specs.Contents.{Files, Same}
@@ -132,6 +132,16 @@ pub IsRedoneTo-end : (entries : List Pairs) (tail : ℕ) (first now : Files) (pi
     → record_at now ≡ redone (record_at first) entries
 IsRedoneTo-end entries tail first now piece place was closed =
     was.made ∙ ap (λ (es : List Pairs). redone (record_at first) es) (all_done was.left was.done entries place tail now was.rest closed was.all)
+
+cons_after : (done later : List Pairs) (entry : Pairs) → done ++ entry ∷ later ≡ [] → ⊥
+cons_after [] later entry all = absurd (omega (arith, ap (λ (es : List Pairs). length es) all))
+cons_after (d ∷ ds) later entry all = absurd (omega (arith, ap (λ (es : List Pairs). length es) all))
+
+-- where the log has no entry, none stands at a place
+pub none_stands : (tail : ℕ) (first now : Files) (piece : Piece) (place : ℕ) → IsRedoneTo [] tail first now piece place → IsEntry now place → ⊥
+none_stands tail first now piece place was entry =
+    let at = IsNext-entry [] tail now place was.done was.left entry was.rest was.all in
+    cons_after was.done at.later (entry_at now place) at.left_is
 
 -- an open gate over another form doesn't stand among entries
 pub none_damaged : (entries : List Pairs) (place tail : ℕ) (content : Files) → HasEntriesFrom place content entries tail → content log_file place ≡ 1 → ¬ IsEntry content place → ⊥

@@ -1,5 +1,5 @@
 -- The records of the meta file, as they are read and as entries are taken over.
-use Rattle.std.proofs.Common.{◌≡◌, ◌≢◌, ◌∙◌, ap, sym, subst, ⊎_elim, ℕ, zero, suc, ◌+◌, ◌*◌, ◌≤◌, ◌<◌, Bool, true, false, cond, List, [], ◌∷◌, ◌++◌, Option, Some, None, length, take, drop, get_or, set, refl, arith, length-drop}
+use Rattle.std.proofs.Common.{◌≡◌, ◌≢◌, ◌∙◌, ap, sym, subst, ⊎_elim, ℕ, suc, ◌+◌, ◌*◌, ◌≤◌, ◌<◌, true, cond, List, [], ◌∷◌, ◌++◌, Some, None, length, take, drop, get_or, set, refl, arith, length-drop}
 use Rattle.std.proofs.Math.Path.{fun_ext}
 use Rattle.std.proofs.lemmas.Bool.{cases_lt, false≢true}
 use Rattle.std.proofs.lemmas.List.{get_or-take, get_or-drop, get_or-set_same, get_or-set_other, length-take-le}
@@ -13,10 +13,10 @@ use Rattle.rec_bytes.specs.Pairs.{Pairs, IsOrdered, find_pair}
 use Rattle.rec_bytes.specs.Record.{zeros}
 use Rattle.rec_bytes.specs.RecordFiles.{meta_key_of}
 use Rattle.rec_bytes.specs.Space.{laid_over, put}
-use Rattle.rec_bytes.proofs.KeyLaws.{key_eq-same, key_eq-other}
+use Rattle.rec_bytes.proofs.KeyLaws.{key_eq-same}
 use Rattle.redo_log.specs.Entries.{HasEntries, HasEntriesUpTo, IsDamaged, IsDamagedLog, IsEntry, count_at, entry_at, entry_bytes}
 use Rattle.redo_log.specs.Redo.{redone}
-use Rattle.redo_log.specs.Reading.{IsPieceOf, Piece, Tells}
+use Rattle.redo_log.specs.Reading.{Tells}
 use Rattle.redo_log.specs.declared.entry_answer.EntryAnswer.{EntryAnswer}
 use Rattle.redo_log.proofs.Damage.{HasEntriesUpTo-closed, HasEntriesUpTo-more}
 use Rattle.redo_log.proofs.Entries.{length-writes_from}

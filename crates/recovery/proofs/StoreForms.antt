@@ -1,5 +1,5 @@
 -- What the records of the meta file say of a store.
-use Rattle.std.proofs.Common.{◌≡◌, ◌∙◌, ap, sym, subst, ⊎_elim, inl, inr, ℕ, zero, suc, ◌+◌, ◌<◌, Bool, true, false, nat_lt, List, [], ◌∷◌, Some, None, is_some, length, get_or, refl, arith}
+use Rattle.std.proofs.Common.{◌≡◌, ◌∙◌, ap, sym, subst, ⊎_elim, inl, inr, ℕ, zero, suc, ◌+◌, ◌<◌, true, nat_lt, List, [], ◌∷◌, Some, None, is_some, length, get_or, refl, arith}
 use Rattle.std.proofs.lemmas.Bool.{false≢true}
 use Rattle.std.proofs.lemmas.Bool.Decides.{nat_tests}
 use Rattle.disk_model.specs.Contents.{Files}
@@ -22,8 +22,10 @@ use Rattle.record_file.specs.Unique.{Redoes-unique, entries_unique}
 use Rattle.recovery.specs.declared.meta_records.MetaRecords.{MetaRecords}
 use Rattle.recovery.specs.declared.recover_fault.RecoverFault.{RecoverFault}
 use Rattle.recovery.specs.declared.recover_fault.RecoverFault.TheVariants as faults
-use Rattle.recovery.specs.Finding.{HasMetaInRange, Refuses, RefusesRecords, Stands}
-use Rattle.recovery.specs.MetaRecords.{AreMetas, HasMetas, IsLogFault}
+use Rattle.recovery.specs.declared.found.Found.{Found}
+use Rattle.recovery.specs.declared.found.Found.TheVariants as founds
+use Rattle.recovery.specs.Finding.{HasMetaInRange, IsFound, Refuses, RefusesRecords, Stands}
+use Rattle.recovery.specs.MetaRecords.{HasMetas, IsLogFault}
 
 -- the files of records are those of the first numbers
 record_file-low : (file : ℕ) → is_record_file file ≡ true → file < 7
@@ -119,3 +121,8 @@ Stands-refused content space (faults.Damaged damage) redoes stands refuses =
     damaged.out (subst (λ (s : Key → Rec). HasMetaInRange s shape damage.id) (sym same) (subst (λ (s : Shape). HasMetaInRange space s damage.id) shapes right)))
     stands)
     refuses)
+
+-- what is found stands
+pub IsFound-stands : (content : Files) (space : Key → Rec) (found : Found) → IsFound content space found → Stands content space
+IsFound-stands content space (founds.Made shape) is = inr (shape, is)
+IsFound-stands content space founds.Unmade is = inl is

@@ -1,9 +1,9 @@
 -- A disk where no store was made stays one while its log is redone.
 use Rattle.std.proofs.Common.{◌≡◌, ◌≢◌, ◌∙◌, ap, sym, ℕ, [], refl}
 use Rattle.disk_model.specs.Contents.{Files, Same}
-use Rattle.disk_model.specs.Spans.{AtEachMoment, IsAllSettled, OnlyReads}
+use Rattle.disk_model.specs.Spans.{AtEachMoment, IsAllSettled}
 use Rattle.disk_model.specs.declared.disk.Disk.{Ghosts}
-use Rattle.disk_model.proofs.Spans.{CountsNow, at_each_moment_read, at_each_moment_weaker}
+use Rattle.disk_model.proofs.Spans.{at_each_moment_weaker}
 use Rattle.rec_bytes.specs.declared.key.Key.{Key}
 use Rattle.rec_bytes.specs.declared.record.Rec.{Rec}
 use Rattle.rec_bytes.specs.Format.{log_file}

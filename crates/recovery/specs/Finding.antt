@@ -50,6 +50,10 @@ IsIntact content = (space : Key → Rec) × Redoes content space
 abbrev pub Stands : Files → (Key → Rec) → Type 0
 Stands content space = IsUnmade content ⊎ ((shape : Shape) × IsMade space shape)
 
+-- the entries of the log make a store of the content, or none was made in it
+abbrev pub IsRecoverable : Files → Type 0
+IsRecoverable content = (space : Key → Rec) × Redoes content space × Stands content space
+
 -- the store's own record says no shape, and yet something was written
 abbrev pub IsNoStore : Files → (Key → Rec) → Type 0
 IsNoStore content space = (shape_of_record (space own_key) ≡ None) × ¬ IsUnmade content

@@ -10,6 +10,8 @@ mod recover_fault;
 mod recovering;
 mod redoing;
 mod syncing;
+#[cfg(test)]
+mod tests;
 mod writing;
 
 pub use checkpointing::checkpoint;

@@ -2,10 +2,11 @@ ghost use Rattle.std.specs.Prelude.{◌≡◌, ◌≢◌, ◌⊎◌, [], IfErr, 
 ghost use Rattle.disk_model.specs.Spans.{AtEachMoment, IsAllSettled, OnlyReads};
 ghost use Rattle.rec_bytes.specs.declared.key.Key.{Key as AKey};
 ghost use Rattle.rec_bytes.specs.declared.record.Rec.{Rec as ARec};
-ghost use Rattle.redo_log.specs.Entries.{HasEntries};
+ghost use Rattle.rec_bytes.specs.Format.{log_file};
+ghost use Rattle.redo_log.specs.Entries.{HasEntries, open_byte};
 ghost use Rattle.record_file.specs.Records.{IsUnmade, record_at};
 ghost use Rattle.record_file.specs.Redone.{Redoes};
-ghost use Rattle.recovery.specs.Finding.{IsAllowed, IsFound, IsIntact, Refuses, Stands};
+ghost use Rattle.recovery.specs.Finding.{IsAllowed, IsFound, IsIntact, IsRecoverable, Refuses, Stands};
 ghost use Rattle.recovery.specs.RecoverFault.{BlamesDisk, HasCause};
 
 use crate::finding::find_store;
@@ -41,6 +42,11 @@ pub fn recover<D: Disk>(disk: &mut D) -> Result<Found, RecoverFault>
     ensures refused { D.tells_reads → IfErr result (Refuses (D.reads disk.old)) }
     ensures untouched { D.tells_reads → IfErr result (λ fault. fault ≢ RecoverFault.Disk → OnlyReads D.Disk disk.old disk.new) }
     ensures sound { D.tells_reads → (space : AKey → ARec) → Redoes (D.reads disk.old) space → Stands (D.reads disk.old) space → BlamesDisk result }
+
+    // Also where the disk fails, it writes only over a store or where none was made, and only where the
+    // log has an entry.
+    ensures careful { D.tells_reads → OnlyReads D.Disk disk.old disk.new ⊎ IsRecoverable (D.reads disk.old) }
+    ensures closed { D.tells_reads → D.reads disk.old log_file 0 ≢ open_byte → OnlyReads D.Disk disk.old disk.new }
 
     ensures cause { HasCause (D.faults disk.old) (D.faults disk.new) result }
 {

@@ -1,11 +1,11 @@
-ghost use Rattle.std.specs.Prelude.{◌≡◌, ◌≤◌, [], List, ℕ, OnOk};
-ghost use Rattle.disk_model.specs.Spans.{AtEachMoment, IsAllSettled};
+ghost use Rattle.std.specs.Prelude.{◌≡◌, ◌≢◌, ◌≤◌, [], List, ℕ, OnOk};
+ghost use Rattle.disk_model.specs.Spans.{AtEachMoment, IsAllSettled, OnlyReads};
 ghost use Rattle.rec_bytes.specs.declared.key.Key.{Key as AKey};
 ghost use Rattle.rec_bytes.specs.declared.record.Rec.{Rec as ARec};
 ghost use Rattle.rec_bytes.specs.Format.{log_file};
 ghost use Rattle.rec_bytes.specs.Pairs.{Pairs};
 ghost use Rattle.rec_bytes.specs.Space.{laid_over};
-ghost use Rattle.redo_log.specs.Entries.{HasEntries, entry_at, last_place};
+ghost use Rattle.redo_log.specs.Entries.{HasEntries, entry_at, last_place, open_byte};
 ghost use Rattle.redo_log.specs.Reading.{IsPieceOf};
 ghost use Rattle.redo_log.specs.Redo.{redone};
 ghost use Rattle.record_file.specs.Records.{IsTornInRecords, IsUnmade, SameButRecords, record_at};
@@ -35,6 +35,10 @@ pub(crate) fn redo<D: Disk>(disk: &mut D) -> Result<(), RecoverFault>
     ensures emptied { D.tells_reads → OnOk result (HasEntries (D.reads disk.new) [] 0) }
     ensures settled { D.tells_reads → D.tells_images → OnOk result (IsAllSettled D.Disk disk.new) }
     ensures sound { D.tells_reads → (space : AKey → ARec) → Redoes (D.reads disk.old) space → BlamesDisk result }
+
+    // A log with no entry is left as it is, and so is the rest of the disk.
+    ensures closed { D.tells_reads → D.reads disk.old log_file 0 ≢ open_byte → OnlyReads D.Disk disk.old disk.new }
+
     ensures cause { HasCause (D.faults disk.old) (D.faults disk.new) result }
 {
     redo_entries(disk)?;
@@ -50,6 +54,7 @@ fn redo_entries<D: Disk>(disk: &mut D) -> Result<(), RecoverFault>
     ensures crash { D.tells_reads → D.tells_images → (entries : List Pairs) (tail : ℕ) → HasEntries (D.reads disk.old) entries tail
         → AtEachMoment D.Disk disk.old disk.new (IsTornInLogged (D.may_leave disk.old) entries) }
     ensures sound { D.tells_reads → (entries : List Pairs) (tail : ℕ) → HasEntries (D.reads disk.old) entries tail → BlamesDisk result }
+    ensures closed { D.tells_reads → D.reads disk.old log_file 0 ≢ open_byte → OnlyReads D.Disk disk.old disk.new }
     ensures cause { HasCause (D.faults disk.old) (D.faults disk.new) result }
 {
     let mut reader = LogReader::new();

@@ -1,4 +1,4 @@
-use Rattle.std.proofs.Common.{◌≡◌, subst, sym, Result, Ok, Err, IfOk, IfErr}
+use Rattle.std.proofs.Common.{subst, Result, Ok, Err, IfOk, IfErr}
 use Rattle.std.specs.Prelude.{OnOk}
 use Rattle.disk_model.specs.Contents.{Files}
 use Rattle.rec_bytes.specs.declared.key.Key.{Key}

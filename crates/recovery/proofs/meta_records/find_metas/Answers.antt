@@ -1,12 +1,9 @@
-use Rattle.std.proofs.Common.{◌≡◌, ◌∙◌, ap, sym, subst, ℕ, ◌+◌, arith, refl}
+use Rattle.std.proofs.Common.{◌≡◌, ◌∙◌, ap, subst, ◌+◌, arith}
 use Rattle.disk_model.specs.Contents.{Files}
-use Rattle.disk_model.proofs.Spans.{only_reads_none, only_reads_on}
-use Rattle.rec_bytes.specs.declared.key.Key.{Key}
-use Rattle.rec_bytes.specs.declared.record.Rec.{Rec}
-use Rattle.redo_log.specs.Entries.{count_at, entry_at, entry_bytes}
+use Rattle.disk_model.proofs.Spans.{only_reads_on}
+use Rattle.redo_log.specs.Entries.{entry_at, entry_bytes}
 use Rattle.redo_log.specs.declared.entry_answer.EntryAnswer.TheVariants.{End, Entry}
-use Rattle.record_file.specs.Records.{record_at}
-use Rattle.recovery.specs.MetaRecords.{AreMetas, HasMetas}
+use Rattle.recovery.specs.MetaRecords.{AreMetas}
 use Rattle.rec_bytes.specs.Space.{laid_over}
 use Rattle.recovery.proofs.LogSteps.{IsAtEntry-read}
 use Rattle.recovery.proofs.Metas.{HasEntries-read_to, IsReadTo-more, Tells-same, same_content}

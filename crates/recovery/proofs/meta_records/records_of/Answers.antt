@@ -1,7 +1,6 @@
-use Rattle.std.proofs.Common.{◌≡◌, ◌∙◌, ap, sym, ℕ, ◌+◌, ◌-◌, ◌*◌, ◌<◌, List, length, take, drop, get_or, rules, arith}
+use Rattle.std.proofs.Common.{◌≡◌, ◌∙◌, ap, ℕ, ◌+◌, ◌-◌, ◌*◌, List, take, drop, arith}
 use Rattle.std.proofs.lemmas.List.{length-set}
 use Rattle.rec_bytes.specs.declared.record.Rec.{Rec}
-use Rattle.rec_bytes.specs.Record.{zeros}
 use Rattle.recovery.proofs.Metas.{parts_more, part-record_at, part_of}
 use Rattle.recovery.proofs.meta_records.records_of.Goals as goal
 

@@ -1,4 +1,4 @@
-use Rattle.std.proofs.Common.{◌≡◌, ◌∙◌, ap, sym, subst, ℕ, ◌+◌, ◌<◌, Some, arith}
+use Rattle.std.proofs.Common.{◌≡◌, sym, subst, ◌+◌, ◌<◌, Some, arith}
 use Rattle.std.specs.List.{slice_get}
 use Rattle.disk_model.specs.Contents.{Files}
 use Rattle.disk_model.proofs.Spans.{only_reads_none, only_reads_on}

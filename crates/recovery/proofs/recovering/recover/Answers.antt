@@ -1,17 +1,20 @@
-use Rattle.std.proofs.Common.{◌≡◌, ◌⊎◌, inl, inr, subst, sym}
+use Rattle.std.proofs.Common.{◌≡◌, ◌≢◌, ◌∙◌, ◌⊎◌, inl, inr, subst, sym}
 use Rattle.std.proofs.lemmas.Result.{err_from_is_err_and}
-use Rattle.disk_model.specs.Contents.{Files, Same}
-use Rattle.disk_model.specs.Spans.{AtEachMoment, IsAllSettled, OnlyReads}
-use Rattle.disk_model.proofs.Spans.{at_each_moment_on, at_each_moment_weaker}
+use Rattle.disk_model.specs.Contents.{Files}
+use Rattle.disk_model.specs.Spans.{AtEachMoment, OnlyReads}
+use Rattle.disk_model.proofs.Spans.{at_each_moment_on, at_each_moment_weaker, only_reads_on}
 use Rattle.rec_bytes.specs.declared.key.Key.{Key}
 use Rattle.rec_bytes.specs.declared.record.Rec.{Rec}
+use Rattle.rec_bytes.specs.Format.{log_file}
+use Rattle.redo_log.specs.Entries.{open_byte}
 use Rattle.record_file.specs.Records.{IsUnmade}
 use Rattle.record_file.specs.Redone.{Redoes}
 use Rattle.record_file.proofs.Redone.{Redoes-kept}
-use Rattle.recovery.specs.Finding.{IsIntact, Refuses}
+use Rattle.recovery.specs.Finding.{IsFound, IsIntact, IsRecoverable, Refuses}
+use Rattle.recovery.specs.declared.found.Found.{Found}
 use Rattle.recovery.specs.declared.recover_fault.RecoverFault.{RecoverFault}
 use Rattle.recovery.specs.declared.recover_fault.RecoverFault.TheVariants as faults
-use Rattle.recovery.proofs.StoreForms.{Stands-refused}
+use Rattle.recovery.proofs.StoreForms.{IsFound-stands, Stands-refused}
 use Rattle.recovery.proofs.recovering.recover.Given.{Over}
 use Rattle.recovery.proofs.recovering.recover.Goals as goal
 
@@ -94,3 +97,27 @@ returns-clause-read g c reads space redoes =
 pub returns-clause-space : goal.returns-clause-space
 returns-clause-space g c reads space redoes =
     c.in_ok-redo.ensures.space reads space (Redoes-kept space (g.D.Disk.reads c.args.disk.now) (g.D.Disk.reads c.find_store.new.disk) redoes c.find_store.ensures.only_reads.keeps)
+
+-- the log is redone only over what was found
+recoverable : (g : Over) (first : g.row.D.Denot) (found : Found) (intact : IsIntact (g.D.Disk.reads first)) → IsFound (g.D.Disk.reads first) intact.0 found → IsRecoverable (g.D.Disk.reads first)
+recoverable g first found intact is = (intact.0, intact.1, IsFound-stands (g.D.Disk.reads first) intact.0 found is)
+
+pub returns-in_err-redo-clause-careful : goal.returns-in_err-redo-clause-careful
+returns-in_err-redo-clause-careful g c reads =
+    let intact = c.in_ok-found.ensures.intact reads in
+    inr (recoverable g c.args.disk.now _ intact (c.in_ok-found.ensures.found reads intact.0 intact.1))
+
+pub returns-clause-careful : goal.returns-clause-careful
+returns-clause-careful g c reads =
+    let intact = c.in_ok-found.ensures.intact reads in
+    inr (recoverable g c.args.disk.now _ intact (c.in_ok-found.ensures.found reads intact.0 intact.1))
+
+-- where the first gate is closed
+redo_closed : (g : Over) (first found now : g.row.D.Denot) → g.D.Disk.reads first log_file 0 ≢ open_byte → OnlyReads g.D.Disk first found → (g.D.Disk.reads found log_file 0 ≢ open_byte → OnlyReads g.D.Disk found now) → OnlyReads g.D.Disk first now
+redo_closed g first found now closed only redo = only_reads_on g.D.Disk first found now only (redo (λ is_open. closed (sym (only.keeps log_file 0) ∙ is_open)))
+
+pub returns-in_err-redo-clause-closed : goal.returns-in_err-redo-clause-closed
+returns-in_err-redo-clause-closed g c reads closed = redo_closed g c.args.disk.now c.find_store.new.disk c.redo.new.disk closed c.find_store.ensures.only_reads (c.redo.ensures.closed reads)
+
+pub returns-clause-closed : goal.returns-clause-closed
+returns-clause-closed g c reads closed = redo_closed g c.args.disk.now c.find_store.new.disk c.redo.new.disk closed c.find_store.ensures.only_reads (c.redo.ensures.closed reads)

@@ -1,14 +1,15 @@
-use Rattle.std.proofs.Common.{◌≡◌, ◌∙◌, ap, refl, ℕ, [], List}
+use Rattle.std.proofs.Common.{◌≡◌, ◌≢◌, ◌∙◌, refl, sym, ℕ, [], List}
 use Rattle.std.proofs.lemmas.Result.{err_from_is_err_and}
 use Rattle.disk_model.specs.Contents.{Files, Same}
 use Rattle.disk_model.specs.Spans.{AtEachMoment, IsAllSettled, OnlyReads}
-use Rattle.disk_model.proofs.Spans.{at_each_moment_now, at_each_moment_on, at_each_moment_read, at_each_moment_weaker}
+use Rattle.disk_model.proofs.Spans.{at_each_moment_now, at_each_moment_on, at_each_moment_read, at_each_moment_weaker, only_reads_on}
 use Rattle.rec_bytes.specs.declared.key.Key.{Key}
 use Rattle.rec_bytes.specs.declared.record.Rec.{Rec}
+use Rattle.rec_bytes.specs.Format.{log_file}
 use Rattle.rec_bytes.specs.Pairs.{Pairs}
-use Rattle.redo_log.specs.Entries.{AllHaveEntries, HasEntries}
+use Rattle.redo_log.specs.Entries.{AllHaveEntries, open_byte}
 use Rattle.redo_log.specs.Redo.{redone}
-use Rattle.redo_log.specs.Resetting.{HasEntriesOrNone, IsReset, SameButGate}
+use Rattle.redo_log.specs.Resetting.{IsReset}
 use Rattle.record_file.specs.Records.{record_at}
 use Rattle.record_file.specs.Redone.{Redoes}
 use Rattle.record_file.proofs.Records.{record_at-kept, record_at-log}
@@ -159,3 +160,23 @@ returns-clause-unmade g c reads images settled unmade =
     (at_each_moment_read disk first c.redo_entries.new.disk c.sync_record_files.new.disk _ g.met.D.Disk.counts_now images
     (unmade_torn disk first c.redo_entries.new.disk unmade settled (c.redo_entries.ensures.crash reads images [] 0 unmade.log)) c.sync_record_files.ensures.only_reads)
     (c.reset.ensures.closed reads (unmade_gate (disk.reads first) (disk.reads c.redo_entries.new.disk) (disk.reads c.sync_record_files.new.disk) unmade (c.redo_entries.ensures.elsewhere reads [] 0 unmade.log) c.sync_record_files.ensures.only_reads.keeps))
+
+-- where the first gate is closed
+pub returns-in_err-sync_record_files-clause-closed : goal.returns-in_err-sync_record_files-clause-closed
+returns-in_err-sync_record_files-clause-closed g c reads closed =
+    only_reads_on g.D.Disk c.args.disk.now c.redo_entries.new.disk c.sync_record_files.new.disk (c.redo_entries.ensures.closed reads closed) c.sync_record_files.ensures.only_reads
+
+-- up to the end of a reset
+reset_closed : (g : Over) (first written synced now : g.row.D.Denot) → g.D.Disk.reads first log_file 0 ≢ open_byte → OnlyReads g.D.Disk first written → OnlyReads g.D.Disk written synced
+    → (g.D.Disk.reads synced log_file 0 ≢ open_byte → OnlyReads g.D.Disk synced now) → OnlyReads g.D.Disk first now
+reset_closed g first written synced now closed before syncs reset =
+    let only = only_reads_on g.D.Disk first written synced before syncs in
+    only_reads_on g.D.Disk first synced now only (reset (λ is_open. closed (sym (only.keeps log_file 0) ∙ is_open)))
+
+pub returns-in_err-reset-clause-closed : goal.returns-in_err-reset-clause-closed
+returns-in_err-reset-clause-closed g c reads closed =
+    reset_closed g c.args.disk.now c.redo_entries.new.disk c.sync_record_files.new.disk c.reset.new.disk closed (c.redo_entries.ensures.closed reads closed) c.sync_record_files.ensures.only_reads (c.reset.ensures.closed reads)
+
+pub returns-clause-closed : goal.returns-clause-closed
+returns-clause-closed g c reads closed =
+    reset_closed g c.args.disk.now c.redo_entries.new.disk c.sync_record_files.new.disk c.reset.new.disk closed (c.redo_entries.ensures.closed reads closed) c.sync_record_files.ensures.only_reads (c.reset.ensures.closed reads)

@@ -1,17 +1,16 @@
-use Rattle.std.proofs.Common.{◌≡◌, ◌∙◌, ap, ℕ, ◌+◌, List, arith}
+use Rattle.std.proofs.Common.{◌≡◌, ◌≢◌, ◌∙◌, ap, refl, ℕ, ◌+◌, List, [], arith}
 use Rattle.std.proofs.lemmas.Result.{err_from_is_err_and}
 use Rattle.disk_model.specs.Spans.{AtEachMoment, OnlyReads}
-use Rattle.disk_model.proofs.Spans.{at_each_moment_now, at_each_moment_on, at_each_moment_read}
-use Rattle.rec_bytes.specs.declared.key.Key.{Key}
-use Rattle.rec_bytes.specs.declared.record.Rec.{Rec}
+use Rattle.disk_model.proofs.Spans.{at_each_moment_now, at_each_moment_on, at_each_moment_read, only_reads_on}
+use Rattle.rec_bytes.specs.Format.{log_file}
 use Rattle.rec_bytes.specs.Pairs.{Pairs}
-use Rattle.redo_log.specs.Entries.{HasEntries, IsEntry, count_at, entry_at, entry_bytes}
+use Rattle.redo_log.specs.Entries.{HasEntries, IsEntry, count_at, entry_at, entry_bytes, open_byte}
 use Rattle.redo_log.specs.Reading.{IsPieceOf, Piece, Tells}
 use Rattle.redo_log.specs.declared.entry_answer.EntryAnswer.TheVariants.{Entry}
 use Rattle.record_file.specs.Records.{IsTornInRecords, record_at}
 use Rattle.record_file.proofs.Records.{record_at-kept}
 use Rattle.recovery.specs.Redoing.{IsAtEntry, IsTornInLogged}
-use Rattle.recovery.proofs.LogSteps.{IsAtEntry-read, IsNext-entry, IsRedoneTo, IsRedoneTo-end, IsRedoneTo-more, IsRedoneTo-read, IsTornInLogged-entry, SameButLogged-entry, SameButLogged-then, none_damaged}
+use Rattle.recovery.proofs.LogSteps.{IsAtEntry-read, IsNext-entry, IsRedoneTo, IsRedoneTo-end, IsRedoneTo-more, IsRedoneTo-read, IsTornInLogged-entry, SameButLogged-entry, SameButLogged-then, none_damaged, none_stands}
 use Rattle.recovery.proofs.redoing.redo_entries.Given.{Over}
 use Rattle.recovery.proofs.redoing.redo_entries.Goals as goal
 
@@ -45,6 +44,20 @@ told g first old mid entries tail piece seen place count next was tells next_is 
       now = IsRedoneTo-read entries tail (disk.reads first) (disk.reads old) (disk.reads mid) piece seen place was reads.keeps kept;
       next_is = next_is ∙ ap (λ n. place + entry_bytes n) at.count_is;
     }
+
+-- where the first gate is closed, no entry is told of
+none_entered : (g : Over) (first old mid : g.row.D.Denot) (piece seen : Piece) (place count next : ℕ) → g.D.Disk.reads first log_file 0 ≢ open_byte
+    → (HasEntries (g.D.Disk.reads first) [] 0 → IsRedoneTo [] 0 (g.D.Disk.reads first) (g.D.Disk.reads old) piece place)
+    → (IsPieceOf (g.D.Disk.reads old) piece → Tells (g.D.Disk.reads old) place (Entry count next)) → next ≡ place + entry_bytes count → OnlyReads g.D.Disk old mid
+    → (IsPieceOf (g.D.Disk.reads old) piece → IsPieceOf (g.D.Disk.reads mid) seen) → ⊥
+none_entered g first old mid piece seen place count next closed was tells next_is reads keeps =
+    let is = told g first old mid [] 0 piece seen place count next (was (refl, closed)) tells next_is reads keeps in
+    none_stands 0 (g.D.Disk.reads first) (g.D.Disk.reads mid) seen place is.now is.at.entry
+
+pub returns-in_err-redo_entry-in-Entry-clause-closed : goal.returns-in_err-redo_entry-in-Entry-clause-closed
+returns-in_err-redo_entry-in-Entry-clause-closed g c reads closed =
+    absurd (none_entered g c.args.disk.now c.loop-count.disk c.entry_at.new.disk c.loop-count.reader c.entry_at.new.self c.loop-count.place c.in-Entry.count c.in-Entry.next closed
+    (λ has. c.loop-count.invariant.made reads [] 0 has) (c.in-Entry.ensures.tells reads) c.in-Entry.ensures.in_log.2 c.entry_at.ensures.only_reads (c.entry_at.ensures.keeps reads))
 
 pub returns-in_err-redo_entry-in-Entry-clause-elsewhere : goal.returns-in_err-redo_entry-in-Entry-clause-elsewhere
 returns-in_err-redo_entry-in-Entry-clause-elsewhere g c reads entries tail has =
@@ -86,6 +99,8 @@ loop-count-preserved g c =
           (c.loop-count.invariant.made reads entries tail has) (c.in-Entry.ensures.tells reads) c.in-Entry.ensures.in_log.2 c.entry_at.ensures.only_reads (c.entry_at.ensures.keeps reads) in
           crash_more g c.args.disk.now c.loop-count.disk c.entry_at.new.disk c.redo_entry.new.disk entries tail c.entry_at.new.self c.loop-count.place images is.now is.at.entry (c.loop-count.invariant.crash reads images entries tail has)
           c.entry_at.ensures.only_reads (c.redo_entry.ensures.crash reads images is.at);
+      closed = λ reads closed. absurd (none_entered g c.args.disk.now c.loop-count.disk c.entry_at.new.disk c.loop-count.reader c.entry_at.new.self c.loop-count.place c.in-Entry.count c.in-Entry.next closed
+          (λ has. c.loop-count.invariant.made reads [] 0 has) (c.in-Entry.ensures.tells reads) c.in-Entry.ensures.in_log.2 c.entry_at.ensures.only_reads (c.entry_at.ensures.keeps reads));
       later = omega (arith, c.loop-count.invariant.later, c.entry_at.ensures.later, c.redo_entry.ensures.cause.later);
     }
 
@@ -101,3 +116,15 @@ returns-in-Damaged-clause-sound g c reads entries tail has =
     let was = c.loop-count.invariant.made reads entries tail has in
     let tells = c.in-Damaged.ensures.tells reads was.kept in
     absurd (none_damaged was.left c.loop-count.place tail (g.D.Disk.reads c.loop-count.disk) was.rest tells.1.0 tells.1.1)
+
+pub returns-in-End-clause-closed : goal.returns-in-End-clause-closed
+returns-in-End-clause-closed g c reads closed =
+    only_reads_on g.D.Disk c.args.disk.now c.loop-count.disk c.entry_at.new.disk (c.loop-count.invariant.closed reads closed) c.entry_at.ensures.only_reads
+
+pub returns-in-Disk-clause-closed : goal.returns-in-Disk-clause-closed
+returns-in-Disk-clause-closed g c reads closed =
+    only_reads_on g.D.Disk c.args.disk.now c.loop-count.disk c.entry_at.new.disk (c.loop-count.invariant.closed reads closed) c.entry_at.ensures.only_reads
+
+pub returns-in-Damaged-clause-closed : goal.returns-in-Damaged-clause-closed
+returns-in-Damaged-clause-closed g c reads closed =
+    only_reads_on g.D.Disk c.args.disk.now c.loop-count.disk c.entry_at.new.disk (c.loop-count.invariant.closed reads closed) c.entry_at.ensures.only_reads

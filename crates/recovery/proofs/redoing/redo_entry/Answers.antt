@@ -1,6 +1,5 @@
-use Rattle.std.proofs.Common.{◌≡◌, ◌≢◌, ℕ, ◌+◌, ◌*◌, Some, None, true, arith}
+use Rattle.std.proofs.Common.{◌≡◌, ◌≢◌, ◌+◌, ◌*◌, None, true, arith}
 use mathlib.Core.Bool.{false≢true}
-use Rattle.std.specs.List.{slice_get}
 use Rattle.disk_model.specs.Disk.{TornIn}
 use Rattle.disk_model.specs.Spans.{AtEachMoment, OnlyReads}
 use Rattle.disk_model.proofs.Spans.{Passes, at_each_moment_read}
