@@ -1,10 +1,10 @@
 -- What recovery finds, and what a store begins with then.
-use Rattle.std.proofs.Common.{◌≡◌, ◌∙◌, ap, sym, subst, inl, inr, ⊎_elim, ◌⊎◌, ℕ, List, [], Option, Some, None, is_some, Result, Ok, Err, IfOk, IfErr, refl}
+use Rattle.std.proofs.Common.{◌≡◌, ◌∙◌, ap, sym, subst, inl, inr, ⊎_elim, ◌⊎◌, List, [], Option, Some, is_some, Result, Ok, Err, IfOk, refl}
 use mathlib.Core.Bool.{false≢true}
 use Rattle.disk_model.specs.Contents.{Files, Same}
 use Rattle.disk_model.specs.Spans.{AtEachMoment, IsAllSettled, OnlyReads}
 use Rattle.disk_model.specs.declared.disk.Disk.{Ghosts}
-use Rattle.disk_model.proofs.Spans.{CountsNow, at_each_moment_on, at_each_moment_read, at_each_moment_weaker}
+use Rattle.disk_model.proofs.Spans.{at_each_moment_on, at_each_moment_weaker}
 use Rattle.rec_bytes.specs.declared.key.Key.{Key}
 use Rattle.rec_bytes.specs.declared.record.Rec.{Rec}
 use Rattle.rec_bytes.specs.declared.shape.Shape.{Shape}
@@ -20,8 +20,7 @@ use Rattle.redo_log.proofs.Appends.{HasEntries-read}
 use Rattle.record_file.specs.Records.{IsUnmade, record_at}
 use Rattle.record_file.specs.Redone.{Redoes}
 use Rattle.record_file.specs.Unique.{entries_unique}
-use Rattle.recovery.specs.Finding.{IsFound, IsMade}
-use Rattle.recovery.specs.declared.found.Found.TheVariants.{Made}
+use Rattle.recovery.specs.Finding.{IsMade}
 use Rattle.txn_core.specs.Config.{Suits, shape_of}
 use Rattle.txn_core.specs.Kept.{IsKept}
 use Rattle.txn_core.specs.MetaRecords.{AreMetasOf, with_metas}

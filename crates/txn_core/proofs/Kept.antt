@@ -2,12 +2,12 @@
 use Rattle.std.proofs.Common.{◌≡◌, ◌∙◌, ap, sym, subst, inl, inr, ⊎_elim, ◌⊎◌, ℕ, ◌+◌, List, [], ◌∷◌, ◌++◌, Some, length, refl}
 use Rattle.disk_model.specs.Contents.{Files, Same}
 use Rattle.disk_model.specs.Disk.{Settled}
-use Rattle.disk_model.specs.Spans.{AtEachMoment, IsAllSettled, OnlyReads}
+use Rattle.disk_model.specs.Spans.{AtEachMoment, IsAllSettled}
 use Rattle.disk_model.specs.declared.disk.Disk.{Ghosts}
 use Rattle.disk_model.proofs.Spans.{CountsNow, OnlyNow, at_each_moment_none, at_each_moment_now, at_each_moment_weaker}
 use Rattle.rec_bytes.specs.declared.key.Key.{Key}
 use Rattle.rec_bytes.specs.declared.record.Rec.{Rec}
-use Rattle.rec_bytes.specs.Format.{log_file, meta_records}
+use Rattle.rec_bytes.specs.Format.{log_file}
 use Rattle.rec_bytes.specs.Pairs.{FindsMerged, Pairs}
 use Rattle.rec_bytes.specs.RecordFiles.{meta_key_of}
 use Rattle.rec_bytes.specs.Space.{laid_over}
@@ -15,7 +15,7 @@ use Rattle.redo_log.specs.Appending.{HasAtMostOneMore, HasOneMore, IsAppended, S
 use Rattle.redo_log.specs.Entries.{AllHaveEntries, HasEntries, entry_bytes}
 use Rattle.record_file.specs.Records.{record_at}
 use Rattle.record_file.specs.Redone.{AreAlike, IsLogged, Redoes}
-use Rattle.record_file.proofs.Redone.{AllHaveEntries-redo, AllRedoBy, AllRedoBy-alike, AreAlike-kept, AreAlike-more, AreAlike-settled, IsLogged-kept, IsLogged-more, IsLogged-none, Redoes-appended, Redoes-by, RedoesBy, RedoesBy-logged, space-merged}
+use Rattle.record_file.proofs.Redone.{AllHaveEntries-redo, AllRedoBy, AllRedoBy-alike, AreAlike-more, AreAlike-settled, IsLogged-more, IsLogged-none, Redoes-appended, Redoes-by, RedoesBy, RedoesBy-logged, space-merged}
 use Rattle.record_file.proofs.Records.{record_at-kept, record_at-log}
 use Rattle.txn_core.specs.Kept.{IsKept, IsOnDisk}
 use Rattle.txn_core.specs.MetaRecords.{AreMetasOf, with_metas}

@@ -1,6 +1,6 @@
 -- A store that is made by the first entry of the log.
-use Rattle.std.proofs.Common.{rules, ◌≡◌, ◌∙◌, ap, sym, subst, inl, inr, ⊎_elim, ◌⊎◌, ℕ, zero, suc, ◌+◌, ◌<◌, true, List, [], ◌∷◌, ◌++◌, Some, length, replicate, refl, arith, lit<}
-use Rattle.std.specs.List.{slice_get, AllByRecursion}
+use Rattle.std.proofs.Common.{rules, ◌≡◌, ◌∙◌, ap, sym, subst, inl, inr, ⊎_elim, ℕ, zero, suc, ◌+◌, ◌<◌, true, List, [], ◌∷◌, Some, length, replicate, refl, arith, lit<}
+use Rattle.std.specs.List.{slice_get}
 use Rattle.disk_model.specs.Contents.{Files}
 use Rattle.disk_model.specs.Spans.{AtEachMoment, IsAllSettled}
 use Rattle.disk_model.specs.declared.disk.Disk.{Ghosts}
@@ -10,17 +10,15 @@ use Rattle.rec_bytes.specs.declared.record.Rec.{Rec}
 use Rattle.rec_bytes.specs.declared.shape.Shape.{Shape}
 use Rattle.rec_bytes.specs.Creation.{creation_pairs}
 use Rattle.rec_bytes.specs.Format.{meta_records}
-use Rattle.rec_bytes.specs.Key.{IsKey}
 use Rattle.rec_bytes.specs.Pairs.{FindsMerged, Pairs}
 use Rattle.rec_bytes.specs.Record.{zeros}
 use Rattle.rec_bytes.specs.RecordFiles.{is_record_file, meta_key_of}
 use Rattle.rec_bytes.specs.Space.{laid_over}
 use Rattle.rec_bytes.proofs.CreationPairs.{creation_pairs-ordered}
 use Rattle.redo_log.specs.Appending.{IsAppended, SameButEntry}
-use Rattle.redo_log.specs.Entries.{AllHaveEntries, HasEntries, IsEntryOf, entry_bytes}
+use Rattle.redo_log.specs.Entries.{AllHaveEntries, IsEntryOf, entry_bytes}
 use Rattle.redo_log.proofs.Appends.{HasEntries-read}
 use Rattle.record_file.specs.Records.{IsUnmade, record_at}
-use Rattle.record_file.specs.Redone.{Redoes}
 use Rattle.record_file.proofs.Records.{record_at-log}
 use Rattle.record_file.proofs.Redone.{records-settled, settled-log, settled-records, space-merged}
 use Rattle.txn_core.specs.Kept.{IsKept}

@@ -1,5 +1,5 @@
 -- The records of the meta file, as they stand in it.
-use Rattle.std.proofs.Common.{◌≡◌, ◌∙◌, ap, sym, subst, inl, inr, ⊎_elim, ℕ, zero, suc, ◌+◌, ◌*◌, ◌≤◌, ◌<◌, Bool, true, false, cond, ◌&&◌, nat_eq, nat_lt, List, [], ◌∷◌, Option, Some, None, unwrap_or, length, take, drop, slice_set, length-take, length-drop, refl, arith}
+use Rattle.std.proofs.Common.{◌≡◌, ◌∙◌, ap, sym, subst, ℕ, zero, suc, ◌+◌, ◌*◌, ◌≤◌, ◌<◌, Bool, true, false, cond, ◌&&◌, nat_eq, nat_lt, List, [], ◌∷◌, Option, Some, None, unwrap_or, length, take, drop, slice_set, length-take, length-drop, refl, arith}
 use Rattle.std.proofs.lemmas.List.{get_or-drop, get_or-take}
 use Rattle.std.proofs.lemmas.Bool.Decides.{nat_tests}
 use Rattle.std.specs.List.{slice_get}
@@ -10,7 +10,7 @@ use Rattle.rec_bytes.specs.Format.{meta_file, meta_records}
 use Rattle.rec_bytes.specs.RecordFiles.{meta_key_of}
 use Rattle.record_file.specs.Records.{record_at}
 use Rattle.record_file.proofs.Records.{record_at-read}
-use Rattle.txn_core.specs.MetaRecords.{AreMetasOf, find_meta, with_metas}
+use Rattle.txn_core.specs.MetaRecords.{AreMetasOf, with_metas}
 
 -- the meta records of memory change nothing where they are those of the records
 pub with_metas-same : (metas : List Rec) (records : Key → Rec) → AreMetasOf records metas → with_metas metas records ≡ records

@@ -1,5 +1,5 @@
 -- What a store is as a space, after a read and after a write.
-use Rattle.std.proofs.Common.{◌≡◌, ◌∙◌, ap, sym, ℕ, false, Option, Some, None, Ok, Result, unwrap_or, refl, arith, is_some}
+use Rattle.std.proofs.Common.{◌≡◌, ◌∙◌, ap, sym, ℕ, false, Option, Some, None, Ok, Result, unwrap_or, refl, arith}
 use Rattle.fault_count.specs.Cause.{raised}
 use Rattle.disk_model.specs.declared.disk.Disk.{Ghosts}
 use Rattle.rec_bytes.specs.declared.key.Key.{Key}
@@ -7,7 +7,7 @@ use Rattle.rec_bytes.specs.declared.record.Rec.{Rec}
 use Rattle.rec_bytes.specs.declared.shape.Shape.{Shape}
 use Rattle.rec_bytes.specs.declared.space.SpaceFault.{SpaceFault}
 use Rattle.rec_bytes.specs.Pairs.{Pairs, find_pair, held_at, with_pair}
-use Rattle.rec_bytes.specs.Space.{HasCause, State, after_get, after_put, laid_over, laid_state}
+use Rattle.rec_bytes.specs.Space.{HasCause, State, after_get, after_put, laid_state}
 use Rattle.rec_bytes.proofs.Spaces.{laid_state-put}
 use Rattle.txn_core.specs.declared.store.Store.{Store}
 use Rattle.txn_core.specs.Store.{drafted, state_of, working}

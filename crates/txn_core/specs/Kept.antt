@@ -3,7 +3,7 @@ use Rattle.std.specs.Prelude.{◌≡◌, ℕ, ◌+◌, ◌≤◌, Bool, false, L
 use Rattle.disk_model.specs.Contents.{Files}
 use Rattle.disk_model.specs.declared.disk.Disk.{Ghosts}
 use Rattle.rec_bytes.specs.declared.record.Rec.{Rec}
-use Rattle.rec_bytes.specs.Pairs.{Held, Pairs}
+use Rattle.rec_bytes.specs.Pairs.{Held, Pairs, growth_by}
 use Rattle.record_file.specs.Records.{record_at}
 use Rattle.record_file.specs.Redone.{AreAlike, IsLogged}
 use Rattle.txn_core.specs.MetaRecords.{AreMetasOf}
@@ -16,12 +16,17 @@ most_changed = 8192
 abbrev pub most_own : ℕ
 most_own = 2048
 
--- The changed records have room for as many as there may be. The transaction has as many as an entry may have, and none where
--- none is open.
+-- the transaction may have these records besides its own
+abbrev pub FitsTransaction : Pairs → Pairs → Type 0
+FitsTransaction own more = length own + growth_by own more ≤ most_own
+
+-- There are at most as many changed records as there may be, and they have room for so many. The transaction has as many as an
+-- entry may have, and none where none is open.
 pub record AreBounded (in_transaction : Bool) (changed own : Held) : Type 0 where
   pub room : most_changed ≤ length changed.pairs + changed.room
   pub few : length own.pairs ≤ most_own
   pub closed : in_transaction ≡ false → length own.pairs ≡ 0
+  pub most : length changed.pairs ≤ most_changed
 
 -- The log is what is read: its entries have the changed records, and it ends at the tail. Each image is what is read, but for the
 -- changed records, and the meta records in memory are those of their file.

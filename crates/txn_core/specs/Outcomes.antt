@@ -2,8 +2,6 @@
 use Rattle.std.specs.Prelude.{◌≡◌, ◌⊎◌, [], IsTrue, false}
 use Rattle.disk_model.specs.Spans.{IsAllSettled}
 use Rattle.disk_model.specs.declared.disk.Disk.{Ghosts}
-use Rattle.rec_bytes.specs.declared.key.Key.{Key}
-use Rattle.rec_bytes.specs.declared.record.Rec.{Rec}
 use Rattle.redo_log.specs.Entries.{HasEntries}
 use Rattle.record_file.specs.Redone.{Redoes}
 use Rattle.txn_core.specs.declared.base.Base.{Base}

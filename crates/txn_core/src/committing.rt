@@ -1,7 +1,7 @@
 ghost use Rattle.std.specs.Prelude.{◌≡◌, ◌⊎◌, ◌-◌, ◌<◌, ◌≤◌, [], IsOk, IsTrue, OnErr, OnOk, false, length};
 ghost use Rattle.fault_count.specs.Cause.{HasCause};
 ghost use Rattle.disk_model.specs.Spans.{AtEachMoment};
-ghost use Rattle.rec_bytes.specs.Pairs.{growth_by};
+ghost use Rattle.rec_bytes.specs.Pairs.{growth_by, merged};
 ghost use Rattle.redo_log.specs.Entries.{Fits, IsEntryOf};
 ghost use Rattle.record_file.specs.Redone.{Redoes};
 ghost use Rattle.txn_core.specs.Base.{SameStore, committed, content, working};
@@ -54,6 +54,7 @@ impl<'d, D: Disk> Base<'d, D> {
         requires live { IsTrue self.old.live }
         ensures fits { OnOk result (Fits self.new.tail (length self.new.own.pairs)) }
         ensures room { OnOk result (growth_by self.new.changed.pairs self.new.own.pairs ≤ self.new.changed.room) }
+        ensures few { OnOk result (length (merged self.new.changed.pairs self.new.own.pairs) ≤ most_changed) }
         ensures crash { D.tells_reads → D.tells_images → AtEachMoment D.Disk self.old.disk.now self.new.disk.now (λ left. Redoes left (committed self.old)) }
         ensures done { OnOk result (D.tells_reads → committed self.new ≡ committed self.old) }
         ensures live { OnOk result (IsTrue self.new.live) }
@@ -73,8 +74,9 @@ impl<'d, D: Disk> Base<'d, D> {
     fn has_room(&self) -> bool
         ensures fits { IsTrue result → Fits self.now.tail (length self.now.own.pairs) }
         ensures room { IsTrue result → growth_by self.now.changed.pairs self.now.own.pairs ≤ most_changed - length self.now.changed.pairs }
+        ensures few { IsTrue result → length (merged self.now.changed.pairs self.now.own.pairs) ≤ most_changed }
     {
-        let free = MOST_CHANGED.saturating_sub(self.changed.len());
+        let free = MOST_CHANGED - self.changed.len();
         fits(self.tail, self.own.len()) && self.changed.growth_by(&self.own) <= free
     }
 
@@ -84,6 +86,7 @@ impl<'d, D: Disk> Base<'d, D> {
         requires form { IsEntryOf self.old.own.pairs }
         requires fits { Fits self.old.tail (length self.old.own.pairs) }
         requires room { growth_by self.old.changed.pairs self.old.own.pairs ≤ self.old.changed.room }
+        requires few { length (merged self.old.changed.pairs self.old.own.pairs) ≤ most_changed }
         ensures crash { D.tells_reads → D.tells_images → AtEachMoment D.Disk self.old.disk.now self.new.disk.now (λ left. Redoes left (committed self.old) ⊎ Redoes left (working self.old)) }
         ensures done { OnOk result (IsWritten self.old self.new) }
         ensures failed { OnErr result (IsInDoubt self.old self.new) }

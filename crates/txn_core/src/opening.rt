@@ -13,7 +13,7 @@ ghost use Rattle.record_file.specs.Redone.{Redoes};
 ghost use Rattle.recovery.specs.Finding.{IsMade};
 ghost use Rattle.txn_core.specs.Base.{committed};
 ghost use Rattle.txn_core.specs.Config.{Suits, shape_of};
-ghost use Rattle.txn_core.specs.Kept.{IsKept};
+ghost use Rattle.txn_core.specs.Kept.{IsKept, most_changed};
 ghost use Rattle.txn_core.specs.MetaRecords.{AreMetasOf, with_metas};
 ghost use Rattle.txn_core.specs.Opening.{IsOldOrNew, IsRefusal, IsWant, OnlyDiffers, Opens, RefusesOpening, made_over};
 
@@ -131,6 +131,7 @@ fn find_or_make<D: Disk>(
     ensures suits { IfOk result (λ s. Suits config s.shape) }
     ensures allowed { IfOk result (λ s. is_allowed s.shape ≡ true) }
     ensures room { 8192 ≤ length changed.new.pairs + changed.new.room }
+    ensures few { length changed.new.pairs ≤ most_changed }
     ensures kept { IfOk result (λ s. IsKept D.Disk disk.new s.metas.records changed.new.pairs s.tail) }
     ensures crash { D.tells_reads → D.tells_images → (space : AKey → ARec) (shape : AShape) → Redoes (D.reads disk.old) space → IsMade space shape
         → AtEachMoment D.Disk disk.old disk.new (λ left. D.may_leave disk.old left ⊎ Redoes left space) }
@@ -194,6 +195,7 @@ fn make_new<D: Disk>(
     ensures crash { D.tells_reads → D.tells_images → IsUnmade (D.reads disk.old) → IsAllSettled D.Disk disk.old
         → AtEachMoment D.Disk disk.old disk.new (IsOldOrNew (D.reads disk.old) shape) }
     ensures room { 8192 ≤ length changed.new.pairs + changed.new.room }
+    ensures few { length changed.new.pairs ≤ most_changed }
     ensures cause { HasCause (D.faults disk.old) (D.faults disk.new) result }
 {
     let tail = append(disk, 0, creation)?;

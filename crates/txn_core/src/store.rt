@@ -1,7 +1,7 @@
 ghost use Rattle.std.specs.Prelude.{◌≡◌, ◌≤◌, ◌⊎◌, ◌↔◌, [], Err, IsOk, IsTrue, IfErr, IfOk, OnErr, OnOk, false, length, true};
 ghost use Rattle.fault_count.specs.Cause.{HasCause, Rose};
 ghost use Rattle.disk_model.specs.Spans.{AtEachMoment, OnlyReads};
-ghost use Rattle.rec_bytes.specs.Pairs.{merged};
+ghost use Rattle.rec_bytes.specs.Pairs.{growth_by, merged};
 ghost use Rattle.rec_bytes.specs.Shape.{is_allowed};
 ghost use Rattle.rec_bytes.specs.declared.key.Key.{Key as AKey};
 ghost use Rattle.rec_bytes.specs.declared.record.Rec.{Rec as ARec};
@@ -10,7 +10,7 @@ ghost use Rattle.record_file.specs.Records.{IsUnmade};
 ghost use Rattle.record_file.specs.Redone.{Redoes};
 ghost use Rattle.recovery.specs.Finding.{IsMade};
 ghost use Rattle.txn_core.specs.Config.{Suits, shape_of};
-ghost use Rattle.txn_core.specs.Kept.{IsOnDisk};
+ghost use Rattle.txn_core.specs.Kept.{FitsTransaction, IsOnDisk, most_changed};
 ghost use Rattle.txn_core.specs.Opening.{IsOldOrNew, IsRefusal, IsWant, OnlyDiffers, Opens, RefusesOpening};
 ghost use Rattle.txn_core.specs.declared.health.Health.TheVariants as healths;
 
@@ -92,8 +92,12 @@ impl<'d, D: Disk> Store<'d, D> {
         ensures draft { self.new.draft.pairs ≡ [] }
         ensures same { SameBeneath self.old.base self.new.base }
         ensures reads { self.new.reads ≡ self.old.reads }
+
+        // The same is committed, and is what is read.
+        ensures committed { committed self.new ≡ committed self.old }
+        ensures read { drafted self.new ≡ committed self.old }
     {
-        self.draft.clear();
+        self.discard();
         self.base.begin();
     }
 
@@ -109,9 +113,17 @@ impl<'d, D: Disk> Store<'d, D> {
         ensures in_transaction { IsTrue self.new.base.in_transaction }
         ensures same { SameBeneath self.old.base self.new.base }
         ensures reads { self.new.reads ≡ self.old.reads }
+
+        // It succeeds only where the transaction may have them, and then, unless it lacks memory, always.
+        ensures fits { OnOk result (FitsTransaction self.old.base.own.pairs self.old.draft.pairs) }
+        ensures succeeds { FitsTransaction self.old.base.own.pairs self.old.draft.pairs → growth_by self.old.base.own.pairs self.old.draft.pairs ≤ self.old.base.own.room → IsOk result }
+
+        // Either way the same is committed, and the same is read.
+        ensures committed { committed self.new ≡ committed self.old }
+        ensures read { drafted self.new ≡ drafted self.old }
     {
         self.base.keep(&self.draft)?;
-        self.draft.clear();
+        self.discard();
         Ok(())
     }
 
@@ -120,6 +132,7 @@ impl<'d, D: Disk> Store<'d, D> {
         ensures draft { self.new.draft.pairs ≡ [] }
         ensures base { self.new.base ≡ self.old.base }
         ensures reads { self.new.reads ≡ self.old.reads }
+        ensures read { drafted self.new ≡ working self.old }
     {
         self.draft.clear();
     }
@@ -142,8 +155,10 @@ impl<'d, D: Disk> Store<'d, D> {
         ensures same { SameStore self.old.base self.new.base }
         ensures reads { self.new.reads ≡ self.old.reads }
         ensures cause { HasCause (D.faults self.old.base.disk.now) (D.faults self.new.base.disk.now) result }
+        ensures read { D.tells_reads → OnOk result (drafted self.new ≡ working self.old) }
+        ensures few { length self.new.base.changed.pairs ≤ most_changed }
     {
-        self.draft.clear();
+        self.discard();
         self.base.commit()
     }
 
@@ -155,8 +170,12 @@ impl<'d, D: Disk> Store<'d, D> {
         ensures draft { self.new.draft.pairs ≡ [] }
         ensures same { SameBeneath self.old.base self.new.base }
         ensures reads { self.new.reads ≡ self.old.reads }
+
+        // The same is committed, and is what is read.
+        ensures committed { committed self.new ≡ committed self.old }
+        ensures read { drafted self.new ≡ committed self.old }
     {
-        self.draft.clear();
+        self.discard();
         self.base.end();
     }
 
@@ -195,7 +214,7 @@ impl<'d, D: Disk> Store<'d, D> {
         ensures cause { result ≡ Err AgainFault.Disk → Rose (D.faults self.old.base.disk.now) (D.faults self.new.base.disk.now) }
         ensures later { D.faults self.old.base.disk.now ≤ D.faults self.new.base.disk.now }
     {
-        self.draft.clear();
+        self.discard();
         self.base.recover_again()
     }
 
@@ -203,6 +222,7 @@ impl<'d, D: Disk> Store<'d, D> {
     pub fn health(&self) -> Health
         ensures live { result ≡ healths.Live ↔ IsTrue self.now.base.live }
         ensures stored { IsTrue self.now.base.live → IsOnDisk D.Disk self.now.base.disk.now (λ left. Redoes left (committed self.now)) }
+        ensures few { length self.now.base.changed.pairs ≤ most_changed }
     {
         if self.base.live {
             Health::Live
@@ -232,3 +252,6 @@ impl<'d, D: Disk> Store<'d, D> {
         base.into_disk()
     }
 }
+
+#[cfg(test)]
+mod tests;

@@ -1,13 +1,12 @@
-use Rattle.std.proofs.Common.{rules, ◌≡◌, ◌∙◌, ap, sym, subst, inl, inr, ℕ, Result, Ok, Err, IfOk}
+use Rattle.std.proofs.Common.{◌≡◌, ◌∙◌, sym, subst, inl, inr, ℕ, Result, Ok, Err, IfOk}
 use Rattle.std.proofs.lemmas.Result.{IfErr-weaker}
 use Rattle.disk_model.proofs.Spans.{at_each_moment_read}
 use Rattle.rec_bytes.specs.declared.shape.Shape.{Shape}
-use Rattle.record_file.specs.Records.{IsUnmade, record_at}
+use Rattle.record_file.specs.Records.{record_at}
 use Rattle.txn_core.specs.Config.{Suits}
 use Rattle.txn_core.specs.Kept.{IsKept}
 use Rattle.txn_core.specs.MetaRecords.{AreMetasOf}
-use Rattle.txn_core.specs.Opening.{IsRefusal, IsStore, IsWant, OnlyDiffers, RefusesOpening}
-use Rattle.txn_core.specs.declared.open_fault.OpenFault.{OpenFault}
+use Rattle.txn_core.specs.Opening.{IsStore, OnlyDiffers, RefusesOpening}
 use Rattle.txn_core.specs.declared.opening.Start.{Start}
 use Rattle.txn_core.proofs.Finding.{differs_untouched, if_ok_all, if_ok_both, made_kept, made_opened, none_made, one_shape, redoes_own, refuses_differs, unmade_crash, unmade_left, unmade_mid, unmade_opened}
 use Rattle.txn_core.proofs.opening.find_or_make.Given.{Over}

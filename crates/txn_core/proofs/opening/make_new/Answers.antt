@@ -1,6 +1,6 @@
-use Rattle.std.proofs.Common.{sym, subst, []}
+use Rattle.std.proofs.Common.{ap, arith, length, sym, subst, []}
 use Rattle.rec_bytes.specs.Creation.{creation_pairs}
-use Rattle.rec_bytes.specs.Pairs.{Pairs}
+use Rattle.rec_bytes.specs.Pairs.{Pairs, merged}
 use Rattle.rec_bytes.specs.declared.record.Rec.{Rec}
 use Rattle.redo_log.specs.Appending.{IsAppended}
 use Rattle.redo_log.specs.Entries.{AllHaveEntries, IsEntryOf}
@@ -9,6 +9,8 @@ use Rattle.disk_model.specs.Spans.{AtEachMoment}
 use Rattle.txn_core.specs.Kept.{IsKept}
 use Rattle.txn_core.specs.MetaRecords.{blank_metas}
 use Rattle.txn_core.proofs.Kept.{kept_appended}
+use Rattle.rec_bytes.proofs.PairLaws.{growth_by_le}
+use Rattle.txn_core.proofs.Sets.{length-merged}
 use Rattle.txn_core.proofs.Making.{creation_form, kept_unmade, new_crash, new_space}
 use Rattle.txn_core.proofs.opening.make_new.Goals as goal
 
@@ -43,3 +45,16 @@ returns-clause-space g c reads unmade =
     let disk = g.D.Disk in
     new_space (disk.reads c.args.disk.now) (disk.reads c.append.new.disk) c.args.shape c.blank.result.records c.args.changed.now.pairs c.args.creation.now.pairs c.merge.new.self.pairs c.blank.ensures c.requires.changed c.requires.creation unmade
     c.merge.ensures.finds (c.append.ensures.elsewhere reads)
+
+pub returns-clause-few : goal.returns-clause-few
+returns-clause-few g c =
+    let creation = creation_pairs c.args.shape in
+    omega (
+      arith,
+      ap (λ (pairs : Pairs). length pairs) c.merge.ensures.pairs,
+      ap (λ (pairs : Pairs). length (merged pairs c.args.creation.now.pairs)) c.requires.changed,
+      ap (λ (pairs : Pairs). length (merged [] pairs)) c.requires.creation,
+      length-merged [] creation tt,
+      growth_by_le [] creation,
+      (creation_form c.args.shape).few,
+    )

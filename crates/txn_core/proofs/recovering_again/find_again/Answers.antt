@@ -1,12 +1,9 @@
-use Rattle.std.proofs.Common.{rules, ◌≡◌, ◌∙◌, ◌⊎◌, ap, sym, subst, inl, inr, ⊎_elim, refl}
+use Rattle.std.proofs.Common.{◌≡◌, ◌∙◌, ◌⊎◌, sym, subst, inl, inr, ⊎_elim, refl}
 use Rattle.std.proofs.lemmas.Result.{IfErr-weaker, on_ok_weaker}
 use Rattle.disk_model.proofs.Spans.{at_each_moment_read}
-use Rattle.rec_bytes.specs.declared.shape.Shape.{Shape}
-use Rattle.record_file.specs.Records.{IsUnmade, record_at}
 use Rattle.record_file.proofs.Redone.{Redoes-kept}
 use Rattle.txn_core.specs.Again.{RefusesAgain, own_damage}
 use Rattle.txn_core.specs.Opening.{IsStore}
-use Rattle.txn_core.specs.declared.again_fault.AgainFault.{AgainFault}
 use Rattle.txn_core.specs.declared.again_fault.AgainFault.TheVariants.{Disk, Damaged}
 use Rattle.txn_core.proofs.Finding.{none_made, one_shape}
 use Rattle.txn_core.proofs.Kept.{same_records}

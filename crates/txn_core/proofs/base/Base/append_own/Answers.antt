@@ -1,4 +1,5 @@
-use Rattle.std.proofs.Common.{rules, refl, arith}
+use Rattle.std.proofs.Common.{rules, refl, arith, ap, length}
+use Rattle.rec_bytes.specs.Pairs.{Pairs}
 use Rattle.std.proofs.lemmas.Result.{err_from_is_err_and}
 use Rattle.txn_core.proofs.Kept.{appended_space, before_or_after, kept_appended, on_disk, on_disk_at, read_before_or_after}
 use Rattle.txn_core.proofs.base.Base.append_own.Goals as goal
@@ -30,7 +31,7 @@ invariant_of-self-2 g c =
     let b = c.args.self.now in
     record {
       allowed = b.allowed;
-      bounded = record { room = omega (arith, c.merge.ensures.room, b.bounded.room); few = b.bounded.few; closed = b.bounded.closed };
+      bounded = record { room = omega (arith, c.merge.ensures.room, b.bounded.room); few = b.bounded.few; closed = b.bounded.closed; most = omega (arith, ap (λ (pairs : Pairs). length pairs) c.merge.ensures.pairs, c.requires.few) };
       kept = λ live.
           kept_appended g.D.Disk b.disk.now c.append.new.disk b.metas.records b.changed.pairs b.own.pairs c.merge.new.self.pairs b.tail c.in_ok-self.field-0 g.met.D.Disk.counts_now (b.kept c.requires.live) c.merge.ensures.finds
           c.in_ok-self.ensures.next (λ reads. c.in_ok-self.ensures.appended reads) c.in_ok-self.ensures.settled c.append.ensures.elsewhere c.append.ensures.crash;

@@ -1,4 +1,4 @@
-use Rattle.std.proofs.Common.{rules, refl, sym, ◌∙◌, ap, subst, arith, length, List, []}
+use Rattle.std.proofs.Common.{rules, refl, sym, ◌∙◌, ap, subst, arith, length}
 use Rattle.std.proofs.lemmas.Result.{err_from_is_err_and}
 use Rattle.rec_bytes.specs.Pairs.{Pairs}
 use Rattle.rec_bytes.specs.Space.{laid_over}
@@ -32,7 +32,7 @@ invariant_of-self-2 g c =
     let disk = g.D.Disk in
     record {
       allowed = b.allowed;
-      bounded = record { room = omega (arith, c.clear.ensures.room, ap (λ (pairs : Pairs). length pairs) c.clear.ensures.pairs, b.bounded.room); few = b.bounded.few; closed = b.bounded.closed };
+      bounded = record { room = omega (arith, c.clear.ensures.room, ap (λ (pairs : Pairs). length pairs) c.clear.ensures.pairs, b.bounded.room); few = b.bounded.few; closed = b.bounded.closed; most = omega (arith, ap (λ (pairs : Pairs). length pairs) c.clear.ensures.pairs) };
       kept = λ live.
           kept_settled disk c.checkpoint.new.disk c.refresh.new.self.records c.clear.new.self.pairs c.clear.ensures.pairs c.in_ok-checkpoint.ensures.emptied c.in_ok-checkpoint.ensures.settled
           (λ reads. subst (λ (records : Key → Rec). AreMetasOf records c.refresh.new.self.records) (sym (c.in_ok-checkpoint.ensures.space reads)) (c.refresh.ensures (record_at (disk.reads b.disk.now)) ((b.kept c.requires.live).held reads)));

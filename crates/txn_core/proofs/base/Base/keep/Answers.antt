@@ -1,6 +1,6 @@
 use Rattle.std.proofs.Common.{rules, ap, sym, subst, arith, length}
 use Rattle.rec_bytes.specs.Pairs.{IsOrdered, Pairs, growth_by}
-use Rattle.txn_core.proofs.Sets.{length-merged}
+use Rattle.txn_core.proofs.Sets.{length-merged, length-other}
 use Rattle.txn_core.proofs.base.Base.keep.Goals as goal
 
 pub invariant_of-self-2 : goal.invariant_of-self-2
@@ -20,6 +20,11 @@ invariant_of-self-2 g c =
           length-merged c.reserve.new.self.pairs draft (subst IsOrdered (sym same) c.len-2.ensures.rising),
         );
         closed = λ closed. search rules;
+        most = was.most;
       };
       kept = c.args.self.now.kept;
     }
+
+pub returns-then-len-gt-MOST_OWN-clause-succeeds : goal.returns-then-len-gt-MOST_OWN-clause-succeeds
+returns-then-len-gt-MOST_OWN-clause-succeeds g c fits room = absurd
+    (omega (arith, fits, c.if-len-gt-MOST_OWN.true, c.len.ensures.value, length-other c.args.self.now.own.pairs c.args.draft.now.pairs c.len.ensures.rising))

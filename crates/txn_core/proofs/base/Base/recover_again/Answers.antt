@@ -1,10 +1,7 @@
-use Rattle.std.proofs.Common.{rules, refl, ◌≡◌, ◌∙◌, ap, sym, arith, length, []}
+use Rattle.std.proofs.Common.{rules, refl, ◌∙◌, ap, arith, length}
 use Rattle.rec_bytes.specs.Pairs.{Pairs}
 use Rattle.rec_bytes.specs.Space.{laid_over}
-use Rattle.rec_bytes.specs.declared.key.Key.{Key}
-use Rattle.rec_bytes.specs.declared.record.Rec.{Rec}
 use Rattle.record_file.specs.Records.{record_at}
-use Rattle.record_file.specs.Redone.{Redoes}
 use Rattle.txn_core.proofs.Kept.{kept_settled, on_disk, plain_space}
 use Rattle.txn_core.proofs.base.Base.recover_again.Goals as goal
 
@@ -13,7 +10,7 @@ invariant_of-self-2 g c =
     let b = c.args.self.now in
     record {
       allowed = b.allowed;
-      bounded = record { room = omega (arith, c.clear.ensures.room, ap (λ (pairs : Pairs). length pairs) c.clear.ensures.pairs, b.bounded.room); few = b.bounded.few; closed = b.bounded.closed };
+      bounded = record { room = omega (arith, c.clear.ensures.room, ap (λ (pairs : Pairs). length pairs) c.clear.ensures.pairs, b.bounded.room); few = b.bounded.few; closed = b.bounded.closed; most = omega (arith, ap (λ (pairs : Pairs). length pairs) c.clear.ensures.pairs) };
       kept = λ live. kept_settled g.D.Disk c.find_again.new.disk c.in_ok-self.field-0.records c.clear.new.self.pairs c.clear.ensures.pairs c.in_ok-self.ensures.emptied c.in_ok-self.ensures.settled c.in_ok-self.ensures.metas;
     }
 

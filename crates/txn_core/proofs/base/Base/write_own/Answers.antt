@@ -1,14 +1,12 @@
-use Rattle.std.proofs.Common.{rules, ◌≡◌, ◌∙◌, ap, inl, inr, sym, subst, ⊎_elim, arith, length, [], List}
-use Rattle.std.proofs.lemmas.Result.{on_ok_weaker, on_err_weaker}
+use Rattle.std.proofs.Common.{◌≡◌, ◌∙◌, ap, inl, sym, []}
+use Rattle.std.proofs.lemmas.Result.{on_err_weaker}
 use Rattle.disk_model.specs.Contents.{Files}
 use Rattle.rec_bytes.specs.Pairs.{Held}
 use Rattle.rec_bytes.specs.Space.{laid_over}
-use Rattle.rec_bytes.specs.declared.key.Key.{Key}
-use Rattle.rec_bytes.specs.declared.record.Rec.{Rec}
 use Rattle.disk_model.proofs.Spans.{at_each_moment_on, at_each_moment_weaker}
 use Rattle.txn_core.specs.Base.{committed, working}
-use Rattle.txn_core.specs.Outcomes.{IsInDoubt, IsWritten}
-use Rattle.txn_core.proofs.Kept.{Either-same, kept_now, on_disk, space_of}
+use Rattle.txn_core.specs.Outcomes.{IsInDoubt}
+use Rattle.txn_core.proofs.Kept.{Either-same, kept_now, on_disk}
 use Rattle.txn_core.proofs.Sets.{empty_pairs}
 use Rattle.txn_core.proofs.base.Base.write_own.Goals as goal
 

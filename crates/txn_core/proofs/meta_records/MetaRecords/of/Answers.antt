@@ -1,4 +1,4 @@
-use Rattle.std.proofs.Common.{rules, ◌≡◌, ◌∙◌, ap, sym, arith, length, List, ℕ, take, ◌+◌, ◌-◌, ◌*◌, drop}
+use Rattle.std.proofs.Common.{rules, ◌≡◌, ◌∙◌, ap, arith, List, ℕ, take, ◌+◌, ◌-◌, ◌*◌, drop}
 use Rattle.rec_bytes.specs.declared.record.Rec.{Rec}
 use Rattle.rec_bytes.specs.RecordFiles.{meta_key_of}
 use Rattle.record_file.specs.Records.{record_at}

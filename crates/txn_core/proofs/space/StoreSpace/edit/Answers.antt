@@ -1,5 +1,5 @@
 use mathlib.Core.Bool.{false≢true}
-use Rattle.std.proofs.Common.{rules, refl, arith, ◌∙◌}
+use Rattle.std.proofs.Common.{rules, refl, ◌∙◌}
 use Rattle.txn_core.proofs.States.{no_blame, state_edited, state_refused, state_written}
 use Rattle.txn_core.proofs.space.StoreSpace.edit.Goals as goal
 

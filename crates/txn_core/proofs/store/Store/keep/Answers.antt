@@ -7,7 +7,7 @@ use Rattle.rec_bytes.specs.Space.{laid_over}
 use Rattle.rec_bytes.proofs.Spaces.{laid_over-merged}
 use Rattle.record_file.specs.Records.{record_at}
 use Rattle.txn_core.specs.MetaRecords.{with_metas}
-use Rattle.txn_core.specs.Base.{SameBeneath, committed}
+use Rattle.txn_core.specs.Base.{SameBeneath, committed, working}
 use Rattle.txn_core.specs.declared.base.Base.{Base}
 use Rattle.txn_core.proofs.store.Store.keep.Goals as goal
 
@@ -19,5 +19,10 @@ pub returns-clause-working : goal.returns-clause-working
 returns-clause-working g c =
     let old = c.args.self.now in
     let new = c.keep.new.self in
-    ap (λ (pairs : Pairs). laid_over (committed new) pairs) c.in_ok-keep.ensures.own ∙ laid_over-merged (committed new) old.base.own.pairs old.draft.pairs c.in_ok-keep.ensures.rising
+    ap (λ (b : Base g.row.D.Denot g.D.Disk). working b) c.discard.ensures.base ∙ ap (λ (pairs : Pairs). laid_over (committed new) pairs) c.in_ok-keep.ensures.own
+    ∙ laid_over-merged (committed new) old.base.own.pairs old.draft.pairs c.in_ok-keep.ensures.rising
     ∙ ap (λ (records : Key → Rec). laid_over (laid_over records old.base.own.pairs) old.draft.pairs) (committed-beneath old.base new c.in_ok-keep.ensures.same)
+
+-- the draft has nothing any more
+pub returns-clause-read : goal.returns-clause-read
+returns-clause-read g c = ap (λ (pairs : Pairs). laid_over (working c.discard.new.self.base) pairs) c.discard.ensures.draft ∙ returns-clause-working g c
