@@ -10,12 +10,14 @@ use Rattle.plain_graph.specs.Reply.{Counted, DamagedRecord, Done, Faulted, NoMem
 use Rattle.plain_graph.specs.declared.refusal.Refusal.{Refusal}
 use Rattle.graph_session.specs.Answer.{AnswersLine, Delivers, Gives, Settles, Terminal}
 use Rattle.graph_session.specs.Console.{IsAt, Onward, SessionView}
+use Rattle.graph_session.specs.DiskUse.{TellsNoChange, UsesDisk}
 use Rattle.graph_session.specs.Exchange.{ConsoleStep, Exchange, IsDone, told_fault}
 use Rattle.graph_session.specs.Moments.{ComesTo}
 use Rattle.graph_session.specs.Refusals.{IsRefused}
 use Rattle.graph_session.specs.State.{IsQuit, IsSilent, NeverLacksMemory, State}
 use Rattle.graph_session.specs.declared.turn.Turn.{Turn}
 use Rattle.graph_session.specs.declared.turn.Turn.TheVariants.{Go, Quit, SinkFault}
+use Rattle.graph_session.proofs.DiskUse.{uses-none}
 use Rattle.graph_session.proofs.Staying.{Stays, comes-stays, stays-none}
 
 -- the reply says that the command was carried out
@@ -49,36 +51,56 @@ good-told (Counted counts) good = refl
 good-told (Faulted results fault) good = absurd good
 good-told (Refused why) good = refl
 
+-- and not that nothing changed
+pub good-changed : (reply : Reply) → IsGood reply → ¬ TellsNoChange reply
+good-changed Silent good none = good
+good-changed Done good none = none
+good-changed (NodeMade id) good none = none
+good-changed (Results results) good none = none
+good-changed (Counted counts) good none = none
+good-changed (Faulted results fault) good none = good
+good-changed (Refused why) good none = good
+
 module _ {D : Type 0} {g : DiskGhosts D} {old new : SessionView D} where
   module _ {line : InputLine} {before : State} where
     -- the disk is not blamed
     pub settles-given : (reply : Reply) (after : State) → ComesTo g old new before after → told_fault reply ≡ 0
-        → (g.tells_reads → ConsoleStep before (exchange line false reply) after) → Settles g line old new before reply
-    settles-given reply after arrives quiet step =
-        record { after = after; arrives = arrives; disk_failed = false; counted = λ e. absurd (true≢false (sym e)); step = record { step = step; blames = λ blames. absurd (blames quiet) } }
+        → (g.tells_reads → ConsoleStep before (exchange line false reply) after) → UsesDisk g line before reply old.disk new.disk → Settles g line old new before reply
+    settles-given reply after arrives quiet step uses = record {
+      after = after;
+      arrives = arrives;
+      disk_failed = false;
+      counted = λ e. absurd (true≢false (sym e));
+      step = record { step = step; blames = λ blames. absurd (blames quiet) };
+      uses = uses;
+    }
 
     -- the command was carried out
     pub settles-done : (reply : Reply) (after : State) → IsGood reply → ComesTo g old new before after
-        → (g.tells_reads → IsDone before (exchange line false reply) after) → Settles g line old new before reply
-    settles-done reply after good arrives done =
-        settles-given reply after arrives (good-told reply good) (λ told. good-step before after line false reply good (done told))
+        → (g.tells_reads → IsDone before (exchange line false reply) after) → UsesDisk g line before reply old.disk new.disk → Settles g line old new before reply
+    settles-done reply after good arrives done uses =
+        settles-given reply after arrives (good-told reply good) (λ told. good-step before after line false reply good (done told)) uses
 
     -- the disk failed
     pub settles-fault : (reply : Reply) (after : State) → ComesTo g old new before after → Rose (g.faults old.disk) (g.faults new.disk)
-        → (g.tells_reads → ConsoleStep before (exchange line true reply) after) → Settles g line old new before reply
-    settles-fault reply after arrives rose step = record { after = after; arrives = arrives; disk_failed = true; counted = λ e. rose; step = record { step = step; blames = λ blames. refl } }
+        → (g.tells_reads → ConsoleStep before (exchange line true reply) after) → UsesDisk g line before reply old.disk new.disk → Settles g line old new before reply
+    settles-fault reply after arrives rose step uses =
+        record { after = after; arrives = arrives; disk_failed = true; counted = λ e. rose; step = record { step = step; blames = λ blames. refl }; uses = uses }
 
     -- a refused line changes nothing
-    pub settles-refused : IsAt g old before → Stays g old new → (why : Refusal) → (g.tells_reads → IsRefused before line why) → Settles g line old new before (Refused why)
-    settles-refused at stays why is = settles-given (Refused why) before (comes-stays at stays) refl (λ told. (is told, refl))
+    pub settles-refused : IsAt g old before → Stays g old new → (why : Refusal) → (g.tells_reads → IsRefused before line why) → UsesDisk g line before (Refused why) old.disk new.disk
+        → Settles g line old new before (Refused why)
+    settles-refused at stays why is uses = settles-given (Refused why) before (comes-stays at stays) refl (λ told. (is told, refl)) uses
 
     -- and so does one that lacks memory
-    pub settles-memory : IsAt g old before → Stays g old new → ¬ NeverLacksMemory line → Settles g line old new before (Faulted [] NoMemory)
-    settles-memory at stays may = settles-given (Faulted [] NoMemory) before (comes-stays at stays) refl (λ told. (may, refl, inl refl))
+    pub settles-memory : IsAt g old before → Stays g old new → ¬ NeverLacksMemory line → UsesDisk g line before (Faulted [] NoMemory) old.disk new.disk
+        → Settles g line old new before (Faulted [] NoMemory)
+    settles-memory at stays may uses = settles-given (Faulted [] NoMemory) before (comes-stays at stays) refl (λ told. (may, refl, inl refl)) uses
 
     -- where the disk tells what it reads no record is damaged
-    pub settles-damaged : (file id : ℕ) (after : State) → ComesTo g old new before after → (g.tells_reads → ⊥) → Settles g line old new before (Faulted [] (DamagedRecord file id))
-    settles-damaged file id after arrives sound = settles-given (Faulted [] (DamagedRecord file id)) after arrives refl (λ told. absurd (sound told))
+    pub settles-damaged : (file id : ℕ) (after : State) → ComesTo g old new before after → (g.tells_reads → ⊥) → UsesDisk g line before (Faulted [] (DamagedRecord file id)) old.disk new.disk
+        → Settles g line old new before (Faulted [] (DamagedRecord file id))
+    settles-damaged file id after arrives sound uses = settles-given (Faulted [] (DamagedRecord file id)) after arrives refl (λ told. absurd (sound told)) uses
 
 module _ {D : Type 0} {g : DiskGhosts D} (only : OnlyNow g) {session : SessionView D} where
   -- nothing was called
@@ -87,13 +109,13 @@ module _ {D : Type 0} {g : DiskGhosts D} (only : OnlyNow g) {session : SessionVi
 
   module _ {line : InputLine} {before : State} (at : IsAt g session before) where
     pub settles-silent : IsSilent line → Settles g line session session before Silent
-    settles-silent silent = settles-given Silent before (comes-stays at (stays-none only session at.no_draft)) refl (λ told. (silent, refl))
+    settles-silent silent = settles-given Silent before (comes-stays at (stays-none only session at.no_draft)) refl (λ told. (silent, refl)) (uses-none only session.disk)
 
     pub settles-refused_at_once : (why : Refusal) → (g.tells_reads → IsRefused before line why) → Settles g line session session before (Refused why)
-    settles-refused_at_once why is = settles-refused at (stays-none only session at.no_draft) why is
+    settles-refused_at_once why is = settles-refused at (stays-none only session at.no_draft) why is (uses-none only session.disk)
 
     pub settles-memory_at_once : ¬ NeverLacksMemory line → Settles g line session session before (Faulted [] NoMemory)
-    settles-memory_at_once may = settles-memory at (stays-none only session at.no_draft) may
+    settles-memory_at_once may = settles-memory at (stays-none only session at.no_draft) may (uses-none only session.disk)
 
 module _ {D K : Type 0} {g : DiskGhosts D} {sink : SinkGhosts K} {line : InputLine} {old new : Terminal D K} {turn : Turn} where
   -- the reply of a settled line was given to the sink

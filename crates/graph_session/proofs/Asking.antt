@@ -1,23 +1,15 @@
 -- A session after a query.
-use Rattle.std.proofs.Common.{◌≡◌, ◌∙◌, ℕ, List, [], Bool, is_some, refl, ap}
+use Rattle.std.proofs.Common.{◌≡◌, ℕ, List, [], refl}
 use Rattle.disk_model.specs.declared.disk.Disk.{Ghosts}
-use Rattle.rec_bytes.specs.Pairs.{Pairs, find_pair}
-use Rattle.rec_bytes.specs.declared.key.Key.{Key}
 use Rattle.txn_core.specs.Base.{OnlyReadsBase}
 use Rattle.txn_core.specs.Store as store
 use Rattle.txn_core.specs.declared.store.Store.{Store}
 use Rattle.graph_session.specs.declared.health.Health.{Health}
-use Rattle.graph_session.proofs.Drafts.{committed-read, working-read}
+use Rattle.graph_session.proofs.StoreRecords.{committed-read, draft-kept, working-read}
 use Rattle.graph_session.proofs.Moves.{seen_as}
-use Rattle.graph_session.proofs.Reopening.{none-found}
 use Rattle.graph_session.proofs.Staying.{Stays}
 
 module _ {D : Type 0} {g : Ghosts D} where
-  -- no key was written, so the draft is empty yet
-  draft-kept : (s t : Store D g) → (store.state_of t).written ≡ (store.state_of s).written → s.draft.pairs ≡ [] → t.draft.pairs ≡ []
-  draft-kept s t written none =
-      none-found t.draft.pairs (λ key. ap (λ (keys : Key → Bool). keys key) written ∙ ap (λ (pairs : Pairs). is_some (find_pair pairs key)) none)
-
   -- calls that only read leave the session as it was
   pub stays-read : (s t : Store D g) → OnlyReadsBase s.base t.base → (store.state_of t).written ≡ (store.state_of s).written → s.draft.pairs ≡ []
       → (health : Health) (weight : ℕ) (names : List (List ℕ)) → Stays g (seen_as s health weight names) (seen_as t health weight names)

@@ -1,6 +1,5 @@
 -- What a session begins with over a store that was opened and whose names were loaded, and why there is none.
-use Rattle.std.proofs.Common.{◌≡◌, ◌⊎◌, ◌∙◌, ℕ, zero, suc, ◌≤◌, Bool, true, false, IsTrue, Some, None, is_some, Err, List, [], ◌∷◌, if◌then◌else◌, inl, inr, refl, sym, ap, subst, arith}
-use Rattle.std.proofs.lemmas.Bool.{true≢false}
+use Rattle.std.proofs.Common.{◌≡◌, ◌⊎◌, ◌∙◌, ◌≤◌, true, false, IsTrue, Some, None, Err, List, [], inl, inr, refl, sym, ap, subst, arith}
 use Rattle.std.proofs.lemmas.List.{append-nil}
 use Rattle.fault_count.specs.Cause.{Rose}
 use Rattle.disk_model.specs.Contents.{Files}
@@ -9,17 +8,13 @@ use Rattle.disk_model.specs.declared.disk.Disk.{Ghosts}
 use Rattle.disk_model.proofs.Spans.{CountsNow, at_each_moment_read, at_each_moment_weaker}
 use Rattle.plain_graph.specs.Graph.{Graph}
 use Rattle.rec_bytes.specs.Creation.{own_key}
-use Rattle.rec_bytes.specs.Pairs.{Pairs, find_pair}
+use Rattle.rec_bytes.specs.Pairs.{Pairs}
 use Rattle.rec_bytes.specs.Record.{zeros}
 use Rattle.rec_bytes.specs.Format.{meta_file}
 use Rattle.rec_bytes.specs.Shape.{is_allowed, shape_of_record}
-use Rattle.rec_bytes.specs.Space as spaces
-use Rattle.rec_bytes.specs.Space.{after_gets, laid_over}
 use Rattle.rec_bytes.specs.declared.key.Key.{Key}
 use Rattle.rec_bytes.specs.declared.record.Rec.{Rec}
 use Rattle.rec_bytes.specs.declared.shape.Shape.{Shape}
-use Rattle.rec_bytes.proofs.KeyLaws.{key_eq-same}
-use Rattle.rec_bytes.proofs.Spaces.{laid_over-none}
 use Rattle.redo_log.specs.Redo.{redone}
 use Rattle.record_file.specs.Records.{IsUnmade, record_at}
 use Rattle.record_file.specs.Redone.{Redoes}
@@ -29,7 +24,6 @@ use Rattle.recovery.specs.Finding as finding
 use Rattle.txn_core.specs.Base.{OnlyReadsBase}
 use Rattle.txn_core.specs.Config.{Suits, shape_of}
 use Rattle.txn_core.specs.Kept.{IsOnDisk}
-use Rattle.txn_core.specs.MetaRecords.{with_metas}
 use Rattle.txn_core.specs.Opening as opening
 use Rattle.txn_core.specs.Opening.{IsOldOrNew, IsWant, OnlyDiffers, made_over}
 use Rattle.txn_core.specs.Store.{committed, content, drafted, state_of, working}
@@ -53,6 +47,8 @@ use Rattle.graph_session.specs.declared.health.Health.TheVariants as healths
 use Rattle.graph_session.proofs.Openings.{starts-stands}
 use Rattle.graph_session.proofs.Stands.{IsMade-redoes, Redoes-only, Stands-only, all-admitted, own-one, redone-held, unmade-not_made}
 use Rattle.graph_session.proofs.States.{same_one}
+use Rattle.graph_session.proofs.StoreRecords.{committed-read, draft-read, drafted-none, working-none, working-read}
+use Rattle.graph_session.proofs.Streams.{Rose-from}
 
 -- ---- the records of the store
 
@@ -174,46 +170,15 @@ unloaded-disk Memory e = cc
 unloaded-disk Disk e = refl
 unloaded-disk (Damaged damage) e = cc
 
-rose-later : (before mid now : ℕ) → before ≤ mid → Rose mid now → Rose before now
-rose-later before mid now later rose = omega (arith, later, rose)
-
 -- ---- a store whose names were loaded
 
--- reads write no key
-written-gets : (n : ℕ) (s : spaces.State) → (after_gets n s).written ≡ s.written
-unfolding after_gets
-written-gets zero s = refl
-written-gets (suc n) s = written-gets n s
-
-none-found : (pairs : Pairs) → ((key : Key) → is_some (find_pair pairs key) ≡ false) → pairs ≡ []
-none-found [] none = refl
-none-found (pair ∷ rest) none = absurd (true≢false (ap (λ (b : Bool). is_some (if b then Some pair.1 else find_pair rest pair.0)) (sym (key_eq-same pair.0)) ∙ none pair.0))
-
 module _ {D : Type 0} {g : Ghosts D} (opened loaded : Store D g) (reads : OnlyReadsBase opened.base loaded.base) where
-  same-content : content loaded ≡ content opened
-  same-content i file place = reads.disk.keeps file place i
-
-  same-committed : committed loaded ≡ committed opened
-  same-committed i = laid_over (with_metas (reads.metas i).records (record_at (same-content i))) (reads.changed i).pairs
-
-  same-working : opened.base.own.pairs ≡ [] → working loaded ≡ committed opened
-  same-working own = (λ i. laid_over (same-committed i) (reads.own i).pairs) ∙ ap (laid_over (committed opened)) own ∙ laid_over-none (committed opened)
-
-  same-draft : opened.draft.pairs ≡ [] → state_of loaded ≡ after_names (state_of opened) → loaded.draft.pairs ≡ []
-  same-draft none state =
-      let written : (state_of loaded).written ≡ (state_of opened).written = ap (λ (s : spaces.State). s.written) state ∙ written-gets (name_mark (state_of opened).records) (state_of opened) in
-      none-found loaded.draft.pairs (λ key. ap (λ (keys : Key → Bool). keys key) written ∙ ap (λ (pairs : Pairs). is_some (find_pair pairs key)) none)
-
   -- what it has on the disk
   same-stored : (space : Key → Rec) → IsOnDisk g opened.base.disk.now (λ left. Redoes left space) → IsOnDisk g loaded.base.disk.now (λ left. Redoes left space)
   same-stored space stored = record {
     read = λ told. Redoes-kept space (g.reads opened.base.disk.now) (g.reads loaded.base.disk.now) (stored.read told) reads.disk.keeps;
     images = λ told images image left. stored.images told images image (reads.disk.crash images image left);
   }
-
--- the records with the draft are the committed ones
-drafted-none : {D : Type 0} {g : Ghosts D} (store : Store D g) → store.base.own.pairs ≡ [] → store.draft.pairs ≡ [] → drafted store ≡ committed store
-drafted-none store own draft = ap (laid_over (working store)) draft ∙ laid_over-none (working store) ∙ ap (laid_over (committed store)) own ∙ laid_over-none (committed store)
 
 -- What a session holds that begins over these records.
 record BeginsOver {D : Type 0} (g : Ghosts D) (session : SessionView D) (shape : Shape) (space : Key → Rec) : Type 0 where
@@ -300,11 +265,11 @@ module _ {D : Type 0} {g : Ghosts D} (counts : CountsNow g) (config : Config) (o
         health = health;
         live = live ∙ reads.live ∙ opens.live;
         closed = closed ∙ reads.in_transaction ∙ opens.closed;
-        no_draft = draft ∙ same-draft opened loaded reads opens.draft state;
+        no_draft = draft ∙ draft-read opened loaded (name_mark (state_of opened).records) state opens.draft;
         store = store-of stands;
-        committed = same_committed ∙ same-committed opened loaded reads;
-        working = same_working ∙ same-working opened loaded reads opens.own;
-        names = λ told. names told ∙ ap names_of (drafted-none opened opens.own opens.draft);
+        committed = same_committed ∙ committed-read opened.base loaded.base reads;
+        working = same_working ∙ working-read opened.base loaded.base reads ∙ working-none opened.base opens.own;
+        names = λ told. names told ∙ ap names_of (drafted-none opened opens.draft ∙ working-none opened.base opens.own);
         stored = subst (λ (d : D). IsOnDisk g d (λ left. Redoes left (committed opened))) (sym disk) (same-stored opened loaded reads (committed opened) opens.stored);
       }),
     );
@@ -316,7 +281,7 @@ module _ {D : Type 0} {g : Ghosts D} (counts : CountsNow g) (config : Config) (o
   pub loaded-refused : (T : Type 0) (disk : D) (why : OpenFault) (fault : Fault) → disk ≡ loaded.base.disk.now → why ≡ unloaded fault → (g.tells_reads → IsLoadFault (state_of opened).records fault)
       → (g.tells_reads → AreLoadable (state_of opened).records → NotDamaged {T = T} (Err fault)) → (fault ≡ Disk → Rose (g.faults opened.base.disk.now) (g.faults loaded.base.disk.now)) → IsUnopened g config old disk why
   loaded-refused T disk why fault disk_is why_is damaged sound cause =
-      let same : drafted opened ≡ committed opened = drafted-none opened opens.own opens.draft in
+      let same : drafted opened ≡ committed opened = drafted-none opened opens.draft ∙ working-none opened.base opens.own in
       let right : g.tells_reads → AreLoadable (committed opened) → NotDamaged {T = T} (Err fault) = λ told loads. sound told (subst (λ (records : Key → Rec). AreLoadable records) (sym same) loads) in
       let is : IsUnopened g config old loaded.base.disk.now (unloaded fault) = record {
         refused = λ told. load-refuses T (g.reads old) config opened.base.shape (committed opened) fault opens.allowed (opens.opened told) (subst (λ (records : Key → Rec). IsLoadFault records fault) same (damaged told)) (right told);
@@ -324,6 +289,6 @@ module _ {D : Type 0} {g : Ghosts D} (counts : CountsNow g) (config : Config) (o
             load-sound T shape config fault (right told (loadable (committed opened) opened.base.shape (opened-store (g.reads old) config opened.base.shape (committed opened) opens.allowed (opens.opened told) shape graph stands)));
         crash = loaded-leaves;
         later = omega (arith, opens.later, later);
-        cause = λ e. rose-later (g.faults old) (g.faults opened.base.disk.now) (g.faults loaded.base.disk.now) opens.later (cause (unloaded-disk fault e));
+        cause = λ e. Rose-from (g.faults old) (g.faults opened.base.disk.now) (g.faults loaded.base.disk.now) opens.later (cause (unloaded-disk fault e));
       } in
       subst (λ (d : D). IsUnopened g config old d why) (sym disk_is) (subst (λ (w : OpenFault). IsUnopened g config old loaded.base.disk.now w) (sym why_is) is)

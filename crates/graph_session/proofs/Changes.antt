@@ -24,8 +24,9 @@ use Rattle.graph_session.specs.Refusals.{IsAccepted, IsReached, SpellsOnly}
 use Rattle.graph_session.specs.Stands.{HoldsAdmitted, IsAdmitted, IsAdmittedByEither}
 use Rattle.graph_session.specs.State.{Admits, Standing, State, Transaction, graphs_from, seen, seen_by}
 use Rattle.graph_session.specs.declared.health.Health.TheVariants as healths
-use Rattle.graph_session.proofs.Answering.{IsGood, settles-done, settles-fault}
+use Rattle.graph_session.proofs.Answering.{IsGood, good-changed, settles-done, settles-fault}
 use Rattle.graph_session.proofs.Conditions.{NeedsNone, NeedsOne, reached}
+use Rattle.graph_session.proofs.DiskUse.{change-needs, uses-reads, uses-writes}
 use Rattle.graph_session.proofs.Held.{committed-one, held}
 use Rattle.graph_session.proofs.Known.{begin-all, begin-same, known-one, known-two}
 use Rattle.graph_session.proofs.Stands.{IsOneOf, IsStored, all-admitted, either-admitted, either-held, held-admitted, own-one, redone-held}
@@ -196,6 +197,7 @@ module _ {D : Type 0} {g : Ghosts D} {old new : SessionView D} {state : State} (
           only.spelled,
           carries-change state after command reply change (inl (transaction, is, graph_of new.console.working, weight, changes told, weighs told, refl)),
         ))
+        (uses-reads state only (change-needs command change) (change-reached at live only change) keeps.beneath.disk)
 
     -- the disk failed as the change was made in the open transaction, which stays as it was
     pub settles-change_fault : {line : List ℕ} {command : Command} → SpellsOnly line command → IsChange command → Stays g old new → Rose (g.faults old.disk) (g.faults new.disk)
@@ -203,6 +205,7 @@ module _ {D : Type 0} {g : Ghosts D} {old new : SessionView D} {state : State} (
     settles-change_fault {line = line} {command = command} only change stays rose =
         settles-fault {line = Whole line} {before = state} (Faulted [] DiskFailed) state (comes-stays at stays) rose
         (λ told. (refl, change-reached at live only change, command, only.spelled, shows-none state command change, leaves-change state state line command change (inl (transaction, is, refl))))
+        (uses-reads state only (change-needs command change) (change-reached at live only change) stays.beneath.disk)
 
   module _ (closed : old.console.is_open ≡ false) where
     fails_alone-at : FailsAlone g old new → IsAt g new (stopped state)
@@ -226,6 +229,7 @@ module _ {D : Type 0} {g : Ghosts D} {old new : SessionView D} {state : State} (
     settles-alone_read_fault {line = line} {command = command} only change fails rose =
         settles-fault {line = Whole line} {before = state} (Faulted [] DiskFailed) (stopped state) (record { is_at = fails_alone-at fails; crash = crash-kept at (stopped state) new.disk fails.disk }) rose
         (λ told. (refl, change-reached at live only change, command, only.spelled, shows-none state command change, leaves-change state (stopped state) line command change (inr (is_closed at closed, inl refl))))
+        (uses-reads state only (change-needs command change) (change-reached at live only change) fails.disk)
 
     module _ (now : Key → Rec) where
       alone-crash : (after : State) → CommitsFrom g old new now → (g.tells_reads → IsOneOf after now) → TellsAll g → AtEachMoment g old.disk new.disk (IsAdmittedByEither state after)
@@ -265,6 +269,7 @@ module _ {D : Type 0} {g : Ghosts D} {old new : SessionView D} {state : State} (
           let after = changed state (graph_of now) in
           settles-done {line = Whole line} {before = state} reply after good (record { is_at = commits_alone-at grown commits; crash = alone-crash after from (alone-one at live now (λ told. (grown told).store)) })
           (λ told. (accepted told, command, only.spelled, carries-change state after command reply change (inr (is_closed at closed, graph_of now, changes told, refl))))
+          (uses-writes state only (change-needs command change) (change-reached at live only change) (inl (is_closed at closed, command, change, only.spelled)) (good-changed reply good))
 
       in_doubt-at : (g.tells_reads → IsGrown state now new.console.names) → IsAloneInDoubt g old new now → IsAt g new (in_doubt state (graph_of now))
       in_doubt-at grown left = record {
@@ -302,3 +307,4 @@ module _ {D : Type 0} {g : Ghosts D} {old new : SessionView D} {state : State} (
             shows-none state command change,
             leaves-change state after line command change (inr (is_closed at closed, inr (accepted told, reply, graph_of now, changes told, refl))),
           ))
+          (uses-writes state only (change-needs command change) (change-reached at live only change) (inl (is_closed at closed, command, change, only.spelled)) (λ none. none))

@@ -23,6 +23,7 @@ use Rattle.graph_session.specs.State.{State, seen}
 use Rattle.graph_session.specs.declared.health.Health.TheVariants as healths
 use Rattle.graph_session.proofs.Answering.{settles-done}
 use Rattle.graph_session.proofs.Conditions.{NeedsNone, NeedsOne, idle-accepted, reached}
+use Rattle.graph_session.proofs.DiskUse.{uses-same}
 use Rattle.graph_session.proofs.Held.{held}
 use Rattle.graph_session.proofs.States.{not_failed}
 use Rattle.graph_session.proofs.Staying.{Stays, comes-stays}
@@ -64,8 +65,8 @@ stats-one (inr e) = cc
 
 module _ {D : Type 0} {g : Ghosts D} {old new : SessionView D} {state : State} (at : IsAt g old state) (live : old.console.health ≡ healths.Live) where
   -- the counts of the graph that a line sees
-  pub settles-stats : {line : List ℕ} → SpellsOnly line commands.Stats → Stays g old new → (counts : Counts) → counts ≡ counts_in old.console.working old.console.names → Settles g (Whole line) old new state (Counted counts)
-  settles-stats {line = line} only stays counts is =
+  pub settles-stats : {line : List ℕ} → SpellsOnly line commands.Stats → Stays g old new → new.disk ≡ old.disk → (counts : Counts) → counts ≡ counts_in old.console.working old.console.names → Settles g (Whole line) old new state (Counted counts)
+  settles-stats {line = line} only stays same counts is =
       settles-done {line = Whole line} {before = state} (Counted counts) state tt (comes-stays at stays)
       (λ told. (
         idle-accepted state only (λ change. change) (reached state only (inl (not_failed at live)) (λ needs. absurd (stats-none needs)) (λ needs. absurd (stats-one needs))),
@@ -73,3 +74,4 @@ module _ {D : Type 0} {g : Ghosts D} {old new : SessionView D} {state : State} (
         only.spelled,
         (ap Counted (is ∙ counts-seen old.console state (held at live told)), refl),
       ))
+      (uses-same old.disk new.disk stays.beneath.disk same)

@@ -1,5 +1,5 @@
 -- What stands in a draft, and beneath it.
-use Rattle.std.proofs.Common.{false, true, ◌≡◌, ◌⊎◌, ◌∙◌, ◌+◌, ◌≤◌, ℕ, List, [], Contains, length, inl, inr, refl, sym, ap, subst, arith}
+use Rattle.std.proofs.Common.{false, true, ◌≡◌, ◌⊎◌, ◌∙◌, ◌+◌, ◌≤◌, ℕ, List, Contains, length, inl, inr, refl, sym, ap, subst, arith}
 use Rattle.fault_count.specs.Cause.{Rose}
 use Rattle.disk_model.specs.Spans.{AtEachMoment}
 use Rattle.disk_model.specs.declared.disk.Disk.{Ghosts}
@@ -13,15 +13,11 @@ use Rattle.rec_bytes.specs.Format.{most_names}
 use Rattle.rec_bytes.specs.declared.key.Key.{Key}
 use Rattle.rec_bytes.specs.declared.record.Rec.{Rec}
 use Rattle.rec_bytes.specs.declared.shape.Shape.{Shape}
-use Rattle.rec_bytes.specs.Space.{State as Space, laid_over}
-use Rattle.record_file.specs.Records.{record_at}
+use Rattle.rec_bytes.specs.Space.{State as Space}
 use Rattle.record_file.specs.Redone.{Redoes}
-use Rattle.record_file.proofs.Records.{record_at-kept}
-use Rattle.txn_core.specs.Base.{OnlyReadsBase, SameBeneath, committed, content, working}
+use Rattle.txn_core.specs.Base.{SameBeneath}
 use Rattle.txn_core.specs.Kept.{IsOnDisk}
-use Rattle.txn_core.specs.MetaRecords.{with_metas}
 use Rattle.txn_core.specs.Store as store
-use Rattle.txn_core.specs.declared.base.Base.{Base}
 use Rattle.graph_ops.specs.NodeAdding.{IsAddFault, IsFullOfNames, IsFullOfNodes}
 use Rattle.graph_ops.specs.NodeDeleting.{IsDeleteFault}
 use Rattle.graph_ops.specs.Store.{IsStore, graph_in}
@@ -34,6 +30,7 @@ use Rattle.graph_session.specs.declared.answer.Answer.{Answer}
 use Rattle.graph_session.specs.declared.answer.Answer.TheVariants as answers
 use Rattle.graph_session.specs.declared.session.Session.{Session}
 use Rattle.graph_session.proofs.Conditions.{delete-room, names-refused, no_node-refused, node-room, nodes-refused}
+use Rattle.graph_session.proofs.StoreRecords.{committed-beneath}
 use Rattle.graph_session.proofs.Held.{name-room, names-few}
 
 crash-either : {D : Type 0} (g : Ghosts D) (disk other now : D) (a b c d : Key → Rec) → disk ≡ other → a ≡ c → b ≡ d → AtEachMoment g disk now (λ left. Redoes left a ⊎ Redoes left b) → AtEachMoment g other now (λ left. Redoes left c ⊎ Redoes left d)
@@ -42,32 +39,6 @@ crash-either {D = D} g disk other now a b c d same e f h =
     (subst (λ (records : Key → Rec). AtEachMoment g other now (λ left. Redoes left records ⊎ Redoes left b)) e (subst (λ (was : D). AtEachMoment g was now (λ left. Redoes left a ⊎ Redoes left b)) same h))
 
 module _ {D : Type 0} {g : Ghosts D} where
-  -- the disk wasn't called, so the same is committed
-  pub committed-beneath : (old new : Base D g) → SameBeneath old new → committed new ≡ committed old
-  committed-beneath old new same = λ i. laid_over (with_metas (same.metas i).records (record_at (g.reads (same.disk i)))) (same.changed i).pairs
-
-  -- the disk was only read
-  pub records-read : (old new : Base D g) → OnlyReadsBase old new → record_at (content new) ≡ record_at (content old)
-  records-read old new reads = λ i key. record_at-kept key (content old) (content new) reads.disk.keeps i
-
-  pub committed-read : (old new : Base D g) → OnlyReadsBase old new → committed new ≡ committed old
-  committed-read old new reads = λ i. laid_over (with_metas (reads.metas i).records (records-read old new reads i)) (reads.changed i).pairs
-
-  pub working-read : (old new : Base D g) → OnlyReadsBase old new → working new ≡ working old
-  working-read old new reads = λ i. laid_over (committed-read old new reads i) (reads.own i).pairs
-
-  -- the transaction has written the same
-  pub working-beneath : (old new : Base D g) → SameBeneath old new → new.own.pairs ≡ old.own.pairs → working new ≡ working old
-  working-beneath old new same own = λ i. laid_over (committed-beneath old new same i) (own i)
-
-  -- a transaction that has written nothing
-  pub working-none : (b : Base D g) → b.own.pairs ≡ [] → working b ≡ committed b
-  working-none b none = ap (laid_over (committed b)) none
-
-  -- an empty draft
-  pub drafted-none : (session : Session D g) → session.store.draft.pairs ≡ [] → store.drafted session.store ≡ store.working session.store
-  drafted-none session none = ap (laid_over (store.working session.store)) none
-
   stored-same : (disk : D) (a b : Key → Rec) → a ≡ b → IsOnDisk g disk (λ left. Redoes left a) → IsOnDisk g disk (λ left. Redoes left b)
   stored-same disk a b e = subst (λ (records : Key → Rec). IsOnDisk g disk (λ left. Redoes left records)) e
 

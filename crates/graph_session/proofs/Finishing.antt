@@ -6,7 +6,7 @@ use Rattle.disk_model.specs.declared.disk.Disk.{Ghosts}
 use Rattle.stream_io.specs.Lines.{Whole}
 use Rattle.plain_graph.specs.Changes.{Changes, IsChange, Weighs, most_weight}
 use Rattle.plain_graph.specs.Graph.{Graph}
-use Rattle.plain_graph.specs.Reply.{DiskFailed, Faulted}
+use Rattle.plain_graph.specs.Reply.{DiskFailed, Faulted, NoMemory, Reply}
 use Rattle.plain_graph.specs.declared.command.Command.{Command}
 use Rattle.plain_graph.specs.declared.refusal.Refusal.TheVariants as refusals
 use Rattle.rec_bytes.specs.declared.key.Key.{Key}
@@ -19,6 +19,7 @@ use Rattle.graph_ops.specs.Store.{graph_in}
 use Rattle.graph_session.specs.Answer.{Settles}
 use Rattle.graph_session.specs.Answering.{reply_of}
 use Rattle.graph_session.specs.Console.{IsAt, SessionView}
+use Rattle.graph_session.specs.DiskUse.{UsesDisk}
 use Rattle.graph_session.specs.Drafting.{Discards, Drafts, Finishes, HasDraft, HasStore, IsStopped, KeepsDraft, OnlyDrafts, Sees, TellsChange}
 use Rattle.graph_session.specs.Refusals.{IsAccepted, IsReached, NoneHolds, SpellsOnly, names_full, no_node, nodes_full, transaction_full}
 use Rattle.graph_session.specs.Session.{HaveSameDisk, view}
@@ -32,7 +33,8 @@ use Rattle.graph_session.specs.declared.session.Session.{Session}
 use Rattle.graph_session.proofs.Answering.{IsGood, settles-damaged, settles-memory, settles-refused}
 use Rattle.graph_session.proofs.Changes.{Keeps, change-reached, settles-change_fault, settles-kept}
 use Rattle.graph_session.proofs.Conditions.{Fails, heavy-refused, weight-light}
-use Rattle.graph_session.proofs.Drafts.{committed-beneath, committed-read, drafted-none, working-beneath, working-read}
+use Rattle.graph_session.proofs.DiskUse.{change-needs, uses-reads}
+use Rattle.graph_session.proofs.StoreRecords.{committed-beneath, committed-read, drafted-none, working-beneath, working-read}
 use Rattle.graph_session.proofs.Held.{held, names-working, seen_open, take-brought}
 use Rattle.graph_session.proofs.Spelling.{change-spared, spared-only}
 use Rattle.graph_session.proofs.States.{is_open}
@@ -58,14 +60,23 @@ module _ {D : Type 0} {g : Ghosts D} where
   module _ (old : Session D g) {state : State} (at : IsAt g (view old) state) (live : old.health ≡ healths.Live) (told : g.tells_reads) where
     pub has-store : HasStore old
     has-store =
-        let none : drafted old.store ≡ working old.store = drafted-none old at.no_draft in
+        let none : drafted old.store ≡ working old.store = drafted-none old.store at.no_draft in
         record {
           store = subst (λ (shape : Shape). IsNodeStore (drafted old.store) shape) at.shape (subst (λ (records : Key → Rec). IsNodeStore records state.shape) (sym none) (held at live told).working);
           names = names-working at live told ∙ ap names_of (sym none);
         }
 
     pub has-sees : Sees (state_of old.store) state
-    has-sees = record { shape = at.shape; graph = sym (held at live told).working_graph ∙ ap graph_of (sym (drafted-none old at.no_draft)) }
+    has-sees = record { shape = at.shape; graph = sym (held at live told).working_graph ∙ ap graph_of (sym (drafted-none old.store at.no_draft)) }
+
+  -- a change that was not made
+  module _ {old new : SessionView D} {state : State} (at : IsAt g old state) (live : old.console.health ≡ healths.Live) {line : List ℕ} {command : Command} (spelled : SpellsOnly line command)
+      (change : IsChange command) (stays : Stays g old new) where
+    pub unmade-uses : {reply : Reply} → UsesDisk g (Whole line) state reply old.disk new.disk
+    unmade-uses = uses-reads state spelled (change-needs command change) (change-reached at live spelled change) stays.beneath.disk
+
+    pub unmade-memory : Settles g (Whole line) old new state (Faulted [] NoMemory)
+    unmade-memory = settles-memory at stays (λ spares. change-spared command change (spared-only spelled spares)) unmade-uses
 
   -- no change was drafted
   module _ {old new : SessionView D} {state : State} (at : IsAt g old state) (live : old.console.health ≡ healths.Live) {line : List ℕ} {command : Command} (spelled : SpellsOnly line command)
@@ -77,10 +88,12 @@ module _ {D : Type 0} {g : Ghosts D} where
     settles-stopped (answers.Counted counts) stopped stays fault = absurd stopped
     settles-stopped (answers.Refused why) stopped stays fault =
         settles-refused at (stays (λ e. cc)) why (λ told. stopped told (has told) state line spelled (sees told) (change-reached at live spelled change))
-    settles-stopped answers.NoMemory stopped stays fault = settles-memory at (stays (λ e. cc)) (λ spares. change-spared command change (spared-only spelled spares))
+        (unmade-uses at live spelled change (stays (λ e. cc)))
+    settles-stopped answers.NoMemory stopped stays fault = unmade-memory at live spelled change (stays (λ e. cc))
     settles-stopped answers.DiskFailed stopped stays fault = fault refl stopped
     settles-stopped (answers.Damaged damage) stopped stays fault =
         settles-damaged damage.file damage.id state (comes-stays at (stays (λ e. cc))) (λ told. stopped told (has told))
+        (unmade-uses at live spelled change (stays (λ e. cc)))
 
   -- a change in the open transaction
   module _ {old mid : Session D g} (new : Session D g) (live : old.health ≡ healths.Live) (opened : old.store.base.in_transaction ≡ true) (only : OnlyDrafts old mid) where
@@ -132,6 +145,7 @@ module _ {D : Type 0} {g : Ghosts D} where
           (λ told.
           heavy-refused state spelled ((has-draft told).free state line spelled (has-sees old at live told)) (change-reached at live spelled change) transaction is made.weight (weighs-it told)
           (let a = at.weight transaction is in let b = only.weight in omega (arith, a, b, more)))
+          (unmade-uses at live spelled change stays)
 
       settles-made : TellsChange made.answer → KeepsDraft made.weight mid new → Settles g (Whole line) (view old) (view new) state (reply_of made.answer)
       settles-made tells kept =
@@ -182,7 +196,7 @@ module _ {D : Type 0} {g : Ghosts D} where
       settles-finish (Ok made) answer drafts (inr (inr told_so, drops)) = record {
         settles = λ line state spelled served at.
             subst (λ (a : Answer). Settles g (Whole line) (view old) (view new) state (reply_of a)) (sym told_so)
-            (settles-memory at (stays-discarded count counts drops) (λ spares. change-spared command change (spared-only spelled spares)));
+            (unmade-memory at live spelled change (stays-discarded count counts drops));
         onward = record { disk_later = later-on new.store.base.disk.now drops.beneath.disk };
       }
       settles-finish (Err why) answer drafts (told_so, drops) = record {

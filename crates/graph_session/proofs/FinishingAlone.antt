@@ -1,5 +1,5 @@
 -- A change that is a transaction by itself, from its draft to its reply.
-use Rattle.std.proofs.Common.{◌≡◌, ◌⊎◌, ◌∙◌, ◌≤◌, ℕ, false, Ok, Err, Result, List, [], ◌∷◌, ◌++◌, length, take, inl, inr, true≢false, refl, sym, ap, subst, arith}
+use Rattle.std.proofs.Common.{◌≡◌, ◌⊎◌, ◌∙◌, ◌≤◌, ℕ, false, Ok, Err, Result, List, [], ◌++◌, length, take, inl, inr, true≢false, refl, sym, ap, subst, arith}
 use Rattle.fault_count.specs.Cause.{Rose}
 use Rattle.disk_model.specs.Spans.{AtEachMoment, OnlyReads}
 use Rattle.disk_model.specs.declared.disk.Disk.{Ghosts}
@@ -7,7 +7,6 @@ use Rattle.stream_io.specs.Lines.{Whole}
 use Rattle.plain_graph.specs.Changes.{Changes, IsChange}
 use Rattle.plain_graph.specs.Graph.{Graph}
 use Rattle.plain_graph.specs.declared.command.Command.{Command}
-use Rattle.rec_bytes.specs.Pairs.{Pairs}
 use Rattle.rec_bytes.specs.declared.key.Key.{Key}
 use Rattle.rec_bytes.specs.declared.record.Rec.{Rec}
 use Rattle.rec_bytes.specs.declared.shape.Shape.{Shape}
@@ -29,27 +28,21 @@ use Rattle.graph_session.specs.declared.answer.Answer.TheVariants as answers
 use Rattle.graph_session.specs.declared.changing.Drafted.{Drafted}
 use Rattle.graph_session.specs.declared.health.Health.TheVariants as healths
 use Rattle.graph_session.specs.declared.session.Session.{Session}
-use Rattle.graph_session.proofs.Answering.{settles-memory}
 use Rattle.graph_session.proofs.Changes.{CommitsAlone, CommitsFrom, FailsAlone, IsAloneInDoubt, change-reached, settles-alone, settles-alone_fault, settles-alone_read_fault}
 use Rattle.graph_session.proofs.Conditions.{alone-light}
-use Rattle.graph_session.proofs.Drafts.{committed-beneath, committed-read, drafted-none, stored-either, working-none}
-use Rattle.graph_session.proofs.Finishing.{accepted-change, settles-stopped, tells-good}
+use Rattle.graph_session.proofs.Drafts.{stored-either}
+use Rattle.graph_session.proofs.StoreRecords.{committed-beneath, committed-read, drafted-none, length-none, working-none}
+use Rattle.graph_session.proofs.Finishing.{accepted-change, settles-stopped, tells-good, unmade-memory}
 use Rattle.graph_session.proofs.Held.{held, seen_closed, take-brought}
-use Rattle.graph_session.proofs.Spelling.{change-spared, spared-only}
 use Rattle.graph_session.proofs.States.{is_closed}
 use Rattle.graph_session.proofs.Staying.{Stays}
 use Rattle.graph_session.proofs.Streams.{Rose-from}
-
--- a list of no elements
-no_pairs : (pairs : Pairs) → length pairs ≡ 0 → pairs ≡ []
-no_pairs [] e = refl
-no_pairs (pair ∷ rest) e = cc
 
 module _ {D : Type 0} {g : Ghosts D} {begun mid : Session D g} (old new : Session D g) (live : old.health ≡ healths.Live) (closed : old.store.base.in_transaction ≡ false) (idle : length old.store.base.own.pairs ≡ 0)
     (same : SameBeneath old.store.base begun.store.base) (own : begun.store.base.own.pairs ≡ []) (draft : begun.store.draft.pairs ≡ []) (names : begun.names.names ≡ old.names.names) (health : begun.health ≡ old.health)
     (only : OnlyDrafts begun mid) where
   drafted-begun : drafted begun.store ≡ committed old.store
-  drafted-begun = drafted-none begun draft ∙ working-none begun.store.base own ∙ committed-beneath old.store.base begun.store.base same
+  drafted-begun = drafted-none begun.store draft ∙ working-none begun.store.base own ∙ committed-beneath old.store.base begun.store.base same
 
   committed-mid : committed mid.store ≡ committed old.store
   committed-mid = committed-read begun.store.base mid.store.base only.base ∙ committed-beneath old.store.base begun.store.base same
@@ -104,7 +97,7 @@ module _ {D : Type 0} {g : Ghosts D} {begun mid : Session D g} (old new : Sessio
       is_open = drops.closes.in_transaction ∙ sym closed;
       weight = λ is. absurd (true≢false (sym is ∙ closed));
       names = names-dropped;
-      working = λ told. working-none new.store.base drops.closes.own ∙ committed-dropped ∙ sym (working-none old.store.base (no_pairs old.store.base.own.pairs idle));
+      working = λ told. working-none new.store.base drops.closes.own ∙ committed-dropped ∙ sym (working-none old.store.base (length-none old.store.base.own.pairs idle));
     }
 
     fails-dropped : answer ≡ answers.DiskFailed → FailsAlone g (view old) (view new)
@@ -203,8 +196,7 @@ module _ {D : Type 0} {g : Ghosts D} {begun mid : Session D g} (old new : Sessio
     settles-finish_alone (Ok made) answer drafts (inr (is, drops)) = record {
       settles = λ line state spelled served at.
           subst (λ (a : Answer). Settles g (Whole line) (view old) (view new) state (reply_of a)) (sym is)
-          (settles-memory at (stays-dropped count counts answer drops (λ failed. let clash : answers.NoMemory ≡ answers.DiskFailed = sym is ∙ failed in cc))
-          (λ spares. change-spared command change (spared-only spelled spares)));
+          (unmade-memory at live spelled change (stays-dropped count counts answer drops (λ failed. let clash : answers.NoMemory ≡ answers.DiskFailed = sym is ∙ failed in cc)));
       onward = record { disk_later = later-dropped count counts answer drops };
     }
     settles-finish_alone (Err why) answer drafts (is, drops) = record {

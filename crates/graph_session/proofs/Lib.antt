@@ -4,6 +4,7 @@ pub mod Beginnings
 pub mod Changes
 pub mod Conditions
 pub mod Counts
+pub mod DiskUse
 pub mod Dispatch
 pub mod Drafts
 pub mod Finishing
@@ -20,6 +21,7 @@ pub mod Stands
 pub mod States
 pub mod Staying
 pub mod Storage
+pub mod StoreRecords
 pub mod Streams
 pub mod Transactions
 pub mod Walks

@@ -13,9 +13,9 @@ use Rattle.plain_graph.specs.declared.item.Item.TheVariants as items
 use Rattle.plain_graph.specs.declared.query.Query.{Query}
 use Rattle.rec_bytes.specs.Format.{nodes_file}
 use Rattle.rec_bytes.specs.declared.space.Reads.{Ghosts as SpaceGhosts}
-use Rattle.node_store.specs.declared.row_fault.RowFault.{RowFault}
-use Rattle.node_store.specs.declared.row_fault.RowFault.TheVariants as rows
-use Rattle.node_store.specs.RowFault.{NotDamaged}
+use Rattle.rec_bytes.specs.declared.row_fault.RowFault.{RowFault}
+use Rattle.rec_bytes.specs.declared.row_fault.RowFault.TheVariants as rows
+use Rattle.rec_bytes.specs.RowFault.{NotDamaged}
 use Rattle.store_rules.specs.Graph.{graph_of, node_of}
 use Rattle.store_rules.specs.Rules.{IsNodeStore}
 use Rattle.store_rules.specs.Views.{Records, high}

@@ -1,5 +1,5 @@
 -- What the store's calls leave of a session, as its lines are settled.
-use Rattle.std.proofs.Common.{◌≡◌, ◌⊎◌, ◌∙◌, ℕ, ◌≤◌, true, false, List, [], ◌∷◌, length, take, inl, inr, refl, sym, ap, subst, arith}
+use Rattle.std.proofs.Common.{◌≡◌, ◌⊎◌, ◌∙◌, ℕ, ◌≤◌, true, false, List, [], length, take, inl, inr, refl, sym, ap, subst, arith}
 use Rattle.fault_count.specs.Cause.{Rose}
 use Rattle.disk_model.specs.Spans.{AtEachMoment, OnlyReads}
 use Rattle.disk_model.specs.declared.disk.Disk.{Ghosts}
@@ -10,34 +10,30 @@ use Rattle.plain_graph.specs.declared.counts.Counts.{Counts}
 use Rattle.plain_graph.specs.declared.refusal.Refusal.TheVariants as refusals
 use Rattle.rec_bytes.specs.Format.{names_file, nodes_file}
 use Rattle.rec_bytes.specs.Pairs.{Held}
-use Rattle.rec_bytes.specs.Space.{laid_over, meta_in, meta_of}
+use Rattle.rec_bytes.specs.Space.{meta_in, meta_of}
 use Rattle.rec_bytes.specs.declared.key.Key.{Key}
 use Rattle.rec_bytes.specs.declared.meta.Meta.{Meta}
 use Rattle.rec_bytes.specs.declared.record.Rec.{Rec}
-use Rattle.rec_bytes.proofs.Spaces.{laid_over-none}
-use Rattle.record_file.specs.Records.{record_at}
 use Rattle.record_file.specs.Redone.{Redoes}
 use Rattle.store_rules.specs.Views.{high}
 use Rattle.txn_core.specs.Base.{SameBeneath, SameStore}
-use Rattle.txn_core.specs.Base as base
 use Rattle.txn_core.specs.Kept.{IsOnDisk}
-use Rattle.txn_core.specs.MetaRecords.{with_metas}
 use Rattle.txn_core.specs.Outcomes.{HasFailed, IsCheckpointed, IsInDoubt, IsWritten}
-use Rattle.txn_core.specs.Store.{committed, drafted, state_of, working}
-use Rattle.txn_core.specs.declared.base.Base.{Base}
+use Rattle.txn_core.specs.Store.{committed, state_of, working}
 use Rattle.txn_core.specs.declared.store.Store.{Store}
 use Rattle.graph_session.specs.Console.{SessionView}
 use Rattle.graph_session.specs.Settling.{SettlesCommand}
 use Rattle.graph_session.specs.declared.health.Health.{Health}
 use Rattle.graph_session.specs.declared.health.Health.TheVariants as healths
 use Rattle.graph_session.proofs.Answering.{settles-refused_at_once}
-use Rattle.graph_session.proofs.Conditions.{NeedsNone, closed-refused, open-refused}
+use Rattle.graph_session.proofs.Conditions.{closed-refused, open-refused}
 use Rattle.graph_session.proofs.Counts.{settles-stats}
 use Rattle.graph_session.proofs.Stands.{IsStored}
 use Rattle.graph_session.proofs.States.{is_open, not_failed, not_open}
 use Rattle.graph_session.proofs.Staying.{KeepsBeneath, stays-none}
+use Rattle.graph_session.proofs.StoreRecords.{committed-beneath, drafted-none, length-none, working-none}
 use Rattle.graph_session.proofs.Storage.{settles-checkpoint, settles-checkpoint_fault}
-use Rattle.graph_session.proofs.Transactions.{Ends, settles-begin, settles-commit, settles-commit_fault, settles-rollback}
+use Rattle.graph_session.proofs.Transactions.{Ends, commit-open, rollback-open, settles-begin, settles-commit, settles-commit_fault, settles-rollback}
 
 -- a session's view, from its parts
 abbrev pub seen_as : {D : Type 0} {g : Ghosts D} → Store D g → Health → ℕ → List (List ℕ) → SessionView D
@@ -56,36 +52,10 @@ seen_as store health weight names = record {
   disk = store.base.disk.now;
 }
 
-pub length-none : {X : Type 0} (xs : List X) → length xs ≡ 0 → xs ≡ []
-length-none [] none = refl
-length-none (x ∷ xs) none = absurd (omega (arith, none))
-
-begin-one : ¬ NeedsNone commands.Commit
-begin-one (inl e) = cc
-begin-one (inr (inl e)) = cc
-begin-one (inr (inr e)) = cc
-
-rollback-one : ¬ NeedsNone commands.Rollback
-rollback-one (inl e) = cc
-rollback-one (inr (inl e)) = cc
-rollback-one (inr (inr e)) = cc
-
 abbrev counts_so : ℕ → ℕ → Counts
 counts_so nodes names = record { nodes = nodes; edges = 0; properties = 0; blocks = 0; names = names }
 
 module _ {D : Type 0} {g : Ghosts D} where
-  -- the disk wasn't called, so the same is committed
-  committed-beneath : (old new : Base D g) → SameBeneath old new → base.committed new ≡ base.committed old
-  committed-beneath old new same = λ i. laid_over (with_metas (same.metas i).records (record_at (g.reads (same.disk i)))) (same.changed i).pairs
-
-  -- a transaction that has written nothing
-  pub working-none : (s : Store D g) → s.base.own.pairs ≡ [] → working s ≡ committed s
-  working-none s none = ap (laid_over (committed s)) none ∙ laid_over-none (committed s)
-
-  -- an empty draft
-  pub drafted-none : (s : Store D g) → s.draft.pairs ≡ [] → drafted s ≡ working s
-  drafted-none s none = ap (laid_over (working s)) none ∙ laid_over-none (working s)
-
   stored-one : (disk : D) (space : Key → Rec) → IsOnDisk g disk (λ left. Redoes left space) → IsStored g disk (λ left. Redoes left space)
   stored-one disk space stored = record { read = stored.read; images = λ told image left. stored.images told.0 told.1 image left }
 
@@ -111,14 +81,14 @@ module _ {D : Type 0} {g : Ghosts D} where
     pub refused-commit : old.console.is_open ≡ false → SettlesCommand g commands.Commit old old (Refused refusals.NoTransaction)
     refused-commit closed = record {
       settles = λ line state only served at.
-          settles-refused_at_once only_now at refusals.NoTransaction (λ told. closed-refused state only (inl (not_failed at live)) (inl refl) begin-one (not_open at closed));
+          settles-refused_at_once only_now at refusals.NoTransaction (λ told. closed-refused state only (inl (not_failed at live)) (inl refl) commit-open (not_open at closed));
       onward = record { disk_later = omega arith };
     }
 
     pub refused-rollback : old.console.is_open ≡ false → SettlesCommand g commands.Rollback old old (Refused refusals.NoTransaction)
     refused-rollback closed = record {
       settles = λ line state only served at.
-          settles-refused_at_once only_now at refusals.NoTransaction (λ told. closed-refused state only (inl (not_failed at live)) (inr refl) rollback-one (not_open at closed));
+          settles-refused_at_once only_now at refusals.NoTransaction (λ told. closed-refused state only (inl (not_failed at live)) (inr refl) rollback-open (not_open at closed));
       onward = record { disk_later = omega arith };
     }
 
@@ -149,11 +119,12 @@ module _ {D : Type 0} {g : Ghosts D} where
         settles = λ line state only served at.
             settles-begin at live only closed (record {
               beneath = beneath health health weight 6 names names;
+              same_disk = same.disk;
               health = refl;
               is_open = opened;
               weight = refl;
               names = refl;
-              working = λ told. working-none t own ∙ committed-beneath s.base t.base same;
+              working = λ told. working-none t.base own ∙ committed-beneath s.base t.base same;
             });
         onward = record { disk_later = later };
       }
@@ -165,10 +136,11 @@ module _ {D : Type 0} {g : Ghosts D} where
         settles = λ line state only served at.
             settles-rollback at live only opened (record {
               beneath = beneath health health weight weight names named;
+              same_disk = same.disk;
               health = refl;
               is_open = closed;
-              names = cut ∙ ap (λ (m : Meta). take m.high names) is ∙ ap (λ (records : Key → Rec). take (high records names_file) names) (drafted-none t draft ∙ working-none t own);
-              working = λ told. working-none t own ∙ committed-beneath s.base t.base same;
+              names = cut ∙ ap (λ (m : Meta). take m.high names) is ∙ ap (λ (records : Key → Rec). take (high records names_file) names) (drafted-none t draft ∙ working-none t.base own);
+              working = λ told. working-none t.base own ∙ committed-beneath s.base t.base same;
             });
         onward = record { disk_later = later };
       }
@@ -191,7 +163,7 @@ module _ {D : Type 0} {g : Ghosts D} where
               live = written.live;
               names = refl;
               committed = written.space;
-              working = λ told. working-none t own;
+              working = λ told. working-none t.base own;
               stored = stored-one t.base.disk.now (working s) written.stored;
             });
         onward = record { disk_later = later_on };
@@ -228,7 +200,7 @@ module _ {D : Type 0} {g : Ghosts D} where
             live = done.live;
             names = refl;
             committed = done.space;
-            working = λ told. working-none t (ap (λ (held : Held). held.pairs) own ∙ length-none s.base.own.pairs none);
+            working = λ told. working-none t.base (ap (λ (held : Held). held.pairs) own ∙ length-none s.base.own.pairs none);
             stored = stored-one t.base.disk.now (committed s) done.stored;
           });
       onward = record { disk_later = later_on };
@@ -253,7 +225,7 @@ module _ {D : Type 0} {g : Ghosts D} where
       → SettlesCommand g commands.Stats (seen_as s health weight names) (seen_as s health weight names) (Counted (record { nodes = meta.live; edges = 0; properties = 0; blocks = 0; names = count }))
   counted only_now s health live weight names meta count is all = record {
     settles = λ line state only served at.
-        settles-stats at live only (stays-none only_now (seen_as s health weight names) at.no_draft) (counts_so meta.live count)
+        settles-stats at live only (stays-none only_now (seen_as s health weight names) at.no_draft) refl (counts_so meta.live count)
         (ap (λ (m : Meta). counts_so m.live count) is ∙ ap (λ (records : Key → Rec). counts_so (meta_in records nodes_file).live count) (drafted-none s at.no_draft) ∙ ap (λ (n : ℕ). counts_so (meta_in (working s) nodes_file).live n) all);
     onward = record { disk_later = omega arith };
   }

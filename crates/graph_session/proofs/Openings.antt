@@ -1,10 +1,10 @@
 -- What the opening of a session leaves: contents from before, or contents that stand for the graph that it begins with.
-use Rattle.std.proofs.Common.{◌≡◌, ◌⊎◌, ◌∙◌, inl, inr, refl, sym, subst}
+use Rattle.std.proofs.Common.{◌≡◌, ◌⊎◌, inl, inr, sym, subst}
 use Rattle.disk_model.specs.Contents.{Files}
 use Rattle.disk_model.specs.Spans.{AtEachMoment}
 use Rattle.disk_model.specs.declared.disk.Disk.{Ghosts}
 use Rattle.disk_model.proofs.Spans.{at_each_moment_weaker}
-use Rattle.plain_graph.specs.Graph.{Graph, empty_graph}
+use Rattle.plain_graph.specs.Graph.{Graph}
 use Rattle.rec_bytes.specs.declared.key.Key.{Key}
 use Rattle.rec_bytes.specs.declared.record.Rec.{Rec}
 use Rattle.rec_bytes.specs.declared.shape.Shape.{Shape}

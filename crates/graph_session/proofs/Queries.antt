@@ -16,8 +16,8 @@ use Rattle.plain_graph.specs.declared.query.Query.{Query}
 use Rattle.plain_graph.specs.declared.query.Step.{Step}
 use Rattle.plain_graph.specs.declared.query.Step.TheVariants as steps
 use Rattle.rec_bytes.specs.declared.space.Reads.{Ghosts as SpaceGhosts}
-use Rattle.node_store.specs.declared.row_fault.RowFault.{RowFault}
-use Rattle.node_store.specs.declared.row_fault.RowFault.TheVariants as rows
+use Rattle.rec_bytes.specs.declared.row_fault.RowFault.{RowFault}
+use Rattle.rec_bytes.specs.declared.row_fault.RowFault.TheVariants as rows
 use Rattle.store_rules.specs.Graph.{graph_of}
 use Rattle.store_rules.specs.Rules.{IsNodeStore}
 use Rattle.graph_session.specs.Answer.{Gives, Settles}
@@ -30,6 +30,7 @@ use Rattle.graph_session.specs.declared.health.Health.TheVariants as healths
 use Rattle.graph_session.specs.declared.turn.Turn.{Turn}
 use Rattle.graph_session.proofs.Answering.{settles-done, settles-fault, settles-given}
 use Rattle.graph_session.proofs.Conditions.{NeedsNone, NeedsOne, idle-accepted, reached}
+use Rattle.graph_session.proofs.DiskUse.{uses-reads}
 use Rattle.graph_session.proofs.Held.{held}
 use Rattle.graph_session.proofs.ListedLines.{IsSound, fault-form, fault-means, fault-told}
 use Rattle.graph_session.proofs.States.{not_failed}
@@ -108,13 +109,16 @@ module _ {D : Type 0} {g : DiskGhosts D} {old new : SessionView D} {state : Stat
   settles-query (Results results) form rose means =
       settles-done {line = Whole line} {before = state} (Results results) state tt (comes-stays at stays)
       (λ told. (idle-accepted state only (λ change. change) query-reached, commands.Query query, only.spelled, (ap Results (means told), refl)))
+      (uses-reads state only tt query-reached stays.beneath.disk)
   settles-query (Counted counts) form rose means = absurd form
   settles-query (Faulted results NoMemory) form rose means = absurd form
   settles-query (Faulted results DiskFailed) form rose means =
       settles-fault {line = Whole line} {before = state} (Faulted results DiskFailed) state (comes-stays at stays) (rose (λ e. absurd (omega (arith, e))))
       (λ told. (refl, query-reached, commands.Query query, only.spelled, means told, refl))
+      (uses-reads state only tt query-reached stays.beneath.disk)
   settles-query (Faulted results (DamagedRecord file id)) form rose means =
       settles-given {line = Whole line} {before = state} (Faulted results (DamagedRecord file id)) state (comes-stays at stays) refl (λ told. absurd (means told))
+      (uses-reads state only tt query-reached stays.beneath.disk)
   settles-query (Refused why) form rose means = absurd form
 
   -- the reply that was given over the records of the session

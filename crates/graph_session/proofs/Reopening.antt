@@ -1,6 +1,5 @@
 -- A store that is found again, and its names.
-use Rattle.std.proofs.Common.{◌≡◌, ◌⊎◌, ◌∙◌, ℕ, zero, suc, ◌≤◌, Bool, false, Some, is_some, if◌then◌else◌, List, [], ◌∷◌, length, refl, sym, ap, subst, arith}
-use Rattle.std.proofs.lemmas.Bool.{true≢false}
+use Rattle.std.proofs.Common.{◌≡◌, ◌⊎◌, ◌∙◌, ℕ, ◌≤◌, false, List, [], length, refl, sym, ap, subst, arith}
 use Rattle.fault_count.specs.Cause.{Rose}
 use Rattle.disk_model.specs.Spans.{AtEachMoment}
 use Rattle.disk_model.specs.declared.disk.Disk.{Ghosts}
@@ -8,22 +7,17 @@ use Rattle.disk_model.proofs.Spans.{CountsNow}
 use Rattle.plain_graph.specs.Graph.{Graph}
 use Rattle.plain_graph.specs.Reply.{DamagedRecord, DiskFailed, Faulted}
 use Rattle.plain_graph.specs.declared.command.Command.TheVariants as commands
-use Rattle.rec_bytes.specs.Pairs.{Held, Pairs, find_pair}
-use Rattle.rec_bytes.specs.Space as spaces
-use Rattle.rec_bytes.specs.Space.{after_gets, laid_over}
+use Rattle.rec_bytes.specs.Pairs.{Held}
 use Rattle.rec_bytes.specs.declared.key.Key.{Key}
 use Rattle.rec_bytes.specs.declared.record.Rec.{Rec}
 use Rattle.rec_bytes.specs.declared.shape.Shape.{Shape}
-use Rattle.rec_bytes.proofs.KeyLaws.{key_eq-same}
-use Rattle.record_file.specs.Records.{record_at}
 use Rattle.record_file.specs.Redone.{Redoes}
 use Rattle.record_file.proofs.Redone.{Redoes-kept}
 use Rattle.recovery.specs.Finding as finding
 use Rattle.store_rules.specs.Graph.{names_of}
 use Rattle.txn_core.specs.Again.{IsRecovered}
 use Rattle.txn_core.specs.Base.{OnlyReadsBase, SameStore}
-use Rattle.txn_core.specs.MetaRecords.{with_metas}
-use Rattle.txn_core.specs.Store.{committed, content, drafted, state_of}
+use Rattle.txn_core.specs.Store.{content, drafted}
 use Rattle.txn_core.specs.declared.store.Store.{Store}
 use Rattle.graph_session.specs.Answering.{reply_of}
 use Rattle.graph_session.specs.Console.{BeginWith, IsAt}
@@ -35,33 +29,13 @@ use Rattle.graph_session.specs.declared.answer.Answer.TheVariants as answers
 use Rattle.graph_session.specs.declared.health.Health.{Health}
 use Rattle.graph_session.specs.declared.health.Health.TheVariants as healths
 use Rattle.graph_session.proofs.Known.{known-admitted}
-use Rattle.graph_session.proofs.Moves.{drafted-none, length-none, seen_as, working-none}
+use Rattle.graph_session.proofs.Moves.{seen_as}
+use Rattle.graph_session.proofs.StoreRecords.{committed-read, drafted-none, length-none, working-none}
+use Rattle.graph_session.proofs.Streams.{Rose-from}
 use Rattle.graph_session.proofs.Storage.{IsFound, IsLost, LeavesSame, leaves-same_read, settles-reopen, settles-reopen_damaged, settles-reopen_fault}
 use Rattle.graph_session.proofs.Transactions.{Ends}
 
--- reads write no key
-written-gets : (n : ℕ) (s : spaces.State) → (after_gets n s).written ≡ s.written
-unfolding after_gets
-written-gets zero s = refl
-written-gets (suc n) s = written-gets n s
-
-pub none-found : (pairs : Pairs) → ((key : Key) → is_some (find_pair pairs key) ≡ false) → pairs ≡ []
-none-found [] none = refl
-none-found (pair ∷ rest) none = absurd (true≢false (ap (λ (b : Bool). is_some (if b then Some pair.1 else find_pair rest pair.0)) (sym (key_eq-same pair.0)) ∙ none pair.0))
-
 module _ {D : Type 0} {g : Ghosts D} where
-  -- after calls that only read the draft is empty yet
-  pub draft-read : (t u : Store D g) (count : ℕ) → state_of u ≡ after_gets count (state_of t) → t.draft.pairs ≡ [] → u.draft.pairs ≡ []
-  draft-read t u count is none =
-      let written : (state_of u).written ≡ (state_of t).written = ap (λ (s : spaces.State). s.written) is ∙ written-gets count (state_of t) in
-      none-found u.draft.pairs (λ key. ap (λ (keys : Key → Bool). keys key) written ∙ ap (λ (pairs : Pairs). is_some (find_pair pairs key)) none)
-
-  same-content : (t u : Store D g) → OnlyReadsBase t.base u.base → content u ≡ content t
-  same-content t u reads = λ i file place. reads.disk.keeps file place i
-
-  same-committed : (t u : Store D g) → OnlyReadsBase t.base u.base → committed u ≡ committed t
-  same-committed t u reads = λ i. laid_over (with_metas (reads.metas i).records (record_at (same-content t u reads i))) (reads.changed i).pairs
-
   module _ (counts : CountsNow g) (s t : Store D g) (same : SameStore s.base t.base) (was_closed : s.base.in_transaction ≡ false) (closed : t.base.in_transaction ≡ false) (draft : t.draft.pairs ≡ [])
       (later_on : g.faults s.base.disk.now ≤ g.faults t.base.disk.now)
       (crash : g.tells_reads → g.tells_images → (space : Key → Rec) → Redoes (content s) space → AtEachMoment g s.base.disk.now t.base.disk.now (λ left. g.may_leave s.base.disk.now left ⊎ Redoes left space))
@@ -80,7 +54,7 @@ module _ {D : Type 0} {g : Ghosts D} where
     pub lost_damaged : (file id : ℕ) → (g.tells_reads → (space : Key → Rec) → Redoes (content s) space → finding.IsMade space s.base.shape → ⊥)
         → SettlesCommand g commands.Reopen (seen_as s health weight names) (seen_as t healths.Failed weight names) (Faulted [] (DamagedRecord file id))
     lost_damaged file id sound = record {
-      settles = λ line state only served at. settles-reopen_damaged counts at was_closed file id leaves lost-at_once (λ told. none at told);
+      settles = λ line state only served at. settles-reopen_damaged counts at was_closed only file id leaves lost-at_once (λ told. none at told);
       onward = record { disk_later = later_on };
     }
       where
@@ -105,7 +79,7 @@ module _ {D : Type 0} {g : Ghosts D} where
 
       -- the records that are served are those that what was read redoes to
       drafted-space : g.tells_reads → (space : Key → Rec) → Redoes (content s) space → drafted t ≡ space
-      drafted-space told space redoes = drafted-none t draft ∙ working-none t no_own-now ∙ recovered.space told space redoes
+      drafted-space told space redoes = drafted-none t draft ∙ working-none t.base no_own-now ∙ recovered.space told space redoes
 
       far : g.faults s.base.disk.now ≤ g.faults u.base.disk.now
       far = omega (arith, later_on, later_still)
@@ -116,10 +90,10 @@ module _ {D : Type 0} {g : Ghosts D} where
         health = is.live;
         live = reads.live ∙ recovered.live;
         names = λ told space redoes. is.named told ∙ ap names_of (drafted-space told space redoes);
-        committed = λ told space redoes. same-committed t u reads ∙ recovered.space told space redoes;
-        working = λ told. working-none u (ap (λ (held : Held). held.pairs) reads.own ∙ no_own-now);
+        committed = λ told space redoes. committed-read t.base u.base reads ∙ recovered.space told space redoes;
+        working = λ told. working-none u.base (ap (λ (held : Held). held.pairs) reads.own ∙ no_own-now);
         read = read_on;
-        images = λ told image left. subst (λ (space : Key → Rec). Redoes image space) (sym (same-committed t u reads)) (recovered.stored.images told.0 told.1 image (reads.disk.crash told.1 image left));
+        images = λ told image left. subst (λ (space : Key → Rec). Redoes image space) (sym (committed-read t.base u.base reads)) (recovered.stored.images told.0 told.1 image (reads.disk.crash told.1 image left));
       }
 
       lost : (healthier : Health) (weigher : ℕ) (named : List (List ℕ)) → IsUnnamed names named healthier → IsLost g (seen_as s health weight names) (seen_as u healthier weigher named)
@@ -145,14 +119,11 @@ module _ {D : Type 0} {g : Ghosts D} where
       named_again healthier weigher named (answers.Refused why) takes = absurd takes
       named_again healthier weigher named answers.NoMemory takes = absurd takes
       named_again healthier weigher named answers.DiskFailed takes = record {
-        settles = λ line state only served at. settles-reopen_fault counts at was_closed only leaves_all (lost healthier weigher named takes.0) (rose-on later_on takes.1);
+        settles = λ line state only served at. settles-reopen_fault counts at was_closed only leaves_all (lost healthier weigher named takes.0) (Rose-from (g.faults s.base.disk.now) (g.faults t.base.disk.now) (g.faults u.base.disk.now) later_on takes.1);
         onward = record { disk_later = far };
       }
-        where
-          rose-on : {before mid now : ℕ} → before ≤ mid → Rose mid now → Rose before now
-          rose-on on rose = omega (arith, on, rose)
       named_again healthier weigher named (answers.Damaged damage) takes = record {
         settles = λ line state only served at.
-            settles-reopen_damaged counts at was_closed damage.file damage.id leaves_all (lost healthier weigher named takes.0) (λ told. takes.1 told (names-begin at told));
+            settles-reopen_damaged counts at was_closed only damage.file damage.id leaves_all (lost healthier weigher named takes.0) (λ told. takes.1 told (names-begin at told));
         onward = record { disk_later = far };
       }

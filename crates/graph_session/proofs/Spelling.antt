@@ -15,7 +15,9 @@ IsMute command = (command ≡ commands.Blank) ⊎ (command ≡ commands.Quit)
 -- these never lack memory
 abbrev pub IsSpared : Command → Type 0
 IsSpared command =
-    (command ≡ commands.Begin) ⊎ (command ≡ commands.Commit) ⊎ (command ≡ commands.Rollback) ⊎ (command ≡ commands.Checkpoint) ⊎ (command ≡ commands.Reopen) ⊎ IsMute command
+    (command ≡ commands.Begin) ⊎ (command ≡ commands.Commit) ⊎ (command ≡ commands.Rollback)
+    ⊎ (command ≡ commands.Checkpoint) ⊎ (command ≡ commands.Reopen) ⊎ (command ≡ commands.Stats)
+    ⊎ IsMute command
 
 module _ {line : List ℕ} {command : Command} (only : SpellsOnly line command) where
   -- it spells no other command
@@ -30,22 +32,26 @@ module _ {line : List ℕ} {command : Command} (only : SpellsOnly line command) 
   quit-only other h = other (spells-same commands.Quit h)
 
   pub spared-only : NeverLacksMemory (Whole line) → IsSpared command
-  spared-only (inl h) = inl (spells-same commands.Begin h)
-  spared-only (inr (inl h)) = inr (inl (spells-same commands.Commit h))
-  spared-only (inr (inr (inl h))) = inr (inr (inl (spells-same commands.Rollback h)))
-  spared-only (inr (inr (inr (inl h)))) = inr (inr (inr (inl (spells-same commands.Checkpoint h))))
-  spared-only (inr (inr (inr (inr (inl h))))) = inr (inr (inr (inr (inl (spells-same commands.Reopen h)))))
-  spared-only (inr (inr (inr (inr (inr h))))) = inr (inr (inr (inr (inr (silent-mute h)))))
+  spared-only (inl e) = cc
+  spared-only (inr (inl h)) = inl (spells-same commands.Begin h)
+  spared-only (inr (inr (inl h))) = inr (inl (spells-same commands.Commit h))
+  spared-only (inr (inr (inr (inl h)))) = inr (inr (inl (spells-same commands.Rollback h)))
+  spared-only (inr (inr (inr (inr (inl h))))) = inr (inr (inr (inl (spells-same commands.Checkpoint h))))
+  spared-only (inr (inr (inr (inr (inr (inl h)))))) = inr (inr (inr (inr (inl (spells-same commands.Reopen h)))))
+  spared-only (inr (inr (inr (inr (inr (inr (inl h))))))) = inr (inr (inr (inr (inr (inl (spells-same commands.Stats h))))))
+  spared-only (inr (inr (inr (inr (inr (inr (inr h))))))) = inr (inr (inr (inr (inr (inr (silent-mute h))))))
 
 -- a line that has no memory for its command spells none that needs no memory
 pub lacks-memory : (line : List ℕ) → ((command : Command) → NeedsNoMemory command → ¬ Spells line command) → ¬ NeverLacksMemory (Whole line)
-lacks-memory line none (inl h) = none commands.Begin tt h
-lacks-memory line none (inr (inl h)) = none commands.Commit tt h
-lacks-memory line none (inr (inr (inl h))) = none commands.Rollback tt h
-lacks-memory line none (inr (inr (inr (inl h)))) = none commands.Checkpoint tt h
-lacks-memory line none (inr (inr (inr (inr (inl h))))) = none commands.Reopen tt h
-lacks-memory line none (inr (inr (inr (inr (inr (inl h)))))) = none commands.Blank tt h
-lacks-memory line none (inr (inr (inr (inr (inr (inr h)))))) = none commands.Quit tt h
+lacks-memory line none (inl e) = cc
+lacks-memory line none (inr (inl h)) = none commands.Begin tt h
+lacks-memory line none (inr (inr (inl h))) = none commands.Commit tt h
+lacks-memory line none (inr (inr (inr (inl h)))) = none commands.Rollback tt h
+lacks-memory line none (inr (inr (inr (inr (inl h))))) = none commands.Checkpoint tt h
+lacks-memory line none (inr (inr (inr (inr (inr (inl h)))))) = none commands.Reopen tt h
+lacks-memory line none (inr (inr (inr (inr (inr (inr (inl h))))))) = none commands.Stats tt h
+lacks-memory line none (inr (inr (inr (inr (inr (inr (inr (inl h)))))))) = none commands.Blank tt h
+lacks-memory line none (inr (inr (inr (inr (inr (inr (inr (inr h)))))))) = none commands.Quit tt h
 
 -- a change may lack memory
 pub change-spared : (command : Command) → IsChange command → ¬ IsSpared command
@@ -55,4 +61,5 @@ change-spared command change (inr (inr (inl e))) = subst IsChange e change
 change-spared command change (inr (inr (inr (inl e)))) = subst IsChange e change
 change-spared command change (inr (inr (inr (inr (inl e))))) = subst IsChange e change
 change-spared command change (inr (inr (inr (inr (inr (inl e)))))) = subst IsChange e change
-change-spared command change (inr (inr (inr (inr (inr (inr e)))))) = subst IsChange e change
+change-spared command change (inr (inr (inr (inr (inr (inr (inl e))))))) = subst IsChange e change
+change-spared command change (inr (inr (inr (inr (inr (inr (inr e))))))) = subst IsChange e change

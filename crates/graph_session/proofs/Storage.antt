@@ -25,6 +25,7 @@ use Rattle.graph_session.specs.State.{Admits, Live, State, admitted, seen, seen_
 use Rattle.graph_session.specs.declared.health.Health.TheVariants as healths
 use Rattle.graph_session.proofs.Answering.{settles-damaged, settles-done, settles-fault}
 use Rattle.graph_session.proofs.Conditions.{NeedsOne, idle-accepted, reached}
+use Rattle.graph_session.proofs.DiskUse.{uses-writes}
 use Rattle.graph_session.proofs.Held.{committed-one, held, seen_closed}
 use Rattle.graph_session.proofs.Known.{begin-same, known-admitted, known-one}
 use Rattle.graph_session.proofs.Stands.{IsOneOf, IsStored, Redoes-only, all-admitted, own-one, redone-admitted, redone-held}
@@ -106,6 +107,7 @@ module _ {D : Type 0} {g : Ghosts D} {old new : SessionView D} {state : State} (
   settles-checkpoint {line = line} only leaves brought =
       settles-done {line = Whole line} {before = state} Done state tt (record { is_at = brought-at brought; crash = checkpoint-crash at live state new.disk leaves })
       (λ told. (idle-accepted state only (λ change. change) (checkpoint-reached at live only closed), commands.Checkpoint, only.spelled, (refl, refl)))
+      (uses-writes state only tt (checkpoint-reached at live only closed) (inr (inr (inl only.spelled))) (λ none. none))
 
   stopped-at : IsStopped g old new → IsAt g new (stopped state)
   stopped-at left = record {
@@ -127,6 +129,7 @@ module _ {D : Type 0} {g : Ghosts D} {old new : SessionView D} {state : State} (
   settles-checkpoint_fault {line = line} only leaves left rose =
       settles-fault {line = Whole line} {before = state} (Faulted [] DiskFailed) (stopped state) (record { is_at = stopped-at left; crash = checkpoint-crash at live (stopped state) new.disk leaves }) rose
       (λ told. (refl, checkpoint-reached at live only closed, commands.Checkpoint, only.spelled, refl, refl))
+      (uses-writes state only tt (checkpoint-reached at live only closed) (inr (inr (inl only.spelled))) (λ none. none))
 
 -- The store that the disk has is served again, with the names of its graph.
 pub record IsFound {D : Type 0} (g : Ghosts D) (old new : SessionView D) : Type 0 where
@@ -215,10 +218,13 @@ module _ {D : Type 0} {g : Ghosts D} (counts : CountsNow g) {old new : SessionVi
   settles-reopen_fault {line = line} only leaves left rose =
       settles-fault {line = Whole line} {before = state} (Faulted [] DiskFailed) (lost state) (lost-comes leaves left) rose
       (λ told. (refl, reopen-reached at closed only, commands.Reopen, only.spelled, refl, refl))
+      (uses-writes state only tt (reopen-reached at closed only) (inr (inr (inr only.spelled))) (λ none. none))
 
   -- a record is told to be damaged, of a disk that doesn't tell what it reads
-  pub settles-reopen_damaged : {line : List ℕ} (file id : ℕ) → LeavesSame g old.disk new.disk → IsLost g old new → (g.tells_reads → ⊥) → Settles g (Whole line) old new state (Faulted [] (DamagedRecord file id))
-  settles-reopen_damaged {line = line} file id leaves left sound = settles-damaged {line = Whole line} {before = state} file id (lost state) (lost-comes leaves left) sound
+  pub settles-reopen_damaged : {line : List ℕ} → SpellsOnly line commands.Reopen → (file id : ℕ) → LeavesSame g old.disk new.disk → IsLost g old new → (g.tells_reads → ⊥) → Settles g (Whole line) old new state (Faulted [] (DamagedRecord file id))
+  settles-reopen_damaged {line = line} only file id leaves left sound =
+      settles-damaged {line = Whole line} {before = state} file id (lost state) (lost-comes leaves left) sound
+      (uses-writes state only tt (reopen-reached at closed only) (inr (inr (inr only.spelled))) (λ none. none))
 
 module _ {D : Type 0} {g : Ghosts D} {old new : SessionView D} {state : State} (at : IsAt g old state) (closed : old.console.is_open ≡ false) (is : IsFound g old new) where
   abbrev after_found : State
@@ -272,3 +278,4 @@ module _ {D : Type 0} {g : Ghosts D} {old new : SessionView D} {state : State} (
         only.spelled,
         (refl, graph_of new.console.committed, subst (λ (space : Key → Rec). Admits state (graph_of space)) (sym (found-same told)) (read-one at closed told).admits, refl),
       ))
+      (uses-writes state only tt (reopen-reached at closed only) (inr (inr (inr only.spelled))) (λ none. none))

@@ -17,29 +17,32 @@ use Rattle.graph_session.specs.Answer.{Settles}
 use Rattle.graph_session.specs.Console.{IsAt, SessionView, TellsAll}
 use Rattle.graph_session.specs.Exchange.{failing, opening}
 use Rattle.graph_session.specs.Refusals.{IsAccepted, IsReached, SpellsOnly}
+use Rattle.graph_session.specs.Stands.{IsAdmittedByEither}
 use Rattle.graph_session.specs.State.{State, Transaction}
 use Rattle.graph_session.specs.declared.health.Health.TheVariants as healths
 use Rattle.graph_session.proofs.Answering.{settles-done, settles-fault}
 use Rattle.graph_session.proofs.Conditions.{NeedsNone, NeedsOne, idle-accepted, reached}
-use Rattle.graph_session.specs.Stands.{IsAdmittedByEither}
+use Rattle.graph_session.proofs.DiskUse.{uses-same, uses-writes}
 use Rattle.graph_session.proofs.Held.{committed-one, held, names-cut, seen_closed, seen_open, working-open}
 use Rattle.graph_session.proofs.Known.{begin-all, begin-same, known-two}
 use Rattle.graph_session.proofs.Stands.{IsOneOf, IsStored, all-admitted, either-admitted, either-held, held-admitted, own-one, redone-held}
 use Rattle.graph_session.proofs.States.{is_closed, is_live, is_open, not_failed, not_open, same_one}
 use Rattle.graph_session.proofs.Staying.{KeepsBeneath, crash-kept, images-kept, reads-kept}
 
--- The session has an open transaction, over a disk that was only read.
+-- The session has an open transaction, over a disk that was not called.
 pub record Begins {D : Type 0} (g : Ghosts D) (old new : SessionView D) : Type 0 where
   pub beneath : KeepsBeneath g old new
+  pub same_disk : new.disk ≡ old.disk
   pub health : new.console.health ≡ old.console.health
   pub is_open : new.console.is_open ≡ true
   pub weight : new.console.weight ≡ least_weight
   pub names : new.console.names ≡ old.console.names
   pub working : g.tells_reads → new.console.working ≡ old.console.committed
 
--- The open transaction was dropped, with the names that it brought.
+-- The open transaction was dropped, with the names that it brought, over a disk that was not called.
 pub record Drops {D : Type 0} (g : Ghosts D) (old new : SessionView D) : Type 0 where
   pub beneath : KeepsBeneath g old new
+  pub same_disk : new.disk ≡ old.disk
   pub health : new.console.health ≡ old.console.health
   pub is_open : new.console.is_open ≡ false
   pub names : new.console.names ≡ take (high new.console.committed names_file) old.console.names
@@ -76,12 +79,12 @@ begin-closed : ¬ NeedsOne commands.Begin
 begin-closed (inl e) = cc
 begin-closed (inr e) = cc
 
-commit-open : ¬ NeedsNone commands.Commit
+pub commit-open : ¬ NeedsNone commands.Commit
 commit-open (inl e) = cc
 commit-open (inr (inl e)) = cc
 commit-open (inr (inr e)) = cc
 
-rollback-open : ¬ NeedsNone commands.Rollback
+pub rollback-open : ¬ NeedsNone commands.Rollback
 rollback-open (inl e) = cc
 rollback-open (inr (inl e)) = cc
 rollback-open (inr (inr e)) = cc
@@ -158,7 +161,7 @@ module _ {D : Type 0} {g : Ghosts D} {old new : SessionView D} {state : State} (
   pub settles-begin : {line : List ℕ} → SpellsOnly line commands.Begin → old.console.is_open ≡ false → Begins g old new → Settles g (Whole line) old new state Done
   settles-begin {line = line} only closed begins =
       settles-done {line = Whole line} {before = state} Done (begun state) tt (record { is_at = begins-at closed begins; crash = crash-kept at (begun state) new.disk begins.beneath.disk })
-      (λ told. (begin-accepted at live only closed, commands.Begin, only.spelled, (refl, refl)))
+      (λ told. (begin-accepted at live only closed, commands.Begin, only.spelled, (refl, refl))) (uses-same old.disk new.disk begins.beneath.disk begins.same_disk)
 
   drops-at : Drops g old new → IsAt g new (opening state None)
   drops-at drops = record {
@@ -188,7 +191,7 @@ module _ {D : Type 0} {g : Ghosts D} {old new : SessionView D} {state : State} (
   pub settles-rollback : {line : List ℕ} → SpellsOnly line commands.Rollback → old.console.is_open ≡ true → Drops g old new → Settles g (Whole line) old new state Done
   settles-rollback {line = line} only opened drops =
       settles-done {line = Whole line} {before = state} Done (opening state None) tt (record { is_at = drops-at drops; crash = crash-kept at (opening state None) new.disk drops.beneath.disk })
-      (λ told. (rollback-accepted at live only opened, commands.Rollback, only.spelled, (refl, refl)))
+      (λ told. (rollback-accepted at live only opened, commands.Rollback, only.spelled, (refl, refl))) (uses-same old.disk new.disk drops.beneath.disk drops.same_disk)
 
   module _ (transaction : Transaction) (is : state.open_one ≡ Some transaction) where
     commits-at : Commits g old new → IsAt g new (with_commit state transaction)
@@ -246,6 +249,7 @@ module _ {D : Type 0} {g : Ghosts D} {old new : SessionView D} {state : State} (
         settles-done {line = Whole line} {before = state} Done (with_commit state transaction) tt
         (record { is_at = commits-at commits; crash = commit-crash at live (with_commit state transaction) new.disk (λ told. written-one at live told transaction is) leaves })
         (λ told. (commit-accepted at live only opened, commands.Commit, only.spelled, (refl, transaction, is, refl)))
+        (uses-writes state only tt (commit-reached at live only opened) (inr (inl only.spelled)) (λ none. none))
 
     -- the disk failed in the commit
     pub settles-commit_fault : {line : List ℕ} → SpellsOnly line commands.Commit → old.console.is_open ≡ true → LeavesEither g old new.disk → IsLeftOpen g old new
@@ -254,3 +258,4 @@ module _ {D : Type 0} {g : Ghosts D} {old new : SessionView D} {state : State} (
         settles-fault {line = Whole line} {before = state} (Faulted [] DiskFailed) (in_doubt state transaction.graph)
         (record { is_at = left_open-at left; crash = commit-crash at live (in_doubt state transaction.graph) new.disk (λ told. second-one at live told transaction is) leaves }) rose
         (λ told. (refl, commit-reached at live only opened, commands.Commit, only.spelled, refl, (transaction, is, refl)))
+        (uses-writes state only tt (commit-reached at live only opened) (inr (inl only.spelled)) (λ none. none))

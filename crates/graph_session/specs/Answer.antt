@@ -7,6 +7,7 @@ use Rattle.stream_io.specs.Streams.{TakesFront}
 use Rattle.stream_io.specs.declared.streams.Sink.{Ghosts as SinkGhosts}
 use Rattle.plain_graph.specs.Reply.{Reply, reply_text}
 use Rattle.graph_session.specs.Console.{IsAt, Onward, SessionView}
+use Rattle.graph_session.specs.DiskUse.{UsesDisk}
 use Rattle.graph_session.specs.Exchange.{TakesStep}
 use Rattle.graph_session.specs.Moments.{ComesTo}
 use Rattle.graph_session.specs.State.{State, IsQuit}
@@ -20,36 +21,46 @@ Delivers Quit before after text = after ≡ before ++ text
 Delivers SinkFault before after text = TakesFront before after text
 
 -- The text was given to the sink. A failure is told only where the sink's count of faults rose.
-pub record Gives {K : Type 0} (sink : SinkGhosts K) (text : List ℕ) (old new : K) (turn : Turn) : Type 0 where
+pub record Gives {K : Type 0} (sink : SinkGhosts K) (text : List ℕ) (old new : K) (turn : Turn)
+    : Type 0 where
   pub delivers : sink.tells → Delivers turn (sink.taken old) (sink.taken new) text
   pub goes : turn ≢ Quit
   pub cause : turn ≡ SinkFault → Rose (sink.faults old) (sink.faults new)
   pub later : sink.faults old ≤ sink.faults new
 
--- The line gets this reply, and the session comes to another state by a step of the console. The disk counted a fault where the
--- step says that it failed.
-pub record Settles {D : Type 0} (disk : DiskGhosts D) (line : InputLine) (old new : SessionView D) (before : State) (reply : Reply) : Type 0 where
+-- The line gets this reply, and the session comes to another state by a step of the console. The
+-- disk counted a fault where the step says that it failed. No other line than one that may write
+-- has written.
+pub record Settles {D : Type 0} (disk : DiskGhosts D) (line : InputLine) (old new : SessionView D)
+    (before : State) (reply : Reply) : Type 0 where
   pub after : State
   pub arrives : ComesTo disk old new before after
   pub disk_failed : Bool
   pub counted : disk_failed ≡ true → Rose (disk.faults old.disk) (disk.faults new.disk)
-  pub step : TakesStep disk.tells_reads before (record { line = line; disk_failed = disk_failed; reply = reply }) after
+  pub step : TakesStep disk.tells_reads before
+      (record { line = line; disk_failed = disk_failed; reply = reply }) after
+  pub uses : UsesDisk disk line before reply old.disk new.disk
 
 -- a session, and the sink of its replies
 pub record Terminal (D K : Type 0) : Type 0 where
   pub session : SessionView D
   pub output : K
 
--- The line was settled, and its reply given to the sink where that tells what it takes. Only quit ends the run.
-pub record Answers {D K : Type 0} (disk : DiskGhosts D) (sink : SinkGhosts K) (line : InputLine) (old new : Terminal D K) (turn : Turn) (before : State) : Type 0 where
+-- The line was settled, and its reply given to the sink where that tells what it takes. Only quit
+-- ends the run.
+pub record Answers {D K : Type 0} (disk : DiskGhosts D) (sink : SinkGhosts K) (line : InputLine)
+    (old new : Terminal D K) (turn : Turn) (before : State) : Type 0 where
   pub reply : Reply
   pub settles : Settles disk line old.session new.session before reply
-  pub text : sink.tells → Delivers turn (sink.taken old.output) (sink.taken new.output) (reply_text reply)
+  pub text : sink.tells
+      → Delivers turn (sink.taken old.output) (sink.taken new.output) (reply_text reply)
   pub quit : (turn ≡ Quit) ↔ IsQuit line
 
 -- What one call says of its line, from each state that the session is at.
-pub record AnswersLine {D K : Type 0} (disk : DiskGhosts D) (sink : SinkGhosts K) (line : InputLine) (old new : Terminal D K) (turn : Turn) : Type 0 where
-  pub answers : (state : State) → IsAt disk old.session state → Answers disk sink line old new turn state
+pub record AnswersLine {D K : Type 0} (disk : DiskGhosts D) (sink : SinkGhosts K) (line : InputLine)
+    (old new : Terminal D K) (turn : Turn) : Type 0 where
+  pub answers : (state : State) → IsAt disk old.session state
+      → Answers disk sink line old new turn state
   pub cause : turn ≡ SinkFault → Rose (sink.faults old.output) (sink.faults new.output)
   pub later : sink.faults old.output ≤ sink.faults new.output
   pub onward : Onward disk old.session new.session

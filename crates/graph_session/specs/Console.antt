@@ -12,8 +12,8 @@ use Rattle.graph_session.specs.Stands.{AreAdmitted, HoldsAdmitted}
 use Rattle.graph_session.specs.State.{Admits, IsFailed, Live, State, Transaction, health_at, seen}
 use Rattle.graph_session.specs.declared.health.Health.{Health}
 
--- What a console has in memory, and the records beneath it: those of the last commit, those that the open transaction has with
--- its own, and the draft of a change over them.
+-- What a console has in memory, and the records beneath it: those of the last commit, those that
+-- the open transaction has with its own, and the draft of a change over them.
 pub record ConsoleView : Type 0 where
   pub shape : Shape
   pub health : Health
@@ -38,8 +38,9 @@ TellsAll g = g.tells_reads × g.tells_images
 abbrev pub BeginWith : List (List ℕ) → List (List ℕ) → Type 0
 BeginWith names first = (more : List (List ℕ)) × (names ≡ first ++ more)
 
--- The records of a live console are those of well-formed stores, whose graphs are the committed one and the one that a line
--- sees. The names in memory are those of the latter: the committed ones, and those that the open transaction brought.
+-- The records of a live console are those of well-formed stores, whose graphs are the committed one
+-- and the one that a line sees. The names in memory are those of the latter: the committed ones,
+-- and those that the open transaction brought.
 pub record HoldsGraphs (console : ConsoleView) (state : State) : Type 0 where
   pub live : IsTrue console.is_live
   pub committed : IsNodeStore console.committed state.shape
@@ -49,17 +50,19 @@ pub record HoldsGraphs (console : ConsoleView) (state : State) : Type 0 where
   pub names : console.names ≡ (seen state).names
   pub brought : BeginWith console.names state.committed.names
 
--- The session is at the state. What the disk holds is said where the disk tells it. The names in memory begin with those of each
--- graph that the disk of a failed console may hold.
+-- The session is at the state. What the disk holds is said where the disk tells it. The names in
+-- memory begin with those of each graph that the disk of a failed console may hold.
 pub record IsAt {D : Type 0} (g : Ghosts D) (session : SessionView D) (state : State) : Type 0 where
   pub shape : state.shape ≡ session.console.shape
   pub health : session.console.health ≡ health_at state
   pub opened : is_some state.open_one ≡ session.console.is_open
-  pub weight : (transaction : Transaction) → state.open_one ≡ Some transaction → session.console.weight ≡ transaction.weight
+  pub weight : (transaction : Transaction) → state.open_one ≡ Some transaction
+      → session.console.weight ≡ transaction.weight
   pub no_draft : session.console.draft ≡ []
   pub closed : IsFailed state.standing → is_some state.open_one ≡ false
   pub holds : g.tells_reads → state.standing ≡ Live → HoldsGraphs session.console state
-  pub known : g.tells_reads → IsFailed state.standing → (graph : Graph) → Admits state graph → BeginWith session.console.names graph.names
+  pub known : g.tells_reads → IsFailed state.standing → (graph : Graph) → Admits state graph
+      → BeginWith session.console.names graph.names
   pub reads : g.tells_reads → HoldsAdmitted state (g.reads session.disk)
   pub images : TellsAll g → AreAdmitted state (g.may_leave session.disk)
 

@@ -16,34 +16,49 @@ use Rattle.graph_session.specs.State.{Admits, Failed, IsSilent, Live, NeverLacks
 abbrev pub opening : State → Option Transaction → State
 opening state transaction = record state { open_one = transaction }
 
--- the state in which the disk has failed the console and holds one of these graphs; no transaction is open
+-- the state in which the disk has failed the console and holds one of these graphs; no transaction
+-- is open
 abbrev pub failing : State → List Graph → State
 failing state graphs = record state { open_one = None; standing = Failed graphs }
 
--- A change on the open transaction's graph, whose weight it adds; or where none is open, on the committed graph.
+-- A change on the open transaction's graph, whose weight it adds; or where none is open, on the
+-- committed graph.
 abbrev pub MakesChange : State → Command → Reply → State → Type 0
 MakesChange old command reply new =
-    ((transaction : Transaction) × (old.open_one ≡ Some transaction) × (graph : Graph) × (weight : ℕ) × Changes old.shape.limit transaction.graph command reply graph × Weighs transaction.graph command weight
+    ((transaction : Transaction) × (old.open_one ≡ Some transaction) × (graph : Graph)
+    × (weight : ℕ) × Changes old.shape.limit transaction.graph command reply graph
+    × Weighs transaction.graph command weight
     × (new ≡ opening old (Some (record { graph = graph; weight = transaction.weight + weight }))))
-    ⊎ ((old.open_one ≡ None) × (graph : Graph) × Changes old.shape.limit old.committed command reply graph × (new ≡ record old { committed = graph }))
+    ⊎ ((old.open_one ≡ None) × (graph : Graph)
+    × Changes old.shape.limit old.committed command reply graph
+    × (new ≡ record old { committed = graph }))
 
 -- The command is carried out, with this reply.
 abbrev pub CarriesOut : State → Command → Reply → State → Type 0
 CarriesOut old commands.Blank reply new = ⊥
-CarriesOut old commands.Begin reply new = (reply ≡ Done) × (new ≡ opening old (Some (record { graph = old.committed; weight = least_weight })))
-CarriesOut old commands.Commit reply new = (reply ≡ Done) × (transaction : Transaction) × (old.open_one ≡ Some transaction) × (new ≡ record old { committed = transaction.graph; open_one = None })
+CarriesOut old commands.Begin reply new =
+    (reply ≡ Done)
+    × (new ≡ opening old (Some (record { graph = old.committed; weight = least_weight })))
+CarriesOut old commands.Commit reply new =
+    (reply ≡ Done) × (transaction : Transaction) × (old.open_one ≡ Some transaction)
+    × (new ≡ record old { committed = transaction.graph; open_one = None })
 CarriesOut old commands.Rollback reply new = (reply ≡ Done) × (new ≡ opening old None)
 CarriesOut old commands.Checkpoint reply new = (reply ≡ Done) × (new ≡ old)
 CarriesOut old commands.Stats reply new = (reply ≡ Counted (counts_of (seen old))) × (new ≡ old)
-CarriesOut old commands.Reopen reply new = (reply ≡ Done) × (graph : Graph) × Admits old graph × (new ≡ record old { committed = graph; standing = Live })
+CarriesOut old commands.Reopen reply new =
+    (reply ≡ Done) × (graph : Graph) × Admits old graph
+    × (new ≡ record old { committed = graph; standing = Live })
 CarriesOut old commands.Quit reply new = ⊥
 CarriesOut old (commands.Node label) reply new = MakesChange old (commands.Node label) reply new
-CarriesOut old (commands.Delete target) reply new = MakesChange old (commands.Delete target) reply new
-CarriesOut old (commands.Query query) reply new = (reply ≡ Results (meaning (seen old) query)) × (new ≡ old)
+CarriesOut old (commands.Delete target) reply new =
+    MakesChange old (commands.Delete target) reply new
+CarriesOut old (commands.Query query) reply new =
+    (reply ≡ Results (meaning (seen old) query)) × (new ≡ old)
 
 -- the results shown are the first of those that the query has; other commands show none
 abbrev pub ShowsSome : State → Command → List Item → Type 0
-ShowsSome state (commands.Query query) results = (more : List Item) × (results ++ more ≡ meaning (seen state) query)
+ShowsSome state (commands.Query query) results =
+    (more : List Item) × (results ++ more ≡ meaning (seen state) query)
 ShowsSome state commands.Blank results = results ≡ []
 ShowsSome state commands.Begin results = results ≡ []
 ShowsSome state commands.Commit results = results ≡ []
@@ -55,32 +70,44 @@ ShowsSome state commands.Quit results = results ≡ []
 ShowsSome state (commands.Node label) results = results ≡ []
 ShowsSome state (commands.Delete target) results = results ≡ []
 
--- A change outside a transaction leaves the graph open: the one before, or the one after it where no condition refuses the line. Inside a transaction it leaves all as it was.
+-- A change outside a transaction leaves the graph open: the one before, or the one after it where
+-- no condition refuses the line. Inside a transaction it leaves all as it was.
 abbrev pub LeavesChange : State → InputLine → Command → State → Type 0
 LeavesChange old line command new =
     ((transaction : Transaction) × (old.open_one ≡ Some transaction) × (new ≡ old))
     ⊎ ((old.open_one ≡ None) × ((new ≡ failing old (old.committed ∷ []))
-    ⊎ (IsAccepted old line × (reply : Reply) × (graph : Graph) × Changes old.shape.limit old.committed command reply graph × (new ≡ failing old (old.committed ∷ graph ∷ [])))))
+    ⊎ (IsAccepted old line × (reply : Reply) × (graph : Graph)
+    × Changes old.shape.limit old.committed command reply graph
+    × (new ≡ failing old (old.committed ∷ graph ∷ [])))))
 
 -- What the disk leaves where it failed in the line.
 abbrev pub LeavesOpen : State → InputLine → Command → State → Type 0
 LeavesOpen old line commands.Blank new = ⊥
 LeavesOpen old line commands.Begin new = ⊥
-LeavesOpen old line commands.Commit new = (transaction : Transaction) × (old.open_one ≡ Some transaction) × (new ≡ failing old (old.committed ∷ transaction.graph ∷ []))
+LeavesOpen old line commands.Commit new =
+    (transaction : Transaction) × (old.open_one ≡ Some transaction)
+    × (new ≡ failing old (old.committed ∷ transaction.graph ∷ []))
 LeavesOpen old line commands.Rollback new = ⊥
 LeavesOpen old line commands.Checkpoint new = new ≡ failing old (old.committed ∷ [])
 LeavesOpen old line commands.Stats new = new ≡ old
 LeavesOpen old line commands.Reopen new = new ≡ failing old (admitted old)
 LeavesOpen old line commands.Quit new = ⊥
 LeavesOpen old line (commands.Node label) new = LeavesChange old line (commands.Node label) new
-LeavesOpen old line (commands.Delete target) new = LeavesChange old line (commands.Delete target) new
+LeavesOpen old line (commands.Delete target) new =
+    LeavesChange old line (commands.Delete target) new
 LeavesOpen old line (commands.Query query) new = new ≡ old
 
--- Want of memory is free for each line that may lack it, and changes nothing. The disk is blamed only where it failed. A
--- record of a store that stands for a graph is never damaged.
+-- Want of memory is free for each line that may lack it, and changes nothing. The disk is blamed
+-- only where it failed. A record of a store that stands for a graph is never damaged.
 abbrev pub Stops : State → InputLine → Bool → List Item → Fault → State → Type 0
-Stops old line disk_failed results NoMemory new = (¬ NeverLacksMemory line) × (new ≡ old) × ((results ≡ []) ⊎ ((command : Command) × SpellsLine line command × IsReached old line × ShowsSome old command results))
-Stops old line disk_failed results DiskFailed new = (disk_failed ≡ true) × IsReached old line × (command : Command) × SpellsLine line command × ShowsSome old command results × LeavesOpen old line command new
+Stops old line disk_failed results NoMemory new =
+    (¬ NeverLacksMemory line) × (new ≡ old)
+    × ((results ≡ [])
+    ⊎ ((command : Command) × SpellsLine line command × IsReached old line
+    × ShowsSome old command results))
+Stops old line disk_failed results DiskFailed new =
+    (disk_failed ≡ true) × IsReached old line × (command : Command) × SpellsLine line command
+    × ShowsSome old command results × LeavesOpen old line command new
 Stops old line disk_failed results (DamagedRecord file id) new = ⊥
 
 -- a line, whether the disk failed in it, and the reply
@@ -91,7 +118,9 @@ pub record Exchange : Type 0 where
 
 -- the line spells a command that is carried out, with this reply
 abbrev pub IsDone : State → Exchange → State → Type 0
-IsDone old x new = IsAccepted old x.line × (command : Command) × SpellsLine x.line command × CarriesOut old command x.reply new
+IsDone old x new =
+    IsAccepted old x.line × (command : Command) × SpellsLine x.line command
+    × CarriesOut old command x.reply new
 
 -- The step, reply by reply. A refusal is the first of the reasons that hold.
 abbrev pub ConsoleStep : State → Exchange → State → Type 0
@@ -120,8 +149,8 @@ told_fault (Counted counts) = 0
 told_fault (Faulted results fault) = told_in fault
 told_fault (Refused why) = 0
 
--- Where the disk tells what it reads, the exchange is a step of the console. In any case the reply blames the disk only where
--- it failed in the line.
+-- Where the disk tells what it reads, the exchange is a step of the console. In any case the reply
+-- blames the disk only where it failed in the line.
 pub record TakesStep (tells : Type 0) (old : State) (x : Exchange) (new : State) : Type 0 where
   pub step : tells → ConsoleStep old x new
   pub blames : told_fault x.reply ≢ 0 → x.disk_failed ≡ true

@@ -1,6 +1,7 @@
 pub mod Answer
 pub mod Answering
 pub mod Console
+pub mod DiskUse
 pub mod Drafting
 pub mod Exchange
 pub mod LineBuffer

@@ -12,7 +12,8 @@ use Rattle.graph_session.specs.declared.health.Health.{Health}
 use Rattle.graph_session.specs.declared.health.Health.TheVariants as healths
 
 -- The session is live, and its names are those of the store.
-pub record IsNamed {D : Type 0} {g : Ghosts D} (store : Store D g) (names : List (List ℕ)) (health : Health) : Type 0 where
+pub record IsNamed {D : Type 0} {g : Ghosts D} (store : Store D g) (names : List (List ℕ))
+    (health : Health) : Type 0 where
   pub live : health ≡ healths.Live
   pub named : g.tells_reads → names ≡ names_of (drafted store)
 
@@ -21,13 +22,16 @@ pub record IsUnnamed (old names : List (List ℕ)) (health : Health) : Type 0 wh
   pub failed : health ≡ healths.Failed
   pub same : names ≡ old
 
--- What the names and the health are after the answer. The disk is blamed only where it failed, and a record only where the
--- names don't begin with those of the store.
-abbrev pub TakesNames : {D : Type 0} {g : Ghosts D} → Store D g → Store D g → List (List ℕ) → List (List ℕ) → Health → Answer → Type 0
+-- What the names and the health are after the answer. The disk is blamed only where it failed, and
+-- a record only where the names don't begin with those of the store.
+abbrev pub TakesNames : {D : Type 0} {g : Ghosts D} → Store D g → Store D g → List (List ℕ)
+    → List (List ℕ) → Health → Answer → Type 0
 TakesNames old new was names health answers.Done = IsNamed old names health
 TakesNames old new was names health (answers.NodeMade id) = ⊥
 TakesNames old new was names health (answers.Counted counts) = ⊥
 TakesNames old new was names health (answers.Refused why) = ⊥
 TakesNames old new was names health answers.NoMemory = ⊥
-TakesNames {g = g} old new was names health answers.DiskFailed = IsUnnamed was names health × Rose (g.faults old.base.disk.now) (g.faults new.base.disk.now)
-TakesNames {g = g} old new was names health (answers.Damaged damage) = IsUnnamed was names health × (g.tells_reads → ¬ BeginWith was (names_of (drafted old)))
+TakesNames {g = g} old new was names health answers.DiskFailed =
+    IsUnnamed was names health × Rose (g.faults old.base.disk.now) (g.faults new.base.disk.now)
+TakesNames {g = g} old new was names health (answers.Damaged damage) =
+    IsUnnamed was names health × (g.tells_reads → ¬ BeginWith was (names_of (drafted old)))

@@ -23,27 +23,31 @@ use Rattle.graph_session.specs.Console.{IsAt, SessionView, TellsAll}
 use Rattle.graph_session.specs.Stands.{IsMade, Stands}
 use Rattle.graph_session.specs.State.{Live, State}
 
--- The state that a session over this content begins with: with the empty graph and the shape that is asked for where no store was
--- made, else with the store's graph, whose shape suits.
+-- The state that a session over this content begins with: with the empty graph and the shape that
+-- is asked for where no store was made, else with the store's graph, whose shape suits.
 abbrev pub Starts : Files → Config → State → Type 0
 Starts content config state =
     (IsUnmade content × (state.shape ≡ shape_of config) × (state.committed ≡ empty_graph))
     ⊎ (IsMade content state.shape state.committed × Suits config state.shape)
 
--- A session over this disk begins live, with no open transaction and a shape that suits. Where what the disk reads stands for a
--- graph, the state has it, and the content stands for no other.
-pub record StartsAs {D : Type 0} (g : Ghosts D) (disk : D) (config : Config) (state : State) : Type 0 where
+-- A session over this disk begins live, with no open transaction and a shape that suits. Where what
+-- the disk reads stands for a graph, the state has it, and the content stands for no other.
+pub record StartsAs {D : Type 0} (g : Ghosts D) (disk : D) (config : Config) (state : State)
+    : Type 0 where
   pub live : state.standing ≡ Live
   pub closed : state.open_one ≡ None
   pub suits : Suits config state.shape
   pub starts : g.tells_reads → Starts (g.reads disk) config state
-  pub same : g.tells_reads → (shape : Shape) (graph : Graph) → Stands (g.reads disk) shape graph → state.committed ≡ graph
+  pub same : g.tells_reads → (shape : Shape) (graph : Graph) → Stands (g.reads disk) shape graph
+      → state.committed ≡ graph
 
--- A crash leaves a content from before; or where no store was made, one that stands for the empty graph; or where one was made,
--- one that redoes to its records.
+-- A crash leaves a content from before; or where no store was made, one that stands for the empty
+-- graph; or where one was made, one that redoes to its records.
 abbrev pub LeavesOldOrSame : Files → (Files → Type 0) → Config → Files → Type 0
 LeavesOldOrSame content images config left =
-    images left ⊎ ((IsUnmade content × Stands left (shape_of config) empty_graph) ⊎ ((¬ IsUnmade content) × (space : Key → Rec) × Redoes content space × Redoes left space))
+    images left
+    ⊎ ((IsUnmade content × Stands left (shape_of config) empty_graph)
+    ⊎ ((¬ IsUnmade content) × (space : Key → Rec) × Redoes content space × Redoes left space))
 
 -- what the disk reads stands for a graph, under some shape
 pub record StandsForOne {D : Type 0} (g : Ghosts D) (disk : D) : Type 0 where
@@ -53,23 +57,33 @@ pub record StandsForOne {D : Type 0} (g : Ghosts D) (disk : D) : Type 0 where
 
 -- at each moment of the opening of a disk that stands for a graph
 abbrev pub LeavesByOpening : {D : Type 0} → Ghosts D → Config → D → D → Type 0
-LeavesByOpening g config old new = TellsAll g → StandsForOne g old → AtEachMoment g old new (LeavesOldOrSame (g.reads old) (g.may_leave old) config)
+LeavesByOpening g config old new =
+    TellsAll g → StandsForOne g old
+    → AtEachMoment g old new (LeavesOldOrSame (g.reads old) (g.may_leave old) config)
 
--- A session was opened. Where what the disk reads stands for a graph, it is at a state that it begins with.
-pub record Opens {D : Type 0} (g : Ghosts D) (config : Config) (old : D) (new : SessionView D) : Type 0 where
-  pub begins : (g.tells_reads → StandsForOne g old) → (state : State) × StartsAs g old config state × IsAt g new state
+-- A session was opened. Where what the disk reads stands for a graph, it is at a state that it
+-- begins with.
+pub record Opens {D : Type 0} (g : Ghosts D) (config : Config) (old : D) (new : SessionView D)
+    : Type 0 where
+  pub begins : (g.tells_reads → StandsForOne g old) → (state : State) × StartsAs g old config state
+      × IsAt g new state
   pub crash : LeavesByOpening g config old new.disk
   pub later : g.faults old ≤ g.faults new.disk
 
--- Why what the disk reads is not served: the store's log, its own record or its meta records, or its names.
+-- Why what the disk reads is not served: the store's log, its own record or its meta records, or
+-- its names.
 abbrev pub RefusesContent : Files → Config → OpenFault → Type 0
 RefusesContent content config why =
-    RefusesOpening content config why ⊎ ((damage : Damage) × (why ≡ faults.Damaged damage) × (space : Key → Rec) × Redoes content space × IsNameDamage space damage)
+    RefusesOpening content config why
+    ⊎ ((damage : Damage) × (why ≡ faults.Damaged damage) × (space : Key → Rec)
+    × Redoes content space × IsNameDamage space damage)
 
 -- No session was opened, for a reason that holds of what the disk reads.
-pub record IsUnopened {D : Type 0} (g : Ghosts D) (config : Config) (old new : D) (why : OpenFault) : Type 0 where
+pub record IsUnopened {D : Type 0} (g : Ghosts D) (config : Config) (old new : D) (why : OpenFault)
+    : Type 0 where
   pub refused : g.tells_reads → RefusesContent (g.reads old) config why
-  pub sound : g.tells_reads → (shape : Shape) (graph : Graph) → Stands (g.reads old) shape graph → OnlyDiffers shape config why
+  pub sound : g.tells_reads → (shape : Shape) (graph : Graph) → Stands (g.reads old) shape graph
+      → OnlyDiffers shape config why
   pub crash : LeavesByOpening g config old new
   pub later : g.faults old ≤ g.faults new
   pub cause : why ≡ faults.Disk → Rose (g.faults old) (g.faults new)

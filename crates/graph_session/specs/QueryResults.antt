@@ -9,8 +9,8 @@ use Rattle.plain_graph.specs.declared.item.Item.{Item}
 use Rattle.plain_graph.specs.declared.item.Item.TheVariants as items
 use Rattle.plain_graph.specs.declared.query.Query.{Query}
 use Rattle.rec_bytes.specs.declared.space.Reads.{Ghosts as SpaceGhosts}
-use Rattle.node_store.specs.declared.row_fault.RowFault.{RowFault}
-use Rattle.node_store.specs.declared.row_fault.RowFault.TheVariants as rows
+use Rattle.rec_bytes.specs.declared.row_fault.RowFault.{RowFault}
+use Rattle.rec_bytes.specs.declared.row_fault.RowFault.TheVariants as rows
 use Rattle.store_rules.specs.Graph.{graph_of, node_of}
 use Rattle.store_rules.specs.Rows.{collect}
 use Rattle.store_rules.specs.Rules.{IsNodeStore}
@@ -40,7 +40,8 @@ IsQueryReply (Faulted results DiskFailed) = Unit {0}
 IsQueryReply (Faulted results (DamagedRecord file id)) = Unit {0}
 IsQueryReply (Refused why) = ⊥
 
--- The reply has the results that the query means over the graph, or where the disk failed the first of them.
+-- The reply has the results that the query means over the graph, or where the disk failed the first
+-- of them.
 abbrev pub Means : Graph → Query → Reply → Type 0
 Means graph query Silent = ⊥
 Means graph query Done = ⊥
@@ -48,7 +49,8 @@ Means graph query (NodeMade id) = ⊥
 Means graph query (Results results) = results ≡ meaning graph query
 Means graph query (Counted counts) = ⊥
 Means graph query (Faulted results NoMemory) = ⊥
-Means graph query (Faulted results DiskFailed) = (more : List Item) × (results ++ more ≡ meaning graph query)
+Means graph query (Faulted results DiskFailed) =
+    (more : List Item) × (results ++ more ≡ meaning graph query)
 Means graph query (Faulted results (DamagedRecord file id)) = ⊥
 Means graph query (Refused why) = ⊥
 
@@ -60,12 +62,15 @@ pub record IsRead {R : Type 0} (space : SpaceGhosts R) (old new : R) : Type 0 wh
   pub onward : space.onward old new
   pub later : space.faults old ≤ space.faults new
 
--- A reply to the query was given to the sink; where the sink failed it is the whole query's, of which a prefix was taken. Over a
--- well-formed store the reply is the one that the graph means. The disk is blamed only where it failed.
-pub record GivesQuery {R K : Type 0} (space : SpaceGhosts R) (sink : SinkGhosts K) (query : Query) (old new : R) (before after : K) (turn : Turn) : Type 0 where
+-- A reply to the query was given to the sink; where the sink failed it is the whole query's, of
+-- which a prefix was taken. Over a well-formed store the reply is the one that the graph means. The
+-- disk is blamed only where it failed.
+pub record GivesQuery {R K : Type 0} (space : SpaceGhosts R) (sink : SinkGhosts K) (query : Query)
+    (old new : R) (before after : K) (turn : Turn) : Type 0 where
   pub reply : Reply
   pub form : IsQueryReply reply
   pub gives : Gives sink (reply_text reply) before after turn
-  pub means : space.tells → IsNodeStore (space.state old).records (space.state old).shape → Means (graph_of (space.state old).records) query reply
+  pub means : space.tells → IsNodeStore (space.state old).records (space.state old).shape
+      → Means (graph_of (space.state old).records) query reply
   pub told : told_fault reply ≢ 0 → Rose (space.faults old) (space.faults new)
   pub read : IsRead space old new

@@ -32,37 +32,55 @@ refusal_of (faults.NumberRange at) = Some (refusals.NumberRange at)
 
 -- the line spells no command; its leftmost fault is told
 abbrev pub grammar_fault : Condition
-grammar_fault state line why = (bytes : List ℕ) × (line ≡ Whole bytes) × (fault : LineFault) × IsLeftmostFault bytes fault × (refusal_of fault ≡ Some why)
+grammar_fault state line why =
+    (bytes : List ℕ) × (line ≡ Whole bytes) × (fault : LineFault) × IsLeftmostFault bytes fault
+    × (refusal_of fault ≡ Some why)
 
--- the disk has failed the console, which then answers no line but `reopen` and those without a reply
+-- the disk has failed the console, which then answers no line but `reopen` and those without a
+-- reply
 abbrev pub store_failed : Condition
-store_failed state line why = IsFailed state.standing × (¬ IsSilent line) × (¬ SpellsLine line commands.Reopen) × (why ≡ refusals.Failed)
+store_failed state line why =
+    IsFailed state.standing × (¬ IsSilent line) × (¬ SpellsLine line commands.Reopen)
+    × (why ≡ refusals.Failed)
 
 -- these need that no transaction is open
 abbrev pub transaction_open : Condition
-transaction_open state line why = IsOpen state × (SpellsLine line commands.Begin ⊎ SpellsLine line commands.Checkpoint ⊎ SpellsLine line commands.Reopen) × (why ≡ refusals.TransactionOpen)
+transaction_open state line why =
+    IsOpen state
+    × (SpellsLine line commands.Begin ⊎ SpellsLine line commands.Checkpoint
+    ⊎ SpellsLine line commands.Reopen)
+    × (why ≡ refusals.TransactionOpen)
 
 -- and these that one is
 abbrev pub no_transaction : Condition
-no_transaction state line why = (¬ IsOpen state) × (SpellsLine line commands.Commit ⊎ SpellsLine line commands.Rollback) × (why ≡ refusals.NoTransaction)
+no_transaction state line why =
+    (¬ IsOpen state) × (SpellsLine line commands.Commit ⊎ SpellsLine line commands.Rollback)
+    × (why ≡ refusals.NoTransaction)
 
 -- a node more would be more than the limit
 abbrev pub nodes_full : Condition
-nodes_full state line why = (label : List ℕ) × SpellsLine line (commands.Node label) × (length (seen state).nodes ≡ state.shape.limit) × (why ≡ refusals.FullNodes)
+nodes_full state line why =
+    (label : List ℕ) × SpellsLine line (commands.Node label)
+    × (length (seen state).nodes ≡ state.shape.limit) × (why ≡ refusals.FullNodes)
 
 -- a new name would be more than 4,096 names
 abbrev pub names_full : Condition
-names_full state line why = (label : List ℕ) × SpellsLine line (commands.Node label) × (¬ Contains (seen state).names label) × (most_names ≤ length (seen state).names) × (why ≡ refusals.FullNames)
+names_full state line why =
+    (label : List ℕ) × SpellsLine line (commands.Node label) × (¬ Contains (seen state).names label)
+    × (most_names ≤ length (seen state).names) × (why ≡ refusals.FullNames)
 
 -- no node has the identifier
 abbrev pub no_node : Condition
-no_node state line why = (id : ℕ) × SpellsLine line (commands.Delete (targets.Node id)) × (has_node (seen state) id ≡ false) × (why ≡ refusals.NoNode id)
+no_node state line why =
+    (id : ℕ) × SpellsLine line (commands.Delete (targets.Node id))
+    × (has_node (seen state) id ≡ false) × (why ≡ refusals.NoNode id)
 
 -- the open transaction would weigh more than 2,048
 abbrev pub transaction_full : Condition
 transaction_full state line why =
-    (transaction : Transaction) × (state.open_one ≡ Some transaction) × (command : Command) × SpellsLine line command
-    × (weight : ℕ) × Weighs transaction.graph command weight × (most_weight < transaction.weight + weight) × (why ≡ refusals.TransactionFull)
+    (transaction : Transaction) × (state.open_one ≡ Some transaction) × (command : Command)
+    × SpellsLine line command × (weight : ℕ) × Weighs transaction.graph command weight
+    × (most_weight < transaction.weight + weight) × (why ≡ refusals.TransactionFull)
 
 -- the conditions that count before the graph is looked at, and those of changes
 abbrev pub early_order : List Condition
@@ -73,16 +91,20 @@ late_order = nodes_full ∷ names_full ∷ no_node ∷ transaction_full ∷ []
 
 -- the order in which they count
 abbrev pub refusal_order : List Condition
-refusal_order = line_too_long ∷ grammar_fault ∷ store_failed ∷ transaction_open ∷ no_transaction ∷ late_order
+refusal_order =
+    line_too_long ∷ grammar_fault ∷ store_failed ∷ transaction_open ∷ no_transaction ∷ late_order
 
 -- the first condition that holds refuses the line so
 abbrev pub FirstHolds : List Condition → State → InputLine → Refusal → Type 0
 FirstHolds [] state line why = ⊥
-FirstHolds (condition ∷ later) state line why = condition state line why ⊎ (((other : Refusal) → ¬ condition state line other) × FirstHolds later state line why)
+FirstHolds (condition ∷ later) state line why =
+    condition state line why
+    ⊎ (((other : Refusal) → ¬ condition state line other) × FirstHolds later state line why)
 
 abbrev pub NoneHolds : List Condition → State → InputLine → Type 0
 NoneHolds [] state line = Unit {0}
-NoneHolds (condition ∷ later) state line = ((other : Refusal) → ¬ condition state line other) × NoneHolds later state line
+NoneHolds (condition ∷ later) state line =
+    ((other : Refusal) → ¬ condition state line other) × NoneHolds later state line
 
 abbrev pub IsRefused : State → InputLine → Refusal → Type 0
 IsRefused state line why = FirstHolds refusal_order state line why

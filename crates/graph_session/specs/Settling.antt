@@ -53,13 +53,18 @@ IsPlain (commands.Query query) = ⊥
 IsPlain _ = Unit {0}
 
 -- A session settles each line that spells just this command, from each state that it is at.
-pub record SettlesCommand {D : Type 0} (g : Ghosts D) (command : Command) (old new : SessionView D) (reply : Reply) : Type 0 where
-  pub settles : (line : List ℕ) (state : State) → SpellsOnly line command → IsServed old.console command → IsAt g old state → Settles g (Whole line) old new state reply
+pub record SettlesCommand {D : Type 0} (g : Ghosts D) (command : Command) (old new : SessionView D)
+    (reply : Reply) : Type 0 where
+  pub settles : (line : List ℕ) (state : State) → SpellsOnly line command
+      → IsServed old.console command → IsAt g old state → Settles g (Whole line) old new state reply
   pub onward : Onward g old new
 
 -- A session answers each line that spells just this command, from each state that it is at.
-pub record AnswersCommand {D K : Type 0} (g : Ghosts D) (sink : SinkGhosts K) (command : Command) (old new : Terminal D K) (turn : Turn) : Type 0 where
-  pub answers : (line : List ℕ) (state : State) → SpellsOnly line command → IsServed old.session.console command → IsAt g old.session state → Answers g sink (Whole line) old new turn state
+pub record AnswersCommand {D K : Type 0} (g : Ghosts D) (sink : SinkGhosts K) (command : Command)
+    (old new : Terminal D K) (turn : Turn) : Type 0 where
+  pub answers : (line : List ℕ) (state : State) → SpellsOnly line command
+      → IsServed old.session.console command → IsAt g old.session state
+      → Answers g sink (Whole line) old new turn state
   pub cause : turn ≡ SinkFault → Rose (sink.faults old.output) (sink.faults new.output)
   pub later : sink.faults old.output ≤ sink.faults new.output
   pub onward : Onward g old.session new.session

@@ -11,14 +11,16 @@ use Rattle.store_rules.specs.Graph.{graph_of}
 use Rattle.store_rules.specs.Rules.{IsNodeStore}
 use Rattle.graph_session.specs.State.{Admits, State}
 
--- The entries of the log, laid over the records of the files, make a well-formed store of this shape, whose graph this is.
+-- The entries of the log, laid over the records of the files, make a well-formed store of this
+-- shape, whose graph this is.
 pub record IsMade (content : Files) (shape : Shape) (graph : Graph) : Type 0 where
   pub space : Key → Rec
   pub redoes : Redoes content space
   pub store : IsNodeStore space shape
   pub graph_is : graph ≡ graph_of space
 
--- The content stands for this graph, under this shape; one in which no store was made stands for the empty graph, under every shape.
+-- The content stands for this graph, under this shape; one in which no store was made stands for
+-- the empty graph, under every shape.
 abbrev pub Stands : Files → Shape → Graph → Type 0
 Stands content shape graph = (IsUnmade content × (graph ≡ empty_graph)) ⊎ IsMade content shape graph
 
@@ -28,7 +30,8 @@ IsAdmitted state content = (graph : Graph) × Admits state graph × Stands conte
 
 -- a store was made in the content, and the state admits its graph
 abbrev pub HoldsAdmitted : State → Files → Type 0
-HoldsAdmitted state content = (graph : Graph) × Admits state graph × IsMade content state.shape graph
+HoldsAdmitted state content =
+    (graph : Graph) × Admits state graph × IsMade content state.shape graph
 
 -- it stands for one that the state before a line admits, or the state after it
 abbrev pub IsAdmittedByEither : State → State → Files → Type 0

@@ -19,7 +19,8 @@ pub record Transaction : Type 0 where
   pub graph : Graph
   pub weight : ℕ
 
--- the shape of the store, the committed graph, the open transaction, and how the console stands with the disk
+-- the shape of the store, the committed graph, the open transaction, and how the console stands
+-- with the disk
 pub record State : Type 0 where
   pub shape : Shape
   pub committed : Graph
@@ -51,7 +52,8 @@ graphs_from committed (Failed graphs) = graphs
 abbrev pub admitted : State → List Graph
 admitted state = graphs_from state.committed state.standing
 
--- the disk may hold this graph: the committed one, or where it has failed one of those that it left open
+-- the disk may hold this graph: the committed one, or where it has failed one of those that it left
+-- open
 abbrev pub Admits : State → Graph → Type 0
 Admits state stored = Contains (admitted state) stored
 
@@ -73,7 +75,9 @@ IsQuit line = SpellsLine line commands.Quit
 abbrev pub IsSilent : InputLine → Type 0
 IsSilent line = SpellsLine line commands.Blank ⊎ IsQuit line
 
--- a line that never lacks memory: one of these words, or one that gets no reply
+-- a line that never lacks memory: one of these words, or one that gets no reply or is too long
 abbrev pub NeverLacksMemory : InputLine → Type 0
 NeverLacksMemory line =
-    SpellsLine line commands.Begin ⊎ SpellsLine line commands.Commit ⊎ SpellsLine line commands.Rollback ⊎ SpellsLine line commands.Checkpoint ⊎ SpellsLine line commands.Reopen ⊎ IsSilent line
+    (line ≡ Long) ⊎ SpellsLine line commands.Begin ⊎ SpellsLine line commands.Commit
+    ⊎ SpellsLine line commands.Rollback ⊎ SpellsLine line commands.Checkpoint
+    ⊎ SpellsLine line commands.Reopen ⊎ SpellsLine line commands.Stats ⊎ IsSilent line

@@ -16,7 +16,8 @@ impl<'d, D: Disk> Session<'d, D> {
     /// How many there are of each part of the graph that a line sees. No record is read.
     pub(crate) fn stats(&self) -> Answer
         requires { self.now.health ≡ healths.Live }
-        ensures { SettlesCommand D.Disk commands.Stats (view self.now) (view self.now) (reply_of result) }
+        ensures { SettlesCommand D.Disk commands.Stats
+            (view self.now) (view self.now) (reply_of result) }
     {
         Answer::Counted(Counts {
             nodes: self.store.meta(NODES).live,

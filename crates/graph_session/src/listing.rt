@@ -5,15 +5,16 @@ ghost use Rattle.graph_session.specs.QueryResults.{GivesQuery, fault_of};
 
 use crate::Turn;
 use crate::line_buffer::LineBuffer;
-use node_store::{RowFault, load};
+use node_store::load;
 use plain_graph::{Item, damaged, disk_fault, end_of_results, result_line};
-use rec_bytes::{NODES, Reads};
+use rec_bytes::{NODES, Reads, RowFault};
 use stream_io::Sink;
 
-/// Gives a line for each node by ascending identifier, read as it goes, and the end. After a fault the lines so far stand before
-/// that of the fault.
+/// Gives a line for each node by ascending identifier, read as it goes, and the end. After a fault
+/// the lines so far stand before that of the fault.
 pub(crate) fn give_vertices<R: Reads, K: Sink>(space: &mut R, output: &mut K) -> Turn
-    ensures { GivesQuery R.Reads K.Sink (record { steps = [] }) space.old space.new output.old output.new result }
+    ensures { GivesQuery R.Reads K.Sink (record { steps = [] })
+        space.old space.new output.old output.new result }
 {
     let mut lines = LineBuffer::new();
     for id in 0..space.meta(NODES).high {

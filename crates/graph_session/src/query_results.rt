@@ -28,7 +28,8 @@ pub(crate) fn give_query<R: Reads, K: Sink>(space: &mut R, query: &Query, output
 
 /// Gives a count as the one result.
 fn give_count<K: Sink>(output: &mut K, count: u32) -> Turn
-    ensures { Gives K.Sink (reply_text (Results (Item.Value (Value.Int (pos count)) ∷ []))) output.old output.new result }
+    ensures { Gives K.Sink (reply_text (Results (Item.Value (Value.Int (pos count)) ∷ [])))
+        output.old output.new result }
 {
     let mut lines = LineBuffer::new();
     let count = Item::Value(Value::Int(i64::from(count)));

@@ -15,7 +15,8 @@ impl<'d, D: Disk> Session<'d, D> {
     /// Gives the results of a query, as they are found.
     pub(crate) fn answer_query<K: Sink>(&mut self, query: &Query, output: &mut K) -> Turn
         requires { self.old.health ≡ healths.Live }
-        ensures answers { AnswersCommand D.Disk K.Sink (commands.Query query.now) (with_sink self.old output.old) (with_sink self.new output.new) result }
+        ensures answers { AnswersCommand D.Disk K.Sink (commands.Query query.now)
+            (with_sink self.old output.old) (with_sink self.new output.new) result }
         ensures same_disk { HaveSameDisk self.old self.new }
     {
         give_query(&mut self.store, query, output)

@@ -34,8 +34,9 @@ pub struct Session<'d, D: Disk> {
 impl<'d, D: Disk> Session<'d, D> {
     ghost use Rattle.graph_session.specs.Session.{HaveSameDisk, view, with_sink};
 
-    /// Answers one line, by one reply to the sink; a line of blanks and `quit` get none. A change is on the disk
-    /// before its reply begins. Where memory lacks, the reply says so and nothing changes.
+    /// Answers one line, by one reply to the sink; a line of blanks and `quit` get none. A change
+    /// is on the disk before its reply begins. Where memory lacks, the reply says so and nothing
+    /// changes.
     pub fn step<K: Sink>(&mut self, line: &[u8], output: &mut K) -> Turn
         ensures answers { AnswersLine D.Disk K.Sink (Whole line.now)
             (with_sink self.old output.old) (with_sink self.new output.new) result }
@@ -112,13 +113,14 @@ impl<'d, D: Disk> Session<'d, D> {
         }
     }
 
-    // Carries out a command that has no results. It has no sink: what is said of the disk at its return holds before a
-    // byte of the reply is given.
+    // Carries out a command that has no results. It has no sink: what is said of the disk at its
+    // return holds before a byte of the reply is given.
     fn settle(&mut self, command: &Command) -> Answer
         requires live { self.old.health ≡ healths.Live }
         requires named { HasName command.now }
         requires plain { IsPlain command.now }
-        ensures settles { SettlesCommand D.Disk command.now (view self.old) (view self.new) (reply_of result) }
+        ensures settles { SettlesCommand D.Disk command.now
+            (view self.old) (view self.new) (reply_of result) }
         ensures same_disk { HaveSameDisk self.old self.new }
     {
         match command {
@@ -145,3 +147,6 @@ fn answer_of(fault: LineFault) -> Answer
         LineFault::NumberRange { at } => Answer::Refused(Refusal::NumberRange { at }),
     }
 }
+
+#[cfg(test)]
+mod tests;

@@ -10,8 +10,8 @@ use crate::answer::Answer;
 use crate::{Health, Session};
 use disk_model::Disk;
 use fault_count::Failed;
-use name_store::RowFault;
 use plain_graph::Refusal;
+use rec_bytes::RowFault;
 use txn_core::AgainFault;
 
 impl<'d, D: Disk> Session<'d, D> {
@@ -20,7 +20,8 @@ impl<'d, D: Disk> Session<'d, D> {
     /// Brings all records into their files, and empties the log.
     pub(crate) fn checkpoint(&mut self) -> Answer
         requires live { self.old.health ≡ healths.Live }
-        ensures settles { SettlesCommand D.Disk commands.Checkpoint (view self.old) (view self.new) (reply_of result) }
+        ensures settles { SettlesCommand D.Disk commands.Checkpoint
+            (view self.old) (view self.new) (reply_of result) }
         ensures same_disk { HaveSameDisk self.old self.new }
     {
         if self.store.in_transaction() {
@@ -37,7 +38,8 @@ impl<'d, D: Disk> Session<'d, D> {
 
     /// Finds what the disk has, and serves it again.
     pub(crate) fn reopen(&mut self) -> Answer
-        ensures settles { SettlesCommand D.Disk commands.Reopen (view self.old) (view self.new) (reply_of result) }
+        ensures settles { SettlesCommand D.Disk commands.Reopen
+            (view self.old) (view self.new) (reply_of result) }
         ensures same_disk { HaveSameDisk self.old self.new }
     {
         if self.store.in_transaction() {
@@ -56,7 +58,8 @@ impl<'d, D: Disk> Session<'d, D> {
         requires live { IsTrue self.old.store.base.live }
         requires failed { self.old.health ≡ healths.Failed }
         requires draft { self.old.store.draft.pairs ≡ [] }
-        ensures takes { TakesNames self.old.store self.new.store self.old.names.names self.new.names.names self.new.health result }
+        ensures takes { TakesNames self.old.store self.new.store
+            self.old.names.names self.new.names.names self.new.health result }
         ensures reads { OnlyReadsBase self.old.store.base self.new.store.base }
         ensures draft { self.new.store.draft.pairs ≡ [] }
         ensures later { D.faults self.old.store.base.disk.now ≤ D.faults self.new.store.base.disk.now }

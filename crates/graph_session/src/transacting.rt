@@ -21,7 +21,8 @@ impl<'d, D: Disk> Session<'d, D> {
     /// Begins a transaction. It makes no call of the disk.
     pub(crate) fn begin(&mut self) -> Answer
         requires live { self.old.health ≡ healths.Live }
-        ensures settles { SettlesCommand D.Disk commands.Begin (view self.old) (view self.new) (reply_of result) }
+        ensures settles { SettlesCommand D.Disk commands.Begin
+            (view self.old) (view self.new) (reply_of result) }
         ensures same_disk { HaveSameDisk self.old self.new }
     {
         if self.store.in_transaction() {
@@ -35,7 +36,8 @@ impl<'d, D: Disk> Session<'d, D> {
     /// Commits the open transaction, or leaves open whether it is on the disk.
     pub(crate) fn commit(&mut self) -> Answer
         requires live { self.old.health ≡ healths.Live }
-        ensures settles { SettlesCommand D.Disk commands.Commit (view self.old) (view self.new) (reply_of result) }
+        ensures settles { SettlesCommand D.Disk commands.Commit
+            (view self.old) (view self.new) (reply_of result) }
         ensures same_disk { HaveSameDisk self.old self.new }
     {
         if !self.store.in_transaction() {
@@ -53,7 +55,8 @@ impl<'d, D: Disk> Session<'d, D> {
     /// Drops the open transaction, with the names that it brought. It makes no call of the disk.
     pub(crate) fn rollback(&mut self) -> Answer
         requires live { self.old.health ≡ healths.Live }
-        ensures settles { SettlesCommand D.Disk commands.Rollback (view self.old) (view self.new) (reply_of result) }
+        ensures settles { SettlesCommand D.Disk commands.Rollback
+            (view self.old) (view self.new) (reply_of result) }
         ensures same_disk { HaveSameDisk self.old self.new }
     {
         if !self.store.in_transaction() {

@@ -73,7 +73,8 @@ fn a_query_gives_its_results(rt: HostRuntime) -> Result<(), Fail> {
 
 #[test]
 fn many_lines_go_out_in_pieces(rt: HostRuntime) -> Result<(), Fail> {
-    // The put that fails, and what is taken: 500 lines of 8 to 10 bytes and the end, or those that had room.
+    // The put that fails, and what is taken: 500 lines of 8 to 10 bytes and the end, or those that
+    // had room.
     let cases = [(0, Turn::Go, 4_949), (2, Turn::SinkFault, 4_095)];
     let mut space = even_nodes(rt.alloc(), 1_000)?;
     let query = query_of(rt.alloc(), &[])?;

@@ -1,4 +1,4 @@
-use Rattle.std.proofs.Common.{List, ℕ, inr, refl, subst}
+use Rattle.std.proofs.Common.{inr, refl, subst}
 use Rattle.plain_graph.specs.declared.command.Command.{Command}
 use Rattle.graph_session.specs.Answering.{reply_of}
 use Rattle.graph_session.specs.Refusals.{SpellsOnly}

@@ -1,6 +1,6 @@
 use Rattle.std.proofs.Common.{refl}
 use Rattle.graph_session.proofs.Asking.{stays-read}
-use Rattle.graph_session.proofs.Drafts.{drafted-none}
+use Rattle.graph_session.proofs.StoreRecords.{drafted-none}
 use Rattle.graph_session.proofs.Queries.{settles-given_query}
 use Rattle.graph_session.proofs.Spelling.{quit-only}
 use Rattle.graph_session.proofs.session.Session.answer_query.Goals as goal
@@ -14,7 +14,7 @@ returns-clause-answers g c =
         reply = given.reply;
         settles =
             settles-given_query at c.requires only (stays-read s.store c.give_query.new.space given.read.onward given.read.written at.no_draft s.health s.weight s.names.names) given (λ told. told)
-            (drafted-none c.args.self.now at.no_draft) refl (λ rose. rose);
+            (drafted-none s.store at.no_draft) refl (λ rose. rose);
         text = given.gives.delivers;
         quit = (λ e. absurd (given.gives.goes e), λ h. absurd (quit-only only (λ e. cc) h));
       };

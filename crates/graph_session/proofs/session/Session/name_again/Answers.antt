@@ -1,4 +1,4 @@
-use Rattle.graph_session.proofs.Reopening.{draft-read}
+use Rattle.graph_session.proofs.StoreRecords.{draft-read}
 use Rattle.graph_session.proofs.session.Session.name_again.Goals as goal
 
 pub returns-in-Ok-clause-draft : goal.returns-in-Ok-clause-draft

@@ -1,11 +1,16 @@
 use Rattle.std.proofs.Common.{◌≡◌, ◌∙◌, Err, ap, sym}
 use Rattle.rec_bytes.specs.declared.damage.Damage.{Damage}
 use Rattle.txn_core.specs.declared.again_fault.AgainFault.TheVariants as faults
+use Rattle.graph_session.specs.Session.{view}
+use Rattle.graph_session.proofs.Moves.{refused-reopen}
 use Rattle.graph_session.proofs.Reopening.{lost_damaged, lost_disk, named_again}
 use Rattle.graph_session.proofs.session.Session.reopen.Goals as goal
 
 not-disk : (damage : Damage) → ¬ (faults.Damaged damage ≡ faults.Disk)
 not-disk damage e = cc
+
+pub returns-then-in_transaction-clause-settles : goal.returns-then-in_transaction-clause-settles
+returns-then-in_transaction-clause-settles g c = refused-reopen {g = g.D.Disk} g.met.D.Disk.only_now (view c.args.self.now) (sym c.if-in_transaction.ensures.is)
 
 pub returns-in-Ok-clause-settles : goal.returns-in-Ok-clause-settles
 returns-in-Ok-clause-settles g c =

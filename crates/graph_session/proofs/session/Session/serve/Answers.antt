@@ -1,4 +1,4 @@
-use Rattle.std.proofs.Common.{List, ℕ, inl, inr, subst}
+use Rattle.std.proofs.Common.{inl, subst}
 use Rattle.graph_session.specs.Answering.{reply_of}
 use Rattle.graph_session.specs.Settling.{IsLoud}
 use Rattle.graph_session.proofs.Dispatch.{answers-failed, answers-settled, loud-not_mute, loud-not_reopen}

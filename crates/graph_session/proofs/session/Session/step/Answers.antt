@@ -1,4 +1,4 @@
-use Rattle.std.proofs.Common.{Err, ap, rules}
+use Rattle.std.proofs.Common.{Err, ap}
 use Rattle.graph_session.proofs.Dispatch.{answers-fault}
 use Rattle.graph_session.proofs.session.Session.step.Goals as goal
 

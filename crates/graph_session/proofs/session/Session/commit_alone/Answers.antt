@@ -1,0 +1,21 @@
+use Rattle.std.proofs.Common.{inl, refl}
+use Rattle.graph_session.proofs.session.Session.commit_alone.Goals as goal
+
+pub returns-in-Ok : goal.returns-in-Ok
+returns-in-Ok g c =
+    let done = c.in-Ok.ensures in
+    record {
+      crash = done.crash;
+      later = done.cause.later;
+      ends = inl (
+        refl,
+        record {
+          closes = record { same = done.same; in_transaction = done.closed; own = done.own; draft = done.draft };
+          health = refl;
+          live = done.done.live;
+          names = refl;
+          committed = done.done.space;
+          stored = done.done.stored;
+        },
+      );
+    }
