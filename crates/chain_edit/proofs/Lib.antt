@@ -1,0 +1,10 @@
+pub mod AllPushed
+pub mod AllUnlinked
+pub mod ChainSteps
+pub mod Damages
+pub mod Edits
+pub mod InRange
+pub mod LinkLaws
+pub mod Pushes
+pub mod Removals
+pub mod Walks

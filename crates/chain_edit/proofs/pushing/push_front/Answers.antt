@@ -1,0 +1,26 @@
+use Rattle.std.proofs.Common.{◌≡◌, ◌<◌, ◌^◌, ap, ◌∙◌, rules, arith, subst, sym}
+use Rattle.std.proofs.lemmas.Result.{err_from_is_err_and}
+use Rattle.rec_bytes.specs.Record.{field}
+use Rattle.rec_bytes.specs.Space.{State}
+use Rattle.store_rules.specs.Rules.{first_of}
+use Rattle.chain_edit.specs.Heads.{head_of}
+use Rattle.chain_edit.specs.Pushing.{HasPushed, first_damage, pushed}
+use Rattle.chain_edit.proofs.Damages.{damage_read}
+use Rattle.chain_edit.proofs.Pushes.{has_pushed}
+use Rattle.chain_edit.proofs.pushing.push_front.Goals as goal
+
+pub returns-in_err-test_link-clause-damaged : goal.returns-in_err-test_link-clause-damaged
+returns-in_err-test_link-clause-damaged g c = λ tells.
+    let s = g.S.Reads.state c.args.space.now in
+    let p = err_from_is_err_and c.from_residual-in_err-test_link.result c.from_residual-in_err-test_link.ensures.1 in
+    let first : c.number-first.result ≡ first_of s.records (head_of c.args.head) = c.number-first.ensures ∙ ap (λ r. field 4 r c.args.head.field) (c.in_ok-rec.ensures.got tells) in
+    rw (p.1, p.2) (damage_read s (g.S.Reads.state c.get.new.self) c.number-first.result (first_of s.records (head_of c.args.head)) (first_damage c.args.head.key) c.in_err-test_link.field-0.0
+    c.in_ok-rec.ensures.state first c.in_err-test_link.ensures.damaged)
+
+pub returns-clause-chains : goal.returns-clause-chains
+unfolding pushed
+returns-clause-chains g c = λ tells xs can.
+    let old = g.S.Reads.state c.args.space.now in
+    let is : g.S.Reads.state c.put.new.self ≡ pushed old (head_of c.args.head) c.args.node c.args.rel = search rules in
+    let small : c.args.rel < 2 ^ 25 = omega (arith, c.requires.rel.id) in
+    subst (λ (new : State). HasPushed old.records new.records (head_of c.args.head) c.args.node c.args.rel xs) (sym is) (has_pushed old (head_of c.args.head) c.args.node c.args.rel c.requires.head.place xs small can)

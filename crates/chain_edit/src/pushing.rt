@@ -1,0 +1,58 @@
+ghost use Rattle.std.specs.Prelude.{◌≡◌, ◌∷◌, [], ℕ, List, IfErr, OnOk};
+ghost use Rattle.rec_bytes.specs.Key.{IsKey};
+ghost use Rattle.rec_bytes.specs.Space.{after_get, WritesOnly};
+ghost use Rattle.store_rules.specs.Rules.{first_of};
+ghost use Rattle.rel_store.specs.RelRecord.{rel_key};
+ghost use Rattle.chain_edit.specs.ChainFault.{HasChainCause, NotDamaged, OnDamage};
+ghost use Rattle.chain_edit.specs.Heads.{head_of, IsHead};
+ghost use Rattle.chain_edit.specs.Links.{IsKnownLink, IsRightLink};
+ghost use Rattle.chain_edit.specs.Pushing.{CanPush, HasPushed, IsPushFault, pushed};
+
+use crate::links::{RANGE_RULE, back, set_next, test_link};
+use crate::{ChainFault, Head};
+use rec_bytes::{Damage, Space};
+
+/// Puts a relationship at the front of a chain of the node. The head is damaged where its link leads
+/// nowhere, and then nothing is written.
+#[tactic(auto, unfolding(crate::specs::Pushing::pushed))]
+pub fn push_front<S: Space>(
+    space: &mut S,
+    head: Head,
+    node: u32,
+    rel: u32,
+) -> Result<(), ChainFault>
+    requires head { IsHead (head_of head) }
+    requires rel { IsKey (rel_key rel) }
+    ensures chains { S.tells → OnOk result ((xs : List ℕ)
+        → CanPush (S.state space.old).records (head_of head) node rel xs
+        → HasPushed (S.state space.old).records (S.state space.new).records (head_of head) node rel xs) }
+    ensures ok { S.tells
+        → OnOk result (S.state space.new ≡ pushed (S.state space.old) (head_of head) node rel) }
+    ensures damaged { S.tells → IfErr result (IsPushFault (S.state space.old) (head_of head)) }
+    ensures sound { S.tells
+        → IsRightLink (S.state space.old) (first_of (S.state space.old).records (head_of head))
+        → NotDamaged result }
+    ensures known { S.tells → OnOk result
+        (IsKnownLink (S.state space.old) (first_of (S.state space.old).records (head_of head))) }
+    ensures unwritten { OnDamage result (S.state space.new ≡ after_get (S.state space.old)) }
+    ensures neighbours { S.tells → WritesOnly (S.state space.old) (S.state space.new)
+        (rel_key (first_of (S.state space.old).records (head_of head)) ∷ rel_key rel ∷ head.key ∷ []) }
+    ensures writes { (first : ℕ) × WritesOnly (S.state space.old) (S.state space.new)
+        (rel_key first ∷ rel_key rel ∷ head.key ∷ []) }
+    ensures onward { S.onward space.old space.new }
+    ensures cause { HasChainCause (S.faults space.old) (S.faults space.new) result }
+{
+    let mut rec = space.get(head.key)?;
+    let first = rec.number(head.field);
+    let leads_nowhere = Damage {
+        file: head.key.file,
+        id: head.key.id,
+        rule: RANGE_RULE,
+    };
+    test_link(space, first, leads_nowhere)?;
+    back(space, first, node, rel)?;
+    set_next(space, rel, node, first)?;
+    rec.set_number(head.field, rel);
+    space.put(head.key, rec)?;
+    Ok(())
+}

@@ -1,0 +1,4 @@
+pub mod LinkPlaces
+pub mod RelRecords
+pub mod Rows
+pub mod UnknownKinds

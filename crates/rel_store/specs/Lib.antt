@@ -1,0 +1,3 @@
+pub mod Linked
+pub mod Loading
+pub mod RelRecord
