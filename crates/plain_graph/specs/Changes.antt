@@ -1,7 +1,7 @@
 -- What a line that asks for a change makes of the graph, its reply and its weight.
-use Rattle.std.specs.Prelude.{◌≡◌, ℕ, ◌+◌}
-use Rattle.plain_graph.specs.Graph.{AddsNode, Graph, NeedsNames, RemovesNode}
-use Rattle.plain_graph.specs.Reply.{Done, NodeMade, Reply}
+use Rattle.std.specs.Prelude.{◌≡◌, ℕ, ◌+◌, ◌*◌, nat_eq, if◌then◌else◌}
+use Rattle.plain_graph.specs.Graph.{AddsEdge, AddsNode, Graph, NeedsNames, RemovesEdge, RemovesNode, degree_in}
+use Rattle.plain_graph.specs.Reply.{Done, EdgeMade, NodeMade, Reply}
 use Rattle.plain_graph.specs.declared.command.Command.{Command}
 use Rattle.plain_graph.specs.declared.command.Command.TheVariants as commands
 use Rattle.plain_graph.specs.declared.command.Target.TheVariants as targets
@@ -17,10 +17,11 @@ IsChange commands.Stats = ⊥
 IsChange commands.Reopen = ⊥
 IsChange commands.Quit = ⊥
 IsChange (commands.Node label) = Unit {0}
+IsChange (commands.Edge from label to) = Unit {0}
 IsChange (commands.Delete target) = Unit {0}
 IsChange (commands.Query query) = ⊥
 
--- The line changes the graph so, with this reply. The limit says how many nodes there may be.
+-- The line changes the graph so, with this reply. The limit says how many nodes, and how many edges, there may be.
 abbrev pub Changes : ℕ → Graph → Command → Reply → Graph → Type 0
 Changes limit old commands.Blank reply new = ⊥
 Changes limit old commands.Begin reply new = ⊥
@@ -31,22 +32,36 @@ Changes limit old commands.Stats reply new = ⊥
 Changes limit old commands.Reopen reply new = ⊥
 Changes limit old commands.Quit reply new = ⊥
 Changes limit old (commands.Node label) reply new = (id : ℕ) × (reply ≡ NodeMade id) × AddsNode limit old label id new
+Changes limit old (commands.Edge from label to) reply new = (id : ℕ) × (reply ≡ EdgeMade id) × AddsEdge limit old from label to id new
 Changes limit old (commands.Delete (targets.Node id)) reply new = (reply ≡ Done) × RemovesNode old id new
+Changes limit old (commands.Delete (targets.Edge id)) reply new = (reply ≡ Done) × RemovesEdge old id new
 Changes limit old (commands.Query query) reply new = ⊥
 
--- What the change weighs: one for a node that is made or deleted, and one for a new name.
-abbrev pub Weighs : Graph → Command → ℕ → Type 0
-Weighs old commands.Blank weight = ⊥
-Weighs old commands.Begin weight = ⊥
-Weighs old commands.Commit weight = ⊥
-Weighs old commands.Rollback weight = ⊥
-Weighs old commands.Checkpoint weight = ⊥
-Weighs old commands.Stats weight = ⊥
-Weighs old commands.Reopen weight = ⊥
-Weighs old commands.Quit weight = ⊥
-Weighs old (commands.Node label) weight = (new_names : ℕ) × NeedsNames old.names label new_names × (weight ≡ 1 + new_names)
-Weighs old (commands.Delete target) weight = weight ≡ 1
-Weighs old (commands.Query query) weight = ⊥
+-- What an end of a new edge weighs: where the node has as many edges as the threshold, each of its edges comes into a group.
+abbrev pub end_weight : ℕ → Graph → ℕ → ℕ
+end_weight threshold graph node = if nat_eq (degree_in graph node) threshold then 2 * (threshold + 1) else 0
+
+-- What both ends weigh; a loop has one.
+abbrev pub ends_weight : ℕ → Graph → ℕ → ℕ → ℕ
+ends_weight threshold graph from to = end_weight threshold graph from + (if nat_eq from to then 0 else end_weight threshold graph to)
+
+-- What the change weighs at this threshold: 1 for a node that is made or deleted, 9 for an edge that is made with what its ends weigh,
+-- 13 for one that is deleted, and 1 for a new name.
+abbrev pub Weighs : ℕ → Graph → Command → ℕ → Type 0
+Weighs threshold old commands.Blank weight = ⊥
+Weighs threshold old commands.Begin weight = ⊥
+Weighs threshold old commands.Commit weight = ⊥
+Weighs threshold old commands.Rollback weight = ⊥
+Weighs threshold old commands.Checkpoint weight = ⊥
+Weighs threshold old commands.Stats weight = ⊥
+Weighs threshold old commands.Reopen weight = ⊥
+Weighs threshold old commands.Quit weight = ⊥
+Weighs threshold old (commands.Node label) weight = (new_names : ℕ) × NeedsNames old.names label new_names × (weight ≡ 1 + new_names)
+Weighs threshold old (commands.Edge from label to) weight =
+    (new_names : ℕ) × NeedsNames old.names label new_names × (weight ≡ 9 + new_names + ends_weight threshold old from to)
+Weighs threshold old (commands.Delete (targets.Node id)) weight = weight ≡ 1
+Weighs threshold old (commands.Delete (targets.Edge id)) weight = weight ≡ 13
+Weighs threshold old (commands.Query query) weight = ⊥
 
 -- a transaction weighs so much before its first change, and at most so much
 abbrev pub least_weight : ℕ

@@ -4,4 +4,4 @@ use Rattle.plain_graph.specs.Graph.{Graph}
 use Rattle.plain_graph.specs.declared.counts.Counts.{Counts}
 
 abbrev pub counts_of : Graph → Counts
-counts_of graph = record { nodes = length graph.nodes; edges = 0; properties = 0; blocks = 0; names = length graph.names }
+counts_of graph = record { nodes = length graph.nodes; edges = length graph.edges; properties = 0; blocks = 0; names = length graph.names }

@@ -19,6 +19,7 @@ pub data Reply : Type 0 where
   Silent : Reply
   Done : Reply
   NodeMade : (id : ℕ) → Reply
+  EdgeMade : (id : ℕ) → Reply
   Results : (results : List Item) → Reply
   Counted : (counts : Counts) → Reply
   Faulted : (results : List Item) → (fault : Fault) → Reply
@@ -46,7 +47,9 @@ refusal_text refusals.FullNames = codes "error names full"
 refusal_text (refusals.NumberRange at) = codes "error number range " ++ decimal at
 refusal_text refusals.TransactionOpen = codes "error transaction open"
 refusal_text refusals.NoTransaction = codes "error no transaction"
+refusal_text refusals.FullEdges = codes "error full edges"
 refusal_text (refusals.NoNode id) = codes "error no node " ++ decimal id
+refusal_text (refusals.NoEdge id) = codes "error no edge " ++ decimal id
 refusal_text (refusals.HasRelationships id) = codes "error node " ++ decimal id ++ codes " has relationships"
 refusal_text refusals.TransactionFull = codes "error transaction full"
 
@@ -75,6 +78,7 @@ abbrev pub reply_text : Reply → List ℕ
 reply_text Silent = []
 reply_text Done = text_line (codes "ok")
 reply_text (NodeMade id) = text_line (codes "node " ++ decimal id)
+reply_text (EdgeMade id) = text_line (codes "edge " ++ decimal id)
 reply_text (Results results) = flat_map result_text results ++ text_line (codes "end")
 reply_text (Counted counts) = text_line (counts_text counts)
 reply_text (Faulted results fault) = flat_map result_text results ++ fault_line fault

@@ -5,6 +5,8 @@ use crate::{Query, Text};
 pub enum Target {
     /// The node of this identifier.
     Node(u32),
+    /// The edge of this identifier.
+    Edge(u32),
 }
 
 /// What a line of the console asks for.
@@ -20,7 +22,7 @@ pub enum Command {
     Rollback,
     /// All records in their files, and an empty log.
     Checkpoint,
-    /// How many nodes and names there are.
+    /// How many nodes, edges and names there are.
     Stats,
     /// The store anew, as the disk holds it.
     Reopen,
@@ -28,6 +30,8 @@ pub enum Command {
     Quit,
     /// A new node with this label.
     Node { label: Text },
+    /// A new edge of this type, from one node to another.
+    Edge { from: u32, label: Text, to: u32 },
     /// The graph without this element.
     Delete(Target),
     /// The results of a query.

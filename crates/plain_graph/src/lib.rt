@@ -21,8 +21,8 @@ pub use name::{is_name_byte, is_name_start, is_short_name};
 pub use query::{Query, Step, StepList};
 pub use refusal::Refusal;
 pub use reply::{
-    configuration, counted, damaged, disk_fault, done, end_of_results, no_memory, node_made,
-    not_a_store, refused, result_line,
+    configuration, counted, damaged, disk_fault, done, edge_made, end_of_results, no_memory,
+    node_made, not_a_store, refused, result_line,
 };
 pub use short_text::ShortText;
 pub use text::Text;

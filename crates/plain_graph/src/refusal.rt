@@ -17,10 +17,14 @@ pub enum Refusal {
     NoTransaction,
     /// There are as many nodes as the limit allows.
     FullNodes,
+    /// There are as many edges as the limit allows.
+    FullEdges,
     /// There are as many names as a store may have, and the line has a new one.
     FullNames,
     /// No node has this identifier.
     NoNode { id: u32 },
+    /// No edge has this identifier.
+    NoEdge { id: u32 },
     /// The node of this identifier still has relationships.
     HasRelationships { id: u32 },
     /// The transaction would weigh more than it may.

@@ -1,5 +1,5 @@
 ghost use Rattle.std.specs.Prelude.{◌≡◌, ◌≤◌, ◌+◌, ◌++◌, codes, decimal, length};
-ghost use Rattle.plain_graph.specs.Reply.{Counted, DamagedRecord, DiskFailed, Done, NoMemory, NodeMade, Refused, configuration_text, damaged_text, fault_line, file_name, reply_text, result_text, text_line};
+ghost use Rattle.plain_graph.specs.Reply.{Counted, DamagedRecord, DiskFailed, Done, EdgeMade, NoMemory, NodeMade, Refused, configuration_text, damaged_text, fault_line, file_name, reply_text, result_text, text_line};
 
 use crate::{Counts, Item, Refusal, ShortText, Value};
 use itoa::Buffer;
@@ -11,6 +11,18 @@ pub fn node_made(id: u32) -> ShortText
     let mut text = ShortText::new();
     let mut digits = Buffer::new();
     text.push(b"node ");
+    text.push(digits.format(id).as_bytes());
+    text.push(b"\n");
+    text
+}
+
+/// The reply to a line that made an edge: `edge ID`.
+pub fn edge_made(id: u32) -> ShortText
+    ensures { result ≡ reply_text (EdgeMade id) }
+{
+    let mut text = ShortText::new();
+    let mut digits = Buffer::new();
+    text.push(b"edge ");
     text.push(digits.format(id).as_bytes());
     text.push(b"\n");
     text
@@ -58,12 +70,17 @@ pub fn refused(why: Refusal) -> ShortText
         Refusal::LongLine => text.push(b"error line"),
         Refusal::Failed => text.push(b"error failed"),
         Refusal::FullNodes => text.push(b"error full nodes"),
+        Refusal::FullEdges => text.push(b"error full edges"),
         Refusal::FullNames => text.push(b"error names full"),
         Refusal::TransactionOpen => text.push(b"error transaction open"),
         Refusal::NoTransaction => text.push(b"error no transaction"),
         Refusal::TransactionFull => text.push(b"error transaction full"),
         Refusal::NoNode { id } => {
             text.push(b"error no node ");
+            text.push(digits.format(id).as_bytes());
+        }
+        Refusal::NoEdge { id } => {
+            text.push(b"error no edge ");
             text.push(digits.format(id).as_bytes());
         }
         Refusal::HasRelationships { id } => {
