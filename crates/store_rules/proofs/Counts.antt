@@ -1,7 +1,9 @@
 -- How many numbers below a mark pass a test.
 use Rattle.std.specs.Prelude.{is_some}
-use Rattle.std.proofs.Common.{◌≡◌, ◌≢◌, ◌⊎◌, ℕ, zero, suc, ◌+◌, ◌<◌, ◌≤◌, Bool, true, false, cond, Option, None, Some, List, [], ◌∷◌, ◌++◌, length, sym, ap, ◌∙◌, subst, inl, inr, ⊎_elim, arith, refl}
+use Rattle.std.proofs.Common.{◌≡◌, ◌≢◌, ◌⊎◌, ℕ, zero, suc, ◌+◌, ◌<◌, ◌≤◌, Bool, true, false, cond, Option, None, Some, List, [], ◌∷◌, ◌++◌, length, sym, ap, ◌∙◌, subst, ⊎_elim, arith, refl}
+use Rattle.std.specs.List.{filter}
 use Rattle.std.proofs.lemmas.Bool.{cases_lt}
+use Rattle.std.proofs.lemmas.List.Elements.{filter-append}
 use Rattle.store_rules.specs.Rows.{option_list, collect, if_test, ids}
 use Rattle.store_rules.proofs.RowLaws.{append_none, collect_with, length-with_row}
 
@@ -94,3 +96,24 @@ length-collect E row test (suc n) h = both (collect row n) (ids test n) (length-
     both xs ys e None false k = length-both xs [] ∙ ap (λ m. m + 0) e ∙ sym (length-both ys [])
     both xs ys e (Some r) true k = length-both xs (r ∷ []) ∙ ap (λ m. m + 1) e ∙ sym (length-both ys (n ∷ []))
     both xs ys e (Some r) false k = absurd cc
+
+-- the row is there and passes the test
+abbrev pub row_passes : {E : Type 0} → (E → Bool) → Option E → Bool
+row_passes test None = false
+row_passes test (Some e) = test e
+
+-- as many rows that pass a test as numbers that pass another
+pub length-filter : (E : Type 0) (row : ℕ → Option E) (test : E → Bool) (now : ℕ → Bool) (n : ℕ) → ((x : ℕ) → row_passes test (row x) ≡ now x) → length (filter test (collect row n)) ≡ length (ids now n)
+length-filter E row test now zero h = refl
+length-filter E row test now (suc n) h =
+    ap length (filter-append test (collect row n) (option_list (row n)))
+    ∙ length-both (filter test (collect row n)) (filter test (option_list (row n)))
+    ∙ ap (λ m. m + length (filter test (option_list (row n)))) (length-filter E row test now n h)
+    ∙ ap (λ m. length (ids now n) + m) (last (row n) (now n) (h n))
+    ∙ sym (length-both (ids now n) (option_list (if_test now n)))
+  where
+    last : (o : Option E) (b : Bool) → row_passes test o ≡ b → length (filter test (option_list o)) ≡ length (option_list (cond b (Some n) None))
+    last None true k = absurd cc
+    last None false k = refl
+    last (Some e) true k = rw k refl
+    last (Some e) false k = rw k refl

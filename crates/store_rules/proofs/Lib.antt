@@ -1,7 +1,12 @@
 pub mod ChainLaws
 pub mod Changes
 pub mod Counts
+pub mod EdgeChange
+pub mod EdgeGone
+pub mod EdgeMade
 pub mod Frames
+pub mod GraphRows
+pub mod LinkFits
 pub mod Made
 pub mod MetaLaws
 pub mod NameMade
@@ -12,6 +17,8 @@ pub mod NodeGone
 pub mod NodeMade
 pub mod NodeStores
 pub mod NumberLaws
+pub mod Relinks
 pub mod RowLaws
+pub mod SparseStores
 pub mod Untouched
 pub mod ViewLaws

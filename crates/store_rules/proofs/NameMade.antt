@@ -1,8 +1,8 @@
 -- One more name keeps the rules, and is the last name of the graph.
-use Rattle.std.proofs.Common.{◌≡◌, ◌≢◌, ◌⊎◌, ℕ, zero, suc, ◌+◌, ◌<◌, ◌≤◌, Bool, true, false, Option, None, Some, List, [], ◌∷◌, ◌++◌, sym, ap, ◌∙◌, subst, inl, inr, ⊎_elim, arith, refl}
+use Rattle.std.proofs.Common.{◌≡◌, ◌⊎◌, ℕ, suc, ◌+◌, ◌<◌, ◌≤◌, Option, None, Some, List, [], ◌∷◌, ◌++◌, sym, ap, ◌∙◌, subst, inl, inr, ⊎_elim, arith, refl}
 use Rattle.std.specs.List.{Contains}
 use Rattle.std.proofs.lemmas.Bool.{cases_lt, false≢true}
-use Rattle.plain_graph.specs.Graph.{Graph, Node}
+use Rattle.plain_graph.specs.Graph.{edge_number, node_number}
 use Rattle.plain_graph.specs.Names.{IsShortName}
 use Rattle.rec_bytes.specs.declared.record.Rec.{Rec}
 use Rattle.rec_bytes.specs.declared.key.Key.{Key}
@@ -12,17 +12,16 @@ use Rattle.rec_bytes.specs.Meta.{IsMetaInRange}
 use Rattle.rec_bytes.specs.Record.{field}
 use Rattle.rec_bytes.specs.RecordFiles.{meta_key_of, room_of}
 use Rattle.rec_bytes.specs.Space.{meta_in}
-use Rattle.store_rules.specs.Graph.{graph_of, names_of, node_from, node_of}
+use Rattle.store_rules.specs.Graph.{edge_from, edge_of, graph_of, names_of, node_from, node_of}
 use Rattle.store_rules.specs.Ranges.{Fits}
 use Rattle.store_rules.specs.Rows.{collect}
-use Rattle.store_rules.specs.Rules.{AreNamed, AreNames, HaveKeys, HaveProperties, Head, IsListed, IsNodeStore, IsWellFormed, Owns, StandsAt, property_files, property_owner}
-use Rattle.store_rules.specs.Views.{NodeRow, Records, degree, first_link, group_at, high, kind_at, node_at, node_in, rec_at, rel_at, row_if, text_of}
+use Rattle.store_rules.specs.Rules.{AreNamed, AreNames, HaveProperties, Head, IsListed, IsSparseStore, KeepsRules, Owns, StandsAt, property_files}
+use Rattle.store_rules.specs.Views.{NodeRow, Records, RelRow, group_at, high, kind_at, node_at, node_in, rec_at, rel_at, row_if, text_of}
 use Rattle.store_rules.proofs.Changes as ch
 use Rattle.store_rules.proofs.Changes.{IsChanged}
 use Rattle.store_rules.proofs.Frames.{IsSame, kind_same}
 use Rattle.store_rules.proofs.NameRows.{contains_row, rows_same}
 use Rattle.store_rules.proofs.RowLaws.{collect_same}
-use Rattle.store_rules.proofs.NumberLaws.{nat_cases}
 use Rattle.store_rules.proofs.Untouched as un
 use Rattle.store_rules.proofs.Untouched.{head_file}
 
@@ -66,7 +65,7 @@ module _ (s t : Records) (shape : Shape) (rec : Rec) (text : List ℕ) (made : I
   low_or_last : (x : ℕ) → x < high t format.names_file → (x < count) ⊎ (x ≡ count)
   low_or_last x lt = let m = made.mark in ⊎_elim (λ (k : x < count). inl k) (λ (k : count ≤ x). inr (omega arith)) (cases_lt x count)
 
-  module _ (well : IsWellFormed s shape) where
+  module _ {most : ℕ} (well : KeepsRules s shape most) where
     listed : (h : Head) (n : ℕ) → Owns (kind_at t format.nodes_file) (group_at s) h n → IsListed t h n (StandsAt (rel_at s) (group_at s) h)
     listed h n o =
         let old : Owns (kind_at s format.nodes_file) (group_at s) h n = subst (λ (k : ℕ → ℕ). Owns k (group_at s) h n) kinds o in
@@ -113,7 +112,7 @@ module _ (s t : Records) (shape : Shape) (rec : Rec) (text : List ℕ) (made : I
           (λ (l : y ≡ count). k ∙ sym l) (low_or_last y b)) (low_or_last x a);
     }
 
-    pub name_well : IsWellFormed t shape
+    pub name_well : KeepsRules t shape most
     name_well = record {
       ranges = ch.in_range s t format.names_file count made.change shape made.meta (λ _. subst (Fits (high t) format.names_file) (sym made.here) made.fits) well.ranges;
       split = ch.split_all s t format.names_file count made.change (λ e. absurd (false≢true e)) well.split;
@@ -124,9 +123,9 @@ module _ (s t : Records) (shape : Shape) (rec : Rec) (text : List ℕ) (made : I
       properties = properties;
       named = named;
       names = names;
-      degrees = un.degrees s t format.names_file count made.change refl shape.threshold
+      degrees = un.degrees s t format.names_file count made.change refl most
           (λ n some. ap (λ r. field 4 r format.node_degree) (nodes_same.each n) ∙ well.degrees.each n (λ z. some (ap (λ (k : ℕ → ℕ). k n) kinds ∙ z)))
-          (λ n d. subst (λ m. m ≤ shape.threshold) (sym (ap (λ r. field 4 r format.node_degree) (nodes_same.each n))) (well.degrees.few n (sym (ap (λ (k : ℕ → ℕ). k n) kinds) ∙ d)));
+          (λ n d. subst (λ m. m ≤ most) (sym (ap (λ r. field 4 r format.node_degree) (nodes_same.each n))) (well.degrees.few n (sym (ap (λ (k : ℕ → ℕ). k n) kinds) ∙ d)));
     }
 
     node_text : (x : ℕ) → node_of t x ≡ node_of s x
@@ -137,10 +136,17 @@ module _ (s t : Records) (shape : Shape) (rec : Rec) (text : List ℕ) (made : I
         on (Some row) h = ap (λ l. Some (record { id = row.id; label = l })) (old_text row.label (h row refl))
 
     pub nodes_stay : (graph_of t).nodes ≡ (graph_of s).nodes
-    nodes_stay = collect_same number (node_of s) (node_of t) (high t format.nodes_file) (λ x _. node_text x) ∙ ap (collect (node_of s)) node_mark
+    nodes_stay = collect_same node_number (node_of s) (node_of t) (high t format.nodes_file) (λ x _. node_text x) ∙ ap (collect (node_of s)) node_mark
+
+    edge_text : (x : ℕ) → edge_of t x ≡ edge_of s x
+    edge_text x = ap (λ (r : ℕ → Option RelRow). edge_from (rec_at t format.names_file) (r x)) (un.rels_same s t format.names_file count made.change refl) ∙ on (rel_at s x) (λ row e. well.named.rels_named x row e)
       where
-        number : Node → ℕ
-        number n = n.id
+        on : (o : Option RelRow) → ((row : RelRow) → o ≡ Some row → row.label < count) → edge_from (rec_at t format.names_file) o ≡ edge_from (rec_at s format.names_file) o
+        on None h = refl
+        on (Some row) h = ap (λ l. Some (record { id = row.id; label = l; from = row.from; to = row.to })) (old_text row.label (h row refl))
+
+    pub edges_stay : (graph_of t).edges ≡ (graph_of s).edges
+    edges_stay = collect_same edge_number (edge_of s) (edge_of t) (high t format.relationships_file) (λ x _. edge_text x) ∙ ap (collect (edge_of s)) (un.rel_mark s t format.names_file count made.change refl)
 
     pub names_more : names_of t ≡ names_of s ++ text ∷ []
     names_more = ap (collect (λ x. Some (text_of (rec_at t format.names_file x)))) (made.mark ∙ add count)
@@ -149,3 +155,11 @@ module _ (s t : Records) (shape : Shape) (rec : Rec) (text : List ℕ) (made : I
       where
         add : (n : ℕ) → n + 1 ≡ suc n
         add n = omega arith
+
+-- a sparse store stays one
+pub name_store : (s t : Records) (shape : Shape) (rec : Rec) (text : List ℕ) → IsNamed s t shape rec text → IsSparseStore s shape → IsSparseStore t shape
+name_store s t shape rec text made store = record {
+  keeps = name_well s t shape rec text made store.keeps;
+  alone = un.alone_stays s t format.names_file (high s format.names_file) made.change refl store.alone;
+  sparse = λ n d. store.sparse n (sym (ap (λ (k : ℕ → ℕ). k n) (kinds s t shape rec text made)) ∙ d);
+}

@@ -1,7 +1,7 @@
 -- A new store meets all rules, and its graph is empty, whatever records its own are laid over.
-use Rattle.std.proofs.Common.{◌≡◌, ◌≢◌, ◌⊎◌, ℕ, ◌<◌, ◌≤◌, Bool, true, false, nat_eq, cond, ◌&&◌, Option, None, Some, List, [], ◌∷◌, length, sym, ap, ◌∙◌, subst, inl, inr, arith, refl}
+use Rattle.std.proofs.Common.{◌≡◌, ℕ, ◌<◌, Bool, true, false, nat_eq, cond, ◌&&◌, Option, None, Some, [], ◌∷◌, length, sym, ap, ◌∙◌, subst, inl, inr, arith, refl}
 use Rattle.std.proofs.lemmas.Bool.{true≢false}
-use Rattle.plain_graph.specs.Graph.{Graph, empty_graph}
+use Rattle.plain_graph.specs.Graph.{empty_graph}
 use Rattle.rec_bytes.specs.declared.meta.Meta.{Meta}
 use Rattle.rec_bytes.specs.declared.shape.Shape.{Shape}
 use Rattle.rec_bytes.specs.declared.record.Rec.{Rec}
@@ -17,13 +17,11 @@ use Rattle.rec_bytes.proofs.CreationPairs.{IsMetaInRange-empty, find_pair-creati
 use Rattle.rec_bytes.proofs.Metas.{meta_reads_back}
 use Rattle.rec_bytes.proofs.RecordFiles.{passes}
 use Rattle.rec_bytes.proofs.Spaces.{laid_over-at}
-use Rattle.store_rules.specs.Graph.{graph_of, names_of, node_of}
-use Rattle.store_rules.specs.Ranges.{is_reused}
+use Rattle.store_rules.specs.Graph.{edge_of, graph_of, node_of}
 use Rattle.store_rules.specs.Rows.{collect, ids}
-use Rattle.store_rules.specs.Rules.{AreHeld, GroupHead, HaveKeys, HaveProperties, HaveTexts, Head, IsListed, IsNodeStore, IsSplit, IsWellFormed, Owns, SparseHead, StandsAt, block_owner, is_to_come, node_first, property_files, property_owner, rel_first}
-use Rattle.store_rules.specs.Views.{GroupRow, NodeRow, Records, RelRow, group_at, group_in, high, is_live, kind_at, node_at, node_in, rec_at, rel_at, rel_in, text_of}
+use Rattle.store_rules.specs.Rules.{AreHeld, HaveProperties, Head, IsListed, IsSparseStore, IsSplit, KeepsRules, Owns, StandsAt, block_owner, is_to_come, node_first, property_files, property_owner, rel_first}
+use Rattle.store_rules.specs.Views.{Records, group_at, group_in, high, is_live, kind_at, node_at, node_in, rec_at, rel_at, rel_in, text_of}
 use Rattle.store_rules.proofs.MetaLaws.{meta_of_reused}
-use Rattle.store_rules.proofs.NumberLaws.{and_parts}
 use Rattle.store_rules.proofs.ViewLaws.{kind_high, live_false, row_none}
 
 module _ (before : Records) (shape : Shape) where
@@ -113,8 +111,8 @@ module _ (before : Records) (shape : Shape) where
   listed h n (inl k) = absurd (let z = sym (none_used format.nodes_file n refl) ∙ k.sparse in omega arith)
   listed h n (inr k) = absurd (let z = sym (none_used format.nodes_file n refl) ∙ k.dense in omega arith)
 
-  new_well : is_allowed shape ≡ true → IsWellFormed new shape
-  new_well allowed = record {
+  new_well : is_allowed shape ≡ true → (most : ℕ) → KeepsRules new shape most
+  new_well allowed most = record {
     ranges = record {
       own = own-new allowed;
       metas = λ file is. subst (IsMetaInRange (room_of shape file)) (sym (meta-new file is)) (IsMetaInRange-empty (room_of shape file));
@@ -147,13 +145,18 @@ module _ (before : Records) (shape : Shape) where
   }
 
   meta_to_come : (file : ℕ) → is_to_come file ≡ true → is_meta_file file ≡ true
-  meta_to_come file come = passes is_meta_file (format.relationships_file ∷ format.groups_file ∷ format.properties_file ∷ format.strings_file ∷ []) file refl come
+  meta_to_come file come = passes is_meta_file (format.groups_file ∷ format.properties_file ∷ format.strings_file ∷ []) file refl come
 
-  pub new_store_well : is_allowed shape ≡ true → IsNodeStore new shape
-  new_store_well allowed = record { well = new_well allowed; alone = λ file come. mark file (meta_to_come file come) }
+  pub new_store_well : is_allowed shape ≡ true → IsSparseStore new shape
+  new_store_well allowed = record {
+    keeps = new_well allowed format.most_ids;
+    alone = λ file come. mark file (meta_to_come file come);
+    sparse = λ n d. let z = sym (none_used format.nodes_file n refl) ∙ d in omega arith;
+  }
 
   pub new_store_empty : graph_of new ≡ empty_graph
   new_store_empty = λ i. record {
     nodes = ap (collect (node_of new)) (mark format.nodes_file refl) i;
+    edges = ap (collect (edge_of new)) (mark format.relationships_file refl) i;
     names = ap (collect (λ x. Some (text_of (rec_at new format.names_file x)))) (mark format.names_file refl) i;
   }

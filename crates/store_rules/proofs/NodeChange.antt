@@ -1,23 +1,21 @@
 -- What a node that comes or goes leaves of the rules and of the graph.
 use Rattle.std.specs.Prelude.{is_some}
-use Rattle.std.proofs.Common.{length, not, ◌≡◌, ◌≢◌, ◌⊎◌, ℕ, ◌≤◌, Bool, true, false, cond, nat_eq, Option, None, Some, List, sym, ap, ◌∙◌, subst, inl, inr, ⊎_elim, arith, refl}
-use Rattle.plain_graph.specs.Graph.{Graph, Node, node_number}
+use Rattle.std.proofs.Common.{length, not, ◌≡◌, ◌≢◌, ℕ, Bool, true, false, cond, nat_eq, None, Some, sym, ap, ◌∙◌, subst, inl, inr, ⊎_elim, arith, refl}
+use Rattle.plain_graph.specs.Graph.{Node, node_number}
 use Rattle.rec_bytes.specs.declared.record.Rec.{Rec}
 use Rattle.rec_bytes.specs.declared.key.Key.{Key}
 use Rattle.rec_bytes.specs.declared.shape.Shape.{Shape}
 use Rattle.rec_bytes.specs.Format as format
 use Rattle.rec_bytes.specs.Record.{field}
-use Rattle.rec_bytes.specs.RecordFiles.{is_meta_file}
 use Rattle.rec_bytes.specs.Space.{meta_in}
-use Rattle.store_rules.specs.Graph.{graph_of, names_of, node_from, node_of}
+use Rattle.store_rules.specs.Graph.{edge_from, graph_of, names_of, node_from, node_of}
 use Rattle.store_rules.specs.Rows.{collect}
-use Rattle.store_rules.specs.Rules.{AreNamed, AreNames, GroupHead, Head, IsListed, IsWellFormed, Owns, SparseHead, StandsAt}
-use Rattle.store_rules.specs.Views.{NodeRow, Records, first_link, group_at, high, is_live, kind_at, node_at, node_in, rec_at, rel_at, row_if, text_of}
+use Rattle.store_rules.specs.Rules.{AreNames, GroupHead, Head, IsListed, KeepsRules, Owns, SparseHead, StandsAt}
+use Rattle.store_rules.specs.Views.{Records, first_link, group_at, high, is_live, kind_at, node_at, node_in, rec_at, rel_at, row_if, text_of}
 use Rattle.store_rules.proofs.Changes as ch
 use Rattle.store_rules.proofs.Changes.{IsChanged}
 use Rattle.store_rules.proofs.Counts.{length-collect}
-use Rattle.store_rules.proofs.NumberLaws.{nat_cases}
-use Rattle.store_rules.proofs.RowLaws.{AreNumbered}
+use Rattle.store_rules.proofs.Untouched as un
 use Rattle.store_rules.proofs.Untouched.{head_file}
 
 -- each row of the nodes has its own number
@@ -32,7 +30,7 @@ nodes_numbered s x e h = on (nat_eq (kind_at s format.nodes_file x) 0) h
         inner a b e = cc
 
 -- the count of nodes is that of their file
-pub count_nodes : (s : Records) (shape : Shape) → IsWellFormed s shape → (meta_in s format.nodes_file).live ≡ length (graph_of s).nodes
+pub count_nodes : (s : Records) (shape : Shape) {most : ℕ} → KeepsRules s shape most → (meta_in s format.nodes_file).live ≡ length (graph_of s).nodes
 count_nodes s shape well = (well.split format.nodes_file refl).1.exact ∙ sym (length-collect Node (node_of s) (is_live s format.nodes_file) (high s format.nodes_file) (λ x. on x (nat_eq (kind_at s format.nodes_file x) 0)))
   where
     on : (x : ℕ) (b : Bool) → is_some (node_from (rec_at s format.names_file) (cond b None (Some (node_in (rec_at s format.nodes_file x) x)))) ≡ not b
@@ -61,13 +59,16 @@ module _ (s t : Records) (id : ℕ) (change : IsChanged s t format.nodes_file id
   pub names_stay : names_of t ≡ names_of s
   names_stay = ap (λ (f : ℕ → Rec). collect (λ x. Some (text_of (f x))) (high t format.names_file)) name_file ∙ ap (collect (λ x. Some (text_of (rec_at s format.names_file x)))) name_mark
 
+  pub edges_stay : (graph_of t).edges ≡ (graph_of s).edges
+  edges_stay = λ i. collect (λ x. edge_from (name_file i) (un.rels_same s t format.nodes_file id change refl i x)) (un.rel_mark s t format.nodes_file id change refl i)
+
   pub node_text : (x : ℕ) → node_of t x ≡ node_from (rec_at s format.names_file) (node_at t x)
   node_text x = ap (λ f. node_from f (node_at t x)) name_file
 
   pub row_other : (x : ℕ) → x ≢ id → node_of t x ≡ node_of s x
   row_other x ne = node_text x ∙ ap (node_from (rec_at s format.names_file)) (node_other x ne)
 
-  module _ (shape : Shape) (well : IsWellFormed s shape) where
+  module _ (shape : Shape) {most : ℕ} (well : KeepsRules s shape most) where
     pub names : AreNames (rec_at t format.names_file) (high t format.names_file)
     names = subst (λ r. AreNames r (high t format.names_file)) (sym name_file) (subst (λ m. AreNames (rec_at s format.names_file) m) (sym name_mark) well.names)
 

@@ -1,22 +1,22 @@
 -- A node that goes keeps the rules, and is one node less of the graph.
-use Rattle.std.proofs.Common.{◌≡◌, ◌≢◌, ◌⊎◌, ℕ, ◌+◌, ◌<◌, ◌≤◌, nat_eq, Bool, true, false, ◌||◌, Option, None, Some, length, sym, ap, ◌∙◌, subst, inl, inr, ⊎_elim, arith, refl}
-use Rattle.std.specs.List.{list_any}
+use Rattle.std.proofs.Common.{◌≡◌, ◌≢◌, ℕ, nat_eq, Bool, true, false, ◌||◌, None, Some, length, sym, ap, ◌∙◌, subst, inl, inr, ⊎_elim, arith, refl}
 use Rattle.std.proofs.lemmas.Bool.{true≢false}
-use Rattle.plain_graph.specs.Graph.{Graph, Node, node_number, without_row}
+use Rattle.plain_graph.specs.Graph.{degree_in, node_number, without_row}
 use Rattle.rec_bytes.specs.declared.shape.Shape.{Shape}
 use Rattle.rec_bytes.specs.Format as format
 use Rattle.rec_bytes.specs.Record.{field}
 use Rattle.store_rules.specs.Graph.{graph_of, node_from, node_of}
 use Rattle.store_rules.specs.Rows.{collect, ids}
-use Rattle.store_rules.specs.Rules.{AreCounted, AreNamed, HaveProperties, Head, IsEnd, IsListed, IsWellFormed, Owns, SparseHead, GroupHead, StandsAt, node_first, property_files, stands_in}
-use Rattle.store_rules.specs.Views.{GroupRow, NodeRow, Records, RelRow, degree, first_link, group_at, high, kind_at, node_at, node_in, rec_at, rel_at, rel_in, row_if, text_of}
+use Rattle.store_rules.specs.Rules.{AreCounted, AreNamed, HaveProperties, Head, IsEnd, IsListed, IsSparseStore, KeepsRules, Owns, StandsAt, node_first, property_files, stands_in}
+use Rattle.store_rules.specs.Views.{GroupRow, Records, RelRow, degree, group_at, high, kind_at, node_at, node_in, rec_at, rel_at, rel_in}
 use Rattle.store_rules.proofs.Changes as ch
 use Rattle.store_rules.proofs.Counts.{ids_empty}
 use Rattle.store_rules.proofs.Frames.{properties_less}
+use Rattle.store_rules.proofs.GraphRows.{degree_in-degree}
 use Rattle.store_rules.proofs.Made.{IsGone}
 use Rattle.store_rules.proofs.NodeChange as nc
 use Rattle.store_rules.proofs.NumberLaws.{nat_cases, eq_true}
-use Rattle.store_rules.proofs.RowLaws.{collect_without, fresh_collect, there_collect}
+use Rattle.store_rules.proofs.RowLaws.{collect_without}
 use Rattle.store_rules.proofs.Untouched as un
 use Rattle.store_rules.proofs.ViewLaws.{kind_below, row_none, row_some, some_row}
 
@@ -27,7 +27,7 @@ pub record IsBare (s : Records) (id : ℕ) : Type 0 where
   pub bare : field 4 (rec_at s format.nodes_file id) format.node_first_property ≡ format.nil
   pub ungrouped : (g : ℕ) (row : GroupRow) → group_at s g ≡ Some row → row.owner ≢ id
 
-module _ (s t : Records) (shape : Shape) (id : ℕ) (lost : IsGone s t shape format.nodes_file id) (old : IsBare s id) (well : IsWellFormed s shape) where
+module _ (s t : Records) (shape : Shape) (id : ℕ) (lost : IsGone s t shape format.nodes_file id) (old : IsBare s id) {most : ℕ} (well : KeepsRules s shape most) where
   kind_other : (n : ℕ) → n ≢ id → kind_at t format.nodes_file n ≡ kind_at s format.nodes_file n
   kind_other = nc.kind_other s t id lost.change
 
@@ -78,12 +78,12 @@ module _ (s t : Records) (shape : Shape) (id : ℕ) (lost : IsGone s t shape for
   degree_other : (n : ℕ) → n ≢ id → degree t n ≡ degree s n
   degree_other n ne = ap (λ r. field 4 r format.node_degree) (nc.record_other s t id lost.change n ne)
 
-  degrees : AreCounted (kind_at t format.nodes_file) (degree t) (rel_at t) (high t format.relationships_file) shape.threshold
-  degrees = un.degrees s t format.nodes_file id lost.change refl shape.threshold
+  degrees : AreCounted (kind_at t format.nodes_file) (degree t) (rel_at t) (high t format.relationships_file) most
+  degrees = un.degrees s t format.nodes_file id lost.change refl most
       (λ n some. let ne = other n some in degree_other n ne ∙ well.degrees.each n (λ z. some (kind_other n ne ∙ z)))
       (λ n d. let ne = other n (λ z. let p = sym z ∙ d in omega arith) in let z = degree_other n ne in let b = well.degrees.few n (sym (kind_other n ne) ∙ d) in omega arith)
 
-  pub gone_well : IsWellFormed t shape
+  pub gone_well : KeepsRules t shape most
   gone_well = record {
     ranges = ch.in_range s t format.nodes_file id lost.change shape lost.meta (λ _. lost.fits) well.ranges;
     split = ch.split_all s t format.nodes_file id lost.change (λ _. (lost.free, lost.split)) well.split;
@@ -103,10 +103,15 @@ module _ (s t : Records) (shape : Shape) (id : ℕ) (lost : IsGone s t shape for
       (nc.node_text s t id lost.change id ∙ ap (node_from (rec_at s format.names_file)) node_gone)
       (λ x _ ne. nc.row_other s t id lost.change x ne) (kind_below (high s format.nodes_file) (rec_at s format.nodes_file id) id old.used)
 
-  pub node_was_there : list_any (λ e. nat_eq (node_number e) id) (graph_of s).nodes ≡ true
-  node_was_there = there_collect node_number (node_of s) (high s format.nodes_file) id (record { id = id; label = text_of (rec_at s format.names_file (node_in (rec_at s format.nodes_file id) id).label) }) refl
-      (ap (node_from (rec_at s format.names_file)) node_there) (kind_below (high s format.nodes_file) (rec_at s format.nodes_file id) id old.used)
+  pub node_was_lone : degree_in (graph_of s) id ≡ 0
+  node_was_lone = degree_in-degree s shape well id old.used ∙ old.alone
 
--- an identifier that isn't in use is no node's
-pub no_node : (s : Records) (id : ℕ) → kind_at s format.nodes_file id ≡ format.free_kind → list_any (λ e. nat_eq (node_number e) id) (graph_of s).nodes ≡ false
-no_node s id free = fresh_collect node_number (node_of s) (high s format.nodes_file) id (nc.nodes_numbered s) (ap (node_from (rec_at s format.names_file)) (row_none (kind_at s format.nodes_file id) (node_in (rec_at s format.nodes_file id) id) free))
+-- a sparse store stays one
+pub gone_store : (s t : Records) (shape : Shape) (id : ℕ) → IsGone s t shape format.nodes_file id → IsBare s id → IsSparseStore s shape → IsSparseStore t shape
+gone_store s t shape id lost old store = record {
+  keeps = gone_well s t shape id lost old store.keeps;
+  alone = un.alone_stays s t format.nodes_file id lost.change refl store.alone;
+  sparse = λ n d. ⊎_elim
+      (λ (e : n ≡ id). let p = sym (ap (kind_at t format.nodes_file) e ∙ lost.gone) ∙ d in omega arith)
+      (λ (ne : n ≢ id). store.sparse n (sym (nc.kind_other s t id lost.change n ne) ∙ d)) (nat_cases n id);
+}

@@ -1,17 +1,16 @@
 -- A new node keeps the rules, and is one more node of the graph.
-use Rattle.std.proofs.Common.{◌≡◌, ◌≢◌, ◌⊎◌, ℕ, ◌+◌, ◌<◌, ◌≤◌, nat_eq, Bool, true, false, cond, Option, None, Some, List, [], ◌∷◌, length, sym, ap, ◌∙◌, subst, inl, inr, ⊎_elim, arith, refl}
+use Rattle.std.proofs.Common.{◌≡◌, ◌≢◌, ℕ, ◌<◌, nat_eq, false, Option, None, Some, [], length, sym, ap, ◌∙◌, subst, inl, inr, ⊎_elim, arith, refl}
 use Rattle.std.specs.List.{list_any}
 use Rattle.std.proofs.lemmas.Bool.{true≢false}
-use Rattle.plain_graph.specs.Graph.{Graph, Node, node_number, with_row}
+use Rattle.plain_graph.specs.Graph.{Node, node_number, with_row}
 use Rattle.rec_bytes.specs.declared.record.Rec.{Rec}
 use Rattle.rec_bytes.specs.declared.shape.Shape.{Shape}
 use Rattle.rec_bytes.specs.Format as format
 use Rattle.rec_bytes.specs.Record.{field}
 use Rattle.store_rules.specs.Graph.{graph_of, node_from, node_of}
 use Rattle.store_rules.specs.Ranges.{Fits}
-use Rattle.store_rules.specs.Rows.{ids}
-use Rattle.store_rules.specs.Rules.{AllListed, AreCounted, AreNamed, HaveProperties, Head, IsEnd, IsListed, IsWellFormed, Owns, SparseHead, GroupHead, StandsAt, degree_of, node_first, node_head, property_files, stands_in}
-use Rattle.store_rules.specs.Views.{NodeRow, Records, RelRow, degree, first_link, group_at, high, kind_at, node_at, node_in, rec_at, rel_at, row_if, text_of}
+use Rattle.store_rules.specs.Rules.{AreCounted, AreNamed, HaveProperties, Head, IsEnd, IsListed, IsSparseStore, KeepsRules, Owns, SparseHead, GroupHead, StandsAt, degree_of, node_first, node_head, property_files, stands_in}
+use Rattle.store_rules.specs.Views.{NodeRow, Records, RelRow, degree, group_at, high, kind_at, node_at, node_in, rec_at, rel_at, row_if, text_of}
 use Rattle.store_rules.proofs.Changes as ch
 use Rattle.store_rules.proofs.Counts.{ids_none}
 use Rattle.store_rules.proofs.Frames.{properties_more}
@@ -31,7 +30,7 @@ pub record IsNewNode (rec : Rec) (number : ℕ) : Type 0 where
   pub degree : field 4 rec format.node_degree ≡ 0
   pub fits : (marks : ℕ → ℕ) → Fits marks format.nodes_file rec
 
-module _ (s t : Records) (shape : Shape) (id number : ℕ) (rec : Rec) (made : IsMade s t shape format.nodes_file id rec) (new : IsNewNode rec number) (well : IsWellFormed s shape) (known : number < high s format.names_file) where
+module _ (s t : Records) (shape : Shape) (id number : ℕ) (rec : Rec) (made : IsMade s t shape format.nodes_file id rec) (new : IsNewNode rec number) {most : ℕ} (well : KeepsRules s shape most) (known : number < high s format.names_file) where
   kind_new : kind_at t format.nodes_file id ≡ format.sparse
   kind_new = kind_low (high t format.nodes_file) (rec_at t format.nodes_file id) id made.below ∙ ap (λ r. field 1 r format.kind) made.here ∙ new.kind
 
@@ -105,8 +104,8 @@ module _ (s t : Records) (shape : Shape) (id number : ℕ) (rec : Rec) (made : I
   degree_other : (n : ℕ) → n ≢ id → degree t n ≡ degree s n
   degree_other n ne = ap (λ r. field 4 r format.node_degree) (nc.record_other s t id made.change n ne)
 
-  degrees : AreCounted (kind_at t format.nodes_file) (degree t) (rel_at t) (high t format.relationships_file) shape.threshold
-  degrees = un.degrees s t format.nodes_file id made.change refl shape.threshold
+  degrees : AreCounted (kind_at t format.nodes_file) (degree t) (rel_at t) (high t format.relationships_file) most
+  degrees = un.degrees s t format.nodes_file id made.change refl most
       (λ n some. ⊎_elim
       (λ (e : n ≡ id). subst (λ z. degree t z ≡ degree_of (rel_at s) (high s format.relationships_file) z) (sym e) (degree_new ∙ sym (ap length (ids_none (λ x. stands_in id (rel_at s x)) (high s format.relationships_file) none_at))))
       (λ (ne : n ≢ id). degree_other n ne ∙ well.degrees.each n (λ z. some (kind_other n ne ∙ z))) (nat_cases n id))
@@ -114,7 +113,7 @@ module _ (s t : Records) (shape : Shape) (id number : ℕ) (rec : Rec) (made : I
       (λ (e : n ≡ id). let z : degree t n ≡ 0 = ap (degree t) e ∙ degree_new in omega arith)
       (λ (ne : n ≢ id). let z = degree_other n ne in let b = well.degrees.few n (sym (kind_other n ne) ∙ d) in omega arith) (nat_cases n id))
 
-  pub node_well : IsWellFormed t shape
+  pub node_well : KeepsRules t shape most
   node_well = record {
     ranges = ch.in_range s t format.nodes_file id made.change shape made.meta (λ _. subst (Fits (high t) format.nodes_file) (sym made.here) (new.fits (high t))) well.ranges;
     split = ch.split_all s t format.nodes_file id made.change (λ _. (made.free, made.split)) well.split;
@@ -141,3 +140,13 @@ module _ (s t : Records) (shape : Shape) (id number : ℕ) (rec : Rec) (made : I
   pub node_added : (graph_of t).nodes ≡ with_row node_number (record { id = id; label = text_of (rec_at s format.names_file number) }) (graph_of s).nodes
   node_added = rows_with node_number (node_of s) (node_of t) (high s format.nodes_file) (high t format.nodes_file) id new_node (nc.nodes_numbered s) refl none_before
       (nc.node_text s t id made.change id ∙ ap (node_from (rec_at s format.names_file)) node_new) (nc.row_other s t id made.change) made.below made.grows
+
+-- a sparse store stays one
+pub node_store : (s t : Records) (shape : Shape) (id number : ℕ) (rec : Rec) → IsMade s t shape format.nodes_file id rec → IsNewNode rec number → IsSparseStore s shape → number < high s format.names_file → IsSparseStore t shape
+node_store s t shape id number rec made new store known = record {
+  keeps = node_well s t shape id number rec made new store.keeps known;
+  alone = un.alone_stays s t format.nodes_file id made.change refl store.alone;
+  sparse = λ n d. ⊎_elim
+      (λ (e : n ≡ id). let p = sym (ap (kind_at t format.nodes_file) e ∙ kind_new s t shape id number rec made new store.keeps known) ∙ d in omega arith)
+      (λ (ne : n ≢ id). store.sparse n (sym (nc.kind_other s t id made.change n ne) ∙ d)) (nat_cases n id);
+}

@@ -1,11 +1,11 @@
 -- The rules where no relationship, group, property or block changed.
-use Rattle.std.proofs.Common.{◌≡◌, ◌≢◌, ◌⊎◌, ℕ, ◌≤◌, Bool, true, false, nat_eq, not, Option, None, Some, List, sym, ap, ◌∙◌, subst, inl, inr, ⊎_elim, arith, refl}
+use Rattle.std.proofs.Common.{◌≡◌, ◌≢◌, ℕ, ◌≤◌, Bool, true, false, nat_eq, Option, Some, [], ◌∷◌, sym, ap, ◌∙◌, subst, inl, inr, refl}
+use Rattle.std.specs.List.{list_any}
 use Rattle.std.proofs.lemmas.Bool.{true≢false}
-use Rattle.rec_bytes.specs.declared.record.Rec.{Rec}
 use Rattle.rec_bytes.specs.declared.key.Key.{Key}
 use Rattle.rec_bytes.specs.Format as format
 use Rattle.rec_bytes.specs.RecordFiles.{is_meta_file}
-use Rattle.store_rules.specs.Rules.{AllListed, AreCounted, GroupHead, HaveProperties, Head, IsEnd, IsGrouped, IsLinked, IsListed, Owns, PropertyFiles, SparseHead, StandsAt, degree_of, is_to_come, node_head, property_files}
+use Rattle.store_rules.specs.Rules.{AreCounted, HaveProperties, Head, IsEnd, IsGrouped, IsLinked, IsListed, Owns, StandsAt, degree_of, is_to_come, property_files}
 use Rattle.store_rules.specs.Views.{GroupRow, NodeRow, Records, RelRow, degree, first_link, group_at, group_in, high, kind_at, rec_at, rel_at, rel_in, row_if}
 use Rattle.store_rules.proofs.Changes as ch
 use Rattle.store_rules.proofs.Changes.{IsChanged}
@@ -16,11 +16,19 @@ pub head_file : (kind : ℕ → ℕ) (groups : ℕ → Option GroupRow) (h : Hea
 head_file kind groups h n (inl k) = ap (λ (z : Head). is_meta_file z.key.file) k.is
 head_file kind groups h n (inr k) = ap (λ (z : Key). is_meta_file z.file) k.key
 
-module _ (s t : Records) (file id : ℕ) (change : IsChanged s t file id) (apart : is_to_come file ≡ false) where
-  other_file : (f : ℕ) → is_to_come f ≡ true → f ≢ file
-  other_file f is e = true≢false (sym is ∙ ap is_to_come e ∙ apart)
+-- the files of relationships, groups, properties and blocks
+abbrev pub is_beside : ℕ → Bool
+is_beside file = list_any (nat_eq file) (format.relationships_file ∷ format.groups_file ∷ format.properties_file ∷ format.strings_file ∷ [])
 
-  same : (f : ℕ) → is_meta_file f ≡ true → is_to_come f ≡ true → IsSame s t f
+-- a file to come stays as it was where another changed
+pub alone_stays : (s t : Records) (file id : ℕ) → IsChanged s t file id → is_to_come file ≡ false → ((f : ℕ) → is_to_come f ≡ true → high s f ≡ 0) → (f : ℕ) → is_to_come f ≡ true → high t f ≡ 0
+alone_stays s t file id change out alone f come = ch.mark_same s t file id change f (λ e. true≢false (sym come ∙ ap is_to_come e ∙ out)) ∙ alone f come
+
+module _ (s t : Records) (file id : ℕ) (change : IsChanged s t file id) (apart : is_beside file ≡ false) where
+  other_file : (f : ℕ) → is_beside f ≡ true → f ≢ file
+  other_file f is e = true≢false (sym is ∙ ap is_beside e ∙ apart)
+
+  same : (f : ℕ) → is_meta_file f ≡ true → is_beside f ≡ true → IsSame s t f
   same f is come = ch.same_file s t file id change f is (other_file f come)
 
   pub rels_same : rel_at t ≡ rel_at s
@@ -41,7 +49,7 @@ module _ (s t : Records) (file id : ℕ) (change : IsChanged s t file id) (apart
     string_live = live_same s t format.strings_file (same format.strings_file refl refl) i;
   }
 
-  rel_mark : high t format.relationships_file ≡ high s format.relationships_file
+  pub rel_mark : high t format.relationships_file ≡ high s format.relationships_file
   rel_mark = ch.mark_same s t file id change format.relationships_file (other_file format.relationships_file refl)
 
   -- the third rule, where the heads of the nodes list what stood at them, and the ends of relationships are the nodes that they were
@@ -70,7 +78,7 @@ module _ (s t : Records) (file id : ℕ) (change : IsChanged s t file id) (apart
   properties nodes names old = subst (λ r. HaveProperties (property_files t) nodes r names) (sym rels_same) (subst (λ f. HaveProperties f nodes (rel_at s) names) (sym properties_same) old)
 
   -- the seventh, by the kinds and degrees of the nodes
-  pub degrees : (threshold : ℕ) → ((n : ℕ) → kind_at t format.nodes_file n ≢ format.free_kind → degree t n ≡ degree_of (rel_at s) (high s format.relationships_file) n)
-      → ((n : ℕ) → kind_at t format.nodes_file n ≡ format.sparse → degree t n ≤ threshold) → AreCounted (kind_at t format.nodes_file) (degree t) (rel_at t) (high t format.relationships_file) threshold
-  degrees threshold each few = subst (λ r. AreCounted (kind_at t format.nodes_file) (degree t) r (high t format.relationships_file) threshold) (sym rels_same)
-      (subst (λ m. AreCounted (kind_at t format.nodes_file) (degree t) (rel_at s) m threshold) (sym rel_mark) (record { each = each; few = few }))
+  pub degrees : (most : ℕ) → ((n : ℕ) → kind_at t format.nodes_file n ≢ format.free_kind → degree t n ≡ degree_of (rel_at s) (high s format.relationships_file) n)
+      → ((n : ℕ) → kind_at t format.nodes_file n ≡ format.sparse → degree t n ≤ most) → AreCounted (kind_at t format.nodes_file) (degree t) (rel_at t) (high t format.relationships_file) most
+  degrees most each few = subst (λ r. AreCounted (kind_at t format.nodes_file) (degree t) r (high t format.relationships_file) most) (sym rels_same)
+      (subst (λ m. AreCounted (kind_at t format.nodes_file) (degree t) (rel_at s) m most) (sym rel_mark) (record { each = each; few = few }))

@@ -1,10 +1,10 @@
 -- The graph of the records of a well-formed store: its records in use, by ascending identifier. No chain is followed.
 use Rattle.std.specs.Prelude.{ℕ, Option, None, Some, List}
-use Rattle.plain_graph.specs.Graph.{Graph, Node}
+use Rattle.plain_graph.specs.Graph.{Edge, Graph, Node}
 use Rattle.rec_bytes.specs.declared.record.Rec.{Rec}
 use Rattle.rec_bytes.specs.Format as format
 use Rattle.store_rules.specs.Rows.{collect}
-use Rattle.store_rules.specs.Views.{NodeRow, Records, high, node_at, rec_at, text_of}
+use Rattle.store_rules.specs.Views.{NodeRow, Records, RelRow, high, node_at, rec_at, rel_at, text_of}
 
 abbrev pub node_from : (ℕ → Rec) → Option NodeRow → Option Node
 node_from name_file None = None
@@ -14,8 +14,20 @@ node_from name_file (Some row) = Some (record { id = row.id; label = text_of (na
 abbrev pub node_of : Records → ℕ → Option Node
 node_of records x = node_from (rec_at records format.names_file) (node_at records x)
 
+abbrev pub edge_from : (ℕ → Rec) → Option RelRow → Option Edge
+edge_from name_file None = None
+edge_from name_file (Some row) = Some (record { id = row.id; label = text_of (name_file row.label); from = row.from; to = row.to })
+
+-- the edge of this identifier, where it is in use
+abbrev pub edge_of : Records → ℕ → Option Edge
+edge_of records x = edge_from (rec_at records format.names_file) (rel_at records x)
+
 abbrev pub names_of : Records → List (List ℕ)
 names_of records = collect (λ x. Some (text_of (rec_at records format.names_file x))) (high records format.names_file)
 
 abbrev pub graph_of : Records → Graph
-graph_of records = record { nodes = collect (node_of records) (high records format.nodes_file); names = names_of records }
+graph_of records = record {
+  nodes = collect (node_of records) (high records format.nodes_file);
+  edges = collect (edge_of records) (high records format.relationships_file);
+  names = names_of records;
+}

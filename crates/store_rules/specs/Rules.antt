@@ -219,14 +219,15 @@ stands_in n (Some row) = is_at n row
 abbrev pub degree_of : (ℕ → Option RelRow) → ℕ → ℕ → ℕ
 degree_of rels mark n = length (ids (λ x. stands_in n (rels x)) mark)
 
-pub record AreCounted (kind degrees : ℕ → ℕ) (rels : ℕ → Option RelRow) (mark threshold : ℕ) : Type 0 where
+-- Degrees are exact, and a sparse node has at most so many relationships.
+pub record AreCounted (kind degrees : ℕ → ℕ) (rels : ℕ → Option RelRow) (mark most : ℕ) : Type 0 where
   pub each : (n : ℕ) → kind n ≢ format.free_kind → degrees n ≡ degree_of rels mark n
-  pub few : (n : ℕ) → kind n ≡ format.sparse → degrees n ≤ threshold
+  pub few : (n : ℕ) → kind n ≡ format.sparse → degrees n ≤ most
 
 -- ---- all of them
 
--- the records of a well-formed store of this shape
-pub record IsWellFormed (records : Records) (shape : Shape) : Type 0 where
+-- The records of a well-formed store of this shape, but for how many relationships a sparse node may have.
+pub record KeepsRules (records : Records) (shape : Shape) (most : ℕ) : Type 0 where
   pub ranges : AreInRange records shape
   pub split : (file : ℕ) → is_reused file ≡ true → (free : List ℕ) × IsSplit records file (is_live records file) free
   pub kept : (file : ℕ) → is_meta_file file ≡ true → is_reused file ≡ false → AreAllLive records file
@@ -235,15 +236,20 @@ pub record IsWellFormed (records : Records) (shape : Shape) : Type 0 where
   pub properties : HaveProperties (property_files records) (node_at records) (rel_at records) (high records format.names_file)
   pub named : AreNamed (node_at records) (rel_at records) (high records format.names_file)
   pub names : AreNames (rec_at records format.names_file) (high records format.names_file)
-  pub degrees : AreCounted (kind_at records format.nodes_file) (degree records) (rel_at records) (high records format.relationships_file) shape.threshold
+  pub degrees : AreCounted (kind_at records format.nodes_file) (degree records) (rel_at records) (high records format.relationships_file) most
+
+-- the records of a well-formed store of this shape
+abbrev pub IsWellFormed : Records → Shape → Type 0
+IsWellFormed records shape = KeepsRules records shape shape.threshold
 
 -- ---- the stores of this version
 
--- relationships, groups, properties and long texts are still to come
+-- groups, properties and long texts are still to come
 abbrev pub is_to_come : ℕ → Bool
-is_to_come file = list_any (nat_eq file) (format.relationships_file ∷ format.groups_file ∷ format.properties_file ∷ format.strings_file ∷ [])
+is_to_come file = list_any (nat_eq file) (format.groups_file ∷ format.properties_file ∷ format.strings_file ∷ [])
 
--- a well-formed store of nodes and names, in which no other record was ever given out
-pub record IsNodeStore (records : Records) (shape : Shape) : Type 0 where
-  pub well : IsWellFormed records shape
+-- A store of nodes, relationships and names, in which no other record was ever given out. Each node is sparse, whatever its degree.
+pub record IsSparseStore (records : Records) (shape : Shape) : Type 0 where
+  pub keeps : KeepsRules records shape format.most_ids
   pub alone : (file : ℕ) → is_to_come file ≡ true → high records file ≡ 0
+  pub sparse : (n : ℕ) → kind_at records format.nodes_file n ≢ format.dense

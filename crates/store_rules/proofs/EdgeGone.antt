@@ -1,0 +1,97 @@
+-- A relationship that goes from between sparse nodes keeps the rules, and is one edge less of the graph.
+use Rattle.std.specs.List.{list_any}
+use Rattle.std.proofs.Common.{◌≡◌, ◌≢◌, ℕ, ◌+◌, ◌<◌, ◌≤◌, nat_eq, true, false, None, Some, length, sym, ap, ◌∙◌, inl, ⊎_elim, arith, refl}
+use Rattle.plain_graph.specs.Graph.{edge_number, without_row}
+use Rattle.rec_bytes.specs.declared.shape.Shape.{Shape}
+use Rattle.rec_bytes.specs.Format as format
+use Rattle.rec_bytes.specs.RecordFiles.{room_of}
+use Rattle.store_rules.specs.Graph.{edge_from, edge_of, graph_of, names_of}
+use Rattle.store_rules.specs.Rows.{collect}
+use Rattle.store_rules.specs.Rules.{AllListed, IsEnd, IsSparseStore, SparseHead, degree_of, stands_in}
+use Rattle.store_rules.specs.Views.{Records, RelRow, degree, high, is_at, kind_at, rec_at, rel_at, rel_in, text_of}
+use Rattle.store_rules.proofs.Changes as ch
+use Rattle.store_rules.proofs.Counts.{ids_with}
+use Rattle.store_rules.proofs.EdgeChange as ec
+use Rattle.store_rules.proofs.EdgeChange.{IsEdgeChange, IsEdgeStore, Stands, edge_store}
+use Rattle.store_rules.proofs.EdgeMade.{end_cases, ids_kept, no_row}
+use Rattle.store_rules.proofs.GraphRows.{edges_numbered}
+use Rattle.store_rules.proofs.Made.{IsGone}
+use Rattle.store_rules.proofs.NumberLaws.{nat_cases}
+use Rattle.store_rules.proofs.Relinks as re
+use Rattle.store_rules.proofs.Relinks.{IsRelinked}
+use Rattle.store_rules.proofs.RowLaws.{collect_without, there_collect}
+use Rattle.store_rules.proofs.ViewLaws.{kind_below, some_row}
+
+-- Links and degrees were set, and then the record of a relationship between sparse nodes was given back.
+pub record IsEdgeGone (s u t : Records) (shape : Shape) (id : ℕ) (row : RelRow) : Type 0 where
+  pub links : IsRelinked s u
+  pub gone : IsGone u t shape format.relationships_file id
+  pub live : rel_at s id ≡ Some row
+  pub room : room_of shape format.relationships_file ≤ format.most_ids
+  pub listed : AllListed t (SparseHead (kind_at s format.nodes_file)) (Stands (rel_at t))
+  pub less : (n : ℕ) → IsEnd n row → degree t n + 1 ≡ degree s n
+  pub as_before : (n : ℕ) → ¬ IsEnd n row → degree t n ≡ degree s n
+
+module _ (s u t : Records) (shape : Shape) (id : ℕ) (row : RelRow) (edge : IsEdgeGone s u t shape id row) (store : IsSparseStore s shape) where
+  change : IsEdgeChange s t id
+  change = ec.relinked_changed s u t id edge.links edge.gone.change
+
+  rel_gone : rel_at t id ≡ None
+  rel_gone = no_row t id edge.gone.gone
+
+  mark : high t format.relationships_file ≡ high s format.relationships_file
+  mark = edge.gone.mark ∙ re.mark_stays s u edge.links format.relationships_file
+
+  row_is : (kind_at s format.relationships_file id ≢ 0) × (rel_in (rec_at s format.relationships_file id) id ≡ row)
+  row_is = some_row (kind_at s format.relationships_file id) (rel_in (rec_at s format.relationships_file id) id) row edge.live
+
+  id_low : id < high s format.relationships_file
+  id_low = kind_below (high s format.relationships_file) (rec_at s format.relationships_file id) id row_is.0
+
+  less_at : (n : ℕ) → is_at n row ≡ true → degree_of (rel_at s) (high s format.relationships_file) n ≡ degree_of (rel_at t) (high s format.relationships_file) n + 1
+  less_at n e = ids_with (λ x. stands_in n (rel_at t x)) (λ x. stands_in n (rel_at s x)) (high s format.relationships_file) (high s format.relationships_file) id
+      (ap (stands_in n) rel_gone) (ap (stands_in n) edge.live ∙ e) (λ x ne. ap (stands_in n) (sym (change.rels x ne))) id_low (inl refl)
+
+  same_at : (n : ℕ) → is_at n row ≡ false → degree_of (rel_at t) (high s format.relationships_file) n ≡ degree_of (rel_at s) (high s format.relationships_file) n
+  same_at n e = ap length (ids_kept (λ x. stands_in n (rel_at s x)) (λ x. stands_in n (rel_at t x)) (high s format.relationships_file) (high s format.relationships_file) id
+      (λ x. ⊎_elim (λ (k : x ≡ id). ap (λ z. stands_in n (rel_at t z)) k ∙ ap (stands_in n) rel_gone ∙ sym (ap (stands_in n) edge.live ∙ e) ∙ ap (λ z. stands_in n (rel_at s z)) (sym k)) (λ ne. ap (stands_in n) (change.rels x ne)) (nat_cases x id))
+      (ap (stands_in n) edge.live ∙ e) (inl refl))
+
+  lower : (a b c d : ℕ) → a + 1 ≡ b → b ≡ c → c ≡ d + 1 → a ≡ d
+  lower a b c d p q r = omega arith
+
+  counted : (n : ℕ) → kind_at s format.nodes_file n ≢ format.free_kind → degree t n ≡ degree_of (rel_at t) (high t format.relationships_file) n
+  counted n some = end_cases n row
+      (λ end at. lower _ _ _ _ (edge.less n end) (store.keeps.degrees.each n some) (less_at n at))
+      (λ out at. edge.as_before n out ∙ store.keeps.degrees.each n some ∙ sym (same_at n at))
+      ∙ ap (λ m. degree_of (rel_at t) m n) (sym mark)
+
+  now : IsEdgeStore s t shape id
+  now = record {
+    change = change;
+    room = edge.room;
+    ranges = ch.in_range u t format.relationships_file id edge.gone.change shape edge.gone.meta (λ _. edge.gone.fits) (re.range_stays s u edge.links shape store.keeps.ranges);
+    free = edge.gone.free;
+    split = edge.gone.split;
+    row = λ a e. absurd (let z : None ≡ Some a = sym rel_gone ∙ e in cc);
+    listed = edge.listed;
+    counted = counted;
+  }
+
+  pub gone_store : IsSparseStore t shape
+  gone_store = edge_store s t shape id store now
+
+  -- ---- the graph
+  pub gone_nodes : (graph_of t).nodes ≡ (graph_of s).nodes
+  gone_nodes = ec.nodes_stay s t id change
+
+  pub gone_names : names_of t ≡ names_of s
+  gone_names = ec.names_stay s t id change
+
+  pub gone_there : list_any (λ e. nat_eq (edge_number e) id) (graph_of s).edges ≡ true
+  gone_there = there_collect edge_number (edge_of s) (high s format.relationships_file) id
+      (record { id = row.id; label = text_of (rec_at s format.names_file row.label); from = row.from; to = row.to }) (ap (λ (r : RelRow). r.id) (sym row_is.1)) (ap (edge_from (rec_at s format.names_file)) edge.live) id_low
+
+  pub gone_edges : (graph_of t).edges ≡ without_row edge_number id (graph_of s).edges
+  gone_edges = ap (collect (edge_of t)) mark ∙ collect_without edge_number (edge_of s) (edge_of t) (high s format.relationships_file) id (edges_numbered s)
+      (ec.edge_now s t id change id ∙ ap (edge_from (rec_at s format.names_file)) rel_gone) (λ x _ ne. ec.edge_other s t id change x ne) id_low

@@ -1,0 +1,151 @@
+-- A relationship made between sparse nodes keeps the rules, and is one more edge of the graph.
+use Rattle.std.specs.List.{list_any}
+use Rattle.std.proofs.Common.{◌≡◌, ◌≢◌, ◌⊎◌, ℕ, suc, ◌+◌, ◌<◌, ◌≤◌, nat_eq, Bool, true, false, cond, ◌||◌, None, Some, length, sym, ap, ◌∙◌, subst, inl, inr, ⊎_elim, arith, refl}
+use Rattle.plain_graph.specs.Graph.{edge_number, with_row}
+use Rattle.rec_bytes.specs.declared.record.Rec.{Rec}
+use Rattle.rec_bytes.specs.declared.shape.Shape.{Shape}
+use Rattle.rec_bytes.specs.Format as format
+use Rattle.rec_bytes.specs.Record.{field}
+use Rattle.rec_bytes.specs.RecordFiles.{room_of}
+use Rattle.store_rules.specs.Graph.{edge_from, edge_of, graph_of, names_of}
+use Rattle.store_rules.specs.Ranges.{Fits}
+use Rattle.store_rules.specs.Rows.{ids, if_test}
+use Rattle.store_rules.specs.Rules.{AllListed, IsEnd, IsSparseStore, SparseHead, degree_of, stands_in}
+use Rattle.store_rules.specs.Views.{Records, RelRow, degree, high, is_at, kind_at, rec_at, rel_at, rel_in, text_of}
+use Rattle.store_rules.proofs.Changes as ch
+use Rattle.store_rules.proofs.Counts.{ids_with}
+use Rattle.store_rules.proofs.EdgeChange as ec
+use Rattle.store_rules.proofs.EdgeChange.{IsEdgeChange, IsEdgeStore, Stands, edge_store, rels_relinked}
+use Rattle.store_rules.proofs.GraphRows.{edges_numbered}
+use Rattle.store_rules.proofs.Made.{IsMade}
+use Rattle.store_rules.proofs.NumberLaws.{eq_false, eq_true, nat_cases}
+use Rattle.store_rules.proofs.Relinks as re
+use Rattle.store_rules.proofs.Relinks.{IsRelinked}
+use Rattle.store_rules.proofs.RowLaws.{append_none, collect_same, fresh_collect, rows_with}
+use Rattle.store_rules.proofs.SparseStores.{IsGoodRow}
+use Rattle.store_rules.proofs.ViewLaws.{kind_low, row_none, row_some}
+
+-- a test that the new number fails counts as many
+pub ids_kept : (old now : ℕ → Bool) (n m id : ℕ) → ((x : ℕ) → now x ≡ old x) → old id ≡ false → (m ≡ n) ⊎ ((id ≡ n) × (m ≡ n + 1)) → ids now m ≡ ids old n
+ids_kept old now n m id same out way = all m ∙ ⊎_elim
+    (λ (e : m ≡ n). ap (ids old) e)
+    (λ (k : (id ≡ n) × (m ≡ n + 1)). ap (ids old) (k.1 ∙ add n) ∙ gone n (subst (λ z. old z ≡ false) k.0 out)) way
+  where
+    add : (n : ℕ) → n + 1 ≡ suc n
+    add n = omega arith
+
+    gone : (n : ℕ) → old n ≡ false → ids old (suc n) ≡ ids old n
+    gone n e = rw e (append_none (ids old n))
+
+    all : (m : ℕ) → ids now m ≡ ids old m
+    all m = collect_same (λ (e : ℕ). e) (if_test old) (if_test now) m (λ x _. ap (λ b. cond b (Some x) None) (same x))
+
+-- a node is an end of the row, or isn't
+pub end_cases : {P : Type 0} (n : ℕ) (row : RelRow) → (IsEnd n row → is_at n row ≡ true → P) → (¬ IsEnd n row → is_at n row ≡ false → P) → P
+end_cases n row at out = ⊎_elim
+    (λ (e : row.from ≡ n). at (inl e) (rw (eq_true row.from n e) refl))
+    (λ (a : row.from ≢ n). ⊎_elim
+    (λ (e : row.to ≡ n). at (inr e) (rw (eq_true row.to n e) (or_true (nat_eq row.from n))))
+    (λ (b : row.to ≢ n). out (λ i. ⊎_elim a b i) (rw (eq_false row.from n a, eq_false row.to n b) refl)) (nat_cases row.to n)) (nat_cases row.from n)
+  where
+    or_true : (a : Bool) → (a || true) ≡ true
+    or_true true = refl
+    or_true false = refl
+
+-- The record of a relationship between sparse nodes was made, and then links and degrees were set.
+pub record IsEdgeMade (s m t : Records) (shape : Shape) (id : ℕ) (rec : Rec) (row : RelRow) : Type 0 where
+  pub made : IsMade s m shape format.relationships_file id rec
+  pub links : IsRelinked m t
+  pub is : rel_in rec id ≡ row
+  pub used : field 1 rec format.kind ≢ format.free_kind
+  pub fits : Fits (high m) format.relationships_file rec
+  pub good : IsGoodRow s row
+  pub room : room_of shape format.relationships_file ≤ format.most_ids
+  pub listed : AllListed t (SparseHead (kind_at s format.nodes_file)) (Stands (rel_at t))
+  pub more : (n : ℕ) → IsEnd n row → degree t n ≡ degree s n + 1
+  pub as_before : (n : ℕ) → ¬ IsEnd n row → degree t n ≡ degree s n
+
+-- the row of a record that was made, and none before
+pub made_row : (s m : Records) (shape : Shape) (id : ℕ) (rec : Rec) → IsMade s m shape format.relationships_file id rec → field 1 rec format.kind ≢ format.free_kind → rel_at m id ≡ Some (rel_in rec id)
+made_row s m shape id rec made used = row_some (kind_at m format.relationships_file id) (rel_in (rec_at m format.relationships_file id) id)
+    (λ e. used (sym (kind_low (high m format.relationships_file) (rec_at m format.relationships_file id) id made.below ∙ ap (λ r. field 1 r format.kind) made.here) ∙ e)) ∙ ap (λ r. Some (rel_in r id)) made.here
+
+pub no_row : (s : Records) (id : ℕ) → kind_at s format.relationships_file id ≡ format.free_kind → rel_at s id ≡ None
+no_row s id free = row_none (kind_at s format.relationships_file id) (rel_in (rec_at s format.relationships_file id) id) free
+
+module _ (s m t : Records) (shape : Shape) (id : ℕ) (rec : Rec) (row : RelRow) (edge : IsEdgeMade s m t shape id rec row) (store : IsSparseStore s shape) where
+  change : IsEdgeChange s t id
+  change = ec.changed_relinked s m t id edge.made.change edge.links
+
+  rel_old : rel_at s id ≡ None
+  rel_old = no_row s id edge.made.fresh
+
+  rel_new : rel_at t id ≡ Some row
+  rel_new = rels_relinked m t edge.links id ∙ made_row s m shape id rec edge.made edge.used ∙ ap (λ r. Some r) edge.is
+
+  mark : high t format.relationships_file ≡ high m format.relationships_file
+  mark = re.mark_stays m t edge.links format.relationships_file
+
+  way : (high t format.relationships_file ≡ high s format.relationships_file) ⊎ ((id ≡ high s format.relationships_file) × (high t format.relationships_file ≡ high s format.relationships_file + 1))
+  way = ⊎_elim (λ e. inl (mark ∙ e)) (λ k. inr (k.0, mark ∙ k.1)) edge.made.grows
+
+  below : id < high t format.relationships_file
+  below = let b = edge.made.below in let e = mark in omega arith
+
+  more_at : (n : ℕ) → is_at n row ≡ true → degree_of (rel_at t) (high t format.relationships_file) n ≡ degree_of (rel_at s) (high s format.relationships_file) n + 1
+  more_at n e = ids_with (λ x. stands_in n (rel_at s x)) (λ x. stands_in n (rel_at t x)) (high s format.relationships_file) (high t format.relationships_file) id
+      (ap (stands_in n) rel_old) (ap (stands_in n) rel_new ∙ e) (λ x ne. ap (stands_in n) (change.rels x ne)) below way
+
+  same_at : (n : ℕ) → is_at n row ≡ false → degree_of (rel_at t) (high t format.relationships_file) n ≡ degree_of (rel_at s) (high s format.relationships_file) n
+  same_at n e = ap length (ids_kept (λ x. stands_in n (rel_at s x)) (λ x. stands_in n (rel_at t x)) (high s format.relationships_file) (high t format.relationships_file) id
+      (λ x. ⊎_elim (λ (k : x ≡ id). ap (λ z. stands_in n (rel_at t z)) k ∙ ap (stands_in n) rel_new ∙ e ∙ sym (ap (stands_in n) rel_old) ∙ ap (λ z. stands_in n (rel_at s z)) (sym k)) (λ ne. ap (stands_in n) (change.rels x ne)) (nat_cases x id))
+      (ap (stands_in n) rel_old) way)
+
+  counted : (n : ℕ) → kind_at s format.nodes_file n ≢ format.free_kind → degree t n ≡ degree_of (rel_at t) (high t format.relationships_file) n
+  counted n some = end_cases n row
+      (λ end at. edge.more n end ∙ ap (λ d. d + 1) (store.keeps.degrees.each n some) ∙ sym (more_at n at))
+      (λ out at. edge.as_before n out ∙ store.keeps.degrees.each n some ∙ sym (same_at n at))
+
+  same_row : (a : RelRow) → rel_at t id ≡ Some a → row ≡ a
+  same_row a e = inner row a (sym rel_new ∙ e)
+    where
+      inner : (a b : RelRow) → Some a ≡ Some b → a ≡ b
+      inner a b e = cc
+
+  now : IsEdgeStore s t shape id
+  now = record {
+    change = change;
+    room = edge.room;
+    ranges = re.range_stays m t edge.links shape
+        (ch.in_range s m format.relationships_file id edge.made.change shape edge.made.meta (λ _. subst (Fits (high m) format.relationships_file) (sym edge.made.here) edge.fits) store.keeps.ranges);
+    free = edge.made.free;
+    split = re.split_stays m t edge.links format.relationships_file edge.made.free edge.made.split;
+    row = λ a e. subst (IsGoodRow s) (same_row a e) edge.good;
+    listed = edge.listed;
+    counted = counted;
+  }
+
+  pub made_store : IsSparseStore t shape
+  made_store = edge_store s t shape id store now
+
+  -- ---- the graph
+  pub made_nodes : (graph_of t).nodes ≡ (graph_of s).nodes
+  made_nodes = ec.nodes_stay s t id change
+
+  pub made_names : names_of t ≡ names_of s
+  made_names = ec.names_stay s t id change
+
+  none_before : edge_of s id ≡ None
+  none_before = ap (edge_from (rec_at s format.names_file)) rel_old
+
+  pub made_fresh : list_any (λ e. nat_eq (edge_number e) id) (graph_of s).edges ≡ false
+  made_fresh = fresh_collect edge_number (edge_of s) (high s format.relationships_file) id (edges_numbered s) none_before
+
+  number_is : row.id ≡ id
+  number_is = ap (λ (r : RelRow). r.id) (sym edge.is)
+
+  pub made_edges : (graph_of t).edges ≡ with_row edge_number (record { id = id; label = text_of (rec_at s format.names_file row.label); from = row.from; to = row.to }) (graph_of s).edges
+  made_edges = rows_with edge_number (edge_of s) (edge_of t) (high s format.relationships_file) (high t format.relationships_file) id
+      (record { id = id; label = text_of (rec_at s format.names_file row.label); from = row.from; to = row.to }) (edges_numbered s) refl none_before
+      (ec.edge_now s t id change id ∙ ap (edge_from (rec_at s format.names_file)) rel_new ∙ ap (λ n. Some (record { id = n; label = text_of (rec_at s format.names_file row.label); from = row.from; to = row.to })) number_is)
+      (ec.edge_other s t id change) below way

@@ -1,0 +1,129 @@
+-- A link or a degree that is set in a record that fits.
+use Rattle.std.proofs.Common.{◌≡◌, ◌⊎◌, ℕ, ◌+◌, ◌<◌, ◌≤◌, ◌^◌, nat_lt, nat_eq, Bool, true, false, ◌&&◌, ◌||◌, Some, List, [], ◌∷◌, sym, ap, ◌∙◌, subst, inl, inr, ⊎_elim, arith, refl}
+use Rattle.std.specs.List.{list_any}
+use Rattle.std.proofs.lemmas.Bool.{cases_lt}
+use Rattle.std.proofs.lemmas.Bool.Decides.{nat_tests}
+use Rattle.rec_bytes.specs.declared.record.Rec.{Rec}
+use Rattle.rec_bytes.specs.Format as format
+use Rattle.rec_bytes.specs.Record.{field, with_field}
+use Rattle.rec_bytes.proofs.Numbers.{field-with_field_other, field-with_field_same}
+use Rattle.store_rules.specs.Ranges.{Fits, IsBlankOutside, Layout, Pointer, all_point, bytes_of, is_in, layout_by, layout_of, may, must, points}
+use Rattle.store_rules.proofs.NumberLaws.{and_parts, eq_true, lt_true}
+
+-- none, or below a mark
+abbrev pub IsLow : ℕ → ℕ → Type 0
+IsLow mark link = (link ≡ format.nil) ⊎ (link < mark)
+
+-- the place is a link's
+abbrev pub IsLink : ℕ → Type 0
+IsLink at = (at ≡ format.relationship_source_previous) ⊎ ((at ≡ format.relationship_source_next)
+    ⊎ ((at ≡ format.relationship_target_previous) ⊎ (at ≡ format.relationship_target_next)))
+
+abbrev node_layout_is : Layout
+node_layout_is = record {
+  pointers = may format.node_first_link format.relationships_file ∷ may format.node_first_property format.properties_file ∷ [];
+  used = bytes_of format.kind 1 ∷ bytes_of format.node_label 16 ∷ [];
+}
+
+abbrev rel_layout_is : Layout
+rel_layout_is = record {
+  pointers = must format.relationship_source format.nodes_file ∷ must format.relationship_target format.nodes_file
+      ∷ may format.relationship_source_previous format.relationships_file ∷ may format.relationship_source_next format.relationships_file
+      ∷ may format.relationship_target_previous format.relationships_file ∷ may format.relationship_target_next format.relationships_file
+      ∷ may format.relationship_first_property format.properties_file ∷ [];
+  used = bytes_of format.kind 1 ∷ bytes_of format.relationship_type 32 ∷ [];
+}
+
+inner : (a b : Layout) → Some a ≡ Some b → a ≡ b
+inner a b e = cc
+
+-- a byte outside of the used ones stands apart from each four of them
+apart_used : (i at size : ℕ) → 4 ≤ at → at + 4 ≤ 4 + size → list_any (is_in i) (bytes_of format.kind 1 ∷ bytes_of 4 size ∷ []) ≡ false → (i + 1 ≤ at) ⊎ (at + 4 ≤ i)
+apart_used i at size low high out = ⊎_elim (λ (l : i < 4). inl (omega arith)) (λ (ge : 4 ≤ i). ⊎_elim (λ (l : i < 4 + size). absurd (let a : 4 + size ≤ i = grind (arith, nat_tests) in omega arith)) (λ (k : 4 + size ≤ i). inr (omega arith)) (cases_lt i (4 + size))) (cases_lt i 4)
+
+module _ (marks : ℕ → ℕ) (r : Rec) (at to : ℕ) (low : 4 ≤ at) (fits : at + 4 ≤ 64) (small : to < 2 ^ 32) where
+  abbrev now : Rec
+  now = with_field 4 r at to
+
+  other : (n place : ℕ) → place + n ≤ 64 → (place + n ≤ at) ⊎ (at + 4 ≤ place) → field n now place ≡ field n r place
+  other n place inside apart = field-with_field_other 4 r at to n place inside (⊎_elim (λ below. inr below) (λ above. inl above) apart)
+
+  here : field 4 now at ≡ to
+  here = field-with_field_same 4 r at to fits small
+
+  kind_same : field 1 now format.kind ≡ field 1 r format.kind
+  kind_same = other 1 0 (omega arith) (inl (omega arith))
+
+  -- each pointer stands apart from the place, or there, where the number is one that it may be
+  abbrev PointRight : List Pointer → Type 0
+  PointRight [] = Unit {0}
+  PointRight (p ∷ ps) = (((p.place + 4 ≤ 64) × ((p.place + 4 ≤ at) ⊎ (at + 4 ≤ p.place))) ⊎ ((p.place ≡ at) × (p.optional ≡ true) × IsLow (marks p.into) to)) × PointRight ps
+
+  right_of : (a : Bool) → (a || true) ≡ true
+  right_of true = refl
+  right_of false = refl
+
+  point_here : (p : Pointer) → p.place ≡ at → p.optional ≡ true → IsLow (marks p.into) to → points marks now p ≡ true
+  point_here p is optional low = ⊎_elim
+      (λ (e : to ≡ format.nil). rw (ap (field 4 now) is ∙ here, optional, eq_true to format.nil e) (right_of (nat_lt to (marks p.into))))
+      (λ (lt : to < marks p.into). rw (ap (field 4 now) is ∙ here, lt_true to (marks p.into) lt) refl) low
+
+  all_right : (ps : List Pointer) → PointRight ps → all_point marks r ps ≡ true → all_point marks now ps ≡ true
+  all_right [] h old = refl
+  all_right (p ∷ ps) h old =
+      let k = and_parts (points marks r p) (all_point marks r ps) old in
+      let first : points marks now p ≡ true = ⊎_elim
+      (λ (a : (p.place + 4 ≤ 64) × ((p.place + 4 ≤ at) ⊎ (at + 4 ≤ p.place))). ap (λ v. nat_lt v (marks p.into) || (p.optional && nat_eq v format.nil)) (other 4 p.place a.0 a.1) ∙ k.0)
+      (λ b. point_here p b.0 b.1 b.2) h.0 in
+      rw (first, all_right ps h.1 k.1) refl
+
+  fits_as : (file size : ℕ) (layout : Layout) → layout.used ≡ bytes_of format.kind 1 ∷ bytes_of 4 size ∷ [] → at + 4 ≤ 4 + size → PointRight layout.pointers
+      → layout_of file r ≡ Some layout → layout_of file now ≡ Some layout → Fits marks file r → Fits marks file now
+  fits_as file size layout used inside right old new h =
+      let same : layout ≡ h.layout = inner layout h.layout (sym old ∙ h.is) in
+      record {
+        layout = layout;
+        is = new;
+        point = all_right layout.pointers right (subst (λ (l : Layout). all_point marks r l.pointers ≡ true) (sym same) h.point);
+        blank = λ i lt out. other 1 i (omega arith) (apart_used i at size low inside (ap (list_any (is_in i)) (sym used) ∙ out))
+            ∙ (subst (λ (l : Layout). IsBlankOutside l.used r) (sym same) h.blank) i lt out;
+      }
+
+  node_as : at + 4 ≤ 20 → PointRight node_layout_is.pointers → field 1 r format.kind ≡ format.sparse → Fits marks format.nodes_file r → Fits marks format.nodes_file now
+  node_as inside right kind = fits_as format.nodes_file 16 node_layout_is refl inside right (ap (layout_by format.nodes_file r) kind) (ap (layout_by format.nodes_file now) (kind_same ∙ kind))
+
+  rel_as : at + 4 ≤ 36 → PointRight rel_layout_is.pointers → field 1 r format.kind ≡ format.related → Fits marks format.relationships_file r → Fits marks format.relationships_file now
+  rel_as inside right kind = fits_as format.relationships_file 32 rel_layout_is refl inside right (ap (layout_by format.relationships_file r) kind) (ap (layout_by format.relationships_file now) (kind_same ∙ kind))
+
+-- the first link of a sparse node
+pub fits_first : (marks : ℕ → ℕ) (r : Rec) (to : ℕ) → to < 2 ^ 32 → IsLow (marks format.relationships_file) to → field 1 r format.kind ≡ format.sparse → Fits marks format.nodes_file r
+    → Fits marks format.nodes_file (with_field 4 r format.node_first_link to)
+fits_first marks r to small low = node_as marks r format.node_first_link to (omega arith) (omega arith) small (omega arith) (inr (refl, refl, low), (inl (omega arith, inr (omega arith)), tt))
+
+-- its degree
+pub fits_degree : (marks : ℕ → ℕ) (r : Rec) (to : ℕ) → to < 2 ^ 32 → field 1 r format.kind ≡ format.sparse → Fits marks format.nodes_file r → Fits marks format.nodes_file (with_field 4 r format.node_degree to)
+fits_degree marks r to small = node_as marks r format.node_degree to (omega arith) (omega arith) small (omega arith) (inl (omega arith, inl (omega arith)), (inl (omega arith, inl (omega arith)), tt))
+
+abbrev LinkFits : (ℕ → ℕ) → Rec → ℕ → ℕ → Type 0
+LinkFits marks r to at = field 1 r format.kind ≡ format.related → Fits marks format.relationships_file r → Fits marks format.relationships_file (with_field 4 r at to)
+
+-- a link of a relationship
+pub fits_link : (marks : ℕ → ℕ) (r : Rec) (at to : ℕ) → IsLink at → to < 2 ^ 32 → IsLow (marks format.relationships_file) to → field 1 r format.kind ≡ format.related → Fits marks format.relationships_file r
+    → Fits marks format.relationships_file (with_field 4 r at to)
+fits_link marks r at to is small low = ⊎_elim (λ (e : at ≡ 16). subst (LinkFits marks r to) (sym e) at_16) (λ k. ⊎_elim (λ (e : at ≡ 20). subst (LinkFits marks r to) (sym e) at_20) (λ l. ⊎_elim (λ (e : at ≡ 24). subst (LinkFits marks r to) (sym e) at_24) (λ (e : at ≡ 28). subst (LinkFits marks r to) (sym e) at_28) l) k) is
+  where
+    at_16 : LinkFits marks r to 16
+    at_16 = rel_as marks r 16 to (omega arith) (omega arith) small (omega arith)
+        (inl (omega arith, inl (omega arith)), (inl (omega arith, inl (omega arith)), (inr (refl, refl, low), (inl (omega arith, inr (omega arith)), (inl (omega arith, inr (omega arith)), (inl (omega arith, inr (omega arith)), (inl (omega arith, inr (omega arith)), tt)))))))
+
+    at_20 : LinkFits marks r to 20
+    at_20 = rel_as marks r 20 to (omega arith) (omega arith) small (omega arith)
+        (inl (omega arith, inl (omega arith)), (inl (omega arith, inl (omega arith)), (inl (omega arith, inl (omega arith)), (inr (refl, refl, low), (inl (omega arith, inr (omega arith)), (inl (omega arith, inr (omega arith)), (inl (omega arith, inr (omega arith)), tt)))))))
+
+    at_24 : LinkFits marks r to 24
+    at_24 = rel_as marks r 24 to (omega arith) (omega arith) small (omega arith)
+        (inl (omega arith, inl (omega arith)), (inl (omega arith, inl (omega arith)), (inl (omega arith, inl (omega arith)), (inl (omega arith, inl (omega arith)), (inr (refl, refl, low), (inl (omega arith, inr (omega arith)), (inl (omega arith, inr (omega arith)), tt)))))))
+
+    at_28 : LinkFits marks r to 28
+    at_28 = rel_as marks r 28 to (omega arith) (omega arith) small (omega arith)
+        (inl (omega arith, inl (omega arith)), (inl (omega arith, inl (omega arith)), (inl (omega arith, inl (omega arith)), (inl (omega arith, inl (omega arith)), (inl (omega arith, inl (omega arith)), (inr (refl, refl, low), (inl (omega arith, inr (omega arith)), tt)))))))
