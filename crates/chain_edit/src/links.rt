@@ -47,6 +47,7 @@ pub(crate) fn set_next<S: Space>(
     ensures ok { S.tells → OnOk result (S.state space.new ≡ next_set (S.state space.old) node id to) }
     ensures err { OnErr result (S.state space.new ≡ after_get (S.state space.old)) }
     ensures writes { WritesOnly (S.state space.old) (S.state space.new) (rel_key id ∷ []) }
+    ensures shape { S.tells → (S.state space.new).shape ≡ (S.state space.old).shape }
     ensures onward { S.onward space.old space.new }
     ensures cause { HasCause (S.faults space.old) (S.faults space.new) result }
 {
@@ -65,6 +66,7 @@ fn set_previous<S: Space>(space: &mut S, id: u32, node: u32, to: u32) -> Result<
     ensures ok { S.tells → OnOk result (S.state space.new ≡ prev_set (S.state space.old) node id to) }
     ensures err { OnErr result (S.state space.new ≡ after_get (S.state space.old)) }
     ensures writes { WritesOnly (S.state space.old) (S.state space.new) (rel_key id ∷ []) }
+    ensures shape { S.tells → (S.state space.new).shape ≡ (S.state space.old).shape }
     ensures onward { S.onward space.old space.new }
     ensures cause { HasCause (S.faults space.old) (S.faults space.new) result }
 {
@@ -83,6 +85,7 @@ pub(crate) fn back<S: Space>(space: &mut S, id: u32, node: u32, to: u32) -> Resu
     requires { id ≢ NIL → IsKey (rel_key id) }
     ensures ok { S.tells → OnOk result (S.state space.new ≡ backed (S.state space.old) node id to) }
     ensures writes { WritesOnly (S.state space.old) (S.state space.new) (rel_key id ∷ []) }
+    ensures shape { S.tells → (S.state space.new).shape ≡ (S.state space.old).shape }
     ensures onward { S.onward space.old space.new }
     ensures cause { HasCause (S.faults space.old) (S.faults space.new) result }
 {

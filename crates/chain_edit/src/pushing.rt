@@ -39,6 +39,7 @@ pub fn push_front<S: Space>(
         (rel_key (first_of (S.state space.old).records (head_of head)) ∷ rel_key rel ∷ head.key ∷ []) }
     ensures writes { (first : ℕ) × WritesOnly (S.state space.old) (S.state space.new)
         (rel_key first ∷ rel_key rel ∷ head.key ∷ []) }
+    ensures shape { S.tells → (S.state space.new).shape ≡ (S.state space.old).shape }
     ensures onward { S.onward space.old space.new }
     ensures cause { HasChainCause (S.faults space.old) (S.faults space.new) result }
 {

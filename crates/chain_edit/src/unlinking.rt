@@ -39,6 +39,7 @@ pub fn unlink<S: Space>(space: &mut S, head: Head, node: u32, rel: u32) -> Resul
         ∷ rel_key (next_of (S.state space.old).records node rel) ∷ head.key ∷ []) }
     ensures writes { (before after : ℕ) × WritesOnly (S.state space.old) (S.state space.new)
         (rel_key before ∷ rel_key rel ∷ rel_key after ∷ head.key ∷ []) }
+    ensures shape { S.tells → (S.state space.new).shape ≡ (S.state space.old).shape }
     ensures onward { S.onward space.old space.new }
     ensures cause { HasChainCause (S.faults space.old) (S.faults space.new) result }
 {
@@ -81,6 +82,7 @@ fn lead<S: Space>(
         (S.state space.new ≡ led (S.state space.old) (head_of head) node before after) }
     ensures writes { WritesOnly (S.state space.old) (S.state space.new)
         (rel_key before ∷ head.key ∷ []) }
+    ensures shape { S.tells → (S.state space.new).shape ≡ (S.state space.old).shape }
     ensures onward { S.onward space.old space.new }
     ensures cause { HasCause (S.faults space.old) (S.faults space.new) result }
 {

@@ -1,6 +1,15 @@
+pub mod EdgeAdded
+pub mod EdgeBody
+pub mod EdgeDeleted
+pub mod EdgeJoined
+pub mod EdgeLists
+pub mod EdgeParted
+pub mod EdgeSteps
+pub mod EdgeWrites
 pub mod NewNames
 pub mod NodeAdded
 pub mod NodeDeleted
 pub mod Refusals
 pub mod Shapes
 pub mod StateShapes
+pub mod TakenBeside

@@ -21,7 +21,7 @@ use Rattle.graph_ops.specs.Store.{IsStore, graph_in}
 
 module _ (s : State) (names : List (List ℕ)) (label : List ℕ) (store : IsStore s names) where
   live_is : (meta_of s format.nodes_file).live ≡ length (graph_in s).nodes
-  live_is = count_nodes s.records s.shape store.store.well
+  live_is = count_nodes s.records s.shape store.store.keeps
 
   -- a store that is full of nodes has as many live as its file has room for
   pub full_count : IsFullOfNodes s → (meta_of s format.nodes_file).live ≡ room s format.nodes_file
@@ -34,8 +34,8 @@ module _ (s : State) (names : List (List ℕ)) (label : List ℕ) (store : IsSto
   not_full r id is refuses full = absurd (let e = sym is ∙ refuses (full_count full) in cc)
 
   -- the file of a store can give an identifier, unless it is full
-  pub can_add : CanTake s format.nodes_file (store.store.well.split format.nodes_file refl).0
-  can_add = let k = store.store.well.split format.nodes_file refl in can_take s format.nodes_file k.0 (store.store.well.ranges.metas format.nodes_file refl).high k.1
+  pub can_add : CanTake s format.nodes_file (store.store.keeps.split format.nodes_file refl).0
+  can_add = let k = store.store.keeps.split format.nodes_file refl in can_take s format.nodes_file k.0 (store.store.keeps.ranges.metas format.nodes_file refl).high k.1
 
   pub take_refused : (fault : TakeFault) → IsTakeFault s format.nodes_file fault → NotDamaged {T = ℕ} (Err fault) → IsAddFault s names label (of_take fault)
   take_refused (take.Full file live) why ok = (why.0, why.1 ∙ sym why.1 ∙ why.2, sym live_is ∙ sym why.1 ∙ why.2)

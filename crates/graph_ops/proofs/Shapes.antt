@@ -1,8 +1,8 @@
 -- The shape that a well-formed store says is one that it may have.
-use Rattle.std.proofs.Common.{◌≡◌, ℕ, ◌<◌, ◌^◌, Bool, true, false, cond, ◌&&◌, Some, None, ap, ◌∙◌, arith, refl}
+use Rattle.std.proofs.Common.{◌≡◌, ℕ, ◌<◌, ◌≤◌, ◌^◌, Bool, true, false, cond, ◌&&◌, Some, None, ap, ◌∙◌, arith, refl}
 use Rattle.rec_bytes.specs.declared.record.Rec.{Rec}
 use Rattle.rec_bytes.specs.declared.shape.Shape.{Shape}
-use Rattle.rec_bytes.specs.Format.{meta_file}
+use Rattle.rec_bytes.specs.Format.{meta_file, most_ids}
 use Rattle.rec_bytes.specs.RecordFiles.{meta_key_of, room_of}
 use Rattle.rec_bytes.specs.Shape.{is_allowed, is_store_record, numbers_of_shape, shape_of_record}
 use Rattle.rec_bytes.proofs.RecordFiles.{room_of-most}
@@ -22,3 +22,6 @@ allowed_of r shape = by (is_store_record r) (is_allowed (numbers_of_shape r)) re
 
 pub room_small : (records : Records) (shape : Shape) (file : ℕ) → AreInRange records shape → room_of shape file < 2 ^ 32
 room_small records shape file ranges = let most = room_of-most shape file (allowed_of (records (meta_key_of meta_file)) shape ranges.own) in omega arith
+
+pub room_most : (records : Records) (shape : Shape) (file : ℕ) → AreInRange records shape → room_of shape file ≤ most_ids
+room_most records shape file ranges = room_of-most shape file (allowed_of (records (meta_key_of meta_file)) shape ranges.own)

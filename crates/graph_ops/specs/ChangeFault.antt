@@ -10,8 +10,10 @@ use Rattle.id_freelist.specs.declared.take_fault.TakeFault.{TakeFault}
 use Rattle.id_freelist.specs.declared.take_fault.TakeFault.TheVariants as take
 use Rattle.name_store.specs.declared.intern_fault.InternFault.{InternFault}
 use Rattle.name_store.specs.declared.intern_fault.InternFault.TheVariants as intern
+use Rattle.chain_edit.specs.declared.chain_fault.ChainFault.{ChainFault}
+use Rattle.chain_edit.specs.declared.chain_fault.ChainFault.TheVariants as chain
 use Rattle.graph_ops.specs.declared.change_fault.ChangeFault.{ChangeFault}
-use Rattle.graph_ops.specs.declared.change_fault.ChangeFault.TheVariants.{NoNode, HasRelationships, Full, NamesFull, Memory, Disk, Damaged}
+use Rattle.graph_ops.specs.declared.change_fault.ChangeFault.TheVariants.{NoNode, NoEdge, HasRelationships, Full, NamesFull, Memory, Disk, Damaged}
 
 abbrev pub of_space : SpaceFault → ChangeFault
 of_space space.Memory = Memory
@@ -32,10 +34,27 @@ abbrev pub of_row : RowFault → ChangeFault
 of_row row.Disk = Disk
 of_row (row.Damaged damage) = Damaged damage
 
--- A refusal for a node or for damage comes before the first write. One for a name's room comes
+abbrev pub of_chain : ChainFault → ChangeFault
+of_chain chain.Memory = Memory
+of_chain chain.Disk = Disk
+of_chain (chain.Damaged damage) = Damaged damage
+
+-- a failure of the machine, and no answer about the graph
+abbrev pub IsOutside : ChangeFault → Type 0
+IsOutside (NoNode id) = ⊥
+IsOutside (NoEdge id) = ⊥
+IsOutside (HasRelationships id degree) = ⊥
+IsOutside (Full file live) = ⊥
+IsOutside (NamesFull count) = ⊥
+IsOutside Memory = Unit {0}
+IsOutside Disk = Unit {0}
+IsOutside (Damaged damage) = ⊥
+
+-- A refusal for a node, an edge or for damage comes before the first write. One for a name's room comes
 -- after an identifier was taken.
 abbrev pub LeavesSpace : State → State → ChangeFault → Type 0
 LeavesSpace old new (NoNode id) = SameButReads old new
+LeavesSpace old new (NoEdge id) = SameButReads old new
 LeavesSpace old new (HasRelationships id degree) = SameButReads old new
 LeavesSpace old new (Full file live) = SameButReads old new
 LeavesSpace old new (NamesFull count) = Unit {0}

@@ -8,7 +8,7 @@ use Rattle.rec_bytes.specs.Space.{State}
 use Rattle.store_rules.specs.Views.{key_in}
 use Rattle.graph_ops.specs.Store.{graph_in}
 use Rattle.graph_ops.specs.declared.change_fault.ChangeFault.{ChangeFault}
-use Rattle.graph_ops.specs.declared.change_fault.ChangeFault.TheVariants.{NoNode, HasRelationships, Full, NamesFull, Memory, Disk, Damaged}
+use Rattle.graph_ops.specs.declared.change_fault.ChangeFault.TheVariants.{NoNode, NoEdge, HasRelationships, Full, NamesFull, Memory, Disk, Damaged}
 
 -- as many nodes as the store has room for
 abbrev pub IsFullOfNodes : State → Type 0
@@ -22,6 +22,7 @@ pub record IsFullOfNames (names : List (List ℕ)) (label : List ℕ) : Type 0 w
 -- why a node isn't added: for want of a node's room first, and then of a name's
 abbrev pub IsAddFault : State → List (List ℕ) → List ℕ → ChangeFault → Type 0
 IsAddFault s names label (NoNode id) = ⊥
+IsAddFault s names label (NoEdge id) = ⊥
 IsAddFault s names label (HasRelationships id degree) = ⊥
 IsAddFault s names label (Full file live) = (file ≡ format.nodes_file) × (live ≡ s.shape.limit) × IsFullOfNodes s
 IsAddFault s names label (NamesFull count) = (count ≡ format.most_names) × (¬ IsFullOfNodes s) × IsFullOfNames names label

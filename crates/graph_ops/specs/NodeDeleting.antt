@@ -1,6 +1,6 @@
 -- A node that is deleted.
-use Rattle.std.specs.Prelude.{◌≡◌, ◌≢◌, ℕ, false, None, Some, List, [], ◌∷◌}
-use Rattle.plain_graph.specs.Graph.{has_node}
+use Rattle.std.specs.Prelude.{◌≡◌, ◌≢◌, ℕ, true, false, None, Some, List, [], ◌∷◌}
+use Rattle.plain_graph.specs.Graph.{degree_in, has_node}
 use Rattle.rec_bytes.specs.declared.key.Key.{Key}
 use Rattle.rec_bytes.specs.Format as format
 use Rattle.rec_bytes.specs.RecordFiles.{meta_key_of}
@@ -10,12 +10,14 @@ use Rattle.node_store.specs.declared.node_row.NodeRow.{NodeRow}
 use Rattle.node_store.specs.Loading.{IsNodeDamage, row_at}
 use Rattle.graph_ops.specs.Store.{graph_in}
 use Rattle.graph_ops.specs.declared.change_fault.ChangeFault.{ChangeFault}
-use Rattle.graph_ops.specs.declared.change_fault.ChangeFault.TheVariants.{NoNode, HasRelationships, Full, NamesFull, Memory, Disk, Damaged}
+use Rattle.graph_ops.specs.declared.change_fault.ChangeFault.TheVariants.{NoNode, NoEdge, HasRelationships, Full, NamesFull, Memory, Disk, Damaged}
 
 -- why a node isn't deleted
 abbrev pub IsDeleteFault : State → ℕ → ChangeFault → Type 0
 IsDeleteFault s id (NoNode missing) = (missing ≡ id) × (has_node (graph_in s) id ≡ false)
-IsDeleteFault s id (HasRelationships of degree) = ⊥
+IsDeleteFault s id (NoEdge missing) = ⊥
+IsDeleteFault s id (HasRelationships of degree) =
+    (of ≡ id) × (has_node (graph_in s) id ≡ true) × (degree ≡ degree_in (graph_in s) id) × (degree ≢ 0)
 IsDeleteFault s id (Full file live) = ⊥
 IsDeleteFault s id (NamesFull count) = ⊥
 IsDeleteFault s id Memory = Unit {0}
@@ -31,6 +33,7 @@ pub record HasDegree (records : Records) (id degree : ℕ) : Type 0 where
 -- the same of any records, by what was read of them
 abbrev pub IsDeleteCause : State → ℕ → ChangeFault → Type 0
 IsDeleteCause s id (NoNode missing) = (missing ≡ id) × (row_at s.records id ≡ None)
+IsDeleteCause s id (NoEdge missing) = ⊥
 IsDeleteCause s id (HasRelationships of degree) =
     (of ≡ id) × HasDegree s.records id degree × (degree ≢ 0)
 IsDeleteCause s id (Full file live) = ⊥

@@ -1,3 +1,4 @@
+use chain_edit::ChainFault;
 use id_freelist::TakeFault;
 use name_store::InternFault;
 use rec_bytes::{Damage, RowFault, SpaceFault};
@@ -9,6 +10,9 @@ pub enum ChangeFault {
     /// No node has the identifier.
     #[error("there is no such node")]
     NoNode { id: u32 },
+    /// No edge has the identifier.
+    #[error("there is no such edge")]
+    NoEdge { id: u32 },
     /// The node has so many relationships.
     #[error("the node has relationships")]
     HasRelationships { id: u32, degree: u32 },
@@ -84,6 +88,21 @@ impl From<RowFault> for ChangeFault {
         match fault {
             RowFault::Disk => ChangeFault::Disk,
             RowFault::Damaged(damage) => ChangeFault::Damaged(damage),
+        }
+    }
+}
+
+impl From<ChainFault> for ChangeFault {
+    ghost from_gives = { λ fault result. result ≡ of_chain fault };
+
+    ghost use Rattle.std.specs.Prelude.{◌≡◌};
+    ghost use Rattle.graph_ops.specs.ChangeFault.{of_chain};
+
+    fn from(fault: ChainFault) -> ChangeFault {
+        match fault {
+            ChainFault::Memory => ChangeFault::Memory,
+            ChainFault::Disk => ChangeFault::Disk,
+            ChainFault::Damaged(damage) => ChangeFault::Damaged(damage),
         }
     }
 }

@@ -1,0 +1,165 @@
+-- A relationship that joins a node's chain, or leaves it: links and degrees alone are set.
+use Rattle.std.proofs.Common.{◌≡◌, ◌≢◌, ◌⊎◌, ℕ, ◌+◌, ◌<◌, ◌^◌, nat_eq, Bool, true, false, cond, sym, ap, ◌∙◌, subst, inl, inr, ⊎_elim, arith, refl}
+use Rattle.rec_bytes.specs.declared.key.Key.{Key}
+use Rattle.rec_bytes.specs.declared.record.Rec.{Rec}
+use Rattle.rec_bytes.specs.Format as format
+use Rattle.rec_bytes.specs.Record.{field, with_field}
+use Rattle.rec_bytes.specs.Space.{State, after_get, after_put, put}
+use Rattle.rec_bytes.proofs.Spaces.{put_other, put_same, put_twice}
+use Rattle.store_rules.specs.Chains.{place_of}
+use Rattle.store_rules.specs.Rules.{Head, first_of, node_head}
+use Rattle.store_rules.specs.Views.{Records, degree, high, key_in, kind_at, rec_at}
+use Rattle.store_rules.proofs.LinkFits.{IsLink, IsLow}
+use Rattle.store_rules.proofs.Relinks.{IsRelinked, relinked_none, set_degree, set_first, set_link}
+use Rattle.store_rules.proofs.ViewLaws.{kind_below}
+use Rattle.chain_edit.specs.Chains.{next_of, prev_of}
+use Rattle.chain_edit.specs.Links.{backed, next_set, number_set, prev_set}
+use Rattle.chain_edit.specs.Pushing.{pushed}
+use Rattle.chain_edit.specs.Unlinking.{alone, led, unlinked}
+use Rattle.chain_edit.proofs.ChainSteps.{on_test}
+use Rattle.chain_edit.proofs.Edits.{elsewhere-backed}
+use Rattle.chain_edit.proofs.LinkLaws.{elsewhere-set_next, field-set_same}
+use Rattle.graph_ops.specs.EdgeEnds.{joined, parted}
+
+-- none, or a relationship in use
+abbrev pub IsUsedLink : Records → ℕ → Type 0
+IsUsedLink records link = (link ≡ format.nil) ⊎ (kind_at records format.relationships_file link ≡ format.related)
+
+rel_low : (records : Records) (rel : ℕ) → kind_at records format.relationships_file rel ≡ format.related → IsLow (high records format.relationships_file) rel
+rel_low records rel related = inr (kind_below (high records format.relationships_file) (rec_at records format.relationships_file rel) rel (λ e. let z = sym e ∙ related in omega arith))
+
+used_low : (records : Records) (link : ℕ) → IsUsedLink records link → IsLow (high records format.relationships_file) link
+used_low records link used = ⊎_elim (λ e. inl e) (λ k. rel_low records link k) used
+
+place_link : (r : Rec) (n : ℕ) → IsLink (place_of r n)
+place_link r n = by (nat_eq (field 4 r 8) n)
+  where
+    by : (b : Bool) → IsLink (cond b 16 24)
+    by true = inl refl
+    by false = inr (inr (inl refl))
+
+next_link : (r : Rec) (n : ℕ) → IsLink (place_of r n + 4)
+next_link r n = by (nat_eq (field 4 r 8) n)
+  where
+    by : (b : Bool) → IsLink (cond b 16 24 + 4)
+    by true = inr (inl refl)
+    by false = inr (inr (inr refl))
+
+-- a previous link more, unless there is none
+links_backed : (s : Records) (t : State) (n link to : ℕ) → IsRelinked s t.records → IsUsedLink s link → IsLow (high s format.relationships_file) to → IsRelinked s (backed t n link to).records
+unfolding backed
+links_backed s t n link to old used low = on_test (λ (z : State). IsRelinked s z.records) link format.nil t (prev_set t n link to) (λ _. old)
+    (λ ne. set_link s t.records old link (place_of (rec_at t.records format.relationships_file link) n) to (⊎_elim (λ e. absurd (ne e)) (λ k. k) used) (place_link (rec_at t.records format.relationships_file link) n) low)
+
+links_next : (s : Records) (t : State) (n rel to : ℕ) → IsRelinked s t.records → kind_at s format.relationships_file rel ≡ format.related → IsLow (high s format.relationships_file) to → IsRelinked s (next_set t n rel to).records
+links_next s t n rel to old related low = set_link s t.records old rel (place_of (rec_at t.records format.relationships_file rel) n + 4) to related (next_link (rec_at t.records format.relationships_file rel) n) low
+
+module _ (s : State) (n rel : ℕ) (sparse : kind_at s.records format.nodes_file n ≡ format.sparse) (related : kind_at s.records format.relationships_file rel ≡ format.related) where
+  -- ---- at the front
+  pub links_pushed : IsUsedLink s.records (first_of s.records (node_head n)) → IsRelinked s.records (pushed s (node_head n) n rel).records
+  unfolding pushed
+  links_pushed used =
+      let first = first_of s.records (node_head n) in
+      let back = backed (after_get s) n first rel in
+      let linked = next_set back n rel first in
+      let low = rel_low s.records rel related in
+      let links = links_next s.records back n rel first (links_backed s.records (after_get s) n first rel (relinked_none s.records) used low) related (used_low s.records first used) in
+      let key = key_in format.nodes_file n in
+      let same : linked.records key ≡ s.records key = elsewhere-set_next back.records n rel first key (λ e. omega arith) ∙ elsewhere-backed (after_get s) n first rel key (λ e. omega arith) in
+      subst (λ r. IsRelinked s.records (put linked.records key (with_field 4 r format.node_first_link rel))) same (set_first s.records linked.records links n rel sparse low)
+
+  pub links_joined : (d : ℕ) → d < 2 ^ 32 → IsUsedLink s.records (first_of s.records (node_head n)) → IsRelinked s.records (joined s n rel d).records
+  unfolding joined
+  links_joined d small used = set_degree s.records (pushed s (node_head n) n rel).records (links_pushed used) n d sparse small
+
+  -- ---- taken out
+  links_freed : IsRelinked s.records (put s.records (key_in format.relationships_file rel) (alone (s.records (key_in format.relationships_file rel)) n))
+  links_freed =
+      let key = key_in format.relationships_file rel in
+      let r = s.records key in
+      let one = with_field 4 r (place_of r n) format.nil in
+      let two = with_field 4 one (place_of r n + 4) format.nil in
+      let single = put s.records key one in
+      let there : single key ≡ one = put_same s.records key one in
+      let first = set_link s.records s.records (relinked_none s.records) rel (place_of r n) format.nil related (place_link r n) (inl refl) in
+      let both = set_link s.records single first rel (place_of r n + 4) format.nil related (next_link r n) (inl refl) in
+      subst (IsRelinked s.records) (put_twice s.records key one two) (subst (λ q. IsRelinked s.records (put single key (with_field 4 q (place_of r n + 4) format.nil))) there both)
+
+  links_led : (t : State) (before after : ℕ) → IsRelinked s.records t.records → IsUsedLink s.records before → IsLow (high s.records format.relationships_file) after → IsRelinked s.records (led t (node_head n) n before after).records
+  unfolding led
+  links_led t before after old used low = on_test (λ (z : State). IsRelinked s.records z.records) before format.nil (number_set t (node_head n) after) (next_set t n before after)
+      (λ _. set_first s.records t.records old n after sparse low)
+      (λ ne. links_next s.records t n before after old (⊎_elim (λ e. absurd (ne e)) (λ k. k) used) low)
+
+  pub links_unlinked : IsUsedLink s.records (prev_of s.records n rel) → IsUsedLink s.records (next_of s.records n rel) → IsRelinked s.records (unlinked s (node_head n) n rel).records
+  unfolding unlinked
+  links_unlinked before after =
+      let freed = after_put (after_get s) (key_in format.relationships_file rel) (alone (s.records (key_in format.relationships_file rel)) n) in
+      links_led (backed freed n (next_of s.records n rel) (prev_of s.records n rel)) (prev_of s.records n rel) (next_of s.records n rel)
+      (links_backed s.records freed n (next_of s.records n rel) (prev_of s.records n rel) links_freed after (used_low s.records (prev_of s.records n rel) before)) before (used_low s.records (next_of s.records n rel) after)
+
+  pub links_parted : (d : ℕ) → d < 2 ^ 32 → IsUsedLink s.records (prev_of s.records n rel) → IsUsedLink s.records (next_of s.records n rel) → IsRelinked s.records (parted s n rel d).records
+  unfolding parted
+  links_parted d small before after = set_degree s.records (unlinked s (node_head n) n rel).records (links_unlinked before after) n d sparse small
+
+-- ---- degrees
+module _ (s : State) (n rel d : ℕ) where
+  at_node : Head
+  at_node = record { key = key_in format.nodes_file n; field = format.node_degree }
+
+  pub degree_joined : d < 2 ^ 32 → degree (joined s n rel d).records n ≡ d
+  unfolding joined
+  degree_joined small = field-set_same (pushed s (node_head n) n rel).records (record { key = key_in format.nodes_file n; field = format.node_degree }) d (omega arith) small
+
+  pub degree_parted : d < 2 ^ 32 → degree (parted s n rel d).records n ≡ d
+  unfolding parted
+  degree_parted small = field-set_same (unlinked s (node_head n) n rel).records (record { key = key_in format.nodes_file n; field = format.node_degree }) d (omega arith) small
+
+  other_key : (m : ℕ) → m ≢ n → key_in format.nodes_file m ≢ key_in format.nodes_file n
+  other_key m ne e = ne (ap (λ (k : Key). k.id) e)
+
+  pub node_joined : (m : ℕ) → m ≢ n → rec_at (joined s n rel d).records format.nodes_file m ≡ rec_at s.records format.nodes_file m
+  unfolding joined pushed
+  node_joined m ne =
+      let first = first_of s.records (node_head n) in
+      let back = backed (after_get s) n first rel in
+      let linked = next_set back n rel first in
+      let key = key_in format.nodes_file m in
+      let one = (pushed s (node_head n) n rel).records in
+      put_other one (key_in format.nodes_file n) (with_field 4 (one (key_in format.nodes_file n)) format.node_degree d) key (other_key m ne)
+      ∙ put_other linked.records (key_in format.nodes_file n) (with_field 4 (s.records (key_in format.nodes_file n)) format.node_first_link rel) key (other_key m ne)
+      ∙ elsewhere-set_next back.records n rel first key (λ e. omega arith) ∙ elsewhere-backed (after_get s) n first rel key (λ e. omega arith)
+
+  pub node_parted : (m : ℕ) → m ≢ n → rec_at (parted s n rel d).records format.nodes_file m ≡ rec_at s.records format.nodes_file m
+  unfolding parted unlinked led
+  node_parted m ne =
+      let before = prev_of s.records n rel in
+      let after = next_of s.records n rel in
+      let freed = after_put (after_get s) (key_in format.relationships_file rel) (alone (s.records (key_in format.relationships_file rel)) n) in
+      let back = backed freed n after before in
+      let key = key_in format.nodes_file m in
+      let one = (unlinked s (node_head n) n rel).records in
+      let stays : back.records key ≡ s.records key = elsewhere-backed freed n after before key (λ e. omega arith)
+      ∙ put_other s.records (key_in format.relationships_file rel) (alone (s.records (key_in format.relationships_file rel)) n) key (λ e. let f = ap (λ (k : Key). k.file) e in omega arith) in
+      put_other one (key_in format.nodes_file n) (with_field 4 (one (key_in format.nodes_file n)) format.node_degree d) key (other_key m ne)
+      ∙ on_test (λ (z : State). z.records key ≡ s.records key) before format.nil (number_set back (node_head n) after) (next_set back n before after)
+      (λ _. put_other back.records (key_in format.nodes_file n) (with_field 4 (back.records (key_in format.nodes_file n)) format.node_first_link after) key (other_key m ne) ∙ stays)
+      (λ _. elsewhere-set_next back.records n before after key (λ e. omega arith) ∙ stays)
+
+-- ---- the shape
+shape_backed : (s : State) (n link to : ℕ) → (backed s n link to).shape ≡ s.shape
+unfolding backed
+shape_backed s n link to = on_test (λ (z : State). z.shape ≡ s.shape) link format.nil s (prev_set s n link to) (λ _. refl) (λ _. refl)
+
+pub shape_joined : (s : State) (n rel d : ℕ) → (joined s n rel d).shape ≡ s.shape
+unfolding joined pushed
+shape_joined s n rel d = shape_backed (after_get s) n (first_of s.records (node_head n)) rel
+
+pub shape_parted : (s : State) (n rel d : ℕ) → (parted s n rel d).shape ≡ s.shape
+unfolding parted unlinked led
+shape_parted s n rel d =
+    let before = prev_of s.records n rel in
+    let after = next_of s.records n rel in
+    let freed = after_put (after_get s) (key_in format.relationships_file rel) (alone (s.records (key_in format.relationships_file rel)) n) in
+    let back = backed freed n after before in
+    on_test (λ (z : State). z.shape ≡ s.shape) before format.nil (number_set back (node_head n) after) (next_set back n before after) (λ _. shape_backed freed n after before) (λ _. shape_backed freed n after before)
