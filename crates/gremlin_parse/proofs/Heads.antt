@@ -8,13 +8,13 @@ use Rattle.plain_graph.specs.declared.command.Command.TheVariants as commands
 use Rattle.plain_graph.specs.declared.query.Query.{Query}
 use Rattle.plain_graph.specs.declared.query.Step.{Step}
 use Rattle.plain_graph.specs.declared.query.Step.TheVariants as steps
-use Rattle.gremlin_parse.specs.Grammar.{IsMadeOf, loosely, query_tokens, step_tokens, KeepsBounds, IsBounded, NeedsNoMemory, is_blank}
+use Rattle.gremlin_parse.specs.Grammar.{Number, IsMadeOf, loosely, query_tokens, step_tokens, KeepsBounds, IsBounded, NeedsNoMemory, is_blank}
 use Rattle.gremlin_parse.specs.Faults.{EndsRun}
 use Rattle.gremlin_parse.specs.Reading.{first_byte, StopsBefore}
 use Rattle.gremlin_parse.specs.Keywords.{Entry, InTable, lookup, TakesWord, LeavesTable, ThenWord}
-use Rattle.gremlin_parse.specs.Symbols.{Symbol, AnyBlanks, Sign, OneWord, Values, Reads, ReadsToken, ReadsAll, Leaves, LeavesOne, Follows, BadFollows}
+use Rattle.gremlin_parse.specs.Symbols.{Symbol, AnyBlanks, Sign, OneWord, Values, Allows, Reads, ReadsToken, ReadsAll, Leaves, LeavesOne, Follows, BadFollows}
 use Rattle.gremlin_parse.specs.Stopping.{Bads, IsStop, StopsWith, IsEnd, NoBad}
-use Rattle.gremlin_parse.specs.Commands.{IsLastOf, StopsAfter, ReadsCall, call_values, head_words, target_words, call, production, plain_command, LastValue, last_parts, command_of, IsSteps, IsLast, IsAfter, BadAfter, SpellsAfter, IsSomeTail, BadTail, IsTail, LacksMemory}
+use Rattle.gremlin_parse.specs.Commands.{IsLastOf, StopsAfter, ReadsCall, call_values, head_words, target_words, target_names, target_of, kind_named, call, production, plain_command, LastValue, last_parts, command_of, IsSteps, IsLast, IsAfter, BadAfter, SpellsAfter, IsSomeTail, BadTail, IsTail, LacksMemory}
 use Rattle.gremlin_parse.specs.declared.bad_token.BadToken.{BadToken}
 use Rattle.gremlin_parse.specs.declared.head.Head.{Head}
 use Rattle.gremlin_parse.specs.declared.head.Head.TheVariants as heads
@@ -42,6 +42,7 @@ word_of (heads.Alone words.Stats) = codes "stats"
 word_of (heads.Alone words.Reopen) = codes "reopen"
 word_of (heads.Alone words.Quit) = codes "quit"
 word_of heads.Node = codes "node"
+word_of heads.Edge = codes "edge"
 word_of heads.Delete = codes "delete"
 word_of heads.Query = codes "g"
 
@@ -54,6 +55,7 @@ named (heads.Alone words.Stats) = refl
 named (heads.Alone words.Reopen) = refl
 named (heads.Alone words.Quit) = refl
 named heads.Node = refl
+named heads.Edge = refl
 named heads.Delete = refl
 named heads.Query = refl
 
@@ -62,17 +64,17 @@ all_words [] all entry within = absurd within
 all_words (first ∷ table) all entry within = ⊎_elim (λ (same : entry ≡ first). ap (λ (e : Entry Head). e.0) same ∙ all.0 ∙ ap (λ (e : Entry Head). word_of e.1) (sym same)) (λ (later : InTable entry table). all_words table all.1 entry later) within
 
 pub entry_word : (entry : Entry Head) → InTable entry head_words → entry.0 ≡ word_of entry.1
-entry_word = all_words head_words (refl, (refl, (refl, (refl, (refl, (refl, (refl, (refl, (refl, (refl, tt))))))))))
+entry_word = all_words head_words (refl, (refl, (refl, (refl, (refl, (refl, (refl, (refl, (refl, (refl, (refl, tt)))))))))))
 
 pub head_table : IsWordTable head_words
 head_table = record {
-  words = (refl, (refl, (refl, (refl, (refl, (refl, (refl, (refl, (refl, (refl, tt))))))))));
-  named = (refl, (refl, (refl, (refl, (refl, (refl, (refl, (refl, (refl, (refl, tt))))))))));
+  words = (refl, (refl, (refl, (refl, (refl, (refl, (refl, (refl, (refl, (refl, (refl, tt)))))))))));
+  named = (refl, (refl, (refl, (refl, (refl, (refl, (refl, (refl, (refl, (refl, (refl, tt)))))))))));
 }
 
 -- Each word begins with a byte that is no blank.
 head_starts : AllByRecursion (λ (e : Entry Head). first_fails is_blank e.0 ≡ true) head_words
-head_starts = (refl, (refl, (refl, (refl, (refl, (refl, (refl, (refl, (refl, (refl, tt))))))))))
+head_starts = (refl, (refl, (refl, (refl, (refl, (refl, (refl, (refl, (refl, (refl, (refl, tt)))))))))))
 
 starts_of : (table : List (Entry Head)) → AllByRecursion (λ (e : Entry Head). first_fails is_blank e.0 ≡ true) table → (entry : Entry Head) → InTable entry table → first_fails is_blank entry.0 ≡ true
 starts_of [] all entry within = absurd within
@@ -87,12 +89,14 @@ word_halts After = λ bytes (entry, within, (prefix, rest, whole, word_is, after
 pub production_is : (head : Head) → is_production (production head) ≡ true
 production_is (heads.Alone word) = refl
 production_is heads.Node = refl
+production_is heads.Edge = refl
 production_is heads.Delete = refl
 production_is heads.Query = refl
 
 production_halts : (head : Head) → halts NameByte (production head) ≡ true
 production_halts (heads.Alone word) = refl
 production_halts heads.Node = refl
+production_halts heads.Edge = refl
 production_halts heads.Delete = refl
 production_halts heads.Query = refl
 
@@ -146,6 +150,7 @@ steps_halt = λ class rest are. ⊎_elim
 pub last_closes : (head : Head) → Closes (IsLast head) NoBad
 last_closes (heads.Alone word) = end_closes
 last_closes heads.Node = end_closes
+last_closes heads.Edge = end_closes
 last_closes heads.Delete = end_closes
 last_closes heads.Query = record { ends = steps_halt; bads_end = none_halt; within = none_within; line = []; some = (([], omega arith), refl) }
 
@@ -249,12 +254,14 @@ tail_after_word Lack LackLeft bytes rest head stop some lack takes at =
 pub last_is : (head : Head) (last : LastValue head) (rest : List ℕ) → IsMadeOf (last_parts head last) rest → IsLast head rest
 last_is (heads.Alone word) last rest made = made
 last_is heads.Node last rest made = made
+last_is heads.Edge last rest made = made
 last_is heads.Delete last rest made = made
 last_is heads.Query few rest made = (few, made)
 
 pub value_of_last : (head : Head) (rest : List ℕ) → IsLast head rest → (last : LastValue head) × IsMadeOf (last_parts head last) rest
 value_of_last (heads.Alone word) rest end = (tt, end)
 value_of_last heads.Node rest end = (tt, end)
+value_of_last heads.Edge rest end = (tt, end)
 value_of_last heads.Delete rest end = (tt, end)
 value_of_last heads.Query rest are = are
 
@@ -321,6 +328,7 @@ steps_agree (first ∷ second ∷ more) others short few rest one two = absurd (
 last_agrees : (head : Head) (values : Values (production head)) (one two : LastValue head) (rest : List ℕ) → IsMadeOf (last_parts head one) rest → IsMadeOf (last_parts head two) rest → command_of head values two ≡ command_of head values one
 last_agrees (heads.Alone word) values one two rest made other = refl
 last_agrees heads.Node values one two rest made other = refl
+last_agrees heads.Edge values one two rest made other = refl
 last_agrees heads.Delete values one two rest made other = refl
 last_agrees heads.Query values one two rest made other =
     let make : List Step → Command = λ list. commands.Query (record { steps = list }) in
@@ -403,12 +411,30 @@ is_nothing [] empty is holds = refl
 is_nothing (b ∷ bytes) empty is holds = let none = eqb-true (length (b ∷ bytes)) 0 (sym is ∙ holds) in absurd (omega (arith, none))
 
 -- the word for a target
-pub target_is : (bytes rest : List ℕ) (kind : TargetWord) → TakesWord target_words bytes kind rest → Reads (OneWord (codes "node" ∷ [])) (codes "node") bytes rest
-target_is bytes rest kind (run, cut, is) =
-    let run_is : run ≡ codes "node" = ⊎_elim (λ (same : (run, kind) ≡ (codes "node", target_kinds.Node)). ap (λ (e : Entry TargetWord). e.0) same) (λ (none : ⊥). absurd none) (lookup_in target_words run kind is) in
-    record { takes = record { prefix = run; bytes_are = cut.bytes_are; is = run_is; ends = (cut.passes, cut.ends) }; allowed = inl refl; bounded = tt }
+abbrev pub name_of : TargetWord → List ℕ
+name_of target_kinds.Node = codes "node"
+name_of target_kinds.Edge = codes "edge"
 
-pub leaves_target : (bytes : List ℕ) (stop : Stop) → StopsWith (LeavesTable target_words bytes) stop → Leaves (OneWord (codes "node" ∷ [])) bytes stop
+pub kind_is : (kind : TargetWord) → kind_named (name_of kind) ≡ kind
+kind_is target_kinds.Node = refl
+kind_is target_kinds.Edge = refl
+
+pub name_allowed : (kind : TargetWord) → Allows (OneWord target_names) (name_of kind)
+name_allowed target_kinds.Node = inl refl
+name_allowed target_kinds.Edge = inr (inl refl)
+
+pub target_is : (bytes rest : List ℕ) (kind : TargetWord) → TakesWord target_words bytes kind rest → Reads (OneWord target_names) (name_of kind) bytes rest
+target_is bytes rest kind (run, cut, is) =
+    let Here : Entry TargetWord → Type 0 = λ entry. (run, kind) ≡ entry in
+    let run_is : run ≡ name_of kind =
+    ⊎_elim
+    (λ (node : Here (codes "node", target_kinds.Node)). ap (λ (e : Entry TargetWord). e.0) node ∙ sym (ap (λ (e : Entry TargetWord). name_of e.1) node))
+    (λ (later : Here (codes "edge", target_kinds.Edge) ⊎ ⊥).
+    ⊎_elim (λ (edge : Here (codes "edge", target_kinds.Edge)). ap (λ (e : Entry TargetWord). e.0) edge ∙ sym (ap (λ (e : Entry TargetWord). name_of e.1) edge)) (λ (none : ⊥). absurd none) later)
+    (lookup_in target_words run kind is) in
+    record { takes = record { prefix = run; bytes_are = cut.bytes_are; is = run_is; ends = (cut.passes, cut.ends) }; allowed = name_allowed kind; bounded = tt }
+
+pub leaves_target : (bytes : List ℕ) (stop : Stop) → StopsWith (LeavesTable target_words bytes) stop → Leaves (OneWord target_names) bytes stop
 leaves_target bytes stops.Memory leaves = leaves
 leaves_target bytes (stops.Syntax left) leaves = leaves_plain target_words bytes left leaves
 leaves_target bytes (stops.Bad kind left) leaves = absurd leaves
@@ -426,6 +452,10 @@ alone_keeps words.Checkpoint = (tt, (tt, (tt, tt)))
 alone_keeps words.Stats = (tt, (tt, (tt, tt)))
 alone_keeps words.Reopen = (tt, (tt, (tt, tt)))
 alone_keeps words.Quit = (tt, (tt, (tt, tt)))
+
+pub target_keeps : (kind : TargetWord) (id : ℕ) → IsBounded (Number id) → KeepsBounds (commands.Delete (target_of kind id))
+target_keeps target_kinds.Node id within = (tt, (tt, (tt, (tt, (tt, (within, (tt, tt)))))))
+target_keeps target_kinds.Edge id within = (tt, (tt, (tt, (tt, (tt, (within, (tt, tt)))))))
 
 loosely_keeps : (tokens : List (List ℕ)) → AllByRecursion IsBounded (loosely tokens)
 loosely_keeps [] = tt

@@ -10,7 +10,7 @@ use Rattle.gremlin_parse.specs.Reading.{Then}
 use Rattle.gremlin_parse.specs.Keywords.{Entry}
 use Rattle.gremlin_parse.specs.Symbols.{AnyBlanks, Values, Takes}
 use Rattle.gremlin_parse.specs.Stopping.{Bads, IsStop}
-use Rattle.gremlin_parse.specs.Commands.{head_words, production, LastValue, last_parts, command_of, BadAfter, SpellsAfter, IsSomeTail, BadTail, IsTail}
+use Rattle.gremlin_parse.specs.Commands.{head_words, target_of, kind_named, production, LastValue, last_parts, command_of, BadAfter, SpellsAfter, IsSomeTail, BadTail, IsTail}
 use Rattle.gremlin_parse.specs.declared.bad_token.BadToken.{BadToken}
 use Rattle.gremlin_parse.specs.declared.head.Head.{Head}
 use Rattle.gremlin_parse.specs.declared.head.Head.TheVariants as heads
@@ -38,9 +38,15 @@ command_parts (heads.Alone words.Stats) values last allows = refl
 command_parts (heads.Alone words.Reopen) values last allows = refl
 command_parts (heads.Alone words.Quit) values last allows = refl
 command_parts heads.Node values last allows = refl
+command_parts heads.Edge values last allows = refl
 command_parts heads.Delete values last allows =
-    let make : List ℕ → List Part = λ word. Blanks ∷ Exactly (codes "delete") ∷ Gap ∷ Exactly word ∷ Gap ∷ Number values.1.1.1.0 ∷ Blanks ∷ [] in
-    ⊎_elim (λ (same : (values.1.0, tt) ≡ (codes "node", tt)). ap make (sym (ap (λ (e : Entry (Unit {0})). e.0) same))) (λ (none : ⊥). absurd none) allows.1.0
+    let id = values.1.1.1.0 in
+    let Made : Entry (Unit {0}) → Type 0 = λ entry. parts_of (commands.Delete (target_of (kind_named entry.0) id)) ≡ Blanks ∷ Exactly (codes "delete") ∷ Gap ∷ Exactly entry.0 ∷ Gap ∷ Number id ∷ Blanks ∷ [] in
+    let Here : Entry (Unit {0}) → Type 0 = λ entry. (values.1.0, tt) ≡ entry in
+    ⊎_elim
+    (λ (node : Here (codes "node", tt)). subst Made (sym node) refl)
+    (λ (later : Here (codes "edge", tt) ⊎ ⊥). ⊎_elim (λ (edge : Here (codes "edge", tt)). subst Made (sym edge) refl) (λ (none : ⊥). absurd none) later)
+    allows.1.0
 command_parts heads.Query values last allows = refl
 
 is_command : (head : Head) (values : Values (production head)) (last : LastValue head) → IsCommand (command_of head values last)
@@ -52,6 +58,7 @@ is_command (heads.Alone words.Stats) values last = tt
 is_command (heads.Alone words.Reopen) values last = tt
 is_command (heads.Alone words.Quit) values last = tt
 is_command heads.Node values last = tt
+is_command heads.Edge values last = tt
 is_command heads.Delete values last = tt
 is_command heads.Query values last = last.1
 
@@ -72,6 +79,14 @@ sentence_of commands.Stats is = inr (record { head = heads.Alone words.Stats; va
 sentence_of commands.Reopen is = inr (record { head = heads.Alone words.Reopen; values = (tt, tt); allowed = (tt, tt); last = tt; is = refl })
 sentence_of commands.Quit is = inr (record { head = heads.Alone words.Quit; values = (tt, tt); allowed = (tt, tt); last = tt; is = refl })
 sentence_of (commands.Node label) is = inr (record { head = heads.Node; values = (tt, (label, (tt, tt))); allowed = (tt, (tt, (tt, tt))); last = tt; is = refl })
+sentence_of (commands.Edge from label to) is = inr (record {
+  head = heads.Edge;
+  values = (tt, (from, (tt, (label, (tt, (to, (tt, tt)))))));
+  allowed = (tt, (tt, (tt, (tt, (tt, (tt, (tt, tt)))))));
+  last = tt;
+  is = refl;
+})
+sentence_of (commands.Delete (targets.Edge id)) is = inr (record { head = heads.Delete; values = (tt, (codes "edge", (tt, (id, (tt, tt))))); allowed = (tt, (inr (inl refl), (tt, (tt, (tt, tt))))); last = tt; is = refl })
 sentence_of (commands.Delete (targets.Node id)) is = inr (record { head = heads.Delete; values = (tt, (codes "node", (tt, (id, (tt, tt))))); allowed = (tt, (inl refl, (tt, (tt, (tt, tt))))); last = tt; is = refl })
 sentence_of (commands.Query query) is = inr (record {
   head = heads.Query;
@@ -238,12 +253,14 @@ bad_line command kind left line is bad =
 last_no_bad : (head : Head) (last : LastValue head) → HasNoBad (last_parts head last)
 last_no_bad (heads.Alone word) last = λ kind left bytes bad. bad
 last_no_bad heads.Node last = λ kind left bytes bad. bad
+last_no_bad heads.Edge last = λ kind left bytes bad. bad
 last_no_bad heads.Delete last = λ kind left bytes bad. bad
 last_no_bad heads.Query last = loosely_no_bad (flat_map step_tokens last.0)
 
 some_last : (head : Head) → LastValue head
 some_last (heads.Alone word) = tt
 some_last heads.Node = tt
+some_last heads.Edge = tt
 some_last heads.Delete = tt
 some_last heads.Query = ([], omega arith)
 

@@ -1,7 +1,9 @@
 -- Commands and queries by their first word: the table of words, and the production after each.
-use Rattle.std.specs.Prelude.{◌≡◌, ◌⊎◌, ℕ, ◌≤◌, List, [], ◌∷◌, length, codes, flat_map}
+use Rattle.std.specs.Prelude.{◌≡◌, ◌⊎◌, ℕ, ◌≤◌, nat_eq, cond, List, [], ◌∷◌, length, codes, flat_map}
+use Rattle.std.specs.Cmp.Lexicographic.{pointwise}
 use Rattle.plain_graph.specs.declared.command.Command.{Command}
 use Rattle.plain_graph.specs.declared.command.Command.TheVariants as commands
+use Rattle.plain_graph.specs.declared.command.Target.{Target}
 use Rattle.plain_graph.specs.declared.command.Target.TheVariants as targets
 use Rattle.plain_graph.specs.declared.query.Step.{Step}
 use Rattle.gremlin_parse.specs.Grammar.{Part, IsMadeOf, loosely, step_tokens, NeedsNoMemory}
@@ -24,11 +26,24 @@ head_words =
     ∷ (codes "rollback", heads.Alone words.Rollback)
     ∷ (codes "checkpoint", heads.Alone words.Checkpoint) ∷ (codes "stats", heads.Alone words.Stats)
     ∷ (codes "reopen", heads.Alone words.Reopen) ∷ (codes "quit", heads.Alone words.Quit)
-    ∷ (codes "node", heads.Node) ∷ (codes "delete", heads.Delete) ∷ (codes "g", heads.Query) ∷ []
+    ∷ (codes "node", heads.Node) ∷ (codes "edge", heads.Edge)
+    ∷ (codes "delete", heads.Delete) ∷ (codes "g", heads.Query) ∷ []
 
 -- the words for what a command changes
 abbrev pub target_words : List (Entry TargetWord)
-target_words = (codes "node", target_kinds.Node) ∷ []
+target_words = (codes "node", target_kinds.Node) ∷ (codes "edge", target_kinds.Edge) ∷ []
+
+abbrev pub target_names : List (List ℕ)
+target_names = codes "node" ∷ codes "edge" ∷ []
+
+-- the element of an identifier
+abbrev pub target_of : TargetWord → ℕ → Target
+target_of target_kinds.Node id = targets.Node id
+target_of target_kinds.Edge id = targets.Edge id
+
+-- what one of the two names stands for
+abbrev pub kind_named : List ℕ → TargetWord
+kind_named name = cond (pointwise nat_eq (codes "node") name) target_kinds.Node target_kinds.Edge
 
 -- blanks to the line's end
 abbrev pub to_end : List Symbol
@@ -50,7 +65,9 @@ ReadsCall name bytes rest = ReadsAll (call name) (call_values name) bytes rest
 abbrev pub production : Head → List Symbol
 production (heads.Alone word) = to_end
 production heads.Node = AnyGap ∷ AnyName ∷ to_end
-production heads.Delete = AnyGap ∷ OneWord (codes "node" ∷ []) ∷ AnyGap ∷ AnyNumber ∷ to_end
+production heads.Edge =
+    AnyGap ∷ AnyNumber ∷ AnyGap ∷ AnyName ∷ AnyGap ∷ AnyNumber ∷ to_end
+production heads.Delete = AnyGap ∷ OneWord target_names ∷ AnyGap ∷ AnyNumber ∷ to_end
 production heads.Query = AnyBlanks ∷ call (codes "V")
 
 -- the steps of a query of the grammar
@@ -61,12 +78,14 @@ FewSteps = (list : List Step) × (length list ≤ 1)
 abbrev pub LastValue : Head → Type 0
 LastValue (heads.Alone word) = Unit {0}
 LastValue heads.Node = Unit {0}
+LastValue heads.Edge = Unit {0}
 LastValue heads.Delete = Unit {0}
 LastValue heads.Query = FewSteps
 
 abbrev pub last_parts : (head : Head) → LastValue head → List Part
 last_parts (heads.Alone word) last = []
 last_parts heads.Node last = []
+last_parts heads.Edge last = []
 last_parts heads.Delete last = []
 last_parts heads.Query few = loosely (flat_map step_tokens few.0)
 
@@ -83,7 +102,10 @@ plain_command words.Quit = commands.Quit
 abbrev pub command_of : (head : Head) → Values (production head) → LastValue head → Command
 command_of (heads.Alone word) values last = plain_command word
 command_of heads.Node values last = commands.Node values.1.0
-command_of heads.Delete values last = commands.Delete (targets.Node values.1.1.1.0)
+command_of heads.Edge values last =
+    commands.Edge values.1.0 values.1.1.1.0 values.1.1.1.1.1.0
+command_of heads.Delete values last =
+    commands.Delete (target_of (kind_named values.1.0) values.1.1.1.0)
 command_of heads.Query values few = commands.Query (record { steps = few.0 })
 
 abbrev pub IsSteps : List ℕ → Type 0
@@ -92,6 +114,7 @@ IsSteps rest = (few : FewSteps) × IsMadeOf (loosely (flat_map step_tokens few.0
 abbrev pub IsLast : Head → List ℕ → Type 0
 IsLast (heads.Alone word) rest = IsEnd rest
 IsLast heads.Node rest = IsEnd rest
+IsLast heads.Edge rest = IsEnd rest
 IsLast heads.Delete rest = IsEnd rest
 IsLast heads.Query rest = IsSteps rest
 

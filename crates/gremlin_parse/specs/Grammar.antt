@@ -70,6 +70,7 @@ alone word = Blanks ∷ Exactly word ∷ Blanks ∷ []
 
 abbrev pub target_parts : Target → List Part
 target_parts (targets.Node id) = Exactly (codes "node") ∷ Gap ∷ Number id ∷ []
+target_parts (targets.Edge id) = Exactly (codes "edge") ∷ Gap ∷ Number id ∷ []
 
 -- the parts that spell a command
 abbrev pub parts_of : Command → List Part
@@ -82,6 +83,9 @@ parts_of commands.Stats = alone (codes "stats")
 parts_of commands.Reopen = alone (codes "reopen")
 parts_of commands.Quit = alone (codes "quit")
 parts_of (commands.Node label) = Blanks ∷ Exactly (codes "node") ∷ Gap ∷ Name label ∷ Blanks ∷ []
+parts_of (commands.Edge from label to) =
+    Blanks ∷ Exactly (codes "edge") ∷ Gap ∷ Number from ∷ Gap ∷ Name label ∷ Gap ∷ Number to
+    ∷ Blanks ∷ []
 parts_of (commands.Delete target) =
     (Blanks ∷ Exactly (codes "delete") ∷ Gap ∷ []) ++ target_parts target ++ Blanks ∷ []
 parts_of (commands.Query query) = Blanks ∷ loosely (query_tokens query)
@@ -117,5 +121,6 @@ IsLine line = (command : Command) × SpellsLoosely line command
 -- The command is read without asking for memory.
 abbrev pub NeedsNoMemory : Command → Type 0
 NeedsNoMemory (commands.Node label) = ⊥
+NeedsNoMemory (commands.Edge from label to) = ⊥
 NeedsNoMemory (commands.Query query) = ⊥
 NeedsNoMemory _ = Unit {0}

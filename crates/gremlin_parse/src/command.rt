@@ -11,7 +11,7 @@ use crate::number::read_number;
 use crate::parts::{read_end, read_gap, read_name, skip_blanks};
 use crate::query::parse_query;
 use crate::stop::Stop;
-use crate::target::{TargetWord, read_target};
+use crate::target::{read_target, target_of};
 use crate::word::{Word, plain_command};
 use plain_graph::{Command, Target, Text};
 use std::alloc::Global;
@@ -37,6 +37,10 @@ pub(crate) fn parse_tail(alloc: Global, bytes: &[u8]) -> Result<Command, Stop>
         Head::Node => {
             let label = parse_node(alloc, rest)?;
             Ok(Command::Node { label })
+        }
+        Head::Edge => {
+            let command = parse_edge(alloc, rest)?;
+            Ok(command)
         }
         Head::Delete => {
             let target = parse_delete(rest)?;
@@ -72,6 +76,24 @@ fn parse_node(alloc: Global, bytes: &[u8]) -> Result<Text, Stop>
     Ok(Text::new(copy))
 }
 
+/// The edge after `edge`: its source, its type and its target.
+fn parse_edge(alloc: Global, bytes: &[u8]) -> Result<Command, Stop>
+    ensures ok { IfOk result (λ command. SpellsAfter command heads.Edge bytes.now) }
+    ensures bounds { IfOk result KeepsBounds }
+    ensures err { IfErr result (StopsAfter heads.Edge (Unit {0}) bytes.now) }
+{
+    let at_from = read_gap(bytes)?;
+    let (from, after_from) = read_number(at_from)?;
+    let at_name = read_gap(after_from)?;
+    let (name, after_name) = read_name(at_name)?;
+    let at_to = read_gap(after_name)?;
+    let (to, after_to) = read_number(at_to)?;
+    read_end(skip_blanks(after_to))?;
+    let copy = Vec::from_slice(alloc, name).map_err(|_| Stop::Memory)?;
+    let label = Text::new(copy);
+    Ok(Command::Edge { from, label, to })
+}
+
 /// What is taken away, after `delete`.
 fn parse_delete(bytes: &[u8]) -> Result<Target, Stop>
     ensures ok { IfOk result (λ target.
@@ -84,7 +106,5 @@ fn parse_delete(bytes: &[u8]) -> Result<Target, Stop>
     let number = read_gap(after_word)?;
     let (id, after_id) = read_number(number)?;
     read_end(skip_blanks(after_id))?;
-    match word {
-        TargetWord::Node => Ok(Target::Node(id)),
-    }
+    Ok(target_of(word, id))
 }

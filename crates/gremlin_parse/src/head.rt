@@ -12,11 +12,12 @@ use crate::word::Word;
 pub(crate) enum Head {
     Alone(Word),
     Node,
+    Edge,
     Delete,
     Query,
 }
 
-const HEADS: [(&[u8], Head); 10] = [
+const HEADS: [(&[u8], Head); 11] = [
     (b"begin", Head::Alone(Word::Begin)),
     (b"commit", Head::Alone(Word::Commit)),
     (b"rollback", Head::Alone(Word::Rollback)),
@@ -25,6 +26,7 @@ const HEADS: [(&[u8], Head); 10] = [
     (b"reopen", Head::Alone(Word::Reopen)),
     (b"quit", Head::Alone(Word::Quit)),
     (b"node", Head::Node),
+    (b"edge", Head::Edge),
     (b"delete", Head::Delete),
     (b"g", Head::Query),
 ];

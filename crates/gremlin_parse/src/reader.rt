@@ -13,8 +13,8 @@ use crate::stop::Stop;
 use plain_graph::Command;
 use std::alloc::Global;
 
-/// The command that the line spells, or its leftmost fault. Memory is asked for by a label and by
-/// the steps of a query alone.
+/// The command that the line spells, or its leftmost fault. Memory is asked for by a label, by
+/// the type of an edge and by the steps of a query alone.
 pub fn parse_line(alloc: Global, line: &[u8]) -> Result<Command, LineFault>
     // The line spells this command and no other, and has no fault.
     ensures spelled { IfOk result (λ command. Spells line.now command) }

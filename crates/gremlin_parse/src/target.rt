@@ -1,18 +1,23 @@
-ghost use Rattle.std.specs.Prelude.{IfOk, IfErr};
-ghost use Rattle.gremlin_parse.specs.Commands.{target_words};
+ghost use Rattle.std.specs.Prelude.{◌≡◌, IfOk, IfErr};
+ghost use Rattle.gremlin_parse.specs.Commands.{target_words, target_of};
 ghost use Rattle.gremlin_parse.specs.Keywords.{TakesWord, LeavesTable};
 ghost use Rattle.gremlin_parse.specs.Stopping.{StopsWith};
 
 use crate::keyword::read_keyword;
 use crate::stop::Stop;
+use plain_graph::Target;
 
 /// The word for what a command changes.
 #[derive(Clone, Copy)]
 pub(crate) enum TargetWord {
     Node,
+    Edge,
 }
 
-const TARGETS: [(&[u8], TargetWord); 1] = [(b"node", TargetWord::Node)];
+const TARGETS: [(&[u8], TargetWord); 2] = [
+    (b"node", TargetWord::Node),
+    (b"edge", TargetWord::Edge),
+];
 
 /// The word for what a command changes, and the bytes after it.
 ///
@@ -23,4 +28,14 @@ pub(crate) fn read_target(bytes: &[u8]) -> Result<(TargetWord, &[u8]), Stop>
     ensures err { IfErr result (StopsWith (LeavesTable target_words bytes.now)) }
 {
     read_keyword(bytes, &TARGETS)
+}
+
+/// The element of this identifier.
+pub(crate) fn target_of(word: TargetWord, id: u32) -> Target
+    ensures { result ≡ target_of word id }
+{
+    match word {
+        TargetWord::Node => Target::Node(id),
+        TargetWord::Edge => Target::Edge(id),
+    }
 }

@@ -14,7 +14,9 @@ enum Wanted<'a> {
     Reopen,
     Quit,
     Node(&'a [u8]),
+    Edge(u32, &'a [u8], u32),
     Delete(u32),
+    DeleteEdge(u32),
     Query(&'a [Step]),
     Syntax(usize),
     NameLength(usize),
@@ -32,7 +34,11 @@ fn is_wanted(given: &Result<Command, LineFault>, wanted: Wanted) -> bool {
         | (Ok(Command::Reopen), Wanted::Reopen)
         | (Ok(Command::Quit), Wanted::Quit) => true,
         (Ok(Command::Node { label }), Wanted::Node(bytes)) => label.as_bytes() == bytes,
-        (Ok(Command::Delete(Target::Node(id))), Wanted::Delete(number)) => *id == number,
+        (Ok(Command::Edge { from, label, to }), Wanted::Edge(source, bytes, target)) => {
+            *from == source && label.as_bytes() == bytes && *to == target
+        }
+        (Ok(Command::Delete(Target::Node(id))), Wanted::Delete(number))
+        | (Ok(Command::Delete(Target::Edge(id))), Wanted::DeleteEdge(number)) => *id == number,
         (Ok(Command::Query(query)), Wanted::Query(steps)) => query.steps.as_slice() == steps,
         (Err(LineFault::Syntax { at }), Wanted::Syntax(place)) => *at == place,
         (Err(LineFault::NameLength { at }), Wanted::NameLength(place)) => *at == place,
@@ -168,14 +174,29 @@ fn words(rt: HostRuntime) {
 
 #[test]
 fn deletions(rt: HostRuntime) {
-    let table: [(&[u8], Wanted); 27] = [
+    let table: [(&[u8], Wanted); 39] = [
         (b"d", Wanted::Syntax(1)),
         (b"delete", Wanted::Syntax(6)),
         (b"delete ", Wanted::Syntax(7)),
         (b"deletenode 1", Wanted::Syntax(6)),
         (b"delete nod", Wanted::Syntax(10)),
         (b"delete nope 1", Wanted::Syntax(9)),
-        (b"delete edge 1", Wanted::Syntax(7)),
+        (b"delete edge 1", Wanted::DeleteEdge(1)),
+        (
+            b" delete\tedge  4294967294\t",
+            Wanted::DeleteEdge(4_294_967_294),
+        ),
+        (b"delete edge 4294967295", Wanted::NumberRange(12)),
+        (b"delete n", Wanted::Syntax(8)),
+        (b"delete e 1", Wanted::Syntax(8)),
+        (b"delete edg", Wanted::Syntax(10)),
+        (b"delete edge", Wanted::Syntax(11)),
+        (b"delete edges 1", Wanted::Syntax(11)),
+        (b"delete nodeedge 1", Wanted::Syntax(11)),
+        (b"delete edge x", Wanted::Syntax(12)),
+        (b"delete edge 00", Wanted::Syntax(13)),
+        (b"delete edge 1 2", Wanted::Syntax(14)),
+        (b"delete name 1", Wanted::Syntax(8)),
         (b"delete 1", Wanted::Syntax(7)),
         (b"delete node", Wanted::Syntax(11)),
         (b"delete node7", Wanted::Syntax(11)),
@@ -206,12 +227,94 @@ fn deletions(rt: HostRuntime) {
     }
 }
 
+#[test]
+fn edges(rt: HostRuntime) {
+    let longest = b"abcdefghijklmnopqrstuvwxyz_0123456789ABCDEFGHIJK";
+    let table: [(&[u8], Wanted); 51] = [
+        (b"edge 0 self 0", Wanted::Edge(0, b"self", 0)),
+        (b" \tedge\t0  knows \t1\t", Wanted::Edge(0, b"knows", 1)),
+        (b"edge 7 edge 12", Wanted::Edge(7, b"edge", 12)),
+        (b"edge 12 _Z9a 7", Wanted::Edge(12, b"_Z9a", 7)),
+        (b"edge 4294967294 T 0", Wanted::Edge(4_294_967_294, b"T", 0)),
+        (b"edge 0 T 4294967294", Wanted::Edge(0, b"T", 4_294_967_294)),
+        (
+            b"edge 1 abcdefghijklmnopqrstuvwxyz_0123456789ABCDEFGHIJK 2",
+            Wanted::Edge(1, longest, 2),
+        ),
+        (b"e", Wanted::Syntax(1)),
+        (b"edg", Wanted::Syntax(3)),
+        (b"edge", Wanted::Syntax(4)),
+        (b"edge ", Wanted::Syntax(5)),
+        (b"edge 0", Wanted::Syntax(6)),
+        (b"edge 0 ", Wanted::Syntax(7)),
+        (b"edge 0 self", Wanted::Syntax(11)),
+        (b"edge 0 self ", Wanted::Syntax(12)),
+        (b"Edge 0 T 0", Wanted::Syntax(0)),
+        (b"edges 0 T 0", Wanted::Syntax(4)),
+        (b"edge0 T 0", Wanted::Syntax(4)),
+        (b"edge.0 T 0", Wanted::Syntax(4)),
+        (b"edge T 0 0", Wanted::Syntax(5)),
+        (b"edge -1 T 0", Wanted::Syntax(5)),
+        (b"edge node 0 T 0", Wanted::Syntax(5)),
+        (b"edge 00 T 0", Wanted::Syntax(6)),
+        (b"edge 0T 0", Wanted::Syntax(6)),
+        (b"edge 0!", Wanted::Syntax(6)),
+        (b"edge 1 2 3", Wanted::Syntax(7)),
+        (b"edge 0 'T' 0", Wanted::Syntax(7)),
+        (b"edge 0 T-1 0", Wanted::Syntax(8)),
+        (b"edge 0 T0", Wanted::Syntax(9)),
+        (b"edge 0 T T", Wanted::Syntax(9)),
+        (b"edge 0 T -1", Wanted::Syntax(9)),
+        (b"edge 0 T 01", Wanted::Syntax(10)),
+        (b"edge 0 T 0x", Wanted::Syntax(10)),
+        (b"edge 0 T 0.", Wanted::Syntax(10)),
+        (b"edge 0 T 0 x", Wanted::Syntax(11)),
+        (b"edge 0 T 0 1", Wanted::Syntax(11)),
+        (b"edge 0 T 0 k=1", Wanted::Syntax(11)),
+        (b"edge 4294967295", Wanted::NumberRange(5)),
+        (b"edge 4294967295x", Wanted::NumberRange(5)),
+        (b" edge 4294967295 T 0", Wanted::NumberRange(6)),
+        (b"edge 42949672940 T x", Wanted::NumberRange(5)),
+        (b"edge 0 T 4294967295", Wanted::NumberRange(9)),
+        (b"edge 0 T 4294967295 x", Wanted::NumberRange(9)),
+        (b"edge 0 T 18446744073709551616!", Wanted::NumberRange(9)),
+        (b"edge 4294967295 T 4294967295", Wanted::NumberRange(5)),
+        (b"edge 0 0 4294967295", Wanted::Syntax(7)),
+        (
+            b"edge 0 abcdefghijklmnopqrstuvwxyz_0123456789ABCDEFGHIJKL 0",
+            Wanted::NameLength(7),
+        ),
+        (
+            b"edge 0 abcdefghijklmnopqrstuvwxyz_0123456789ABCDEFGHIJKL",
+            Wanted::NameLength(7),
+        ),
+        (
+            b"edge 0 abcdefghijklmnopqrstuvwxyz_0123456789ABCDEFGHIJKL!",
+            Wanted::NameLength(7),
+        ),
+        (
+            b"edge 0 abcdefghijklmnopqrstuvwxyz_0123456789ABCDEFGHIJKL 4294967295",
+            Wanted::NameLength(7),
+        ),
+        (
+            b"edge 4294967295 abcdefghijklmnopqrstuvwxyz_0123456789ABCDEFGHIJKL 0",
+            Wanted::NumberRange(5),
+        ),
+    ];
+    for (line, wanted) in table {
+        let given = parse_line(rt.alloc(), line);
+        assert!(rt; is_wanted(&given, wanted), "{line:?}");
+    }
+}
+
 /// Lines of the grammar.
-const LINES: [&[u8]; 10] = [
+const LINES: [&[u8]; 12] = [
     b"rollback",
     b" commit ",
     b"\tcheckpoint",
     b"delete \tnode  4294967294 ",
+    b"\tdelete  edge\t70 ",
+    b" edge\t10  self \t4294967294 ",
     b"node person",
     b" \tnode\tperson ",
     b"g.V()",

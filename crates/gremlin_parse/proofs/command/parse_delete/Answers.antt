@@ -1,7 +1,12 @@
-use Rattle.std.proofs.Common.{inl, inr, refl, codes}
+use Rattle.std.proofs.Common.{◌≡◌, ◌∙◌, inl, inr, refl, sym, ap, subst}
 use Rattle.std.proofs.lemmas.Result.{err_from_is_err_and}
+use Rattle.plain_graph.specs.declared.command.Command.TheVariants as commands
+use Rattle.plain_graph.specs.declared.command.Target.{Target}
+use Rattle.gremlin_parse.specs.Grammar.{KeepsBounds}
+use Rattle.gremlin_parse.specs.Commands.{SpellsAfter, target_of, kind_named}
 use Rattle.gremlin_parse.specs.declared.head.Head.TheVariants as heads
-use Rattle.gremlin_parse.proofs.Heads.{stop_in_head, stop_after_head, stop_at_end, spells_read, target_is, leaves_target}
+use Rattle.gremlin_parse.specs.declared.target.TargetWord.{TargetWord}
+use Rattle.gremlin_parse.proofs.Heads.{stop_in_head, stop_after_head, stop_at_end, spells_read, name_of, kind_is, target_is, target_keeps, leaves_target}
 use Rattle.gremlin_parse.proofs.command.parse_delete.Goals as goal
 
 pub returns-in_err-after_gap-clause-err : goal.returns-in_err-after_gap-clause-err
@@ -22,7 +27,7 @@ returns-in_err-number-clause-err c =
     let gap = c.in_ok-after_gap.after_gap.now in
     let word = c.in_ok-word.after_word.now in
     let stop = c.in_err-number.field-0.0 in
-    rw (p.1, p.2) (stop_in_head heads.Delete ⊥ c.args.bytes.now stop (inr (tt, gap, c.in_ok-after_gap.ensures.ok, inr (codes "node", word, target_is gap word c.in_ok-word.word c.in_ok-word.ensures.ok, inl c.in_err-number.ensures.err))))
+    rw (p.1, p.2) (stop_in_head heads.Delete ⊥ c.args.bytes.now stop (inr (tt, gap, c.in_ok-after_gap.ensures.ok, inr (name_of c.in_ok-word.word, word, target_is gap word c.in_ok-word.word c.in_ok-word.ensures.ok, inl c.in_err-number.ensures.err))))
 
 pub returns-in_err-id-clause-err : goal.returns-in_err-id-clause-err
 returns-in_err-id-clause-err c =
@@ -31,7 +36,7 @@ returns-in_err-id-clause-err c =
     let word = c.in_ok-word.after_word.now in
     let number = c.in_ok-number.number.now in
     let stop = c.in_err-id.field-0.0 in
-    rw (p.1, p.2) (stop_in_head heads.Delete ⊥ c.args.bytes.now stop (inr (tt, gap, c.in_ok-after_gap.ensures.ok, inr (codes "node", word, target_is gap word c.in_ok-word.word c.in_ok-word.ensures.ok, inr (tt, number, c.in_ok-number.ensures.ok, inl c.in_err-id.ensures.err)))))
+    rw (p.1, p.2) (stop_in_head heads.Delete ⊥ c.args.bytes.now stop (inr (tt, gap, c.in_ok-after_gap.ensures.ok, inr (name_of c.in_ok-word.word, word, target_is gap word c.in_ok-word.word c.in_ok-word.ensures.ok, inr (tt, number, c.in_ok-number.ensures.ok, inl c.in_err-id.ensures.err)))))
 
 pub returns-in_err-read_end-clause-err : goal.returns-in_err-read_end-clause-err
 returns-in_err-read_end-clause-err c =
@@ -41,7 +46,7 @@ returns-in_err-read_end-clause-err c =
     let number = c.in_ok-number.number.now in
     let rest = c.skip_blanks.result.now in
     let stop = c.in_err-read_end.field-0.0 in
-    rw (p.1, p.2) (stop_after_head heads.Delete ⊥ (tt, (codes "node", (tt, (c.in_ok-id.id, (tt, tt))))) c.args.bytes.now rest stop (gap, c.in_ok-after_gap.ensures.ok, (word, target_is gap word c.in_ok-word.word c.in_ok-word.ensures.ok, (number, c.in_ok-number.ensures.ok, (c.in_ok-id.after_id.now, c.in_ok-id.ensures.ok, (rest, c.skip_blanks.ensures, refl))))) (stop_at_end ⊥ rest stop c.in_err-read_end.ensures.err))
+    rw (p.1, p.2) (stop_after_head heads.Delete ⊥ (tt, (name_of c.in_ok-word.word, (tt, (c.in_ok-id.id, (tt, tt))))) c.args.bytes.now rest stop (gap, c.in_ok-after_gap.ensures.ok, (word, target_is gap word c.in_ok-word.word c.in_ok-word.ensures.ok, (number, c.in_ok-number.ensures.ok, (c.in_ok-id.after_id.now, c.in_ok-id.ensures.ok, (rest, c.skip_blanks.ensures, refl))))) (stop_at_end ⊥ rest stop c.in_err-read_end.ensures.err))
 
 pub returns-clause-ok : goal.returns-clause-ok
 returns-clause-ok c =
@@ -49,7 +54,9 @@ returns-clause-ok c =
     let word = c.in_ok-word.after_word.now in
     let number = c.in_ok-number.number.now in
     let rest = c.skip_blanks.result.now in
-    spells_read heads.Delete (tt, (codes "node", (tt, (c.in_ok-id.id, (tt, tt))))) tt c.args.bytes.now rest (gap, c.in_ok-after_gap.ensures.ok, (word, target_is gap word c.in_ok-word.word c.in_ok-word.ensures.ok, (number, c.in_ok-number.ensures.ok, (c.in_ok-id.after_id.now, c.in_ok-id.ensures.ok, (rest, c.skip_blanks.ensures, refl))))) c.in_ok-read_end.ensures.ok
+    let spells = spells_read heads.Delete (tt, (name_of c.in_ok-word.word, (tt, (c.in_ok-id.id, (tt, tt))))) tt c.args.bytes.now rest (gap, c.in_ok-after_gap.ensures.ok, (word, target_is gap word c.in_ok-word.word c.in_ok-word.ensures.ok, (number, c.in_ok-number.ensures.ok, (c.in_ok-id.after_id.now, c.in_ok-id.ensures.ok, (rest, c.skip_blanks.ensures, refl))))) c.in_ok-read_end.ensures.ok in
+    let target : c.target_of.result ≡ target_of (kind_named (name_of c.in_ok-word.word)) c.in_ok-id.id = c.target_of.ensures ∙ ap (λ (kind : TargetWord). target_of kind c.in_ok-id.id) (sym (kind_is c.in_ok-word.word)) in
+    subst (λ (t : Target). SpellsAfter (commands.Delete t) heads.Delete c.args.bytes.now) (sym target) spells
 
 pub returns-clause-bounds : goal.returns-clause-bounds
-returns-clause-bounds c = (tt, (tt, (tt, (tt, (tt, (c.in_ok-id.ensures.ok.bounded, (tt, tt)))))))
+returns-clause-bounds c = subst (λ (t : Target). KeepsBounds (commands.Delete t)) (sym c.target_of.ensures) (target_keeps c.in_ok-word.word c.in_ok-id.id c.in_ok-id.ensures.ok.bounded)

@@ -32,6 +32,15 @@ returns-in_err-label-in-Node-clause-err c =
     let takes = subst (λ (h : Head). TakesWord head_words bytes h rest) c.in-Node.is c.in_ok-head.ensures.ok in
     rw (p.1, p.2) (tail_after_word (LacksMemory bytes) (Unit {0}) bytes rest heads.Node c.in_err-label-in-Node.field-0.0 some (λ lack. lacks_memory heads.Node (λ values last none. none) bytes rest some takes) takes c.in_err-label-in-Node.ensures.err)
 
+pub returns-in_err-command-in-Edge-clause-err : goal.returns-in_err-command-in-Edge-clause-err
+returns-in_err-command-in-Edge-clause-err c =
+    let p = err_from_is_err_and c.from_residual-in_err-command-in-Edge.result c.from_residual-in_err-command-in-Edge.ensures.1 in
+    let bytes = c.args.bytes.now in
+    let rest = c.in_ok-head.rest.now in
+    let some = not_empty bytes c.is_empty.result c.is_empty.ensures c.if-is_empty.false in
+    let takes = subst (λ (h : Head). TakesWord head_words bytes h rest) c.in-Edge.is c.in_ok-head.ensures.ok in
+    rw (p.1, p.2) (tail_after_word (LacksMemory bytes) (Unit {0}) bytes rest heads.Edge c.in_err-command-in-Edge.field-0.0 some (λ lack. lacks_memory heads.Edge (λ values last none. none) bytes rest some takes) takes c.in_err-command-in-Edge.ensures.err)
+
 pub returns-in_err-target-in-Delete-clause-err : goal.returns-in_err-target-in-Delete-clause-err
 returns-in_err-target-in-Delete-clause-err c =
     let p = err_from_is_err_and c.from_residual-in_err-target-in-Delete.result c.from_residual-in_err-target-in-Delete.ensures.1 in
@@ -63,6 +72,13 @@ returns-in_ok-label-in-Node-clause-ok c =
     let rest = c.in_ok-head.rest.now in
     let takes = subst (λ (h : Head). TakesWord head_words bytes h rest) c.in-Node.is c.in_ok-head.ensures.ok in
     tail_of_word (commands.Node c.in_ok-label-in-Node.label) heads.Node bytes rest takes c.in_ok-label-in-Node.ensures.ok
+
+pub returns-in_ok-command-in-Edge-clause-ok : goal.returns-in_ok-command-in-Edge-clause-ok
+returns-in_ok-command-in-Edge-clause-ok c =
+    let bytes = c.args.bytes.now in
+    let rest = c.in_ok-head.rest.now in
+    let takes = subst (λ (h : Head). TakesWord head_words bytes h rest) c.in-Edge.is c.in_ok-head.ensures.ok in
+    tail_of_word c.in_ok-command-in-Edge.command heads.Edge bytes rest takes c.in_ok-command-in-Edge.ensures.ok
 
 pub returns-in_ok-target-in-Delete-clause-ok : goal.returns-in_ok-target-in-Delete-clause-ok
 returns-in_ok-target-in-Delete-clause-ok c =
