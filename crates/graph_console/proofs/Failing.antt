@@ -35,6 +35,7 @@ module _ (old new : State) (live : old.standing ≡ Live) where
   carried_live commands.Reopen reply done = ap (λ (s : State). s.standing) done.3
   carried_live commands.Quit reply never = absurd never
   carried_live (commands.Node label) reply done = changed_live (commands.Node label) reply done
+  carried_live (commands.Edge from label to) reply done = changed_live (commands.Edge from label to) reply done
   carried_live (commands.Delete target) reply done = changed_live (commands.Delete target) reply done
   carried_live (commands.Query query) reply done = stays_live done.1
 
@@ -51,6 +52,7 @@ module _ (old new : State) (live : old.standing ≡ Live) where
       by replies.Silent s = inr (stays_live s.1)
       by replies.Done s = inr (carried_live s.1 replies.Done s.3)
       by (replies.NodeMade id) s = inr (carried_live s.1 (replies.NodeMade id) s.3)
+      by (replies.EdgeMade id) s = inr (carried_live s.1 (replies.EdgeMade id) s.3)
       by (replies.Results results) s = inr (carried_live s.1 (replies.Results results) s.3)
       by (replies.Counted counts) s = inr (carried_live s.1 (replies.Counted counts) s.3)
       by (replies.Faulted results fault) s = stopped_live x results fault s

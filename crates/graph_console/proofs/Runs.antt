@@ -46,6 +46,7 @@ told_once : (reply : Reply) → (told_fault reply ≡ 0) ⊎ (told_fault reply �
 told_once replies.Silent = inl refl
 told_once replies.Done = inl refl
 told_once (replies.NodeMade id) = inl refl
+told_once (replies.EdgeMade id) = inl refl
 told_once (replies.Results results) = inl refl
 told_once (replies.Counted counts) = inl refl
 told_once (replies.Faulted results replies.NoMemory) = inl refl

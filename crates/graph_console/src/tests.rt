@@ -1,4 +1,7 @@
 //! Whole runs of the program over a source, a sink and a disk in memory.
+mod edges;
+mod generated;
+mod lists;
 mod rows;
 mod stops;
 mod stored;

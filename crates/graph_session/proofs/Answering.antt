@@ -6,7 +6,7 @@ use Rattle.disk_model.specs.declared.disk.Disk.{Ghosts as DiskGhosts}
 use Rattle.disk_model.proofs.Spans.{OnlyNow}
 use Rattle.stream_io.specs.Lines.{InputLine}
 use Rattle.stream_io.specs.declared.streams.Sink.{Ghosts as SinkGhosts}
-use Rattle.plain_graph.specs.Reply.{Counted, DamagedRecord, Done, Faulted, NoMemory, NodeMade, Refused, Reply, Results, Silent, reply_text}
+use Rattle.plain_graph.specs.Reply.{Counted, DamagedRecord, Done, Faulted, NoMemory, EdgeMade, NodeMade, Refused, Reply, Results, Silent, reply_text}
 use Rattle.plain_graph.specs.declared.refusal.Refusal.{Refusal}
 use Rattle.graph_session.specs.Answer.{AnswersLine, Delivers, Gives, Settles, Terminal}
 use Rattle.graph_session.specs.Console.{IsAt, Onward, SessionView}
@@ -25,6 +25,7 @@ abbrev pub IsGood : Reply → Type 0
 IsGood Silent = ⊥
 IsGood Done = Unit {0}
 IsGood (NodeMade id) = Unit {0}
+IsGood (EdgeMade id) = Unit {0}
 IsGood (Results results) = Unit {0}
 IsGood (Counted counts) = Unit {0}
 IsGood (Faulted results fault) = ⊥
@@ -37,6 +38,7 @@ good-step : (old new : State) (line : InputLine) (disk_failed : Bool) (reply : R
 good-step old new line disk_failed Silent good done = absurd good
 good-step old new line disk_failed Done good done = done
 good-step old new line disk_failed (NodeMade id) good done = done
+good-step old new line disk_failed (EdgeMade id) good done = done
 good-step old new line disk_failed (Results results) good done = done
 good-step old new line disk_failed (Counted counts) good done = done
 good-step old new line disk_failed (Faulted results fault) good done = absurd good
@@ -46,6 +48,7 @@ good-told : (reply : Reply) → IsGood reply → told_fault reply ≡ 0
 good-told Silent good = refl
 good-told Done good = refl
 good-told (NodeMade id) good = refl
+good-told (EdgeMade id) good = refl
 good-told (Results results) good = refl
 good-told (Counted counts) good = refl
 good-told (Faulted results fault) good = absurd good
@@ -56,6 +59,7 @@ pub good-changed : (reply : Reply) → IsGood reply → ¬ TellsNoChange reply
 good-changed Silent good none = good
 good-changed Done good none = none
 good-changed (NodeMade id) good none = none
+good-changed (EdgeMade id) good none = none
 good-changed (Results results) good none = none
 good-changed (Counted counts) good none = none
 good-changed (Faulted results fault) good none = good

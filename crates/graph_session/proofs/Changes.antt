@@ -16,7 +16,7 @@ use Rattle.rec_bytes.specs.declared.key.Key.{Key}
 use Rattle.rec_bytes.specs.declared.record.Rec.{Rec}
 use Rattle.record_file.specs.Redone.{Redoes}
 use Rattle.store_rules.specs.Graph.{graph_of}
-use Rattle.store_rules.specs.Rules.{IsNodeStore}
+use Rattle.store_rules.specs.Rules.{IsSparseStore}
 use Rattle.graph_session.specs.Answer.{Settles}
 use Rattle.graph_session.specs.Console.{BeginWith, IsAt, SessionView, TellsAll}
 use Rattle.graph_session.specs.Exchange.{CarriesOut, LeavesChange, LeavesOpen, MakesChange, ShowsSome, opening}
@@ -55,6 +55,7 @@ carries-change old new commands.Stats reply change makes = absurd change
 carries-change old new commands.Reopen reply change makes = absurd change
 carries-change old new commands.Quit reply change makes = absurd change
 carries-change old new (commands.Node label) reply change makes = makes
+carries-change old new (commands.Edge from label to) reply change makes = makes
 carries-change old new (commands.Delete target) reply change makes = makes
 carries-change old new (commands.Query query) reply change makes = absurd change
 
@@ -68,6 +69,7 @@ leaves-change old new line commands.Stats change leaves = absurd change
 leaves-change old new line commands.Reopen change leaves = absurd change
 leaves-change old new line commands.Quit change leaves = absurd change
 leaves-change old new line (commands.Node label) change leaves = leaves
+leaves-change old new line (commands.Edge from label to) change leaves = leaves
 leaves-change old new line (commands.Delete target) change leaves = leaves
 leaves-change old new line (commands.Query query) change leaves = absurd change
 
@@ -81,6 +83,7 @@ shows-none state commands.Stats change = refl
 shows-none state commands.Reopen change = refl
 shows-none state commands.Quit change = refl
 shows-none state (commands.Node label) change = refl
+shows-none state (commands.Edge from label to) change = refl
 shows-none state (commands.Delete target) change = refl
 shows-none state (commands.Query query) change = absurd change
 
@@ -94,7 +97,7 @@ pub record Keeps {D : Type 0} (g : Ghosts D) (old new : SessionView D) (weight :
 
 -- The records are those of a well-formed store, and these are the names of its graph.
 pub record IsGrown (state : State) (records : Key → Rec) (names : List (List ℕ)) : Type 0 where
-  pub store : IsNodeStore records state.shape
+  pub store : IsSparseStore records state.shape
   pub named : names ≡ (graph_of records).names
 
 -- The change is committed.
@@ -151,10 +154,10 @@ module _ {D : Type 0} {g : Ghosts D} {old : SessionView D} {state : State} (at :
   stopped-admitted : (content : Files) → IsAdmitted state content → IsAdmitted (stopped state) content
   stopped-admitted content had = (had.0, stopped-admits had.0 had.1, had.2)
 
-  alone-one : (now : Key → Rec) → (g.tells_reads → IsNodeStore now state.shape) → g.tells_reads → IsOneOf (changed state (graph_of now)) now
+  alone-one : (now : Key → Rec) → (g.tells_reads → IsSparseStore now state.shape) → g.tells_reads → IsOneOf (changed state (graph_of now)) now
   alone-one now store told = own-one (changed state (graph_of now)) now (is_live at live) (store told) refl
 
-  doubt-one : (now : Key → Rec) → (g.tells_reads → IsNodeStore now state.shape) → g.tells_reads → IsOneOf (in_doubt state (graph_of now)) now
+  doubt-one : (now : Key → Rec) → (g.tells_reads → IsSparseStore now state.shape) → g.tells_reads → IsOneOf (in_doubt state (graph_of now)) now
   doubt-one now store told = record { store = store told; admits = (1, omega arith, refl) }
 
 module _ {D : Type 0} {g : Ghosts D} {old new : SessionView D} {state : State} (at : IsAt g old state) (live : old.console.health ≡ healths.Live) where
@@ -186,7 +189,7 @@ module _ {D : Type 0} {g : Ghosts D} {old new : SessionView D} {state : State} (
     -- a change in the open transaction
     pub settles-kept : {line : List ℕ} {command : Command} → SpellsOnly line command → IsChange command → (reply : Reply) → IsGood reply → (weight : ℕ) → Keeps g old new weight
         → (g.tells_reads → IsGrown state new.console.working new.console.names) → (g.tells_reads → IsAccepted state (Whole line))
-        → (g.tells_reads → Changes state.shape.limit transaction.graph command reply (graph_of new.console.working)) → (g.tells_reads → Weighs transaction.graph command weight)
+        → (g.tells_reads → Changes state.shape.limit transaction.graph command reply (graph_of new.console.working)) → (g.tells_reads → Weighs state.shape.threshold transaction.graph command weight)
         → Settles g (Whole line) old new state reply
     settles-kept {line = line} {command = command} only change reply good weight keeps grown accepted changes weighs =
         let after = with_change state (graph_of new.console.working) (transaction.weight + weight) in

@@ -7,15 +7,16 @@ use Rattle.plain_graph.specs.Graph.{Graph}
 use Rattle.plain_graph.specs.Reply.{Counted}
 use Rattle.plain_graph.specs.declared.command.Command.TheVariants as commands
 use Rattle.plain_graph.specs.declared.counts.Counts.{Counts}
-use Rattle.rec_bytes.specs.Format.{names_file, nodes_file}
+use Rattle.rec_bytes.specs.Format.{names_file, nodes_file, relationships_file}
 use Rattle.rec_bytes.specs.Space.{meta_in}
 use Rattle.rec_bytes.specs.declared.key.Key.{Key}
 use Rattle.rec_bytes.specs.declared.record.Rec.{Rec}
 use Rattle.rec_bytes.specs.declared.shape.Shape.{Shape}
 use Rattle.store_rules.specs.Graph.{graph_of, node_from, node_of}
-use Rattle.store_rules.specs.Rules.{IsNodeStore}
+use Rattle.store_rules.specs.Rules.{IsSparseStore}
 use Rattle.store_rules.specs.Views.{high, is_live, kind_at, node_in, rec_at}
 use Rattle.store_rules.proofs.Counts.{length-collect}
+use Rattle.store_rules.proofs.GraphRows.{count_edges}
 use Rattle.graph_session.specs.Answer.{Settles}
 use Rattle.graph_session.specs.Console.{ConsoleView, HoldsGraphs, IsAt, SessionView}
 use Rattle.graph_session.specs.Refusals.{SpellsOnly}
@@ -37,22 +38,23 @@ is_some-node records x = by (nat_eq (kind_at records nodes_file x) 0)
     by false = refl
 
 -- the meta record of the nodes says how many the graph has
-pub count_nodes : (records : Key → Rec) (shape : Shape) → IsNodeStore records shape → (meta_in records nodes_file).live ≡ length (graph_of records).nodes
+pub count_nodes : (records : Key → Rec) (shape : Shape) → IsSparseStore records shape → (meta_in records nodes_file).live ≡ length (graph_of records).nodes
 count_nodes records shape store =
-    let split = store.well.split nodes_file refl in
+    let split = store.keeps.split nodes_file refl in
     split.1.exact ∙ sym (length-collect _ (node_of records) (is_live records nodes_file) (high records nodes_file) (is_some-node records))
 
 -- what a console counts
 abbrev pub counts_in : (Key → Rec) → List (List ℕ) → Counts
-counts_in records names = record { nodes = (meta_in records nodes_file).live; edges = 0; properties = 0; blocks = 0; names = length names }
+counts_in records names = record { nodes = (meta_in records nodes_file).live; edges = (meta_in records relationships_file).live; properties = 0; blocks = 0; names = length names }
 
-abbrev counts_from : ℕ → ℕ → Counts
-counts_from nodes names = record { nodes = nodes; edges = 0; properties = 0; blocks = 0; names = names }
+abbrev counts_from : ℕ → ℕ → ℕ → Counts
+counts_from nodes edges names = record { nodes = nodes; edges = edges; properties = 0; blocks = 0; names = names }
 
 pub counts-seen : (console : ConsoleView) (state : State) → HoldsGraphs console state → counts_in console.working console.names ≡ counts_of (seen state)
 counts-seen console state held =
-    ap (λ (n : ℕ). counts_from n (length console.names)) (count_nodes console.working state.shape held.working ∙ ap (λ (graph : Graph). length graph.nodes) held.working_graph)
-    ∙ ap (λ (names : List (List ℕ)). counts_from (length (seen state).nodes) (length names)) held.names
+    ap (λ (n : ℕ). counts_from n (meta_in console.working relationships_file).live (length console.names)) (count_nodes console.working state.shape held.working ∙ ap (λ (graph : Graph). length graph.nodes) held.working_graph)
+    ∙ ap (λ (n : ℕ). counts_from (length (seen state).nodes) n (length console.names)) (count_edges console.working state.shape held.working.keeps ∙ ap (λ (graph : Graph). length graph.edges) held.working_graph)
+    ∙ ap (λ (names : List (List ℕ)). counts_from (length (seen state).nodes) (length (seen state).edges) (length names)) held.names
 
 stats-none : ¬ NeedsNone commands.Stats
 stats-none (inl e) = cc

@@ -31,6 +31,7 @@ NeedsDisk commands.Stats = ⊥
 NeedsDisk commands.Reopen = Unit {0}
 NeedsDisk commands.Quit = ⊥
 NeedsDisk (commands.Node label) = Unit {0}
+NeedsDisk (commands.Edge from label to) = Unit {0}
 NeedsDisk (commands.Delete target) = Unit {0}
 NeedsDisk (commands.Query query) = Unit {0}
 
@@ -44,6 +45,7 @@ change-needs commands.Stats change = change
 change-needs commands.Reopen change = tt
 change-needs commands.Quit change = change
 change-needs (commands.Node label) change = tt
+change-needs (commands.Edge from label to) change = tt
 change-needs (commands.Delete target) change = tt
 change-needs (commands.Query query) change = tt
 

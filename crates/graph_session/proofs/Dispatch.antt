@@ -28,7 +28,7 @@ use Rattle.graph_session.proofs.Conditions.{failed-refused, fault-refused, long-
 use Rattle.graph_session.proofs.Spelling.{IsMute, lacks-memory, quit-only}
 use Rattle.graph_session.proofs.States.{is_failed}
 
--- the label of a node that a line spells is a name
+-- the label of a node, or the type of an edge, that a line spells is a name
 pub spelled-name : (line : List ℕ) (command : Command) → Spells line command → HasName command
 spelled-name line commands.Blank spells = tt
 spelled-name line commands.Begin spells = tt
@@ -39,6 +39,7 @@ spelled-name line commands.Stats spells = tt
 spelled-name line commands.Reopen spells = tt
 spelled-name line commands.Quit spells = tt
 spelled-name line (commands.Node label) spells = (spells.0.1.4.4.4.3.1, spells.1.1.1.1.0)
+spelled-name line (commands.Edge from label to) spells = (spells.0.1.4.4.4.4.4.3.1, spells.1.1.1.1.1.1.0)
 spelled-name line (commands.Delete target) spells = tt
 spelled-name line (commands.Query query) spells = tt
 
@@ -117,6 +118,7 @@ loud-other commands.Stats blank quit reopen = tt
 loud-other commands.Reopen blank quit reopen = reopen refl
 loud-other commands.Quit blank quit reopen = quit refl
 loud-other (commands.Node label) blank quit reopen = tt
+loud-other (commands.Edge from label to) blank quit reopen = tt
 loud-other (commands.Delete target) blank quit reopen = tt
 loud-other (commands.Query query) blank quit reopen = tt
 
@@ -130,6 +132,7 @@ plain-other commands.Stats loud other = tt
 plain-other commands.Reopen loud other = loud
 plain-other commands.Quit loud other = loud
 plain-other (commands.Node label) loud other = tt
+plain-other (commands.Edge from label to) loud other = tt
 plain-other (commands.Delete target) loud other = tt
 plain-other (commands.Query query) loud other = other query refl
 

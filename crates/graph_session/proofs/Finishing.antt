@@ -13,7 +13,7 @@ use Rattle.rec_bytes.specs.declared.key.Key.{Key}
 use Rattle.rec_bytes.specs.declared.record.Rec.{Rec}
 use Rattle.rec_bytes.specs.declared.shape.Shape.{Shape}
 use Rattle.store_rules.specs.Graph.{graph_of, names_of}
-use Rattle.store_rules.specs.Rules.{IsNodeStore}
+use Rattle.store_rules.specs.Rules.{IsSparseStore}
 use Rattle.txn_core.specs.Store.{drafted, state_of, working}
 use Rattle.graph_ops.specs.Store.{graph_in}
 use Rattle.graph_session.specs.Answer.{Settles}
@@ -21,7 +21,7 @@ use Rattle.graph_session.specs.Answering.{reply_of}
 use Rattle.graph_session.specs.Console.{IsAt, SessionView}
 use Rattle.graph_session.specs.DiskUse.{UsesDisk}
 use Rattle.graph_session.specs.Drafting.{Discards, Drafts, Finishes, HasDraft, HasStore, IsStopped, KeepsDraft, OnlyDrafts, Sees, TellsChange}
-use Rattle.graph_session.specs.Refusals.{IsAccepted, IsReached, NoneHolds, SpellsOnly, names_full, no_node, nodes_full, transaction_full}
+use Rattle.graph_session.specs.Refusals.{IsAccepted, SpellsOnly}
 use Rattle.graph_session.specs.Session.{HaveSameDisk, view}
 use Rattle.graph_session.specs.Settling.{SettlesCommand}
 use Rattle.graph_session.specs.State.{State, Transaction}
@@ -32,7 +32,7 @@ use Rattle.graph_session.specs.declared.health.Health.TheVariants as healths
 use Rattle.graph_session.specs.declared.session.Session.{Session}
 use Rattle.graph_session.proofs.Answering.{IsGood, settles-damaged, settles-memory, settles-refused}
 use Rattle.graph_session.proofs.Changes.{Keeps, change-reached, settles-change_fault, settles-kept}
-use Rattle.graph_session.proofs.Conditions.{Fails, heavy-refused, weight-light}
+use Rattle.graph_session.proofs.Conditions.{accepted, heavy-refused, refused, weight-light}
 use Rattle.graph_session.proofs.DiskUse.{change-needs, uses-reads}
 use Rattle.graph_session.proofs.StoreRecords.{committed-beneath, committed-read, drafted-none, working-beneath, working-read}
 use Rattle.graph_session.proofs.Held.{held, names-working, seen_open, take-brought}
@@ -40,15 +40,11 @@ use Rattle.graph_session.proofs.Spelling.{change-spared, spared-only}
 use Rattle.graph_session.proofs.States.{is_open}
 use Rattle.graph_session.proofs.Staying.{Stays, comes-stays}
 
--- no condition refuses the line
-pub accepted-change : (state : State) (line : List ℕ) → IsReached state (Whole line) → NoneHolds (nodes_full ∷ names_full ∷ no_node ∷ []) state (Whole line) → Fails transaction_full state line → IsAccepted state (Whole line)
-accepted-change state line reach free weight =
-    (reach.0, (reach.1.0, (reach.1.1.0, (reach.1.1.1.0, (reach.1.1.1.1.0, (free.0, (free.1.0, (free.1.1.0, (weight, tt)))))))))
-
 -- the answer of a change that is made is none of a fault
 pub tells-good : (answer : Answer) → TellsChange answer → IsGood (reply_of answer)
 tells-good answers.Done tells = tt
 tells-good (answers.NodeMade id) tells = tt
+tells-good (answers.EdgeMade id) tells = tt
 tells-good (answers.Counted counts) tells = absurd tells
 tells-good (answers.Refused why) tells = absurd tells
 tells-good answers.NoMemory tells = absurd tells
@@ -62,7 +58,7 @@ module _ {D : Type 0} {g : Ghosts D} where
     has-store =
         let none : drafted old.store ≡ working old.store = drafted-none old.store at.no_draft in
         record {
-          store = subst (λ (shape : Shape). IsNodeStore (drafted old.store) shape) at.shape (subst (λ (records : Key → Rec). IsNodeStore records state.shape) (sym none) (held at live told).working);
+          store = subst (λ (shape : Shape). IsSparseStore (drafted old.store) shape) at.shape (subst (λ (records : Key → Rec). IsSparseStore records state.shape) (sym none) (held at live told).working);
           names = names-working at live told ∙ ap names_of (sym none);
         }
 
@@ -85,9 +81,10 @@ module _ {D : Type 0} {g : Ghosts D} where
         → (why ≡ answers.DiskFailed → Rose (g.faults base.store.base.disk.now) (g.faults now) → Settles g (Whole line) old new state (Faulted [] DiskFailed)) → Settles g (Whole line) old new state (reply_of why)
     settles-stopped answers.Done stopped stays fault = absurd stopped
     settles-stopped (answers.NodeMade id) stopped stays fault = absurd stopped
+    settles-stopped (answers.EdgeMade id) stopped stays fault = absurd stopped
     settles-stopped (answers.Counted counts) stopped stays fault = absurd stopped
     settles-stopped (answers.Refused why) stopped stays fault =
-        settles-refused at (stays (λ e. cc)) why (λ told. stopped told (has told) state line spelled (sees told) (change-reached at live spelled change))
+        settles-refused at (stays (λ e. cc)) why (λ told. refused state spelled (change-reached at live spelled change) why (stopped told (has told) state (sees told)))
         (unmade-uses at live spelled change (stays (λ e. cc)))
     settles-stopped answers.NoMemory stopped stays fault = unmade-memory at live spelled change (stays (λ e. cc))
     settles-stopped answers.DiskFailed stopped stays fault = fault refl stopped
@@ -136,14 +133,16 @@ module _ {D : Type 0} {g : Ghosts D} where
       same-graph : g.tells_reads → graph_in (state_of old.store) ≡ transaction.graph
       same-graph told = sym (has-sees old at live told).graph ∙ seen_open state transaction is
 
-      weighs-it : g.tells_reads → Weighs transaction.graph command made.weight
-      weighs-it told = subst (λ (graph : Graph). Weighs graph command made.weight) (same-graph told) (has-draft told).weighs
+      weighs-it : g.tells_reads → Weighs state.shape.threshold transaction.graph command made.weight
+      weighs-it told =
+          subst (λ (threshold : ℕ). Weighs threshold transaction.graph command made.weight) (ap (λ (shape : Shape). shape.threshold) (sym at.shape))
+          (subst (λ (graph : Graph). Weighs old.store.base.shape.threshold graph command made.weight) (same-graph told) (has-draft told).weighs)
 
       settles-full : Stays g (view old) (view new) → most_weight < mid.weight + made.weight → Settles g (Whole line) (view old) (view new) state (reply_of (answers.Refused refusals.TransactionFull))
       settles-full stays more =
           settles-refused at stays refusals.TransactionFull
           (λ told.
-          heavy-refused state spelled ((has-draft told).free state line spelled (has-sees old at live told)) (change-reached at live spelled change) transaction is made.weight (weighs-it told)
+          heavy-refused state spelled ((has-draft told).free state (has-sees old at live told)) (change-reached at live spelled change) transaction is made.weight (weighs-it told)
           (let a = at.weight transaction is in let b = only.weight in omega (arith, a, b, more)))
           (unmade-uses at live spelled change stays)
 
@@ -152,13 +151,13 @@ module _ {D : Type 0} {g : Ghosts D} where
           settles-kept at live transaction is spelled change (reply_of made.answer) (tells-good made.answer tells) made.weight (keeps-kept made.weight kept)
           (λ told. record {
             store =
-                subst (λ (shape : Shape). IsNodeStore (working new.store) shape) (only.base.shape ∙ sym at.shape)
-                (subst (λ (records : Key → Rec). IsNodeStore records mid.store.base.shape) (sym kept.working) (has-draft told).store.store);
+                subst (λ (shape : Shape). IsSparseStore (working new.store) shape) (only.base.shape ∙ sym at.shape)
+                (subst (λ (records : Key → Rec). IsSparseStore records mid.store.base.shape) (sym kept.working) (has-draft told).store.store);
             named = kept.names ∙ (has-draft told).store.names ∙ ap names_of (sym kept.working);
           })
           (λ told.
-          accepted-change state line (change-reached at live spelled change) ((has-draft told).free state line spelled (has-sees old at live told))
-          (weight-light state spelled transaction is made.weight (weighs-it told)
+          accepted state spelled (change-reached at live spelled change) ((has-draft told).free state (has-sees old at live told))
+          (weight-light state command transaction is made.weight (weighs-it told)
           (let a = at.weight transaction is in let b = only.weight in let fits = kept.fits in omega (arith, a, b, fits))))
           (λ told.
           subst (λ (limit : ℕ). Changes limit transaction.graph command (reply_of made.answer) (graph_of (working new.store))) (ap (λ (shape : Shape). shape.limit) (sym at.shape))

@@ -12,7 +12,7 @@ use Rattle.rec_bytes.specs.declared.record.Rec.{Rec}
 use Rattle.rec_bytes.specs.declared.shape.Shape.{Shape}
 use Rattle.record_file.specs.Redone.{Redoes}
 use Rattle.store_rules.specs.Graph.{graph_of}
-use Rattle.store_rules.specs.Rules.{IsNodeStore}
+use Rattle.store_rules.specs.Rules.{IsSparseStore}
 use Rattle.txn_core.specs.Base.{SameBeneath}
 use Rattle.txn_core.specs.Store.{committed, drafted, state_of}
 use Rattle.graph_session.specs.Answer.{Settles}
@@ -29,10 +29,10 @@ use Rattle.graph_session.specs.declared.changing.Drafted.{Drafted}
 use Rattle.graph_session.specs.declared.health.Health.TheVariants as healths
 use Rattle.graph_session.specs.declared.session.Session.{Session}
 use Rattle.graph_session.proofs.Changes.{CommitsAlone, CommitsFrom, FailsAlone, IsAloneInDoubt, change-reached, settles-alone, settles-alone_fault, settles-alone_read_fault}
-use Rattle.graph_session.proofs.Conditions.{alone-light}
+use Rattle.graph_session.proofs.Conditions.{accepted, alone-light}
 use Rattle.graph_session.proofs.Drafts.{stored-either}
 use Rattle.graph_session.proofs.StoreRecords.{committed-beneath, committed-read, drafted-none, length-none, working-none}
-use Rattle.graph_session.proofs.Finishing.{accepted-change, settles-stopped, tells-good, unmade-memory}
+use Rattle.graph_session.proofs.Finishing.{settles-stopped, tells-good, unmade-memory}
 use Rattle.graph_session.proofs.Held.{held, seen_closed, take-brought}
 use Rattle.graph_session.proofs.States.{is_closed}
 use Rattle.graph_session.proofs.Staying.{Stays}
@@ -66,8 +66,8 @@ module _ {D : Type 0} {g : Ghosts D} {begun mid : Session D g} (old new : Sessio
     has-begun : HasStore begun
     has-begun = record {
       store =
-          subst (λ (shape : Shape). IsNodeStore (drafted begun.store) shape) (at.shape ∙ sym same.shape)
-          (subst (λ (records : Key → Rec). IsNodeStore records state.shape) (sym drafted-begun) (held at live told).committed);
+          subst (λ (shape : Shape). IsSparseStore (drafted begun.store) shape) (at.shape ∙ sym same.shape)
+          (subst (λ (records : Key → Rec). IsSparseStore records state.shape) (sym drafted-begun) (held at live told).committed);
       names = names ∙ (held at live told).names ∙ ap (λ (graph : Graph). graph.names) (seen_closed state (is_closed at closed) ∙ sym begun-graph);
     }
 
@@ -159,8 +159,8 @@ module _ {D : Type 0} {g : Ghosts D} {begun mid : Session D g} (old new : Sessio
       alone-draft : g.tells_reads → HasDraft command begun mid made
       alone-draft told = has told (has-begun at told)
 
-      alone-store : g.tells_reads → IsNodeStore (drafted mid.store) state.shape
-      alone-store told = subst (λ (shape : Shape). IsNodeStore (drafted mid.store) shape) (shape-mid ∙ sym at.shape) (alone-draft told).store.store
+      alone-store : g.tells_reads → IsSparseStore (drafted mid.store) state.shape
+      alone-store told = subst (λ (shape : Shape). IsSparseStore (drafted mid.store) shape) (shape-mid ∙ sym at.shape) (alone-draft told).store.store
 
       alone-changes : g.tells_reads → Changes state.shape.limit state.committed command (reply_of made.answer) (graph_of (drafted mid.store))
       alone-changes told =
@@ -170,20 +170,20 @@ module _ {D : Type 0} {g : Ghosts D} {begun mid : Session D g} (old new : Sessio
       settles-tried : Settles g (Whole line) (view old) (view new) state (reply_of answer)
       settles-tried = by tries.ends
         where
-          accepted : g.tells_reads → IsAccepted state (Whole line)
-          accepted told =
-              accepted-change state line (change-reached at live spelled change) ((alone-draft told).free state line spelled (sees-begun at told)) (alone-light state spelled (is_closed at closed))
+          is_accepted : g.tells_reads → IsAccepted state (Whole line)
+          is_accepted told =
+              accepted state spelled (change-reached at live spelled change) ((alone-draft told).free state (sees-begun at told)) (alone-light state command (is_closed at closed))
 
           by : ((answer ≡ made.answer) × CommitsRecords (drafted mid.store) mid new) ⊎ ((answer ≡ answers.DiskFailed) × DoubtsRecords (drafted mid.store) mid new)
               → Settles g (Whole line) (view old) (view new) state (reply_of answer)
           by (inl (is, commits)) =
               subst (λ (a : Answer). Settles g (Whole line) (view old) (view new) state (reply_of a)) (sym is)
               (settles-alone at live closed (drafted mid.store) spelled change (reply_of made.answer) (tells-good made.answer tells) from-mid (commits-mid commits)
-              (λ told. record { store = alone-store told; named = commits.names ∙ (alone-draft told).store.names }) accepted alone-changes)
+              (λ told. record { store = alone-store told; named = commits.names ∙ (alone-draft told).store.names }) is_accepted alone-changes)
           by (inr (is, doubts)) =
               subst (λ (a : Answer). Settles g (Whole line) (view old) (view new) state (reply_of a)) (sym is)
               (settles-alone_fault at live closed (drafted mid.store) spelled change (reply_of made.answer) from-mid (doubts-mid doubts)
-              (λ told. record { store = alone-store told; named = doubts.names ∙ (alone-draft told).store.names }) accepted alone-changes
+              (λ told. record { store = alone-store told; named = doubts.names ∙ (alone-draft told).store.names }) is_accepted alone-changes
               (Rose-from (g.faults old.store.base.disk.now) (g.faults mid.store.base.disk.now) (g.faults new.store.base.disk.now) later-mid doubts.rose))
 
   module _ {command : Command} (change : IsChange command) (count : ℕ) (counts : count ≡ length old.names.names) where

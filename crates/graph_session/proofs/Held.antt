@@ -13,7 +13,7 @@ use Rattle.rec_bytes.specs.declared.key.Key.{Key}
 use Rattle.rec_bytes.specs.declared.record.Rec.{Rec}
 use Rattle.rec_bytes.specs.declared.shape.Shape.{Shape}
 use Rattle.store_rules.specs.Graph.{graph_of, names_of}
-use Rattle.store_rules.specs.Rules.{IsNodeStore}
+use Rattle.store_rules.specs.Rules.{IsSparseStore}
 use Rattle.store_rules.specs.Views.{high, rec_at, text_of}
 use Rattle.store_rules.proofs.NameRows.{length-rows}
 use Rattle.graph_session.specs.Console.{HoldsGraphs, IsAt, SessionView}
@@ -34,9 +34,9 @@ pub length-names : (records : Key → Rec) → length (names_of records) ≡ hig
 length-names records = length-rows (λ x. text_of (rec_at records names_file x)) (high records names_file)
 
 -- at most as many as a store may have
-pub names-few : (records : Key → Rec) (shape : Shape) → IsNodeStore records shape → length (names_of records) ≤ most_names
+pub names-few : (records : Key → Rec) (shape : Shape) → IsSparseStore records shape → length (names_of records) ≤ most_names
 names-few records shape store =
-    let most : high records names_file ≤ most_names = (store.well.ranges.metas names_file refl).high in
+    let most : high records names_file ≤ most_names = (store.keeps.ranges.metas names_file refl).high in
     let count = length-names records in
     omega (arith, most, count)
 

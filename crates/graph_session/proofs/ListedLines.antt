@@ -17,7 +17,7 @@ use Rattle.rec_bytes.specs.declared.row_fault.RowFault.{RowFault}
 use Rattle.rec_bytes.specs.declared.row_fault.RowFault.TheVariants as rows
 use Rattle.rec_bytes.specs.RowFault.{NotDamaged}
 use Rattle.store_rules.specs.Graph.{graph_of, node_of}
-use Rattle.store_rules.specs.Rules.{IsNodeStore}
+use Rattle.store_rules.specs.Rules.{IsSparseStore}
 use Rattle.store_rules.specs.Views.{Records, high}
 use Rattle.graph_session.specs.Answer.{Delivers, Gives}
 use Rattle.graph_session.specs.Exchange.{told_fault}
@@ -181,7 +181,7 @@ module _ {R K : Type 0} {space : SpaceGhosts R} {sink : SinkGhosts K} (further :
         }
 
     -- a node isn't read
-    pub lists-fault : (fault : RowFault) → (space.tells → IsNodeStore (space.state old).records (space.state old).shape → IsSound fault) → (fault ≡ rows.Disk → Rose (space.faults now) (space.faults next))
+    pub lists-fault : (fault : RowFault) → (space.tells → IsSparseStore (space.state old).records (space.state old).shape → IsSound fault) → (fault ≡ rows.Disk → Rose (space.faults now) (space.faults next))
         → (then : K) (turn : Turn) → Gives sink (held ++ fault_line (fault_of fault)) after then turn → GivesQuery space sink all_vertices old next before then turn
     lists-fault fault sound rose then turn gives = record {
       reply = Faulted lists.found (fault_of fault);

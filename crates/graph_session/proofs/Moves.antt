@@ -8,7 +8,7 @@ use Rattle.plain_graph.specs.Reply.{Counted, DiskFailed, Done, Faulted, Refused}
 use Rattle.plain_graph.specs.declared.command.Command.TheVariants as commands
 use Rattle.plain_graph.specs.declared.counts.Counts.{Counts}
 use Rattle.plain_graph.specs.declared.refusal.Refusal.TheVariants as refusals
-use Rattle.rec_bytes.specs.Format.{names_file, nodes_file}
+use Rattle.rec_bytes.specs.Format.{names_file, nodes_file, relationships_file}
 use Rattle.rec_bytes.specs.Pairs.{Held}
 use Rattle.rec_bytes.specs.Space.{meta_in, meta_of}
 use Rattle.rec_bytes.specs.declared.key.Key.{Key}
@@ -52,8 +52,8 @@ seen_as store health weight names = record {
   disk = store.base.disk.now;
 }
 
-abbrev counts_so : ℕ → ℕ → Counts
-counts_so nodes names = record { nodes = nodes; edges = 0; properties = 0; blocks = 0; names = names }
+abbrev counts_so : ℕ → ℕ → ℕ → Counts
+counts_so nodes edges names = record { nodes = nodes; edges = edges; properties = 0; blocks = 0; names = names }
 
 module _ {D : Type 0} {g : Ghosts D} where
   stored-one : (disk : D) (space : Key → Rec) → IsOnDisk g disk (λ left. Redoes left space) → IsStored g disk (λ left. Redoes left space)
@@ -221,11 +221,13 @@ module _ {D : Type 0} {g : Ghosts D} where
     }
 
   -- what is counted
-  pub counted : OnlyNow g → (s : Store D g) (health : Health) → health ≡ healths.Live → (weight : ℕ) (names : List (List ℕ)) (meta : Meta) (count : ℕ) → meta ≡ meta_of (state_of s) nodes_file → count ≡ length names
-      → SettlesCommand g commands.Stats (seen_as s health weight names) (seen_as s health weight names) (Counted (record { nodes = meta.live; edges = 0; properties = 0; blocks = 0; names = count }))
-  counted only_now s health live weight names meta count is all = record {
+  pub counted : OnlyNow g → (s : Store D g) (health : Health) → health ≡ healths.Live → (weight : ℕ) (names : List (List ℕ)) (nodes edges : Meta) (count : ℕ) → nodes ≡ meta_of (state_of s) nodes_file → edges ≡ meta_of (state_of s) relationships_file → count ≡ length names
+      → SettlesCommand g commands.Stats (seen_as s health weight names) (seen_as s health weight names) (Counted (record { nodes = nodes.live; edges = edges.live; properties = 0; blocks = 0; names = count }))
+  counted only_now s health live weight names nodes edges count is linked all = record {
     settles = λ line state only served at.
-        settles-stats at live only (stays-none only_now (seen_as s health weight names) at.no_draft) refl (counts_so meta.live count)
-        (ap (λ (m : Meta). counts_so m.live count) is ∙ ap (λ (records : Key → Rec). counts_so (meta_in records nodes_file).live count) (drafted-none s at.no_draft) ∙ ap (λ (n : ℕ). counts_so (meta_in (working s) nodes_file).live n) all);
+        settles-stats at live only (stays-none only_now (seen_as s health weight names) at.no_draft) refl (counts_so nodes.live edges.live count)
+        (ap (λ (m : Meta). counts_so m.live edges.live count) is ∙ ap (λ (m : Meta). counts_so (meta_of (state_of s) nodes_file).live m.live count) linked
+        ∙ ap (λ (records : Key → Rec). counts_so (meta_in records nodes_file).live (meta_in records relationships_file).live count) (drafted-none s at.no_draft)
+        ∙ ap (λ (n : ℕ). counts_so (meta_in (working s) nodes_file).live (meta_in (working s) relationships_file).live n) all);
     onward = record { disk_later = omega arith };
   }

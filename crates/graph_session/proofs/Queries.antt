@@ -7,7 +7,7 @@ use Rattle.stream_io.specs.Lines.{Whole}
 use Rattle.stream_io.specs.declared.streams.Sink.{Ghosts as SinkGhosts}
 use Rattle.plain_graph.specs.Graph.{Graph, Node}
 use Rattle.plain_graph.specs.Meaning.{after_steps, meaning, vertices}
-use Rattle.plain_graph.specs.Reply.{Counted, DamagedRecord, DiskFailed, Done, Faulted, NoMemory, NodeMade, Refused, Reply, Results, Silent, fault_line, reply_text}
+use Rattle.plain_graph.specs.Reply.{Counted, DamagedRecord, DiskFailed, Done, Faulted, NoMemory, EdgeMade, NodeMade, Refused, Reply, Results, Silent, fault_line, reply_text}
 use Rattle.plain_graph.specs.declared.command.Command.TheVariants as commands
 use Rattle.plain_graph.specs.declared.item.Item.{Item}
 use Rattle.plain_graph.specs.declared.item.Item.TheVariants as items
@@ -19,7 +19,7 @@ use Rattle.rec_bytes.specs.declared.space.Reads.{Ghosts as SpaceGhosts}
 use Rattle.rec_bytes.specs.declared.row_fault.RowFault.{RowFault}
 use Rattle.rec_bytes.specs.declared.row_fault.RowFault.TheVariants as rows
 use Rattle.store_rules.specs.Graph.{graph_of}
-use Rattle.store_rules.specs.Rules.{IsNodeStore}
+use Rattle.store_rules.specs.Rules.{IsSparseStore}
 use Rattle.graph_session.specs.Answer.{Gives, Settles}
 use Rattle.graph_session.specs.Console.{IsAt, SessionView}
 use Rattle.graph_session.specs.Exchange.{told_fault}
@@ -76,7 +76,7 @@ module _ {R K : Type 0} {space : SpaceGhosts R} {sink : SinkGhosts K} (query : Q
   }
 
   -- a fault was told, and no result
-  pub gives-fault : (fault : RowFault) → (space.tells → IsNodeStore (space.state old).records (space.state old).shape → IsSound fault) → (fault ≡ rows.Disk → Rose (space.faults old) (space.faults new))
+  pub gives-fault : (fault : RowFault) → (space.tells → IsSparseStore (space.state old).records (space.state old).shape → IsSound fault) → (fault ≡ rows.Disk → Rose (space.faults old) (space.faults new))
       → Gives sink (fault_line (fault_of fault)) before after turn → GivesQuery space sink query old new before after turn
   gives-fault fault sound rose gives = record {
     reply = Faulted [] (fault_of fault);
@@ -106,6 +106,7 @@ module _ {D : Type 0} {g : DiskGhosts D} {old new : SessionView D} {state : Stat
   settles-query Silent form rose means = absurd form
   settles-query Done form rose means = absurd form
   settles-query (NodeMade id) form rose means = absurd form
+  settles-query (EdgeMade id) form rose means = absurd form
   settles-query (Results results) form rose means =
       settles-done {line = Whole line} {before = state} (Results results) state tt (comes-stays at stays)
       (λ told. (idle-accepted state only (λ change. change) query-reached, commands.Query query, only.spelled, (ap Results (means told), refl)))
@@ -130,5 +131,5 @@ module _ {D : Type 0} {g : DiskGhosts D} {old new : SessionView D} {state : Stat
       (λ told.
       let had = held at live told in
       let graph : graph_of (space.state a).records ≡ seen state = ap graph_of records ∙ had.working_graph in
-      let store : IsNodeStore (space.state a).records (space.state a).shape = rw (records, shape ∙ sym at.shape) had.working in
+      let store : IsSparseStore (space.state a).records (space.state a).shape = rw (records, shape ∙ sym at.shape) had.working in
       subst (λ (found : Graph). Means found query given.reply) graph (given.means (tells told) store))

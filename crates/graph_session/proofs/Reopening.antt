@@ -61,7 +61,7 @@ module _ {D : Type 0} {g : Ghosts D} where
         none : {state : State} → IsAt g (seen_as s health weight names) state → g.tells_reads → ⊥
         none at told =
             let had = (at.reads told).2 in
-            sound told had.space had.redoes (subst (λ (shape : Shape). finding.IsMade had.space shape) at.shape (record { own = had.store.well.ranges.own; metas = had.store.well.ranges.metas }))
+            sound told had.space had.redoes (subst (λ (shape : Shape). finding.IsMade had.space shape) at.shape (record { own = had.store.keeps.ranges.own; metas = had.store.keeps.ranges.metas }))
 
     module _ (own : t.base.own ≡ s.base.own) (no_own : length s.base.own.pairs ≡ 0) (recovered : IsRecovered s.base t.base) (u : Store D g) (reads : OnlyReadsBase t.base u.base) (no_draft : u.draft.pairs ≡ [])
         (later_still : g.faults t.base.disk.now ≤ g.faults u.base.disk.now) where
@@ -115,6 +115,7 @@ module _ {D : Type 0} {g : Ghosts D} where
         onward = record { disk_later = far };
       }
       named_again healthier weigher named (answers.NodeMade id) takes = absurd takes
+      named_again healthier weigher named (answers.EdgeMade id) takes = absurd takes
       named_again healthier weigher named (answers.Counted counts_are) takes = absurd takes
       named_again healthier weigher named (answers.Refused why) takes = absurd takes
       named_again healthier weigher named answers.NoMemory takes = absurd takes

@@ -15,7 +15,7 @@ use Rattle.node_store.specs.declared.node_row.NodeRow.{NodeRow}
 use Rattle.store_rules.specs.Graph.{graph_of, node_from, node_of}
 use Rattle.store_rules.specs.Ranges.{Layout, layout_of}
 use Rattle.store_rules.specs.Rows.{collect, option_list}
-use Rattle.store_rules.specs.Rules.{IsNodeStore}
+use Rattle.store_rules.specs.Rules.{IsSparseStore}
 use Rattle.store_rules.specs.Views.{Records, high, kind_at, node_in, rec_at}
 use Rattle.graph_session.specs.QueryResults.{IsRead, vertices_below}
 use Rattle.graph_session.proofs.Counts.{is_some-node}
@@ -101,10 +101,10 @@ vertices_below-prefix records id le =
     (map vertex_of rest.0, sym (map-append vertex_of (collect (node_of records) id) rest.0) ∙ ap (map vertex_of) rest.1)
 
 -- a node of a well-formed store is readable
-pub store-readable : (s : State) (id : ℕ) → IsNodeStore s.records s.shape → IsReadable s id
+pub store-readable : (s : State) (id : ℕ) → IsSparseStore s.records s.shape → IsReadable s id
 store-readable s id store = record {
-  mark = (store.well.ranges.metas nodes_file refl).high;
-  kind = λ below none. let fits = store.well.ranges.fit nodes_file id refl below in clash fits.layout fits.is none;
+  mark = (store.keeps.ranges.metas nodes_file refl).high;
+  kind = λ below none. let fits = store.keeps.ranges.fit nodes_file id refl below in clash fits.layout fits.is none;
 }
   where
     clash : (layout : Layout) → layout_of nodes_file (rec_at s.records nodes_file id) ≡ Some layout → layout_of nodes_file (rec_at s.records nodes_file id) ≡ None → ⊥
@@ -116,5 +116,5 @@ found-node a b id row some same found is =
     is_some-row a id ∙ ap (λ (r : Records). is_some (row_at r id)) (sym same) ∙ ap is_some (sym found) ∙ is
 
 -- a store that was only read is well-formed still
-pub read-store : {R : Type 0} (space : SpaceGhosts R) (a b : R) → IsRead space a b → IsNodeStore (space.state a).records (space.state a).shape → IsNodeStore (space.state b).records (space.state b).shape
+pub read-store : {R : Type 0} (space : SpaceGhosts R) (a b : R) → IsRead space a b → IsSparseStore (space.state a).records (space.state a).shape → IsSparseStore (space.state b).records (space.state b).shape
 read-store space a b read store = rw (read.records, read.shape) store

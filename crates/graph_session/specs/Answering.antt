@@ -1,12 +1,13 @@
 -- The reply of an answer.
 use Rattle.std.specs.Prelude.{[]}
-use Rattle.plain_graph.specs.Reply.{Counted, DamagedRecord, DiskFailed, Done, Faulted, NoMemory, NodeMade, Refused, Reply}
+use Rattle.plain_graph.specs.Reply.{Counted, DamagedRecord, DiskFailed, Done, Faulted, NoMemory, EdgeMade, NodeMade, Refused, Reply}
 use Rattle.graph_session.specs.declared.answer.Answer.{Answer}
 use Rattle.graph_session.specs.declared.answer.Answer.TheVariants as answers
 
 abbrev pub reply_of : Answer → Reply
 reply_of answers.Done = Done
 reply_of (answers.NodeMade id) = NodeMade id
+reply_of (answers.EdgeMade id) = EdgeMade id
 reply_of (answers.Counted counts) = Counted counts
 reply_of (answers.Refused why) = Refused why
 reply_of answers.NoMemory = Faulted [] NoMemory

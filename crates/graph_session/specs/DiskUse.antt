@@ -4,7 +4,7 @@ use Rattle.disk_model.specs.Spans.{OnlyReads}
 use Rattle.disk_model.specs.declared.disk.Disk.{Ghosts}
 use Rattle.stream_io.specs.Lines.{InputLine}
 use Rattle.plain_graph.specs.Changes.{IsChange}
-use Rattle.plain_graph.specs.Reply.{Counted, DamagedRecord, DiskFailed, Done, Fault, Faulted, NoMemory, NodeMade, Refused, Reply, Results, Silent}
+use Rattle.plain_graph.specs.Reply.{Counted, DamagedRecord, DiskFailed, Done, EdgeMade, Fault, Faulted, NoMemory, NodeMade, Refused, Reply, Results, Silent}
 use Rattle.plain_graph.specs.declared.command.Command.{Command}
 use Rattle.plain_graph.specs.declared.command.Command.TheVariants as commands
 use Rattle.plain_graph.specs.declared.refusal.Refusal.{Refusal}
@@ -30,6 +30,7 @@ abbrev pub TellsNoChange : Reply → Type 0
 TellsNoChange Silent = ⊥
 TellsNoChange Done = ⊥
 TellsNoChange (NodeMade id) = ⊥
+TellsNoChange (EdgeMade id) = ⊥
 TellsNoChange (Results results) = ⊥
 TellsNoChange (Counted counts) = ⊥
 TellsNoChange (Faulted results fault) = IsUnwritten fault

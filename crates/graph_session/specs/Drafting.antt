@@ -1,13 +1,13 @@
 -- What the steps of a change say: its draft, and what becomes of that.
-use Rattle.std.specs.Prelude.{◌≡◌, ◌⊎◌, ℕ, ◌+◌, ◌<◌, ◌≤◌, IsTrue, false, Result, Ok, Err, List, [], ◌∷◌, ◌++◌, take}
+use Rattle.std.specs.Prelude.{◌≡◌, ◌⊎◌, ℕ, ◌+◌, ◌<◌, ◌≤◌, IsTrue, false, Result, Ok, Err, List, [], ◌∷◌, ◌++◌, if◌then◌else◌, nat_eq, take}
 use Rattle.fault_count.specs.Cause.{Rose}
 use Rattle.disk_model.specs.Spans.{AtEachMoment}
 use Rattle.disk_model.specs.declared.disk.Disk.{Ghosts}
-use Rattle.stream_io.specs.Lines.{Whole}
 use Rattle.plain_graph.specs.Changes.{Changes, Weighs, most_weight}
 use Rattle.plain_graph.specs.declared.command.Command.{Command}
 use Rattle.plain_graph.specs.declared.refusal.Refusal.{Refusal}
 use Rattle.plain_graph.specs.declared.refusal.Refusal.TheVariants as refusals
+use Rattle.rec_bytes.specs.Format.{relationships_file}
 use Rattle.rec_bytes.specs.declared.key.Key.{Key}
 use Rattle.rec_bytes.specs.declared.record.Rec.{Rec}
 use Rattle.rec_bytes.specs.Space.{State as Space}
@@ -19,7 +19,7 @@ use Rattle.graph_ops.specs.Store.{IsStore, graph_in}
 use Rattle.graph_ops.specs.declared.change_fault.ChangeFault.{ChangeFault}
 use Rattle.graph_ops.specs.declared.change_fault.ChangeFault.TheVariants as faults
 use Rattle.graph_session.specs.Answering.{reply_of}
-use Rattle.graph_session.specs.Refusals.{IsReached, IsRefused, NoneHolds, SpellsOnly, names_full, no_node, nodes_full}
+use Rattle.graph_session.specs.Refusals.{FirstReason, NoReason, change_reasons}
 use Rattle.graph_session.specs.State.{State, seen}
 use Rattle.graph_session.specs.declared.answer.Answer.{Answer}
 use Rattle.graph_session.specs.declared.answer.Answer.TheVariants as answers
@@ -27,11 +27,16 @@ use Rattle.graph_session.specs.declared.changing.Drafted.{Drafted}
 use Rattle.graph_session.specs.declared.health.Health.TheVariants as healths
 use Rattle.graph_session.specs.declared.session.Session.{Session}
 
+-- which part of the graph has no room, by its file
+abbrev pub full_of : ℕ → Refusal
+full_of file = if nat_eq file relationships_file then refusals.FullEdges else refusals.FullNodes
+
 -- the answer of a change that is refused
 abbrev pub answer_for : ChangeFault → Answer
 answer_for (faults.NoNode id) = answers.Refused (refusals.NoNode id)
+answer_for (faults.NoEdge id) = answers.Refused (refusals.NoEdge id)
 answer_for (faults.HasRelationships id degree) = answers.Refused (refusals.HasRelationships id)
-answer_for (faults.Full file live) = answers.Refused refusals.FullNodes
+answer_for (faults.Full file live) = answers.Refused (full_of file)
 answer_for (faults.NamesFull count) = answers.Refused refusals.FullNames
 answer_for faults.Memory = answers.NoMemory
 answer_for faults.Disk = answers.DiskFailed
@@ -41,6 +46,7 @@ answer_for (faults.Damaged damage) = answers.Damaged damage
 abbrev pub TellsChange : Answer → Type 0
 TellsChange answers.Done = Unit {0}
 TellsChange (answers.NodeMade id) = Unit {0}
+TellsChange (answers.EdgeMade id) = Unit {0}
 TellsChange (answers.Counted counts) = ⊥
 TellsChange (answers.Refused why) = ⊥
 TellsChange answers.NoMemory = ⊥
@@ -52,15 +58,14 @@ pub record Sees (space : Space) (state : State) : Type 0 where
   pub shape : state.shape ≡ space.shape
   pub graph : seen state ≡ graph_in space
 
--- no condition but the weight refuses a line of the command
+-- no reason but the weight refuses the command
 abbrev pub IsFree : Command → Space → Type 0
-IsFree command space = (state : State) (line : List ℕ) → SpellsOnly line command
-    → Sees space state → NoneHolds (nodes_full ∷ names_full ∷ no_node ∷ []) state (Whole line)
+IsFree command space = (state : State) → Sees space state → NoReason change_reasons state command
 
--- a line of the command is refused so
+-- the command is refused so
 abbrev pub Refuses : Command → Space → Refusal → Type 0
-Refuses command space why = (state : State) (line : List ℕ) → SpellsOnly line command
-    → Sees space state → IsReached state (Whole line) → IsRefused state (Whole line) why
+Refuses command space why =
+    (state : State) → Sees space state → FirstReason change_reasons state command why
 
 module _ {D : Type 0} {g : Ghosts D} where
   -- the records with the draft are a well-formed store, whose names are those in memory
@@ -80,13 +85,15 @@ module _ {D : Type 0} {g : Ghosts D} where
     pub store : HasStore new
     pub changes : Changes old.store.base.shape.limit (graph_in (state_of old.store)) command
         (reply_of made.answer) (graph_in (state_of new.store))
-    pub weighs : Weighs (graph_in (state_of old.store)) command made.weight
+    pub weighs : Weighs old.store.base.shape.threshold (graph_in (state_of old.store)) command
+        made.weight
     pub free : IsFree command (state_of old.store)
 
   -- why no change was drafted, over the disk as it is then
   abbrev pub IsStopped : Command → Session D g → D → Answer → Type 0
   IsStopped command old now answers.Done = ⊥
   IsStopped command old now (answers.NodeMade id) = ⊥
+  IsStopped command old now (answers.EdgeMade id) = ⊥
   IsStopped command old now (answers.Counted counts) = ⊥
   IsStopped command old now (answers.Refused why) = g.tells_reads → HasStore old
       → Refuses command (state_of old.store) why

@@ -5,7 +5,7 @@ use Rattle.plain_graph.specs.Changes.{Changes, Weighs, least_weight}
 use Rattle.plain_graph.specs.Counts.{counts_of}
 use Rattle.plain_graph.specs.Graph.{Graph}
 use Rattle.plain_graph.specs.Meaning.{meaning}
-use Rattle.plain_graph.specs.Reply.{Counted, DamagedRecord, DiskFailed, Done, Fault, Faulted, NoMemory, NodeMade, Refused, Reply, Results, Silent}
+use Rattle.plain_graph.specs.Reply.{Counted, DamagedRecord, DiskFailed, Done, EdgeMade, Fault, Faulted, NoMemory, NodeMade, Refused, Reply, Results, Silent}
 use Rattle.plain_graph.specs.declared.command.Command.{Command}
 use Rattle.plain_graph.specs.declared.command.Command.TheVariants as commands
 use Rattle.plain_graph.specs.declared.item.Item.{Item}
@@ -27,7 +27,7 @@ abbrev pub MakesChange : State → Command → Reply → State → Type 0
 MakesChange old command reply new =
     ((transaction : Transaction) × (old.open_one ≡ Some transaction) × (graph : Graph)
     × (weight : ℕ) × Changes old.shape.limit transaction.graph command reply graph
-    × Weighs transaction.graph command weight
+    × Weighs old.shape.threshold transaction.graph command weight
     × (new ≡ opening old (Some (record { graph = graph; weight = transaction.weight + weight }))))
     ⊎ ((old.open_one ≡ None) × (graph : Graph)
     × Changes old.shape.limit old.committed command reply graph
@@ -50,6 +50,8 @@ CarriesOut old commands.Reopen reply new =
     × (new ≡ record old { committed = graph; standing = Live })
 CarriesOut old commands.Quit reply new = ⊥
 CarriesOut old (commands.Node label) reply new = MakesChange old (commands.Node label) reply new
+CarriesOut old (commands.Edge from label to) reply new =
+    MakesChange old (commands.Edge from label to) reply new
 CarriesOut old (commands.Delete target) reply new =
     MakesChange old (commands.Delete target) reply new
 CarriesOut old (commands.Query query) reply new =
@@ -68,6 +70,7 @@ ShowsSome state commands.Stats results = results ≡ []
 ShowsSome state commands.Reopen results = results ≡ []
 ShowsSome state commands.Quit results = results ≡ []
 ShowsSome state (commands.Node label) results = results ≡ []
+ShowsSome state (commands.Edge from label to) results = results ≡ []
 ShowsSome state (commands.Delete target) results = results ≡ []
 
 -- A change outside a transaction leaves the graph open: the one before, or the one after it where
@@ -93,6 +96,8 @@ LeavesOpen old line commands.Stats new = new ≡ old
 LeavesOpen old line commands.Reopen new = new ≡ failing old (admitted old)
 LeavesOpen old line commands.Quit new = ⊥
 LeavesOpen old line (commands.Node label) new = LeavesChange old line (commands.Node label) new
+LeavesOpen old line (commands.Edge from label to) new =
+    LeavesChange old line (commands.Edge from label to) new
 LeavesOpen old line (commands.Delete target) new =
     LeavesChange old line (commands.Delete target) new
 LeavesOpen old line (commands.Query query) new = new ≡ old
@@ -128,6 +133,7 @@ ConsoleStep old x new = elim x.reply [
   | Silent ↦ IsSilent x.line × (new ≡ old)
   | Done ↦ IsDone old x new
   | NodeMade id ↦ IsDone old x new
+  | EdgeMade id ↦ IsDone old x new
   | Results results ↦ IsDone old x new
   | Counted counts ↦ IsDone old x new
   | Faulted results fault ↦ Stops old x.line x.disk_failed results fault new
@@ -144,6 +150,7 @@ abbrev pub told_fault : Reply → ℕ
 told_fault Silent = 0
 told_fault Done = 0
 told_fault (NodeMade id) = 0
+told_fault (EdgeMade id) = 0
 told_fault (Results results) = 0
 told_fault (Counted counts) = 0
 told_fault (Faulted results fault) = told_in fault

@@ -28,6 +28,7 @@ abbrev pub TakesNames : {D : Type 0} {g : Ghosts D} → Store D g → Store D g 
     → List (List ℕ) → Health → Answer → Type 0
 TakesNames old new was names health answers.Done = IsNamed old names health
 TakesNames old new was names health (answers.NodeMade id) = ⊥
+TakesNames old new was names health (answers.EdgeMade id) = ⊥
 TakesNames old new was names health (answers.Counted counts) = ⊥
 TakesNames old new was names health (answers.Refused why) = ⊥
 TakesNames old new was names health answers.NoMemory = ⊥

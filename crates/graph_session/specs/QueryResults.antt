@@ -4,7 +4,7 @@ use Rattle.fault_count.specs.Cause.{Rose}
 use Rattle.stream_io.specs.declared.streams.Sink.{Ghosts as SinkGhosts}
 use Rattle.plain_graph.specs.Graph.{Graph}
 use Rattle.plain_graph.specs.Meaning.{meaning}
-use Rattle.plain_graph.specs.Reply.{Counted, DamagedRecord, DiskFailed, Done, Fault, Faulted, NoMemory, NodeMade, Refused, Reply, Results, Silent, reply_text}
+use Rattle.plain_graph.specs.Reply.{Counted, DamagedRecord, DiskFailed, Done, EdgeMade, Fault, Faulted, NoMemory, NodeMade, Refused, Reply, Results, Silent, reply_text}
 use Rattle.plain_graph.specs.declared.item.Item.{Item}
 use Rattle.plain_graph.specs.declared.item.Item.TheVariants as items
 use Rattle.plain_graph.specs.declared.query.Query.{Query}
@@ -13,7 +13,7 @@ use Rattle.rec_bytes.specs.declared.row_fault.RowFault.{RowFault}
 use Rattle.rec_bytes.specs.declared.row_fault.RowFault.TheVariants as rows
 use Rattle.store_rules.specs.Graph.{graph_of, node_of}
 use Rattle.store_rules.specs.Rows.{collect}
-use Rattle.store_rules.specs.Rules.{IsNodeStore}
+use Rattle.store_rules.specs.Rules.{IsSparseStore}
 use Rattle.store_rules.specs.Views.{Records}
 use Rattle.graph_session.specs.Answer.{Gives}
 use Rattle.graph_session.specs.Exchange.{told_fault}
@@ -33,6 +33,7 @@ abbrev pub IsQueryReply : Reply → Type 0
 IsQueryReply Silent = ⊥
 IsQueryReply Done = ⊥
 IsQueryReply (NodeMade id) = ⊥
+IsQueryReply (EdgeMade id) = ⊥
 IsQueryReply (Results results) = Unit {0}
 IsQueryReply (Counted counts) = ⊥
 IsQueryReply (Faulted results NoMemory) = ⊥
@@ -46,6 +47,7 @@ abbrev pub Means : Graph → Query → Reply → Type 0
 Means graph query Silent = ⊥
 Means graph query Done = ⊥
 Means graph query (NodeMade id) = ⊥
+Means graph query (EdgeMade id) = ⊥
 Means graph query (Results results) = results ≡ meaning graph query
 Means graph query (Counted counts) = ⊥
 Means graph query (Faulted results NoMemory) = ⊥
@@ -70,7 +72,7 @@ pub record GivesQuery {R K : Type 0} (space : SpaceGhosts R) (sink : SinkGhosts 
   pub reply : Reply
   pub form : IsQueryReply reply
   pub gives : Gives sink (reply_text reply) before after turn
-  pub means : space.tells → IsNodeStore (space.state old).records (space.state old).shape
+  pub means : space.tells → IsSparseStore (space.state old).records (space.state old).shape
       → Means (graph_of (space.state old).records) query reply
   pub told : told_fault reply ≢ 0 → Rose (space.faults old) (space.faults new)
   pub read : IsRead space old new

@@ -32,9 +32,10 @@ told_of (faults.Syntax at) = answers.Refused (refusals.Syntax at)
 told_of (faults.NameLength at) = answers.Refused (refusals.NameLength at)
 told_of (faults.NumberRange at) = answers.Refused (refusals.NumberRange at)
 
--- the label of a new node is a name
+-- the label of a new node, or the type of a new edge, is a name
 abbrev pub HasName : Command → Type 0
 HasName (commands.Node label) = IsShortName label
+HasName (commands.Edge from label to) = IsShortName label
 HasName _ = Unit {0}
 
 -- a command that gets a reply, and only of a live session another than a refusal

@@ -8,6 +8,8 @@ pub(crate) enum Answer {
     Done,
     /// It made a node of this identifier.
     NodeMade(u32),
+    /// It made an edge of this identifier.
+    EdgeMade(u32),
     /// It asked for these.
     Counted(Counts),
     /// It is refused, and changes nothing.

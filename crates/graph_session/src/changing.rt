@@ -3,7 +3,7 @@ ghost use Rattle.plain_graph.specs.declared.command.Command.TheVariants as comma
 ghost use Rattle.plain_graph.specs.declared.command.Target.TheVariants as targets;
 ghost use Rattle.plain_graph.specs.Names.{IsShortName};
 ghost use Rattle.graph_session.specs.Answering.{reply_of};
-ghost use Rattle.graph_session.specs.Drafting.{answer_for};
+ghost use Rattle.graph_session.specs.Drafting.{answer_for, full_of};
 ghost use Rattle.graph_session.specs.Settling.{SettlesCommand};
 ghost use Rattle.graph_session.specs.declared.health.Health.TheVariants as healths;
 
@@ -11,8 +11,9 @@ use crate::answer::Answer;
 use crate::{Health, Session};
 use disk_model::Disk;
 use fault_count::Failed;
-use graph_ops::{Added, ChangeFault, add_node, delete_node};
+use graph_ops::{Added, ChangeFault, add_edge, add_node, delete_edge, delete_node};
 use plain_graph::{Refusal, Text};
+use rec_bytes::RELATIONSHIPS;
 
 /// What a transaction may weigh. A change's weight bounds the records that it writes.
 const MOST_WEIGHT: u32 = 2_048;
@@ -74,6 +75,41 @@ impl<'d, D: Disk> Session<'d, D> {
         self.finish_alone(drafted, names)
     }
 
+    /// Makes an edge of this type, from one node to another.
+    pub(crate) fn make_edge(&mut self, from: u32, label: &Text, to: u32) -> Answer
+        requires named { IsShortName label.now }
+        requires live { self.old.health ≡ healths.Live }
+        ensures settles { SettlesCommand D.Disk (commands.Edge from label.now to)
+            (view self.old) (view self.new) (reply_of result) }
+        ensures same_disk { HaveSameDisk self.old self.new }
+    {
+        let names = self.names.count();
+        if self.store.in_transaction() {
+            let drafted = self.draft_edge(from, label, to);
+            return self.finish(drafted, names);
+        }
+        self.store.begin();
+        let drafted = self.draft_edge(from, label, to);
+        self.finish_alone(drafted, names)
+    }
+
+    /// Deletes the edge of this identifier.
+    pub(crate) fn remove_edge(&mut self, id: u32) -> Answer
+        requires live { self.old.health ≡ healths.Live }
+        ensures settles { SettlesCommand D.Disk (commands.Delete (targets.Edge id))
+            (view self.old) (view self.new) (reply_of result) }
+        ensures same_disk { HaveSameDisk self.old self.new }
+    {
+        let names = self.names.count();
+        if self.store.in_transaction() {
+            let drafted = self.draft_edge_deletion(id);
+            return self.finish(drafted, names);
+        }
+        self.store.begin();
+        let drafted = self.draft_edge_deletion(id);
+        self.finish_alone(drafted, names)
+    }
+
     // A new node in the draft.
     fn draft_node(&mut self, label: &Text) -> Result<Drafted, Answer>
         requires { IsShortName label.now }
@@ -89,7 +125,36 @@ impl<'d, D: Disk> Session<'d, D> {
         }
     }
 
-    // A deletion in the draft.
+    // A new edge in the draft.
+    fn draft_edge(&mut self, from: u32, label: &Text, to: u32) -> Result<Drafted, Answer>
+        requires { IsShortName label.now }
+        ensures only { OnlyDrafts self.old self.new }
+        ensures drafts { Drafts (commands.Edge from label.now to) self.old self.new result }
+    {
+        match add_edge(&mut self.store, &mut self.names, from, label, to) {
+            Ok(Added { id, weight }) => Ok(Drafted {
+                answer: Answer::EdgeMade(id),
+                weight,
+            }),
+            Err(fault) => Err(answer_of(fault)),
+        }
+    }
+
+    // A deleted edge in the draft.
+    fn draft_edge_deletion(&mut self, id: u32) -> Result<Drafted, Answer>
+        ensures only { OnlyDrafts self.old self.new }
+        ensures drafts { Drafts (commands.Delete (targets.Edge id)) self.old self.new result }
+    {
+        match delete_edge(&mut self.store, &self.names, id) {
+            Ok(weight) => Ok(Drafted {
+                answer: Answer::Done,
+                weight,
+            }),
+            Err(fault) => Err(answer_of(fault)),
+        }
+    }
+
+    // A deleted node in the draft.
     fn draft_deletion(&mut self, id: u32) -> Result<Drafted, Answer>
         ensures only { OnlyDrafts self.old self.new }
         ensures drafts { Drafts (commands.Delete (targets.Node id)) self.old self.new result }
@@ -203,7 +268,8 @@ fn answer_of(fault: ChangeFault) -> Answer
 {
     match fault {
         ChangeFault::NoNode { id } => Answer::Refused(Refusal::NoNode { id }),
-        ChangeFault::Full { .. } => Answer::Refused(Refusal::FullNodes),
+        ChangeFault::NoEdge { id } => Answer::Refused(Refusal::NoEdge { id }),
+        ChangeFault::Full { file, .. } => Answer::Refused(full_of(file)),
         ChangeFault::NamesFull { .. } => Answer::Refused(Refusal::FullNames),
         ChangeFault::Memory => Answer::NoMemory,
         ChangeFault::Disk => Answer::DiskFailed,
@@ -211,5 +277,16 @@ fn answer_of(fault: ChangeFault) -> Answer
             Answer::Refused(Refusal::HasRelationships { id })
         }
         ChangeFault::Damaged(damage) => Answer::Damaged(damage),
+    }
+}
+
+// Which part of the graph has no room, by its file.
+fn full_of(file: u8) -> Refusal
+    ensures { result ≡ full_of file }
+{
+    if file == RELATIONSHIPS {
+        Refusal::FullEdges
+    } else {
+        Refusal::FullNodes
     }
 }

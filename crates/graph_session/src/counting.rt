@@ -8,7 +8,7 @@ use crate::Session;
 use crate::answer::Answer;
 use disk_model::Disk;
 use plain_graph::Counts;
-use rec_bytes::{NODES, Reads};
+use rec_bytes::{NODES, RELATIONSHIPS, Reads};
 
 impl<'d, D: Disk> Session<'d, D> {
     ghost use Rattle.graph_session.specs.Session.{view};
@@ -21,7 +21,7 @@ impl<'d, D: Disk> Session<'d, D> {
     {
         Answer::Counted(Counts {
             nodes: self.store.meta(NODES).live,
-            edges: 0,
+            edges: self.store.meta(RELATIONSHIPS).live,
             properties: 0,
             blocks: 0,
             names: self.names.count(),

@@ -1,7 +1,7 @@
 ghost use Rattle.std.specs.Prelude.{◌≡◌, IfOk, length};
 ghost use Rattle.rec_bytes.specs.RowFault.{HasRowCause, NotDamaged};
 ghost use Rattle.store_rules.specs.Graph.{graph_of};
-ghost use Rattle.store_rules.specs.Rules.{IsNodeStore};
+ghost use Rattle.store_rules.specs.Rules.{IsSparseStore};
 ghost use Rattle.graph_session.specs.QueryResults.{IsRead};
 
 use node_store::load;
@@ -11,7 +11,7 @@ use rec_bytes::{NODES, Reads, RowFault};
 pub(crate) fn count_nodes<R: Reads>(space: &mut R) -> Result<u32, RowFault>
     ensures count { R.tells → IfOk result (λ count.
         count ≡ length (graph_of (R.state space.old).records).nodes) }
-    ensures sound { R.tells → IsNodeStore (R.state space.old).records (R.state space.old).shape
+    ensures sound { R.tells → IsSparseStore (R.state space.old).records (R.state space.old).shape
         → NotDamaged result }
     ensures read { IsRead R.Reads space.old space.new }
     ensures cause { HasRowCause (R.faults space.old) (R.faults space.new) result }

@@ -130,7 +130,9 @@ impl<'d, D: Disk> Session<'d, D> {
             Command::Checkpoint => self.checkpoint(),
             Command::Stats => self.stats(),
             Command::Node { label } => self.make_node(label),
+            Command::Edge { from, label, to } => self.make_edge(*from, label, *to),
             Command::Delete(Target::Node(id)) => self.remove_node(*id),
+            Command::Delete(Target::Edge(id)) => self.remove_edge(*id),
             Command::Blank | Command::Quit | Command::Reopen | Command::Query(_) => unreachable!(),
         }
     }

@@ -6,17 +6,17 @@ use std::alloc::{AllocError, Global};
 use std::process::Abort;
 use std::test::Fail;
 
-/// `node a` so many times.
-fn many_nodes(alloc: Global, count: usize) -> Result<Vec<u8>, AllocError> {
+/// The line so many times.
+pub(crate) fn many(alloc: Global, line: &[u8], count: usize) -> Result<Vec<u8>, AllocError> {
     let mut lines = Vec::new(alloc);
     for _ in 0..count {
-        lines.extend_from_slice(b"node a\n")?;
+        lines.extend_from_slice(line)?;
     }
     Ok(lines)
 }
 
 /// The run with these words gives the output.
-fn check_words(
+pub(crate) fn check_words(
     rt: &impl Abort,
     alloc: Global,
     words: &[&str],
@@ -66,7 +66,7 @@ fn rows_of_lines(rt: HostRuntime) -> Result<(), Fail> {
 #[test]
 fn a_full_graph_refuses_nodes(rt: HostRuntime) -> Result<(), Fail> {
     let alloc = rt.alloc();
-    let mut input = many_nodes(alloc, 17)?;
+    let mut input = many(alloc, b"node a\n", 17)?;
     input.extend_from_slice(b"node b\ndelete node 3\nnode a\ng.V().count()\n")?;
     let want: &[u8] =
         b"node 0\nnode 1\nnode 2\nnode 3\nnode 4\nnode 5\nnode 6\nnode 7\nnode 8\nnode 9\nnode 10\nnode 11\nnode 12\nnode 13\nnode 14\nnode 15\nerror full nodes\nerror full nodes\nok\nnode 3\n==>16\nend\n";
@@ -82,11 +82,17 @@ fn a_full_graph_refuses_nodes(rt: HostRuntime) -> Result<(), Fail> {
 }
 
 /// The replies to the input end so, over a disk with room for a store of 8,192 nodes.
-fn check_end(rt: &impl Abort, alloc: Global, input: &[u8], end: &[u8]) -> Result<(), AllocError> {
+pub(crate) fn check_end(
+    rt: &impl Abort,
+    alloc: Global,
+    words: &[&str],
+    input: &[u8],
+    end: &[u8],
+) -> Result<(), AllocError> {
     let mut disk = PlainDisk::new(alloc, 8_192)?;
-    let ended = run_on(rt, alloc, &["nipakeel", "run"], input, &PLAIN, &mut disk)?;
+    let ended = run_on(rt, alloc, words, input, &PLAIN, &mut disk)?;
     assert_eq!(rt; ended.exit, Exit::Done);
-    assert!(rt; ended.output.taken().ends_with(end));
+    assert!(rt; ended.output.taken().ends_with(end), "{end:?}");
     Ok(())
 }
 
@@ -94,18 +100,19 @@ fn check_end(rt: &impl Abort, alloc: Global, input: &[u8], end: &[u8]) -> Result
 fn a_transaction_has_its_weight(rt: HostRuntime) -> Result<(), Fail> {
     let alloc = rt.alloc();
     let mut input = Vec::from_slice(alloc, b"begin\n")?;
-    input.extend_from_slice(&many_nodes(alloc, 2_042)?)?;
+    input.extend_from_slice(&many(alloc, b"node a\n", 2_042)?)?;
     input.extend_from_slice(b"commit\nstats\n")?;
     let end: &[u8] =
         b"node 2040\nerror transaction full\nok\nnodes 2041 edges 0 properties 0 blocks 0 names 1\n";
-    check_end(&rt, alloc, &input, end)?;
+    check_end(&rt, alloc, &["nipakeel", "run"], &input, end)?;
     Ok(())
 }
 
 #[test]
 fn a_full_log_is_emptied(rt: HostRuntime) -> Result<(), Fail> {
     let alloc = rt.alloc();
-    let input = many_nodes(alloc, 7_433)?;
-    check_end(&rt, alloc, &input, b"node 7431\nnode 7432\n")?;
+    let input = many(alloc, b"node a\n", 7_433)?;
+    let end: &[u8] = b"node 7431\nnode 7432\n";
+    check_end(&rt, alloc, &["nipakeel", "run"], &input, end)?;
     Ok(())
 }

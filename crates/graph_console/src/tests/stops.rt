@@ -8,34 +8,108 @@ use std::alloc::{AllocError, Global};
 use std::process::Abort;
 use std::test::Fail;
 
+/// A line, its reply, and what a later run answers to the probe once the line is stored.
+type Row<'a> = (&'a [u8], &'a [u8], &'a [u8]);
+
+/// Counts, and deletes the edge and the node that were made first.
+const PROBE: &[u8] = b"stats\ndelete edge 0\ndelete node 0\n";
+
+const NOTHING: &[u8] =
+    b"nodes 0 edges 0 properties 0 blocks 0 names 0\nerror no edge 0\nerror no node 0\n";
+
+/// Node 0 alone, and node 1 alone.
+const FIRST: &[u8] = b"nodes 1 edges 0 properties 0 blocks 0 names 1\nerror no edge 0\nok\n";
+
+const SECOND: &[u8] =
+    b"nodes 1 edges 0 properties 0 blocks 0 names 2\nerror no edge 0\nerror no node 0\n";
+
 /// A change alone, a transaction that is rolled back, one that is committed, and one that is open at the end.
-const SCRIPT: &[u8] =
-    b"node a\nbegin\nnode temp\nrollback\nbegin\nnode b\ndelete node 0\ncommit\ncheckpoint\nreopen\nstats\nbegin\nnode c\n";
+const NODES: &[Row] = &[
+    (b"node a\n", b"node 0\n", FIRST),
+    (b"begin\n", b"ok\n", FIRST),
+    (b"node temp\n", b"node 1\n", FIRST),
+    (b"rollback\n", b"ok\n", FIRST),
+    (b"begin\n", b"ok\n", FIRST),
+    (b"node b\n", b"node 1\n", FIRST),
+    (b"delete node 0\n", b"ok\n", FIRST),
+    (b"commit\n", b"ok\n", SECOND),
+    (b"checkpoint\n", b"ok\n", SECOND),
+    (b"reopen\n", b"ok\n", SECOND),
+    (
+        b"stats\n",
+        b"nodes 1 edges 0 properties 0 blocks 0 names 2\n",
+        SECOND,
+    ),
+    (b"begin\n", b"ok\n", SECOND),
+    (b"node c\n", b"node 0\n", SECOND),
+];
 
-const REPLIES: &[u8] =
-    b"node 0\nok\nnode 1\nok\nok\nnode 1\nok\nok\nok\nok\nnodes 1 edges 0 properties 0 blocks 0 names 2\nok\nnode 0\n";
+/// A loop at node 0.
+const LOOP: &[u8] = b"nodes 1 edges 1 properties 0 blocks 0 names 2\nok\nok\n";
 
-/// The replies up to the transaction's commit, and with its reply.
-const BEFORE_COMMIT: &[u8] = b"node 0\nok\nnode 1\nok\nok\nnode 1\nok\n";
+/// Edge 1 alone, from node 0 to node 1.
+const BETWEEN: &[u8] =
+    b"nodes 2 edges 1 properties 0 blocks 0 names 2\nerror no edge 0\nerror node 0 has relationships\n";
 
-const COMMITTED: &[u8] = b"node 0\nok\nnode 1\nok\nok\nnode 1\nok\nok\n";
+/// Two nodes without edges.
+const APART: &[u8] = b"nodes 2 edges 0 properties 0 blocks 0 names 2\nerror no edge 0\nok\n";
 
-const NONE: &[u8] = b"nodes 0 edges 0 properties 0 blocks 0 names 0\n";
+/// Edge 1 alone, from node 1 to node 0, of another type.
+const BACK: &[u8] =
+    b"nodes 2 edges 1 properties 0 blocks 0 names 3\nerror no edge 0\nerror node 0 has relationships\n";
 
-const FIRST: &[u8] = b"nodes 1 edges 0 properties 0 blocks 0 names 1\n";
+/// Edge 0 beside it.
+const BOTH: &[u8] =
+    b"nodes 2 edges 2 properties 0 blocks 0 names 3\nok\nerror node 0 has relationships\n";
 
-const SECOND: &[u8] = b"nodes 1 edges 0 properties 0 blocks 0 names 2\n";
+/// Edges that come and go, alone and in transactions, of which the last is open at the end.
+const EDGES: &[Row] = &[
+    (b"node a\n", b"node 0\n", FIRST),
+    (b"edge 0 t 0\n", b"edge 0\n", LOOP),
+    (b"begin\n", b"ok\n", LOOP),
+    (b"node a\n", b"node 1\n", LOOP),
+    (b"edge 0 t 1\n", b"edge 1\n", LOOP),
+    (b"delete edge 0\n", b"ok\n", LOOP),
+    (b"commit\n", b"ok\n", BETWEEN),
+    (b"delete edge 1\n", b"ok\n", APART),
+    (b"edge 1 u 0\n", b"edge 1\n", BACK),
+    (b"checkpoint\n", b"ok\n", BACK),
+    (b"edge 0 u 1\n", b"edge 0\n", BOTH),
+    (b"begin\n", b"ok\n", BOTH),
+    (b"delete edge 1\n", b"ok\n", BOTH),
+];
 
-/// What a later run has is what was answered, with the line in which the stop came or without it.
-fn is_kept(ended: &Ended, stats: &[u8]) -> bool {
-    let taken = ended.output.taken();
-    if stats == NONE {
-        !taken.starts_with(b"node 0\n")
-    } else if stats == FIRST {
-        ended.exit != Exit::DiskFault && !taken.starts_with(COMMITTED)
-    } else {
-        stats == SECOND && taken.starts_with(BEFORE_COMMIT)
+fn lines_of(alloc: Global, rows: &[Row]) -> Result<Vec<u8>, AllocError> {
+    let mut lines = Vec::new(alloc);
+    for (line, _, _) in rows {
+        lines.extend_from_slice(line)?;
     }
+    Ok(lines)
+}
+
+fn replies_of(alloc: Global, rows: &[Row]) -> Result<Vec<u8>, AllocError> {
+    let mut replies = Vec::new(alloc);
+    for (_, reply, _) in rows {
+        replies.extend_from_slice(reply)?;
+    }
+    Ok(replies)
+}
+
+/// What a later run answers to the probe is what was answered, with the line in which the stop came or
+/// without it.
+fn is_kept(rows: &[Row], ended: &Ended, probed: &[u8]) -> bool {
+    let mut rest = ended.output.taken();
+    let mut stored = NOTHING;
+    for (_, reply, after) in rows {
+        match rest.strip_prefix(reply) {
+            Some(later) => {
+                rest = later;
+                stored = after;
+            }
+            None => return probed == stored || ended.exit != Exit::DiskFault && probed == *after,
+        }
+    }
+    probed == stored
 }
 
 /// The disk that a loss of power leaves, which stops again at this call.
@@ -52,39 +126,55 @@ fn left_of(
 fn check_left(
     rt: &impl Abort,
     alloc: Global,
+    rows: &[Row],
     ended: &Ended,
     disk: &MemoryDisk,
     choice: Crash,
 ) -> Result<(), AllocError> {
     let mut left = left_of(alloc, disk, choice, None)?;
-    let again = run(rt, alloc, b"stats\n", &mut left)?;
-    let stats = again.output.taken();
+    let again = run(rt, alloc, PROBE, &mut left)?;
+    let probed = again.output.taken();
     assert_eq!(rt; again.exit, Exit::Done, "{choice:?}");
-    assert!(rt; is_kept(ended, stats), "{choice:?}: {stats:?}");
+    assert!(rt; is_kept(rows, ended, probed), "{choice:?}: {probed:?}");
     Ok(())
 }
 
-/// The script over a disk that stops at this call.
+/// The lines over a disk that stops at this call.
 fn run_stopped(
     rt: &impl Abort,
     alloc: Global,
+    lines: &[u8],
     stop: u64,
 ) -> Result<(Ended, MemoryDisk), AllocError> {
     let mut disk = MemoryDisk::new(alloc, 16, ROOM, plan(alloc, &[], Some(stop))?)?;
-    let ended = run(rt, alloc, SCRIPT, &mut disk)?;
+    let ended = run(rt, alloc, lines, &mut disk)?;
     Ok((ended, disk))
 }
 
 /// Stops the script at each of its calls, and opens what this loss of power leaves.
-fn check_stops(rt: &impl Abort, alloc: Global, choice: Crash) -> Result<(), AllocError> {
+fn check_script(
+    rt: &impl Abort,
+    alloc: Global,
+    rows: &[Row],
+    choice: Crash,
+) -> Result<(), AllocError> {
+    let lines = lines_of(alloc, rows)?;
+    let replies = replies_of(alloc, rows)?;
     for stop in 1..=CALLS {
-        let (ended, disk) = run_stopped(rt, alloc, stop)?;
-        check_left(rt, alloc, &ended, &disk, choice)?;
-        if ended.output.taken() == REPLIES {
+        let (ended, disk) = run_stopped(rt, alloc, &lines, stop)?;
+        check_left(rt, alloc, rows, &ended, &disk, choice)?;
+        if ended.output.taken() == replies.as_slice() {
             return Ok(());
         }
     }
     assert!(rt; false, "the script makes more calls");
+    Ok(())
+}
+
+fn check_stops(rt: &impl Abort, alloc: Global, choice: Crash) -> Result<(), AllocError> {
+    for rows in [NODES, EDGES] {
+        check_script(rt, alloc, rows, choice)?;
+    }
     Ok(())
 }
 
@@ -118,17 +208,26 @@ fn stops_leave_any_bytes(rt: HostRuntime) -> Result<(), Fail> {
     Ok(())
 }
 
-#[test]
-fn openings_are_stopped_too(rt: HostRuntime) -> Result<(), Fail> {
-    let alloc = rt.alloc();
+/// Stops the script at each of its calls, and then the opening of what this leaves.
+fn check_openings(rt: &impl Abort, alloc: Global, rows: &[Row]) -> Result<(), AllocError> {
+    let lines = lines_of(alloc, rows)?;
+    let replies = replies_of(alloc, rows)?;
     for stop in 1..=CALLS {
-        let (ended, disk) = run_stopped(&rt, alloc, stop)?;
+        let (ended, disk) = run_stopped(rt, alloc, &lines, stop)?;
         let mut left = left_of(alloc, &disk, Crash::Fill(1), Some(1 + stop % 32))?;
-        let _ = run(&rt, alloc, b"stats\n", &mut left)?;
-        check_left(&rt, alloc, &ended, &left, Crash::Fill(7))?;
-        if ended.output.taken() == REPLIES {
+        let _ = run(rt, alloc, b"stats\n", &mut left)?;
+        check_left(rt, alloc, rows, &ended, &left, Crash::Fill(7))?;
+        if ended.output.taken() == replies.as_slice() {
             break;
         }
+    }
+    Ok(())
+}
+
+#[test]
+fn openings_are_stopped_too(rt: HostRuntime) -> Result<(), Fail> {
+    for rows in [NODES, EDGES] {
+        check_openings(&rt, rt.alloc(), rows)?;
     }
     Ok(())
 }

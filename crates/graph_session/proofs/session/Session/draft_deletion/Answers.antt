@@ -10,7 +10,7 @@ returns-in-Ok-clause-drafts g c = (
     store = c.in-Ok.ensures.well told has;
     changes = (refl, c.in-Ok.ensures.removes told has);
     weighs = c.in-Ok.ensures.weight;
-    free = delete-free (state_of c.args.self.now.store) c.args.id (c.in-Ok.ensures.removes told has).there;
+    free = delete-free (state_of c.args.self.now.store) c.args.id (c.in-Ok.ensures.removes told has).there (c.in-Ok.ensures.removes told has).lone;
   },
 )
 

@@ -12,7 +12,7 @@ returns-in-Ok-clause-drafts g c = (
       record {
         store = c.in-Ok.ensures.well told has;
         changes = (c.in-Ok.field-0.id, refl, c.in-Ok.ensures.adds told has);
-        weighs = weighs-node space names c.args.label.now c.in-Ok.ensures.weight.count c.in-Ok.field-0.weight has c.in-Ok.ensures.weight.needs c.in-Ok.ensures.weight.is;
+        weighs = weighs-node c.args.self.now.store.base.shape.threshold space names c.args.label.now c.in-Ok.ensures.weight.count c.in-Ok.field-0.weight has c.in-Ok.ensures.weight.needs c.in-Ok.ensures.weight.is;
         free = node-free space names c.args.label.now has (λ full. let clash = c.in-Ok.ensures.full has full in cc) (λ full. let clash = c.in-Ok.ensures.names_full full in cc);
       },
 )
