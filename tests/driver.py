@@ -43,6 +43,16 @@ def nodes(*ids):
     return b"".join(b"node %d\n" % id for id in ids)
 
 
+def edges(*ids):
+    """The replies to lines that made these edges."""
+    return b"".join(b"edge %d\n" % id for id in ids)
+
+
+def linked(id):
+    """The refusal to delete a node that has relationships."""
+    return b"error node %d has relationships\n" % id
+
+
 def listed(*ids):
     """The reply to `g.V()` where these are the nodes."""
     return b"".join(b"==>v[%d]\n" % id for id in ids) + b"end\n"
@@ -53,9 +63,9 @@ def count(number):
     return b"==>%d\nend\n" % number
 
 
-def stats(nodes, names):
+def stats(nodes, names, edges=0):
     """The reply to `stats`."""
-    return b"nodes %d edges 0 properties 0 blocks 0 names %d\n" % (nodes, names)
+    return b"nodes %d edges %d properties 0 blocks 0 names %d\n" % (nodes, edges, names)
 
 
 def has(folder, number):
