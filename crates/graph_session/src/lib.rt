@@ -1,6 +1,6 @@
-//! The console of one writer: a line in, one step of the console, its reply out. A change is on the
-//! disk before its reply begins. Nothing of the graph is kept in memory but its names; a query
-//! reads the records as it goes.
+//! The console of one writer: a line in, one step of the console, its reply out. When a step
+//! returns, a change that was answered is on the disk. Nothing of the graph is kept in memory but
+//! its names; a query reads the records as it goes.
 #![tactic(auto)]
 
 mod answer;

@@ -34,9 +34,9 @@ pub struct Session<'d, D: Disk> {
 impl<'d, D: Disk> Session<'d, D> {
     ghost use Rattle.graph_session.specs.Session.{HaveSameDisk, view, with_sink};
 
-    /// Answers one line, by one reply to the sink; a line of blanks and `quit` get none. A change
-    /// is on the disk before its reply begins. Where memory lacks, the reply says so and nothing
-    /// changes.
+    /// Answers one line, by one reply to the sink; a line of blanks and `quit` get none. At its
+    /// return a change that was answered is on the disk. Where memory lacks, the reply says so and
+    /// nothing changes.
     pub fn step<K: Sink>(&mut self, line: &[u8], output: &mut K) -> Turn
         ensures answers { AnswersLine D.Disk K.Sink (Whole line.now)
             (with_sink self.old output.old) (with_sink self.new output.new) result }
