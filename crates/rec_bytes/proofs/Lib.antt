@@ -10,3 +10,4 @@ pub mod RecordFiles
 pub mod Shapes
 pub mod Spaces
 pub mod Tables
+pub mod Texts

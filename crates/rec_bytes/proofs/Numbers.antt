@@ -20,11 +20,11 @@ pow_pos n = let h = one-le-pow n 256 (omega arith) in omega arith
 abbrev pub Apart : ℕ → ℕ → ℕ → ℕ → Type 0
 Apart n at m other = (at + n ≤ other) ⊎ (other + m ≤ at)
 
-length-as_64 : (xs : List ℕ) → length (as_64 xs) ≡ 64
+pub length-as_64 : (xs : List ℕ) → length (as_64 xs) ≡ 64
 unfolding as_64
 length-as_64 xs = length-take-le 64 (xs ++ replicate 64 0) (omega (arith, length-append xs (replicate 64 0), length-replicate {A = ℕ} 64 0))
 
-get_or-as_64 : (xs : List ℕ) (k : ℕ) → k < 64 → get_or (as_64 xs) k 0 ≡ get_or xs k 0
+pub get_or-as_64 : (xs : List ℕ) (k : ℕ) → k < 64 → get_or (as_64 xs) k 0 ≡ get_or xs k 0
 unfolding as_64
 get_or-as_64 xs k lt =
     get_or-take 64 (xs ++ replicate 64 0) k 0 lt ∙ ⊎_elim
@@ -37,7 +37,7 @@ unfolding as_64
 as_64-whole xs long = take_at xs (replicate 64 0) 64 long
 
 -- a byte outside the place stays
-get_or-with_bytes : (xs : List ℕ) (at : ℕ) (bs : List ℕ) (k : ℕ) → (k < at) ⊎ (at + length bs ≤ k) → get_or (with_bytes xs at bs) k 0 ≡ get_or xs k 0
+pub get_or-with_bytes : (xs : List ℕ) (at : ℕ) (bs : List ℕ) (k : ℕ) → (k < at) ⊎ (at + length bs ≤ k) → get_or (with_bytes xs at bs) k 0 ≡ get_or xs k 0
 unfolding with_bytes
 get_or-with_bytes xs at [] k out = refl
 get_or-with_bytes xs at (b ∷ bs) k out =
@@ -66,7 +66,7 @@ with_bytes-is xs at (b ∷ bs) fits =
     e ∙ rw (t, d) (append_assoc (take at xs) (b ∷ []) (bs ++ drop (at + suc (length bs)) xs))
 
 -- n bytes make a number, whatever stands around them
-little_from-same : (n i : ℕ) (xs ys : List ℕ) → ((k : ℕ) → k < i + n → get_or xs k 0 ≡ get_or ys k 0) → little_from i n xs ≡ little_from i n ys
+pub little_from-same : (n i : ℕ) (xs ys : List ℕ) → ((k : ℕ) → k < i + n → get_or xs k 0 ≡ get_or ys k 0) → little_from i n xs ≡ little_from i n ys
 little_from-same zero i xs ys same = refl
 little_from-same (suc n) i xs ys same =
     let byte = same i (omega arith) in

@@ -25,3 +25,11 @@ field n r at = little_number n (drop at r.bytes) % 256 ^ n
 -- the record with another number in the n bytes from a place on
 unfoldable pub with_field : ℕ → Rec → ℕ → ℕ → Rec
 with_field n r at value = record { bytes = with_bytes (as_64 r.bytes) at (little_bytes n value) }
+
+-- the n bytes from a place on
+unfoldable pub text_in : Rec → ℕ → ℕ → List ℕ
+text_in r at n = take n (drop at (as_64 r.bytes))
+
+-- the record with other bytes from a place on
+unfoldable pub with_text : Rec → ℕ → List ℕ → Rec
+with_text r at text = record { bytes = with_bytes (as_64 r.bytes) at text }

@@ -1,5 +1,5 @@
-ghost use Rattle.std.specs.Prelude.{◌≡◌, ◌+◌, ◌≤◌};
-ghost use Rattle.rec_bytes.specs.Record.{field, with_field};
+ghost use Rattle.std.specs.Prelude.{◌≡◌, ◌+◌, ◌≤◌, length};
+ghost use Rattle.rec_bytes.specs.Record.{field, text_in, with_field, with_text};
 
 use byteorder::{ByteOrder, LittleEndian};
 
@@ -44,6 +44,14 @@ impl Rec {
         LittleEndian::read_u64(&self.bytes[at as usize..])
     }
 
+    /// So many bytes from a place on.
+    pub fn text(&self, at: u8, len: u8) -> &[u8]
+        requires { at + len ≤ 64 }
+        ensures { result.now ≡ text_in self.now at len }
+    {
+        &self.bytes[at as usize..at as usize + len as usize]
+    }
+
     /// Writes the byte at a place.
     pub fn set_byte(&mut self, at: u8, value: u8)
         requires { at + 1 ≤ 64 }
@@ -78,6 +86,15 @@ impl Rec {
         ensures got { field 8 self.new at ≡ value }
     {
         LittleEndian::write_u64(&mut self.bytes[at as usize..], value);
+    }
+
+    /// Writes bytes from a place on.
+    pub fn set_text(&mut self, at: u8, text: &[u8])
+        requires { at + length text.now ≤ 64 }
+        ensures { self.new ≡ with_text self.old at text.now }
+    {
+        let from = at as usize;
+        self.bytes[from..from + text.len()].copy_from_slice(text);
     }
 }
 
