@@ -1,6 +1,10 @@
 pub mod Changes
 pub mod Counts
+pub mod Forms
 pub mod Graph
 pub mod Meaning
 pub mod Names
+pub mod Properties
+pub mod Refusals
 pub mod Reply
+pub mod Values

@@ -1,10 +1,11 @@
 -- The replies of the console, and their bytes.
-use Rattle.std.specs.Prelude.{ℕ, List, [], ◌∷◌, ◌++◌, codes, decimal, flat_map, slice_index_or}
+use Rattle.std.specs.Prelude.{ℕ, nat_eq, if◌then◌else◌, List, [], ◌∷◌, ◌++◌, codes, decimal, flat_map, slice_index_or}
 use Rattle.std.specs.Fmt.{signed_decimal}
 use Rattle.plain_graph.specs.declared.counts.Counts.{Counts}
 use Rattle.plain_graph.specs.declared.item.Item.{Item}
 use Rattle.plain_graph.specs.declared.item.Item.TheVariants as items
-use Rattle.plain_graph.specs.declared.item.Value.TheVariants as values
+use Rattle.plain_graph.specs.declared.value.Value.{Value}
+use Rattle.plain_graph.specs.declared.value.Value.TheVariants as values
 use Rattle.plain_graph.specs.declared.refusal.Refusal.{Refusal}
 use Rattle.plain_graph.specs.declared.refusal.Refusal.TheVariants as refusals
 
@@ -29,9 +30,24 @@ pub data Reply : Type 0 where
 abbrev pub text_line : List ℕ → List ℕ
 text_line text = text ++ 10 ∷ []
 
+-- A byte of a text as it is shown: a quote, a backslash, a newline, a carriage return and a tab stand behind a backslash.
+abbrev pub escaped : ℕ → List ℕ
+escaped b =
+    if nat_eq b 39 then codes "\\'"
+    else if nat_eq b 92 then codes "\\\\"
+    else if nat_eq b 10 then codes "\\n"
+    else if nat_eq b 13 then codes "\\r"
+    else if nat_eq b 9 then codes "\\t"
+    else b ∷ []
+
+abbrev pub value_text : Value → List ℕ
+value_text (values.Int number) = signed_decimal number
+value_text (values.Bool truth) = if truth then codes "true" else codes "false"
+value_text (values.Text text) = codes "'" ++ flat_map escaped text ++ codes "'"
+
 abbrev pub item_text : Item → List ℕ
 item_text (items.Vertex id) = codes "v[" ++ decimal id ++ codes "]"
-item_text (items.Value (values.Int number)) = signed_decimal number
+item_text (items.Value value) = value_text value
 
 -- one result of a query
 abbrev pub result_text : Item → List ℕ
@@ -41,9 +57,13 @@ abbrev pub refusal_text : Refusal → List ℕ
 refusal_text refusals.LongLine = codes "error line"
 refusal_text (refusals.Syntax at) = codes "error syntax " ++ decimal at
 refusal_text (refusals.NameLength at) = codes "error name length " ++ decimal at
+refusal_text (refusals.TextLength at) = codes "error text length " ++ decimal at
 refusal_text refusals.Failed = codes "error failed"
 refusal_text refusals.FullNodes = codes "error full nodes"
 refusal_text refusals.FullNames = codes "error names full"
+refusal_text refusals.TooManyProperties = codes "error properties full"
+refusal_text refusals.FullProperties = codes "error full properties"
+refusal_text refusals.FullStrings = codes "error full strings"
 refusal_text (refusals.NumberRange at) = codes "error number range " ++ decimal at
 refusal_text refusals.TransactionOpen = codes "error transaction open"
 refusal_text refusals.NoTransaction = codes "error no transaction"

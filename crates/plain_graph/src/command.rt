@@ -1,4 +1,4 @@
-use crate::{Query, Text};
+use crate::{Pairs, Query, Text, Value};
 
 /// An element of the graph that a line names.
 #[derive(Clone, Copy, Debug, PartialEq, Eq)]
@@ -22,16 +22,35 @@ pub enum Command {
     Rollback,
     /// All records in their files, and an empty log.
     Checkpoint,
-    /// How many nodes, edges and names there are.
+    /// How many there are of each part of the graph.
     Stats,
     /// The store anew, as the disk holds it.
     Reopen,
     /// The end of the run.
     Quit,
-    /// A new node with this label.
-    Node { label: Text },
-    /// A new edge of this type, from one node to another.
-    Edge { from: u32, label: Text, to: u32 },
+    /// A new node with this label and these properties.
+    Node {
+        label: Text,
+        pairs: Pairs,
+    },
+    /// A new edge of this type, from one node to another, with these properties.
+    Edge {
+        from: u32,
+        label: Text,
+        to: u32,
+        pairs: Pairs,
+    },
+    /// This value for a key of an element.
+    Set {
+        target: Target,
+        key: Text,
+        value: Value,
+    },
+    /// No value for a key of an element.
+    Unset {
+        target: Target,
+        key: Text,
+    },
     /// The graph without this element.
     Delete(Target),
     /// The results of a query.

@@ -1,12 +1,7 @@
-/// A value that a query gives.
-#[derive(Clone, Copy, Debug, PartialEq, Eq)]
-pub enum Value {
-    /// A whole number.
-    Int(i64),
-}
+use crate::Value;
 
 /// One result of a query.
-#[derive(Clone, Copy, Debug, PartialEq, Eq)]
+#[derive(Drop)]
 pub enum Item {
     /// A vertex by its identifier.
     Vertex(u32),

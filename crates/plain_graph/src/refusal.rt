@@ -7,6 +7,8 @@ pub enum Refusal {
     Syntax { at: usize },
     /// The name at the byte place `at` has more than 48 bytes.
     NameLength { at: usize },
+    /// The text whose opening quote is at the byte place `at` has more than 1,024 bytes.
+    TextLength { at: usize },
     /// The number at the byte place `at` is out of its range.
     NumberRange { at: usize },
     /// The disk failed the session, which can't say what is stored.
@@ -19,8 +21,14 @@ pub enum Refusal {
     FullNodes,
     /// There are as many edges as the limit allows.
     FullEdges,
-    /// There are as many names as a store may have, and the line has a new one.
+    /// There would be more names than a store may have.
     FullNames,
+    /// The element would have more than 32 properties.
+    TooManyProperties,
+    /// There would be more properties than the limit allows.
+    FullProperties,
+    /// There would be more blocks of long texts than the limit allows.
+    FullStrings,
     /// No node has this identifier.
     NoNode { id: u32 },
     /// No edge has this identifier.

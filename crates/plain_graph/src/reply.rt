@@ -1,8 +1,16 @@
-ghost use Rattle.std.specs.Prelude.{◌≡◌, ◌≤◌, ◌+◌, ◌++◌, codes, decimal, length};
-ghost use Rattle.plain_graph.specs.Reply.{Counted, DamagedRecord, DiskFailed, Done, EdgeMade, NoMemory, NodeMade, Refused, configuration_text, damaged_text, fault_line, file_name, reply_text, result_text, text_line};
+ghost use Rattle.std.specs.Prelude.{◌≡◌, ◌≤◌, ◌+◌, ◌*◌, ◌++◌, codes, decimal, flat_map, length};
+ghost use Rattle.plain_graph.specs.Forms.{IsKept, IsShown};
+ghost use Rattle.plain_graph.specs.Reply.{Counted, DamagedRecord, DiskFailed, Done, EdgeMade, NoMemory, NodeMade, Refused, configuration_text, damaged_text, escaped, fault_line, file_name, reply_text, result_text, text_line, value_text};
 
-use crate::{Counts, Item, Refusal, ShortText, Value};
+use crate::{ByteBuffer, Counts, Item, Refusal, Value};
 use itoa::Buffer;
+
+/// A reply of one line, which takes no memory.
+pub type ShortText = ByteBuffer<128>;
+
+/// The line of a result, which takes no memory. The longest one has a text of 1,024 bytes between quotes, each of them
+/// escaped.
+pub type ResultLine = ByteBuffer<2_112>;
 
 /// The reply to a line that made a node: `node ID`.
 pub fn node_made(id: u32) -> ShortText
@@ -72,6 +80,9 @@ pub fn refused(why: Refusal) -> ShortText
         Refusal::FullNodes => text.push(b"error full nodes"),
         Refusal::FullEdges => text.push(b"error full edges"),
         Refusal::FullNames => text.push(b"error names full"),
+        Refusal::TooManyProperties => text.push(b"error properties full"),
+        Refusal::FullProperties => text.push(b"error full properties"),
+        Refusal::FullStrings => text.push(b"error full strings"),
         Refusal::TransactionOpen => text.push(b"error transaction open"),
         Refusal::NoTransaction => text.push(b"error no transaction"),
         Refusal::TransactionFull => text.push(b"error transaction full"),
@@ -100,28 +111,70 @@ pub fn refused(why: Refusal) -> ShortText
             text.push(b"error name length ");
             text.push(digits.format(at).as_bytes());
         }
+        Refusal::TextLength { at } => {
+            text.push(b"error text length ");
+            text.push(digits.format(at).as_bytes());
+        }
     }
     text.push(b"\n");
     text
 }
 
-/// The line of one result of a query: `==>` and the item.
-pub fn result_line(item: Item) -> ShortText
-    ensures { result ≡ result_text item }
+/// Writes the line of one result of a query: `==>` and the item.
+pub fn result_line(item: &Item, line: &mut ResultLine)
+    requires { IsShown item.now }
+    ensures { line.new ≡ result_text item.now }
 {
-    let mut text = ShortText::new();
     let mut digits = Buffer::new();
-    text.push(b"==>");
+    line.clear();
+    line.push(b"==>");
     match item {
         Item::Vertex(id) => {
-            text.push(b"v[");
-            text.push(digits.format(id).as_bytes());
-            text.push(b"]");
+            line.push(b"v[");
+            line.push(digits.format(*id).as_bytes());
+            line.push(b"]");
         }
-        Item::Value(Value::Int(number)) => text.push(digits.format(number).as_bytes()),
+        Item::Value(value) => push_value(line, value),
     }
-    text.push(b"\n");
-    text
+    line.push(b"\n");
+}
+
+/// Puts a value at the end: a number in decimal, `true`, `false`, or a text between quotes.
+fn push_value(line: &mut ResultLine, value: &Value)
+    requires kept { IsKept value.now }
+    requires room { length line.old ≤ 3 }
+    ensures text { line.new ≡ line.old ++ value_text value.now }
+    ensures room { length line.new ≤ 2100 }
+{
+    let mut digits = Buffer::new();
+    match value {
+        Value::Int(number) => line.push(digits.format(*number).as_bytes()),
+        Value::Bool(true) => line.push(b"true"),
+        Value::Bool(false) => line.push(b"false"),
+        Value::Text(text) => {
+            line.push(b"'");
+            push_escaped(line, text.as_bytes());
+            line.push(b"'");
+        }
+    }
+}
+
+/// Puts the bytes of a text at the end, with a backslash before some of them.
+fn push_escaped(line: &mut ResultLine, text: &[u8])
+    requires { length line.old + 2 * length text.now ≤ 2112 }
+    ensures text { line.new ≡ line.old ++ flat_map escaped text.now }
+    ensures room { length line.new ≤ length line.old + 2 * length text.now }
+{
+    for byte in text {
+        match *byte {
+            b'\'' => line.push(b"\\'"),
+            b'\\' => line.push(b"\\\\"),
+            b'\n' => line.push(b"\\n"),
+            b'\r' => line.push(b"\\r"),
+            b'\t' => line.push(b"\\t"),
+            other => line.push(&[other]),
+        }
+    }
 }
 
 /// The line behind the last result of a query: `end`.

@@ -1,5 +1,6 @@
-ghost use Rattle.std.specs.Prelude.{◌≡◌};
+ghost use Rattle.std.specs.Prelude.{◌≡◌, IfOk};
 
+use std::alloc::{AllocError, Global};
 use std::marker::Model;
 
 /// A text as its bytes. Contracts see the list of bytes.
@@ -29,6 +30,14 @@ impl Text {
         ensures { result.now ≡ self.now }
     {
         &self.bytes
+    }
+
+    /// The same text once more.
+    pub fn copy(&self, alloc: Global) -> Result<Text, AllocError>
+        ensures { IfOk result (λ copy. copy ≡ self.now) }
+    {
+        let bytes = Vec::from_slice(alloc, &self.bytes)?;
+        Ok(Text { bytes })
     }
 
     /// Gives the bytes back.

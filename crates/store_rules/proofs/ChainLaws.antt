@@ -1,7 +1,9 @@
 -- Laws of walks and chains.
-use Rattle.std.proofs.Common.{◌≡◌, ◌≢◌, ◌⊎◌, ℕ, suc, ◌≤◌, List, [], ◌∷◌, length, sym, ap, ◌∙◌, subst, inl, inr, arith, refl}
+use Rattle.std.proofs.Common.{◌≡◌, ◌≢◌, ℕ, zero, suc, ◌≤◌, List, [], ◌∷◌, length, sym, ap, ◌∙◌, subst, inl, inr, arith, refl}
 use Rattle.rec_bytes.specs.Format.{nil}
 use Rattle.store_rules.specs.Chains.{IsWalk, IsChain, In}
+use Rattle.store_rules.specs.Properties.{followed}
+use Rattle.store_rules.proofs.NumberLaws.{eq_false, eq_true}
 
 -- a chain is a walk
 pub walk_of_chain : (next prev : ℕ → ℕ) (b f : ℕ) (xs : List ℕ) → IsChain next prev b f xs → IsWalk next f xs
@@ -43,3 +45,12 @@ chain_stays next prev next' prev' b f (x ∷ xs) n p h =
 pub walk_stays : (next next' : ℕ → ℕ) (f : ℕ) (xs : List ℕ) → ((x : ℕ) → In x xs → next' x ≡ next x) → IsWalk next f xs → IsWalk next' f xs
 walk_stays next next' f [] n h = h
 walk_stays next next' f (x ∷ xs) n h = (h.0, h.1, subst (λ from. IsWalk next' from xs) (sym (n x (inl refl))) (walk_stays next next' (next x) xs (λ y i. n y (inr i)) h.2))
+
+-- the links that a walk follows lead through it, where it is no longer than what is asked
+pub followed-walk : (n : ℕ) (next : ℕ → ℕ) (from : ℕ) (xs : List ℕ) → IsWalk next from xs → length xs ≤ n → followed n next from ≡ xs
+unfolding followed
+followed-walk zero next from [] walk few = refl
+followed-walk zero next from (x ∷ xs) walk few = absurd (omega arith)
+followed-walk (suc n) next from [] walk few = rw (eq_true from nil walk) refl
+followed-walk (suc n) next from (x ∷ xs) walk few =
+    rw (eq_false from nil (λ e. walk.1 (sym walk.0 ∙ e))) (λ i. walk.0 i ∷ (ap (λ z. followed n next (next z)) walk.0 ∙ followed-walk n next (next x) xs walk.2 (omega arith)) i)

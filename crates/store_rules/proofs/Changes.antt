@@ -1,7 +1,6 @@
 -- What is read of a store's records where those of one file changed at one identifier alone.
-use Rattle.std.proofs.Common.{◌≡◌, ◌≢◌, ◌⊎◌, ℕ, ◌+◌, ◌<◌, ◌≤◌, Bool, true, false, nat_eq, not, List, sym, ap, ◌∙◌, subst, inl, inr, ⊎_elim, arith, refl}
+use Rattle.std.proofs.Common.{◌≡◌, ◌≢◌, ℕ, ◌<◌, ◌≤◌, true, false, nat_eq, not, List, sym, ap, ◌∙◌, subst, ⊎_elim, arith, refl}
 use Rattle.std.proofs.lemmas.Bool.{cases_lt}
-use Rattle.rec_bytes.specs.declared.record.Rec.{Rec}
 use Rattle.rec_bytes.specs.declared.key.Key.{Key}
 use Rattle.rec_bytes.specs.declared.meta.Meta.{Meta}
 use Rattle.rec_bytes.specs.declared.shape.Shape.{Shape}
@@ -11,13 +10,13 @@ use Rattle.rec_bytes.specs.Meta.{IsMetaInRange}
 use Rattle.rec_bytes.specs.Record.{field}
 use Rattle.rec_bytes.specs.RecordFiles.{is_meta_file, meta_key_of, room_of}
 use Rattle.rec_bytes.specs.Shape.{shape_of_record}
-use Rattle.rec_bytes.specs.Space.{meta_in}
 use Rattle.store_rules.specs.Chains.{IsChain, next_in, prev_in}
+use Rattle.store_rules.specs.Properties.{property_records}
 use Rattle.store_rules.specs.Ranges.{AreInRange, Fits, is_reused}
 use Rattle.store_rules.specs.Rules.{AreAllLive, Head, IsListed, IsSplit, first_of}
 use Rattle.store_rules.specs.Views.{Records, high, is_live, key_in, kind_at, rec_at}
 use Rattle.store_rules.proofs.ChainLaws.{chain_stays}
-use Rattle.store_rules.proofs.Frames.{IsSame, split_same}
+use Rattle.store_rules.proofs.Frames.{IsSame, records_same, split_same}
 use Rattle.rec_bytes.proofs.RecordFiles.{is_meta_file-not_meta}
 use Rattle.store_rules.proofs.MetaLaws.{meta_of_reused, not_meta_key}
 use Rattle.store_rules.proofs.NumberLaws.{nat_cases}
@@ -42,6 +41,10 @@ module _ (s t : Records) (file id : ℕ) (change : IsChanged s t file id) where
 
   pub file_same : (f : ℕ) → is_meta_file f ≡ true → f ≢ file → rec_at t f ≡ rec_at s f
   file_same f is ne = λ i x. (same_file f is ne).each x i
+
+  -- properties and blocks, where the file is neither's
+  pub records_stay : file ≢ format.properties_file → file ≢ format.strings_file → property_records t ≡ property_records s
+  records_stay a b = records_same s t (same_file format.properties_file refl (λ e. a (sym e))) (same_file format.strings_file refl (λ e. b (sym e)))
 
   pub mark_same : (f : ℕ) → f ≢ file → high t f ≡ high s f
   mark_same f ne = ap (λ r. (metas.meta_of r).high) (other_meta f ne)

@@ -1,10 +1,14 @@
 -- How many numbers below a mark pass a test.
 use Rattle.std.specs.Prelude.{is_some}
-use Rattle.std.proofs.Common.{◌≡◌, ◌≢◌, ◌⊎◌, ℕ, zero, suc, ◌+◌, ◌<◌, ◌≤◌, Bool, true, false, cond, Option, None, Some, List, [], ◌∷◌, ◌++◌, length, sym, ap, ◌∙◌, subst, ⊎_elim, arith, refl}
-use Rattle.std.specs.List.{filter}
+use Rattle.std.proofs.Common.{◌≡◌, ◌≢◌, ◌⊎◌, ℕ, zero, suc, ◌+◌, ◌<◌, ◌≤◌, Bool, true, false, cond, Option, None, Some, List, [], ◌∷◌, ◌++◌, length, sym, ap, ◌∙◌, subst, inl, inr, ⊎_elim, arith, refl}
+use Rattle.std.specs.List.{filter, sum_by}
 use Rattle.std.proofs.lemmas.Bool.{cases_lt}
 use Rattle.std.proofs.lemmas.List.Elements.{filter-append}
+use Rattle.std.proofs.lemmas.List.Sums.{sum_by-append}
+use Rattle.store_rules.specs.Chains.{In}
+use Rattle.store_rules.specs.Properties.{AreOnce}
 use Rattle.store_rules.specs.Rows.{option_list, collect, if_test, ids}
+use Rattle.store_rules.proofs.OnceLaws.{in_left, in_parts, in_right, once_both}
 use Rattle.store_rules.proofs.RowLaws.{append_none, collect_with, length-with_row}
 
 length-both : {A : Type 0} (xs ys : List A) → length (xs ++ ys) ≡ length xs + length ys
@@ -117,3 +121,49 @@ length-filter E row test now (suc n) h =
     last None false k = refl
     last (Some e) true k = rw k refl
     last (Some e) false k = rw k refl
+
+-- ---- which numbers they are
+
+-- a number below the mark that passes the test is one of them
+pub in_ids : (test : ℕ → Bool) (n x : ℕ) → x < n → test x ≡ true → In x (ids test n)
+in_ids test zero x lt pass = absurd (omega arith)
+in_ids test (suc n) x lt pass = ⊎_elim
+    (λ (k : x < n). in_left x (ids test n) (option_list (if_test test n)) (in_ids test n x k pass))
+    (λ (k : n ≤ x). let e : x ≡ n = omega arith in in_right x (ids test n) (option_list (if_test test n)) (last (test n) (subst (λ z. test z ≡ true) e pass) e)) (cases_lt x n)
+  where
+    last : (b : Bool) → b ≡ true → x ≡ n → In x (option_list (cond b (Some n) None))
+    last true k e = inl e
+    last false k e = absurd cc
+
+-- and one of them is below the mark and passes the test
+pub ids_in : (test : ℕ → Bool) (n x : ℕ) → In x (ids test n) → (x < n) × (test x ≡ true)
+ids_in test zero x i = elim i [ ]
+ids_in test (suc n) x i = ⊎_elim
+    (λ k. let r = ids_in test n x k in (omega (arith, r.0), r.1))
+    (λ k. let r = last (test n) k in let e = r.0 in (omega arith, ap test e ∙ r.1)) (in_parts x (ids test n) (option_list (if_test test n)) i)
+  where
+    last : (b : Bool) → In x (option_list (cond b (Some n) None)) → (x ≡ n) × (b ≡ true)
+    last true (inl e) = (e, refl)
+    last true (inr k) = elim k [ ]
+    last false k = elim k [ ]
+
+-- none comes twice
+pub once_ids : (test : ℕ → Bool) (n : ℕ) → AreOnce (ids test n)
+once_ids test zero = tt
+once_ids test (suc n) = once_both (ids test n) (option_list (if_test test n)) (once_ids test n) (alone (test n)) (λ x i j. let low = (ids_in test n x i).0 in let e = last x (test n) j in omega arith)
+  where
+    alone : (b : Bool) → AreOnce (option_list (cond b (Some n) None))
+    alone true = ((λ i. i), tt)
+    alone false = tt
+
+    last : (x : ℕ) (b : Bool) → In x (option_list (cond b (Some n) None)) → x ≡ n
+    last x true (inl e) = e
+    last x true (inr k) = elim k [ ]
+    last x false k = elim k [ ]
+
+-- a sum over rows is one over the numbers that have them
+pub sum_by-collect : {E : Type 0} (row : ℕ → Option E) (test : ℕ → Bool) (f : E → ℕ) (g : ℕ → ℕ) (n : ℕ) → ((x : ℕ) → sum_by f (option_list (row x)) ≡ sum_by g (option_list (if_test test x)))
+    → sum_by f (collect row n) ≡ sum_by g (ids test n)
+sum_by-collect row test f g zero each = refl
+sum_by-collect row test f g (suc n) each =
+    sum_by-append f (collect row n) (option_list (row n)) ∙ (λ i. sum_by-collect row test f g n each i + each n i) ∙ sym (sum_by-append g (ids test n) (option_list (if_test test n)))

@@ -11,20 +11,22 @@ use Rattle.rec_bytes.specs.RecordFiles.{is_meta_file, meta_key_of, room_of}
 use Rattle.rec_bytes.specs.Space.{meta_in}
 use Rattle.store_rules.specs.Chains.{IsWalk}
 use Rattle.store_rules.specs.Graph.{edge_from, edge_of, graph_of, names_of, node_from}
+use Rattle.store_rules.specs.Properties.{property_records}
 use Rattle.store_rules.specs.Ranges.{AreInRange, is_reused}
 use Rattle.store_rules.specs.Rows.{collect, ids}
-use Rattle.store_rules.specs.Rules.{AllListed, AreCounted, AreNamed, AreNames, GroupHead, HaveProperties, Head, IsEnd, IsGrouped, IsInGroup, IsLinked, IsListed, IsSparseStore, IsSplit, SparseHead, StandsAt, degree_of, is_to_come, next_free, property_files, stands_in}
+use Rattle.store_rules.specs.Rules.{AllListed, AreCounted, AreNamed, AreNames, GroupHead, HasEnds, HaveProperties, Head, IsEnd, IsGrouped, IsInGroup, IsLinked, IsListed, IsSparseStore, IsSplit, PropertyFiles, SparseHead, StandsAt, degree_of, is_to_come, next_free, property_files, rel_first, stands_in}
 use Rattle.store_rules.specs.Views.{NodeRow, Records, RelRow, degree, first_link, group_at, high, is_live, key_in, kind_at, kind_in, node_at, rec_at, rel_at, rel_in, row_if, text_of}
 use Rattle.store_rules.proofs.ChainLaws.{walk_stays}
 use Rattle.store_rules.proofs.Changes as ch
 use Rattle.store_rules.proofs.Changes.{IsChanged}
 use Rattle.store_rules.proofs.Counts.{length-ids}
+use Rattle.store_rules.proofs.Frames.{HoldsNone, IsSame, files_same, owner_beside_rel, properties_bare, records_same}
 use Rattle.store_rules.proofs.MetaLaws.{meta_of_reused, not_meta_key}
 use Rattle.store_rules.proofs.NumberLaws.{nat_cases}
 use Rattle.store_rules.proofs.Relinks as re
 use Rattle.store_rules.proofs.Relinks.{IsKept, IsRelinked}
 use Rattle.store_rules.proofs.SparseStores as sp
-use Rattle.store_rules.proofs.SparseStores.{IsGoodRow, are_unused, properties_empty}
+use Rattle.store_rules.proofs.SparseStores.{IsGoodRow}
 use Rattle.store_rules.proofs.ViewLaws.{kind_by}
 
 -- Nothing changed but one relationship, links, and first links and degrees of nodes.
@@ -86,6 +88,15 @@ module _ (s t : Records) (id : ℕ) (h : IsEdgeChange s t id) where
   kind_same f x is ne = ap (λ m. kind_in m (rec_at t f x) x) (mark_same f ne)
       ∙ kind_by (high s f) (rec_at t f x) (rec_at s f x) x (field_same f x 1 format.kind is ne (omega arith) ((λ _. (inl (omega arith), inl (omega arith))), λ _. inl (omega arith)))
 
+  same_file : (f : ℕ) → is_meta_file f ≡ true → f ≢ format.nodes_file → f ≢ format.relationships_file → IsSame s t f
+  same_file f is a b = record { meta = ap metas.meta_of (meta_same f b); each = λ x. record_same f x is a b }
+
+  pub files_stay : property_records t ≡ property_records s
+  files_stay = records_same s t (same_file format.properties_file refl (λ e. omega arith) (λ e. omega arith)) (same_file format.strings_file refl (λ e. omega arith) (λ e. omega arith))
+
+  pub properties_stay : property_files t ≡ property_files s
+  properties_stay = files_same s t (same_file format.properties_file refl (λ e. omega arith) (λ e. omega arith)) (same_file format.strings_file refl (λ e. omega arith) (λ e. omega arith))
+
   live_same : (f : ℕ) → is_meta_file f ≡ true → f ≢ format.relationships_file → is_live t f ≡ is_live s f
   live_same f is ne = λ i x. not (nat_eq (kind_same f x is ne i) 0)
 
@@ -119,13 +130,13 @@ module _ (s t : Records) (id : ℕ) (h : IsEdgeChange s t id) where
   names_stay = λ i. collect (λ x. Some (text_of (name_file i x))) (name_mark i)
 
   pub nodes_stay : (graph_of t).nodes ≡ (graph_of s).nodes
-  nodes_stay = λ i. collect (λ x. node_from (name_file i) (nodes_same i x)) (mark_same format.nodes_file (λ e. omega arith) i)
+  nodes_stay = λ i. collect (λ x. node_from (name_file i) (files_stay i) (nodes_same i x)) (mark_same format.nodes_file (λ e. omega arith) i)
 
-  pub edge_now : (x : ℕ) → edge_of t x ≡ edge_from (rec_at s format.names_file) (rel_at t x)
-  edge_now x = ap (λ f. edge_from f (rel_at t x)) name_file
+  pub edge_now : (x : ℕ) → edge_of t x ≡ edge_from (rec_at s format.names_file) (property_records s) (rel_at t x)
+  edge_now x = λ i. edge_from (name_file i) (files_stay i) (rel_at t x)
 
   pub edge_other : (x : ℕ) → x ≢ id → edge_of t x ≡ edge_of s x
-  edge_other x ne = edge_now x ∙ ap (edge_from (rec_at s format.names_file)) (h.rels x ne)
+  edge_other x ne = edge_now x ∙ ap (edge_from (rec_at s format.names_file) (property_records s)) (h.rels x ne)
 
 -- ---- the rules
 
@@ -135,13 +146,15 @@ pub record Stands (rels : ℕ → Option RelRow) (h : Head) (x : ℕ) : Type 0 w
   pub live : rels x ≡ Some row
   pub end : IsEnd h.key.id row
 
--- What of the new store has to be shown: its ranges, the free list of relationships, the new row, the chains and the degrees.
+-- What of the new store has to be shown: its ranges, the free list of relationships, the new row, the chains and the degrees. A row that goes
+-- has no property.
 pub record IsEdgeStore (s t : Records) (shape : Shape) (id : ℕ) : Type 0 where
   pub change : IsEdgeChange s t id
   pub room : room_of shape format.relationships_file ≤ format.most_ids
   pub ranges : AreInRange t shape
   pub free : List ℕ
   pub split : IsSplit t format.relationships_file (is_live t format.relationships_file) free
+  pub was : (row : RelRow) → rel_at s id ≡ Some row → row.property ≡ format.nil
   pub row : (row : RelRow) → rel_at t id ≡ Some row → IsGoodRow s row
   pub listed : AllListed t (SparseHead (kind_at s format.nodes_file)) (Stands (rel_at t))
   pub counted : (n : ℕ) → kind_at s format.nodes_file n ≢ format.free_kind → degree t n ≡ degree_of (rel_at t) (high t format.relationships_file) n
@@ -150,11 +163,10 @@ module _ (s t : Records) (shape : Shape) (id : ℕ) (store : IsSparseStore s sha
   kinds : (n : ℕ) → kind_at t format.nodes_file n ≡ kind_at s format.nodes_file n
   kinds n = kind_same s t id now.change format.nodes_file n refl (λ e. omega arith)
 
-  old_good : (x : ℕ) (row : RelRow) → rel_at s x ≡ Some row → IsGoodRow s row
-  old_good x row e = record { ends = store.keeps.linked.ends x row e; named = store.keeps.named.rels_named x row e; bare = sp.rel_bare s shape store x row e }
-
-  good : (x : ℕ) (row : RelRow) → rel_at t x ≡ Some row → IsGoodRow s row
-  good x row e = ⊎_elim (λ (k : x ≡ id). now.row row (ap (rel_at t) (sym k) ∙ e)) (λ (ne : x ≢ id). old_good x row (sym (now.change.rels x ne) ∙ e)) (nat_cases x id)
+  good : (x : ℕ) (row : RelRow) → rel_at t x ≡ Some row → HasEnds (kind_at s format.nodes_file) row × (row.label < high s format.names_file)
+  good x row e = ⊎_elim
+      (λ (k : x ≡ id). let r = now.row row (ap (rel_at t) (sym k) ∙ e) in (r.ends, r.named))
+      (λ (ne : x ≢ id). let old = sym (now.change.rels x ne) ∙ e in (store.keeps.linked.ends x row old, store.keeps.named.rels_named x row old)) (nat_cases x id)
 
   come_is : (f : ℕ) → is_to_come f ≡ true → f ≢ format.relationships_file
   come_is f come e = true≢false (sym come ∙ ap is_to_come e)
@@ -183,7 +195,7 @@ module _ (s t : Records) (shape : Shape) (id : ℕ) (store : IsSparseStore s sha
 
   linked : IsLinked t (kind_at t format.nodes_file) (rel_at t) (group_at t)
   linked = record {
-    ends = λ x row e. let k = (good x row e).ends in record { from = λ q. k.from (sym (kinds row.from) ∙ q); to = λ q. k.to (sym (kinds row.to) ∙ q) };
+    ends = λ x row e. let k = (good x row e).0 in record { from = λ q. k.from (sym (kinds row.from) ∙ q); to = λ q. k.to (sym (kinds row.to) ∙ q) };
     typed = λ x n row e at d. absurd (store.sparse n (sym (kinds n) ∙ d));
     listed = record {
       each = λ h n o. ⊎_elim
@@ -199,13 +211,20 @@ module _ (s t : Records) (shape : Shape) (id : ℕ) (store : IsSparseStore s sha
   }
 
   properties : HaveProperties (property_files t) (node_at t) (rel_at t) (high t format.names_file)
-  properties = properties_empty (property_files t) (node_at t) (rel_at t) (high t format.names_file) (are_unused t alone)
-      (λ x row e. sp.node_bare s shape store x row (ap (λ (f : ℕ → Option NodeRow). f x) (sym (nodes_same s t id now.change)) ∙ e)) (λ x row e. (good x row e).bare)
+  properties = subst (λ (f : PropertyFiles). HaveProperties f (node_at t) (rel_at t) (high t format.names_file)) (sym (properties_stay s t id now.change))
+      (subst (λ (n : ℕ → Option NodeRow). HaveProperties (property_files s) n (rel_at t) (high t format.names_file)) (sym (nodes_same s t id now.change))
+      (subst (HaveProperties (property_files s) (node_at s) (rel_at t)) (sym (name_mark s t id now.change))
+      (properties_bare (property_files s) (node_at s) (node_at s) (rel_at s) (rel_at t) (high s format.names_file) format.relationships_file id
+      (none_held (rel_at s id) now.was) (none_held (rel_at t id) (λ row e. (now.row row e).bare)) (owner_beside_rel (node_at s) (rel_at s) (rel_at t) id now.change.rels) store.keeps.properties)))
+    where
+      none_held : (o : Option RelRow) → ((row : RelRow) → o ≡ Some row → row.property ≡ format.nil) → HoldsNone (rel_first o)
+      none_held None h = λ first e. absurd cc
+      none_held (Some row) h = λ first e. let p : row.property ≡ first = cc in sym p ∙ h row refl
 
   named : AreNamed (node_at t) (rel_at t) (high t format.names_file)
   named = subst (AreNamed (node_at t) (rel_at t)) (sym (name_mark s t id now.change)) (record {
     nodes_named = λ x row e. store.keeps.named.nodes_named x row (ap (λ (f : ℕ → Option NodeRow). f x) (sym (nodes_same s t id now.change)) ∙ e);
-    rels_named = λ x row e. (good x row e).named;
+    rels_named = λ x row e. (good x row e).1;
   })
 
   names : AreNames (rec_at t format.names_file) (high t format.names_file)

@@ -1,11 +1,12 @@
 -- A relationship that goes from between sparse nodes keeps the rules, and is one edge less of the graph.
 use Rattle.std.specs.List.{list_any}
-use Rattle.std.proofs.Common.{◌≡◌, ◌≢◌, ℕ, ◌+◌, ◌<◌, ◌≤◌, nat_eq, true, false, None, Some, length, sym, ap, ◌∙◌, inl, ⊎_elim, arith, refl}
+use Rattle.std.proofs.Common.{◌≡◌, ◌≢◌, ℕ, ◌+◌, ◌<◌, ◌≤◌, nat_eq, true, false, None, Some, length, sym, ap, ◌∙◌, subst, inl, ⊎_elim, arith, refl}
 use Rattle.plain_graph.specs.Graph.{edge_number, without_row}
 use Rattle.rec_bytes.specs.declared.shape.Shape.{Shape}
 use Rattle.rec_bytes.specs.Format as format
 use Rattle.rec_bytes.specs.RecordFiles.{room_of}
 use Rattle.store_rules.specs.Graph.{edge_from, edge_of, graph_of, names_of}
+use Rattle.store_rules.specs.Properties.{properties_from, property_records}
 use Rattle.store_rules.specs.Rows.{collect}
 use Rattle.store_rules.specs.Rules.{AllListed, IsEnd, IsSparseStore, SparseHead, degree_of, stands_in}
 use Rattle.store_rules.specs.Views.{Records, RelRow, degree, high, is_at, kind_at, rec_at, rel_at, rel_in, text_of}
@@ -22,11 +23,12 @@ use Rattle.store_rules.proofs.Relinks.{IsRelinked}
 use Rattle.store_rules.proofs.RowLaws.{collect_without, there_collect}
 use Rattle.store_rules.proofs.ViewLaws.{kind_below, some_row}
 
--- Links and degrees were set, and then the record of a relationship between sparse nodes was given back.
+-- Links and degrees were set, and then the record of a relationship between sparse nodes, which has no properties, was given back.
 pub record IsEdgeGone (s u t : Records) (shape : Shape) (id : ℕ) (row : RelRow) : Type 0 where
   pub links : IsRelinked s u
   pub gone : IsGone u t shape format.relationships_file id
   pub live : rel_at s id ≡ Some row
+  pub bare : row.property ≡ format.nil
   pub room : room_of shape format.relationships_file ≤ format.most_ids
   pub listed : AllListed t (SparseHead (kind_at s format.nodes_file)) (Stands (rel_at t))
   pub less : (n : ℕ) → IsEnd n row → degree t n + 1 ≡ degree s n
@@ -73,10 +75,14 @@ module _ (s u t : Records) (shape : Shape) (id : ℕ) (row : RelRow) (edge : IsE
     ranges = ch.in_range u t format.relationships_file id edge.gone.change shape edge.gone.meta (λ _. edge.gone.fits) (re.range_stays s u edge.links shape store.keeps.ranges);
     free = edge.gone.free;
     split = edge.gone.split;
+    was = λ a e. subst (λ (r : RelRow). r.property ≡ format.nil) (inner row a (sym edge.live ∙ e)) edge.bare;
     row = λ a e. absurd (let z : None ≡ Some a = sym rel_gone ∙ e in cc);
     listed = edge.listed;
     counted = counted;
   }
+    where
+      inner : (a b : RelRow) → Some a ≡ Some b → a ≡ b
+      inner a b e = cc
 
   pub gone_store : IsSparseStore t shape
   gone_store = edge_store s t shape id store now
@@ -90,8 +96,14 @@ module _ (s u t : Records) (shape : Shape) (id : ℕ) (row : RelRow) (edge : IsE
 
   pub gone_there : list_any (λ e. nat_eq (edge_number e) id) (graph_of s).edges ≡ true
   gone_there = there_collect edge_number (edge_of s) (high s format.relationships_file) id
-      (record { id = row.id; label = text_of (rec_at s format.names_file row.label); from = row.from; to = row.to }) (ap (λ (r : RelRow). r.id) (sym row_is.1)) (ap (edge_from (rec_at s format.names_file)) edge.live) id_low
+      (record {
+        id = row.id;
+        label = text_of (rec_at s format.names_file row.label);
+        from = row.from;
+        to = row.to;
+        properties = properties_from (rec_at s format.names_file) (property_records s) row.property;
+      }) (ap (λ (r : RelRow). r.id) (sym row_is.1)) (ap (edge_from (rec_at s format.names_file) (property_records s)) edge.live) id_low
 
   pub gone_edges : (graph_of t).edges ≡ without_row edge_number id (graph_of s).edges
   gone_edges = ap (collect (edge_of t)) mark ∙ collect_without edge_number (edge_of s) (edge_of t) (high s format.relationships_file) id (edges_numbered s)
-      (ec.edge_now s t id change id ∙ ap (edge_from (rec_at s format.names_file)) rel_gone) (λ x _ ne. ec.edge_other s t id change x ne) id_low
+      (ec.edge_now s t id change id ∙ ap (edge_from (rec_at s format.names_file) (property_records s)) rel_gone) (λ x _ ne. ec.edge_other s t id change x ne) id_low

@@ -1,13 +1,15 @@
 -- A relationship made between sparse nodes keeps the rules, and is one more edge of the graph.
 use Rattle.std.specs.List.{list_any}
 use Rattle.std.proofs.Common.{◌≡◌, ◌≢◌, ◌⊎◌, ℕ, suc, ◌+◌, ◌<◌, ◌≤◌, nat_eq, Bool, true, false, cond, ◌||◌, None, Some, length, sym, ap, ◌∙◌, subst, inl, inr, ⊎_elim, arith, refl}
-use Rattle.plain_graph.specs.Graph.{edge_number, with_row}
+use Rattle.plain_graph.specs.Graph.{Edge, edge_number, with_row}
+use Rattle.plain_graph.specs.Properties.{Properties, no_properties}
 use Rattle.rec_bytes.specs.declared.record.Rec.{Rec}
 use Rattle.rec_bytes.specs.declared.shape.Shape.{Shape}
 use Rattle.rec_bytes.specs.Format as format
 use Rattle.rec_bytes.specs.Record.{field}
 use Rattle.rec_bytes.specs.RecordFiles.{room_of}
 use Rattle.store_rules.specs.Graph.{edge_from, edge_of, graph_of, names_of}
+use Rattle.store_rules.specs.Properties.{properties_from, property_records}
 use Rattle.store_rules.specs.Ranges.{Fits}
 use Rattle.store_rules.specs.Rows.{ids, if_test}
 use Rattle.store_rules.specs.Rules.{AllListed, IsEnd, IsSparseStore, SparseHead, degree_of, stands_in}
@@ -19,6 +21,7 @@ use Rattle.store_rules.proofs.EdgeChange.{IsEdgeChange, IsEdgeStore, Stands, edg
 use Rattle.store_rules.proofs.GraphRows.{edges_numbered}
 use Rattle.store_rules.proofs.Made.{IsMade}
 use Rattle.store_rules.proofs.NumberLaws.{eq_false, eq_true, nat_cases}
+use Rattle.store_rules.proofs.PropertyLists.{properties_from-nil}
 use Rattle.store_rules.proofs.Relinks as re
 use Rattle.store_rules.proofs.Relinks.{IsRelinked}
 use Rattle.store_rules.proofs.RowLaws.{append_none, collect_same, fresh_collect, rows_with}
@@ -120,6 +123,7 @@ module _ (s m t : Records) (shape : Shape) (id : ℕ) (rec : Rec) (row : RelRow)
         (ch.in_range s m format.relationships_file id edge.made.change shape edge.made.meta (λ _. subst (Fits (high m) format.relationships_file) (sym edge.made.here) edge.fits) store.keeps.ranges);
     free = edge.made.free;
     split = re.split_stays m t edge.links format.relationships_file edge.made.free edge.made.split;
+    was = λ a e. absurd (let z : None ≡ Some a = sym rel_old ∙ e in cc);
     row = λ a e. subst (IsGoodRow s) (same_row a e) edge.good;
     listed = edge.listed;
     counted = counted;
@@ -136,7 +140,7 @@ module _ (s m t : Records) (shape : Shape) (id : ℕ) (rec : Rec) (row : RelRow)
   made_names = ec.names_stay s t id change
 
   none_before : edge_of s id ≡ None
-  none_before = ap (edge_from (rec_at s format.names_file)) rel_old
+  none_before = ap (edge_from (rec_at s format.names_file) (property_records s)) rel_old
 
   pub made_fresh : list_any (λ e. nat_eq (edge_number e) id) (graph_of s).edges ≡ false
   made_fresh = fresh_collect edge_number (edge_of s) (high s format.relationships_file) id (edges_numbered s) none_before
@@ -144,8 +148,13 @@ module _ (s m t : Records) (shape : Shape) (id : ℕ) (rec : Rec) (row : RelRow)
   number_is : row.id ≡ id
   number_is = ap (λ (r : RelRow). r.id) (sym edge.is)
 
-  pub made_edges : (graph_of t).edges ≡ with_row edge_number (record { id = id; label = text_of (rec_at s format.names_file row.label); from = row.from; to = row.to }) (graph_of s).edges
-  made_edges = rows_with edge_number (edge_of s) (edge_of t) (high s format.relationships_file) (high t format.relationships_file) id
-      (record { id = id; label = text_of (rec_at s format.names_file row.label); from = row.from; to = row.to }) (edges_numbered s) refl none_before
-      (ec.edge_now s t id change id ∙ ap (edge_from (rec_at s format.names_file)) rel_new ∙ ap (λ n. Some (record { id = n; label = text_of (rec_at s format.names_file row.label); from = row.from; to = row.to })) number_is)
+  abbrev new_edge : ℕ → Properties → Edge
+  new_edge n properties = record { id = n; label = text_of (rec_at s format.names_file row.label); from = row.from; to = row.to; properties = properties }
+
+  pub made_edges : (graph_of t).edges ≡ with_row edge_number (record { id = id; label = text_of (rec_at s format.names_file row.label); from = row.from; to = row.to; properties = no_properties }) (graph_of s).edges
+  made_edges = rows_with edge_number (edge_of s) (edge_of t) (high s format.relationships_file) (high t format.relationships_file) id (new_edge id no_properties) (edges_numbered s) refl none_before
+      (ec.edge_now s t id change id ∙ ap (edge_from (rec_at s format.names_file) (property_records s)) rel_new
+      ∙ ap (λ n. Some (new_edge n (properties_from (rec_at s format.names_file) (property_records s) row.property))) number_is
+      ∙ ap (λ p. Some (new_edge id (properties_from (rec_at s format.names_file) (property_records s) p))) edge.good.bare
+      ∙ ap (λ p. Some (new_edge id p)) (properties_from-nil (rec_at s format.names_file) (property_records s)))
       (ec.edge_other s t id change) below way

@@ -1,14 +1,15 @@
 -- What each rule keeps where what it reads is as it was.
-use Rattle.std.proofs.Common.{◌≡◌, ◌≢◌, ◌⊎◌, ℕ, ◌<◌, ◌≤◌, nat_eq, Bool, true, false, not, cond, ◌&&◌, Option, None, Some, List, [], ◌∷◌, length, sym, ap, ◌∙◌, subst, inl, inr, ⊎_elim, arith, refl}
+use Rattle.std.proofs.Common.{◌≡◌, ◌≢◌, ◌⊎◌, ℕ, ◌<◌, nat_eq, Bool, not, cond, ◌&&◌, Option, Some, List, [], ◌∷◌, length, sym, ap, ◌∙◌, subst, inl, inr, ⊎_elim, arith, refl}
 use Rattle.rec_bytes.specs.declared.record.Rec.{Rec}
 use Rattle.rec_bytes.specs.declared.meta.Meta.{Meta}
 use Rattle.rec_bytes.specs.Format as format
 use Rattle.rec_bytes.specs.Record.{field}
 use Rattle.rec_bytes.specs.Space.{meta_in}
 use Rattle.store_rules.specs.Chains.{IsWalk, In}
+use Rattle.store_rules.specs.Properties.{property_records}
 use Rattle.store_rules.specs.Rows.{ids}
 use Rattle.store_rules.specs.Views.{GroupRow, NodeRow, Records, RelRow, high, is_live, kind_at, kind_in, rec_at}
-use Rattle.store_rules.specs.Rules.{AreHeld, HasGroups, HaveKeys, HaveProperties, IsGrouped, IsSplit, PropertyFiles, next_free, node_first, property_owner}
+use Rattle.store_rules.specs.Rules.{AreHeld, HasGroups, HaveKeys, HaveProperties, IsGrouped, IsSplit, PropertyFiles, next_free, node_first, property_files, property_owner, rel_first}
 use Rattle.store_rules.proofs.ChainLaws.{walk_stays}
 use Rattle.store_rules.proofs.NumberLaws.{nat_cases, eq_true, eq_false}
 
@@ -22,6 +23,20 @@ kind_same s t f h x = ap (λ (m : Meta). kind_in m.high (rec_at t f x) x) h.meta
 
 pub live_same : (s t : Records) (f : ℕ) → IsSame s t f → is_live t f ≡ is_live s f
 live_same s t f h = λ i x. not (nat_eq (kind_same s t f h x i) 0)
+
+-- what the fifth rule and the graph read of the files of properties and of blocks
+module _ (s t : Records) (properties : IsSame s t format.properties_file) (strings : IsSame s t format.strings_file) where
+  pub files_same : property_files t ≡ property_files s
+  files_same = λ i. record {
+    kind = λ x. kind_same s t format.properties_file properties x i;
+    property = λ x. properties.each x i;
+    string = λ x. strings.each x i;
+    property_live = live_same s t format.properties_file properties i;
+    string_live = live_same s t format.strings_file strings i;
+  }
+
+  pub records_same : property_records t ≡ property_records s
+  records_same = λ i. record { properties = λ x. properties.each x i; strings = λ x. strings.each x i }
 
 pub split_same : (s t : Records) (f : ℕ) (free : List ℕ) → IsSame s t f → IsSplit s f (is_live s f) free → IsSplit t f (is_live t f) free
 split_same s t f free h k = subst (λ l. IsSplit t f l free) (sym (live_same s t f h)) (record {
@@ -57,21 +72,25 @@ module _ (lists : ℕ → ℕ → List ℕ) (file id : ℕ) where
 pub pair_cases : {P : Type 0} (file id f x : ℕ) → (f ≡ file → x ≡ id → P) → ((f ≡ file → x ≢ id) → P) → P
 pair_cases file id f x same other = ⊎_elim (λ (p : f ≡ file). ⊎_elim (λ (q : x ≡ id). same p q) (λ (q : x ≢ id). other (λ _. q)) (nat_cases x id)) (λ (p : f ≢ file). other (λ e. absurd (p e))) (nat_cases f file)
 
-inner : (a b : ℕ) → Some a ≡ Some b → a ≡ b
-inner a b e = cc
+-- an owner that isn't there, or has none
+abbrev pub HoldsNone : Option ℕ → Type 0
+HoldsNone owner = (first : ℕ) → owner ≡ Some first → first ≡ format.nil
 
--- one more owner, that holds nothing
-pub held_more : (owner now : ℕ → ℕ → Option ℕ) (next : ℕ → ℕ) (live : ℕ → Bool) (file id : ℕ) → owner file id ≡ None → now file id ≡ Some format.nil
+-- an owner that holds nothing comes, goes or stays
+pub held_bare : (owner now : ℕ → ℕ → Option ℕ) (next : ℕ → ℕ) (live : ℕ → Bool) (file id : ℕ) → HoldsNone (owner file id) → HoldsNone (now file id)
     → ((f x : ℕ) → (f ≡ file → x ≢ id) → now f x ≡ owner f x) → AreHeld owner next live → AreHeld now next live
-held_more owner now next live file id none some same h = record {
+held_bare owner now next live file id was is same h = record {
   lists = with_none h.lists file id;
   walk = λ f x first e. pair_cases file id f x
-      (λ p q. let z : Some format.nil ≡ Some first = sym some ∙ ap2 p q ∙ e in rw (none_here h.lists file id f x p q) (sym (inner format.nil first z)))
+      (λ p q. rw (none_here h.lists file id f x p q) (is first (at now p q ∙ e)))
       (λ ne. rw (none_there h.lists file id f x ne) (h.walk f x first (sym (same f x ne) ∙ e)));
   only = λ f x first p e i. pair_cases file id f x
       (λ a b. absurd (subst (In p) (none_here h.lists file id f x a b) i))
       (λ ne. h.only f x first p (sym (same f x ne) ∙ e) (subst (In p) (none_there h.lists file id f x ne) i));
-  held = λ p l. let k = h.held p l in let ne = other k.0 k.1 k.2 k.3.0 in (k.0, k.1, k.2, (same k.0 k.1 ne ∙ k.3.0, subst (In p) (sym (none_there h.lists file id k.0 k.1 ne)) k.3.1));
+  held = λ p l.
+      let k = h.held p l in
+      let ne : k.0 ≡ file → k.1 ≢ id = λ a b. empty (h.lists k.0 k.1) (subst (λ z. IsWalk next z (h.lists k.0 k.1)) (was k.2 (at owner a b ∙ k.3.0)) (h.walk k.0 k.1 k.2 k.3.0)) p k.3.1 in
+      (k.0, k.1, k.2, (same k.0 k.1 ne ∙ k.3.0, subst (In p) (sym (none_there h.lists file id k.0 k.1 ne)) k.3.1));
   once = λ f x first g y second p e d i j. pair_cases file id f x
       (λ a b. absurd (subst (In p) (none_here h.lists file id f x a b) i))
       (λ ne. pair_cases file id g y
@@ -79,26 +98,8 @@ held_more owner now next live file id none some same h = record {
       (λ mo. h.once f x first g y second p (sym (same f x ne) ∙ e) (sym (same g y mo) ∙ d) (subst (In p) (none_there h.lists file id f x ne) i) (subst (In p) (none_there h.lists file id g y mo) j)));
 }
   where
-    ap2 : {f x : ℕ} → f ≡ file → x ≡ id → now file id ≡ now f x
-    ap2 p q = ap (λ z. now z id) (sym p) ∙ ap (now _) (sym q)
-
-    other : (f x first : ℕ) → owner f x ≡ Some first → f ≡ file → x ≢ id
-    other f x first e p q = absurd (let z : None ≡ Some first = sym none ∙ ap (λ z. owner z id) (sym p) ∙ ap (owner f) (sym q) ∙ e in cc)
-
--- one owner less, that held nothing
-pub held_less : (owner now : ℕ → ℕ → Option ℕ) (next : ℕ → ℕ) (live : ℕ → Bool) (file id : ℕ) → owner file id ≡ Some format.nil → now file id ≡ None
-    → ((f x : ℕ) → (f ≡ file → x ≢ id) → now f x ≡ owner f x) → AreHeld owner next live → AreHeld now next live
-held_less owner now next live file id some none same h = record {
-  lists = h.lists;
-  walk = λ f x first e. h.walk f x first (sym (same f x (other f x first e)) ∙ e);
-  only = λ f x first p e i. h.only f x first p (sym (same f x (other f x first e)) ∙ e) i;
-  held = λ p l. let k = h.held p l in
-      (k.0, k.1, k.2, (same k.0 k.1 (λ a b. empty (h.lists file id) (h.walk file id format.nil some) p (subst (λ z. In p (h.lists file z)) b (subst (λ z. In p (h.lists z k.1)) a k.3.1))) ∙ k.3.0, k.3.1));
-  once = λ f x first g y second p e d i j. h.once f x first g y second p (sym (same f x (other f x first e)) ∙ e) (sym (same g y (other g y second d)) ∙ d) i j;
-}
-  where
-    other : (f x first : ℕ) → now f x ≡ Some first → f ≡ file → x ≢ id
-    other f x first e p q = absurd (let z : None ≡ Some first = sym none ∙ ap (λ z. now z id) (sym p) ∙ ap (now f) (sym q) ∙ e in cc)
+    at : (o : ℕ → ℕ → Option ℕ) {f x : ℕ} → f ≡ file → x ≡ id → o file id ≡ o f x
+    at o p q = λ i. o (sym p i) (sym q i)
 
     empty : (xs : List ℕ) → IsWalk next format.nil xs → (p : ℕ) → In p xs → ⊥
     empty [] w p i = i
@@ -113,27 +114,29 @@ keys_stay owner now lists then property_file names way h = record {
   distinct = λ f x first p q e i j. ⊎_elim (λ (k : then f x ≡ []). absurd (subst (In p) k i)) (λ k. h.distinct f x first p q k.0 (subst (In p) k.1 i) (subst (In q) k.1 j)) (way f x first e);
 }
 
--- ---- a node that comes or goes without properties
-module _ (files : PropertyFiles) (nodes now : ℕ → Option NodeRow) (rels : ℕ → Option RelRow) (names id : ℕ) (same : (x : ℕ) → x ≢ id → now x ≡ nodes x) (h : HaveProperties files nodes rels names) where
-  owner_other : (f x : ℕ) → (f ≡ format.nodes_file → x ≢ id) → property_owner now rels f x ≡ property_owner nodes rels f x
-  owner_other f x ne = ⊎_elim (λ (e : f ≡ format.nodes_file). rw (eq_true f format.nodes_file e) (ap node_first (same x (ne e)))) (λ (k : f ≢ format.nodes_file). rw (eq_false f format.nodes_file k) refl) (nat_cases f format.nodes_file)
+-- an element without properties comes, goes or stays
+pub properties_bare : (files : PropertyFiles) (nodes nodes' : ℕ → Option NodeRow) (rels rels' : ℕ → Option RelRow) (names file id : ℕ)
+    → HoldsNone (property_owner nodes rels file id) → HoldsNone (property_owner nodes' rels' file id)
+    → ((f x : ℕ) → (f ≡ file → x ≢ id) → property_owner nodes' rels' f x ≡ property_owner nodes rels f x) → HaveProperties files nodes rels names → HaveProperties files nodes' rels' names
+unfolding held_bare
+properties_bare files nodes nodes' rels rels' names file id was is same h = record {
+  held = held_bare (property_owner nodes rels) (property_owner nodes' rels') (λ p. field 4 (files.property p) format.property_next) files.property_live file id was is same h.held;
+  keys = keys_stay (property_owner nodes rels) (property_owner nodes' rels') h.held.lists (with_none h.held.lists file id) files.property names
+      (λ f x first e. pair_cases file id f x (λ p q. inl (none_here h.held.lists file id f x p q)) (λ ne. inr (sym (same f x ne) ∙ e, none_there h.held.lists file id f x ne))) h.keys;
+  blocks = h.blocks;
+  texts = h.texts;
+}
 
-  pub properties_more : node_first (nodes id) ≡ None → node_first (now id) ≡ Some format.nil → HaveProperties files now rels names
-  unfolding held_more
-  properties_more none some = record {
-    held = held_more (property_owner nodes rels) (property_owner now rels) (λ p. field 4 (files.property p) format.property_next) files.property_live format.nodes_file id none some owner_other h.held;
-    keys = keys_stay (property_owner nodes rels) (property_owner now rels) h.held.lists (with_none h.held.lists format.nodes_file id) files.property names
-        (λ f x first e. pair_cases format.nodes_file id f x (λ p q. inl (none_here h.held.lists format.nodes_file id f x p q)) (λ ne. inr (sym (owner_other f x ne) ∙ e, none_there h.held.lists format.nodes_file id f x ne))) h.keys;
-    blocks = h.blocks;
-    texts = h.texts;
-  }
+-- the other owners stay where one node changed
+pub owner_beside_node : (nodes now : ℕ → Option NodeRow) (rels : ℕ → Option RelRow) (id : ℕ) → ((x : ℕ) → x ≢ id → now x ≡ nodes x)
+    → (f x : ℕ) → (f ≡ format.nodes_file → x ≢ id) → property_owner now rels f x ≡ property_owner nodes rels f x
+owner_beside_node nodes now rels id same f x ne = ⊎_elim
+    (λ (e : f ≡ format.nodes_file). rw (eq_true f format.nodes_file e) (ap node_first (same x (ne e))))
+    (λ (k : f ≢ format.nodes_file). rw (eq_false f format.nodes_file k) refl) (nat_cases f format.nodes_file)
 
-  pub properties_less : node_first (nodes id) ≡ Some format.nil → node_first (now id) ≡ None → HaveProperties files now rels names
-  unfolding held_less
-  properties_less some none = record {
-    held = held_less (property_owner nodes rels) (property_owner now rels) (λ p. field 4 (files.property p) format.property_next) files.property_live format.nodes_file id some none owner_other h.held;
-    keys = keys_stay (property_owner nodes rels) (property_owner now rels) h.held.lists h.held.lists files.property names
-        (λ f x first e. pair_cases format.nodes_file id f x (λ p q. absurd (let z : None ≡ Some first = sym none ∙ ap (λ z. node_first (now z)) (sym q) ∙ sym (ap (λ z. property_owner now rels z x) p) ∙ e in cc)) (λ ne. inr (sym (owner_other f x ne) ∙ e, refl))) h.keys;
-    blocks = h.blocks;
-    texts = h.texts;
-  }
+-- and where one relationship did
+pub owner_beside_rel : (nodes : ℕ → Option NodeRow) (rels now : ℕ → Option RelRow) (id : ℕ) → ((x : ℕ) → x ≢ id → now x ≡ rels x)
+    → (f x : ℕ) → (f ≡ format.relationships_file → x ≢ id) → property_owner nodes now f x ≡ property_owner nodes rels f x
+owner_beside_rel nodes rels now id same f x ne = ⊎_elim
+    (λ (e : f ≡ format.relationships_file). rw (eq_true f format.relationships_file e) (ap (λ o. cond (nat_eq f format.nodes_file) (node_first (nodes x)) (rel_first o)) (same x (ne e))))
+    (λ (k : f ≢ format.relationships_file). rw (eq_false f format.relationships_file k) refl) (nat_cases f format.relationships_file)

@@ -7,6 +7,7 @@ use Rattle.rec_bytes.specs.declared.shape.Shape.{Shape}
 use Rattle.rec_bytes.specs.Format as format
 use Rattle.rec_bytes.specs.Space.{meta_in}
 use Rattle.store_rules.specs.Graph.{edge_from, edge_of, graph_of, node_from, node_of}
+use Rattle.store_rules.specs.Properties.{properties_from, property_records}
 use Rattle.store_rules.specs.Rules.{KeepsRules, degree_of, stands_in}
 use Rattle.store_rules.specs.Views.{Records, RelRow, degree, high, is_live, kind_at, node_in, rec_at, rel_at, rel_in, text_of}
 use Rattle.store_rules.proofs.Counts.{length-collect, length-filter, row_passes}
@@ -16,14 +17,19 @@ use Rattle.store_rules.proofs.ViewLaws.{kind_below, row_none, row_some}
 
 -- ---- nodes
 
+abbrev node_made : Records → ℕ → Node
+node_made s id =
+    let row = node_in (rec_at s format.nodes_file id) id in
+    record { id = id; label = text_of (rec_at s format.names_file row.label); properties = properties_from (rec_at s format.names_file) (property_records s) row.property }
+
 -- an identifier in use is a node's
 pub node_there : (s : Records) (id : ℕ) → kind_at s format.nodes_file id ≢ format.free_kind → has_node (graph_of s) id ≡ true
-node_there s id used = there_collect node_number (node_of s) (high s format.nodes_file) id (record { id = id; label = text_of (rec_at s format.names_file (node_in (rec_at s format.nodes_file id) id).label) }) refl
-    (ap (node_from (rec_at s format.names_file)) (row_some (kind_at s format.nodes_file id) (node_in (rec_at s format.nodes_file id) id) used)) (kind_below (high s format.nodes_file) (rec_at s format.nodes_file id) id used)
+node_there s id used = there_collect node_number (node_of s) (high s format.nodes_file) id (node_made s id) refl
+    (ap (node_from (rec_at s format.names_file) (property_records s)) (row_some (kind_at s format.nodes_file id) (node_in (rec_at s format.nodes_file id) id) used)) (kind_below (high s format.nodes_file) (rec_at s format.nodes_file id) id used)
 
 -- an identifier that isn't in use is no node's
 pub no_node : (s : Records) (id : ℕ) → kind_at s format.nodes_file id ≡ format.free_kind → has_node (graph_of s) id ≡ false
-no_node s id free = fresh_collect node_number (node_of s) (high s format.nodes_file) id (nodes_numbered s) (ap (node_from (rec_at s format.names_file)) (row_none (kind_at s format.nodes_file id) (node_in (rec_at s format.nodes_file id) id) free))
+no_node s id free = fresh_collect node_number (node_of s) (high s format.nodes_file) id (nodes_numbered s) (ap (node_from (rec_at s format.names_file) (property_records s)) (row_none (kind_at s format.nodes_file id) (node_in (rec_at s format.nodes_file id) id) free))
 
 -- ---- edges
 
@@ -31,7 +37,7 @@ no_node s id free = fresh_collect node_number (node_of s) (high s format.nodes_f
 pub edges_numbered : (s : Records) (x : ℕ) (e : Edge) → edge_of s x ≡ Some e → edge_number e ≡ x
 edges_numbered s x e h = on (nat_eq (kind_at s format.relationships_file x) 0) h
   where
-    on : (b : Bool) → edge_from (rec_at s format.names_file) (cond b None (Some (rel_in (rec_at s format.relationships_file x) x))) ≡ Some e → e.id ≡ x
+    on : (b : Bool) → edge_from (rec_at s format.names_file) (property_records s) (cond b None (Some (rel_in (rec_at s format.relationships_file x) x))) ≡ Some e → e.id ≡ x
     on true h = absurd cc
     on false h = ap (λ (n : Edge). n.id) (inner _ e (sym h))
       where
@@ -43,21 +49,29 @@ pub count_edges : (s : Records) (shape : Shape) {most : ℕ} → KeepsRules s sh
 count_edges s shape keeps = (keeps.split format.relationships_file refl).1.exact
     ∙ sym (length-collect Edge (edge_of s) (is_live s format.relationships_file) (high s format.relationships_file) (λ x. on x (nat_eq (kind_at s format.relationships_file x) 0)))
   where
-    on : (x : ℕ) (b : Bool) → is_some (edge_from (rec_at s format.names_file) (cond b None (Some (rel_in (rec_at s format.relationships_file x) x)))) ≡ not b
+    on : (x : ℕ) (b : Bool) → is_some (edge_from (rec_at s format.names_file) (property_records s) (cond b None (Some (rel_in (rec_at s format.relationships_file x) x)))) ≡ not b
     on x true = refl
     on x false = refl
 
-abbrev edge_in : Records → ℕ → Edge
-edge_in s id = let row = rel_in (rec_at s format.relationships_file id) id in record { id = id; label = text_of (rec_at s format.names_file row.label); from = row.from; to = row.to }
+abbrev edge_made : Records → ℕ → Edge
+edge_made s id =
+    let row = rel_in (rec_at s format.relationships_file id) id in
+    record {
+      id = id;
+      label = text_of (rec_at s format.names_file row.label);
+      from = row.from;
+      to = row.to;
+      properties = properties_from (rec_at s format.names_file) (property_records s) row.property;
+    }
 
 -- an identifier in use is an edge's
 pub edge_there : (s : Records) (id : ℕ) → kind_at s format.relationships_file id ≢ format.free_kind → has_edge (graph_of s) id ≡ true
-edge_there s id used = there_collect edge_number (edge_of s) (high s format.relationships_file) id (edge_in s id) refl
-    (ap (edge_from (rec_at s format.names_file)) (row_some (kind_at s format.relationships_file id) (rel_in (rec_at s format.relationships_file id) id) used)) (kind_below (high s format.relationships_file) (rec_at s format.relationships_file id) id used)
+edge_there s id used = there_collect edge_number (edge_of s) (high s format.relationships_file) id (edge_made s id) refl
+    (ap (edge_from (rec_at s format.names_file) (property_records s)) (row_some (kind_at s format.relationships_file id) (rel_in (rec_at s format.relationships_file id) id) used)) (kind_below (high s format.relationships_file) (rec_at s format.relationships_file id) id used)
 
 -- an identifier that isn't in use is no edge's
 pub no_edge : (s : Records) (id : ℕ) → kind_at s format.relationships_file id ≡ format.free_kind → has_edge (graph_of s) id ≡ false
-no_edge s id free = fresh_collect edge_number (edge_of s) (high s format.relationships_file) id (edges_numbered s) (ap (edge_from (rec_at s format.names_file)) (row_none (kind_at s format.relationships_file id) (rel_in (rec_at s format.relationships_file id) id) free))
+no_edge s id free = fresh_collect edge_number (edge_of s) (high s format.relationships_file) id (edges_numbered s) (ap (edge_from (rec_at s format.names_file) (property_records s)) (row_none (kind_at s format.relationships_file id) (rel_in (rec_at s format.relationships_file id) id) free))
 
 -- ---- degrees
 
@@ -65,7 +79,7 @@ no_edge s id free = fresh_collect edge_number (edge_of s) (high s format.relatio
 pub degree_in-rows : (s : Records) (n : ℕ) → degree_in (graph_of s) n ≡ degree_of (rel_at s) (high s format.relationships_file) n
 degree_in-rows s n = length-filter Edge (edge_of s) (plain.is_at n) (λ x. stands_in n (rel_at s x)) (high s format.relationships_file) (λ x. on (rel_at s x))
   where
-    on : (o : Option RelRow) → row_passes (plain.is_at n) (edge_from (rec_at s format.names_file) o) ≡ stands_in n o
+    on : (o : Option RelRow) → row_passes (plain.is_at n) (edge_from (rec_at s format.names_file) (property_records s) o) ≡ stands_in n o
     on None = refl
     on (Some row) = refl
 

@@ -127,3 +127,13 @@ fits_link marks r at to is small low = ⊎_elim (λ (e : at ≡ 16). subst (Link
     at_28 : LinkFits marks r to 28
     at_28 = rel_as marks r 28 to (omega arith) (omega arith) small (omega arith)
         (inl (omega arith, inl (omega arith)), (inl (omega arith, inl (omega arith)), (inl (omega arith, inl (omega arith)), (inl (omega arith, inl (omega arith)), (inl (omega arith, inl (omega arith)), (inr (refl, refl, low), (inl (omega arith, inr (omega arith)), tt)))))))
+
+-- the first property of a sparse node, and of a relationship
+pub fits_node_property : (marks : ℕ → ℕ) (r : Rec) (to : ℕ) → to < 2 ^ 32 → IsLow (marks format.properties_file) to → field 1 r format.kind ≡ format.sparse → Fits marks format.nodes_file r
+    → Fits marks format.nodes_file (with_field 4 r format.node_first_property to)
+fits_node_property marks r to small low = node_as marks r format.node_first_property to (omega arith) (omega arith) small (omega arith) (inl (omega arith, inl (omega arith)), (inr (refl, refl, low), tt))
+
+pub fits_rel_property : (marks : ℕ → ℕ) (r : Rec) (to : ℕ) → to < 2 ^ 32 → IsLow (marks format.properties_file) to → field 1 r format.kind ≡ format.related → Fits marks format.relationships_file r
+    → Fits marks format.relationships_file (with_field 4 r format.relationship_first_property to)
+fits_rel_property marks r to small low = rel_as marks r format.relationship_first_property to (omega arith) (omega arith) small (omega arith)
+    (inl (omega arith, inl (omega arith)), (inl (omega arith, inl (omega arith)), (inl (omega arith, inl (omega arith)), (inl (omega arith, inl (omega arith)), (inl (omega arith, inl (omega arith)), (inl (omega arith, inl (omega arith)), (inr (refl, refl, low), tt)))))))

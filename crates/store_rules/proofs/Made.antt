@@ -1,10 +1,9 @@
 -- A record that came into use or went, and what each rule needs to know of it.
-use Rattle.std.proofs.Common.{◌≡◌, ◌≢◌, ◌⊎◌, ℕ, ◌+◌, ◌<◌, List}
+use Rattle.std.proofs.Common.{◌≡◌, ◌⊎◌, ℕ, ◌+◌, ◌<◌, List}
 use Rattle.rec_bytes.specs.declared.record.Rec.{Rec}
 use Rattle.rec_bytes.specs.declared.shape.Shape.{Shape}
 use Rattle.rec_bytes.specs.Format as format
 use Rattle.rec_bytes.specs.Meta.{IsMetaInRange}
-use Rattle.rec_bytes.specs.Record.{field}
 use Rattle.rec_bytes.specs.RecordFiles.{meta_key_of, room_of}
 use Rattle.store_rules.specs.Ranges.{Fits}
 use Rattle.store_rules.specs.Rules.{IsSplit}

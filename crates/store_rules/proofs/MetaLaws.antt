@@ -1,19 +1,14 @@
 -- What a store's meta records say after a change of one.
-use Rattle.std.specs.Prelude.{replicate}
-use Rattle.std.proofs.Common.{◌≡◌, ◌≢◌, ◌⊎◌, ⊎_elim, subst, ℕ, ◌+◌, ◌<◌, ◌≤◌, ◌^◌, ◌*◌, Bool, true, false, ◌||◌, ◌&&◌, cond, nat_eq, List, [], ◌∷◌, ◌++◌, length, take, drop, sym, ap, ◌∙◌, arith, refl}
-use Rattle.std.specs.List.{list_any, list_all}
-use Rattle.std.proofs.lemmas.Bool.{true≢false}
-use Rattle.std.proofs.lemmas.Bool.Decides.{nat_tests}
+use Rattle.std.proofs.Common.{◌≡◌, ◌≢◌, ◌⊎◌, ⊎_elim, subst, ℕ, ◌<◌, ◌≤◌, ◌^◌, true, false, cond, nat_eq, sym, ap, ◌∙◌, arith}
 use Rattle.rec_bytes.specs.declared.record.Rec.{Rec}
 use Rattle.rec_bytes.specs.declared.key.Key.{Key}
 use Rattle.rec_bytes.specs.declared.meta.Meta.{Meta}
 use Rattle.rec_bytes.specs.Format as format
-use Rattle.rec_bytes.specs.Key.{key_eq}
 use Rattle.rec_bytes.specs.Meta as metas
 use Rattle.rec_bytes.specs.Meta.{with_meta, meta_record, IsMetaInRange}
-use Rattle.rec_bytes.specs.Record.{field, with_field, as_64, with_bytes, zeros}
-use Rattle.rec_bytes.specs.RecordFiles.{is_meta_file, meta_files, meta_key_of}
-use Rattle.rec_bytes.specs.Space.{put, meta_in}
+use Rattle.rec_bytes.specs.Record.{zeros}
+use Rattle.rec_bytes.specs.RecordFiles.{is_meta_file, meta_key_of}
+use Rattle.rec_bytes.specs.Space.{meta_in}
 use Rattle.rec_bytes.proofs.MetaBytes.{with_meta-again}
 use Rattle.rec_bytes.proofs.Metas.{meta_reads_back}
 use Rattle.rec_bytes.proofs.Numbers.{field-lt}

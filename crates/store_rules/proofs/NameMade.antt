@@ -13,14 +13,16 @@ use Rattle.rec_bytes.specs.Record.{field}
 use Rattle.rec_bytes.specs.RecordFiles.{meta_key_of, room_of}
 use Rattle.rec_bytes.specs.Space.{meta_in}
 use Rattle.store_rules.specs.Graph.{edge_from, edge_of, graph_of, names_of, node_from, node_of}
+use Rattle.store_rules.specs.Properties.{properties_from, property_records}
 use Rattle.store_rules.specs.Ranges.{Fits}
 use Rattle.store_rules.specs.Rows.{collect}
-use Rattle.store_rules.specs.Rules.{AreNamed, AreNames, HaveProperties, Head, IsListed, IsSparseStore, KeepsRules, Owns, StandsAt, property_files}
+use Rattle.store_rules.specs.Rules.{AreNamed, AreNames, HaveProperties, Head, IsListed, IsSparseStore, KeepsRules, Owns, StandsAt, node_first, property_files, property_owner, rel_first}
 use Rattle.store_rules.specs.Views.{NodeRow, Records, RelRow, group_at, high, kind_at, node_at, node_in, rec_at, rel_at, row_if, text_of}
 use Rattle.store_rules.proofs.Changes as ch
 use Rattle.store_rules.proofs.Changes.{IsChanged}
 use Rattle.store_rules.proofs.Frames.{IsSame, kind_same}
 use Rattle.store_rules.proofs.NameRows.{contains_row, rows_same}
+use Rattle.store_rules.proofs.PropertyLists.{map_of-names, properties_from-walk}
 use Rattle.store_rules.proofs.RowLaws.{collect_same}
 use Rattle.store_rules.proofs.Untouched as un
 use Rattle.store_rules.proofs.Untouched.{head_file}
@@ -128,22 +130,43 @@ module _ (s t : Records) (shape : Shape) (rec : Rec) (text : List ℕ) (made : I
           (λ n d. subst (λ m. m ≤ most) (sym (ap (λ r. field 4 r format.node_degree) (nodes_same.each n))) (well.degrees.few n (sym (ap (λ (k : ℕ → ℕ). k n) kinds) ∙ d)));
     }
 
+    files_stay : property_records t ≡ property_records s
+    files_stay = ch.records_stay s t format.names_file count made.change (λ e. omega arith) (λ e. omega arith)
+
+    -- each key of an element's properties is a name that was there
+    same_properties : (f x first : ℕ) → property_owner (node_at s) (rel_at s) f x ≡ Some first
+        → properties_from (rec_at t format.names_file) (property_records s) first ≡ properties_from (rec_at s format.names_file) (property_records s) first
+    same_properties f x first owned =
+        let rule = well.properties in
+        let ps = rule.held.lists f x in
+        let walk = rule.held.walk f x first owned in
+        let few = rule.keys.few f x first owned in
+        properties_from-walk (rec_at t format.names_file) (property_records s) first ps walk few
+        ∙ map_of-names (rec_at s format.names_file) (rec_at t format.names_file) (property_records s) ps (λ p i. old_text _ (rule.keys.named f x first p owned i))
+        ∙ sym (properties_from-walk (rec_at s format.names_file) (property_records s) first ps walk few)
+
     node_text : (x : ℕ) → node_of t x ≡ node_of s x
-    node_text x = ap (node_from (rec_at t format.names_file)) (ap (λ (n : ℕ → Option NodeRow). n x) node_rows) ∙ on (node_at s x) (λ row e. well.named.nodes_named x row e)
+    node_text x = (λ i. node_from (rec_at t format.names_file) (files_stay i) (node_rows i x))
+        ∙ on (node_at s x) (λ row e. well.named.nodes_named x row e) (λ row e. same_properties format.nodes_file x row.property (ap node_first e))
       where
-        on : (o : Option NodeRow) → ((row : NodeRow) → o ≡ Some row → row.label < count) → node_from (rec_at t format.names_file) o ≡ node_from (rec_at s format.names_file) o
-        on None h = refl
-        on (Some row) h = ap (λ l. Some (record { id = row.id; label = l })) (old_text row.label (h row refl))
+        on : (o : Option NodeRow) → ((row : NodeRow) → o ≡ Some row → row.label < count)
+            → ((row : NodeRow) → o ≡ Some row → properties_from (rec_at t format.names_file) (property_records s) row.property ≡ properties_from (rec_at s format.names_file) (property_records s) row.property)
+            → node_from (rec_at t format.names_file) (property_records s) o ≡ node_from (rec_at s format.names_file) (property_records s) o
+        on None h k = refl
+        on (Some row) h k = λ i. Some (record { id = row.id; label = old_text row.label (h row refl) i; properties = k row refl i })
 
     pub nodes_stay : (graph_of t).nodes ≡ (graph_of s).nodes
     nodes_stay = collect_same node_number (node_of s) (node_of t) (high t format.nodes_file) (λ x _. node_text x) ∙ ap (collect (node_of s)) node_mark
 
     edge_text : (x : ℕ) → edge_of t x ≡ edge_of s x
-    edge_text x = ap (λ (r : ℕ → Option RelRow). edge_from (rec_at t format.names_file) (r x)) (un.rels_same s t format.names_file count made.change refl) ∙ on (rel_at s x) (λ row e. well.named.rels_named x row e)
+    edge_text x = (λ i. edge_from (rec_at t format.names_file) (files_stay i) (un.rels_same s t format.names_file count made.change refl i x))
+        ∙ on (rel_at s x) (λ row e. well.named.rels_named x row e) (λ row e. same_properties format.relationships_file x row.property (ap rel_first e))
       where
-        on : (o : Option RelRow) → ((row : RelRow) → o ≡ Some row → row.label < count) → edge_from (rec_at t format.names_file) o ≡ edge_from (rec_at s format.names_file) o
-        on None h = refl
-        on (Some row) h = ap (λ l. Some (record { id = row.id; label = l; from = row.from; to = row.to })) (old_text row.label (h row refl))
+        on : (o : Option RelRow) → ((row : RelRow) → o ≡ Some row → row.label < count)
+            → ((row : RelRow) → o ≡ Some row → properties_from (rec_at t format.names_file) (property_records s) row.property ≡ properties_from (rec_at s format.names_file) (property_records s) row.property)
+            → edge_from (rec_at t format.names_file) (property_records s) o ≡ edge_from (rec_at s format.names_file) (property_records s) o
+        on None h k = refl
+        on (Some row) h k = λ i. Some (record { id = row.id; label = old_text row.label (h row refl) i; from = row.from; to = row.to; properties = k row refl i })
 
     pub edges_stay : (graph_of t).edges ≡ (graph_of s).edges
     edges_stay = collect_same edge_number (edge_of s) (edge_of t) (high t format.relationships_file) (λ x _. edge_text x) ∙ ap (collect (edge_of s)) (un.rel_mark s t format.names_file count made.change refl)

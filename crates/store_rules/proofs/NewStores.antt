@@ -1,5 +1,5 @@
 -- A new store meets all rules, and its graph is empty, whatever records its own are laid over.
-use Rattle.std.proofs.Common.{◌≡◌, ℕ, ◌<◌, Bool, true, false, nat_eq, cond, ◌&&◌, Option, None, Some, [], ◌∷◌, length, sym, ap, ◌∙◌, subst, inl, inr, arith, refl}
+use Rattle.std.proofs.Common.{◌≡◌, ℕ, ◌<◌, Bool, true, false, nat_eq, cond, ◌&&◌, ◌||◌, Option, None, Some, [], ◌∷◌, length, sym, ap, ◌∙◌, subst, inl, inr, arith, refl}
 use Rattle.std.proofs.lemmas.Bool.{true≢false}
 use Rattle.plain_graph.specs.Graph.{empty_graph}
 use Rattle.rec_bytes.specs.declared.meta.Meta.{Meta}
@@ -19,7 +19,7 @@ use Rattle.rec_bytes.proofs.RecordFiles.{passes}
 use Rattle.rec_bytes.proofs.Spaces.{laid_over-at}
 use Rattle.store_rules.specs.Graph.{edge_of, graph_of, node_of}
 use Rattle.store_rules.specs.Rows.{collect, ids}
-use Rattle.store_rules.specs.Rules.{AreHeld, HaveProperties, Head, IsListed, IsSparseStore, IsSplit, KeepsRules, Owns, StandsAt, block_owner, is_to_come, node_first, property_files, property_owner, rel_first}
+use Rattle.store_rules.specs.Rules.{AreHeld, HaveProperties, Head, IsListed, IsSparseStore, IsSplit, KeepsRules, Owns, StandsAt, block_owner, node_first, property_files, property_owner, rel_first}
 use Rattle.store_rules.specs.Views.{Records, group_at, group_in, high, is_live, kind_at, node_at, node_in, rec_at, rel_at, rel_in, text_of}
 use Rattle.store_rules.proofs.MetaLaws.{meta_of_reused}
 use Rattle.store_rules.proofs.ViewLaws.{kind_high, live_false, row_none}
@@ -144,13 +144,10 @@ module _ (before : Records) (shape : Shape) where
     };
   }
 
-  meta_to_come : (file : ℕ) → is_to_come file ≡ true → is_meta_file file ≡ true
-  meta_to_come file come = passes is_meta_file (format.groups_file ∷ format.properties_file ∷ format.strings_file ∷ []) file refl come
-
   pub new_store_well : is_allowed shape ≡ true → IsSparseStore new shape
   new_store_well allowed = record {
     keeps = new_well allowed format.most_ids;
-    alone = λ file come. mark file (meta_to_come file come);
+    alone = λ file come. mark file (passes is_meta_file (format.groups_file ∷ []) file refl (ap (λ b. b || false) come));
     sparse = λ n d. let z = sym (none_used format.nodes_file n refl) ∙ d in omega arith;
   }
 

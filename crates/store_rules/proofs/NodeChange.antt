@@ -9,6 +9,7 @@ use Rattle.rec_bytes.specs.Format as format
 use Rattle.rec_bytes.specs.Record.{field}
 use Rattle.rec_bytes.specs.Space.{meta_in}
 use Rattle.store_rules.specs.Graph.{edge_from, graph_of, names_of, node_from, node_of}
+use Rattle.store_rules.specs.Properties.{property_records}
 use Rattle.store_rules.specs.Rows.{collect}
 use Rattle.store_rules.specs.Rules.{AreNames, GroupHead, Head, IsListed, KeepsRules, Owns, SparseHead, StandsAt}
 use Rattle.store_rules.specs.Views.{Records, first_link, group_at, high, is_live, kind_at, node_at, node_in, rec_at, rel_at, row_if, text_of}
@@ -22,7 +23,7 @@ use Rattle.store_rules.proofs.Untouched.{head_file}
 pub nodes_numbered : (s : Records) (x : ℕ) (e : Node) → node_of s x ≡ Some e → node_number e ≡ x
 nodes_numbered s x e h = on (nat_eq (kind_at s format.nodes_file x) 0) h
   where
-    on : (b : Bool) → node_from (rec_at s format.names_file) (cond b None (Some (node_in (rec_at s format.nodes_file x) x))) ≡ Some e → e.id ≡ x
+    on : (b : Bool) → node_from (rec_at s format.names_file) (property_records s) (cond b None (Some (node_in (rec_at s format.nodes_file x) x))) ≡ Some e → e.id ≡ x
     on true h = absurd cc
     on false h = ap (λ (n : Node). n.id) (inner _ e (sym h))
       where
@@ -33,7 +34,7 @@ nodes_numbered s x e h = on (nat_eq (kind_at s format.nodes_file x) 0) h
 pub count_nodes : (s : Records) (shape : Shape) {most : ℕ} → KeepsRules s shape most → (meta_in s format.nodes_file).live ≡ length (graph_of s).nodes
 count_nodes s shape well = (well.split format.nodes_file refl).1.exact ∙ sym (length-collect Node (node_of s) (is_live s format.nodes_file) (high s format.nodes_file) (λ x. on x (nat_eq (kind_at s format.nodes_file x) 0)))
   where
-    on : (x : ℕ) (b : Bool) → is_some (node_from (rec_at s format.names_file) (cond b None (Some (node_in (rec_at s format.nodes_file x) x)))) ≡ not b
+    on : (x : ℕ) (b : Bool) → is_some (node_from (rec_at s format.names_file) (property_records s) (cond b None (Some (node_in (rec_at s format.nodes_file x) x)))) ≡ not b
     on x true = refl
     on x false = refl
 
@@ -56,17 +57,20 @@ module _ (s t : Records) (id : ℕ) (change : IsChanged s t format.nodes_file id
   pub name_mark : high t format.names_file ≡ high s format.names_file
   name_mark = ch.mark_same s t format.nodes_file id change format.names_file (λ e. omega arith)
 
+  pub files_stay : property_records t ≡ property_records s
+  files_stay = ch.records_stay s t format.nodes_file id change (λ e. omega arith) (λ e. omega arith)
+
   pub names_stay : names_of t ≡ names_of s
   names_stay = ap (λ (f : ℕ → Rec). collect (λ x. Some (text_of (f x))) (high t format.names_file)) name_file ∙ ap (collect (λ x. Some (text_of (rec_at s format.names_file x)))) name_mark
 
   pub edges_stay : (graph_of t).edges ≡ (graph_of s).edges
-  edges_stay = λ i. collect (λ x. edge_from (name_file i) (un.rels_same s t format.nodes_file id change refl i x)) (un.rel_mark s t format.nodes_file id change refl i)
+  edges_stay = λ i. collect (λ x. edge_from (name_file i) (files_stay i) (un.rels_same s t format.nodes_file id change refl i x)) (un.rel_mark s t format.nodes_file id change refl i)
 
-  pub node_text : (x : ℕ) → node_of t x ≡ node_from (rec_at s format.names_file) (node_at t x)
-  node_text x = ap (λ f. node_from f (node_at t x)) name_file
+  pub node_text : (x : ℕ) → node_of t x ≡ node_from (rec_at s format.names_file) (property_records s) (node_at t x)
+  node_text x = λ i. node_from (name_file i) (files_stay i) (node_at t x)
 
   pub row_other : (x : ℕ) → x ≢ id → node_of t x ≡ node_of s x
-  row_other x ne = node_text x ∙ ap (node_from (rec_at s format.names_file)) (node_other x ne)
+  row_other x ne = node_text x ∙ ap (node_from (rec_at s format.names_file) (property_records s)) (node_other x ne)
 
   module _ (shape : Shape) {most : ℕ} (well : KeepsRules s shape most) where
     pub names : AreNames (rec_at t format.names_file) (high t format.names_file)

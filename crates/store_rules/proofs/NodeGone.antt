@@ -6,12 +6,13 @@ use Rattle.rec_bytes.specs.declared.shape.Shape.{Shape}
 use Rattle.rec_bytes.specs.Format as format
 use Rattle.rec_bytes.specs.Record.{field}
 use Rattle.store_rules.specs.Graph.{graph_of, node_from, node_of}
+use Rattle.store_rules.specs.Properties.{property_records}
 use Rattle.store_rules.specs.Rows.{collect, ids}
 use Rattle.store_rules.specs.Rules.{AreCounted, AreNamed, HaveProperties, Head, IsEnd, IsListed, IsSparseStore, KeepsRules, Owns, StandsAt, node_first, property_files, stands_in}
 use Rattle.store_rules.specs.Views.{GroupRow, Records, RelRow, degree, group_at, high, kind_at, node_at, node_in, rec_at, rel_at, rel_in}
 use Rattle.store_rules.proofs.Changes as ch
 use Rattle.store_rules.proofs.Counts.{ids_empty}
-use Rattle.store_rules.proofs.Frames.{properties_less}
+use Rattle.store_rules.proofs.Frames.{owner_beside_node, properties_bare}
 use Rattle.store_rules.proofs.GraphRows.{degree_in-degree}
 use Rattle.store_rules.proofs.Made.{IsGone}
 use Rattle.store_rules.proofs.NodeChange as nc
@@ -67,7 +68,12 @@ module _ (s t : Records) (shape : Shape) (id : ℕ) (lost : IsGone s t shape for
 
   properties : HaveProperties (property_files t) (node_at t) (rel_at t) (high t format.names_file)
   properties = subst (HaveProperties (property_files t) (node_at t) (rel_at t)) (sym (nc.name_mark s t id lost.change)) (un.properties s t format.nodes_file id lost.change refl (node_at t) (high s format.names_file)
-      (properties_less (property_files s) (node_at s) (node_at t) (rel_at s) (high s format.names_file) id (nc.node_other s t id lost.change) well.properties (ap node_first node_there ∙ ap (λ p. Some p) old.bare) (ap node_first node_gone)))
+      (properties_bare (property_files s) (node_at s) (node_at t) (rel_at s) (rel_at s) (high s format.names_file) format.nodes_file id
+      (λ first e. inner first old.bare (ap node_first (sym node_there) ∙ e)) (λ first e. absurd (let z : None ≡ Some first = ap node_first (sym node_gone) ∙ e in cc))
+      (owner_beside_node (node_at s) (node_at t) (rel_at s) id (nc.node_other s t id lost.change)) well.properties))
+    where
+      inner : {a : ℕ} (b : ℕ) → a ≡ format.nil → Some a ≡ Some b → b ≡ format.nil
+      inner b e q = cc
 
   named : AreNamed (node_at t) (rel_at t) (high t format.names_file)
   named = subst (λ r. AreNamed (node_at t) r (high t format.names_file)) (sym (un.rels_same s t format.nodes_file id lost.change refl)) (subst (λ m. AreNamed (node_at t) (rel_at s) m) (sym (nc.name_mark s t id lost.change)) (record {
@@ -100,7 +106,7 @@ module _ (s t : Records) (shape : Shape) (id : ℕ) (lost : IsGone s t shape for
   -- ---- the graph
   pub node_removed : (graph_of t).nodes ≡ without_row node_number id (graph_of s).nodes
   node_removed = ap (collect (node_of t)) lost.mark ∙ collect_without node_number (node_of s) (node_of t) (high s format.nodes_file) id (nc.nodes_numbered s)
-      (nc.node_text s t id lost.change id ∙ ap (node_from (rec_at s format.names_file)) node_gone)
+      (nc.node_text s t id lost.change id ∙ ap (node_from (rec_at s format.names_file) (property_records s)) node_gone)
       (λ x _ ne. nc.row_other s t id lost.change x ne) (kind_below (high s format.nodes_file) (rec_at s format.nodes_file id) id old.used)
 
   pub node_was_lone : degree_in (graph_of s) id ≡ 0

@@ -3,20 +3,23 @@ use Rattle.std.proofs.Common.{◌≡◌, ◌≢◌, ℕ, ◌<◌, nat_eq, false,
 use Rattle.std.specs.List.{list_any}
 use Rattle.std.proofs.lemmas.Bool.{true≢false}
 use Rattle.plain_graph.specs.Graph.{Node, node_number, with_row}
+use Rattle.plain_graph.specs.Properties.{Properties, no_properties}
 use Rattle.rec_bytes.specs.declared.record.Rec.{Rec}
 use Rattle.rec_bytes.specs.declared.shape.Shape.{Shape}
 use Rattle.rec_bytes.specs.Format as format
 use Rattle.rec_bytes.specs.Record.{field}
 use Rattle.store_rules.specs.Graph.{graph_of, node_from, node_of}
+use Rattle.store_rules.specs.Properties.{property_records}
 use Rattle.store_rules.specs.Ranges.{Fits}
 use Rattle.store_rules.specs.Rules.{AreCounted, AreNamed, HaveProperties, Head, IsEnd, IsListed, IsSparseStore, KeepsRules, Owns, SparseHead, GroupHead, StandsAt, degree_of, node_first, node_head, property_files, stands_in}
 use Rattle.store_rules.specs.Views.{NodeRow, Records, RelRow, degree, group_at, high, kind_at, node_at, node_in, rec_at, rel_at, row_if, text_of}
 use Rattle.store_rules.proofs.Changes as ch
 use Rattle.store_rules.proofs.Counts.{ids_none}
-use Rattle.store_rules.proofs.Frames.{properties_more}
+use Rattle.store_rules.proofs.Frames.{owner_beside_node, properties_bare}
 use Rattle.store_rules.proofs.Made.{IsMade}
 use Rattle.store_rules.proofs.NodeChange as nc
 use Rattle.store_rules.proofs.NumberLaws.{nat_cases, eq_false}
+use Rattle.store_rules.proofs.PropertyLists.{properties_from-nil}
 use Rattle.store_rules.proofs.RowLaws.{rows_with, fresh_collect}
 use Rattle.store_rules.proofs.Untouched as un
 use Rattle.store_rules.proofs.ViewLaws.{kind_low, row_none}
@@ -75,7 +78,9 @@ module _ (s t : Records) (shape : Shape) (id number : ℕ) (rec : Rec) (made : I
 
   properties : HaveProperties (property_files t) (node_at t) (rel_at t) (high t format.names_file)
   properties = subst (HaveProperties (property_files t) (node_at t) (rel_at t)) (sym (nc.name_mark s t id made.change)) (un.properties s t format.nodes_file id made.change refl (node_at t) (high s format.names_file)
-      (properties_more (property_files s) (node_at s) (node_at t) (rel_at s) (high s format.names_file) id (nc.node_other s t id made.change) well.properties (ap node_first node_old) (ap node_first node_new)))
+      (properties_bare (property_files s) (node_at s) (node_at t) (rel_at s) (rel_at s) (high s format.names_file) format.nodes_file id
+      (λ first e. absurd (let z : None ≡ Some first = ap node_first (sym node_old) ∙ e in cc)) (λ first e. let z : Some format.nil ≡ Some first = ap node_first (sym node_new) ∙ e in cc)
+      (owner_beside_node (node_at s) (node_at t) (rel_at s) id (nc.node_other s t id made.change)) well.properties))
 
   named : AreNamed (node_at t) (rel_at t) (high t format.names_file)
   named = subst (λ r. AreNamed (node_at t) r (high t format.names_file)) (sym (un.rels_same s t format.nodes_file id made.change refl)) (subst (λ m. AreNamed (node_at t) (rel_at s) m) (sym (nc.name_mark s t id made.change)) (record {
@@ -128,18 +133,19 @@ module _ (s t : Records) (shape : Shape) (id number : ℕ) (rec : Rec) (made : I
   }
 
   -- ---- the graph
-  abbrev new_node : Node
-  new_node = record { id = id; label = text_of (rec_at s format.names_file number) }
-
   none_before : node_of s id ≡ None
-  none_before = ap (node_from (rec_at s format.names_file)) node_old
+  none_before = ap (node_from (rec_at s format.names_file) (property_records s)) node_old
 
   pub node_fresh : list_any (λ e. nat_eq (node_number e) id) (graph_of s).nodes ≡ false
   node_fresh = fresh_collect node_number (node_of s) (high s format.nodes_file) id (nc.nodes_numbered s) none_before
 
-  pub node_added : (graph_of t).nodes ≡ with_row node_number (record { id = id; label = text_of (rec_at s format.names_file number) }) (graph_of s).nodes
-  node_added = rows_with node_number (node_of s) (node_of t) (high s format.nodes_file) (high t format.nodes_file) id new_node (nc.nodes_numbered s) refl none_before
-      (nc.node_text s t id made.change id ∙ ap (node_from (rec_at s format.names_file)) node_new) (nc.row_other s t id made.change) made.below made.grows
+  abbrev new_node : Properties → Node
+  new_node properties = record { id = id; label = text_of (rec_at s format.names_file number); properties = properties }
+
+  pub node_added : (graph_of t).nodes ≡ with_row node_number (record { id = id; label = text_of (rec_at s format.names_file number); properties = no_properties }) (graph_of s).nodes
+  node_added = rows_with node_number (node_of s) (node_of t) (high s format.nodes_file) (high t format.nodes_file) id (new_node no_properties) (nc.nodes_numbered s) refl none_before
+      (nc.node_text s t id made.change id ∙ ap (node_from (rec_at s format.names_file) (property_records s)) node_new ∙ ap (λ p. Some (new_node p)) (properties_from-nil (rec_at s format.names_file) (property_records s)))
+      (nc.row_other s t id made.change) made.below made.grows
 
 -- a sparse store stays one
 pub node_store : (s t : Records) (shape : Shape) (id number : ℕ) (rec : Rec) → IsMade s t shape format.nodes_file id rec → IsNewNode rec number → IsSparseStore s shape → number < high s format.names_file → IsSparseStore t shape

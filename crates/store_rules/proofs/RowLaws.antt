@@ -1,10 +1,9 @@
 -- One row more, one row less.
-use Rattle.std.proofs.Common.{◌≡◌, ◌≢◌, ◌⊎◌, ℕ, zero, suc, ◌+◌, ◌<◌, ◌≤◌, nat_lt, nat_eq, Bool, true, false, not, cond, ◌||◌, Option, None, Some, List, [], ◌∷◌, ◌++◌, length, sym, ap, ◌∙◌, subst, inl, inr, ⊎_elim, arith, refl}
+use Rattle.std.proofs.Common.{◌≡◌, ◌≢◌, ◌⊎◌, ℕ, zero, suc, ◌+◌, ◌<◌, ◌≤◌, nat_lt, nat_eq, Bool, true, false, not, cond, ◌||◌, Option, None, Some, List, [], ◌∷◌, ◌++◌, length, sym, ap, ◌∙◌, subst, ⊎_elim, arith, refl}
 use Rattle.std.specs.List.{filter, list_any}
-use Rattle.std.proofs.lemmas.Bool.{cases_lt, true≢false}
 use Rattle.std.proofs.lemmas.Bool.Decides.{nat_tests}
-use Rattle.plain_graph.specs.Graph.{with_row, without_row}
-use Rattle.store_rules.specs.Rows.{option_list, collect, if_test, ids}
+use Rattle.plain_graph.specs.Graph.{with_row}
+use Rattle.store_rules.specs.Rows.{option_list, collect}
 use Rattle.store_rules.proofs.NumberLaws.{eq_true, nat_cases, lt_true, lt_false}
 
 pub append_none : {E : Type 0} (xs : List E) → xs ++ [] ≡ xs

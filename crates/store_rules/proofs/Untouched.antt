@@ -9,7 +9,7 @@ use Rattle.store_rules.specs.Rules.{AreCounted, HaveProperties, Head, IsEnd, IsG
 use Rattle.store_rules.specs.Views.{GroupRow, NodeRow, Records, RelRow, degree, first_link, group_at, group_in, high, kind_at, rec_at, rel_at, rel_in, row_if}
 use Rattle.store_rules.proofs.Changes as ch
 use Rattle.store_rules.proofs.Changes.{IsChanged}
-use Rattle.store_rules.proofs.Frames.{IsSame, grouped_stays, kind_same, live_same}
+use Rattle.store_rules.proofs.Frames.{IsSame, files_same, grouped_stays, kind_same}
 
 -- a head stands in a record of the nodes or of the groups
 pub head_file : (kind : ℕ → ℕ) (groups : ℕ → Option GroupRow) (h : Head) (n : ℕ) → Owns kind groups h n → is_meta_file h.key.file ≡ true
@@ -41,13 +41,7 @@ module _ (s t : Records) (file id : ℕ) (change : IsChanged s t file id) (apart
   group_file_same = λ i x. (same format.groups_file refl refl).each x i
 
   pub properties_same : property_files t ≡ property_files s
-  properties_same = λ i. record {
-    kind = λ x. kind_same s t format.properties_file (same format.properties_file refl refl) x i;
-    property = λ x. (same format.properties_file refl refl).each x i;
-    string = λ x. (same format.strings_file refl refl).each x i;
-    property_live = live_same s t format.properties_file (same format.properties_file refl refl) i;
-    string_live = live_same s t format.strings_file (same format.strings_file refl refl) i;
-  }
+  properties_same = files_same s t (same format.properties_file refl refl) (same format.strings_file refl refl)
 
   pub rel_mark : high t format.relationships_file ≡ high s format.relationships_file
   rel_mark = ch.mark_same s t file id change format.relationships_file (other_file format.relationships_file refl)

@@ -1,5 +1,5 @@
 -- Laws of what is read of the records of a store.
-use Rattle.std.proofs.Common.{◌≡◌, ◌≢◌, ◌⊎◌, ℕ, ◌<◌, ◌≤◌, nat_lt, nat_eq, Bool, true, false, not, cond, ◌&&◌, ◌||◌, Option, None, Some, List, [], ◌∷◌, sym, ap, ◌∙◌, ⊎_elim, arith, refl}
+use Rattle.std.proofs.Common.{◌≡◌, ◌≢◌, ℕ, ◌<◌, ◌≤◌, nat_lt, nat_eq, Bool, true, false, not, cond, ◌&&◌, ◌||◌, None, Some, List, [], ◌∷◌, sym, ap, ◌∙◌, ⊎_elim, arith, refl}
 use Rattle.std.proofs.lemmas.Bool.{cases_lt, true≢false, or_cases}
 use Rattle.std.proofs.lemmas.Bool.Decides.{nat_tests}
 use Rattle.rec_bytes.specs.declared.record.Rec.{Rec}

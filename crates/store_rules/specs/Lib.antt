@@ -1,6 +1,9 @@
 pub mod Chains
 pub mod Graph
+pub mod Properties
+pub mod PropertyChange
 pub mod Ranges
 pub mod Rows
 pub mod Rules
 pub mod Views
+pub mod Writes

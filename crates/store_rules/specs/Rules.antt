@@ -1,6 +1,5 @@
 -- The rules of a well-formed store, over its records. Parameters stand for what holds in the middle of a change.
-use Rattle.std.specs.Prelude.{◌≡◌, ◌≢◌, ◌⊎◌, ℕ, ◌+◌, ◌-◌, ◌*◌, ◌/◌, ◌<◌, ◌≤◌, nat_eq, Bool, true, false, ◌&&◌, not, cond, Option, None, Some, List, [], ◌∷◌, length, sum, map}
-use Rattle.std.specs.List.{list_any}
+use Rattle.std.specs.Prelude.{◌≡◌, ◌≢◌, ◌⊎◌, ℕ, ◌-◌, ◌<◌, ◌≤◌, nat_eq, Bool, true, false, ◌&&◌, not, cond, Option, None, Some, List, [], ◌∷◌, length}
 use Rattle.rec_bytes.specs.declared.record.Rec.{Rec}
 use Rattle.rec_bytes.specs.declared.key.Key.{Key}
 use Rattle.rec_bytes.specs.declared.shape.Shape.{Shape}
@@ -244,11 +243,11 @@ IsWellFormed records shape = KeepsRules records shape shape.threshold
 
 -- ---- the stores of this version
 
--- groups, properties and long texts are still to come
+-- groups are still to come
 abbrev pub is_to_come : ℕ → Bool
-is_to_come file = list_any (nat_eq file) (format.groups_file ∷ format.properties_file ∷ format.strings_file ∷ [])
+is_to_come file = nat_eq file format.groups_file
 
--- A store of nodes, relationships and names, in which no other record was ever given out. Each node is sparse, whatever its degree.
+-- A store in which no group was ever given out. Each node is sparse, whatever its degree.
 pub record IsSparseStore (records : Records) (shape : Shape) : Type 0 where
   pub keeps : KeepsRules records shape format.most_ids
   pub alone : (file : ℕ) → is_to_come file ≡ true → high records file ≡ 0

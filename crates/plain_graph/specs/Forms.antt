@@ -1,0 +1,45 @@
+-- The forms that names, values and pairs have in a store.
+use Rattle.std.specs.Prelude.{◌≤◌, List, [], ◌∷◌, length}
+use Rattle.std.specs.Int.RustNames.{FitsSigned}
+use mir.Syntax.{w64}
+use Rattle.plain_graph.specs.Names.{IsShortName}
+use Rattle.plain_graph.specs.declared.command.Command.{Command}
+use Rattle.plain_graph.specs.declared.command.Command.TheVariants as commands
+use Rattle.plain_graph.specs.declared.item.Item.{Item}
+use Rattle.plain_graph.specs.declared.item.Item.TheVariants as items
+use Rattle.plain_graph.specs.declared.pairs.Pair.{Pair}
+use Rattle.plain_graph.specs.declared.value.Value.{Value}
+use Rattle.plain_graph.specs.declared.value.Value.TheVariants as values
+
+-- a value that a store may keep: a number of 64 bits, or a text of at most 1,024 bytes
+abbrev pub IsKept : Value → Type 0
+IsKept (values.Int number) = FitsSigned w64 number
+IsKept (values.Bool truth) = Unit {0}
+IsKept (values.Text text) = length text ≤ 1024
+
+-- a result that has a line: a value is one that a store may keep
+abbrev pub IsShown : Item → Type 0
+IsShown (items.Vertex id) = Unit {0}
+IsShown (items.Value value) = IsKept value
+
+-- keys are names, and values ones that a store may keep
+abbrev pub ArePairs : List Pair → Type 0
+ArePairs [] = Unit {0}
+ArePairs (pair ∷ later) = IsShortName pair.key × IsKept pair.value × ArePairs later
+
+-- labels, types and keys of the command are names, and its values ones that a store may keep
+abbrev pub HasForm : Command → Type 0
+HasForm commands.Blank = Unit {0}
+HasForm commands.Begin = Unit {0}
+HasForm commands.Commit = Unit {0}
+HasForm commands.Rollback = Unit {0}
+HasForm commands.Checkpoint = Unit {0}
+HasForm commands.Stats = Unit {0}
+HasForm commands.Reopen = Unit {0}
+HasForm commands.Quit = Unit {0}
+HasForm (commands.Node label pairs) = IsShortName label × ArePairs pairs
+HasForm (commands.Edge from label to pairs) = IsShortName label × ArePairs pairs
+HasForm (commands.Set target key value) = IsShortName key × IsKept value
+HasForm (commands.Unset target key) = IsShortName key
+HasForm (commands.Delete target) = Unit {0}
+HasForm (commands.Query query) = Unit {0}
