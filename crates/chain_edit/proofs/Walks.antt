@@ -155,12 +155,12 @@ walk_is next f (x ∷ xs) (y ∷ ys) h k =
 pub rows_of : (s : State) (first node budget : ℕ) (rows : List EdgeRow) (xs : List ℕ) → HasWalked s first node budget rows → IsWalk (next_of s.records node) first xs → rows ≡ map (edge_at s.records) xs
 rows_of s first node budget rows xs walked walk = walked.are ∙ ap (map (edge_at s.records)) (walk_is (next_of s.records node) first walked.members xs walked.sound.walk walk)
 
--- no identifier comes twice in a walk, so one below the mark is no longer than the mark
 others : (x : ℕ) (xs : List ℕ) → (In x xs → ⊥) → AllByRecursion (λ y. eqb x y ≡ false) xs
 others x [] out = tt
 others x (y ∷ ys) out = (eq_false x y (λ e. out (inl e)), others x ys (λ i. out (inr i)))
 
-distinct : (next : ℕ → ℕ) (f : ℕ) (xs : List ℕ) → IsWalk next f xs → IsDistinct eqb xs
+-- no identifier comes twice in a walk
+pub distinct : (next : ℕ → ℕ) (f : ℕ) (xs : List ℕ) → IsWalk next f xs → IsDistinct eqb xs
 unfolding IsDistinct
 distinct next f [] h = tt
 distinct next f (x ∷ xs) h = IsDistinct-cons eqb x xs (others x xs (head_once next x xs h.1 h.2)) (distinct next (next x) xs h.2)
@@ -169,6 +169,7 @@ in_any : (q : ℕ) (xs : List ℕ) → list_any (eqb q) xs ≡ true → In q xs
 in_any q [] h = absurd cc
 in_any q (y ∷ ys) h = ⊎_elim (λ (e : eqb q y ≡ true). inl (grind (arith, nat_tests))) (λ k. inr (in_any q ys k)) (or_cases (eqb q y) (list_any (eqb q) ys) h)
 
+-- so one below the mark is no longer than the mark
 pub sound_below : (s : State) (first node : ℕ) (xs : List ℕ) → IsWalk (next_of s.records node) first xs → ((x : ℕ) → In x xs → x < rel_mark s) → IsSoundWalk s first node (rel_mark s) xs
 sound_below s first node xs walk low = record {
   walk = walk;

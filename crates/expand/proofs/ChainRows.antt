@@ -1,0 +1,145 @@
+-- The rows that the chain of a node lists are a part of all rows.
+use Rattle.std.proofs.Common.{◌≡◌, ◌≢◌, ◌<◌, ◌≤◌, ℕ, nat_eq, Bool, true, false, None, Some, List, length, map, inl, inr, refl, sym, ap, ◌∙◌, subst, ⊎_elim, arith}
+use Rattle.std.specs.Cmp.{IsEquivalence}
+use Rattle.std.specs.List.{Contains, filter}
+use Rattle.std.proofs.lemmas.Bool.{and_parts, eqb-false, eqb-true, or_cases, or_left, or_right}
+use Rattle.std.proofs.lemmas.List.Folds.{Any-from_list_any, list_any-from_Any}
+use Rattle.std.proofs.lemmas.Map.Keys.{IsDistinct-from_apart, apart_from_distinct}
+use Rattle.std.proofs.lemmas.Map.Made.{length-le_from_is_member}
+use Rattle.plain_graph.specs.declared.direction.Direction.{Direction}
+use Rattle.plain_graph.specs.declared.direction.Direction.TheVariants as directions
+use Rattle.rec_bytes.specs.declared.shape.Shape.{Shape}
+use Rattle.rec_bytes.specs.Format as format
+use Rattle.rec_bytes.specs.Record.{field}
+use Rattle.store_rules.specs.Chains.{In, IsWalk}
+use Rattle.store_rules.specs.Ranges.{layout_by}
+use Rattle.store_rules.specs.Rules.{IsEnd, IsInGroup, IsListed, IsSparseStore, StandsAt, node_head}
+use Rattle.store_rules.specs.Views.{Records, RelRow, first_link, group_at, high, kind_at, rec_at, rel_at, rel_in}
+use Rattle.store_rules.proofs.ChainLaws.{walk_of_chain}
+use Rattle.store_rules.proofs.NumberLaws.{eq_false, eq_true, nat_cases}
+use Rattle.store_rules.proofs.ViewLaws.{kind_below, kind_low, row_some, some_row}
+use Rattle.rel_store.specs.declared.edge_row.EdgeRow.{EdgeRow}
+use Rattle.chain_edit.specs.Chains.{next_of}
+use Rattle.chain_edit.specs.Walking.{edge_at}
+use Rattle.chain_edit.proofs.Walks.{distinct}
+use Rattle.expand.specs.declared.matching.End.TheVariants as ends
+use Rattle.expand.specs.Expanding.{edge_row_at, rows_of}
+use Rattle.expand.specs.Matching.{IsPart, id_of, is_at, is_met, is_met_at, is_wanted}
+use Rattle.expand.proofs.Ascending.{Differs, flips, same_id}
+use Rattle.expand.proofs.Members.{ascends_collect, collect_contains, contains_collect, contains_map, filter_contains, map_contains, pairs_map}
+
+-- a node in use of a store of this version is sparse
+pub kind_sparse : (s : Records) (shape : Shape) (n : ℕ) → IsSparseStore s shape → kind_at s format.nodes_file n ≢ 0 → kind_at s format.nodes_file n ≡ format.sparse
+kind_sparse s shape n store used =
+    let r = rec_at s format.nodes_file n in
+    let lt = kind_below (high s format.nodes_file) r n used in
+    let low = kind_low (high s format.nodes_file) r n lt in
+    let fits = store.keeps.ranges.fit format.nodes_file n refl lt in
+    ⊎_elim (λ (e : field 1 r format.kind ≡ format.sparse). low ∙ e)
+    (λ (ne : field 1 r format.kind ≢ format.sparse).
+    let none = no_layout (field 1 r format.kind) (eq_false _ _ (λ e. used (low ∙ e))) (eq_false _ _ ne) (eq_false _ _ (λ e. store.sparse n (low ∙ e))) in
+    let clash : None ≡ Some fits.layout = sym none ∙ fits.is in
+    absurd cc) (nat_cases (field 1 r format.kind) format.sparse)
+  where
+    no_layout : (kind : ℕ) → nat_eq kind format.free_kind ≡ false → nat_eq kind format.sparse ≡ false → nat_eq kind format.dense ≡ false → layout_by format.nodes_file (rec_at s format.nodes_file n) kind ≡ None
+    no_layout kind free sparse dense = rw (free, sparse, dense) refl
+
+module _ (s : Records) (shape : Shape) (store : IsSparseStore s shape) (n : ℕ) (used : kind_at s format.nodes_file n ≢ 0) where
+  -- the head of the node lists what stands at it
+  pub listed : IsListed s (node_head n) n (StandsAt (rel_at s) (group_at s) (node_head n))
+  listed = store.keeps.linked.listed.each (node_head n) n (inl (record { sparse = kind_sparse s shape n store used; is = refl }))
+
+  -- the relationships of the node's chain
+  abbrev pub members : List ℕ
+  members = listed.members
+
+  -- the links of the node lead through just these
+  pub walk : IsWalk (next_of s n) (first_link s n) members
+  walk = walk_of_chain _ _ format.nil (first_link s n) listed.members listed.chain
+
+  -- each is in use, and the node is one of its ends
+  pub live : (x : ℕ) → In x members → kind_at s format.relationships_file x ≢ 0
+  live x i = let at = listed.only x i in (some_row (kind_at s format.relationships_file x) (rel_in (rec_at s format.relationships_file x) x) at.row at.live).0
+
+  -- each is below the mark
+  pub low : (x : ℕ) → In x members → x < high s format.relationships_file
+  low x i = kind_below (high s format.relationships_file) (rec_at s format.relationships_file x) x (live x i)
+
+  -- the node is an end of each, as its row says
+  pub at_node : (x : ℕ) → In x members → is_at n (edge_at s x) ≡ true
+  at_node x i =
+      let at = listed.only x i in
+      let row = (some_row (kind_at s format.relationships_file x) (rel_in (rec_at s format.relationships_file x) x) at.row at.live).1 in
+      ⊎_elim (λ (own : (format.nodes_file ≡ format.nodes_file) × IsEnd n at.row). end_at at.row row own.1)
+      (λ (other : (format.nodes_file ≡ format.groups_file) × IsInGroup (group_at s) (node_head n) at.row). absurd (let e = other.0 in omega arith)) at.on
+    where
+      end_at : (row : RelRow) → rel_in (rec_at s format.relationships_file x) x ≡ row → IsEnd n row → is_at n (edge_at s x) ≡ true
+      end_at row is (inl from) = or_left _ _ (eq_true _ _ (ap (λ (r : RelRow). r.from) is ∙ from))
+      end_at row is (inr to) = or_right _ _ (eq_true _ _ (ap (λ (r : RelRow). r.to) is ∙ to))
+
+  -- each relationship in use at the node is among them
+  pub all : (x : ℕ) → kind_at s format.relationships_file x ≢ 0 → is_at n (edge_at s x) ≡ true → In x members
+  all x some at =
+      let row = rel_in (rec_at s format.relationships_file x) x in
+      let end : IsEnd n row = ⊎_elim (λ (from : nat_eq row.from n ≡ true). inl (eqb-true row.from n from)) (λ (to : nat_eq row.to n ≡ true). inr (eqb-true row.to n to)) (or_cases (nat_eq row.from n) (nat_eq row.to n) at) in
+      listed.all x (record { row = row; live = row_some (kind_at s format.relationships_file x) row some; on = inl (refl, end) })
+
+  -- so their rows are a part of all
+  pub part : IsPart (is_at n) (map (edge_at s) members) (rows_of s)
+  part = record {
+    ascends = ascends_collect id_of (edge_row_at s) (high s format.relationships_file) (λ x row is. ap id_of (sym (some_row (kind_at s format.relationships_file x) (edge_at s x) row is).1));
+    distinct = pairs_map Differs (edge_at s) members (λ i j d lt high. eqb-false _ _ (apart_from_distinct nat_eq members i j d (distinct (next_of s n) (first_link s n) members walk) lt high));
+    only = λ row is.
+        let found = contains_map (edge_at s) members row is in
+        collect_contains (edge_row_at s) (high s format.relationships_file) found.0 row (low found.0 found.1)
+        (row_some (kind_at s format.relationships_file found.0) (edge_at s found.0) (live found.0 found.1) ∙ ap (λ (r : EdgeRow). Some r) (sym found.2));
+    all = λ row is at.
+        let found = contains_collect (edge_row_at s) (high s format.relationships_file) row is in
+        let has = some_row (kind_at s format.relationships_file found.0) (edge_at s found.0) row found.2 in
+        subst (Contains (map (edge_at s) members)) has.1 (map_contains (edge_at s) members found.0 (all found.0 has.0 (subst (λ (r : EdgeRow). is_at n r ≡ true) (sym has.1) at)));
+  }
+
+-- ---- as many as the degree
+
+-- identifiers tell rows apart as numbers do
+same_id_laws : IsEquivalence same_id
+same_id_laws = record {
+  refl = λ a. eq_true _ _ refl;
+  symm = flips;
+  congr = λ a b c same. ap (λ id. nat_eq id (id_of c)) (eqb-true _ _ same);
+}
+
+-- rows that pass a test are no more than all that do
+pub length-part : (wide test : EdgeRow → Bool) (rows edges : List EdgeRow) → IsPart wide rows edges → ((row : EdgeRow) → Contains rows row → test row ≡ true) → length rows ≤ length (filter test edges)
+length-part wide test rows edges part passes =
+    length-le_from_is_member same_id_laws rows (filter test edges) (IsDistinct-from_apart same_id rows (λ i j d lt low. eq_false _ _ (part.distinct i j d lt low))) (λ q is.
+    let found = Any-from_list_any (same_id q) rows is in
+    let member : Contains rows found.1 = (found.0, found.2, found.3) in
+    let kept = filter_contains test edges found.1 (part.only found.1 member) (passes found.1 member) in
+    list_any-from_Any (same_id q) (filter test edges) (kept.0, found.1, kept.1, kept.2, found.4))
+
+-- ---- a direction and types
+
+-- a relationship that is met in a direction is at the node
+at_met : (direction : Direction) (labels : List ℕ) (n : ℕ) (row : EdgeRow) → is_met direction labels n row ≡ true → is_at n row ≡ true
+at_met direction labels n row met = by direction met
+  where
+    leaves : is_met_at ends.Source labels n row ≡ true → is_at n row ≡ true
+    leaves is = or_left _ _ (and_parts (nat_eq row.from n) (is_wanted labels row.label) is).0
+
+    enters : is_met_at ends.Target labels n row ≡ true → is_at n row ≡ true
+    enters is = or_right _ _ (and_parts (nat_eq row.to n) (is_wanted labels row.label) is).0
+
+    by : (direction : Direction) → is_met direction labels n row ≡ true → is_at n row ≡ true
+    by directions.Outgoing is = leaves is
+    by directions.Incoming is = enters is
+    by directions.Both is = ⊎_elim leaves enters (or_cases (is_met_at ends.Source labels n row) (is_met_at ends.Target labels n row) is)
+
+-- so rows that have all at the node have all that are met
+pub part_met : (direction : Direction) (labels : List ℕ) (n : ℕ) (rows edges : List EdgeRow) → IsPart (is_at n) rows edges → IsPart (is_met direction labels n) rows edges
+part_met direction labels n rows edges part = record {
+  ascends = part.ascends;
+  distinct = part.distinct;
+  only = part.only;
+  all = λ row is met. part.all row is (at_met direction labels n row met);
+}

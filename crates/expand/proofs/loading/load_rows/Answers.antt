@@ -1,0 +1,93 @@
+use Rattle.std.proofs.Common.{◌∙◌, ap, subst, sym}
+use Rattle.std.proofs.lemmas.Result.{err_from_is_err_and}
+use Rattle.rec_bytes.specs.declared.meta.Meta.{Meta}
+use Rattle.rel_store.specs.Loading.{rel_mark}
+use Rattle.chain_edit.specs.Walking.{ReadsAtMost}
+use Rattle.expand.proofs.LoadedRows.{chain_fault, chain_sound, chain_tells, loaded_part, loaded_reads, members, none_there, one_there, room, row_fault, sound}
+use Rattle.expand.proofs.ReadCounts.{load_reads, reads_then}
+use Rattle.expand.proofs.loading.load_rows.Goals as goal
+
+pub returns-in_err-row-clause-damaged : goal.returns-in_err-row-clause-damaged
+returns-in_err-row-clause-damaged g c = λ tells.
+    let p = err_from_is_err_and c.from_residual.result c.from_residual.ensures.1 in
+    rw (p.1, p.2) (row_fault (g.R.Reads.state c.args.space.now) c.args.node c.in_err-row.field-0.0 (c.in_err-row.ensures.damaged tells))
+
+pub returns-in_err-row-clause-at_most : goal.returns-in_err-row-clause-at_most
+returns-in_err-row-clause-at_most g c =
+    let s = g.R.Reads.state c.args.space.now in
+    load_reads s (g.R.Reads.state c.load.new.space) c.args.node (rel_mark s) c.in_err-row.ensures.state
+
+pub returns-in_default-clause-missing : goal.returns-in_default-clause-missing
+returns-in_default-clause-missing g c = λ tells store. (
+  λ i. c.args.node,
+  none_there (g.R.Reads.state c.args.space.now) c.args.node (sym c.in_default.is ∙ c.in_ok-row.ensures.found tells),
+)
+
+pub returns-in_default-clause-at_most : goal.returns-in_default-clause-at_most
+returns-in_default-clause-at_most g c =
+    let s = g.R.Reads.state c.args.space.now in
+    load_reads s (g.R.Reads.state c.load.new.space) c.args.node (rel_mark s) c.in_ok-row.ensures.state
+
+pub returns-in_err-rows-clause-missing : goal.returns-in_err-rows-clause-missing
+returns-in_err-rows-clause-missing g c = λ tells store.
+    let p = err_from_is_err_and c.from_residual-in_err-rows.result c.from_residual-in_err-rows.ensures.1 in
+    rw (p.1, p.2) (chain_tells (g.R.Reads.state c.args.space.now) c.args.node c.in-Some.row (sym c.in-Some.is ∙ c.in_ok-row.ensures.found tells) c.in_err-rows.field-0.0)
+
+pub returns-in_err-rows-clause-sound : goal.returns-in_err-rows-clause-sound
+returns-in_err-rows-clause-sound g c = λ tells store.
+    let s = g.R.Reads.state c.args.space.now in
+    let mid = g.R.Reads.state c.load.new.space in
+    let row = c.in-Some.row in
+    let n = c.args.node in
+    let found = sym c.in-Some.is ∙ c.in_ok-row.ensures.found tells in
+    let loaded = c.in_ok-row.ensures.state in
+    let marked = ap (λ (meta : Meta). meta.high) c.meta-mark.ensures in
+    let p = err_from_is_err_and c.from_residual-in_err-rows.result c.from_residual-in_err-rows.ensures.1 in
+    rw (p.1, p.2) (chain_sound c.in_err-rows.field-0.0
+    (c.in_err-rows.ensures.sound tells (room s n row found mid c.meta-mark.result.high loaded marked store)
+    (members s n row found mid c.meta-mark.result.high loaded marked store) (sound s n row found mid c.meta-mark.result.high loaded marked store)))
+
+pub returns-in_err-rows-clause-damaged : goal.returns-in_err-rows-clause-damaged
+returns-in_err-rows-clause-damaged g c = λ tells.
+    let s = g.R.Reads.state c.args.space.now in
+    let found = sym c.in-Some.is ∙ c.in_ok-row.ensures.found tells in
+    let marked = ap (λ (meta : Meta). meta.high) c.meta-mark.ensures in
+    let p = err_from_is_err_and c.from_residual-in_err-rows.result c.from_residual-in_err-rows.ensures.1 in
+    rw (p.1, p.2) (chain_fault s c.args.node c.in-Some.row found (g.R.Reads.state c.load.new.space) c.meta-mark.result.high c.in_ok-row.ensures.state marked
+    c.in_err-rows.field-0.0 (c.in_err-rows.ensures.damaged tells))
+
+pub returns-in_err-rows-clause-at_most : goal.returns-in_err-rows-clause-at_most
+returns-in_err-rows-clause-at_most g c =
+    let s = g.R.Reads.state c.args.space.now in
+    let mid = g.R.Reads.state c.load.new.space in
+    let new = g.R.Reads.state c.walk.new.space in
+    let marked = ap (λ (meta : Meta). meta.high) c.meta-mark.ensures in
+    reads_then s mid new c.args.node (rel_mark s) c.in_ok-row.ensures.state (subst (λ m. ReadsAtMost m mid new) marked c.in_err-rows.ensures.at_most)
+
+pub returns-clause-part : goal.returns-clause-part
+returns-clause-part g c = λ tells store.
+    let s = g.R.Reads.state c.args.space.now in
+    let found = sym c.in-Some.is ∙ c.in_ok-row.ensures.found tells in
+    let marked = ap (λ (meta : Meta). meta.high) c.meta-mark.ensures in
+    loaded_part s c.args.node c.in-Some.row found (g.R.Reads.state c.load.new.space) c.meta-mark.result.high c.in_ok-row.ensures.state marked store
+    c.in_ok-rows.rows.items (c.in_ok-rows.ensures.rows tells)
+
+pub returns-clause-missing : goal.returns-clause-missing
+returns-clause-missing g c = λ tells store.
+    one_there (g.R.Reads.state c.args.space.now) c.args.node c.in-Some.row (sym c.in-Some.is ∙ c.in_ok-row.ensures.found tells)
+
+pub returns-clause-reads : goal.returns-clause-reads
+returns-clause-reads g c = λ tells store.
+    let s = g.R.Reads.state c.args.space.now in
+    let found = sym c.in-Some.is ∙ c.in_ok-row.ensures.found tells in
+    let marked = ap (λ (meta : Meta). meta.high) c.meta-mark.ensures in
+    loaded_reads s c.args.node c.in-Some.row found (g.R.Reads.state c.load.new.space) c.meta-mark.result.high c.in_ok-row.ensures.state marked store
+    c.in_ok-rows.rows.items (c.in_ok-rows.ensures.rows tells) (g.R.Reads.state c.walk.new.space) c.in_ok-rows.ensures.reads
+
+pub returns-clause-at_most : goal.returns-clause-at_most
+returns-clause-at_most g c =
+    let s = g.R.Reads.state c.args.space.now in
+    let mid = g.R.Reads.state c.load.new.space in
+    let new = g.R.Reads.state c.walk.new.space in
+    let marked = ap (λ (meta : Meta). meta.high) c.meta-mark.ensures in
+    reads_then s mid new c.args.node (rel_mark s) c.in_ok-row.ensures.state (subst (λ m. ReadsAtMost m mid new) marked c.in_ok-rows.ensures.at_most)

@@ -1,0 +1,80 @@
+-- What is found of the edges of a node, and what it costs.
+use Rattle.std.specs.Prelude.{◌≡◌, ◌<◌, ℕ, Bool, true, false, Option, List, Result, Ok, Err, All, Some}
+use Rattle.std.specs.List.{AllZip}
+use Rattle.plain_graph.specs.Graph.{Edge, Graph}
+use Rattle.rec_bytes.specs.declared.damage.Damage.{Damage}
+use Rattle.rec_bytes.specs.Format.{names_file, relationships_file}
+use Rattle.rec_bytes.specs.Space.{State}
+use Rattle.store_rules.specs.Graph.{graph_of}
+use Rattle.store_rules.specs.Rows.{collect}
+use Rattle.store_rules.specs.Rules.{IsSparseStore}
+use Rattle.store_rules.specs.Views.{Records, high, kind_at, rec_at, row_if, text_of}
+use Rattle.node_store.specs.declared.node_row.NodeRow.{NodeRow}
+use Rattle.node_store.specs.Loading.{IsNodeDamage, after_load, row_at}
+use Rattle.rel_store.specs.declared.edge_row.EdgeRow.{EdgeRow}
+use Rattle.rel_store.specs.Loading.{rel_mark}
+use Rattle.chain_edit.specs.Walking.{IsWalkDamage, edge_at}
+use Rattle.expand.specs.declared.expand_fault.ExpandFault.{ExpandFault}
+use Rattle.expand.specs.declared.expand_fault.ExpandFault.TheVariants.{NoNode, Memory, Disk, Damaged}
+
+-- the records are those of a well-formed store of this version, in which each node is sparse
+abbrev pub IsSparse : State → Type 0
+IsSparse s = IsSparseStore s.records s.shape
+
+-- the graph of the records
+abbrev pub graph_in : State → Graph
+graph_in s = graph_of s.records
+
+-- ---- rows and edges
+
+-- the row of a relationship in use, and none where the identifier isn't live
+abbrev pub edge_row_at : Records → ℕ → Option EdgeRow
+edge_row_at records x = row_if (kind_at records relationships_file x) (edge_at records x)
+
+-- the rows of all relationships in use, by ascending identifier
+abbrev pub rows_of : Records → List EdgeRow
+rows_of records = collect (edge_row_at records) (high records relationships_file)
+
+-- the text of a name's number
+abbrev pub name_of : Records → ℕ → List ℕ
+name_of records x = text_of (rec_at records names_file x)
+
+-- each number is a name's
+abbrev pub AreNameNumbers : Records → List ℕ → Type 0
+AreNameNumbers records labels = All (λ label. label < high records names_file) labels
+
+-- the row has the edge's numbers, and in place of its type's name the number of that name
+pub record IsRowOf (records : Records) (row : EdgeRow) (edge : Edge) : Type 0 where
+  pub id : row.id ≡ edge.id
+  pub from : row.from ≡ edge.from
+  pub to : row.to ≡ edge.to
+  pub known : row.label < high records names_file
+  pub label : name_of records row.label ≡ edge.label
+
+-- the rows are those of the edges, one for each, in this order
+abbrev pub AreRowsOf : Records → List EdgeRow → List Edge → Type 0
+AreRowsOf records rows edges = AllZip (IsRowOf records) rows edges
+
+-- ---- faults
+
+-- What an answer says of whether the node is there. A failure of the disk says nothing.
+abbrev pub TellsNode : {T : Type 0} → Result T ExpandFault → ℕ → Bool → Type 0
+TellsNode (Ok value) node there = there ≡ true
+TellsNode (Err (NoNode id)) node there = (id ≡ node) × (there ≡ false)
+TellsNode (Err Memory) node there = there ≡ true
+TellsNode (Err Disk) node there = Unit {0}
+TellsNode (Err (Damaged damage)) node there = Unit {0}
+
+-- The record that is said to be damaged breaks a rule: the one of the node, or its chain.
+pub data IsExpandDamage (s : State) (node : ℕ) : Damage → Type 0 where
+  OfNode : {damage : Damage} → IsNodeDamage s node damage → IsExpandDamage s node damage
+  OfChain : {damage : Damage} (row : NodeRow) → row_at s.records node ≡ Some row
+      → IsWalkDamage (after_load s node) row.first node (rel_mark s) damage
+      → IsExpandDamage s node damage
+
+-- what holds where a fault is given
+abbrev pub IsExpandFault : State → ℕ → ExpandFault → Type 0
+IsExpandFault s node (NoNode id) = Unit {0}
+IsExpandFault s node Memory = Unit {0}
+IsExpandFault s node Disk = Unit {0}
+IsExpandFault s node (Damaged damage) = IsExpandDamage s node damage

@@ -1,0 +1,3 @@
+pub mod ExpandFault
+pub mod Expanding
+pub mod Matching

@@ -1,0 +1,55 @@
+-- One of several blocks is given back.
+use Rattle.std.proofs.Common.{◌≡◌, ℕ, ◌+◌, true, false, List, [], ◌∷◌, map, ap, refl, subst, sym, ◌∙◌, inl, inr, ⊎_elim, arith}
+use Rattle.std.proofs.lemmas.Bool.{true≢false}
+use Rattle.rec_bytes.specs.RecordFiles.{meta_key_of}
+use Rattle.rec_bytes.specs.Space.{IsAmong, State, WritesOnly, meta_in}
+use Rattle.rec_bytes.specs.declared.key.Key.{Key}
+use Rattle.rec_bytes.specs.Key.{key_eq}
+use Rattle.rec_bytes.proofs.KeyLaws.{key_eq-other}
+use Rattle.rec_bytes.specs.declared.shape.Shape.{Shape}
+use Rattle.store_rules.specs.Chains.{In}
+use Rattle.store_rules.specs.Properties.{AreOnce}
+use Rattle.store_rules.specs.PropertyChange.{ChangesFile}
+use Rattle.store_rules.specs.Views.{Records, is_live, key_in}
+use Rattle.id_freelist.specs.Giving.{CanGive, HasGiven, given}
+use Rattle.prop_store.specs.FileChange.{IsSameBeside}
+use Rattle.prop_store.proofs.FileSteps.{IsPropertyFile, file_given, file_less, file_now, live_given}
+use Rattle.prop_store.proofs.WriteCounts.{among_map, writes_into}
+
+-- Of the blocks these are left, none twice, and so many fewer are live.
+pub record HasLeft (s t : Records) (shape : Shape) (file : ℕ) (blocks rest : List ℕ) (count : ℕ) : Type 0 where
+  pub changes : ChangesFile s t shape file blocks rest
+  pub once : AreOnce rest
+  pub fewer : (meta_in t file).live + count ≡ (meta_in s file).live
+
+pub none_given : (s : Records) (shape : Shape) (file : ℕ) (blocks : List ℕ) → AreOnce blocks → ChangesFile s s shape file blocks blocks → HasLeft s s shape file blocks blocks 0
+none_given s shape file blocks once h = record { changes = h; once = once; fewer = omega arith }
+
+pub one_given : (s : Records) (t u : State) (shape : Shape) (file : ℕ) (blocks whole rest : List ℕ) (id count more : ℕ) → IsPropertyFile file → whole ≡ id ∷ rest → more ≡ count + 1
+    → ((free : List ℕ) → CanGive t file id free → HasGiven t.records u.records file id free) → HasLeft s t.records shape file blocks whole count → HasLeft s u.records shape file blocks rest more
+one_given s t u shape file blocks whole rest id count more is e one gives left =
+    let once : AreOnce (id ∷ rest) = subst AreOnce e left.once in
+    let changes : ChangesFile s t.records shape file blocks (id ∷ rest) = subst (ChangesFile s t.records shape file blocks) e left.changes in
+    let live : is_live t.records file id ≡ true = changes.live id (inl refl) in
+    let now = file_now s t.records shape file blocks (id ∷ rest) changes [] (λ x i. elim i [ ]) in
+    let has : HasGiven t.records u.records file id now.free = gives now.free (record { list = now.split.walk; fresh = λ i. true≢false (sym live ∙ now.split.only id i) }) in
+    record {
+      changes = file_less s t.records u.records shape file blocks [] (id ∷ []) rest (λ x i. elim i [ ])
+          (λ x i. (changes.live x (inr i), λ j. ⊎_elim (λ (q : x ≡ id). once.0 (subst (λ z. In z rest) q i)) (λ (k : ⊥). k) j))
+          changes (file_given t.records u.records shape file id [] [] is now live has);
+      once = once.1;
+      fewer = let l = live_given t.records u.records shape file id [] [] is now live has in let f = left.fewer in omega arith;
+    }
+
+-- the keys that giving a block of the list back writes
+pub release_writes : (a b c : State) (file id : ℕ) (blocks : List ℕ) → In id blocks → WritesOnly a b (meta_key_of file ∷ map (key_in file) blocks) → WritesOnly b c (key_in file id ∷ meta_key_of file ∷ []) → WritesOnly a c (meta_key_of file ∷ map (key_in file) blocks)
+release_writes a b c file id blocks i first last = writes_into a b c (meta_key_of file ∷ map (key_in file) blocks) (key_in file id ∷ meta_key_of file ∷ []) first last
+    (λ q k. ⊎_elim (λ (e : q ≡ key_in file id). inr (subst (λ z. IsAmong z (map (key_in file) blocks)) (sym e) (among_map file id blocks i)))
+    (λ k. ⊎_elim (λ e. inl e) (λ (j : ⊥). absurd j) k) k)
+
+-- Nothing beside the file changed.
+pub beside_given : (s t : State) (file id : ℕ) → t ≡ given s file id → IsSameBeside file s.records t.records
+beside_given s t file id is key out other =
+    let not_meta : key_eq key (meta_key_of file) ≡ false = key_eq-other key (meta_key_of file) other in
+    let not_here : key_eq key (key_in file id) ≡ false = key_eq-other key (key_in file id) (λ e. out (ap (λ (k : Key). k.file) e)) in
+    ap (λ (z : State). z.records key) is ∙ rw (not_meta, not_here) refl

@@ -1,0 +1,70 @@
+use Rattle.std.proofs.Common.{◌<◌, ◌-◌, ◌*◌, ◌∙◌, length, drop, ap, arith, rules, length-drop}
+use Rattle.std.proofs.lemmas.Result.{err_from_is_err_and}
+use Rattle.std.proofs.lemmas.List.{drop_all}
+use Rattle.rec_bytes.specs.Format.{strings_file}
+use Rattle.prop_store.specs.FileChange.{blocks_for}
+use Rattle.prop_store.proofs.BlockSteps.{blocks_are, drop-piece, keeps_now, length-numbered_piece, may_follow, no_room, nothing_stands, one_written}
+use Rattle.prop_store.proofs.FileSteps.{beside_none, beside_then}
+use Rattle.prop_store.proofs.WriteCounts.{at_most_none, at_most_then}
+use Rattle.prop_store.proofs.block_writing.write_text.Goals as goal
+
+pub loop-left-init : goal.loop-left-init
+loop-left-init g c =
+    let old = g.S.Reads.state c.args.space.now in
+    let text = c.args.text.now in
+    let count = blocks_are (length text) c.div_ceil-left.result c.div_ceil-left.ensures in
+    record {
+      stands = λ tells keeps. nothing_stands old (drop (48 * c.div_ceil-left.result) text) (drop_all (48 * c.div_ceil-left.result) text (omega arith)) keeps;
+      few = omega arith;
+      beside = λ tells. beside_none strings_file old.records;
+      shape = search rules;
+      writes = at_most_none _ old;
+      onward = search rules;
+      later = omega arith;
+    }
+
+pub write_block-requires-clause-few : goal.write_block-requires-clause-few
+write_block-requires-clause-few g c = let lt : c.loop-left.left - 1 < blocks_for (length c.args.text.now) = let few = c.loop-left.invariant.few in omega arith in
+    let size = length-numbered_piece (c.loop-left.left - 1) c.args.text.now lt in
+    let is = ap length c.piece_at.ensures in
+    omega (arith, size.1, is)
+
+pub loop-left-preserved : goal.loop-left-preserved
+loop-left-preserved g c =
+    let old = g.S.Reads.state c.args.space.now in
+    let now = g.S.Reads.state c.loop-left.space in
+    let then = g.S.Reads.state c.write_block.new.space in
+    let text = c.args.text.now in
+    let left = c.loop-left.left in
+    let few = c.loop-left.invariant.few in
+    let some = c.loop-left-test.true in
+    let lt : left - 1 < blocks_for (length text) = omega arith in
+    let size = length-numbered_piece (left - 1) text lt in
+    record {
+      stands = λ tells keeps.
+          let shape = c.loop-left.invariant.shape tells in
+          let stands = c.loop-left.invariant.stands tells keeps in
+          one_written old now (drop (48 * left) text) c.loop-left.first shape stands then (drop (48 * (left - 1)) text) c.piece_at.result.now c.in_ok-first.first c.piece_at.ensures (drop-piece (left - 1) left text (omega arith)) size.2
+          (c.in_ok-first.ensures.written tells (keeps_now old now (drop (48 * left) text) c.loop-left.first shape stands) (may_follow old now (drop (48 * left) text) c.loop-left.first shape stands));
+      few = omega arith;
+      beside = λ tells. beside_then strings_file old.records now.records then.records (c.loop-left.invariant.beside tells) (c.in_ok-first.ensures.beside tells);
+      shape = λ tells. c.in_ok-first.ensures.shape tells ∙ c.loop-left.invariant.shape tells;
+      writes = at_most_then (blocks_for (length text) - left) 1 _ old now then (omega arith) c.loop-left.invariant.writes c.in_ok-first.ensures.writes;
+      onward = g.met.S.Reads.further_onward _ _ _ c.loop-left.invariant.onward c.in_ok-first.ensures.onward;
+      later = omega (arith, c.loop-left.invariant.later, c.in_ok-first.ensures.cause.later);
+    }
+
+pub returns-in_err-first-clause-refused : goal.returns-in_err-first-clause-refused
+returns-in_err-first-clause-refused g c tells keeps =
+    let p = err_from_is_err_and c.from_residual.result c.from_residual.ensures.1 in
+    let old = g.S.Reads.state c.args.space.now in
+    let now = g.S.Reads.state c.loop-left.space in
+    let text = c.args.text.now in
+    let left = c.loop-left.left in
+    let few = c.loop-left.invariant.few in
+    let some = c.loop-left-test.true in
+    let shape = c.loop-left.invariant.shape tells in
+    let stands = c.loop-left.invariant.stands tells keeps in
+    let rest = length-drop (48 * left) text in
+    rw (p.1, p.2) (no_room old now (drop (48 * left) text) c.loop-left.first shape stands (blocks_for (length text)) c.in_err-first.field-0.0 (omega arith)
+    (c.in_err-first.ensures.refused tells (keeps_now old now (drop (48 * left) text) c.loop-left.first shape stands)))

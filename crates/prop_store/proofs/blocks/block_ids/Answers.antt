@@ -1,0 +1,59 @@
+use Rattle.std.proofs.Common.{arith, rules, ap, ◌∙◌, ◌++◌, ◌+◌, ◌≡◌, List, ℕ, length, inr}
+use Rattle.std.proofs.lemmas.Result.{err_from_is_err_and}
+use Rattle.std.proofs.lemmas.List.{length_push}
+use Rattle.rec_bytes.specs.Format.{strings_file}
+use Rattle.store_rules.specs.Views.{rec_at}
+use Rattle.prop_store.proofs.ListLaws.{append_one}
+use Rattle.prop_store.proofs.ReadCounts.{reads_none, reads_one, reads_records, reads_then}
+use Rattle.prop_store.proofs.TextSteps.{all_left, block_here, right_here, text_after, text_over}
+use Rattle.prop_store.proofs.blocks.block_ids.Goals as goal
+
+pub loop-left-init : goal.loop-left-init
+loop-left-init g c = record {
+  told = λ tells text blocks has. all_left _ _ _ text blocks _ has (ap (λ (z : List ℕ). z ++ blocks) c.new-ids.ensures);
+  sound = λ tells text blocks has given. all_left _ _ _ text blocks _ has given;
+  few = let none : length c.new-ids.result ≡ 0 = ap (λ (z : List ℕ). length z) c.new-ids.ensures in omega arith;
+  reads = reads_none _ _;
+  onward = search rules;
+  later = omega arith;
+}
+
+pub returns-in_err-rec-clause-sound : goal.returns-in_err-rec-clause-sound
+returns-in_err-rec-clause-sound g c tells text blocks has given =
+    let p = err_from_is_err_and c.from_residual.result c.from_residual.ensures.1 in
+    let old = g.R.Reads.state c.args.space.now in
+    let now = g.R.Reads.state c.loop-left.space in
+    let here = block_here (rec_at old.records strings_file) c.loop-left.at c.loop-left.left _ (search rules) (c.loop-left.invariant.sound tells text blocks has given) in
+    let right = right_here old.records now.records c.loop-left.at c.loop-left.left c.piece_size-piece.result (reads_records _ old now c.loop-left.invariant.reads) c.piece_size-piece.ensures here in
+    rw (p.1, p.2) (c.in_err-rec.ensures.sound tells right.0 right.1)
+
+pub returns-in_err-rec-clause-at_most : goal.returns-in_err-rec-clause-at_most
+returns-in_err-rec-clause-at_most g c = reads_then _ 1 22 _ _ _ (omega (arith, c.loop-left.invariant.few)) c.loop-left.invariant.reads c.in_err-rec.ensures.at_most
+
+pub loop-left-preserved : goal.loop-left-preserved
+loop-left-preserved g c =
+    let old = g.R.Reads.state c.args.space.now in
+    let now = g.R.Reads.state c.loop-left.space in
+    let ids = c.loop-left.ids in
+    let same = reads_records _ old now c.loop-left.invariant.reads in
+    let more : length c.push.new.self ≡ length ids + 1 = ap (λ (z : List ℕ). length z) c.push.ensures ∙ length_push ids c.loop-left.at in
+    record {
+      told = λ tells text blocks has.
+          let here = block_here (rec_at old.records strings_file) c.loop-left.at c.loop-left.left _ (search rules) (c.loop-left.invariant.told tells text blocks has) in
+          let got = c.in_ok-rec.ensures.got tells ∙ ap (λ r. rec_at r strings_file c.loop-left.at) same in
+          text_after (rec_at old.records strings_file) c.loop-left.at c.loop-left.left _ _ here c.in_ok-rec.rec c.piece_size-piece.result c.number-at.result got c.piece_size-piece.ensures c.number-at.ensures
+          (append_one ids c.loop-left.at here.later c.push.new.self blocks c.push.ensures here.kept);
+      sound = λ tells text blocks has given.
+          let here = block_here (rec_at old.records strings_file) c.loop-left.at c.loop-left.left _ (search rules) (c.loop-left.invariant.sound tells text blocks has given) in
+          let got = c.in_ok-rec.ensures.got tells ∙ ap (λ r. rec_at r strings_file c.loop-left.at) same in
+          text_after (rec_at old.records strings_file) c.loop-left.at c.loop-left.left _ _ here c.in_ok-rec.rec c.piece_size-piece.result c.number-at.result got c.piece_size-piece.ensures c.number-at.ensures
+          (λ x i. here.kept x (inr i));
+      few = omega (arith, c.loop-left.invariant.few, c.piece_size-piece.ensures, more);
+      reads = reads_then _ 1 _ _ _ _ (omega (arith, more)) c.loop-left.invariant.reads (reads_one 1 _ _ (omega arith) c.in_ok-rec.ensures.state);
+      onward = g.met.R.Reads.further_onward _ _ _ c.loop-left.invariant.onward c.in_ok-rec.ensures.onward;
+      later = omega (arith, c.loop-left.invariant.later, c.in_ok-rec.ensures.cause.later);
+    }
+
+pub returns-then-at-clause-sound : goal.returns-then-at-clause-sound
+returns-then-at-clause-sound g c tells text blocks has given =
+    absurd (c.if-at.true (text_over _ _ _ _ (omega (arith, c.loop-left-test.false)) (c.loop-left.invariant.sound tells text blocks has given)).none)

@@ -1,0 +1,67 @@
+use Rattle.std.proofs.Common.{arith, rules, ap, ◌∙◌, ◌++◌, ◌+◌, ◌≡◌, ◌≤◌, List, ℕ, length, inr, length-append}
+use Rattle.std.proofs.lemmas.Result.{err_from_is_err_and}
+use Rattle.rec_bytes.specs.Format.{block_text, strings_file}
+use Rattle.rec_bytes.specs.Record.{text_in}
+use Rattle.rec_bytes.proofs.Texts.{length-text_in}
+use Rattle.store_rules.specs.Views.{rec_at}
+use Rattle.prop_store.proofs.ReadCounts.{reads_none, reads_one, reads_records, reads_then}
+use Rattle.prop_store.proofs.TextSteps.{all_left, block_here, piece_append, right_here, text_after, text_over}
+use Rattle.prop_store.proofs.blocks.read_text.Goals as goal
+
+pub loop-left-init : goal.loop-left-init
+loop-left-init g c = record {
+  told = λ tells text blocks has. all_left _ _ _ text blocks _ has (ap (λ (z : List ℕ). z ++ text) c.new-bytes.ensures.items);
+  sound = λ tells text blocks has given. all_left _ _ _ text blocks _ has given;
+  size = let none : length c.new-bytes.result.items ≡ 0 = ap (λ (z : List ℕ). length z) c.new-bytes.ensures.items in omega arith;
+  reads = reads_none _ _;
+  onward = search rules;
+  later = omega arith;
+}
+
+pub loop-left-preserved : goal.loop-left-preserved
+loop-left-preserved g c =
+    let old = g.R.Reads.state c.args.space.now in
+    let now = g.R.Reads.state c.loop-left.space in
+    let left = c.loop-left.left in
+    let so_far = c.loop-left.bytes.items in
+    let same = reads_records _ old now c.loop-left.invariant.reads in
+    let piece = c.piece_size-piece.ensures in
+    let pushed = c.in_ok-extend_from_slice.ensures.items in
+    let fits : block_text + c.piece_size-piece.result ≤ 64 = omega (arith, piece) in
+    let more : length c.extend_from_slice.new.self.items ≡ length so_far + c.piece_size-piece.result
+    = ap (λ (z : List ℕ). length z) (pushed ∙ ap (λ z. so_far ++ z) c.text.ensures) ∙ length-append so_far (text_in c.in_ok-rec.rec block_text c.piece_size-piece.result) ∙ ap (λ n. length so_far + n) (length-text_in c.in_ok-rec.rec block_text c.piece_size-piece.result fits) in
+    record {
+      told = λ tells text blocks has.
+          let here = block_here (rec_at old.records strings_file) c.loop-left.at left _ (search rules) (c.loop-left.invariant.told tells text blocks has) in
+          let got = c.in_ok-rec.ensures.got tells ∙ ap (λ r. rec_at r strings_file c.loop-left.at) same in
+          text_after (rec_at old.records strings_file) c.loop-left.at left _ _ here c.in_ok-rec.rec c.piece_size-piece.result c.number-at.result got piece c.number-at.ensures
+          (piece_append (rec_at old.records strings_file) c.loop-left.at left _ here so_far c.extend_from_slice.new.self.items text c.in_ok-rec.rec c.piece_size-piece.result c.text.result.now got piece c.text.ensures pushed here.kept);
+      sound = λ tells text blocks has given.
+          let here = block_here (rec_at old.records strings_file) c.loop-left.at left _ (search rules) (c.loop-left.invariant.sound tells text blocks has given) in
+          let got = c.in_ok-rec.ensures.got tells ∙ ap (λ r. rec_at r strings_file c.loop-left.at) same in
+          text_after (rec_at old.records strings_file) c.loop-left.at left _ _ here c.in_ok-rec.rec c.piece_size-piece.result c.number-at.result got piece c.number-at.ensures
+          (λ x i. here.kept x (inr i));
+      size = omega (arith, more, c.loop-left.invariant.size, piece);
+      reads = reads_then _ 1 _ _ _ _ (omega (arith, piece)) c.loop-left.invariant.reads (reads_one 1 _ _ (omega arith) c.in_ok-rec.ensures.state);
+      onward = g.met.R.Reads.further_onward _ _ _ c.loop-left.invariant.onward c.in_ok-rec.ensures.onward;
+      later = omega (arith, c.loop-left.invariant.later, c.in_ok-rec.ensures.cause.later);
+    }
+
+pub returns-in_err-rec-clause-sound : goal.returns-in_err-rec-clause-sound
+returns-in_err-rec-clause-sound g c tells text blocks has given =
+    let p = err_from_is_err_and c.from_residual.result c.from_residual.ensures.1 in
+    let old = g.R.Reads.state c.args.space.now in
+    let now = g.R.Reads.state c.loop-left.space in
+    let here = block_here (rec_at old.records strings_file) c.loop-left.at c.loop-left.left _ (search rules) (c.loop-left.invariant.sound tells text blocks has given) in
+    let right = right_here old.records now.records c.loop-left.at c.loop-left.left c.piece_size-piece.result (reads_records _ old now c.loop-left.invariant.reads) c.piece_size-piece.ensures here in
+    rw (p.1, p.2) (c.in_err-rec.ensures.sound tells right.0 right.1)
+
+pub returns-in_err-rec-clause-at_most : goal.returns-in_err-rec-clause-at_most
+returns-in_err-rec-clause-at_most g c = reads_then _ 1 _ _ _ _ (omega (arith, c.loop-left.invariant.size)) c.loop-left.invariant.reads c.in_err-rec.ensures.at_most
+
+pub returns-in_err-extend_from_slice-clause-at_most : goal.returns-in_err-extend_from_slice-clause-at_most
+returns-in_err-extend_from_slice-clause-at_most g c = reads_then _ 1 _ _ _ _ (omega (arith, c.loop-left.invariant.size)) c.loop-left.invariant.reads (reads_one 1 _ _ (omega arith) c.in_ok-rec.ensures.state)
+
+pub returns-then-at-clause-sound : goal.returns-then-at-clause-sound
+returns-then-at-clause-sound g c tells text blocks has given =
+    absurd (c.if-at.true (text_over _ _ _ _ (omega (arith, c.loop-left-test.false)) (c.loop-left.invariant.sound tells text blocks has given)).none)

@@ -1,0 +1,69 @@
+use Rattle.std.proofs.Common.{◌+◌, sym, ap, ◌∙◌, subst, arith, refl, rules}
+use Rattle.std.proofs.lemmas.Result.{err_from_is_err_and}
+use Rattle.rec_bytes.specs.Format.{properties_file, property_next}
+use Rattle.rec_bytes.specs.Record.{field}
+use Rattle.rec_bytes.specs.Space.{State}
+use Rattle.store_rules.specs.Views.{rec_at}
+use Rattle.prop_store.proofs.ChainDrops.{Left, given_out, has_content, held_here, here, left_read, none_left, one_less}
+use Rattle.prop_store.proofs.ChangeWrites.{reads_write}
+use Rattle.prop_store.proofs.ReadCounts.{reads_same}
+use Rattle.prop_store.proofs.WriteCounts.{at_most_then}
+use Rattle.prop_store.proofs.dropping.drop_chain.Goals as goal
+
+pub returns-in_err-row-clause-sound : goal.returns-in_err-row-clause-sound
+returns-in_err-row-clause-sound g c tells es held =
+    let p = err_from_is_err_and c.from_residual.result c.from_residual.ensures.1 in
+    let old = g.S.Reads.state c.args.space.now in
+    let now = g.S.Reads.state c.loop-at.space in
+    let at = here old now es c.loop-at.at c.loop-at.properties c.loop-at.blocks c.loop-at-test.true (c.loop-at.invariant.told tells es held) in
+    rw (p.1, p.2) (c.in_err-row.ensures.sound tells (given_out old now es c.loop-at.at c.loop-at.properties c.loop-at.blocks at) (has_content old now es c.loop-at.at c.loop-at.properties c.loop-at.blocks at))
+
+pub returns-in_err-row-clause-shape : goal.returns-in_err-row-clause-shape
+returns-in_err-row-clause-shape g c tells = ap (λ (z : State). z.shape) (reads_same 1 _ _ c.property_at.ensures.at_most) ∙ c.loop-at.invariant.shape tells
+
+pub returns-in_err-released-clause-sound : goal.returns-in_err-released-clause-sound
+returns-in_err-released-clause-sound g c tells es held =
+    let p = err_from_is_err_and c.from_residual-in_err-released.result c.from_residual-in_err-released.ensures.1 in
+    let old = g.S.Reads.state c.args.space.now in
+    let now = g.S.Reads.state c.loop-at.space in
+    let read = g.S.Reads.state c.property_at.new.space in
+    let told : Left old read es c.loop-at.at c.loop-at.properties c.loop-at.blocks
+    = subst (λ (z : State). Left old z es c.loop-at.at c.loop-at.properties c.loop-at.blocks) (sym c.in_ok-row.ensures.state) (left_read old now es c.loop-at.at c.loop-at.properties c.loop-at.blocks (c.loop-at.invariant.told tells es held)) in
+    let at = here old read es c.loop-at.at c.loop-at.properties c.loop-at.blocks c.loop-at-test.true told in
+    let got = c.in_ok-row.ensures.got tells ∙ ap (λ (z : State). rec_at z.records properties_file c.loop-at.at) (sym c.in_ok-row.ensures.state) in
+    rw (p.1, p.2) (c.in_err-released.ensures.sound tells at.property (held_here old read es c.loop-at.at c.loop-at.properties c.loop-at.blocks at c.in_ok-row.row c.in_ok-row.ensures.row.id_is got))
+
+pub loop-at-preserved : goal.loop-at-preserved
+loop-at-preserved g c =
+    let old = g.S.Reads.state c.args.space.now in
+    let now = g.S.Reads.state c.loop-at.space in
+    let read = g.S.Reads.state c.property_at.new.space in
+    let then = g.S.Reads.state c.drop_property.new.space in
+    let i = c.loop-at.invariant in
+    record {
+      told = λ tells es held.
+          let told : Left old read es c.loop-at.at c.loop-at.properties c.loop-at.blocks
+          = subst (λ (z : State). Left old z es c.loop-at.at c.loop-at.properties c.loop-at.blocks) (sym c.in_ok-row.ensures.state) (left_read old now es c.loop-at.at c.loop-at.properties c.loop-at.blocks (i.told tells es held)) in
+          let at = here old read es c.loop-at.at c.loop-at.properties c.loop-at.blocks c.loop-at-test.true told in
+          let got = c.in_ok-row.ensures.got tells ∙ ap (λ (z : State). rec_at z.records properties_file c.loop-at.at) (sym c.in_ok-row.ensures.state) in
+          one_less old read es c.loop-at.at c.loop-at.properties c.loop-at.blocks at then c.in_ok-released.released c.number-at.result _ _ (c.drop_property.ensures.shape tells)
+          (c.in_ok-released.ensures.dropped tells at.property (held_here old read es c.loop-at.at c.loop-at.properties c.loop-at.blocks at c.in_ok-row.row c.in_ok-row.ensures.row.id_is got))
+          (c.number-at.ensures ∙ ap (λ r. field 4 r property_next) got) refl refl;
+      few = let f = i.few in let ne = c.if-properties-eq-MOST_PROPERTIES.false in omega arith;
+      small = let s = i.small in let r = c.in_ok-released.ensures.few in omega arith;
+      shape = λ tells. c.drop_property.ensures.shape tells ∙ ap (λ (z : State). z.shape) (reads_same 1 _ _ c.property_at.ensures.at_most) ∙ i.shape tells;
+      writes = at_most_then (c.loop-at.properties + c.loop-at.blocks) (1 + c.in_ok-released.released) _ old now then (omega arith) i.writes
+          (at_most_then 0 (1 + c.in_ok-released.released) _ now read then (omega arith) (reads_write 0 now read (reads_same 1 _ _ c.property_at.ensures.at_most)) c.in_ok-released.ensures.writes);
+      onward = g.met.S.Reads.further_onward _ _ _ i.onward (g.met.S.Reads.further_onward _ _ _ c.property_at.ensures.onward c.drop_property.ensures.onward);
+      later = omega (arith, i.later, c.property_at.ensures.cause.later, c.drop_property.ensures.cause.later);
+    }
+
+pub returns-clause-dropped : goal.returns-clause-dropped
+returns-clause-dropped g c tells es held =
+    none_left (g.S.Reads.state c.args.space.now) (g.S.Reads.state c.loop-at.space) es c.loop-at.at c.loop-at.properties c.loop-at.blocks _ (search rules) refl refl (c.loop-at.invariant.told tells es held)
+
+pub returns-clause-few_properties : goal.returns-clause-few_properties
+returns-clause-few_properties g c = c.loop-at.invariant.few
+
+pub returns-clause-few_blocks : goal.returns-clause-few_blocks
+returns-clause-few_blocks g c = let few = c.loop-at.invariant.few in let small = c.loop-at.invariant.small in omega arith

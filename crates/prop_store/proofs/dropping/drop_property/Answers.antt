@@ -1,0 +1,48 @@
+use Rattle.std.proofs.Common.{List, ℕ, length, ap, ◌∙◌}
+use Rattle.std.proofs.lemmas.Result.{err_from_is_err_and}
+use Rattle.rec_bytes.specs.Space.{State}
+use Rattle.prop_store.proofs.ChangeWrites.{property_writes}
+use Rattle.prop_store.proofs.DropSteps.{blocks_given_out, property_dropped}
+use Rattle.prop_store.proofs.Exits.{space_exit}
+use Rattle.prop_store.proofs.ReadCounts.{reads_same}
+use Rattle.prop_store.proofs.dropping.drop_property.Goals as goal
+
+pub returns-in_err-blocks-clause-sound : goal.returns-in_err-blocks-clause-sound
+returns-in_err-blocks-clause-sound g c tells e held =
+    let p = err_from_is_err_and c.from_residual.result c.from_residual.ensures.1 in
+    let s = g.S.Reads.state c.args.space.now in
+    rw (p.1, p.2) (c.in_err-blocks.ensures.sound tells e.value e.blocks held.value (blocks_given_out s.records s.shape _ e.blocks held.strings held.value.are))
+
+pub returns-in_err-blocks-clause-shape : goal.returns-in_err-blocks-clause-shape
+returns-in_err-blocks-clause-shape g c tells = ap (λ (z : State). z.shape) (reads_same 22 _ _ c.value_blocks.ensures.at_most)
+
+pub returns-in_err-release-clause-sound : goal.returns-in_err-release-clause-sound
+returns-in_err-release-clause-sound g c tells e held = space_exit c.from_residual-in_err-release.result c.in_err-release.field-0.0 c.from_residual-in_err-release.ensures.1
+
+pub returns-in_err-release-clause-shape : goal.returns-in_err-release-clause-shape
+returns-in_err-release-clause-shape g c tells = c.release.ensures.shape tells ∙ ap (λ (z : State). z.shape) (reads_same 22 _ _ c.value_blocks.ensures.at_most)
+
+pub returns-in_err-give-clause-sound : goal.returns-in_err-give-clause-sound
+returns-in_err-give-clause-sound g c tells e held = space_exit c.from_residual-in_err-give.result c.in_err-give.field-0.0 c.from_residual-in_err-give.ensures.1
+
+pub returns-in_err-give-clause-shape : goal.returns-in_err-give-clause-shape
+returns-in_err-give-clause-shape g c tells = c.give.ensures.shape tells ∙ c.release.ensures.shape tells ∙ ap (λ (z : State). z.shape) (reads_same 22 _ _ c.value_blocks.ensures.at_most)
+
+pub returns-clause-dropped : goal.returns-clause-dropped
+returns-clause-dropped g c tells e held =
+    let s = g.S.Reads.state c.args.space.now in
+    let a = g.S.Reads.state c.value_blocks.new.space in
+    let b = g.S.Reads.state c.release.new.space in
+    let t = g.S.Reads.state c.give.new.space in
+    let ids_are = c.as_slice-ids.ensures.is ∙ c.in_ok-blocks.ensures.followed tells e.value e.blocks held.value in
+    record {
+      released_is = ap (λ (xs : List ℕ). length xs) ids_are;
+      changes = property_dropped s a b t c.args.row.now e c.as_slice-ids.result.now held (reads_same 22 s a c.value_blocks.ensures.at_most) ids_are
+          (c.in_ok-release.ensures.released tells) (c.in_ok-release.ensures.beside tells) (c.in_ok-give.ensures.given tells);
+    }
+
+pub returns-clause-shape : goal.returns-clause-shape
+returns-clause-shape g c tells = c.give.ensures.shape tells ∙ c.release.ensures.shape tells ∙ ap (λ (z : State). z.shape) (reads_same 22 _ _ c.value_blocks.ensures.at_most)
+
+pub returns-clause-writes : goal.returns-clause-writes
+returns-clause-writes g c = property_writes _ _ _ _ c.args.row.now.id c.as_slice-ids.result.now (reads_same 22 _ _ c.value_blocks.ensures.at_most) c.release.ensures.writes c.give.ensures.writes

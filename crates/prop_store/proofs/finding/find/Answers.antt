@@ -1,0 +1,83 @@
+use Rattle.std.proofs.Common.{arith, rules, ap, sym, ◌∙◌, ◌≡◌, ◌<◌, refl, subst}
+use Rattle.std.proofs.lemmas.Result.{err_from_is_err_and}
+use Rattle.rec_bytes.specs.Format.{most_ids, properties_file, property_key}
+use Rattle.rec_bytes.specs.Record.{field}
+use Rattle.store_rules.specs.Properties.{property_records}
+use Rattle.store_rules.specs.Views.{rec_at}
+use Rattle.prop_store.specs.Link.{IsLink, link_of, next_link}
+use Rattle.prop_store.proofs.ElementSteps.{meta_of_element}
+use Rattle.prop_store.proofs.Keys.{absent_key, found_here, keys_passed, link_after-one}
+use Rattle.prop_store.proofs.OwnerPlaces.{place_within}
+use Rattle.prop_store.proofs.ReadCounts.{reads_one, reads_records, reads_then}
+use Rattle.prop_store.proofs.WalkSteps.{fewer_passed, right_property, walk_after, walk_begins, walk_here, walk_over}
+use Rattle.prop_store.proofs.finding.find.Goals as goal
+
+pub returns-in_err-at-clause-at_most : goal.returns-in_err-at-clause-at_most
+returns-in_err-at-clause-at_most g c = reads_one 33 _ _ (omega arith) c.in_err-at.ensures.state
+
+pub loop-count-init : goal.loop-count-init
+loop-count-init g c = record {
+  told = λ tells es are. walk_begins _ _ _ es _ (c.in_ok-at.ensures.got tells) are (c.of-link.ensures, λ i. i);
+  link = subst IsLink (sym c.of-link.ensures) (record { key = c.requires.key; own = meta_of_element c.args.owner.key.file c.requires.file; place = place_within c.args.owner c.requires });
+  reads = reads_one 1 _ _ (omega arith) c.in_ok-at.ensures.state;
+  onward = search rules;
+  later = omega (arith, c.in_ok-at.ensures.cause.later);
+}
+
+pub returns-then-at-clause-found : goal.returns-then-at-clause-found
+returns-then-at-clause-found g c tells es are =
+    let over = walk_over _ es _ _ _ c.if-at.true (c.loop-count.invariant.told tells es are) in
+    (over.count_is, absent_key es c.args.key over.kept.1)
+
+pub returns-in_err-row-clause-sound : goal.returns-in_err-row-clause-sound
+returns-in_err-row-clause-sound g c tells es has =
+    let old = g.R.Reads.state c.args.space.now in
+    let now = g.R.Reads.state c.loop-count.space in
+    let p = err_from_is_err_and c.from_residual-in_err-row.result c.from_residual-in_err-row.ensures.1 in
+    let here = walk_here _ es _ _ _ c.if-at.false (c.loop-count.invariant.told tells es has.are) in
+    let right = right_property old.records now.records c.args.owner es c.loop-count.at c.loop-count.count _ (reads_records _ old now c.loop-count.invariant.reads) has here in
+    rw (p.1, p.2) (c.in_err-row.ensures.sound tells right.0 right.1)
+
+pub returns-in_err-row-clause-at_most : goal.returns-in_err-row-clause-at_most
+returns-in_err-row-clause-at_most g c = reads_then _ 1 33 _ _ _ (omega arith) c.loop-count.invariant.reads c.in_err-row.ensures.at_most
+
+pub returns-then-number-key-clause-found : goal.returns-then-number-key-clause-found
+returns-then-number-key-clause-found g c tells es are =
+    let old = g.R.Reads.state c.args.space.now in
+    let now = g.R.Reads.state c.loop-count.space in
+    let here = walk_here _ es _ _ _ c.if-at.false (c.loop-count.invariant.told tells es are) in
+    let rec_is = c.in_ok-row.ensures.got tells ∙ ap (λ r. rec_at r properties_file c.loop-count.at) (reads_records _ old now c.loop-count.invariant.reads) in
+    found_here old.records c.args.owner es c.loop-count.at c.loop-count.count c.args.key c.loop-count.link _ here refl c.in_ok-row.ensures.row.id_is rec_is (sym c.number.ensures ∙ c.if-number-key.true)
+
+pub returns-then-number-key-clause-cost : goal.returns-then-number-key-clause-cost
+returns-then-number-key-clause-cost g c tells es are =
+    let here = walk_here _ es _ _ _ c.if-at.false (c.loop-count.invariant.told tells es are) in
+    let few = fewer_passed _ es _ _ _ here in
+    reads_then _ 1 _ _ _ _ (omega arith) c.loop-count.invariant.reads c.in_ok-row.ensures.at_most
+
+pub returns-then-number-key-clause-at_most : goal.returns-then-number-key-clause-at_most
+returns-then-number-key-clause-at_most g c = reads_then _ 1 33 _ _ _ (omega arith) c.loop-count.invariant.reads c.in_ok-row.ensures.at_most
+
+pub loop-count-preserved : goal.loop-count-preserved
+loop-count-preserved g c =
+    let old = g.R.Reads.state c.args.space.now in
+    let now = g.R.Reads.state c.loop-count.space in
+    record {
+      told = λ tells es are.
+          let here = walk_here _ es _ _ _ c.if-at.false (c.loop-count.invariant.told tells es are) in
+          let rec_is = c.in_ok-row.ensures.got tells ∙ ap (λ r. rec_at r properties_file c.loop-count.at) (reads_records _ old now c.loop-count.invariant.reads) in
+          let its : here.property.key ≡ field 4 c.in_ok-row.row.rec property_key = sym here.is.key ∙ ap (λ r. field 4 r property_key) (ap (rec_at old.records properties_file) (sym here.at_is) ∙ sym rec_is) in
+          walk_after (property_records old.records) es c.loop-count.at c.loop-count.count _ _ here c.in_ok-row.row.rec c.number-at.result rec_is c.number-at.ensures
+          (c.after-link.ensures ∙ ap next_link here.at_is ∙ sym (link_after-one (link_of c.args.owner) here.passed here.property), keys_passed here.passed here.property c.args.key here.kept.1 (λ e. c.if-number-key.false (c.number.ensures ∙ sym its ∙ e)));
+      link = subst IsLink (sym c.after-link.ensures) (record { key = record { file = refl; id = subst (λ z. z < most_ids) c.in_ok-row.ensures.row.id_is c.in_ok-row.ensures.row.small }; own = refl; place = omega arith });
+      reads = reads_then _ 1 _ _ _ _ (omega arith) c.loop-count.invariant.reads c.in_ok-row.ensures.at_most;
+      onward = g.met.R.Reads.further_onward _ _ _ c.loop-count.invariant.onward c.in_ok-row.ensures.onward;
+      later = omega (arith, c.loop-count.invariant.later, c.in_ok-row.ensures.cause.later);
+    }
+
+pub returns-clause-found : goal.returns-clause-found
+returns-clause-found g c tells es are =
+    let none : c.loop-count.at ≡ 4294967295 = c.if-at-2.false in
+    let over = walk_over _ es _ _ _ none (c.loop-count.invariant.told tells es are) in
+    let count = over.count_is in
+    (omega arith, absent_key es c.args.key over.kept.1)

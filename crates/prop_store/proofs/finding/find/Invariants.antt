@@ -1,0 +1,21 @@
+use Rattle.std.proofs.Common.{◌≡◌, ◌≤◌, ◌+◌, List}
+use Rattle.store_rules.specs.Chains.{In}
+use Rattle.store_rules.specs.Properties.{AreProperties, Property, keys_of, property_records}
+use Rattle.prop_store.specs.Link.{IsLink, link_after, link_of}
+use Rattle.prop_store.specs.Owner.{first_of}
+use Rattle.prop_store.specs.Reading.{ReadsAtMost}
+use Rattle.prop_store.proofs.WalkSteps.{Walked}
+use Rattle.prop_store.proofs.finding.find.Given as goal
+
+-- the key is none of those passed
+abbrev pub invariant-loop-count : goal.invariant-loop-count
+invariant-loop-count g l =
+    let old = g.R.Reads.state l.fn.space in
+    record {
+      told : g.R.Reads.tells → (es : List Property) → AreProperties (property_records old.records) (first_of old.records l.fn.owner) es
+          → Walked (property_records old.records) es l.at l.count (λ passed. (l.link ≡ link_after (link_of l.fn.owner) passed) × (In l.fn.key (keys_of passed) → ⊥));
+      link : IsLink l.link;
+      reads : ReadsAtMost (1 + l.count) old (g.R.Reads.state l.space);
+      onward : g.R.Reads.onward l.fn.space l.space;
+      later : g.R.Reads.faults l.fn.space ≤ g.R.Reads.faults l.space;
+    }

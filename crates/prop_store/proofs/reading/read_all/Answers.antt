@@ -1,0 +1,98 @@
+use Rattle.std.specs.Prelude.{All}
+use Rattle.std.proofs.Common.{arith, rules, ap, sym, subst, ◌∙◌, ◌≡◌, ◌+◌, List, length}
+use Rattle.std.proofs.lemmas.List.{length_push}
+use Rattle.std.proofs.lemmas.List.Elements.{All-push}
+use Rattle.std.proofs.lemmas.Result.{err_from_is_err_and}
+use Rattle.plain_graph.specs.Forms.{IsKept}
+use Rattle.plain_graph.specs.Properties.{blocks_of}
+use Rattle.rec_bytes.specs.Format.{properties_file, property_key}
+use Rattle.rec_bytes.specs.Record.{field}
+use Rattle.store_rules.specs.Properties.{first_property, property_records}
+use Rattle.store_rules.specs.Views.{rec_at}
+use Rattle.prop_store.specs.Reading.{block_total}
+use Rattle.prop_store.specs.declared.prop.Prop.{Prop}
+use Rattle.prop_store.proofs.Answered.{answered_one, block_total-one, few_blocks}
+use Rattle.prop_store.proofs.ReadCounts.{reads_one, reads_records, reads_then}
+use Rattle.prop_store.proofs.WalkSteps.{blocks_given, has_value, right_property, walk_after, walk_begins, walk_here}
+use Rattle.prop_store.proofs.reading.read_all.Goals as goal
+
+pub returns-in_err-at-clause-at_most : goal.returns-in_err-at-clause-at_most
+returns-in_err-at-clause-at_most g c = reads_one 737 _ _ (omega arith) c.in_err-at.ensures.state
+
+pub loop-init : goal.loop-init
+loop-init g c =
+    let none = c.new-props.ensures.items in
+    let no_length : length c.new-props.result.items ≡ 0 = ap (λ (z : List Prop). length z) none in
+    let no_blocks : block_total c.new-props.result.items ≡ 0 = ap block_total none in
+    record {
+      told = λ tells es are. walk_begins _ _ _ es _ (c.in_ok-at.ensures.got tells) are none;
+      count = no_length;
+      few = omega arith;
+      kept = subst (All (λ (p : Prop). IsKept p.value)) (sym none) (λ k d lt. absurd (omega (arith, lt)));
+      reads = reads_one _ _ _ (omega arith) c.in_ok-at.ensures.state;
+      onward = search rules;
+      later = omega (arith, c.in_ok-at.ensures.cause.later);
+    }
+
+pub returns-in_err-row-clause-sound : goal.returns-in_err-row-clause-sound
+returns-in_err-row-clause-sound g c tells es has =
+    let old = g.R.Reads.state c.args.space.now in
+    let now = g.R.Reads.state c.loop.space in
+    let p = err_from_is_err_and c.from_residual-in_err-row.result c.from_residual-in_err-row.ensures.1 in
+    let here = walk_here _ es _ _ _ c.if-at.false (c.loop.invariant.told tells es has.are) in
+    let right = right_property old.records now.records c.args.owner es c.loop.at c.loop.counter _ (reads_records _ old now c.loop.invariant.reads) has here in
+    rw (p.1, p.2) (c.in_err-row.ensures.sound tells right.0 right.1)
+
+pub returns-in_err-row-clause-at_most : goal.returns-in_err-row-clause-at_most
+returns-in_err-row-clause-at_most g c = reads_then _ 1 737 _ _ _ (omega (arith, c.loop.invariant.few, c.loop.invariant.count)) c.loop.invariant.reads c.in_err-row.ensures.at_most
+
+pub returns-in_err-value-clause-sound : goal.returns-in_err-value-clause-sound
+returns-in_err-value-clause-sound g c tells es has =
+    let old = g.R.Reads.state c.args.space.now in
+    let now = g.R.Reads.state c.loop.space in
+    let then = g.R.Reads.state c.property_at.new.space in
+    let p = err_from_is_err_and c.from_residual-in_err-value.result c.from_residual-in_err-value.ensures.1 in
+    let here = walk_here _ es _ _ _ c.if-at.false (c.loop.invariant.told tells es has.are) in
+    let same = reads_records _ old now c.loop.invariant.reads in
+    let same_then = reads_records 1 now then c.in_ok-row.ensures.at_most ∙ same in
+    let rec_is = c.in_ok-row.ensures.got tells ∙ ap (λ r. rec_at r properties_file c.loop.at) same ∙ ap (rec_at old.records properties_file) here.at_is in
+    let value = has_value old.records then.records here.property (first_property here.later) c.in_ok-row.row.rec same_then here.is rec_is in
+    rw (p.1, p.2) (c.in_err-value.ensures.sound tells here.property.value here.property.blocks value (blocks_given old.records then.records c.args.owner es here.passed here.property here.later same_then has here.all here.is.blocks))
+
+pub returns-in_err-value-clause-at_most : goal.returns-in_err-value-clause-at_most
+returns-in_err-value-clause-at_most g c =
+    reads_then (2 + length c.loop.props.items + block_total c.loop.props.items) 22 737 _ _ _ (omega (arith, c.loop.invariant.few, c.loop.invariant.count)) (reads_then _ 1 (2 + length c.loop.props.items + block_total c.loop.props.items) _ _ _ (omega arith) c.loop.invariant.reads c.in_ok-row.ensures.at_most) c.in_err-value.ensures.at_most
+
+pub returns-in_err-push-clause-at_most : goal.returns-in_err-push-clause-at_most
+returns-in_err-push-clause-at_most g c =
+    reads_then (2 + length c.loop.props.items + block_total c.loop.props.items) 22 737 _ _ _ (omega (arith, c.loop.invariant.few, c.loop.invariant.count)) (reads_then _ 1 (2 + length c.loop.props.items + block_total c.loop.props.items) _ _ _ (omega arith) c.loop.invariant.reads c.in_ok-row.ensures.at_most) c.in_ok-value.ensures.at_most
+
+pub loop-preserved : goal.loop-preserved
+loop-preserved g c =
+    let old = g.R.Reads.state c.args.space.now in
+    let now = g.R.Reads.state c.loop.space in
+    let then = g.R.Reads.state c.property_at.new.space in
+    let props = c.loop.props.items in
+    let prop : Prop = record { key = c.number-key.result; value = c.in_ok-value.value } in
+    let pushed = c.in_ok-push.ensures.items in
+    let more : length c.push.new.self.items ≡ length props + 1 = ap (λ (z : List Prop). length z) pushed ∙ length_push props prop in
+    let total = block_total-one props c.push.new.self.items prop pushed in
+    let few = few_blocks c.in_ok-value.value c.in_ok-value.ensures.kept in
+    let same = reads_records _ old now c.loop.invariant.reads in
+    record {
+      told = λ tells es are.
+          let here = walk_here _ es _ _ _ c.if-at.false (c.loop.invariant.told tells es are) in
+          let got = c.in_ok-row.ensures.got tells ∙ ap (λ r. rec_at r properties_file c.loop.at) same in
+          let rec_is = got ∙ ap (rec_at old.records properties_file) here.at_is in
+          let same_then = reads_records 1 now then c.in_ok-row.ensures.at_most ∙ same in
+          let value = has_value old.records then.records here.property (first_property here.later) c.in_ok-row.row.rec same_then here.is rec_is in
+          walk_after (property_records old.records) es c.loop.at c.loop.counter _ _ here c.in_ok-row.row.rec c.number-at.result got c.number-at.ensures
+          (answered_one props c.push.new.self.items here.passed here.property c.number-key.result c.in_ok-value.value pushed here.kept
+          (c.number-key.ensures ∙ ap (λ r. field 4 r property_key) rec_is ∙ here.is.key) (c.in_ok-value.ensures.read tells here.property.value here.property.blocks value));
+      count = omega (arith, more, c.loop.invariant.count);
+      few = omega (arith, total, few, c.loop.invariant.few);
+      kept = subst (All (λ (p : Prop). IsKept p.value)) (sym pushed) (All-push (λ (p : Prop). IsKept p.value) props prop c.loop.invariant.kept c.in_ok-value.ensures.kept);
+      reads = reads_then (2 + length props + block_total props) (blocks_of c.in_ok-value.value) _ _ _ _ (omega (arith, more, total)) (reads_then _ 1 (2 + length c.loop.props.items + block_total c.loop.props.items) _ _ _ (omega arith) c.loop.invariant.reads c.in_ok-row.ensures.at_most) c.in_ok-value.ensures.reads;
+      onward = g.met.R.Reads.further_onward _ _ _ (g.met.R.Reads.further_onward _ _ _ c.loop.invariant.onward c.in_ok-row.ensures.onward) c.in_ok-value.ensures.onward;
+      later = omega (arith, c.loop.invariant.later, c.in_ok-row.ensures.cause.later, c.in_ok-value.ensures.cause.later);
+    }

@@ -1,0 +1,31 @@
+use Rattle.std.proofs.Common.{◌<◌, ◌+◌, length, drop, get_or, ◌∙◌, inr, arith, refl}
+use Rattle.rec_bytes.specs.Format.{strings_file}
+use Rattle.prop_store.proofs.FileSteps.{beside_then}
+use Rattle.prop_store.proofs.ListLaws.{drop_step, in_at}
+use Rattle.prop_store.proofs.ReleaseSteps.{beside_given, one_given, release_writes}
+use Rattle.prop_store.proofs.releasing.release.Goals as goal
+
+pub give-requires-clause-key : goal.give-requires-clause-key
+give-requires-clause-key g c = record { file = refl; id = c.requires (get_or c.args.blocks.now c.loop-id.id-index 0) (in_at c.args.blocks.now c.loop-id.id-index (omega arith)) }
+
+pub returns-in_err-give-clause-writes : goal.returns-in_err-give-clause-writes
+returns-in_err-give-clause-writes g c = release_writes _ _ _ strings_file (get_or c.args.blocks.now c.loop-id.id-index 0) c.args.blocks.now (in_at c.args.blocks.now c.loop-id.id-index (omega arith)) c.loop-id.invariant.writes c.give.ensures.writes
+
+pub loop-id-preserved : goal.loop-id-preserved
+loop-id-preserved g c =
+    let old = g.S.Reads.state c.args.space.now in
+    let now = g.S.Reads.state c.loop-id.space in
+    let then = g.S.Reads.state c.give.new.space in
+    let blocks = c.args.blocks.now in
+    let i = c.loop-id.id-index in
+    let id = get_or blocks i 0 in
+    let lt : i < length blocks = omega arith in
+    record {
+      released = λ tells once h. one_given old.records now then old.shape strings_file blocks (drop i blocks) (drop (i + 1) blocks) id i (i + 1) (inr refl) (drop_step blocks i (i + 1) refl lt) refl
+          (c.in_ok-give.ensures.given tells) (c.loop-id.invariant.released tells once h);
+      beside = λ tells. beside_then strings_file old.records now.records then.records (c.loop-id.invariant.beside tells) (beside_given now then strings_file id (c.in_ok-give.ensures.ok tells));
+      shape = λ tells. c.give.ensures.shape tells ∙ c.loop-id.invariant.shape tells;
+      writes = release_writes old now then strings_file id blocks (in_at blocks i lt) c.loop-id.invariant.writes c.give.ensures.writes;
+      onward = g.met.S.Reads.further_onward _ _ _ c.loop-id.invariant.onward c.give.ensures.onward;
+      later = omega (arith, c.loop-id.invariant.later, c.give.ensures.cause.later);
+    }

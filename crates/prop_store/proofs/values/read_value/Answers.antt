@@ -1,0 +1,34 @@
+use Rattle.std.proofs.Common.{arith, ap, ◌∙◌, ◌≡◌, ◌≤◌, ℕ, List, Some, length, subst}
+use Rattle.rec_bytes.specs.Format.{property_text}
+use Rattle.rec_bytes.proofs.Texts.{length-text_in}
+use Rattle.prop_store.specs.Form.{FormFits}
+use Rattle.prop_store.proofs.ReadCounts.{reads_none}
+use Rattle.prop_store.proofs.values.read_value.Goals as goal
+
+pub returns-in_err-bytes-in-Inline-clause-at_most : goal.returns-in_err-bytes-in-Inline-clause-at_most
+returns-in_err-bytes-in-Inline-clause-at_most g c = reads_none 22 _
+
+pub returns-in-Number-clause-reads : goal.returns-in-Number-clause-reads
+returns-in-Number-clause-reads g c = reads_none 0 _
+
+pub returns-in-Number-clause-at_most : goal.returns-in-Number-clause-at_most
+returns-in-Number-clause-at_most g c = reads_none 22 _
+
+pub returns-in-Truth-clause-reads : goal.returns-in-Truth-clause-reads
+returns-in-Truth-clause-reads g c = reads_none 0 _
+
+pub returns-in-Truth-clause-at_most : goal.returns-in-Truth-clause-at_most
+returns-in-Truth-clause-at_most g c = reads_none 22 _
+
+pub returns-in_ok-bytes-in-Inline-clause-reads : goal.returns-in_ok-bytes-in-Inline-clause-reads
+returns-in_ok-bytes-in-Inline-clause-reads g c = reads_none _ _
+
+pub returns-in_ok-bytes-in-Inline-clause-at_most : goal.returns-in_ok-bytes-in-Inline-clause-at_most
+returns-in_ok-bytes-in-Inline-clause-at_most g c = reads_none 22 _
+
+pub returns-in_ok-bytes-in-Inline-clause-kept : goal.returns-in_ok-bytes-in-Inline-clause-kept
+returns-in_ok-bytes-in-Inline-clause-kept g c =
+    let size = c.in-Inline.size in
+    let few : size ≤ 40 = subst (λ f. FormFits (Some f)) c.in-Inline.is c.requires.fits in
+    let long : length c.new.result ≡ size = ap (λ (z : List ℕ). length z) (c.new.ensures ∙ c.in_ok-bytes-in-Inline.ensures.items ∙ c.text.ensures) ∙ length-text_in c.args.row.now.rec property_text size (omega arith) in
+    omega arith

@@ -1,0 +1,33 @@
+-- Why a property is not set.
+use Rattle.std.specs.Prelude.{ℕ, ◌≤◌, Result, IsErrOf}
+use Rattle.fault_count.specs.Cause.{Rose}
+use Rattle.rec_bytes.specs.declared.space.SpaceFault.{SpaceFault}
+use Rattle.rec_bytes.specs.declared.space.SpaceFault.TheVariants as spaces
+use Rattle.id_freelist.specs.declared.take_fault.TakeFault.{TakeFault}
+use Rattle.id_freelist.specs.declared.take_fault.TakeFault.TheVariants as takes
+use Rattle.prop_store.specs.declared.fault.Fault.{Fault}
+use Rattle.prop_store.specs.declared.fault.Fault.TheVariants as faults
+use Rattle.prop_store.specs.declared.set_fault.SetFault.{SetFault}
+use Rattle.prop_store.specs.declared.set_fault.SetFault.TheVariants.{Full, Memory, Disk, Damaged}
+
+-- a fault of a read, and one of a space
+abbrev pub of_fault : Fault → SetFault
+of_fault faults.Memory = Memory
+of_fault faults.Disk = Disk
+of_fault (faults.Damaged damage) = Damaged damage
+
+abbrev pub of_space : SpaceFault → SetFault
+of_space spaces.Memory = Memory
+of_space spaces.Disk = Disk
+
+-- and one of a take
+abbrev pub of_take : TakeFault → SetFault
+of_take (takes.Full file live) = Full file live
+of_take takes.Memory = Memory
+of_take takes.Disk = Disk
+of_take (takes.Damaged damage) = Damaged damage
+
+-- the disk is blamed only where it failed
+pub record HasSetCause {T : Type 0} (before now : ℕ) (result : Result T SetFault) : Type 0 where
+  pub later : before ≤ now
+  pub disk : IsErrOf result Disk → Rose before now

@@ -1,0 +1,125 @@
+//! The blocks of a long text, followed from the first one on.
+
+ghost use Rattle.std.specs.Prelude.{◌≡◌, ◌↔◌, ◌≤◌, ◌<◌, ◌+◌, ◌/◌, ℕ, List, IfErr, IfOk, IsTrue, OnOk, length, min};
+ghost use Rattle.rec_bytes.specs.Format.{most_ids, strings_file};
+ghost use Rattle.rec_bytes.specs.Space.{after_get};
+ghost use Rattle.store_rules.specs.Views.{rec_at};
+ghost use Rattle.prop_store.specs.Blocks.{HasBlockForm, HasText};
+ghost use Rattle.prop_store.specs.Fault.{HasFaultCause, NotDamaged};
+ghost use Rattle.prop_store.specs.GivenOut.{AreGivenOut, IsGivenOut};
+ghost use Rattle.prop_store.specs.Reading.{ReadsAtMost};
+
+use crate::Fault;
+use crate::block_list::BlockList;
+use crate::fault::{LIST_RULE, RANGE_RULE};
+use crate::given_out::is_given_out;
+use rec_bytes::{
+    BLOCK, BLOCK_LENGTH, BLOCK_NEXT, BLOCK_TEXT, BLOCK_TEXT_BYTES, KIND, Key, NIL, Reads, Rec,
+    STRINGS,
+};
+use std::alloc::Global;
+
+/// The identifiers of the blocks of a text of so many bytes, without its bytes.
+pub(crate) fn block_ids<R: Reads>(space: &mut R, first: u32, size: u16) -> Result<BlockList, Fault>
+    requires { size ≤ 1024 }
+    ensures followed { R.tells → (text blocks : List ℕ)
+        → HasText (rec_at (R.state space.old).records strings_file) first size text blocks
+        → IfOk result (λ ids. ids ≡ blocks) }
+    ensures sound { R.tells → (text blocks : List ℕ)
+        → HasText (rec_at (R.state space.old).records strings_file) first size text blocks
+        → AreGivenOut (R.state space.old).records strings_file blocks → NotDamaged result }
+    ensures at_most { ReadsAtMost 22 (R.state space.old) (R.state space.new) }
+    ensures onward { R.onward space.old space.new }
+    ensures cause { HasFaultCause (R.faults space.old) (R.faults space.new) result }
+{
+    let mut ids = BlockList::new();
+    let mut at = first;
+    let mut left = size;
+    while left > 0 {
+        let piece = piece_size(left);
+        let rec = read_block(space, at, piece)?;
+        ids.push(at);
+        left -= piece as u16;
+        at = rec.number(BLOCK_NEXT);
+    }
+    if at != NIL {
+        return Err(Fault::damaged(STRINGS, at, LIST_RULE));
+    }
+    Ok(ids)
+}
+
+/// The bytes of a text of so many, from its blocks.
+pub(crate) fn read_text<R: Reads>(
+    alloc: Global,
+    space: &mut R,
+    first: u32,
+    size: u16,
+) -> Result<Vec<u8>, Fault>
+    requires { size ≤ 1024 }
+    ensures read { R.tells → (text blocks : List ℕ)
+        → HasText (rec_at (R.state space.old).records strings_file) first size text blocks
+        → IfOk result (λ bytes. bytes.items ≡ text) }
+    ensures size { IfOk result (λ bytes. length bytes.items ≡ size) }
+    ensures sound { R.tells → (text blocks : List ℕ)
+        → HasText (rec_at (R.state space.old).records strings_file) first size text blocks
+        → AreGivenOut (R.state space.old).records strings_file blocks → NotDamaged result }
+    ensures at_most { ReadsAtMost ((size + 47) / 48) (R.state space.old) (R.state space.new) }
+    ensures onward { R.onward space.old space.new }
+    ensures cause { HasFaultCause (R.faults space.old) (R.faults space.new) result }
+{
+    let mut bytes = Vec::new(alloc);
+    let mut at = first;
+    let mut left = size;
+    while left > 0 {
+        let piece = piece_size(left);
+        let rec = read_block(space, at, piece)?;
+        bytes.extend_from_slice(rec.text(BLOCK_TEXT, piece))?;
+        left -= piece as u16;
+        at = rec.number(BLOCK_NEXT);
+    }
+    if at != NIL {
+        return Err(Fault::damaged(STRINGS, at, LIST_RULE));
+    }
+    Ok(bytes)
+}
+
+/// How many bytes of a text the next block has, where so many are left.
+fn piece_size(left: u16) -> u8
+    ensures { result ≡ min 48 left }
+{
+    if (left as usize) < BLOCK_TEXT_BYTES {
+        left as u8
+    } else {
+        BLOCK_TEXT_BYTES as u8
+    }
+}
+
+/// A block that is to have so many bytes.
+fn read_block<R: Reads>(space: &mut R, id: u32, size: u8) -> Result<Rec, Fault>
+    ensures got { R.tells
+        → IfOk result (λ rec. rec ≡ rec_at (R.state space.old).records strings_file id) }
+    ensures small { OnOk result (id < most_ids) }
+    ensures sound { R.tells → IsGivenOut (R.state space.old).records strings_file id
+        → HasBlockForm (rec_at (R.state space.old).records strings_file id) size
+        → NotDamaged result }
+    ensures state { OnOk result (R.state space.new ≡ after_get (R.state space.old)) }
+    ensures at_most { ReadsAtMost 1 (R.state space.old) (R.state space.new) }
+    ensures onward { R.onward space.old space.new }
+    ensures cause { HasFaultCause (R.faults space.old) (R.faults space.new) result }
+{
+    if !is_given_out(space, STRINGS, id) {
+        return Err(Fault::damaged(STRINGS, id, LIST_RULE));
+    }
+    let rec = space.get(Key { file: STRINGS, id })?;
+    if !has_form(&rec, size) {
+        return Err(Fault::damaged(STRINGS, id, RANGE_RULE));
+    }
+    Ok(rec)
+}
+
+/// Whether the record is one of a block of so many bytes.
+fn has_form(rec: &Rec, size: u8) -> bool
+    ensures { IsTrue result ↔ HasBlockForm rec.now size }
+{
+    rec.byte(KIND) == BLOCK && rec.byte(BLOCK_LENGTH) == size
+}

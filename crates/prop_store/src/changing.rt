@@ -1,0 +1,85 @@
+//! Changes of the properties of one element. All that a refusal rests on is tested before the first
+//! write, but for room that a released text makes.
+
+ghost use Rattle.std.specs.Prelude.{◌≡◌, ◌+◌, ◌<◌, ◌≤◌, None, IfErr, IfOk};
+ghost use Rattle.std.specs.FinMap as maps;
+ghost use Rattle.plain_graph.specs.Forms.{IsKept};
+ghost use Rattle.plain_graph.specs.Properties.{blocks_of};
+ghost use Rattle.store_rules.specs.Writes.{WritesAtMost, WritesBeside};
+ghost use Rattle.prop_store.specs.Changing.{
+  DropsAll,
+  HasElement,
+  HasKey,
+  IsSetRefusal,
+  SetsValue,
+  UnsetsValue,
+  properties_of,
+  released_blocks,
+  text_at,
+};
+ghost use Rattle.prop_store.specs.Fault.{HasFaultCause, NotDamaged};
+ghost use Rattle.prop_store.specs.Owner.{IsOwner};
+ghost use Rattle.prop_store.specs.SetFault.{HasSetCause};
+
+use crate::dropping::{drop_chain, drop_property};
+use crate::finding::{Search, find};
+use crate::{Fault, Owner, SetFault};
+use plain_graph::Value;
+use rec_bytes::{NIL, PROPERTY_NEXT, Reads, Space, set_number};
+
+/// What a change gave back.
+#[derive(Clone, Copy, Debug, PartialEq, Eq)]
+pub struct Dropped {
+    pub properties: u32,
+    pub blocks: u32,
+}
+
+/// Takes the value of a key of an element away, and answers how many blocks it had; none where the
+/// element hasn't the key.
+pub fn unset<S: Space>(space: &mut S, owner: Owner, key: u32) -> Result<Option<u32>, Fault>
+    requires owner { IsOwner owner }
+    ensures unset { S.tells → IfOk result (λ released. HasKey (S.state space.old) owner key
+        → UnsetsValue (S.state space.old) (S.state space.new) owner key released) }
+    ensures sound { S.tells → HasKey (S.state space.old) owner key → NotDamaged result }
+    ensures few { IfOk result (λ released. released_blocks released ≤ 22) }
+    ensures shape { S.tells → (S.state space.new).shape ≡ (S.state space.old).shape }
+    ensures writes { IfOk result (λ released. WritesAtMost (2 + released_blocks released)
+        (S.state space.old) (S.state space.new)) }
+    ensures onward { S.onward space.old space.new }
+    ensures cause { HasFaultCause (S.faults space.old) (S.faults space.new) result }
+{
+    match find(space, owner, key)? {
+        Search::Absent(_) => Ok(None),
+        Search::Found(spot) => {
+            let released = drop_property(space, &spot.row)?;
+            let next = spot.row.rec.number(PROPERTY_NEXT);
+            set_number(space, spot.link.key, spot.link.field, next)?;
+            Ok(Some(released))
+        }
+    }
+}
+
+/// Takes all properties of an element away, and answers how many there were, and blocks.
+pub fn drop_all<S: Space>(space: &mut S, owner: Owner) -> Result<Dropped, Fault>
+    requires owner { IsOwner owner }
+    ensures dropped { S.tells → IfOk result (λ dropped. HasElement (S.state space.old) owner
+        → DropsAll (S.state space.old) (S.state space.new) owner dropped) }
+    ensures sound { S.tells → HasElement (S.state space.old) owner → NotDamaged result }
+    ensures few_properties { IfOk result (λ dropped. dropped.properties ≤ 32) }
+    ensures few_blocks { IfOk result (λ dropped. dropped.blocks ≤ 704) }
+    ensures shape { S.tells → (S.state space.new).shape ≡ (S.state space.old).shape }
+    ensures writes { IfOk result (λ dropped. WritesBeside owner.key (dropped.properties + dropped.blocks)
+        (S.state space.old) (S.state space.new)) }
+    ensures onward { S.onward space.old space.new }
+    ensures cause { HasFaultCause (S.faults space.old) (S.faults space.new) result }
+{
+    let first = owner.first(space)?;
+    let dropped = drop_chain(space, first)?;
+    if first != NIL {
+        set_number(space, owner.key, owner.field, NIL)?;
+    }
+    Ok(dropped)
+}
+
+#[cfg(test)]
+mod tests;

@@ -1,0 +1,70 @@
+//! Properties given back with their blocks.
+
+ghost use Rattle.std.specs.Prelude.{◌≡◌, ◌+◌, ◌≤◌, ℕ, List, IfOk};
+ghost use Rattle.store_rules.specs.Properties.{Property};
+ghost use Rattle.store_rules.specs.Writes.{WritesAtMost};
+ghost use Rattle.prop_store.specs.Dropping.{AreHeld, DropsProperties, DropsProperty, IsHeld};
+ghost use Rattle.prop_store.specs.Fault.{HasFaultCause, NotDamaged};
+ghost use Rattle.prop_store.specs.PropertyRow.{IsRow};
+
+use crate::Fault;
+use crate::changing::Dropped;
+use crate::fault::LIST_RULE;
+use crate::finding::MOST_PROPERTIES;
+use crate::property_row::{PropertyRow, property_at};
+use crate::releasing::release;
+use crate::values::value_blocks;
+use id_freelist::give;
+use rec_bytes::{NIL, PROPERTIES, PROPERTY_NEXT, Space};
+
+/// Gives a property and the blocks of its value back, and answers how many blocks those were. What
+/// leads to the property stays.
+pub(crate) fn drop_property<S: Space>(space: &mut S, row: &PropertyRow) -> Result<u32, Fault>
+    requires { IsRow row.now.id row.now }
+    ensures dropped { S.tells → (e : Property) → IsHeld (S.state space.old) row.now e
+        → IfOk result (DropsProperty (S.state space.old) (S.state space.new) e) }
+    ensures sound { S.tells → (e : Property) → IsHeld (S.state space.old) row.now e
+        → NotDamaged result }
+    ensures few { IfOk result (λ released. released ≤ 22) }
+    ensures shape { S.tells → (S.state space.new).shape ≡ (S.state space.old).shape }
+    ensures writes { IfOk result (λ released. WritesAtMost (1 + released)
+        (S.state space.old) (S.state space.new)) }
+    ensures onward { S.onward space.old space.new }
+    ensures cause { HasFaultCause (S.faults space.old) (S.faults space.new) result }
+{
+    let blocks = value_blocks(space, row)?;
+    let ids = blocks.as_slice();
+    release(space, ids)?;
+    give(space, PROPERTIES, row.id)?;
+    Ok(ids.len() as u32)
+}
+
+/// Gives properties back from a first one on, each with the blocks of its value.
+pub(crate) fn drop_chain<S: Space>(space: &mut S, first: u32) -> Result<Dropped, Fault>
+    ensures dropped { S.tells → (es : List Property) → AreHeld (S.state space.old) first es
+        → IfOk result (DropsProperties (S.state space.old) (S.state space.new) es) }
+    ensures sound { S.tells → (es : List Property) → AreHeld (S.state space.old) first es
+        → NotDamaged result }
+    ensures few_properties { IfOk result (λ dropped. dropped.properties ≤ 32) }
+    ensures few_blocks { IfOk result (λ dropped. dropped.blocks ≤ 704) }
+    ensures shape { S.tells → (S.state space.new).shape ≡ (S.state space.old).shape }
+    ensures writes { IfOk result (λ dropped. WritesAtMost (dropped.properties + dropped.blocks)
+        (S.state space.old) (S.state space.new)) }
+    ensures onward { S.onward space.old space.new }
+    ensures cause { HasFaultCause (S.faults space.old) (S.faults space.new) result }
+{
+    let mut at = first;
+    let mut properties = 0;
+    let mut blocks = 0;
+    while at != NIL {
+        if properties == MOST_PROPERTIES {
+            return Err(Fault::damaged(PROPERTIES, at, LIST_RULE));
+        }
+        let row = property_at(space, at)?;
+        let released = drop_property(space, &row)?;
+        properties += 1;
+        blocks += released;
+        at = row.rec.number(PROPERTY_NEXT);
+    }
+    Ok(Dropped { properties, blocks })
+}

@@ -1,0 +1,66 @@
+ghost use Rattle.std.specs.Prelude.{◌≡◌, ◌+◌, ℕ, List, IfOk, OnOk, length};
+ghost use Rattle.store_rules.specs.Properties.{AreProperties, Property, property_records};
+ghost use Rattle.prop_store.specs.Fault.{HasFaultCause, NotDamaged};
+ghost use Rattle.prop_store.specs.Finding.{IsPlaced, IsSought};
+ghost use Rattle.prop_store.specs.Owner.{HasProperties, IsOwner, first_of};
+ghost use Rattle.prop_store.specs.Reading.{ReadsAtMost};
+
+use crate::fault::LIST_RULE;
+use crate::link::Link;
+use crate::property_row::{PropertyRow, property_at};
+use crate::{Fault, Owner};
+use rec_bytes::{NIL, PROPERTIES, PROPERTY_KEY, PROPERTY_NEXT, Reads};
+
+/// How many properties an element may have.
+pub(crate) const MOST_PROPERTIES: u32 = plain_graph::PROPERTIES as u32;
+
+/// A property that was found: the link to it, and what its record says.
+#[derive(Clone, Copy, Debug, PartialEq, Eq)]
+pub(crate) struct Spot {
+    pub link: Link,
+    pub row: PropertyRow,
+}
+
+/// What came of a search for a key: where it is, or how many properties there are without it.
+#[derive(Clone, Copy, Debug, PartialEq, Eq)]
+pub(crate) enum Search {
+    Found(Spot),
+    Absent(u32),
+}
+
+/// Finds the property of a key.
+pub(crate) fn find<R: Reads>(space: &mut R, owner: Owner, key: u32) -> Result<Search, Fault>
+    requires { IsOwner owner }
+    ensures found { R.tells → (es : List Property)
+        → AreProperties (property_records (R.state space.old).records)
+        (first_of (R.state space.old).records owner) es
+        → IfOk result (IsSought (R.state space.old).records owner es key) }
+    ensures sound { R.tells → (es : List Property)
+        → HasProperties (R.state space.old).records owner es → NotDamaged result }
+    ensures placed { IfOk result (IsPlaced key) }
+    ensures cost { R.tells → (es : List Property)
+        → AreProperties (property_records (R.state space.old).records)
+        (first_of (R.state space.old).records owner) es
+        → OnOk result (ReadsAtMost (1 + length es) (R.state space.old) (R.state space.new)) }
+    ensures at_most { ReadsAtMost 33 (R.state space.old) (R.state space.new) }
+    ensures onward { R.onward space.old space.new }
+    ensures cause { HasFaultCause (R.faults space.old) (R.faults space.new) result }
+{
+    let mut link = Link::of(owner);
+    let mut at = owner.first(space)?;
+    for count in 0..MOST_PROPERTIES {
+        if at == NIL {
+            return Ok(Search::Absent(count));
+        }
+        let row = property_at(space, at)?;
+        if row.rec.number(PROPERTY_KEY) == key {
+            return Ok(Search::Found(Spot { link, row }));
+        }
+        link = Link::after(at);
+        at = row.rec.number(PROPERTY_NEXT);
+    }
+    if at != NIL {
+        return Err(Fault::damaged(PROPERTIES, at, LIST_RULE));
+    }
+    Ok(Search::Absent(MOST_PROPERTIES))
+}

@@ -1,0 +1,53 @@
+ghost use Rattle.std.specs.Prelude.{◌≡◌, IfOk, OnOk};
+ghost use Rattle.rec_bytes.specs.Format.{properties_file};
+ghost use Rattle.rec_bytes.specs.Space.{after_get};
+ghost use Rattle.store_rules.specs.Views.{rec_at};
+ghost use Rattle.prop_store.specs.Fault.{HasFaultCause, NotDamaged};
+ghost use Rattle.prop_store.specs.GivenOut.{IsGivenOut};
+ghost use Rattle.prop_store.specs.PropertyRow.{HasContent, IsRow};
+ghost use Rattle.prop_store.specs.Reading.{ReadsAtMost};
+
+use crate::Fault;
+use crate::fault::{LIST_RULE, RANGE_RULE};
+use crate::form::{Form, form_of};
+use crate::given_out::is_given_out;
+use rec_bytes::{Key, PROPERTIES, Reads, Rec};
+
+/// A property as its record says it.
+#[derive(Clone, Copy, Debug, PartialEq, Eq)]
+pub(crate) struct PropertyRow {
+    /// Its identifier, which the record doesn't hold.
+    pub id: u32,
+    /// Its record.
+    pub rec: Rec,
+    /// What the record says of its value.
+    pub form: Form,
+}
+
+/// Reads the property of an identifier. It is damaged where none was given out, or where its record
+/// is no property's.
+pub(crate) fn property_at<R: Reads>(space: &mut R, id: u32) -> Result<PropertyRow, Fault>
+    ensures row { IfOk result (IsRow id) }
+    ensures got { R.tells
+        → IfOk result (λ row. row.rec ≡ rec_at (R.state space.old).records properties_file id) }
+    ensures sound { R.tells → IsGivenOut (R.state space.old).records properties_file id
+        → HasContent (rec_at (R.state space.old).records properties_file id)
+        → NotDamaged result }
+    ensures state { OnOk result (R.state space.new ≡ after_get (R.state space.old)) }
+    ensures at_most { ReadsAtMost 1 (R.state space.old) (R.state space.new) }
+    ensures onward { R.onward space.old space.new }
+    ensures cause { HasFaultCause (R.faults space.old) (R.faults space.new) result }
+{
+    if !is_given_out(space, PROPERTIES, id) {
+        return Err(Fault::damaged(PROPERTIES, id, LIST_RULE));
+    }
+    let key = Key {
+        file: PROPERTIES,
+        id,
+    };
+    let rec = space.get(key)?;
+    match form_of(&rec) {
+        Some(form) => Ok(PropertyRow { id, rec, form }),
+        None => Err(Fault::damaged(PROPERTIES, id, RANGE_RULE)),
+    }
+}

@@ -1,0 +1,88 @@
+ghost use Rattle.std.specs.Prelude.{◌≡◌, ◌+◌, ◌≤◌, ℕ, List, All, IfOk, IfSome, length, map};
+ghost use Rattle.plain_graph.specs.Forms.{IsKept};
+ghost use Rattle.plain_graph.specs.Properties.{blocks_if};
+ghost use Rattle.store_rules.specs.Properties.{AreProperties, Property, property_records};
+ghost use Rattle.prop_store.specs.Fault.{HasFaultCause, NotDamaged};
+ghost use Rattle.prop_store.specs.Finding.{value_of};
+ghost use Rattle.prop_store.specs.Owner.{HasProperties, IsOwner, first_of};
+ghost use Rattle.prop_store.specs.Reading.{ReadsAtMost, block_total, prop_of};
+
+use crate::fault::LIST_RULE;
+use crate::finding::{MOST_PROPERTIES, Search, find};
+use crate::property_row::property_at;
+use crate::values::read_value;
+use crate::{Fault, Owner, Prop};
+use plain_graph::Value;
+use rec_bytes::{NIL, PROPERTIES, PROPERTY_KEY, PROPERTY_NEXT, Reads};
+use std::alloc::Global;
+
+/// The value of a key, and none where the element hasn't the key.
+pub fn read_key<R: Reads>(
+    alloc: Global,
+    space: &mut R,
+    owner: Owner,
+    key: u32,
+) -> Result<Option<Value>, Fault>
+    requires { IsOwner owner }
+    ensures read { R.tells → (es : List Property)
+        → AreProperties (property_records (R.state space.old).records)
+        (first_of (R.state space.old).records owner) es
+        → IfOk result (λ value. value ≡ value_of es key) }
+    ensures sound { R.tells → (es : List Property)
+        → HasProperties (R.state space.old).records owner es → NotDamaged result }
+    ensures kept { IfOk result (λ value. IfSome value IsKept) }
+    ensures cost { R.tells → (es : List Property)
+        → AreProperties (property_records (R.state space.old).records)
+        (first_of (R.state space.old).records owner) es
+        → IfOk result (λ value. ReadsAtMost (1 + length es + blocks_if value)
+        (R.state space.old) (R.state space.new)) }
+    ensures reads { IfOk result (λ value. ReadsAtMost (33 + blocks_if value)
+        (R.state space.old) (R.state space.new)) }
+    ensures at_most { ReadsAtMost 55 (R.state space.old) (R.state space.new) }
+    ensures onward { R.onward space.old space.new }
+    ensures cause { HasFaultCause (R.faults space.old) (R.faults space.new) result }
+{
+    match find(space, owner, key)? {
+        Search::Absent(_) => Ok(None),
+        Search::Found(spot) => {
+            let value = read_value(alloc, space, &spot.row)?;
+            Ok(Some(value))
+        }
+    }
+}
+
+/// The properties of an element, in the order of their chain.
+pub fn read_all<R: Reads>(alloc: Global, space: &mut R, owner: Owner) -> Result<Vec<Prop>, Fault>
+    requires { IsOwner owner }
+    ensures read { R.tells → (es : List Property)
+        → AreProperties (property_records (R.state space.old).records)
+        (first_of (R.state space.old).records owner) es
+        → IfOk result (λ props. props.items ≡ map prop_of es) }
+    ensures sound { R.tells → (es : List Property)
+        → HasProperties (R.state space.old).records owner es → NotDamaged result }
+    ensures kept { IfOk result (λ props. All (λ prop. IsKept prop.value) props.items) }
+    ensures few { IfOk result (λ props. length props.items ≤ 32) }
+    ensures reads { IfOk result
+        (λ props. ReadsAtMost (1 + length props.items + block_total props.items)
+        (R.state space.old) (R.state space.new)) }
+    ensures at_most { ReadsAtMost 737 (R.state space.old) (R.state space.new) }
+    ensures onward { R.onward space.old space.new }
+    ensures cause { HasFaultCause (R.faults space.old) (R.faults space.new) result }
+{
+    let mut props = Vec::new(alloc);
+    let mut at = owner.first(space)?;
+    for _ in 0..MOST_PROPERTIES {
+        if at == NIL {
+            return Ok(props);
+        }
+        let row = property_at(space, at)?;
+        let value = read_value(alloc, space, &row)?;
+        let key = row.rec.number(PROPERTY_KEY);
+        props.push(Prop { key, value })?;
+        at = row.rec.number(PROPERTY_NEXT);
+    }
+    if at != NIL {
+        return Err(Fault::damaged(PROPERTIES, at, LIST_RULE));
+    }
+    Ok(props)
+}

@@ -1,0 +1,174 @@
+//! Values that are given to the keys of one element.
+
+ghost use Rattle.std.specs.Prelude.{◌≡◌, ◌≢◌, ◌+◌, ◌<◌, ◌≤◌, ◌^◌, [], ◌∷◌, None, IfErr, IfOk, OnOk, length};
+ghost use Rattle.std.specs.FinMap as maps;
+ghost use Rattle.plain_graph.specs.Forms.{IsKept};
+ghost use Rattle.plain_graph.specs.Properties.{blocks_of};
+ghost use Rattle.store_rules.specs.Writes.{WritesAtMost, WritesBeside};
+ghost use Rattle.prop_store.specs.Changing.{HasKey, IsSetRefusal, SetsValue, properties_of, text_at};
+ghost use Rattle.prop_store.specs.Dropping.{IsHeld};
+ghost use Rattle.prop_store.specs.FileChange.{KeepsFile};
+ghost use Rattle.prop_store.specs.Owner.{IsOwner};
+ghost use Rattle.prop_store.specs.PropertyRow.{IsRow};
+ghost use Rattle.prop_store.specs.SetFault.{HasSetCause};
+ghost use Rattle.prop_store.specs.Setting.{IsPutFault, MayLead, PutsProperty};
+ghost use Rattle.rec_bytes.specs.Format.{properties_file, property_key, property_next, strings_file};
+ghost use Rattle.rec_bytes.specs.Record.{field};
+ghost use Rattle.rec_bytes.specs.RecordFiles.{room_of};
+ghost use Rattle.rec_bytes.specs.Space.{meta_of};
+ghost use Rattle.store_rules.specs.Properties.{Property, long_text};
+
+use crate::block_writing::write_text;
+use crate::finding::{MOST_PROPERTIES, Search, find};
+use crate::property_record::property_record;
+use crate::property_row::PropertyRow;
+use crate::releasing::release;
+use crate::values::value_blocks;
+use crate::{Owner, SetFault};
+use id_freelist::take;
+use plain_graph::Value;
+use rec_bytes::{
+    Key, PROPERTIES, PROPERTY_KEY, PROPERTY_NEXT, PROPERTY_TEXT_BYTES, Reads, Space, room_of,
+    set_number,
+};
+
+/// Puts a property in front of those of an element that hasn't the key. The key is the number of its
+/// name.
+pub fn add<S: Space>(space: &mut S, owner: Owner, key: u32, value: &Value) -> Result<(), SetFault>
+    requires owner { IsOwner owner }
+    requires kept { IsKept value.now }
+    ensures added { S.tells → IfOk result (λ _. HasKey (S.state space.old) owner key
+        → maps.get (properties_of (S.state space.old) owner) (text_at (S.state space.old) key) ≡ None
+        → maps.len (properties_of (S.state space.old) owner) < 32
+        → SetsValue (S.state space.old) (S.state space.new) owner key value.now 0) }
+    ensures refused { S.tells → HasKey (S.state space.old) owner key
+        → maps.get (properties_of (S.state space.old) owner) (text_at (S.state space.old) key) ≡ None
+        → maps.len (properties_of (S.state space.old) owner) < 32
+        → IfErr result (IsSetRefusal (S.state space.old) owner key value.now) }
+    ensures shape { S.tells → (S.state space.new).shape ≡ (S.state space.old).shape }
+    ensures writes { IfOk result (λ _. WritesBeside owner.key (1 + blocks_of value.now)
+        (S.state space.old) (S.state space.new)) }
+    ensures onward { S.onward space.old space.new }
+    ensures cause { HasSetCause (S.faults space.old) (S.faults space.new) result }
+{
+    let meta = space.meta(PROPERTIES);
+    if meta.live as u64 == room_of(PROPERTIES, space.shape()) {
+        return Err(SetFault::Full {
+            file: PROPERTIES,
+            live: meta.live,
+        });
+    }
+    let next = owner.first(space)?;
+    let id = put_new(space, key, value, next)?;
+    set_number(space, owner.key, owner.field, id)?;
+    Ok(())
+}
+
+/// Gives a key of an element a value, and answers how many blocks the value had that the key had.
+/// Those are given back before others are taken.
+pub fn set<S: Space>(space: &mut S, owner: Owner, key: u32, value: &Value) -> Result<u32, SetFault>
+    requires owner { IsOwner owner }
+    requires kept { IsKept value.now }
+    ensures set { S.tells → IfOk result (λ released. HasKey (S.state space.old) owner key
+        → SetsValue (S.state space.old) (S.state space.new) owner key value.now released) }
+    ensures refused { S.tells → HasKey (S.state space.old) owner key
+        → IfErr result (IsSetRefusal (S.state space.old) owner key value.now) }
+    ensures few { IfOk result (λ released. released ≤ 22) }
+    ensures shape { S.tells → (S.state space.new).shape ≡ (S.state space.old).shape }
+    ensures writes { IfOk result (λ released. WritesAtMost (2 + blocks_of value.now + released)
+        (S.state space.old) (S.state space.new)) }
+    ensures onward { S.onward space.old space.new }
+    ensures cause { HasSetCause (S.faults space.old) (S.faults space.new) result }
+{
+    match find(space, owner, key)? {
+        Search::Absent(count) => {
+            if count >= MOST_PROPERTIES {
+                return Err(SetFault::PropsFull { count });
+            }
+            add(space, owner, key, value)?;
+            Ok(0)
+        }
+        Search::Found(spot) => put_again(space, &spot.row, value),
+    }
+}
+
+/// The bytes of a value that don't fit its property's record.
+fn long_bytes(value: &Value) -> &[u8]
+    requires { IsKept value.now }
+    ensures is { result.now ≡ long_text value.now }
+    ensures few { length result.now ≤ 1024 }
+{
+    match value {
+        Value::Text(text) => {
+            let bytes = text.as_bytes();
+            if bytes.len() <= PROPERTY_TEXT_BYTES {
+                &[]
+            } else {
+                bytes
+            }
+        }
+        _ => &[],
+    }
+}
+
+/// Writes a property of this key and value, which wasn't there, and answers its identifier. It
+/// leads to the property after it; what leads to it is left to the caller.
+fn put_new<S: Space>(space: &mut S, key: u32, value: &Value, next: u32) -> Result<u32, SetFault>
+    requires { IsKept value.now }
+    ensures put { S.tells → IfOk result (λ id. KeepsFile (S.state space.old) strings_file
+        → KeepsFile (S.state space.old) properties_file → MayLead (S.state space.old) next
+        → PutsProperty (S.state space.old) (S.state space.new) [] [] id key value.now next) }
+    ensures refused { S.tells → KeepsFile (S.state space.old) strings_file
+        → KeepsFile (S.state space.old) properties_file
+        → (meta_of (S.state space.old) properties_file).live
+        ≢ room_of (S.state space.old).shape properties_file
+        → IfErr result (IsPutFault (S.state space.old) 0 (blocks_of value.now)) }
+    ensures shape { S.tells → (S.state space.new).shape ≡ (S.state space.old).shape }
+    ensures writes { IfOk result (λ _. WritesAtMost (1 + blocks_of value.now)
+        (S.state space.old) (S.state space.new)) }
+    ensures onward { S.onward space.old space.new }
+    ensures cause { HasSetCause (S.faults space.old) (S.faults space.new) result }
+{
+    let first = write_text(space, long_bytes(value))?;
+    let id = take(space, PROPERTIES)?;
+    let key_of = Key {
+        file: PROPERTIES,
+        id,
+    };
+    space.put(key_of, property_record(key, value, first, next))?;
+    Ok(id)
+}
+
+/// Gives a property another value, and answers how many blocks the one that it had had. Those are
+/// given back before others are taken.
+fn put_again<S: Space>(space: &mut S, row: &PropertyRow, value: &Value) -> Result<u32, SetFault>
+    requires row { IsRow row.now.id row.now }
+    requires kept { IsKept value.now }
+    ensures put { S.tells → (e : Property) → IsHeld (S.state space.old) row.now e
+        → MayLead (S.state space.old) (field 4 row.now.rec property_next)
+        → IfOk result (λ released. (released ≡ length e.blocks)
+        × PutsProperty (S.state space.old) (S.state space.new) (e.id ∷ []) e.blocks e.id
+        (field 4 row.now.rec property_key) value.now
+        (field 4 row.now.rec property_next)) }
+    ensures few { IfOk result (λ released. released ≤ 22) }
+    ensures refused { S.tells → (e : Property) → IsHeld (S.state space.old) row.now e
+        → IfErr result (IsPutFault (S.state space.old) (length e.blocks) (blocks_of value.now)) }
+    ensures shape { S.tells → (S.state space.new).shape ≡ (S.state space.old).shape }
+    ensures writes { IfOk result (λ released. WritesAtMost (1 + blocks_of value.now + released)
+        (S.state space.old) (S.state space.new)) }
+    ensures onward { S.onward space.old space.new }
+    ensures cause { HasSetCause (S.faults space.old) (S.faults space.new) result }
+{
+    let blocks = value_blocks(space, row)?;
+    let ids = blocks.as_slice();
+    release(space, ids)?;
+    let first = write_text(space, long_bytes(value))?;
+    let key = row.rec.number(PROPERTY_KEY);
+    let next = row.rec.number(PROPERTY_NEXT);
+    let key_of = Key {
+        file: PROPERTIES,
+        id: row.id,
+    };
+    space.put(key_of, property_record(key, value, first, next))?;
+    Ok(ids.len() as u32)
+}

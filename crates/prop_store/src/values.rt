@@ -1,0 +1,74 @@
+//! The value of a property, and its blocks.
+
+ghost use Rattle.std.specs.Prelude.{◌≡◌, ℕ, List, IfOk};
+ghost use Rattle.plain_graph.specs.Forms.{IsKept};
+ghost use Rattle.plain_graph.specs.Properties.{blocks_of};
+ghost use Rattle.plain_graph.specs.declared.value.Value.{Value as StoredValue};
+ghost use Rattle.rec_bytes.specs.Format.{strings_file};
+ghost use Rattle.store_rules.specs.Views.{rec_at};
+ghost use Rattle.prop_store.specs.Fault.{HasFaultCause, NotDamaged};
+ghost use Rattle.prop_store.specs.GivenOut.{AreGivenOut};
+ghost use Rattle.prop_store.specs.PropertyRow.{HasValue, IsRow};
+ghost use Rattle.prop_store.specs.Reading.{ReadsAtMost};
+
+use crate::Fault;
+use crate::block_list::BlockList;
+use crate::blocks::{block_ids, read_text};
+use crate::form::Form;
+use crate::property_row::PropertyRow;
+use plain_graph::{Text, Value};
+use rec_bytes::{PROPERTY_TEXT, Reads};
+use std::alloc::Global;
+
+/// Reads the value of a property.
+pub(crate) fn read_value<R: Reads>(
+    alloc: Global,
+    space: &mut R,
+    row: &PropertyRow,
+) -> Result<Value, Fault>
+    requires { IsRow row.now.id row.now }
+    ensures read { R.tells → (value : StoredValue) (blocks : List ℕ)
+        → HasValue (rec_at (R.state space.old).records strings_file) row.now.rec value blocks
+        → IfOk result (λ read. read ≡ value) }
+    ensures sound { R.tells → (value : StoredValue) (blocks : List ℕ)
+        → HasValue (rec_at (R.state space.old).records strings_file) row.now.rec value blocks
+        → AreGivenOut (R.state space.old).records strings_file blocks → NotDamaged result }
+    ensures kept { IfOk result IsKept }
+    ensures reads { IfOk result
+        (λ value. ReadsAtMost (blocks_of value) (R.state space.old) (R.state space.new)) }
+    ensures at_most { ReadsAtMost 22 (R.state space.old) (R.state space.new) }
+    ensures onward { R.onward space.old space.new }
+    ensures cause { HasFaultCause (R.faults space.old) (R.faults space.new) result }
+{
+    match row.form {
+        Form::Number(number) => Ok(Value::Int(number)),
+        Form::Truth(truth) => Ok(Value::Bool(truth)),
+        Form::Inline(size) => {
+            let bytes = Vec::from_slice(alloc, row.rec.text(PROPERTY_TEXT, size))?;
+            Ok(Value::Text(Text::new(bytes)))
+        }
+        Form::Long { size, first } => {
+            let bytes = read_text(alloc, space, first, size)?;
+            Ok(Value::Text(Text::new(bytes)))
+        }
+    }
+}
+
+/// The blocks of a property's value, which are not read but for what they lead to.
+pub(crate) fn value_blocks<R: Reads>(space: &mut R, row: &PropertyRow) -> Result<BlockList, Fault>
+    requires { IsRow row.now.id row.now }
+    ensures followed { R.tells → (value : StoredValue) (blocks : List ℕ)
+        → HasValue (rec_at (R.state space.old).records strings_file) row.now.rec value blocks
+        → IfOk result (λ ids. ids ≡ blocks) }
+    ensures sound { R.tells → (value : StoredValue) (blocks : List ℕ)
+        → HasValue (rec_at (R.state space.old).records strings_file) row.now.rec value blocks
+        → AreGivenOut (R.state space.old).records strings_file blocks → NotDamaged result }
+    ensures at_most { ReadsAtMost 22 (R.state space.old) (R.state space.new) }
+    ensures onward { R.onward space.old space.new }
+    ensures cause { HasFaultCause (R.faults space.old) (R.faults space.new) result }
+{
+    match row.form {
+        Form::Long { size, first } => block_ids(space, first, size),
+        _ => Ok(BlockList::new()),
+    }
+}
