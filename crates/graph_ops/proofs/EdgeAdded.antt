@@ -1,264 +1,225 @@
 -- The whole of adding an edge, by what the calls left.
-use Rattle.std.specs.List.{Contains, list_any}
-use Rattle.std.proofs.Common.{◌≡◌, ◌≢◌, ℕ, ◌+◌, ◌<◌, ◌≤◌, ◌^◌, nat_eq, nat_lt, Bool, true, false, ◌&&◌, ◌||◌, cond, List, [], ◌∷◌, ◌++◌, length, sym, ap, ◌∙◌, subst, ⊎_elim, arith, refl}
-use Rattle.plain_graph.specs.Graph.{AddsEdge, UsesName, has_node, edge_number, with_row}
-use Rattle.plain_graph.specs.Names.{IsShortName}
-use Rattle.rec_bytes.specs.declared.record.Rec.{Rec}
+use Rattle.std.specs.List.{list_any}
+use Rattle.std.proofs.Common.{◌≡◌, ◌≢◌, ◌⊎◌, ℕ, ◌+◌, ◌*◌, ◌<◌, ◌≤◌, nat_eq, if◌then◌else◌, true, false, Option, None, Some, List, ◌∷◌, filter, find, length, sym, ap, ◌∙◌, subst, inl, inr, ⊎_elim, arith, refl}
+use Rattle.plain_graph.specs.Changes.{ends_weight, properties_weight}
+use Rattle.plain_graph.specs.Graph.{AddsEdge, Edge, Graph, Node, UsesNames, change_edge, degree_in, edge_number, edge_properties, has_edge, has_node, is_at, node_number, with_change, with_row}
+use Rattle.plain_graph.specs.Properties.{Properties, keys_in, no_properties, with_pairs}
+use Rattle.plain_graph.specs.Refusals.{FirstReason, NoReason, change_reasons, edges_full, no_source, no_target}
+use Rattle.plain_graph.specs.Reply.{EdgeMade}
+use Rattle.plain_graph.specs.declared.command.Command.TheVariants as commands
+use Rattle.plain_graph.specs.declared.command.Target.{Target}
+use Rattle.plain_graph.specs.declared.command.Target.TheVariants as targets
+use Rattle.plain_graph.specs.declared.pairs.Pair.{Pair}
+use Rattle.plain_graph.specs.declared.refusal.Refusal.{Refusal}
+use Rattle.plain_graph.specs.declared.refusal.Refusal.TheVariants as refusals
+use Rattle.rec_bytes.specs.declared.meta.Meta.{Meta}
 use Rattle.rec_bytes.specs.declared.shape.Shape.{Shape}
 use Rattle.rec_bytes.specs.Format as format
-use Rattle.rec_bytes.specs.Record.{field}
-use Rattle.rec_bytes.specs.RecordFiles.{room_of}
-use Rattle.rec_bytes.specs.Space.{State, after_put, put}
-use Rattle.rec_bytes.proofs.Spaces.{put_same, put_other}
-use Rattle.store_rules.specs.Chains.{prev_in}
-use Rattle.store_rules.specs.Graph.{graph_of, names_of}
-use Rattle.store_rules.specs.Ranges.{Fits, layout_by, may, must}
-use Rattle.store_rules.specs.Rules.{IsSparseStore, IsSplit, first_of, node_head}
-use Rattle.store_rules.specs.Views as views
-use Rattle.store_rules.specs.Views.{Records, degree, high, is_live, key_in, kind_at, rec_at, rel_in, text_of}
-use Rattle.store_rules.proofs.Changes as ch
-use Rattle.store_rules.proofs.EdgeMade.{made_edges, made_fresh, made_names, made_nodes, made_store}
-use Rattle.store_rules.proofs.GraphRows.{node_there}
-use Rattle.store_rules.proofs.Frames.{kind_same, split_same}
-use Rattle.store_rules.proofs.Made.{IsMade}
-use Rattle.store_rules.proofs.NameMade.{IsNamed, edges_stay, name_store, names_more, nodes_stay}
-use Rattle.store_rules.proofs.NumberLaws.{lt_true}
-use Rattle.store_rules.proofs.ViewLaws.{kind_below}
-use Rattle.id_freelist.specs.Taking.{HasTaken}
-use Rattle.id_freelist.proofs.Making.{is_made}
-use Rattle.name_store.specs.Interning.{interned, named}
-use Rattle.name_store.specs.NameRecord.{name_record}
-use Rattle.name_store.proofs.FirstNames.{length-names_of}
-use Rattle.name_store.proofs.NamedStore.{IsNamed-named, interned-known, interned-new}
-use Rattle.rel_store.specs.RelRecord.{rel_key, rel_record, rel_used}
-use Rattle.rel_store.proofs.RelRecords.{HasNumbers, blank-rel_record, kind-rel_record, number-rel_record}
-use Rattle.chain_edit.specs.Links.{IsRightLink}
-use Rattle.graph_ops.specs.EdgeEnds.{both_joined, joined}
-use Rattle.graph_ops.specs.EdgePlacing.{HasPlaced, new_row}
-use Rattle.graph_ops.specs.Store.{IsStore, graph_in}
-use Rattle.graph_ops.proofs.EdgeJoined.{IsLoneEdge, edge_joined, made_right, one_right}
-use Rattle.graph_ops.proofs.NewNames.{named-shape}
-use Rattle.graph_ops.proofs.NodeAdded.{number_in}
-use Rattle.graph_ops.proofs.Shapes.{room_most, room_small}
-use Rattle.graph_ops.proofs.TakenBeside.{taken_beside}
+use Rattle.rec_bytes.specs.Space.{SameButReads, State, meta_of}
+use Rattle.store_rules.specs.Views.{high, is_live}
+use Rattle.store_rules.proofs.Counts.{length-ids}
+use Rattle.store_rules.proofs.GraphRows.{count_edges}
+use Rattle.node_store.specs.declared.node_row.NodeRow.{NodeRow}
+use Rattle.node_store.specs.Loading as nodes
+use Rattle.graph_ops.specs.Assigning.{CanPut, HasPropertyRoom, PutsPairs, assigned_blocks, pairs_of}
+use Rattle.graph_ops.specs.Change.{IsRefusedBy, MakesChange}
+use Rattle.graph_ops.specs.EdgeAdding.{IsFullOfEdges, degrees_weight}
+use Rattle.graph_ops.specs.EdgePlacing.{PutsEdge}
+use Rattle.graph_ops.specs.NodeDeleting.{HasDegree}
+use Rattle.graph_ops.specs.Owners.{IsMissing}
+use Rattle.graph_ops.specs.Preparing.{IsPrepared, line_reasons}
+use Rattle.graph_ops.specs.Rooms.{HasRoom, LacksRoom}
+use Rattle.graph_ops.specs.Store.{IsStore, KeepsElements, graph_in}
+use Rattle.graph_ops.specs.declared.change_fault.ChangeFault.{ChangeFault}
+use Rattle.graph_ops.specs.declared.change_fault.ChangeFault.TheVariants.{NoNode, NoEdge, HasRelationships, Full, NamesFull, PropsFull, Memory, Disk, Damaged}
+use Rattle.graph_ops.specs.declared.preparing.Prepared.{Prepared}
+use Rattle.graph_ops.proofs.ElementRooms as rooms
+use Rattle.graph_ops.proofs.ElementChanges.{new_edge_changed, new_edge_properties, new_edge_there}
+use Rattle.graph_ops.proofs.Elements.{found_in, found_there, node_missing, same_both}
+use Rattle.graph_ops.proofs.LineNames.{needs_names}
+use Rattle.graph_ops.proofs.Readings.{store_read}
+use Rattle.graph_ops.proofs.Reasons.{None as Never, refused_more}
 
--- ---- the record of a new relationship
-module _ (id label from to : ℕ) (label_small : label < 2 ^ 32) (from_small : from < 2 ^ 32) (to_small : to < 2 ^ 32) where
-  numbers : HasNumbers (new_row id label from to)
-  numbers = record { label = label_small; from = from_small; to = to_small; source_previous = omega arith; source_next = omega arith; target_previous = omega arith; target_next = omega arith; property = omega arith }
+-- ---- room for an edge
+module _ (s : State) (names : List (List ℕ)) (store : IsStore s names) where
+  live_edges : (meta_of s format.relationships_file).live ≡ length (graph_in s).edges
+  live_edges = count_edges s.records s.shape store.store.keeps
 
-  abbrev rec : Rec
-  rec = rel_record (new_row id label from to)
+  pub not_full : HasRoom s format.relationships_file 1 → ¬ IsFullOfEdges s
+  not_full = rooms.not_full s names store format.relationships_file (length (graph_in s).edges) refl refl refl live_edges
 
-  pub new_kind : field 1 rec format.kind ≡ format.related
-  new_kind = kind-rel_record (new_row id label from to) numbers
+  pub lacks_full : (fault : ChangeFault) → LacksRoom s format.relationships_file 1 fault → IsFullOfEdges s
+  lacks_full = rooms.lacks_full s names store format.relationships_file (length (graph_in s).edges) refl refl refl live_edges
 
-  pub new_is : rel_in rec id ≡ record { id = id; label = label; from = from; to = to; property = format.nil }
-  new_is = λ i. record {
-    id = id;
-    label = number-rel_record (new_row id label from to) format.relationship_type label numbers refl i;
-    from = number-rel_record (new_row id label from to) format.relationship_source from numbers refl i;
-    to = number-rel_record (new_row id label from to) format.relationship_target to numbers refl i;
-    property = number-rel_record (new_row id label from to) format.relationship_first_property format.nil numbers refl i;
+  -- a space with the same edges has room for one more, too
+  pub room_kept : (u : State) (c : List (List ℕ)) → KeepsElements s u c → HasRoom s format.relationships_file 1 → HasRoom u format.relationships_file 1
+  room_kept u c kept = rooms.room_still s u format.relationships_file 1 (count_edges u.records u.shape kept.store.store.keeps ∙ ap length kept.edges ∙ sym live_edges) kept.shape
+
+-- ---- the ends
+clash : true ≡ false → ⊥
+clash e = cc
+
+none_of : (other : Refusal) → ⊥ → ⊥
+none_of other h = h
+
+node_is : (a b : ℕ) → targets.Node a ≡ targets.Node b → a ≡ b
+node_is a b e = cc
+
+no_edge_is : (a b : ℕ) → targets.Node a ≡ targets.Edge b → ⊥
+no_edge_is a b e = cc
+
+-- the reasons of an edge that come before those of its names and properties
+module _ (limit : ℕ) (graph : Graph) (from : ℕ) (label : List ℕ) (to : ℕ) (pairs : List Pair) where
+  -- no node is where the edge is to begin
+  pub source_missing : (fault : ChangeFault) → IsMissing graph (targets.Node from) fault → IsRefusedBy change_reasons limit graph (commands.Edge from label to pairs) fault
+  source_missing (NoNode id) why = let e = node_is from id why.0 in inr (none_of, inl (ap (has_node graph) e ∙ why.1, sym (ap refusals.NoNode e)))
+  source_missing (NoEdge id) why = absurd (no_edge_is from id why.0)
+  source_missing (HasRelationships id degree) why = absurd why
+  source_missing (Full file live) why = absurd why
+  source_missing (NamesFull count) why = absurd why
+  source_missing (PropsFull count) why = absurd why
+  source_missing Memory why = absurd why
+  source_missing Disk why = tt
+  source_missing (Damaged damage) why = absurd why
+
+  module _ (leaves : has_node graph from ≡ true) where
+    has_source : Never (no_source limit graph (commands.Edge from label to pairs))
+    has_source other why = clash (sym leaves ∙ why.0)
+
+    -- or where it is to end
+    pub target_missing : (fault : ChangeFault) → IsMissing graph (targets.Node to) fault → IsRefusedBy change_reasons limit graph (commands.Edge from label to pairs) fault
+    target_missing (NoNode id) why = let e = node_is to id why.0 in inr (none_of, inr (has_source, inl (ap (has_node graph) e ∙ why.1, sym (ap refusals.NoNode e))))
+    target_missing (NoEdge id) why = absurd (no_edge_is to id why.0)
+    target_missing (HasRelationships id degree) why = absurd why
+    target_missing (Full file live) why = absurd why
+    target_missing (NamesFull count) why = absurd why
+    target_missing (PropsFull count) why = absurd why
+    target_missing Memory why = absurd why
+    target_missing Disk why = tt
+    target_missing (Damaged damage) why = absurd why
+
+    module _ (enters : has_node graph to ≡ true) where
+      has_target : Never (no_target limit graph (commands.Edge from label to pairs))
+      has_target other why = clash (sym enters ∙ why.0)
+
+      -- there are as many edges as there may be
+      edges_first : length graph.edges ≡ limit → FirstReason change_reasons limit graph (commands.Edge from label to pairs) refusals.FullEdges
+      edges_first full = inr (none_of, inr (has_source, inr (has_target, inl (full, refl))))
+
+      pub edges_refused : (fault : ChangeFault) (live : ℕ) → fault ≡ Full format.relationships_file live → length graph.edges ≡ limit → IsRefusedBy change_reasons limit graph (commands.Edge from label to pairs) fault
+      edges_refused fault live is full = subst (IsRefusedBy change_reasons limit graph (commands.Edge from label to pairs)) (sym is) (edges_first full)
+
+      module _ (room : length graph.edges ≢ limit) where
+        has_room : Never (edges_full limit graph (commands.Edge from label to pairs))
+        has_room other why = room why.0
+
+        line_first : (why : Refusal) → FirstReason line_reasons limit graph (commands.Node label pairs) why → FirstReason change_reasons limit graph (commands.Edge from label to pairs) why
+        line_first why h = inr (none_of, inr (has_source, inr (has_target, inr (has_room, inr (none_of, inr (none_of, inr (none_of, h)))))))
+
+        -- the names or the properties refuse it
+        pub line_refused : (fault : ChangeFault) → IsRefusedBy line_reasons limit graph (commands.Node label pairs) fault → IsRefusedBy change_reasons limit graph (commands.Edge from label to pairs) fault
+        line_refused = refused_more line_reasons change_reasons limit graph (commands.Node label pairs) (commands.Edge from label to pairs) line_first
+
+        -- nothing refuses it
+        edge_free : NoReason line_reasons limit graph (commands.Node label pairs) → NoReason change_reasons limit graph (commands.Edge from label to pairs)
+        edge_free free = (none_of, (has_source, (has_target, (has_room, (none_of, (none_of, (none_of, free)))))))
+
+-- ---- the degrees of the ends
+-- a node of a store has the degree that it has in the graph
+has_degree : (s : State) (names : List (List ℕ)) (id : ℕ) → IsStore s names → has_node (graph_in s) id ≡ true → HasDegree s.records id (degree_in (graph_in s) id)
+has_degree s names id store there = by (nodes.row_at s.records id) refl
+  where
+    by : (row : Option NodeRow) → nodes.row_at s.records id ≡ row → HasDegree s.records id (degree_in (graph_in s) id)
+    by None is = absurd (clash (sym there ∙ node_missing s id (sym is)))
+    by (Some row) is = record { row = row; found = is; is = found_in s names id row.degree store (record { row = row; found = is; is = refl }) }
+
+-- it keeps it where the elements stay
+pub degree_kept : (s u : State) (names c : List (List ℕ)) (id n : ℕ) → IsStore s names → KeepsElements s u c → HasDegree s.records id n → HasDegree u.records id n
+degree_kept s u names c id n store kept has =
+    let there = ap (list_any (λ e. nat_eq (node_number e) id)) kept.nodes ∙ found_there s names id n store has in
+    let same = ap (λ l. length (filter (is_at id) l)) kept.edges ∙ sym (found_in s names id n store has) in
+    subst (HasDegree u.records id) same (has_degree u c id kept.store there)
+
+-- ---- the ends were read, one after the other
+module _ (s m n : State) (names : List (List ℕ)) (from to source target : ℕ) (store : IsStore s names) (one : SameButReads s m) (two : SameButReads m n) (source_has : HasDegree s.records from source)
+    (target_has : HasDegree m.records to target) where
+  pub read_both : SameButReads s n
+  read_both = same_both s m n one two
+
+  pub store_then : IsStore n names
+  store_then = store_read s n names read_both store
+
+  pub source_then : HasDegree n.records from source
+  source_then = subst (λ (z : State). HasDegree z.records from source) (sym read_both) source_has
+
+  pub target_then : HasDegree n.records to target
+  target_then = subst (λ (z : State). HasDegree z.records to target) (sym two) target_has
+
+  pub leaves_then : has_node (graph_in n) from ≡ true
+  leaves_then = found_there n names from source store_then source_then
+
+  pub enters_then : has_node (graph_in n) to ≡ true
+  enters_then = found_there n names to target store_then target_then
+
+-- ---- the change
+module _ (s u v : State) (names c : List (List ℕ)) (from : ℕ) (label : List ℕ) (to : ℕ) (pairs : List Pair) (id : ℕ) (prepared : Prepared) (store : IsStore s names) (at_hand : IsPrepared s u c label pairs prepared)
+    (puts : PutsEdge u v c from label to id) (same : v.shape ≡ u.shape) where
+  abbrev bare : Edge
+  bare = record { id = id; label = label; from = from; to = to; properties = no_properties }
+
+  fresh : list_any (λ e. nat_eq (edge_number e) id) (graph_in u).edges ≡ false
+  fresh = puts.fresh
+
+  -- what the properties are put at
+  pub can_put : CanPut v c (targets.Edge id) pairs prepared.assigned.items
+  can_put = record {
+    store = puts.store;
+    there = ap (list_any (λ e. nat_eq (edge_number e) id)) puts.edges ∙ new_edge_there bare (graph_in u).edges;
+    bare = ap (λ es. edge_properties (find (λ e. nat_eq (edge_number e) id) es)) puts.edges ∙ new_edge_properties bare (graph_in u).edges fresh;
+    are = at_hand.assigned;
   }
 
-  pub new_lone : (n : ℕ) → prev_in rec n ≡ format.nil
-  new_lone n = by (nat_eq (field 4 rec 8) n)
-    where
-      by : (b : Bool) → field 4 rec (cond b 16 24) ≡ format.nil
-      by true = number-rel_record (new_row id label from to) format.relationship_source_previous format.nil numbers refl
-      by false = number-rel_record (new_row id label from to) format.relationship_target_previous format.nil numbers refl
+  pub put_room : HasPropertyRoom v (length prepared.assigned.items) (assigned_blocks pairs prepared.assigned.items)
+  put_room = rooms.properties_still u v (length prepared.assigned.items) (assigned_blocks pairs prepared.assigned.items) format.relationships_file (λ e. omega arith) (λ e. omega arith) puts.metas same at_hand.room
 
-  pub new_fits : (marks : ℕ → ℕ) → from < marks format.nodes_file → to < marks format.nodes_file → Fits marks format.relationships_file rec
-  new_fits marks from_low to_low = record {
-    layout = record {
-      pointers = must format.relationship_source format.nodes_file ∷ must format.relationship_target format.nodes_file
-          ∷ may format.relationship_source_previous format.relationships_file ∷ may format.relationship_source_next format.relationships_file
-          ∷ may format.relationship_target_previous format.relationships_file ∷ may format.relationship_target_next format.relationships_file
-          ∷ may format.relationship_first_property format.properties_file ∷ [];
-      used = rel_used;
-    };
-    is = ap (layout_by format.relationships_file rec) new_kind;
-    point = rw (
-      number-rel_record (new_row id label from to) format.relationship_source from numbers refl,
-      number-rel_record (new_row id label from to) format.relationship_target to numbers refl,
-      number-rel_record (new_row id label from to) format.relationship_source_previous format.nil numbers refl,
-      number-rel_record (new_row id label from to) format.relationship_source_next format.nil numbers refl,
-      number-rel_record (new_row id label from to) format.relationship_target_previous format.nil numbers refl,
-      number-rel_record (new_row id label from to) format.relationship_target_next format.nil numbers refl,
-      number-rel_record (new_row id label from to) format.relationship_first_property format.nil numbers refl,
-      lt_true from (marks format.nodes_file) from_low,
-      lt_true to (marks format.nodes_file) to_low,
-    )
-        (all_open (nat_lt format.nil (marks format.relationships_file)) (nat_lt format.nil (marks format.properties_file)));
-    blank = blank-rel_record (new_row id label from to);
-  }
-    where
-      all_open : (a b : Bool) → ((a || true) && ((a || true) && ((a || true) && ((a || true) && ((b || true) && true))))) ≡ true
-      all_open true true = refl
-      all_open true false = refl
-      all_open false true = refl
-      all_open false false = refl
+  module _ (w : State) (put : PutsPairs v w c (targets.Edge id) (pairs_of c pairs prepared.assigned.items)) (room : ¬ IsFullOfEdges s) (source target : ℕ) (source_has : HasDegree s.records from source)
+      (target_has : HasDegree s.records to target) where
+    abbrev ps : List Pair
+    ps = pairs_of c pairs prepared.assigned.items
 
--- ---- over a store that has the type
-module _ (v m : Records) (t : State) (shape : Shape) (id number : ℕ) (label : List ℕ) (from to : ℕ) (free : List ℕ) (store : IsSparseStore v shape) (split : IsSplit v format.relationships_file (is_live v format.relationships_file) free)
-    (taken : HasTaken v m format.relationships_file id free) (small : id < shape.limit) (known : number < high v format.names_file) (says : text_of (rec_at v format.names_file number) ≡ label)
-    (from_sparse : kind_at v format.nodes_file from ≡ format.sparse) (to_sparse : kind_at v format.nodes_file to ≡ format.sparse)
-    (put_is : t.records ≡ put m (key_in format.relationships_file id) (rel_record (new_row id number from to))) where
-  abbrev new : Rec
-  new = rel_record (new_row id number from to)
+    abbrev full : Edge
+    full = record { id = id; label = label; from = from; to = to; properties = with_pairs no_properties pairs }
 
-  abbrev row : views.RelRow
-  row = record { id = id; label = number; from = from; to = to; property = format.nil }
+    edges_are : (graph_in w).edges ≡ with_row edge_number full (graph_in s).edges
+    edges_are =
+        ap (λ (g : Graph). g.edges) put.graph ∙ ap (with_change edge_number id (change_edge (λ m. with_pairs m ps))) puts.edges ∙ new_edge_changed (λ m. with_pairs m ps) bare (graph_in u).edges fresh
+        ∙ (λ i. with_row edge_number (record { id = id; label = label; from = from; to = to; properties = at_hand.assigned.same i }) (at_hand.kept.edges i))
 
-  node_low : (n : ℕ) → kind_at v format.nodes_file n ≡ format.sparse → n < high v format.nodes_file
-  node_low n sparse = kind_below (high v format.nodes_file) (rec_at v format.nodes_file n) n (λ e. let k = sym e ∙ sparse in omega arith)
+    leaves : has_node (graph_in s) from ≡ true
+    leaves = found_there s names from source store source_has
 
-  node_room : high v format.nodes_file ≤ format.most_ids
-  node_room = let h = (store.keeps.ranges.metas format.nodes_file refl).high in let r = room_most v shape format.nodes_file store.keeps.ranges in omega arith
+    enters : has_node (graph_in s) to ≡ true
+    enters = found_there s names to target store target_has
 
-  from_small : from < 2 ^ 32
-  from_small = let a = node_low from from_sparse in let b = node_room in omega arith
+    ends_are : degrees_weight s.shape.threshold from source to target ≡ ends_weight s.shape.threshold (graph_in s) from to
+    ends_are = (λ i. degrees_weight s.shape.threshold from (found_in s names from source store source_has i) to (found_in s names to target store target_has i))
 
-  to_small : to < 2 ^ 32
-  to_small = let a = node_low to to_sparse in let b = node_room in omega arith
-
-  label_small : number < 2 ^ 32
-  label_small = let h = (store.keeps.ranges.metas format.names_file refl).high in omega (arith, known, h)
-
-  rels_room : room_of shape format.relationships_file ≤ format.most_ids
-  rels_room = room_most v shape format.relationships_file store.keeps.ranges
-
-  made : IsMade v t.records shape format.relationships_file id new
-  made = is_made v m t.records shape format.relationships_file id free new refl split taken
-      (ap (λ (r : Records). r (key_in format.relationships_file id)) put_is ∙ put_same m (key_in format.relationships_file id) new)
-      (λ key ne. ap (λ (r : Records). r key) put_is ∙ put_other m (key_in format.relationships_file id) new key ne)
-      (λ e. let k = new_kind id number from to label_small from_small to_small in omega arith) small (room_small v shape format.relationships_file store.keeps.ranges) (store.keeps.ranges.metas format.relationships_file refl)
-
-  some : (n : ℕ) → kind_at v format.nodes_file n ≡ format.sparse → kind_at v format.nodes_file n ≢ format.free_kind
-  some n sparse e = let k = sym e ∙ sparse in omega arith
-
-  pub lone_edge : IsLoneEdge v t.records shape id new row
-  lone_edge = record {
-    made = made;
-    is = new_is id number from to label_small from_small to_small;
-    kind = new_kind id number from to label_small from_small to_small;
-    fits = new_fits id number from to label_small from_small to_small (high t.records)
-        (let a = node_low from from_sparse in let b = ch.marks_le v t.records format.relationships_file id made.change format.nodes_file in omega arith)
-        (let a = node_low to to_sparse in let b = ch.marks_le v t.records format.relationships_file id made.change format.nodes_file in omega arith);
-    lone = new_lone id number from to label_small from_small to_small;
-    good = record { ends = record { from = some from from_sparse; to = some to to_sparse }; named = known; bare = refl };
-    from_sparse = from_sparse;
-    to_sparse = to_sparse;
-    room = rels_room;
-    small = let r = rels_room in omega arith;
-  }
-
--- The store after the change, the change of the graph, and what the edits of chains need.
-pub record HasAddedEdge (s t u : State) (new : List (List ℕ)) (from : ℕ) (label : List ℕ) (to id d : ℕ) : Type 0 where
-  pub store : IsSparseStore u.records s.shape
-  pub names : new ≡ names_of u.records
-  pub adds : AddsEdge s.shape.limit (graph_in s) from label to id (graph_in u)
-  pub first : IsRightLink t (first_of t.records (node_head from))
-  pub second : IsRightLink (joined t from id d) (first_of (joined t from id d).records (node_head to))
-
-module _ (s t : State) (old new : List (List ℕ)) (from : ℕ) (label : List ℕ) (to id : ℕ) (store : IsStore s old) (placed : HasPlaced s t old new from label to id) (short : IsShortName label) (few : ¬ Contains old label → length old ≢ format.most_names)
-    (from_sparse : kind_at s.records format.nodes_file from ≡ format.sparse) (to_sparse : kind_at s.records format.nodes_file to ≡ format.sparse)
-    (d e : ℕ) (d_is : d ≡ degree s.records from + 1) (e_is : e ≡ degree s.records to + 1) where
-  abbrev split : (free : List ℕ) × IsSplit s.records format.relationships_file (is_live s.records format.relationships_file) free
-  split = store.store.keeps.split format.relationships_file refl
-
-  abbrev u : State
-  u = both_joined t from to id d e
-
-  leaves : has_node (graph_in s) from ≡ true
-  leaves = node_there s.records from (λ q. let k = sym q ∙ from_sparse in omega arith)
-
-  enters : has_node (graph_in s) to ≡ true
-  enters = node_there s.records to (λ q. let k = sym q ∙ to_sparse in omega arith)
-
-  -- the type is known
-  with_known : Contains old label → new ≡ old → HasAddedEdge s t u new from label to id d
-  with_known known same =
-      let names : new ≡ names_of s.records = same ∙ store.names in
-      let in_names = number_in s.records new placed.number label names placed.at in
-      let put_is : t.records ≡ put placed.took.records (key_in format.relationships_file id) (rel_record (new_row id placed.number from to))
-      = ap (λ (z : State). z.records) (placed.saved ∙ ap (λ z. after_put z (rel_key id) (rel_record (new_row id placed.number from to))) (interned-known placed.took old label known)) in
-      let t_shape : t.shape ≡ s.shape = ap (λ (z : State). z.shape) (placed.saved ∙ ap (λ z. after_put z (rel_key id) (rel_record (new_row id placed.number from to))) (interned-known placed.took old label known)) ∙ placed.shape in
-      let has = placed.taken split.0 split.1.walk in
-      let lone = lone_edge s.records placed.took.records t s.shape id placed.number label from to split.0 store.store split.1 has placed.small in_names.0 in_names.1 from_sparse to_sparse put_is in
-      let rec = rel_record (new_row id placed.number from to) in
-      let row : views.RelRow = record { id = id; label = placed.number; from = from; to = to; property = format.nil } in
-      let edge = edge_joined s.records t s.shape id rec row lone store.store d e d_is e_is in
-      let kept = made_names s.records t.records u.records s.shape id rec row edge store.store in
-      record {
-        store = made_store s.records t.records u.records s.shape id rec row edge store.store;
-        names = names ∙ sym kept;
-        adds = record {
+    pub made : (weight ends : ℕ) → weight ≡ 9 + prepared.weight + ends → ends ≡ degrees_weight s.shape.threshold from source to target → MakesChange (commands.Edge from label to pairs) (EdgeMade id) weight s w c
+    made weight ends is weighs = record {
+      store = put.store;
+      changes = (
+        id,
+        refl,
+        record {
           leaves = leaves;
           enters = enters;
-          below = placed.small;
-          fresh = made_fresh s.records t.records u.records s.shape id rec row edge store.store;
-          nodes = made_nodes s.records t.records u.records s.shape id rec row edge store.store;
-          edges = made_edges s.records t.records u.records s.shape id rec row edge store.store ∙ ap (λ l. with_row edge_number (record { id = id; label = l; from = from; to = to }) (graph_in s).edges) in_names.1;
-          names = subst (λ xs. UsesName xs label (names_of u.records)) store.names (subst (UsesName old label) (names ∙ sym kept) placed.uses);
-        };
-        first = made_right s.records t s.shape id rec row lone store.store d e d_is e_is t_shape;
-        second = one_right s.records t s.shape id rec row lone store.store d e d_is e_is t_shape;
-      }
-
-  -- it is new
-  with_new : ¬ Contains old label → new ≡ old ++ label ∷ [] → HasAddedEdge s t u new from label to id d
-  with_new lacks more =
-      let count = high s.records format.names_file in
-      let long : length old ≡ count = ap length store.names ∙ length-names_of s.records in
-      let meta = store.store.keeps.ranges.metas format.names_file refl in
-      let most = meta.high in
-      let room = few lacks in
-      let v = (named s count label).records in
-      let w = (named placed.took count label).records in
-      let lacked : ¬ Contains (names_of s.records) label = λ k. lacks (subst (λ xs. Contains xs label) (sym store.names) k) in
-      let there : IsNamed s.records v s.shape (name_record label) label = IsNamed-named s s.shape label meta (store.store.keeps.kept format.names_file refl refl) (omega (arith, room, long, most)) short lacked in
-      let v_store : IsSparseStore v s.shape = name_store s.records v s.shape (name_record label) label there store.store in
-      let names : new ≡ names_of v = more ∙ ap (λ xs. xs ++ label ∷ []) store.names ∙ sym (names_more s.records v s.shape (name_record label) label there store.store.keeps) in
-      let same_nodes = nodes_stay s.records v s.shape (name_record label) label there store.store.keeps in
-      let same_edges = edges_stay s.records v s.shape (name_record label) label there store.store.keeps in
-      let in_names = number_in v new placed.number label names placed.at in
-      let node_file = ch.same_file s.records v format.names_file count there.change format.nodes_file refl (λ q. omega arith) in
-      let kinds : (n : ℕ) → kind_at v format.nodes_file n ≡ kind_at s.records format.nodes_file n = kind_same s.records v format.nodes_file node_file in
-      let degrees : (n : ℕ) → degree v n ≡ degree s.records n = λ n. ap (λ r. field 4 r format.node_degree) (node_file.each n) in
-      let v_split = split_same s.records v format.relationships_file split.0 (ch.same_file s.records v format.names_file count there.change format.relationships_file refl (λ q. omega arith)) split.1 in
-      let has = taken_beside s placed.took format.relationships_file refl (λ q. omega arith) id split.0 count label (placed.taken split.0 split.1.walk) in
-      let is : interned placed.took old label ≡ named placed.took count label = interned-new placed.took old label lacks ∙ ap (λ n. named placed.took n label) long in
-      let put_is : t.records ≡ put w (key_in format.relationships_file id) (rel_record (new_row id placed.number from to))
-      = ap (λ (z : State). z.records) (placed.saved ∙ ap (λ z. after_put z (rel_key id) (rel_record (new_row id placed.number from to))) is) in
-      let t_shape : t.shape ≡ s.shape = ap (λ (z : State). z.shape) (placed.saved ∙ ap (λ z. after_put z (rel_key id) (rel_record (new_row id placed.number from to))) is) ∙ named-shape placed.took count label ∙ placed.shape in
-      let lone = lone_edge v w t s.shape id placed.number label from to split.0 v_store v_split has placed.small in_names.0 in_names.1 (kinds from ∙ from_sparse) (kinds to ∙ to_sparse) put_is in
-      let rec = rel_record (new_row id placed.number from to) in
-      let row : views.RelRow = record { id = id; label = placed.number; from = from; to = to; property = format.nil } in
-      let dv : d ≡ degree v from + 1 = d_is ∙ ap (λ n. n + 1) (sym (degrees from)) in
-      let ev : e ≡ degree v to + 1 = e_is ∙ ap (λ n. n + 1) (sym (degrees to)) in
-      let edge = edge_joined v t s.shape id rec row lone v_store d e dv ev in
-      let kept = made_names v t.records u.records s.shape id rec row edge v_store in
-      let all : new ≡ names_of u.records = names ∙ sym kept in
-      record {
-        store = made_store v t.records u.records s.shape id rec row edge v_store;
-        names = all;
-        adds = record {
-          leaves = leaves;
-          enters = enters;
-          below = placed.small;
-          fresh = ap (λ xs. list_any (λ x. nat_eq (edge_number x) id) xs) (sym same_edges) ∙ made_fresh v t.records u.records s.shape id rec row edge v_store;
-          nodes = made_nodes v t.records u.records s.shape id rec row edge v_store ∙ same_nodes;
-          edges = made_edges v t.records u.records s.shape id rec row edge v_store ∙ ap (λ l. with_row edge_number (record { id = id; label = l; from = from; to = to }) (graph_of v).edges) in_names.1
-              ∙ ap (with_row edge_number (record { id = id; label = label; from = from; to = to })) same_edges;
-          names = subst (λ xs. UsesName xs label (names_of u.records)) store.names (subst (UsesName old label) all placed.uses);
-        };
-        first = made_right v t s.shape id rec row lone v_store d e dv ev t_shape;
-        second = one_right v t s.shape id rec row lone v_store d e dv ev t_shape;
-      }
-
-  pub has_added_edge : HasAddedEdge s t (both_joined t from to id d e) new from label to id d
-  has_added_edge = ⊎_elim
-      (λ (k : Contains old label × (new ≡ old)). with_known k.0 k.1)
-      (λ (k : (¬ Contains old label) × (new ≡ old ++ label ∷ [])). with_new k.0 k.1) placed.uses
+          below = subst (λ (h : Shape). id < h.limit) at_hand.kept.shape puts.below;
+          fresh = ap (list_any (λ e. nat_eq (edge_number e) id)) (sym at_hand.kept.edges) ∙ fresh;
+          nodes = ap (λ (g : Graph). g.nodes) put.graph ∙ puts.nodes ∙ at_hand.kept.nodes;
+          edges = edges_are;
+          names = subst (UsesNames (graph_in s).names (label ∷ keys_in pairs)) put.store.names at_hand.uses;
+        },
+      );
+      weighs = (_, needs_names (graph_in s).names (label ∷ keys_in pairs) c at_hand.uses, let k = at_hand.weighs in let e = weighs ∙ ends_are in omega arith);
+      free = edge_free s.shape.limit (graph_in s) from label to pairs leaves enters room at_hand.free;
+    }

@@ -39,9 +39,10 @@ some_same a b q = cc
 abbrev pub But : (Head → ℕ → Type 0) → ℕ → Head → ℕ → Type 0
 But at id h x = at h x × (x ≢ id)
 
--- A relationship in use between two sparse nodes.
+-- A relationship in use between two sparse nodes, without properties.
 pub record IsLiveEdge (s : Records) (shape : Shape) (id : ℕ) (row : RelRow) : Type 0 where
   pub live : rel_at s id ≡ Some row
+  pub bare : row.property ≡ format.nil
   pub from_sparse : kind_at s format.nodes_file row.from ≡ format.sparse
   pub to_sparse : kind_at s format.nodes_file row.to ≡ format.sparse
   pub room : room_of shape format.relationships_file ≤ format.most_ids
@@ -201,6 +202,7 @@ module _ (s : State) (shape : Shape) (id : ℕ) (row : RelRow) (edge : IsLiveEdg
     links = parts.links;
     gone = gone;
     live = edge.live;
+    bare = edge.bare;
     room = edge.room;
     listed = all_listed_same t Own (But At id) Own (Stands (rel_at t)) (λ h n o. o)
         (λ h n x o a. record { row = a.0.row; live = rel_other x a.1 ∙ a.0.live; end = a.0.end })

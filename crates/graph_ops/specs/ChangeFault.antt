@@ -1,6 +1,8 @@
 -- Faults of the crates below as refusals of a change.
-use Rattle.std.specs.Prelude.{ℕ, ◌≤◌, Result, IsErrOf}
+use Rattle.std.specs.Prelude.{ℕ, ◌≤◌, nat_eq, Bool, ◌||◌, Result, IsErrOf}
+use Rattle.std.specs.Bool.{OnTrue}
 use Rattle.fault_count.specs.Cause.{Rose}
+use Rattle.rec_bytes.specs.Format as format
 use Rattle.rec_bytes.specs.declared.space.SpaceFault.{SpaceFault}
 use Rattle.rec_bytes.specs.declared.space.SpaceFault.TheVariants as space
 use Rattle.rec_bytes.specs.declared.row_fault.RowFault.{RowFault}
@@ -10,10 +12,14 @@ use Rattle.id_freelist.specs.declared.take_fault.TakeFault.{TakeFault}
 use Rattle.id_freelist.specs.declared.take_fault.TakeFault.TheVariants as take
 use Rattle.name_store.specs.declared.intern_fault.InternFault.{InternFault}
 use Rattle.name_store.specs.declared.intern_fault.InternFault.TheVariants as intern
+use Rattle.prop_store.specs.declared.fault.Fault.{Fault}
+use Rattle.prop_store.specs.declared.fault.Fault.TheVariants as prop
+use Rattle.prop_store.specs.declared.set_fault.SetFault.{SetFault}
+use Rattle.prop_store.specs.declared.set_fault.SetFault.TheVariants as set
 use Rattle.chain_edit.specs.declared.chain_fault.ChainFault.{ChainFault}
 use Rattle.chain_edit.specs.declared.chain_fault.ChainFault.TheVariants as chain
 use Rattle.graph_ops.specs.declared.change_fault.ChangeFault.{ChangeFault}
-use Rattle.graph_ops.specs.declared.change_fault.ChangeFault.TheVariants.{NoNode, NoEdge, HasRelationships, Full, NamesFull, Memory, Disk, Damaged}
+use Rattle.graph_ops.specs.declared.change_fault.ChangeFault.TheVariants.{NoNode, NoEdge, HasRelationships, Full, NamesFull, PropsFull, Memory, Disk, Damaged}
 
 abbrev pub of_space : SpaceFault → ChangeFault
 of_space space.Memory = Memory
@@ -39,6 +45,18 @@ of_chain chain.Memory = Memory
 of_chain chain.Disk = Disk
 of_chain (chain.Damaged damage) = Damaged damage
 
+abbrev pub of_prop : Fault → ChangeFault
+of_prop prop.Memory = Memory
+of_prop prop.Disk = Disk
+of_prop (prop.Damaged damage) = Damaged damage
+
+abbrev pub of_set : SetFault → ChangeFault
+of_set (set.PropsFull count) = PropsFull count
+of_set (set.Full file live) = Full file live
+of_set set.Memory = Memory
+of_set set.Disk = Disk
+of_set (set.Damaged damage) = Damaged damage
+
 -- a failure of the machine, and no answer about the graph
 abbrev pub IsOutside : ChangeFault → Type 0
 IsOutside (NoNode id) = ⊥
@@ -46,21 +64,26 @@ IsOutside (NoEdge id) = ⊥
 IsOutside (HasRelationships id degree) = ⊥
 IsOutside (Full file live) = ⊥
 IsOutside (NamesFull count) = ⊥
+IsOutside (PropsFull count) = ⊥
 IsOutside Memory = Unit {0}
 IsOutside Disk = Unit {0}
 IsOutside (Damaged damage) = ⊥
 
--- A refusal for a node, an edge or for damage comes before the first write. One for a name's room comes
--- after an identifier was taken.
+-- files of nodes and of edges
+abbrev pub is_element_file : ℕ → Bool
+is_element_file file = nat_eq file format.nodes_file || nat_eq file format.relationships_file
+
+-- A refusal for a node, an edge or their room comes before the first write. Another one may come after some, and the caller drops the draft.
 abbrev pub LeavesSpace : State → State → ChangeFault → Type 0
 LeavesSpace old new (NoNode id) = SameButReads old new
 LeavesSpace old new (NoEdge id) = SameButReads old new
 LeavesSpace old new (HasRelationships id degree) = SameButReads old new
-LeavesSpace old new (Full file live) = SameButReads old new
+LeavesSpace old new (Full file live) = OnTrue (is_element_file file) (SameButReads old new)
 LeavesSpace old new (NamesFull count) = Unit {0}
+LeavesSpace old new (PropsFull count) = Unit {0}
 LeavesSpace old new Memory = Unit {0}
 LeavesSpace old new Disk = Unit {0}
-LeavesSpace old new (Damaged damage) = SameButReads old new
+LeavesSpace old new (Damaged damage) = Unit {0}
 
 -- the disk is blamed only where it failed
 pub record HasChangeCause {T : Type 0} (before now : ℕ) (result : Result T ChangeFault) : Type 0 where

@@ -1,3 +1,5 @@
+pub mod Assigning
+pub mod Change
 pub mod ChangeFault
 pub mod EdgeAdding
 pub mod EdgeDeleting
@@ -5,4 +7,7 @@ pub mod EdgeEnds
 pub mod EdgePlacing
 pub mod NodeAdding
 pub mod NodeDeleting
+pub mod Owners
+pub mod Preparing
+pub mod Rooms
 pub mod Store

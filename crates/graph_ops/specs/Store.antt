@@ -13,3 +13,10 @@ pub record IsStore (s : State) (kept : List (List ℕ)) : Type 0 where
 -- the graph that a space stands for
 abbrev pub graph_in : State → Graph
 graph_in s = graph_of s.records
+
+-- The store has these names now, and the nodes and the edges that it had.
+pub record KeepsElements (s t : State) (kept : List (List ℕ)) : Type 0 where
+  pub store : IsStore t kept
+  pub shape : t.shape ≡ s.shape
+  pub nodes : (graph_in t).nodes ≡ (graph_in s).nodes
+  pub edges : (graph_in t).edges ≡ (graph_in s).edges

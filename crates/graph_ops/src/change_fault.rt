@@ -1,6 +1,7 @@
 use chain_edit::ChainFault;
 use id_freelist::TakeFault;
 use name_store::InternFault;
+use prop_store::{Fault, SetFault};
 use rec_bytes::{Damage, RowFault, SpaceFault};
 use thiserror::Error;
 
@@ -22,6 +23,9 @@ pub enum ChangeFault {
     /// There are as many names as a store may have, and the change asks for one more.
     #[error("the store has as many names as it may have")]
     NamesFull { count: u32 },
+    /// The element has as many properties as it may have, and the change asks for one more.
+    #[error("the element has as many properties as it may have")]
+    PropsFull { count: u32 },
     /// There was no memory for another record or name.
     #[error("out of memory")]
     Memory,
@@ -103,6 +107,38 @@ impl From<ChainFault> for ChangeFault {
             ChainFault::Memory => ChangeFault::Memory,
             ChainFault::Disk => ChangeFault::Disk,
             ChainFault::Damaged(damage) => ChangeFault::Damaged(damage),
+        }
+    }
+}
+
+impl From<Fault> for ChangeFault {
+    ghost from_gives = { λ fault result. result ≡ of_prop fault };
+
+    ghost use Rattle.std.specs.Prelude.{◌≡◌};
+    ghost use Rattle.graph_ops.specs.ChangeFault.{of_prop};
+
+    fn from(fault: Fault) -> ChangeFault {
+        match fault {
+            Fault::Memory => ChangeFault::Memory,
+            Fault::Disk => ChangeFault::Disk,
+            Fault::Damaged(damage) => ChangeFault::Damaged(damage),
+        }
+    }
+}
+
+impl From<SetFault> for ChangeFault {
+    ghost from_gives = { λ fault result. result ≡ of_set fault };
+
+    ghost use Rattle.std.specs.Prelude.{◌≡◌};
+    ghost use Rattle.graph_ops.specs.ChangeFault.{of_set};
+
+    fn from(fault: SetFault) -> ChangeFault {
+        match fault {
+            SetFault::PropsFull { count } => ChangeFault::PropsFull { count },
+            SetFault::Full { file, live } => ChangeFault::Full { file, live },
+            SetFault::Memory => ChangeFault::Memory,
+            SetFault::Disk => ChangeFault::Disk,
+            SetFault::Damaged(damage) => ChangeFault::Damaged(damage),
         }
     }
 }

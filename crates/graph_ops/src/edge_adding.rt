@@ -1,86 +1,69 @@
-ghost use Rattle.std.specs.Prelude.{◌≡◌, ◌≢◌, ◌≤◌, ◌<◌, ◌++◌, ◌∷◌, [], ℕ, List, IfErr, IfOk, IsErr, OnErr, OnOk, length};
-ghost use Rattle.plain_graph.specs.Graph.{AddsEdge};
-ghost use Rattle.plain_graph.specs.Names.{IsShortName};
-ghost use Rattle.rec_bytes.specs.Format.{nodes_file, relationships_file};
-ghost use Rattle.rec_bytes.specs.Key.{IsKey};
-ghost use Rattle.rec_bytes.specs.Space.{WritesOnly};
-ghost use Rattle.store_rules.specs.Rules.{first_of, node_head};
-ghost use Rattle.store_rules.specs.Views.{key_in};
-ghost use Rattle.chain_edit.specs.Links.{IsRightLink};
-ghost use Rattle.graph_ops.specs.ChangeFault.{HasChangeCause, IsOutside, LeavesSpace};
-ghost use Rattle.graph_ops.specs.EdgeAdding.{
-  IsEdgeFault,
-  IsFullOfEdges,
-  WeighsEdge,
-  degree_weight,
-  degrees_weight,
-  edge_keys,
-  end_keys,
-  ends_keys,
-  new_name_keys,
-};
-ghost use Rattle.graph_ops.specs.EdgeEnds.{both_joined, joined};
-ghost use Rattle.graph_ops.specs.NodeAdding.{IsFullOfNames, name_keys};
+ghost use Rattle.std.specs.Prelude.{◌≡◌, ◌≤◌, ◌<◌, ◌++◌, ◌∷◌, ℕ, List, IfErr, IfOk, IsErr, length};
+ghost use Rattle.plain_graph.specs.Forms.{HasForm};
+ghost use Rattle.plain_graph.specs.Graph.{UsesNames};
+ghost use Rattle.plain_graph.specs.Properties.{keys_in};
+ghost use Rattle.plain_graph.specs.Refusals.{most_names};
+ghost use Rattle.plain_graph.specs.Reply.{EdgeMade};
+ghost use Rattle.plain_graph.specs.declared.command.Command.TheVariants as commands;
+ghost use Rattle.store_rules.specs.Writes.{WritesAtMost};
+ghost use Rattle.graph_ops.specs.Change.{IsRefusal, MakesChange};
+ghost use Rattle.graph_ops.specs.ChangeFault.{HasChangeCause, LeavesSpace};
+ghost use Rattle.graph_ops.specs.EdgeAdding.{IsFullOfEdges, degree_weight, degrees_weight};
 ghost use Rattle.graph_ops.specs.Store.{IsStore, graph_in};
 
-use crate::edge_placing::{node_degree, place};
+use crate::assigning::put_properties;
+use crate::edge_placing::{node_degree, put_edge};
+use crate::owners::edge_owner;
+use crate::preparing::prepare;
+use crate::rooms::test_room;
 use crate::{Added, ChangeFault};
-use chain_edit::{Head, push_front};
 use name_store::Names;
-use plain_graph::Text;
-use rec_bytes::{Key, NODE_DEGREE, NODE_FIRST_LINK, NODES, Reads, Space, set_number};
+use plain_graph::{Pairs, Text};
+use rec_bytes::{RELATIONSHIPS, Reads, Space};
 
-/// Adds an edge without properties, from one node to another or to itself.
+/// Adds an edge with properties, from one node to another or to itself. Of a key that comes twice
+/// the last value stands.
 pub fn add_edge<S: Space>(
     space: &mut S,
     names: &mut Names,
     from: u32,
     label: &Text,
     to: u32,
+    pairs: &Pairs,
 ) -> Result<Added, ChangeFault>
-    requires { IsShortName label.now }
-    ensures well { S.tells → OnOk result
-        (IsStore (S.state space.old) names.old.names → IsStore (S.state space.new) names.new.names) }
-    ensures adds { S.tells → IfOk result (λ added. IsStore (S.state space.old) names.old.names
-        → AddsEdge (S.state space.old).shape.limit (graph_in (S.state space.old)) from label.now to
-        added.id (graph_in (S.state space.new))) }
+    requires { HasForm (commands.Edge from label.now to pairs.now) }
+    ensures made { S.tells → IfOk result (λ added. IsStore (S.state space.old) names.old.names
+        → MakesChange (commands.Edge from label.now to pairs.now) (EdgeMade added.id) added.weight
+        (S.state space.old) (S.state space.new) names.new.names) }
+    ensures refused { S.tells → IsStore (S.state space.old) names.old.names
+        → IfErr result (IsRefusal (S.state space.old).shape.limit (graph_in (S.state space.old))
+        (commands.Edge from label.now to pairs.now)) }
     ensures full { IsStore (S.state space.old) names.old.names
         → IsFullOfEdges (S.state space.old) → IsErr result }
-    ensures names_full { IsFullOfNames names.old.names label.now → IsErr result }
-    ensures refused { S.tells → IsStore (S.state space.old) names.old.names
-        → IfErr result (IsEdgeFault (S.state space.old) names.old.names from label.now to) }
+    ensures names_full { (used : List (List ℕ))
+        → UsesNames names.old.names (label.now ∷ keys_in pairs.now) used
+        → most_names < length used → IsErr result }
     ensures leaves { S.tells → IsStore (S.state space.old) names.old.names
         → IfErr result (LeavesSpace (S.state space.old) (S.state space.new)) }
-    ensures weight { S.tells → IfOk result (λ added. IsStore (S.state space.old) names.old.names
-        → WeighsEdge (S.state space.old) names.old.names from label.now to added.weight) }
     ensures prefix { (rest : List (List ℕ)) × (names.new.names ≡ names.old.names ++ rest) }
     ensures shape { S.tells → (S.state space.new).shape ≡ (S.state space.old).shape }
-    ensures writes { IfOk result (λ added. (first second : ℕ) × WritesOnly (S.state space.old)
-        (S.state space.new) (edge_keys added.id from to first second
-        (new_name_keys names.old.names names.new.names))) }
-    ensures refused_writes { OnErr result ((id first second : ℕ) × WritesOnly (S.state space.old)
-        (S.state space.new) (edge_keys id from to first second
-        (name_keys (length names.old.names)))) }
+    ensures writes { IfOk result (λ added.
+        WritesAtMost added.weight (S.state space.old) (S.state space.new)) }
     ensures onward { S.onward space.old space.new }
     ensures cause { HasChangeCause (S.faults space.old) (S.faults space.new) result }
 {
+    let pairs = pairs.as_slice();
     let source = node_degree(space, from)?;
     let target = node_degree(space, to)?;
-    let known = names.count();
-    let id = place(space, names, from, label, to)?;
-    join_ends(
-        space,
-        id,
-        from,
-        source.saturating_add(1),
-        to,
-        target.saturating_add(1),
-    )?;
+    test_room(space, RELATIONSHIPS, 1)?;
+    let prepared = prepare(space, names, label, pairs)?;
     let threshold = space.shape().threshold as u32;
     let ends = ends_weight(threshold, from, source, to, target);
+    let id = put_edge(space, prepared.label, from, source, to, target)?;
+    put_properties(space, edge_owner(id), &prepared.assigned, pairs)?;
     Ok(Added {
         id,
-        weight: 9 + (names.count() - known) + ends,
+        weight: 9 + prepared.weight + ends,
     })
 }
 
@@ -109,66 +92,4 @@ fn ends_weight(threshold: u32, from: u32, from_degree: u32, to: u32, to_degree: 
     } else {
         end_weight(threshold, from_degree) + end_weight(threshold, to_degree)
     }
-}
-
-/// Puts a relationship at the front of the chains of both ends, and writes their degrees. The chain
-/// of a loop has it once, by its source.
-fn join_ends<S: Space>(
-    space: &mut S,
-    rel: u32,
-    from: u32,
-    from_degree: u32,
-    to: u32,
-    to_degree: u32,
-) -> Result<(), ChangeFault>
-    requires rel { IsKey (key_in relationships_file rel) }
-    requires from { IsKey (key_in nodes_file from) }
-    requires to { IsKey (key_in nodes_file to) }
-    ensures ok { S.tells → OnOk result
-        (S.state space.new ≡ both_joined (S.state space.old) from to rel from_degree to_degree) }
-    ensures sound { S.tells
-        → IsRightLink (S.state space.old) (first_of (S.state space.old).records (node_head from))
-        → (from ≢ to → IsRightLink (joined (S.state space.old) from rel from_degree)
-        (first_of (joined (S.state space.old) from rel from_degree).records (node_head to)))
-        → IfErr result IsOutside }
-    ensures shape { S.tells → (S.state space.new).shape ≡ (S.state space.old).shape }
-    ensures writes { (first second : ℕ) × WritesOnly (S.state space.old) (S.state space.new)
-        (ends_keys from to rel first second) }
-    ensures onward { S.onward space.old space.new }
-    ensures cause { HasChangeCause (S.faults space.old) (S.faults space.new) result }
-{
-    join_end(space, from, rel, from_degree)?;
-    if from != to {
-        join_end(space, to, rel, to_degree)?;
-    }
-    Ok(())
-}
-
-/// Puts a relationship at the front of a sparse node's chain, and writes the node's degree.
-#[tactic(auto, unfolding(crate::specs::EdgeEnds::joined))]
-fn join_end<S: Space>(space: &mut S, node: u32, rel: u32, degree: u32) -> Result<(), ChangeFault>
-    requires node { IsKey (key_in nodes_file node) }
-    requires rel { IsKey (key_in relationships_file rel) }
-    ensures ok { S.tells
-        → OnOk result (S.state space.new ≡ joined (S.state space.old) node rel degree) }
-    ensures sound { S.tells
-        → IsRightLink (S.state space.old) (first_of (S.state space.old).records (node_head node))
-        → IfErr result IsOutside }
-    ensures shape { S.tells → (S.state space.new).shape ≡ (S.state space.old).shape }
-    ensures writes { (first : ℕ)
-        × WritesOnly (S.state space.old) (S.state space.new) (end_keys node rel first) }
-    ensures onward { S.onward space.old space.new }
-    ensures cause { HasChangeCause (S.faults space.old) (S.faults space.new) result }
-{
-    let key = Key {
-        file: NODES,
-        id: node,
-    };
-    let head = Head {
-        key,
-        field: NODE_FIRST_LINK,
-    };
-    push_front(space, head, node, rel)?;
-    set_number(space, key, NODE_DEGREE, degree)?;
-    Ok(())
 }

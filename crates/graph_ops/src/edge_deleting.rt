@@ -1,28 +1,28 @@
-ghost use Rattle.std.specs.Prelude.{◌≡◌, ◌≢◌, ℕ, None, IfErr, IfOk, OnOk};
-ghost use Rattle.plain_graph.specs.Graph.{RemovesEdge};
-ghost use Rattle.rec_bytes.specs.Format.{nodes_file, relationships_file};
+ghost use Rattle.std.specs.Prelude.{◌≡◌, ◌≢◌, ℕ, List, None, Some, IfErr, IfOk, OnOk};
+ghost use Rattle.plain_graph.specs.Reply.{Done};
+ghost use Rattle.plain_graph.specs.declared.command.Command.TheVariants as commands;
+ghost use Rattle.plain_graph.specs.declared.command.Target.TheVariants as targets;
+ghost use Rattle.rec_bytes.specs.Format.{nil, nodes_file, relationships_file};
 ghost use Rattle.rec_bytes.specs.Key.{IsKey};
-ghost use Rattle.rec_bytes.specs.Space.{WritesOnly};
 ghost use Rattle.store_rules.specs.Views.{key_in};
-ghost use Rattle.node_store.specs.Loading.{IsReadable, after_load, row_at};
+ghost use Rattle.rec_bytes.specs.Space.{SameButReads};
+ghost use Rattle.node_store.specs.Loading.{IsReadable, row_at};
 ghost use Rattle.chain_edit.specs.Chains.{next_of, prev_of};
 ghost use Rattle.chain_edit.specs.Links.{IsRightLink};
+ghost use Rattle.store_rules.specs.Writes.{WritesAtMost};
+ghost use Rattle.graph_ops.specs.Change.{IsRefusal, MakesChange};
 ghost use Rattle.graph_ops.specs.ChangeFault.{HasChangeCause, IsOutside, LeavesSpace};
-ghost use Rattle.graph_ops.specs.EdgeDeleting.{
-  Around,
-  IsEdgeDeleteFault,
-  both_left_keys,
-  edge_gone_keys,
-  left_keys,
-};
+ghost use Rattle.graph_ops.specs.EdgeDeleting.{IsBareEdge, TakesEdge};
 ghost use Rattle.graph_ops.specs.EdgeEnds.{both_parted, parted};
 ghost use Rattle.graph_ops.specs.NodeDeleting.{HasDegree};
 ghost use Rattle.graph_ops.specs.Store.{IsStore, graph_in};
 
 use crate::ChangeFault;
+use crate::owners::edge_owner;
 use chain_edit::{Head, unlink};
 use id_freelist::give;
 use name_store::Names;
+use prop_store::drop_all;
 use rec_bytes::{
     Damage, Key, NODE_DEGREE, NODE_FIRST_LINK, NODES, RELATIONSHIPS, Reads, Space, set_number,
 };
@@ -31,20 +31,20 @@ use rel_store::load;
 /// The rule that the ends of a relationship are nodes whose chains list it.
 const CHAIN_RULE: u8 = 3;
 
-/// Deletes an edge, and answers the weight of the change. Its nodes and the names stay.
+/// Deletes an edge with its properties, and answers the weight of the change. Its nodes and the
+/// names stay.
 pub fn delete_edge<S: Space>(space: &mut S, names: &Names, id: u32) -> Result<u32, ChangeFault>
-    ensures well { S.tells → OnOk result
-        (IsStore (S.state space.old) names.now.names → IsStore (S.state space.new) names.now.names) }
-    ensures removes { S.tells → OnOk result (IsStore (S.state space.old) names.now.names
-        → RemovesEdge (graph_in (S.state space.old)) id (graph_in (S.state space.new))) }
+    ensures made { S.tells → IfOk result (λ weight. IsStore (S.state space.old) names.now.names
+        → MakesChange (commands.Delete (targets.Edge id)) Done weight
+        (S.state space.old) (S.state space.new) names.now.names) }
     ensures refused { S.tells → IsStore (S.state space.old) names.now.names
-        → IfErr result (IsEdgeDeleteFault (S.state space.old) id) }
+        → IfErr result (IsRefusal (S.state space.old).shape.limit (graph_in (S.state space.old))
+        (commands.Delete (targets.Edge id))) }
     ensures leaves { S.tells → IsStore (S.state space.old) names.now.names
         → IfErr result (LeavesSpace (S.state space.old) (S.state space.new)) }
-    ensures weight { IfOk result (λ weight. weight ≡ 13) }
     ensures shape { S.tells → (S.state space.new).shape ≡ (S.state space.old).shape }
-    ensures writes { (around : Around) × WritesOnly (S.state space.old) (S.state space.new)
-        (edge_gone_keys id around) }
+    ensures writes { IfOk result (λ weight.
+        WritesAtMost weight (S.state space.old) (S.state space.new)) }
     ensures onward { S.onward space.old space.new }
     ensures cause { HasChangeCause (S.faults space.old) (S.faults space.new) result }
 {
@@ -53,11 +53,9 @@ pub fn delete_edge<S: Space>(space: &mut S, names: &Names, id: u32) -> Result<u3
     };
     let source = end_degree(space, id, rel.from)?;
     let target = end_degree(space, id, rel.to)?;
-    let from_degree = source.saturating_sub(1);
-    let to_degree = target.saturating_sub(1);
-    part_ends(space, id, rel.from, from_degree, rel.to, to_degree)?;
-    give(space, RELATIONSHIPS, id)?;
-    Ok(13)
+    let dropped = drop_all(space, edge_owner(id))?;
+    take_edge(space, id, rel.from, source, rel.to, target)?;
+    Ok(13 + dropped.properties + dropped.blocks)
 }
 
 /// How many relationships an end of a relationship has. The relationship is damaged where its end is
@@ -67,9 +65,8 @@ fn end_degree<R: Reads>(space: &mut R, rel: u32, node: u32) -> Result<u32, Chang
         → IfOk result (λ degree. HasDegree (R.state space.old).records node degree) }
     ensures sound { R.tells → IsReadable (R.state space.old) node
         → (row_at (R.state space.old).records node ≢ None) → IfErr result IsOutside }
-    ensures leaves { IfErr result (LeavesSpace (R.state space.old) (R.state space.new)) }
     ensures key { IfOk result (λ degree. IsKey (key_in nodes_file node)) }
-    ensures state { R.state space.new ≡ after_load (R.state space.old) node }
+    ensures state { SameButReads (R.state space.old) (R.state space.new) }
     ensures onward { R.onward space.old space.new }
     ensures cause { HasChangeCause (R.faults space.old) (R.faults space.new) result }
 {
@@ -81,6 +78,37 @@ fn end_degree<R: Reads>(space: &mut R, rel: u32, node: u32) -> Result<u32, Chang
         }));
     };
     Ok(row.degree)
+}
+
+/// Takes an edge without properties out of the chains of its ends, and gives its identifier back.
+/// The degrees are those before.
+fn take_edge<S: Space>(
+    space: &mut S,
+    id: u32,
+    from: u32,
+    from_degree: u32,
+    to: u32,
+    to_degree: u32,
+) -> Result<(), ChangeFault>
+    requires id { IsKey (key_in relationships_file id) }
+    requires from { IsKey (key_in nodes_file from) }
+    requires to { IsKey (key_in nodes_file to) }
+    ensures taken { S.tells → OnOk result ((names : List (List ℕ)) → IsStore (S.state space.old) names
+        → IsBareEdge (S.state space.old) id from from_degree to to_degree
+        → TakesEdge (S.state space.old) (S.state space.new) names id) }
+    ensures sound { S.tells → (names : List (List ℕ)) → IsStore (S.state space.old) names
+        → IsBareEdge (S.state space.old) id from from_degree to to_degree
+        → IfErr result IsOutside }
+    ensures shape { S.tells → (S.state space.new).shape ≡ (S.state space.old).shape }
+    ensures writes { OnOk result (WritesAtMost 9 (S.state space.old) (S.state space.new)) }
+    ensures onward { S.onward space.old space.new }
+    ensures cause { HasChangeCause (S.faults space.old) (S.faults space.new) result }
+{
+    let from_degree = from_degree.saturating_sub(1);
+    let to_degree = to_degree.saturating_sub(1);
+    part_ends(space, id, from, from_degree, to, to_degree)?;
+    give(space, RELATIONSHIPS, id)?;
+    Ok(())
 }
 
 /// Takes a relationship out of the chains of both ends, and writes their degrees. The chain of a
@@ -107,8 +135,7 @@ fn part_ends<S: Space>(
         (next_of (parted (S.state space.old) from rel from_degree).records to rel))
         → IfErr result IsOutside }
     ensures shape { S.tells → (S.state space.new).shape ≡ (S.state space.old).shape }
-    ensures writes { (around : Around) × WritesOnly (S.state space.old) (S.state space.new)
-        (both_left_keys rel around) }
+    ensures writes { OnOk result (WritesAtMost 8 (S.state space.old) (S.state space.new)) }
     ensures onward { S.onward space.old space.new }
     ensures cause { HasChangeCause (S.faults space.old) (S.faults space.new) result }
 {
@@ -131,8 +158,7 @@ fn part_end<S: Space>(space: &mut S, node: u32, rel: u32, degree: u32) -> Result
         → IsRightLink (S.state space.old) (next_of (S.state space.old).records node rel)
         → IfErr result IsOutside }
     ensures shape { S.tells → (S.state space.new).shape ≡ (S.state space.old).shape }
-    ensures writes { (before after : ℕ) × WritesOnly (S.state space.old) (S.state space.new)
-        (left_keys node rel before after) }
+    ensures writes { OnOk result (WritesAtMost 4 (S.state space.old) (S.state space.new)) }
     ensures onward { S.onward space.old space.new }
     ensures cause { HasChangeCause (S.faults space.old) (S.faults space.new) result }
 {

@@ -1,64 +1,99 @@
-ghost use Rattle.std.specs.Prelude.{◌≡◌, ◌++◌, ℕ, List, IfErr, IfOk, IsErr, OnErr, OnOk, length};
-ghost use Rattle.plain_graph.specs.Graph.{AddsNode};
-ghost use Rattle.plain_graph.specs.Names.{IsShortName};
+ghost use Rattle.std.specs.Prelude.{◌≡◌, ◌++◌, ◌<◌, ℕ, List, ◌∷◌, Some, IfErr, IfOk, IsErr, length, slice_get};
+ghost use Rattle.plain_graph.specs.Forms.{HasForm};
+ghost use Rattle.plain_graph.specs.Graph.{UsesNames};
+ghost use Rattle.plain_graph.specs.Properties.{keys_in};
+ghost use Rattle.plain_graph.specs.Refusals.{most_names};
+ghost use Rattle.plain_graph.specs.Reply.{NodeMade};
+ghost use Rattle.plain_graph.specs.declared.command.Command.TheVariants as commands;
 ghost use Rattle.rec_bytes.specs.Format.{nodes_file};
-ghost use Rattle.rec_bytes.specs.Space.{WritesOnly};
-ghost use Rattle.graph_ops.specs.ChangeFault.{HasChangeCause, LeavesSpace};
-ghost use Rattle.graph_ops.specs.NodeAdding.{
-  IsAddFault,
-  IsFullOfNames,
-  IsFullOfNodes,
-  WeighsNode,
-  node_keys,
-  refused_keys,
-};
+ghost use Rattle.rec_bytes.specs.Key.{IsKey};
+ghost use Rattle.store_rules.specs.Views.{key_in};
+ghost use Rattle.store_rules.specs.Writes.{WritesAtMost, WritesBeside};
+ghost use Rattle.graph_ops.specs.Change.{IsRefusal, MakesChange};
+ghost use Rattle.graph_ops.specs.ChangeFault.{HasChangeCause, IsOutside, LeavesSpace};
+ghost use Rattle.graph_ops.specs.NodeAdding.{IsFullOfNodes, PutsNode, new_row};
+ghost use Rattle.graph_ops.specs.Rooms.{HasRoom};
 ghost use Rattle.graph_ops.specs.Store.{IsStore, graph_in};
 
+use crate::assigning::put_properties;
+use crate::owners::node_owner;
+use crate::preparing::prepare;
+use crate::rooms::test_room;
 use crate::{Added, ChangeFault};
 use id_freelist::take;
 use name_store::Names;
 use node_store::{NodeRow, save};
-use plain_graph::Text;
-use rec_bytes::{NIL, NODES, Reads, Space};
+use plain_graph::{Pairs, Text};
+use rec_bytes::{NIL, NODES, Space};
 
-/// Adds a node without properties.
+/// Adds a node with properties. Of a key that comes twice the last value stands.
 pub fn add_node<S: Space>(
     space: &mut S,
     names: &mut Names,
     label: &Text,
+    pairs: &Pairs,
 ) -> Result<Added, ChangeFault>
-    requires { IsShortName label.now }
-    ensures well { S.tells → OnOk result (IsStore (S.state space.old) names.old.names → IsStore (S.state space.new) names.new.names) }
-    ensures adds { S.tells → IfOk result (λ added. IsStore (S.state space.old) names.old.names
-        → AddsNode (S.state space.old).shape.limit (graph_in (S.state space.old)) label.now added.id (graph_in (S.state space.new))) }
+    requires { HasForm (commands.Node label.now pairs.now) }
+    ensures made { S.tells → IfOk result (λ added. IsStore (S.state space.old) names.old.names
+        → MakesChange (commands.Node label.now pairs.now) (NodeMade added.id) added.weight
+        (S.state space.old) (S.state space.new) names.new.names) }
+    ensures refused { S.tells → IsStore (S.state space.old) names.old.names
+        → IfErr result (IsRefusal (S.state space.old).shape.limit (graph_in (S.state space.old))
+        (commands.Node label.now pairs.now)) }
     ensures full { IsStore (S.state space.old) names.old.names → IsFullOfNodes (S.state space.old)
         → result ≡ Err (ChangeFault.Full nodes_file (S.state space.old).shape.limit) }
-    ensures names_full { IsFullOfNames names.old.names label.now → IsErr result }
-    ensures refused { S.tells → IsStore (S.state space.old) names.old.names
-        → IfErr result (IsAddFault (S.state space.old) names.old.names label.now) }
-    ensures leaves { IfErr result (LeavesSpace (S.state space.old) (S.state space.new)) }
-    ensures weight { IfOk result (λ added. WeighsNode names.old.names label.now added.weight) }
+    ensures names_full { (used : List (List ℕ))
+        → UsesNames names.old.names (label.now ∷ keys_in pairs.now) used
+        → most_names < length used → IsErr result }
+    ensures leaves { S.tells → IsStore (S.state space.old) names.old.names
+        → IfErr result (LeavesSpace (S.state space.old) (S.state space.new)) }
     ensures prefix { (rest : List (List ℕ)) × (names.new.names ≡ names.old.names ++ rest) }
     ensures shape { S.tells → (S.state space.new).shape ≡ (S.state space.old).shape }
-    ensures writes { IfOk result (λ added. WritesOnly (S.state space.old) (S.state space.new) (node_keys added.id added.weight (length names.old.names))) }
-    ensures refused_writes { OnErr result (WritesOnly (S.state space.old) (S.state space.new) (refused_keys (length names.old.names))) }
+    ensures writes { IfOk result (λ added.
+        WritesAtMost added.weight (S.state space.old) (S.state space.new)) }
+    ensures onward { S.onward space.old space.new }
+    ensures cause { HasChangeCause (S.faults space.old) (S.faults space.new) result }
+{
+    let pairs = pairs.as_slice();
+    test_room(space, NODES, 1)?;
+    let prepared = prepare(space, names, label, pairs)?;
+    let id = put_node(space, prepared.label)?;
+    put_properties(space, node_owner(id), &prepared.assigned, pairs)?;
+    Ok(Added {
+        id,
+        weight: 1 + prepared.weight,
+    })
+}
+
+/// Writes the record of a new node without relationships and properties, and answers its identifier.
+fn put_node<S: Space>(space: &mut S, label: u32) -> Result<u32, ChangeFault>
+    ensures put { S.tells → IfOk result (λ id. (names : List (List ℕ)) (text : List ℕ)
+        → IsStore (S.state space.old) names → slice_get names label ≡ Some text
+        → PutsNode (S.state space.old) (S.state space.new) names text id) }
+    ensures sound { S.tells → (names : List (List ℕ)) → IsStore (S.state space.old) names
+        → HasRoom (S.state space.old) nodes_file 1 → IfErr result IsOutside }
+    ensures key { IfOk result (λ id. IsKey (key_in nodes_file id)) }
+    ensures shape { S.tells → (S.state space.new).shape ≡ (S.state space.old).shape }
+    ensures writes { IfOk result (λ id. WritesBeside (key_in nodes_file id) 0
+        (S.state space.old) (S.state space.new)) }
     ensures onward { S.onward space.old space.new }
     ensures cause { HasChangeCause (S.faults space.old) (S.faults space.new) result }
 {
     let id = take(space, NODES)?;
-    let known = names.count();
-    let number = names.intern(space, label.as_bytes())?;
-    let row = NodeRow {
+    save(space, &new_row(id, label))?;
+    Ok(id)
+}
+
+/// A node without relationships and properties.
+fn new_row(id: u32, label: u32) -> NodeRow
+    ensures { result ≡ new_row id label }
+{
+    NodeRow {
         id,
-        label: number,
+        label,
         dense: false,
         first: NIL,
         props: NIL,
         degree: 0,
-    };
-    save(space, &row)?;
-    Ok(Added {
-        id,
-        weight: 1 + (names.count() - known),
-    })
+    }
 }

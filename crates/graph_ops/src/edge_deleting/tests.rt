@@ -1,7 +1,7 @@
 use super::*;
 use crate::{add_edge, add_node, delete_node};
 use name_store::load as load_names;
-use plain_graph::{Text, is_short_name};
+use plain_graph::{Pairs, Text, is_short_name};
 use rec_bytes::{MapSpace, Shape};
 use std::test::Fail;
 
@@ -25,6 +25,7 @@ enum Change {
 fn edges_come_and_go(rt: HostRuntime) -> Result<(), Fail> {
     let node_label = Text::new(b"a".to_vec(rt.alloc())?);
     let edge_label = Text::new(b"r".to_vec(rt.alloc())?);
+    let no_pairs = Pairs::new(Vec::new(rt.alloc()));
     // Each step's identifier with its weight, or why it is refused. The type is new at the first edge.
     let cases: [&[(Change, Result<(u32, u32), ChangeFault>)]; 3] = [
         // Two edges between the same nodes, and loops. A third edge at a node weighs 6 more.
@@ -80,14 +81,21 @@ fn edges_come_and_go(rt: HostRuntime) -> Result<(), Fail> {
         let mut names = load_names(rt.alloc(), &mut space)?;
         for _ in 0..3 {
             if is_short_name(node_label.as_bytes()) {
-                add_node(&mut space, &mut names, &node_label)?;
+                add_node(&mut space, &mut names, &node_label, &no_pairs)?;
             }
         }
         for (change, result) in steps {
             match *change {
                 Change::Edge(from, to) => {
                     if is_short_name(edge_label.as_bytes()) {
-                        let added = add_edge(&mut space, &mut names, from, &edge_label, to);
+                        let added = add_edge(
+                            &mut space,
+                            &mut names,
+                            from,
+                            &edge_label,
+                            to,
+                            &no_pairs,
+                        );
                         assert_eq!(rt; added.map(|edge| (edge.id, edge.weight)), *result);
                     }
                 }
@@ -109,14 +117,15 @@ fn edges_come_and_go(rt: HostRuntime) -> Result<(), Fail> {
 fn the_last_edge_of_a_full_store_is_refused(rt: HostRuntime) -> Result<(), Fail> {
     let node_label = Text::new(b"a".to_vec(rt.alloc())?);
     let edge_label = Text::new(b"r".to_vec(rt.alloc())?);
+    let no_pairs = Pairs::new(Vec::new(rt.alloc()));
     let mut space = MapSpace::new(rt.alloc(), SHAPE)?;
     let mut names = load_names(rt.alloc(), &mut space)?;
     if is_short_name(node_label.as_bytes()) {
-        add_node(&mut space, &mut names, &node_label)?;
+        add_node(&mut space, &mut names, &node_label, &no_pairs)?;
     }
     if is_short_name(edge_label.as_bytes()) {
         for id in 0..16 {
-            let added = add_edge(&mut space, &mut names, 0, &edge_label, 0)?;
+            let added = add_edge(&mut space, &mut names, 0, &edge_label, 0, &no_pairs)?;
             assert_eq!(rt; added.id, id);
         }
         let full = ChangeFault::Full {
@@ -125,19 +134,22 @@ fn the_last_edge_of_a_full_store_is_refused(rt: HostRuntime) -> Result<(), Fail>
         };
         let none = ChangeFault::NoNode { id: 1 };
         assert_eq!(rt;
-            add_edge(&mut space, &mut names, 0, &edge_label, 0),
+            add_edge(&mut space, &mut names, 0, &edge_label, 0, &no_pairs),
             Err(full)
         );
         assert_eq!(rt;
-            add_edge(&mut space, &mut names, 1, &edge_label, 0),
+            add_edge(&mut space, &mut names, 1, &edge_label, 0, &no_pairs),
             Err(none)
         );
         assert_eq!(rt;
-            add_edge(&mut space, &mut names, 0, &edge_label, 1),
+            add_edge(&mut space, &mut names, 0, &edge_label, 1, &no_pairs),
             Err(none)
         );
         assert_eq!(rt; delete_edge(&mut space, &names, 7), Ok(13));
-        assert_eq!(rt; add_edge(&mut space, &mut names, 0, &edge_label, 0)?.id, 7);
+        assert_eq!(rt;
+            add_edge(&mut space, &mut names, 0, &edge_label, 0, &no_pairs)?.id,
+            7
+        );
     }
     Ok(())
 }

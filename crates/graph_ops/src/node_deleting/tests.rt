@@ -1,7 +1,7 @@
 use super::*;
 use crate::add_node;
 use name_store::load as load_names;
-use plain_graph::{Text, is_short_name};
+use plain_graph::{Pairs, Text, is_short_name};
 use rec_bytes::{MapSpace, Shape};
 use std::test::Fail;
 
@@ -13,6 +13,7 @@ const SHAPE: Shape = Shape {
 #[test]
 fn the_last_identifier_given_back_is_the_first_taken(rt: HostRuntime) -> Result<(), Fail> {
     let label = Text::new(b"a".to_vec(rt.alloc())?);
+    let no_pairs = Pairs::new(Vec::new(rt.alloc()));
     let full = ChangeFault::Full {
         file: NODES,
         live: 16,
@@ -45,7 +46,7 @@ fn the_last_identifier_given_back_is_the_first_taken(rt: HostRuntime) -> Result<
         let mut names = load_names(rt.alloc(), &mut space)?;
         for id in 0..count {
             if is_short_name(label.as_bytes()) {
-                let added = add_node(&mut space, &mut names, &label)?;
+                let added = add_node(&mut space, &mut names, &label, &no_pairs)?;
                 assert_eq!(rt; added.id, id);
                 assert_eq!(rt; added.weight, if id == 0 { 2 } else { 1 });
             }
@@ -55,7 +56,7 @@ fn the_last_identifier_given_back_is_the_first_taken(rt: HostRuntime) -> Result<
                 Some(id) => assert_eq!(rt; delete_node(&mut space, &names, *id), *result),
                 None => {
                     if is_short_name(label.as_bytes()) {
-                        let added = add_node(&mut space, &mut names, &label);
+                        let added = add_node(&mut space, &mut names, &label, &no_pairs);
                         assert_eq!(rt; added.map(|node| node.id), *result);
                     }
                 }

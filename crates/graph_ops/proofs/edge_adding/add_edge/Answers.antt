@@ -1,168 +1,233 @@
-use Rattle.std.proofs.Common.{length, ◌+◌, ◌-◌, ◌∙◌, sym, subst, ap}
-use Rattle.rec_bytes.specs.declared.shape.Shape.{Shape}
+use Rattle.std.specs.Prelude.{IfErr}
+use Rattle.std.proofs.Common.{◌≡◌, ◌+◌, length, ◌∙◌, sym, ap, subst, arith, refl}
+use Rattle.plain_graph.specs.Refusals.{change_reasons}
+use Rattle.plain_graph.specs.Reply.{EdgeMade}
+use Rattle.plain_graph.specs.declared.command.Command.TheVariants as commands
+use Rattle.plain_graph.specs.declared.command.Target.TheVariants as targets
+use Rattle.rec_bytes.specs.Format as format
 use Rattle.rec_bytes.specs.Space.{SameButReads, State}
-use Rattle.node_store.specs.Loading.{IsReadable, after_load}
-use Rattle.graph_ops.specs.ChangeFault.{LeavesSpace}
-use Rattle.graph_ops.specs.EdgeAdding.{IsEdgeFault, degrees_weight, edge_keys, new_name_keys}
-use Rattle.graph_ops.specs.EdgePlacing.{CanPlace, HasPlaced, IsFullFile, IsMissing, IsPlaceFault}
-use Rattle.graph_ops.specs.NodeAdding.{name_keys}
+use Rattle.rec_bytes.specs.declared.shape.Shape.{Shape}
+use Rattle.store_rules.specs.Writes.{WritesBeside}
+use Rattle.prop_store.specs.declared.owner.Owner.{Owner}
+use Rattle.graph_ops.specs.Assigning.{CanPut, HasPropertyRoom, PutsPairs, assigned_blocks, pairs_of}
+use Rattle.graph_ops.specs.Change.{IsRefusal, MakesChange}
+use Rattle.graph_ops.specs.ChangeFault.{IsOutside, LeavesSpace}
+use Rattle.graph_ops.specs.EdgeAdding.{IsFullOfEdges, degrees_weight}
+use Rattle.graph_ops.specs.EdgePlacing.{PutsEdge}
 use Rattle.graph_ops.specs.NodeDeleting.{HasDegree}
-use Rattle.graph_ops.specs.Store.{IsStore}
-use Rattle.graph_ops.proofs.EdgeBody.{IsEdgeAdded, IsPrepared, added_by_body, first_right, full_file, outside_leaves, outside_refused, place_refused, read_shape, read_store, second_right, source_refused, store_loaded, store_places, store_readable, target_refused, weighs_edge}
-use Rattle.graph_ops.proofs.EdgeWrites.{edge_in, edge_writes, leaves_after, on_err, same_both, same_node, writes_more, writes_none}
-use Rattle.graph_ops.proofs.Refusals.{fault_exit}
+use Rattle.graph_ops.specs.Preparing.{IsPrepared}
+use Rattle.graph_ops.specs.Store.{IsStore, graph_in}
+use Rattle.graph_ops.proofs.EdgeAdded.{can_put, degree_kept, edges_refused, enters_then, lacks_full, leaves_then, line_refused, made, not_full, put_room, read_both, room_kept, source_missing, source_then, store_then, target_missing, target_then}
+use Rattle.graph_ops.proofs.Elements.{found_there, same_both}
+use Rattle.graph_ops.proofs.Exits.{fault_exit, outside_leaves}
+use Rattle.graph_ops.proofs.Readings.{made_read, refused_read, store_read}
+use Rattle.graph_ops.proofs.Reasons.{outside_refused}
+use Rattle.graph_ops.proofs.Writes.{beside_written, more_written, none_written, then_written}
 use Rattle.graph_ops.proofs.edge_adding.add_edge.Goals as goal
-use Rattle.graph_ops.proofs.edge_adding.add_edge.Goals.{In_ok-id, In_ok-join_ends}
+use Rattle.graph_ops.proofs.edge_adding.add_edge.Goals.{After-put_properties, In_err-id, In_err-put_properties, In_ok-id, In_ok-prepared, In_ok-target, In_ok-test_room}
 use Rattle.graph_ops.proofs.edge_adding.add_edge.Given.{Over}
 
+-- ---- an end is no node
 pub returns-in_err-source-clause-refused : goal.returns-in_err-source-clause-refused
 returns-in_err-source-clause-refused g c tells store =
     let s = g.S.Reads.state c.args.space.now in
-    fault_exit (λ f. f) (IsEdgeFault s c.args.names.now.names c.args.from c.args.label.now c.args.to) c.in_err-source.field-0.0 c.from_residual.result c.from_residual.ensures.1
-    (source_refused s c.args.names.now.names c.args.from c.args.label.now c.args.to store c.in_err-source.field-0.0 (c.in_err-source.ensures.refused tells (store_readable s c.args.names.now.names c.args.from store)))
-
-pub returns-in_err-source-clause-refused_writes : goal.returns-in_err-source-clause-refused_writes
-returns-in_err-source-clause-refused_writes g c =
-    let s = g.S.Reads.state c.args.space.now in
-    on_err c.from_residual.result _ (0, 0, 0, writes_none s (g.S.Reads.state c.node_degree.new.space) _ (subst (SameButReads s) (sym c.node_degree.ensures.state) (same_node s c.args.from)))
+    let command = commands.Edge c.args.from c.args.label.now c.args.to c.args.pairs.now in
+    fault_exit (λ f. f) (IsRefusal s.shape.limit (graph_in s) command) c.in_err-source.field-0.0 c.from_residual.result c.from_residual.ensures.1
+    (source_missing s.shape.limit (graph_in s) c.args.from c.args.label.now c.args.to c.args.pairs.now c.in_err-source.field-0.0 (c.in_err-source.ensures.refused tells c.args.names.now.names store))
 
 pub returns-in_err-target-clause-refused : goal.returns-in_err-target-clause-refused
 returns-in_err-target-clause-refused g c tells store =
     let s = g.S.Reads.state c.args.space.now in
-    let one = c.node_degree.ensures.state in
-    fault_exit (λ f. f) (IsEdgeFault s c.args.names.now.names c.args.from c.args.label.now c.args.to) c.in_err-target.field-0.0 c.from_residual-in_err-target.result c.from_residual-in_err-target.ensures.1
-    (target_refused s c.args.names.now.names c.args.from c.args.label.now c.args.to store c.in_ok-source.source c.in_err-target.field-0.0 (c.in_ok-source.ensures.found tells)
-    (subst (λ (z : State). IsMissing z.records c.args.to c.in_err-target.field-0.0) one
-    (c.in_err-target.ensures.refused tells (subst (λ (z : State). IsReadable z c.args.to) (sym one) (store_readable (after_load s c.args.from) c.args.names.now.names c.args.to (store_loaded s c.args.names.now.names c.args.from store))))))
+    let m = g.S.Reads.state c.node_degree.new.space in
+    let command = commands.Edge c.args.from c.args.label.now c.args.to c.args.pairs.now in
+    let same = c.node_degree.ensures.state in
+    let kept = store_read s m c.args.names.now.names same store in
+    let leaves = found_there m c.args.names.now.names c.args.from c.in_ok-source.source kept (subst (λ (z : State). HasDegree z.records c.args.from c.in_ok-source.source) (sym same) (c.in_ok-source.ensures.found tells)) in
+    fault_exit (λ f. f) (IsRefusal s.shape.limit (graph_in s) command) c.in_err-target.field-0.0 c.from_residual-in_err-target.result c.from_residual-in_err-target.ensures.1
+    (refused_read s m change_reasons command c.in_err-target.field-0.0 same
+    (target_missing m.shape.limit (graph_in m) c.args.from c.args.label.now c.args.to c.args.pairs.now leaves c.in_err-target.field-0.0 (c.in_err-target.ensures.refused tells c.args.names.now.names kept)))
 
-pub returns-in_err-target-clause-leaves : goal.returns-in_err-target-clause-leaves
-returns-in_err-target-clause-leaves g c tells store =
+-- ---- both are
+module _ (g : Over) (c : In_ok-target g) (tells : g.S.Reads.tells) (store : IsStore (g.S.Reads.state c.args.space.now) c.args.names.now.names) where
+  same : SameButReads (g.S.Reads.state c.args.space.now) (g.S.Reads.state c.node_degree-2.new.space)
+  same = read_both (g.S.Reads.state c.args.space.now) (g.S.Reads.state c.node_degree.new.space) (g.S.Reads.state c.node_degree-2.new.space) c.args.names.now.names c.args.from c.args.to c.in_ok-source.source c.in_ok-target.target store
+      c.node_degree.ensures.state c.node_degree-2.ensures.state (c.in_ok-source.ensures.found tells) (c.in_ok-target.ensures.found tells)
+
+  kept : IsStore (g.S.Reads.state c.node_degree-2.new.space) c.args.names.now.names
+  kept = store_then (g.S.Reads.state c.args.space.now) (g.S.Reads.state c.node_degree.new.space) (g.S.Reads.state c.node_degree-2.new.space) c.args.names.now.names c.args.from c.args.to c.in_ok-source.source c.in_ok-target.target store
+      c.node_degree.ensures.state c.node_degree-2.ensures.state (c.in_ok-source.ensures.found tells) (c.in_ok-target.ensures.found tells)
+
+  source_has : HasDegree (g.S.Reads.state c.node_degree-2.new.space).records c.args.from c.in_ok-source.source
+  source_has = source_then (g.S.Reads.state c.args.space.now) (g.S.Reads.state c.node_degree.new.space) (g.S.Reads.state c.node_degree-2.new.space) c.args.names.now.names c.args.from c.args.to c.in_ok-source.source c.in_ok-target.target store
+      c.node_degree.ensures.state c.node_degree-2.ensures.state (c.in_ok-source.ensures.found tells) (c.in_ok-target.ensures.found tells)
+
+  target_has : HasDegree (g.S.Reads.state c.node_degree-2.new.space).records c.args.to c.in_ok-target.target
+  target_has = target_then (g.S.Reads.state c.args.space.now) (g.S.Reads.state c.node_degree.new.space) (g.S.Reads.state c.node_degree-2.new.space) c.args.names.now.names c.args.from c.args.to c.in_ok-source.source c.in_ok-target.target store
+      c.node_degree.ensures.state c.node_degree-2.ensures.state (c.in_ok-source.ensures.found tells) (c.in_ok-target.ensures.found tells)
+
+pub returns-in_err-test_room-clause-refused : goal.returns-in_err-test_room-clause-refused
+returns-in_err-test_room-clause-refused g c tells store =
+    let at = (goal.at.returns-in_err-test_room-clause-refused g c).In_ok-target in
     let s = g.S.Reads.state c.args.space.now in
-    let one = g.S.Reads.state c.node_degree.new.space in
-    let two = g.S.Reads.state c.node_degree-2.new.space in
-    fault_exit (λ f. f) (LeavesSpace s two) c.in_err-target.field-0.0 c.from_residual-in_err-target.result c.from_residual-in_err-target.ensures.1
-    (leaves_after s one two c.in_err-target.field-0.0 (subst (SameButReads s) (sym c.node_degree.ensures.state) (same_node s c.args.from)) c.in_err-target.ensures.leaves)
+    let n = g.S.Reads.state c.node_degree-2.new.space in
+    let names = c.args.names.now.names in
+    let command = commands.Edge c.args.from c.args.label.now c.args.to c.args.pairs.now in
+    let fault = c.in_err-test_room.field-0.0 in
+    let why = c.in_err-test_room.ensures.full in
+    let here = kept g at tells store in
+    fault_exit (λ f. f) (IsRefusal s.shape.limit (graph_in s) command) fault c.from_residual-in_err-test_room.result c.from_residual-in_err-test_room.ensures.1
+    (refused_read s n change_reasons command fault (same g at tells store)
+    (edges_refused n.shape.limit (graph_in n) c.args.from c.args.label.now c.args.to c.args.pairs.now
+    (found_there n names c.args.from c.in_ok-source.source here (source_has g at tells store)) (found_there n names c.args.to c.in_ok-target.target here (target_has g at tells store))
+    fault _ why.is (lacks_full n names here fault why)))
+
+-- ---- there is room for an edge
+module _ (g : Over) (c : In_ok-test_room g) (tells : g.S.Reads.tells) (store : IsStore (g.S.Reads.state c.args.space.now) c.args.names.now.names) where
+  room : ¬ IsFullOfEdges (g.S.Reads.state c.node_degree-2.new.space)
+  room = not_full (g.S.Reads.state c.node_degree-2.new.space) c.args.names.now.names (kept g (goal.at.In_ok-test_room g c).In_ok-target tells store) c.in_ok-test_room.ensures.room
+
+pub returns-in_err-prepared-clause-refused : goal.returns-in_err-prepared-clause-refused
+returns-in_err-prepared-clause-refused g c tells store =
+    let at = goal.at.returns-in_err-prepared-clause-refused g c in
+    let s = g.S.Reads.state c.args.space.now in
+    let n = g.S.Reads.state c.node_degree-2.new.space in
+    let names = c.args.names.now.names in
+    let pairs = c.as_slice-pairs.result.now in
+    let command = commands.Edge c.args.from c.args.label.now c.args.to pairs in
+    let fault = c.in_err-prepared.field-0.0 in
+    let here = kept g at.In_ok-target tells store in
+    subst (λ l. IfErr c.from_residual-in_err-prepared.result (IsRefusal s.shape.limit (graph_in s) (commands.Edge c.args.from c.args.label.now c.args.to l))) c.as_slice-pairs.ensures
+    (fault_exit (λ f. f) (IsRefusal s.shape.limit (graph_in s) command) fault c.from_residual-in_err-prepared.result c.from_residual-in_err-prepared.ensures.1
+    (refused_read s n change_reasons command fault (same g at.In_ok-target tells store)
+    (line_refused n.shape.limit (graph_in n) c.args.from c.args.label.now c.args.to pairs
+    (found_there n names c.args.from c.in_ok-source.source here (source_has g at.In_ok-target tells store)) (found_there n names c.args.to c.in_ok-target.target here (target_has g at.In_ok-target tells store))
+    (room g at.In_ok-test_room tells store) fault (c.in_err-prepared.ensures.refused tells here))))
+
+-- ---- the edge's record and its chains
+module _ (g : Over) (c : In_ok-prepared g) (tells : g.S.Reads.tells) (store : IsStore (g.S.Reads.state c.args.space.now) c.args.names.now.names) where
+  at_hand : IsPrepared (g.S.Reads.state c.node_degree-2.new.space) (g.S.Reads.state c.prepare.new.space) c.prepare.new.names.names c.args.label.now c.as_slice-pairs.result.now c.in_ok-prepared.prepared
+  at_hand = c.in_ok-prepared.ensures.prepared tells (kept g (goal.at.In_ok-prepared g c).In_ok-target tells store)
+
+  source_kept : HasDegree (g.S.Reads.state c.prepare.new.space).records c.args.from c.in_ok-source.source
+  source_kept = let at = (goal.at.In_ok-prepared g c).In_ok-target in degree_kept (g.S.Reads.state c.node_degree-2.new.space) (g.S.Reads.state c.prepare.new.space) c.args.names.now.names c.prepare.new.names.names c.args.from c.in_ok-source.source (kept g at tells store) at_hand.kept (source_has g at tells store)
+
+  target_kept : HasDegree (g.S.Reads.state c.prepare.new.space).records c.args.to c.in_ok-target.target
+  target_kept = let at = (goal.at.In_ok-prepared g c).In_ok-target in degree_kept (g.S.Reads.state c.node_degree-2.new.space) (g.S.Reads.state c.prepare.new.space) c.args.names.now.names c.prepare.new.names.names c.args.to c.in_ok-target.target (kept g at tells store) at_hand.kept (target_has g at tells store)
+
+-- only the machine can fail
+edge_outside : (g : Over) (c : In_err-id g) → g.S.Reads.tells → IsStore (g.S.Reads.state c.args.space.now) c.args.names.now.names → IsOutside c.in_err-id.field-0.0
+edge_outside g c tells store =
+    let at = goal.at.In_err-id g c in
+    let hand = at_hand g at.In_ok-prepared tells store in
+    c.in_err-id.ensures.sound tells c.prepare.new.names.names c.args.label.now hand.kept.store hand.label_is (source_kept g at.In_ok-prepared tells store) (target_kept g at.In_ok-prepared tells store)
+    (room_kept (g.S.Reads.state c.node_degree-2.new.space) c.args.names.now.names (kept g at.In_ok-target tells store) (g.S.Reads.state c.prepare.new.space) c.prepare.new.names.names hand.kept c.in_ok-test_room.ensures.room)
 
 pub returns-in_err-id-clause-refused : goal.returns-in_err-id-clause-refused
 returns-in_err-id-clause-refused g c tells store =
     let s = g.S.Reads.state c.args.space.now in
-    let one = c.node_degree.ensures.state in
-    let two = c.node_degree-2.ensures.state ∙ ap (λ z. after_load z c.args.to) one in
-    fault_exit (λ f. f) (IsEdgeFault s c.args.names.now.names c.args.from c.args.label.now c.args.to) c.in_err-id.field-0.0 c.from_residual-in_err-id.result c.from_residual-in_err-id.ensures.1
-    (place_refused s c.args.names.now.names c.args.from c.args.label.now c.args.to store c.in_ok-source.source c.in_ok-target.target c.in_err-id.field-0.0 (c.in_ok-source.ensures.found tells)
-    (subst (λ (z : State). HasDegree z.records c.args.to c.in_ok-target.target) one (c.in_ok-target.ensures.found tells))
-    (subst (λ (z : State). IsPlaceFault z c.args.names.now.names c.args.label.now c.in_err-id.field-0.0) two
-    (c.in_err-id.ensures.refused tells (subst CanPlace (sym two) (store_places (after_load (after_load s c.args.from) c.args.to) c.args.names.now.names (read_store s c.args.names.now.names c.args.from c.args.to store))))))
+    let command = commands.Edge c.args.from c.args.label.now c.args.to c.args.pairs.now in
+    fault_exit (λ f. f) (IsRefusal s.shape.limit (graph_in s) command) c.in_err-id.field-0.0 c.from_residual-in_err-id.result c.from_residual-in_err-id.ensures.1
+    (outside_refused change_reasons s.shape.limit (graph_in s) command c.in_err-id.field-0.0 (edge_outside g (goal.at.returns-in_err-id-clause-refused g c).In_err-id tells store))
 
 pub returns-in_err-id-clause-leaves : goal.returns-in_err-id-clause-leaves
 returns-in_err-id-clause-leaves g c tells store =
     let s = g.S.Reads.state c.args.space.now in
-    let one = g.S.Reads.state c.node_degree.new.space in
-    let two = g.S.Reads.state c.node_degree-2.new.space in
-    let t = g.S.Reads.state c.place.new.space in
-    fault_exit (λ f. f) (LeavesSpace s t) c.in_err-id.field-0.0 c.from_residual-in_err-id.result c.from_residual-in_err-id.ensures.1
-    (leaves_after s two t c.in_err-id.field-0.0
-    (same_both s one two (subst (SameButReads s) (sym c.node_degree.ensures.state) (same_node s c.args.from)) (subst (SameButReads one) (sym c.node_degree-2.ensures.state) (same_node one c.args.to))) c.in_err-id.ensures.leaves)
+    let v = g.S.Reads.state c.put_edge.new.space in
+    fault_exit (λ f. f) (LeavesSpace s v) c.in_err-id.field-0.0 c.from_residual-in_err-id.result c.from_residual-in_err-id.ensures.1
+    (outside_leaves s v c.in_err-id.field-0.0 (edge_outside g (goal.at.returns-in_err-id-clause-leaves g c).In_err-id tells store))
 
--- what the calls before the edits of chains left
-prepared : (g : Over) (c : In_ok-id g) → g.S.Reads.tells → IsStore (g.S.Reads.state c.args.space.now) c.args.names.now.names
-    → IsPrepared (g.S.Reads.state c.args.space.now) (g.S.Reads.state c.place.new.space) c.args.names.now.names c.place.new.names.names c.args.from c.args.label.now c.args.to c.in_ok-id.id c.in_ok-source.source c.in_ok-target.target
-prepared g c tells store =
-    let one = c.node_degree.ensures.state in
-    let two = c.node_degree-2.ensures.state ∙ ap (λ z. after_load z c.args.to) one in
-    record {
-      store = store;
-      source = c.in_ok-source.ensures.found tells;
-      target = subst (λ (z : State). HasDegree z.records c.args.to c.in_ok-target.target) one (c.in_ok-target.ensures.found tells);
-      placed = subst (λ z. HasPlaced z (g.S.Reads.state c.place.new.space) c.args.names.now.names c.place.new.names.names c.args.from c.args.label.now c.args.to c.in_ok-id.id) two (c.in_ok-id.ensures.placed tells);
-      short = c.requires;
-      few = λ lacks all. absurd (let e = c.in_ok-id.ensures.names_full (record { all = all; new = lacks }) in cc);
-    }
+-- ---- its properties
+puts : (g : Over) (c : In_ok-id g) → g.S.Reads.tells → IsStore (g.S.Reads.state c.args.space.now) c.args.names.now.names
+    → PutsEdge (g.S.Reads.state c.prepare.new.space) (g.S.Reads.state c.put_edge.new.space) c.prepare.new.names.names c.args.from c.args.label.now c.args.to c.in_ok-id.id
+puts g c tells store =
+    let at = (goal.at.In_ok-id g c).In_ok-prepared in
+    let hand = at_hand g at tells store in
+    c.in_ok-id.ensures.put tells c.prepare.new.names.names c.args.label.now hand.kept.store hand.label_is (source_kept g at tells store) (target_kept g at tells store)
 
--- the loads change no record
-loads : (g : Over) (c : In_ok-id g) → SameButReads (g.S.Reads.state c.args.space.now) (g.S.Reads.state c.node_degree-2.new.space)
-loads g c =
+can : (g : Over) (c : After-put_properties g) → g.S.Reads.tells → IsStore (g.S.Reads.state c.args.space.now) c.args.names.now.names
+    → CanPut (g.S.Reads.state c.put_edge.new.space) c.prepare.new.names.names (targets.Edge c.in_ok-id.id) c.as_slice-pairs.result.now c.deref.result.now
+can g c tells store =
+    let at = goal.at.After-put_properties g c in
+    subst (CanPut (g.S.Reads.state c.put_edge.new.space) c.prepare.new.names.names (targets.Edge c.in_ok-id.id) c.as_slice-pairs.result.now) (sym c.deref.ensures.0)
+    (can_put (g.S.Reads.state c.node_degree-2.new.space) (g.S.Reads.state c.prepare.new.space) (g.S.Reads.state c.put_edge.new.space) c.args.names.now.names c.prepare.new.names.names c.args.from c.args.label.now c.args.to c.as_slice-pairs.result.now c.in_ok-id.id
+    c.in_ok-prepared.prepared (kept g at.In_ok-target tells store) (at_hand g at.In_ok-prepared tells store) (puts g at.In_ok-id tells store) (c.put_edge.ensures.shape tells))
+
+properties_outside : (g : Over) (c : In_err-put_properties g) → g.S.Reads.tells → IsStore (g.S.Reads.state c.args.space.now) c.args.names.now.names → IsOutside c.in_err-put_properties.field-0.0
+properties_outside g c tells store =
+    let at = goal.at.In_err-put_properties g c in
+    c.in_err-put_properties.ensures.sound tells c.prepare.new.names.names (targets.Edge c.in_ok-id.id) c.edge_owner.ensures (can g at.After-put_properties tells store)
+    (subst (λ l. HasPropertyRoom (g.S.Reads.state c.put_edge.new.space) (length l) (assigned_blocks c.as_slice-pairs.result.now l)) (sym c.deref.ensures.0)
+    (put_room (g.S.Reads.state c.node_degree-2.new.space) (g.S.Reads.state c.prepare.new.space) (g.S.Reads.state c.put_edge.new.space) c.args.names.now.names c.prepare.new.names.names c.args.from c.args.label.now c.args.to c.as_slice-pairs.result.now c.in_ok-id.id
+    c.in_ok-prepared.prepared (kept g at.In_ok-target tells store) (at_hand g at.In_ok-prepared tells store) (puts g at.In_ok-id tells store) (c.put_edge.ensures.shape tells)))
+
+pub returns-in_err-put_properties-clause-refused : goal.returns-in_err-put_properties-clause-refused
+returns-in_err-put_properties-clause-refused g c tells store =
     let s = g.S.Reads.state c.args.space.now in
-    let one = g.S.Reads.state c.node_degree.new.space in
-    let two = g.S.Reads.state c.node_degree-2.new.space in
-    same_both s one two (subst (SameButReads s) (sym c.node_degree.ensures.state) (same_node s c.args.from)) (subst (SameButReads one) (sym c.node_degree-2.ensures.state) (same_node one c.args.to))
+    let command = commands.Edge c.args.from c.args.label.now c.args.to c.args.pairs.now in
+    fault_exit (λ f. f) (IsRefusal s.shape.limit (graph_in s) command) c.in_err-put_properties.field-0.0 c.from_residual-in_err-put_properties.result c.from_residual-in_err-put_properties.ensures.1
+    (outside_refused change_reasons s.shape.limit (graph_in s) command c.in_err-put_properties.field-0.0 (properties_outside g (goal.at.returns-in_err-put_properties-clause-refused g c).In_err-put_properties tells store))
 
-added : (g : Over) (c : In_ok-join_ends g) → g.S.Reads.tells → IsStore (g.S.Reads.state c.args.space.now) c.args.names.now.names
-    → IsEdgeAdded (g.S.Reads.state c.args.space.now) (g.S.Reads.state c.join_ends.new.space) c.place.new.names.names c.args.from c.args.label.now c.args.to c.in_ok-id.id
-added g c tells store =
+pub returns-in_err-put_properties-clause-leaves : goal.returns-in_err-put_properties-clause-leaves
+returns-in_err-put_properties-clause-leaves g c tells store =
     let s = g.S.Reads.state c.args.space.now in
-    let t = g.S.Reads.state c.place.new.space in
-    let two = c.node_degree-2.ensures.state ∙ ap (λ z. after_load z c.args.to) c.node_degree.ensures.state in
-    added_by_body s t c.args.names.now.names c.place.new.names.names c.args.from c.args.label.now c.args.to c.in_ok-id.id c.in_ok-source.source c.in_ok-target.target c.saturating_add.result c.saturating_add-2.result
-    (prepared g (goal.at.In_ok-join_ends g c).In_ok-id tells store) c.saturating_add.ensures c.saturating_add-2.ensures (g.S.Reads.state c.join_ends.new.space) (c.in_ok-join_ends.ensures.ok tells)
-    (c.join_ends.ensures.shape tells ∙ c.place.ensures.shape tells ∙ ap (λ (z : State). z.shape) two ∙ read_shape s c.args.names.now.names c.args.from c.args.to store)
+    let w = g.S.Reads.state c.put_properties.new.space in
+    fault_exit (λ f. f) (LeavesSpace s w) c.in_err-put_properties.field-0.0 c.from_residual-in_err-put_properties.result c.from_residual-in_err-put_properties.ensures.1
+    (outside_leaves s w c.in_err-put_properties.field-0.0 (properties_outside g (goal.at.returns-in_err-put_properties-clause-leaves g c).In_err-put_properties tells store))
 
-pub returns-in_err-join_ends-clause-refused : goal.returns-in_err-join_ends-clause-refused
-returns-in_err-join_ends-clause-refused g c tells store =
-    let s = g.S.Reads.state c.args.space.now in
-    let t = g.S.Reads.state c.place.new.space in
-    let p = prepared g (goal.at.returns-in_err-join_ends-clause-refused g c).In_ok-id tells store in
-    fault_exit (λ f. f) (IsEdgeFault s c.args.names.now.names c.args.from c.args.label.now c.args.to) c.in_err-join_ends.field-0.0 c.from_residual-in_err-join_ends.result c.from_residual-in_err-join_ends.ensures.1
-    (outside_refused s c.args.names.now.names c.args.from c.args.label.now c.args.to store c.in_err-join_ends.field-0.0
-    (c.in_err-join_ends.ensures.sound tells
-    (first_right s t c.args.names.now.names c.place.new.names.names c.args.from c.args.label.now c.args.to c.in_ok-id.id c.in_ok-source.source c.in_ok-target.target c.saturating_add.result c.saturating_add-2.result p c.saturating_add.ensures c.saturating_add-2.ensures)
-    (λ _. second_right s t c.args.names.now.names c.place.new.names.names c.args.from c.args.label.now c.args.to c.in_ok-id.id c.in_ok-source.source c.in_ok-target.target c.saturating_add.result c.saturating_add-2.result p c.saturating_add.ensures c.saturating_add-2.ensures)))
+-- call after call the space goes on
+onward : (g : Over) (c : After-put_properties g) → g.S.Reads.onward c.args.space.now c.put_properties.new.space
+onward g c =
+    let on = g.met.S.Reads.further_onward in
+    on c.args.space.now c.put_edge.new.space c.put_properties.new.space
+    (on c.args.space.now c.prepare.new.space c.put_edge.new.space
+    (on c.args.space.now c.node_degree-2.new.space c.prepare.new.space (on c.args.space.now c.node_degree.new.space c.node_degree-2.new.space c.node_degree.ensures.onward c.node_degree-2.ensures.onward) c.prepare.ensures.onward)
+    c.put_edge.ensures.onward)
+    c.put_properties.ensures.onward
 
-pub returns-in_err-join_ends-clause-leaves : goal.returns-in_err-join_ends-clause-leaves
-returns-in_err-join_ends-clause-leaves g c tells store =
-    let s = g.S.Reads.state c.args.space.now in
-    let t = g.S.Reads.state c.place.new.space in
-    let p = prepared g (goal.at.returns-in_err-join_ends-clause-leaves g c).In_ok-id tells store in
-    fault_exit (λ f. f) (LeavesSpace s (g.S.Reads.state c.join_ends.new.space)) c.in_err-join_ends.field-0.0 c.from_residual-in_err-join_ends.result c.from_residual-in_err-join_ends.ensures.1
-    (outside_leaves s (g.S.Reads.state c.join_ends.new.space) c.in_err-join_ends.field-0.0
-    (c.in_err-join_ends.ensures.sound tells
-    (first_right s t c.args.names.now.names c.place.new.names.names c.args.from c.args.label.now c.args.to c.in_ok-id.id c.in_ok-source.source c.in_ok-target.target c.saturating_add.result c.saturating_add-2.result p c.saturating_add.ensures c.saturating_add-2.ensures)
-    (λ _. second_right s t c.args.names.now.names c.place.new.names.names c.args.from c.args.label.now c.args.to c.in_ok-id.id c.in_ok-source.source c.in_ok-target.target c.saturating_add.result c.saturating_add-2.result p c.saturating_add.ensures c.saturating_add-2.ensures)))
+pub returns-in_err-put_properties-clause-onward : goal.returns-in_err-put_properties-clause-onward
+returns-in_err-put_properties-clause-onward g c = onward g (goal.at.returns-in_err-put_properties-clause-onward g c).After-put_properties
 
-pub returns-in_err-join_ends-clause-refused_writes : goal.returns-in_err-join_ends-clause-refused_writes
-returns-in_err-join_ends-clause-refused_writes g c =
-    let s = g.S.Reads.state c.args.space.now in
-    let u = g.S.Reads.state c.join_ends.new.space in
-    let k = c.join_ends.ensures.writes in
-    let id = c.in_ok-id.id in
-    on_err c.from_residual-in_err-join_ends.result _ (
-      id,
-      k.0,
-      k.1,
-      writes_more s u (edge_keys id c.args.from c.args.to k.0 k.1 (new_name_keys c.args.names.now.names c.place.new.names.names)) (edge_keys id c.args.from c.args.to k.0 k.1 (name_keys (length c.args.names.now.names)))
-          (edge_writes s (g.S.Reads.state c.node_degree-2.new.space) (g.S.Reads.state c.place.new.space) u id c.args.from c.args.to k.0 k.1 (new_name_keys c.args.names.now.names c.place.new.names.names)
-          (loads g (goal.at.returns-in_err-join_ends-clause-refused_writes g c).In_ok-id) c.in_ok-id.ensures.writes k.2)
-          (edge_in id c.args.from c.args.to k.0 k.1 c.args.names.now.names c.place.new.names.names),
-    )
-
-pub returns-clause-well : goal.returns-clause-well
-returns-clause-well g c tells store = (added g (goal.at.returns-clause-well g c).In_ok-join_ends tells store).store
-
-pub returns-clause-adds : goal.returns-clause-adds
-returns-clause-adds g c tells store = (added g (goal.at.returns-clause-adds g c).In_ok-join_ends tells store).adds
+-- ---- the edge is made
+pub returns-clause-onward : goal.returns-clause-onward
+returns-clause-onward g c = onward g (goal.at.returns-clause-onward g c).After-put_properties
 
 pub returns-clause-full : goal.returns-clause-full
 returns-clause-full g c store full =
     let s = g.S.Reads.state c.args.space.now in
-    let two = c.node_degree-2.ensures.state ∙ ap (λ z. after_load z c.args.to) c.node_degree.ensures.state in
-    c.in_ok-id.ensures.full (subst IsFullFile (sym two) (full_file s c.args.names.now.names c.args.from c.args.to store full))
+    let n = g.S.Reads.state c.node_degree-2.new.space in
+    let same = same_both s (g.S.Reads.state c.node_degree.new.space) n c.node_degree.ensures.state c.node_degree-2.ensures.state in
+    absurd (not_full n c.args.names.now.names (store_read s n c.args.names.now.names same store) c.in_ok-test_room.ensures.room (subst IsFullOfEdges (sym same) full))
 
-pub returns-clause-weight : goal.returns-clause-weight
-returns-clause-weight g c tells store =
+pub returns-clause-made : goal.returns-clause-made
+returns-clause-made g c tells store =
+    let at = goal.at.returns-clause-made g c in
     let s = g.S.Reads.state c.args.space.now in
-    let p = prepared g (goal.at.returns-clause-weight g c).In_ok-id tells store in
-    let two = c.node_degree-2.ensures.state ∙ ap (λ z. after_load z c.args.to) c.node_degree.ensures.state in
-    let shape = c.shape-threshold.ensures.is ∙ c.join_ends.ensures.shape tells ∙ c.place.ensures.shape tells ∙ ap (λ (z : State). z.shape) two ∙ read_shape s c.args.names.now.names c.args.from c.args.to store in
-    let ends = c.ends_weight-ends.ensures.is ∙ ap (λ (h : Shape). degrees_weight h.threshold c.args.from c.in_ok-source.source c.args.to c.in_ok-target.target) shape in
-    weighs_edge s c.args.names.now.names c.place.new.names.names c.args.from c.args.label.now c.args.to c.in_ok-source.source c.in_ok-target.target _ store p.source p.target p.placed.uses
-    (λ i. 9 + (c.count.ensures.value i - c.count-known.ensures.value i) + ends i)
+    let n = g.S.Reads.state c.node_degree-2.new.space in
+    let u = g.S.Reads.state c.prepare.new.space in
+    let v = g.S.Reads.state c.put_edge.new.space in
+    let w = g.S.Reads.state c.put_properties.new.space in
+    let names = c.prepare.new.names.names in
+    let pairs = c.as_slice-pairs.result.now in
+    let id = c.in_ok-id.id in
+    let hand = at_hand g at.In_ok-prepared tells store in
+    let weight = 9 + c.in_ok-prepared.prepared.weight + c.ends_weight-ends.result in
+    let put = subst (λ l. PutsPairs v w names (targets.Edge id) (pairs_of names pairs l)) c.deref.ensures.0 (c.in_ok-put_properties.ensures.put tells names (targets.Edge id) c.edge_owner.ensures (can g at.After-put_properties tells store)) in
+    made_read s n w names (commands.Edge c.args.from c.args.label.now c.args.to c.args.pairs.now) (EdgeMade id) weight (same g at.In_ok-target tells store)
+    (subst (λ l. MakesChange (commands.Edge c.args.from c.args.label.now c.args.to l) (EdgeMade id) weight n w names) c.as_slice-pairs.ensures
+    (made n u v c.args.names.now.names names c.args.from c.args.label.now c.args.to pairs id c.in_ok-prepared.prepared (kept g at.In_ok-target tells store) hand (puts g at.In_ok-id tells store) (c.put_edge.ensures.shape tells)
+    w put (room g at.In_ok-test_room tells store) c.in_ok-source.source c.in_ok-target.target (source_has g at.In_ok-target tells store) (target_has g at.In_ok-target tells store) weight c.ends_weight-ends.result refl
+    (c.ends_weight-ends.ensures.is ∙ ap (λ (h : Shape). degrees_weight h.threshold c.args.from c.in_ok-source.source c.args.to c.in_ok-target.target) (c.shape-threshold.ensures.is ∙ hand.kept.shape))))
 
 pub returns-clause-writes : goal.returns-clause-writes
 returns-clause-writes g c =
+    let pairs = c.as_slice-pairs.result.now in
     let s = g.S.Reads.state c.args.space.now in
-    let k = c.join_ends.ensures.writes in (
-      k.0,
-      k.1,
-      edge_writes s (g.S.Reads.state c.node_degree-2.new.space) (g.S.Reads.state c.place.new.space) (g.S.Reads.state c.join_ends.new.space) c.in_ok-id.id c.args.from c.args.to k.0 k.1 (new_name_keys c.args.names.now.names c.place.new.names.names)
-          (loads g (goal.at.returns-clause-writes g c).In_ok-id) c.in_ok-id.ensures.writes k.2,
-    )
+    let m = g.S.Reads.state c.node_degree.new.space in
+    let n = g.S.Reads.state c.node_degree-2.new.space in
+    let v = g.S.Reads.state c.put_edge.new.space in
+    let w = g.S.Reads.state c.put_properties.new.space in
+    let count = ap length c.deref.ensures.0 in
+    let blocks = ap (assigned_blocks pairs) c.deref.ensures.0 in
+    let weight = c.in_ok-prepared.ensures.weight in
+    let owned = subst (λ (o : Owner). WritesBeside o.key (length c.deref.result.now + assigned_blocks pairs c.deref.result.now) v w) c.edge_owner.ensures c.in_ok-put_properties.ensures.writes in
+    more_written (omega arith) (then_written (none_written s n (same_both s m n c.node_degree.ensures.state c.node_degree-2.ensures.state)) (then_written c.in_ok-prepared.ensures.writes (then_written c.in_ok-id.ensures.writes (beside_written refl owned))))

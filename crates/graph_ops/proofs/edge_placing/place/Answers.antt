@@ -1,36 +1,47 @@
-use Rattle.std.proofs.Common.{Some, ◌∙◌, subst, ap}
-use Rattle.plain_graph.specs.Graph.{UsesName}
+use Rattle.std.proofs.Common.{◌≡◌, ◌∙◌, ap, refl, inl, inr, ⊎_elim, [], ◌∷◌}
 use Rattle.rec_bytes.specs.Format as format
+use Rattle.rec_bytes.specs.RecordFiles.{meta_key_of}
 use Rattle.rec_bytes.specs.Space.{State, after_put}
-use Rattle.name_store.specs.Interning.{interned}
+use Rattle.store_rules.specs.Views.{key_in}
 use Rattle.rel_store.specs.declared.rel_row.RelRow.{RelRow}
 use Rattle.rel_store.specs.RelRecord.{rel_key, rel_record}
-use Rattle.graph_ops.specs.EdgePlacing.{new_row}
-use Rattle.graph_ops.proofs.StateShapes.{taken-shape}
+use Rattle.graph_ops.specs.ChangeFault.{IsOutside, of_take}
+use Rattle.graph_ops.proofs.Exits.{fault_exit}
+use Rattle.graph_ops.proofs.Takes.{store_can_take, take_outside, taken-shape}
+use Rattle.graph_ops.proofs.Writes.{among_metas, some_written, then_written}
 use Rattle.graph_ops.proofs.edge_placing.place.Goals as goal
+use Rattle.graph_ops.proofs.edge_placing.place.Goals.{In_ok-id}
+use Rattle.graph_ops.proofs.edge_placing.place.Given.{Over}
 
-pub returns-in_err-number-clause-shape : goal.returns-in_err-number-clause-shape
-returns-in_err-number-clause-shape g c tells =
-    c.intern.ensures.shape tells ∙ ap (λ (s : State). s.shape) (c.in_ok-id.ensures.ok tells) ∙ taken-shape (g.S.Reads.state c.args.space.now) format.relationships_file
+pub returns-in_err-id-clause-sound : goal.returns-in_err-id-clause-sound
+returns-in_err-id-clause-sound g c tells names store room =
+    let s = g.S.Reads.state c.args.space.now in
+    fault_exit of_take IsOutside c.in_err-id.field-0.0 c.from_residual.result c.from_residual.ensures.1
+    (take_outside s format.relationships_file c.in_err-id.field-0.0 room (c.in_err-id.ensures.refused tells) (c.in_err-id.ensures.sound tells _ (store_can_take s names format.relationships_file refl refl store)))
+
+-- the shape after the identifier was taken
+took : (g : Over) (c : In_ok-id g) → g.S.Reads.tells → (g.S.Reads.state c.take.new.space).shape ≡ (g.S.Reads.state c.args.space.now).shape
+took g c tells = ap (λ (s : State). s.shape) (c.in_ok-id.ensures.ok tells) ∙ taken-shape (g.S.Reads.state c.args.space.now) format.relationships_file
 
 pub returns-in_err-save-clause-shape : goal.returns-in_err-save-clause-shape
-returns-in_err-save-clause-shape g c tells =
-    ap (λ (s : State). s.shape) c.in_err-save.ensures.err ∙ c.intern.ensures.shape tells ∙ ap (λ (s : State). s.shape) (c.in_ok-id.ensures.ok tells) ∙ taken-shape (g.S.Reads.state c.args.space.now) format.relationships_file
-
-pub returns-clause-shape : goal.returns-clause-shape
-returns-clause-shape g c tells =
-    ap (λ (s : State). s.shape) c.in_ok-save.ensures.ok ∙ c.intern.ensures.shape tells ∙ ap (λ (s : State). s.shape) (c.in_ok-id.ensures.ok tells) ∙ taken-shape (g.S.Reads.state c.args.space.now) format.relationships_file
+returns-in_err-save-clause-shape g c tells = ap (λ (s : State). s.shape) c.in_err-save.ensures.err ∙ took g (goal.at.returns-in_err-save-clause-shape g c).In_ok-id tells
 
 pub returns-clause-placed : goal.returns-clause-placed
 returns-clause-placed g c tells = record {
   took = g.S.Reads.state c.take.new.space;
-  number = c.in_ok-number.number;
   taken = c.in_ok-id.ensures.taken tells;
   small = c.in_ok-id.ensures.small;
-  shape = ap (λ (s : State). s.shape) (c.in_ok-id.ensures.ok tells) ∙ taken-shape (g.S.Reads.state c.args.space.now) format.relationships_file;
-  uses = subst (λ l. UsesName c.args.names.now.names l c.intern.new.self.names) c.as_bytes.ensures c.in_ok-number.ensures.names;
-  at = c.in_ok-number.ensures.number ∙ ap (λ l. Some l) c.as_bytes.ensures;
-  saved = c.in_ok-save.ensures.ok ∙ ap (λ (r : RelRow). after_put (g.S.Reads.state c.intern.new.space) (rel_key r.id) (rel_record r)) c.new_row.ensures
-      ∙ ap (λ (s : State). after_put s (rel_key c.in_ok-id.id) (rel_record (new_row c.in_ok-id.id c.in_ok-number.number c.args.from c.args.to)))
-      (c.in_ok-number.ensures.ok tells ∙ ap (interned (g.S.Reads.state c.take.new.space) c.args.names.now.names) c.as_bytes.ensures);
+  shape = took g (goal.at.returns-clause-placed g c).In_ok-id tells;
+  saved = c.in_ok-save.ensures.ok ∙ ap (λ (r : RelRow). after_put (g.S.Reads.state c.take.new.space) (rel_key r.id) (rel_record r)) c.new_row.ensures;
 }
+
+pub returns-clause-shape : goal.returns-clause-shape
+returns-clause-shape g c tells = ap (λ (s : State). s.shape) c.in_ok-save.ensures.ok ∙ took g (goal.at.returns-clause-shape g c).In_ok-id tells
+
+pub returns-clause-writes : goal.returns-clause-writes
+returns-clause-writes g c =
+    then_written
+    (some_written (g.S.Reads.state c.args.space.now) (g.S.Reads.state c.take.new.space) [] (meta_key_of format.relationships_file ∷ []) tt
+    (λ q i. ⊎_elim (λ e. among_metas format.relationships_file q refl e) (λ e. absurd e) i) c.take.ensures.writes)
+    (some_written (g.S.Reads.state c.take.new.space) (g.S.Reads.state c.save.new.space) (key_in format.relationships_file c.in_ok-id.id ∷ []) (rel_key c.new_row.result.id ∷ []) (refl, tt)
+    (λ q i. ⊎_elim (λ e. inl (e ∙ ap (λ (r : RelRow). rel_key r.id) c.new_row.ensures)) (λ e. absurd e) i) c.save.ensures.writes)

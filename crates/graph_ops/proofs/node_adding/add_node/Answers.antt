@@ -1,73 +1,143 @@
-use Rattle.std.proofs.Common.{rules, ◌∙◌, sym, subst, ap}
-use Rattle.plain_graph.specs.Graph.{AddsNode}
-use Rattle.plain_graph.specs.Names.{IsShortName}
+use Rattle.std.specs.Prelude.{Err, IfErr}
+use Rattle.std.proofs.Common.{◌≡◌, ◌+◌, length, ◌∙◌, sym, ap, subst, arith, refl}
+use Rattle.plain_graph.specs.Refusals.{change_reasons}
+use Rattle.plain_graph.specs.Reply.{NodeMade}
+use Rattle.plain_graph.specs.declared.command.Command.TheVariants as commands
+use Rattle.plain_graph.specs.declared.command.Target.TheVariants as targets
 use Rattle.rec_bytes.specs.Format as format
 use Rattle.rec_bytes.specs.Space.{State}
-use Rattle.graph_ops.specs.ChangeFault.{of_intern, of_take}
-use Rattle.graph_ops.specs.NodeAdding.{IsAddFault}
+use Rattle.store_rules.specs.Writes.{WritesBeside}
+use Rattle.prop_store.specs.declared.owner.Owner.{Owner}
+use Rattle.graph_ops.specs.Assigning.{CanPut, HasPropertyRoom, PutsPairs, assigned_blocks, pairs_of}
+use Rattle.graph_ops.specs.Change.{IsRefusal, MakesChange}
+use Rattle.graph_ops.specs.ChangeFault.{IsOutside, LeavesSpace}
+use Rattle.graph_ops.specs.NodeAdding.{PutsNode}
+use Rattle.graph_ops.specs.Preparing.{IsPrepared, line_reasons}
 use Rattle.graph_ops.specs.Store.{IsStore, graph_in}
-use Rattle.graph_ops.proofs.NodeAdded.{HasAdded, has_added}
-use Rattle.graph_ops.proofs.Refusals.{can_add, fault_exit, full_exit, full_result, intern_refused, not_full, take_refused}
-use Rattle.graph_ops.proofs.StateShapes.{taken-shape}
+use Rattle.graph_ops.proofs.Exits.{exit_is, fault_exit, outside_leaves}
+use Rattle.graph_ops.proofs.NodeAdded.{can_put, full_fault, full_refused, line_refused, made, not_full, put_room, room_kept}
+use Rattle.graph_ops.proofs.Reasons.{outside_refused}
+use Rattle.graph_ops.proofs.Writes.{beside_then, beside_written, more_written, then_written}
 use Rattle.graph_ops.proofs.node_adding.add_node.Goals as goal
-use Rattle.graph_ops.proofs.node_adding.add_node.Goals.{In_ok-save}
+use Rattle.graph_ops.proofs.node_adding.add_node.Goals.{After-put_properties, In_err-id, In_err-put_properties, In_ok-id, In_ok-prepared}
 use Rattle.graph_ops.proofs.node_adding.add_node.Given.{Over}
 
-pub returns-in_err-id-clause-full : goal.returns-in_err-id-clause-full
-returns-in_err-id-clause-full g c store full =
+-- ---- no room for a node
+pub returns-in_err-test_room-clause-refused : goal.returns-in_err-test_room-clause-refused
+returns-in_err-test_room-clause-refused g c tells store =
     let s = g.S.Reads.state c.args.space.now in
-    full_exit c.take.result c.in_err-id.field-0.0 c.from_residual.result format.nodes_file s.shape.limit (search rules) c.from_residual.ensures.1 (full_result s c.args.names.now.names c.args.label.now store c.take.ensures.full full)
+    fault_exit (λ f. f) (IsRefusal s.shape.limit (graph_in s) (commands.Node c.args.label.now c.args.pairs.now)) c.in_err-test_room.field-0.0 c.from_residual.result c.from_residual.ensures.1
+    (full_refused s c.args.names.now.names c.args.label.now c.args.pairs.now store c.in_err-test_room.field-0.0 c.in_err-test_room.ensures.full)
+
+pub returns-in_err-test_room-clause-full : goal.returns-in_err-test_room-clause-full
+returns-in_err-test_room-clause-full g c store full =
+    exit_is c.in_err-test_room.field-0.0 c.from_residual.result c.from_residual.ensures.1
+    ∙ ap (λ f. Err f) (full_fault (g.S.Reads.state c.args.space.now) c.args.names.now.names store c.in_err-test_room.field-0.0 c.in_err-test_room.ensures.full)
+
+-- ---- names and properties are refused
+pub returns-in_err-prepared-clause-refused : goal.returns-in_err-prepared-clause-refused
+returns-in_err-prepared-clause-refused g c tells store =
+    let s = g.S.Reads.state c.args.space.now in
+    subst (λ l. IfErr c.from_residual-in_err-prepared.result (IsRefusal s.shape.limit (graph_in s) (commands.Node c.args.label.now l))) c.as_slice-pairs.ensures
+    (fault_exit (λ f. f) (IsRefusal s.shape.limit (graph_in s) (commands.Node c.args.label.now c.as_slice-pairs.result.now)) c.in_err-prepared.field-0.0 c.from_residual-in_err-prepared.result c.from_residual-in_err-prepared.ensures.1
+    (line_refused s c.args.label.now c.as_slice-pairs.result.now (not_full s c.args.names.now.names store c.in_ok-test_room.ensures.room) c.in_err-prepared.field-0.0 (c.in_err-prepared.ensures.refused tells store)))
+
+pub returns-in_err-prepared-clause-full : goal.returns-in_err-prepared-clause-full
+returns-in_err-prepared-clause-full g c store full = absurd (not_full (g.S.Reads.state c.args.space.now) c.args.names.now.names store c.in_ok-test_room.ensures.room full)
+
+-- ---- the node's record
+at_hand : (g : Over) (c : In_ok-prepared g) → g.S.Reads.tells → IsStore (g.S.Reads.state c.args.space.now) c.args.names.now.names
+    → IsPrepared (g.S.Reads.state c.args.space.now) (g.S.Reads.state c.prepare.new.space) c.prepare.new.names.names c.args.label.now c.as_slice-pairs.result.now c.in_ok-prepared.prepared
+at_hand g c tells store = c.in_ok-prepared.ensures.prepared tells store
+
+-- only the machine can fail
+node_outside : (g : Over) (c : In_err-id g) → g.S.Reads.tells → IsStore (g.S.Reads.state c.args.space.now) c.args.names.now.names → IsOutside c.in_err-id.field-0.0
+node_outside g c tells store =
+    let kept = (at_hand g (goal.at.In_err-id g c).In_ok-prepared tells store).kept in
+    c.in_err-id.ensures.sound tells c.prepare.new.names.names kept.store
+    (room_kept (g.S.Reads.state c.args.space.now) c.args.names.now.names store (g.S.Reads.state c.prepare.new.space) c.prepare.new.names.names kept c.in_ok-test_room.ensures.room)
 
 pub returns-in_err-id-clause-refused : goal.returns-in_err-id-clause-refused
 returns-in_err-id-clause-refused g c tells store =
     let s = g.S.Reads.state c.args.space.now in
-    fault_exit of_take (IsAddFault s c.args.names.now.names c.args.label.now) c.in_err-id.field-0.0 c.from_residual.result c.from_residual.ensures.1
-    (take_refused s c.args.names.now.names c.args.label.now store c.in_err-id.field-0.0 (c.in_err-id.ensures.refused tells) (c.in_err-id.ensures.sound tells _ (can_add s c.args.names.now.names c.args.label.now store)))
+    let command = commands.Node c.args.label.now c.args.pairs.now in
+    fault_exit (λ f. f) (IsRefusal s.shape.limit (graph_in s) command) c.in_err-id.field-0.0 c.from_residual-in_err-id.result c.from_residual-in_err-id.ensures.1
+    (outside_refused change_reasons s.shape.limit (graph_in s) command c.in_err-id.field-0.0 (node_outside g (goal.at.returns-in_err-id-clause-refused g c).In_err-id tells store))
 
-pub returns-in_err-number-clause-full : goal.returns-in_err-number-clause-full
-returns-in_err-number-clause-full g c store full =
-    absurd (not_full (g.S.Reads.state c.args.space.now) c.args.names.now.names c.args.label.now store c.take.result c.in_ok-id.id c.in_ok-id.was c.take.ensures.full full)
+pub returns-in_err-id-clause-full : goal.returns-in_err-id-clause-full
+returns-in_err-id-clause-full g c store full = absurd (not_full (g.S.Reads.state c.args.space.now) c.args.names.now.names store c.in_ok-test_room.ensures.room full)
 
-pub returns-in_err-number-clause-refused : goal.returns-in_err-number-clause-refused
-returns-in_err-number-clause-refused g c tells store =
+pub returns-in_err-id-clause-leaves : goal.returns-in_err-id-clause-leaves
+returns-in_err-id-clause-leaves g c tells store =
     let s = g.S.Reads.state c.args.space.now in
-    fault_exit of_intern (IsAddFault s c.args.names.now.names c.args.label.now) c.in_err-number.field-0.0 c.from_residual-in_err-number.result c.from_residual-in_err-number.ensures.1
-    (subst (λ l. IsAddFault s c.args.names.now.names l (of_intern c.in_err-number.field-0.0)) c.as_bytes.ensures
-    (intern_refused s c.args.names.now.names c.as_bytes.result.now store c.in_err-number.field-0.0 (not_full s c.args.names.now.names c.args.label.now store c.take.result c.in_ok-id.id c.in_ok-id.was c.take.ensures.full) c.in_err-number.ensures.full_only))
+    let v = g.S.Reads.state c.put_node.new.space in
+    fault_exit (λ f. f) (LeavesSpace s v) c.in_err-id.field-0.0 c.from_residual-in_err-id.result c.from_residual-in_err-id.ensures.1
+    (outside_leaves s v c.in_err-id.field-0.0 (node_outside g (goal.at.returns-in_err-id-clause-leaves g c).In_err-id tells store))
 
-pub save-requires : goal.save-requires
-save-requires g c = c.in_ok-id.ensures.key
+-- ---- its properties
+puts : (g : Over) (c : In_ok-id g) → g.S.Reads.tells → IsStore (g.S.Reads.state c.args.space.now) c.args.names.now.names → PutsNode (g.S.Reads.state c.prepare.new.space) (g.S.Reads.state c.put_node.new.space) c.prepare.new.names.names c.args.label.now c.in_ok-id.id
+puts g c tells store =
+    let hand = at_hand g (goal.at.In_ok-id g c).In_ok-prepared tells store in
+    c.in_ok-id.ensures.put tells c.prepare.new.names.names c.args.label.now hand.kept.store hand.label_is
 
-pub returns-in_err-save-clause-full : goal.returns-in_err-save-clause-full
-returns-in_err-save-clause-full g c store full =
-    absurd (not_full (g.S.Reads.state c.args.space.now) c.args.names.now.names c.args.label.now store c.take.result c.in_ok-id.id c.in_ok-id.was c.take.ensures.full full)
+can : (g : Over) (c : After-put_properties g) → g.S.Reads.tells → IsStore (g.S.Reads.state c.args.space.now) c.args.names.now.names
+    → CanPut (g.S.Reads.state c.put_node.new.space) c.prepare.new.names.names (targets.Node c.in_ok-id.id) c.as_slice-pairs.result.now c.deref.result.now
+can g c tells store =
+    let at = goal.at.After-put_properties g c in
+    subst (CanPut (g.S.Reads.state c.put_node.new.space) c.prepare.new.names.names (targets.Node c.in_ok-id.id) c.as_slice-pairs.result.now) (sym c.deref.ensures.0)
+    (can_put (g.S.Reads.state c.args.space.now) (g.S.Reads.state c.prepare.new.space) (g.S.Reads.state c.put_node.new.space) c.args.names.now.names c.prepare.new.names.names c.args.label.now c.as_slice-pairs.result.now c.in_ok-id.id c.in_ok-prepared.prepared store
+    (at_hand g at.In_ok-prepared tells store) (puts g at.In_ok-id tells store) (c.put_node.ensures.shape tells))
+
+properties_outside : (g : Over) (c : In_err-put_properties g) → g.S.Reads.tells → IsStore (g.S.Reads.state c.args.space.now) c.args.names.now.names → IsOutside c.in_err-put_properties.field-0.0
+properties_outside g c tells store =
+    let at = goal.at.In_err-put_properties g c in
+    c.in_err-put_properties.ensures.sound tells c.prepare.new.names.names (targets.Node c.in_ok-id.id) c.node_owner.ensures (can g at.After-put_properties tells store)
+    (subst (λ l. HasPropertyRoom (g.S.Reads.state c.put_node.new.space) (length l) (assigned_blocks c.as_slice-pairs.result.now l)) (sym c.deref.ensures.0)
+    (put_room (g.S.Reads.state c.args.space.now) (g.S.Reads.state c.prepare.new.space) (g.S.Reads.state c.put_node.new.space) c.args.names.now.names c.prepare.new.names.names c.args.label.now c.as_slice-pairs.result.now c.in_ok-id.id c.in_ok-prepared.prepared store
+    (at_hand g at.In_ok-prepared tells store) (puts g at.In_ok-id tells store) (c.put_node.ensures.shape tells)))
+
+pub returns-in_err-put_properties-clause-refused : goal.returns-in_err-put_properties-clause-refused
+returns-in_err-put_properties-clause-refused g c tells store =
+    let s = g.S.Reads.state c.args.space.now in
+    let command = commands.Node c.args.label.now c.args.pairs.now in
+    fault_exit (λ f. f) (IsRefusal s.shape.limit (graph_in s) command) c.in_err-put_properties.field-0.0 c.from_residual-in_err-put_properties.result c.from_residual-in_err-put_properties.ensures.1
+    (outside_refused change_reasons s.shape.limit (graph_in s) command c.in_err-put_properties.field-0.0 (properties_outside g (goal.at.returns-in_err-put_properties-clause-refused g c).In_err-put_properties tells store))
+
+pub returns-in_err-put_properties-clause-full : goal.returns-in_err-put_properties-clause-full
+returns-in_err-put_properties-clause-full g c store full = absurd (not_full (g.S.Reads.state c.args.space.now) c.args.names.now.names store c.in_ok-test_room.ensures.room full)
+
+pub returns-in_err-put_properties-clause-leaves : goal.returns-in_err-put_properties-clause-leaves
+returns-in_err-put_properties-clause-leaves g c tells store =
+    let s = g.S.Reads.state c.args.space.now in
+    let w = g.S.Reads.state c.put_properties.new.space in
+    fault_exit (λ f. f) (LeavesSpace s w) c.in_err-put_properties.field-0.0 c.from_residual-in_err-put_properties.result c.from_residual-in_err-put_properties.ensures.1
+    (outside_leaves s w c.in_err-put_properties.field-0.0 (properties_outside g (goal.at.returns-in_err-put_properties-clause-leaves g c).In_err-put_properties tells store))
+
+-- ---- the node is made
+pub returns-clause-made : goal.returns-clause-made
+returns-clause-made g c tells store =
+    let at = goal.at.returns-clause-made g c in
+    let s = g.S.Reads.state c.args.space.now in
+    let v = g.S.Reads.state c.put_node.new.space in
+    let w = g.S.Reads.state c.put_properties.new.space in
+    let names = c.prepare.new.names.names in
+    let pairs = c.as_slice-pairs.result.now in
+    let id = c.in_ok-id.id in
+    let put = subst (λ l. PutsPairs v w names (targets.Node id) (pairs_of names pairs l)) c.deref.ensures.0 (c.in_ok-put_properties.ensures.put tells names (targets.Node id) c.node_owner.ensures (can g at.After-put_properties tells store)) in
+    subst (λ l. MakesChange (commands.Node c.args.label.now l) (NodeMade id) (1 + c.in_ok-prepared.prepared.weight) s w names) c.as_slice-pairs.ensures
+    (made s (g.S.Reads.state c.prepare.new.space) v c.args.names.now.names names c.args.label.now pairs id c.in_ok-prepared.prepared store (at_hand g at.In_ok-prepared tells store) (puts g at.In_ok-id tells store) (c.put_node.ensures.shape tells)
+    w put (not_full s c.args.names.now.names store c.in_ok-test_room.ensures.room) (1 + c.in_ok-prepared.prepared.weight) refl)
 
 pub returns-clause-full : goal.returns-clause-full
-returns-clause-full g c store full =
-    absurd (not_full (g.S.Reads.state c.args.space.now) c.args.names.now.names c.args.label.now store c.take.result c.in_ok-id.id c.in_ok-id.was c.take.ensures.full full)
+returns-clause-full g c store full = absurd (not_full (g.S.Reads.state c.args.space.now) c.args.names.now.names store c.in_ok-test_room.ensures.room full)
 
-all_added : (g : Over) (c : In_ok-save g) → g.S.Reads.tells → IsStore (g.S.Reads.state c.args.space.now) c.args.names.now.names
-    → HasAdded (g.S.Reads.state c.args.space.now) (g.S.Reads.state c.save.new.space) c.intern.new.self.names c.as_bytes.result.now c.in_ok-id.id
-all_added g c tells store =
-    has_added (g.S.Reads.state c.args.space.now) (g.S.Reads.state c.take.new.space) (g.S.Reads.state c.intern.new.space) (g.S.Reads.state c.save.new.space) c.args.names.now.names c.intern.new.self.names c.in_ok-id.id c.in_ok-number.number c.as_bytes.result.now store
-    (c.in_ok-id.ensures.taken tells) c.in_ok-id.ensures.small (ap (λ (s : State). s.shape) (c.in_ok-id.ensures.ok tells) ∙ taken-shape (g.S.Reads.state c.args.space.now) format.nodes_file) (c.in_ok-save.ensures.ok) c.in_ok-number.ensures.number
-    (λ k. (c.intern.ensures.known k).1) (c.in_ok-number.ensures.ok tells) c.in_ok-number.ensures.names (subst IsShortName (sym c.as_bytes.ensures) c.requires) (λ lacks all. absurd (let e = c.in_ok-number.ensures.full all lacks in cc))
-
-pub returns-clause-well : goal.returns-clause-well
-returns-clause-well g c tells store = (all_added g (goal.at.returns-clause-well g c).In_ok-save tells store).store
-
-pub returns-clause-adds : goal.returns-clause-adds
-returns-clause-adds g c tells store =
-    subst (λ l. AddsNode (g.S.Reads.state c.args.space.now).shape.limit (graph_in (g.S.Reads.state c.args.space.now)) l c.in_ok-id.id (graph_in (g.S.Reads.state c.save.new.space))) c.as_bytes.ensures (all_added g (goal.at.returns-clause-adds g c).In_ok-save tells store).adds
-
-pub returns-in_err-number-clause-shape : goal.returns-in_err-number-clause-shape
-returns-in_err-number-clause-shape g c tells =
-    c.intern.ensures.shape tells ∙ ap (λ (s : State). s.shape) (c.in_ok-id.ensures.ok tells) ∙ taken-shape (g.S.Reads.state c.args.space.now) format.nodes_file
-
-pub returns-in_err-save-clause-shape : goal.returns-in_err-save-clause-shape
-returns-in_err-save-clause-shape g c tells =
-    ap (λ (s : State). s.shape) c.in_err-save.ensures.err ∙ c.intern.ensures.shape tells ∙ ap (λ (s : State). s.shape) (c.in_ok-id.ensures.ok tells) ∙ taken-shape (g.S.Reads.state c.args.space.now) format.nodes_file
-
-pub returns-clause-shape : goal.returns-clause-shape
-returns-clause-shape g c tells =
-    ap (λ (s : State). s.shape) c.in_ok-save.ensures.ok ∙ c.intern.ensures.shape tells ∙ ap (λ (s : State). s.shape) (c.in_ok-id.ensures.ok tells) ∙ taken-shape (g.S.Reads.state c.args.space.now) format.nodes_file
+pub returns-clause-writes : goal.returns-clause-writes
+returns-clause-writes g c =
+    let pairs = c.as_slice-pairs.result.now in
+    let v = g.S.Reads.state c.put_node.new.space in
+    let w = g.S.Reads.state c.put_properties.new.space in
+    let n = ap length c.deref.ensures.0 in
+    let b = ap (assigned_blocks pairs) c.deref.ensures.0 in
+    let k = c.in_ok-prepared.ensures.weight in
+    let owned = subst (λ (o : Owner). WritesBeside o.key (length c.deref.result.now + assigned_blocks pairs c.deref.result.now) v w) c.node_owner.ensures c.in_ok-put_properties.ensures.writes in
+    more_written (omega arith) (then_written c.in_ok-prepared.ensures.writes (beside_written refl (beside_then c.in_ok-id.ensures.writes owned)))

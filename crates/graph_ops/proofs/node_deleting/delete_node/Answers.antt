@@ -1,23 +1,85 @@
-use Rattle.std.proofs.Common.{rules, ◌∙◌, refl, sym}
-use Rattle.graph_ops.proofs.NodeDeleted.{has_deleted, has_relationships, none_of}
+use Rattle.std.proofs.Common.{◌≡◌, ◌∙◌, ◌+◌, [], ◌∷◌, sym, subst, inl, inr, ⊎_elim, arith, refl}
+use Rattle.plain_graph.specs.Reply.{Done}
+use Rattle.plain_graph.specs.declared.command.Command.TheVariants as commands
+use Rattle.plain_graph.specs.declared.command.Target.TheVariants as targets
+use Rattle.prop_store.specs.Changing.{DropsAll, HasElement}
+use Rattle.prop_store.specs.declared.owner.Owner.{Owner}
+use Rattle.rec_bytes.specs.Format as format
+use Rattle.rec_bytes.specs.RecordFiles.{meta_key_of}
+use Rattle.rec_bytes.specs.Space.{SameButReads, State}
+use Rattle.store_rules.specs.Views.{degree, key_in}
+use Rattle.store_rules.specs.Writes.{WritesBeside}
+use Rattle.store_rules.proofs.GraphRows.{degree_in-degree}
+use Rattle.graph_ops.specs.Change.{IsRefusal}
+use Rattle.graph_ops.specs.ChangeFault.{of_prop}
+use Rattle.graph_ops.specs.NodeDeleting.{IsDeleteCause}
+use Rattle.graph_ops.specs.Store.{graph_in}
+use Rattle.graph_ops.proofs.Deleting.{drop_cause, node_deleted, node_joined, node_lacked}
+use Rattle.graph_ops.proofs.Elements.{node_loaded, node_missing, same_node, used_of}
+use Rattle.graph_ops.proofs.Exits.{fault_exit}
+use Rattle.graph_ops.proofs.Setting.{has_owner, prop_refused}
+use Rattle.graph_ops.proofs.Readings.{made_read, store_read, there_read}
+use Rattle.graph_ops.proofs.Writes.{among_metas, beside_then, beside_written, more_written, none_written, then_written, this_written}
 use Rattle.graph_ops.proofs.node_deleting.delete_node.Goals as goal
 
 pub returns-in_default-clause-refused : goal.returns-in_default-clause-refused
-returns-in_default-clause-refused g c tells store = (refl, none_of (g.S.Reads.state c.args.space.now) c.args.id (sym c.in_default.is ∙ c.in_ok-node.ensures.found tells))
+returns-in_default-clause-refused g c tells store =
+    let s = g.S.Reads.state c.args.space.now in
+    node_lacked s.shape.limit (graph_in s) c.args.id (node_missing s c.args.id (sym c.in_default.is ∙ c.in_ok-node.ensures.found tells))
 
 pub returns-then-node-ne0-clause-refused : goal.returns-then-node-ne0-clause-refused
 returns-then-node-ne0-clause-refused g c tells store =
-    has_relationships (g.S.Reads.state c.args.space.now) c.args.names.now.names c.args.id c.in-Some.node store (sym c.in-Some.is ∙ c.in_ok-node.ensures.found tells) c.if-node-ne0.true
+    let s = g.S.Reads.state c.args.space.now in
+    let found = sym c.in-Some.is ∙ c.in_ok-node.ensures.found tells in
+    let k = used_of s c.args.id c.in-Some.node found in
+    node_joined s.shape.limit (graph_in s) c.args.id c.in-Some.node.degree (node_loaded s c.args.id c.in-Some.node found)
+    (λ e. c.if-node-ne0.true (k.1 ∙ sym (degree_in-degree s.records s.shape store.store.keeps c.args.id k.0) ∙ e))
 
-pub give-requires-clause-key : goal.give-requires-clause-key
-give-requires-clause-key g c = rw c.in-Some.is at c.in_ok-node.ensures.key
+pub returns-in_err-dropped-clause-refused : goal.returns-in_err-dropped-clause-refused
+returns-in_err-dropped-clause-refused g c tells store =
+    let s = g.S.Reads.state c.args.space.now in
+    let m = g.S.Reads.state c.load.new.space in
+    let names = c.args.names.now.names in
+    let same : SameButReads s m = subst (SameButReads s) (sym c.load.ensures.state) (same_node s c.args.id) in
+    let there = there_read s m (targets.Node c.args.id) same (node_loaded s c.args.id c.in-Some.node (sym c.in-Some.is ∙ c.in_ok-node.ensures.found tells)) in
+    fault_exit of_prop (IsRefusal s.shape.limit (graph_in s) (commands.Delete (targets.Node c.args.id))) c.in_err-dropped.field-0.0 c.from_residual-in_err-dropped.result c.from_residual-in_err-dropped.ensures.1
+    (prop_refused s.shape.limit (graph_in s) (commands.Delete (targets.Node c.args.id)) c.in_err-dropped.field-0.0
+    (c.in_err-dropped.ensures.sound tells (subst (HasElement m) (sym c.node_owner.ensures) (has_owner m names (targets.Node c.args.id) (store_read s m names same store) there))))
 
-pub returns-clause-well : goal.returns-clause-well
-returns-clause-well g c tells store =
-    (has_deleted (g.S.Reads.state c.args.space.now) (g.S.Reads.state c.load.new.space) (g.S.Reads.state c.give.new.space) c.args.names.now.names c.args.id c.in-Some.node store c.if-node-ne0.false c.load.ensures.state
-    (sym c.in-Some.is ∙ c.in_ok-node.ensures.found tells) (search rules) (c.in_ok-give.ensures.given tells)).store
+pub returns-in_err-dropped-clause-found : goal.returns-in_err-dropped-clause-found
+returns-in_err-dropped-clause-found g c tells =
+    let s = g.S.Reads.state c.args.space.now in
+    fault_exit of_prop (IsDeleteCause s c.args.id) c.in_err-dropped.field-0.0 c.from_residual-in_err-dropped.result c.from_residual-in_err-dropped.ensures.1
+    (drop_cause s c.args.id c.in-Some.node (sym c.in-Some.is ∙ c.in_ok-node.ensures.found tells) c.if-node-ne0.false c.in_err-dropped.field-0.0)
 
-pub returns-clause-removes : goal.returns-clause-removes
-returns-clause-removes g c tells store =
-    (has_deleted (g.S.Reads.state c.args.space.now) (g.S.Reads.state c.load.new.space) (g.S.Reads.state c.give.new.space) c.args.names.now.names c.args.id c.in-Some.node store c.if-node-ne0.false c.load.ensures.state
-    (sym c.in-Some.is ∙ c.in_ok-node.ensures.found tells) (search rules) (c.in_ok-give.ensures.given tells)).removes
+pub overflow_add-result-2 : goal.overflow_add-result-2
+overflow_add-result-2 g c = let p = c.in_ok-dropped.ensures.few_properties in let b = c.in_ok-dropped.ensures.few_blocks in omega arith
+
+pub returns-clause-made : goal.returns-clause-made
+returns-clause-made g c tells store =
+    let s = g.S.Reads.state c.args.space.now in
+    let m = g.S.Reads.state c.load.new.space in
+    let u = g.S.Reads.state c.drop_all.new.space in
+    let t = g.S.Reads.state c.give.new.space in
+    let id = c.args.id in
+    let names = c.args.names.now.names in
+    let same : SameButReads s m = subst (SameButReads s) (sym c.load.ensures.state) (same_node s id) in
+    let kept = store_read s m names same store in
+    let found = sym c.in-Some.is ∙ c.in_ok-node.ensures.found tells in
+    let there = there_read s m (targets.Node id) same (node_loaded s id c.in-Some.node found) in
+    let k = used_of s id c.in-Some.node found in
+    let drops = subst (λ (o : Owner). HasElement m o → DropsAll m u o c.in_ok-dropped.dropped) c.node_owner.ensures (c.in_ok-dropped.ensures.dropped tells) (has_owner m names (targets.Node id) kept there) in
+    made_read s m t names (commands.Delete (targets.Node id)) Done (1 + c.in_ok-dropped.dropped.properties + c.in_ok-dropped.dropped.blocks) same
+    (node_deleted m u names c.in_ok-dropped.dropped kept id drops t (has_owner m names (targets.Node id) kept there).used (subst (λ (z : State). degree z.records id ≡ 0) (sym same) (sym k.1 ∙ c.if-node-ne0.false)) (c.drop_all.ensures.shape tells) (c.give.ensures.shape tells) (c.in_ok-give.ensures.given tells))
+
+pub returns-clause-writes : goal.returns-clause-writes
+returns-clause-writes g c =
+    let s = g.S.Reads.state c.args.space.now in
+    let m = g.S.Reads.state c.load.new.space in
+    let u = g.S.Reads.state c.drop_all.new.space in
+    let t = g.S.Reads.state c.give.new.space in
+    let key = key_in format.nodes_file c.args.id in
+    let count = c.in_ok-dropped.dropped.properties + c.in_ok-dropped.dropped.blocks in
+    let drops = subst (λ (o : Owner). WritesBeside o.key count m u) c.node_owner.ensures c.in_ok-dropped.ensures.writes in
+    let gives = this_written key u t (key ∷ meta_key_of format.nodes_file ∷ []) (λ q i. ⊎_elim (λ e. inl e) (λ j. inr (⊎_elim (λ e. among_metas format.nodes_file q refl e) (λ e. absurd e) j)) i) c.give.ensures.writes in
+    more_written (omega arith) (then_written (none_written s m (subst (SameButReads s) (sym c.load.ensures.state) (same_node s c.args.id))) (beside_written refl (beside_then drops gives)))

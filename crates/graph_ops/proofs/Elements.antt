@@ -1,0 +1,107 @@
+-- What a row that was loaded, or none, says of the graph.
+use Rattle.std.proofs.Common.{◌≡◌, ◌≢◌, ℕ, ◌+◌, min, nat_eq, nat_lt, Bool, true, false, cond, ◌&&◌, None, Some, List, sym, ap, ◌∙◌, ⊎_elim, arith, refl}
+use Rattle.plain_graph.specs.Graph.{degree_in, has_edge, has_node}
+use Rattle.rec_bytes.specs.Format as format
+use Rattle.rec_bytes.specs.Space.{SameButReads, State, after_get}
+use Rattle.rec_bytes.specs.Record.{field}
+use Rattle.rec_bytes.specs.declared.shape.Shape.{Shape}
+use Rattle.store_rules.specs.Ranges.{AreInRange, Layout, free_layout, layout_by, node_layout}
+use Rattle.store_rules.specs.Views.{Records, degree, high, kind_at, rec_at, row_if}
+use Rattle.store_rules.proofs.GraphRows as rows
+use Rattle.store_rules.proofs.NumberLaws.{eq_false, nat_cases}
+use Rattle.store_rules.proofs.ViewLaws.{kind_below, kind_low, row_some}
+use Rattle.node_store.specs.declared.node_row.NodeRow.{NodeRow}
+use Rattle.node_store.specs.Loading as nodes
+use Rattle.node_store.proofs.Rows as node_rows
+use Rattle.rel_store.specs.declared.rel_row.RelRow.{RelRow}
+use Rattle.rel_store.specs.Loading as rels
+use Rattle.rel_store.specs.RelRecord.{row_of}
+use Rattle.rel_store.proofs.Rows as rel_rows
+use Rattle.graph_ops.specs.NodeDeleting.{HasDegree}
+use Rattle.graph_ops.specs.Store.{IsStore, graph_in}
+
+-- ---- a load changes nothing but the count of reads
+same_or_not : (s : State) (b : Bool) → SameButReads s (cond b (after_get s) s)
+same_or_not s true = refl
+same_or_not s false = refl
+
+pub same_node : (s : State) (id : ℕ) → SameButReads s (nodes.after_load s id)
+same_node s id = same_or_not s (nat_lt id (nodes.node_mark s) && nat_lt id (nodes.node_room s))
+
+pub same_rel : (s : State) (id : ℕ) → SameButReads s (rels.after_load s id)
+same_rel s id = same_or_not s (nat_lt id (rels.rel_mark s) && nat_lt id (rels.rel_room s))
+
+pub same_both : (a b c : State) → SameButReads a b → SameButReads b c → SameButReads a c
+same_both a b c h k = k ∙ ap (λ (z : State). record z { reads = c.reads }) h
+
+-- ---- nodes
+
+-- the identifier of a row is in use, and the row has the degree of its record
+pub used_of : (s : State) (id : ℕ) (node : NodeRow) → Some node ≡ nodes.row_at s.records id → (kind_at s.records format.nodes_file id ≢ format.free_kind) × (node.degree ≡ degree s.records id)
+used_of s id node found = let k = node_rows.kind-row_at-Some s.records id node (sym found) in (k.0, ap (λ (n : NodeRow). n.degree) k.1)
+
+pub node_loaded : (s : State) (id : ℕ) (node : NodeRow) → Some node ≡ nodes.row_at s.records id → has_node (graph_in s) id ≡ true
+node_loaded s id node found = rows.node_there s.records id (used_of s id node found).0
+
+pub node_missing : (s : State) (id : ℕ) → None ≡ nodes.row_at s.records id → has_node (graph_in s) id ≡ false
+node_missing s id found = rows.no_node s.records id (node_rows.kind-row_at-None s.records id (sym found))
+
+-- ---- edges
+
+pub edge_loaded : (s : State) (id : ℕ) (rel : RelRow) → Some rel ≡ rels.row_at s.records id → has_edge (graph_in s) id ≡ true
+edge_loaded s id rel found = rows.edge_there s.records id (rel_rows.kind-row_at-Some s.records id rel (sym found)).0
+
+pub edge_missing : (s : State) (id : ℕ) → None ≡ rels.row_at s.records id → has_edge (graph_in s) id ≡ false
+edge_missing s id found = rows.no_edge s.records id (none_if (kind_at s.records format.relationships_file id) (sym found))
+  where
+    none_if : (kind : ℕ) → row_if kind (row_of (rec_at s.records format.relationships_file id) id) ≡ None → kind ≡ 0
+    none_if kind h = ⊎_elim (λ (e : kind ≡ 0). e) (λ (ne : kind ≢ 0). absurd (let z = sym (row_some kind (row_of (rec_at s.records format.relationships_file id) id) ne) ∙ h in cc)) (nat_cases kind 0)
+
+-- ---- a store's records can be read
+pub node_readable : (s : State) (names : List (List ℕ)) (id : ℕ) → IsStore s names → nodes.IsReadable s id
+node_readable s names id store = node_rows.IsReadable-AreInRange s id store.store.keeps.ranges
+
+pub rel_readable : (s : State) (names : List (List ℕ)) (id : ℕ) → IsStore s names → rels.IsReadable s id
+rel_readable s names id store = rel_rows.IsReadable-AreInRange s id store.store.keeps.ranges
+
+-- ---- the degree that was read of a node of a store
+
+-- a node in use that isn't dense is sparse
+pub sparse_of : (s : Records) (shape : Shape) (x : ℕ) → AreInRange s shape → kind_at s format.nodes_file x ≢ 0 → kind_at s format.nodes_file x ≢ format.dense → kind_at s format.nodes_file x ≡ format.sparse
+sparse_of s shape x ranges live thin =
+    let r = rec_at s format.nodes_file x in
+    let lt = kind_below (high s format.nodes_file) r x live in
+    let low = kind_low (high s format.nodes_file) r x lt in
+    let fits = ranges.fit format.nodes_file x refl lt in
+    ⊎_elim (λ (e : field 1 r format.kind ≡ format.sparse). low ∙ e)
+    (λ (ne : field 1 r format.kind ≢ format.sparse). absurd (none (field 1 r format.kind) fits.layout (λ e. live (low ∙ e)) ne (λ e. thin (low ∙ e)) fits.is)) (nat_cases (field 1 r format.kind) format.sparse)
+  where
+    none : (kind : ℕ) (layout : Layout) → kind ≢ 0 → kind ≢ 1 → kind ≢ 2 → layout_by format.nodes_file (rec_at s format.nodes_file x) kind ≡ Some layout → ⊥
+    none kind layout a b c is = by (nat_eq kind 0) (nat_eq kind 1) (nat_eq kind 2) (eq_false kind 0 a) (eq_false kind 1 b) (eq_false kind 2 c) is
+      where
+        by : (free sparse dense : Bool) → free ≡ false → sparse ≡ false → dense ≡ false
+            → cond free (free_layout format.nodes_file) (cond sparse (node_layout format.relationships_file) (cond dense (node_layout format.groups_file) None)) ≡ Some layout → ⊥
+        by true sparse dense e f h k = cc
+        by false true dense e f h k = cc
+        by false false true e f h k = cc
+        by false false false e f h k = cc
+
+-- what a load of a node of a store says
+module _ (s : State) (names : List (List ℕ)) (id n : ℕ) (store : IsStore s names) (has : HasDegree s.records id n) where
+  pub found_used : kind_at s.records format.nodes_file id ≢ format.free_kind
+  found_used = (used_of s id has.row (sym has.found)).0
+
+  pub found_sparse : kind_at s.records format.nodes_file id ≡ format.sparse
+  found_sparse = sparse_of s.records s.shape id store.store.keeps.ranges found_used (store.store.sparse id)
+
+  pub found_degree : n ≡ degree s.records id
+  found_degree = sym has.is ∙ (used_of s id has.row (sym has.found)).1
+
+  pub found_there : has_node (graph_in s) id ≡ true
+  found_there = rows.node_there s.records id found_used
+
+  pub found_in : n ≡ degree_in (graph_in s) id
+  found_in = found_degree ∙ sym (rows.degree_in-degree s.records s.shape store.store.keeps id found_used)
+
+  pub one_more_of : (d : ℕ) → d ≡ min (n + 1) 4294967295 → d ≡ degree s.records id + 1
+  one_more_of d is = let b = store.store.keeps.degrees.few id found_sparse in let e = found_degree in omega arith

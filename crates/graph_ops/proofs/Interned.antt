@@ -1,0 +1,63 @@
+-- A name that gets its number keeps a store, its nodes and its edges.
+use Rattle.std.specs.Prelude.{Contains}
+use Rattle.std.proofs.Common.{◌≡◌, ◌≢◌, ℕ, ◌-◌, ◌<◌, List, [], ◌∷◌, ◌++◌, length, sym, ap, ◌∙◌, subst, inl, inr, ⊎_elim, arith, refl}
+use Rattle.std.proofs.lemmas.List.{length-append}
+use Rattle.plain_graph.specs.Graph.{UsesName}
+use Rattle.plain_graph.specs.Names.{IsShortName}
+use Rattle.rec_bytes.specs.Format as format
+use Rattle.rec_bytes.specs.RecordFiles.{meta_key_of}
+use Rattle.rec_bytes.specs.Space.{SameButReads, State, WritesOnly}
+use Rattle.store_rules.specs.Graph.{names_of}
+use Rattle.store_rules.specs.Rules.{IsSparseStore}
+use Rattle.store_rules.specs.Views.{Records, high}
+use Rattle.store_rules.specs.Writes.{WritesAtMost}
+use Rattle.store_rules.proofs.NameMade.{IsNamed, edges_stay, name_store, names_more, nodes_stay}
+use Rattle.name_store.specs.Interning.{interned, named}
+use Rattle.name_store.specs.NameRecord.{name_key, name_record}
+use Rattle.name_store.proofs.FirstNames.{length-names_of}
+use Rattle.name_store.proofs.NamedStore.{IsNamed-named, interned-known, interned-new}
+use Rattle.graph_ops.specs.Store.{IsStore, KeepsElements}
+use Rattle.graph_ops.proofs.Writes.{among_metas, more_written, none_written, some_written}
+
+pub keeps_same : (s : State) (names : List (List ℕ)) → IsStore s names → KeepsElements s s names
+keeps_same s names store = record { store = store; shape = refl; nodes = refl; edges = refl }
+
+pub keeps_then : (s t u : State) (one two : List (List ℕ)) → KeepsElements s t one → KeepsElements t u two → KeepsElements s u two
+keeps_then s t u one two h k = record { store = k.store; shape = k.shape ∙ h.shape; nodes = k.nodes ∙ h.nodes; edges = k.edges ∙ h.edges }
+
+named-shape : (s : State) (id : ℕ) (text : List ℕ) → (named s id text).shape ≡ s.shape
+unfolding named
+named-shape s id text = refl
+
+-- a name that is new goes to the end
+keeps_named : (s : State) (old : List (List ℕ)) (text : List ℕ) → IsStore s old → IsShortName text → ¬ Contains old text → length old ≢ format.most_names → KeepsElements s (named s (length old) text) (old ++ text ∷ [])
+keeps_named s old text store short lacks few =
+    let count = high s.records format.names_file in
+    let long : length old ≡ count = ap length store.names ∙ length-names_of s.records in
+    let meta = store.store.keeps.ranges.metas format.names_file refl in
+    let most = meta.high in
+    let v : Records = (named s count text).records in
+    let there : IsNamed s.records v s.shape (name_record text) text
+    = IsNamed-named s s.shape text meta (store.store.keeps.kept format.names_file refl refl) (omega (arith, few, long, most)) short (λ k. lacks (subst (λ xs. Contains xs text) (sym store.names) k)) in
+    subst (λ n. KeepsElements s (named s n text) (old ++ text ∷ [])) (sym long) (record {
+      store = record {
+        store = subst (IsSparseStore v) (sym (named-shape s count text)) (name_store s.records v s.shape (name_record text) text there store.store);
+        names = ap (λ xs. xs ++ text ∷ []) store.names ∙ sym (names_more s.records v s.shape (name_record text) text there store.store.keeps);
+      };
+      shape = named-shape s count text;
+      nodes = nodes_stay s.records v s.shape (name_record text) text there store.store.keeps;
+      edges = edges_stay s.records v s.shape (name_record text) text there store.store.keeps;
+    })
+
+pub keeps_interned : (s t : State) (old new : List (List ℕ)) (text : List ℕ) → t ≡ interned s old text → UsesName old text new → IsShortName text → (¬ Contains old text → length old ≢ format.most_names) → IsStore s old → KeepsElements s t new
+keeps_interned s t old new text is uses short few store = ⊎_elim
+    (λ (k : Contains old text × (new ≡ old)). subst (λ z. KeepsElements s z new) (sym (is ∙ interned-known s old text k.0)) (subst (KeepsElements s s) (sym k.1) (keeps_same s old store)))
+    (λ (k : (¬ Contains old text) × (new ≡ old ++ text ∷ [])). subst (λ z. KeepsElements s z new) (sym (is ∙ interned-new s old text k.0)) (subst (KeepsElements s (named s (length old) text)) (sym k.1) (keeps_named s old text store short k.0 (few k.0)))) uses
+
+-- a name that is new has its record written
+pub name_written : (s t : State) (old new : List (List ℕ)) (text : List ℕ) → UsesName old text new → (Contains old text → t ≡ s) → WritesOnly s t (name_key (length old) ∷ meta_key_of format.names_file ∷ []) → WritesAtMost (length new - length old) s t
+name_written s t old new text uses stays writes = ⊎_elim
+    (λ (k : Contains old text × (new ≡ old)). more_written (omega arith) (none_written s t (subst (SameButReads s) (sym (stays k.0)) refl)))
+    (λ (k : (¬ Contains old text) × (new ≡ old ++ text ∷ [])). more_written (let e = ap length k.1 in omega (arith, length-append old (text ∷ [])))
+    (some_written s t (name_key (length old) ∷ []) (name_key (length old) ∷ meta_key_of format.names_file ∷ []) (refl, tt)
+    (λ q i. ⊎_elim (λ e. inl e) (λ j. inr (⊎_elim (λ e. among_metas format.names_file q refl e) (λ e. absurd e) j)) i) writes)) uses

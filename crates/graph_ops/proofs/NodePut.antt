@@ -1,0 +1,82 @@
+-- A node's record over a store that has its label's name.
+use Rattle.std.specs.Prelude.{Err, slice_get}
+use Rattle.std.proofs.lemmas.Option.{slice_get_within}
+use Rattle.std.proofs.Common.{◌≡◌, ◌≢◌, ℕ, ◌+◌, ◌<◌, Some, List, length, sym, ap, ◌∙◌, subst, arith, refl}
+use Rattle.plain_graph.specs.Graph.{node_number, with_row}
+use Rattle.plain_graph.specs.Properties.{no_properties}
+use Rattle.rec_bytes.specs.declared.key.Key.{Key}
+use Rattle.rec_bytes.specs.declared.record.Rec.{Rec}
+use Rattle.rec_bytes.specs.Format as format
+use Rattle.rec_bytes.specs.Meta as metas
+use Rattle.rec_bytes.specs.RecordFiles.{meta_key_of}
+use Rattle.rec_bytes.specs.Space.{State, after_put, meta_of, put}
+use Rattle.rec_bytes.proofs.Spaces.{put_same, put_other}
+use Rattle.store_rules.specs.Graph.{names_of}
+use Rattle.store_rules.specs.Rules.{IsSparseStore}
+use Rattle.store_rules.specs.Views.{Records, high, key_in, rec_at, text_of}
+use Rattle.store_rules.proofs.Made.{IsMade}
+use Rattle.store_rules.proofs.NodeChange.{edges_stay, names_stay}
+use Rattle.store_rules.proofs.NodeMade.{IsNewNode, node_added, node_fresh, node_store}
+use Rattle.id_freelist.specs.FreeLists.{IsFreeList}
+use Rattle.id_freelist.specs.Taking.{HasTaken}
+use Rattle.id_freelist.proofs.Making.{is_made}
+use Rattle.name_store.proofs.FirstNames.{first-names_of, length-names_of}
+use Rattle.node_store.specs.NodeRecord.{node_key, node_record}
+use Rattle.node_store.proofs.NodeRecords.{IsNewNode-node_record}
+use Rattle.graph_ops.specs.NodeAdding.{PutsNode, new_row}
+use Rattle.graph_ops.specs.Store.{IsStore, graph_in}
+use Rattle.store_rules.proofs.Shapes.{room_small}
+
+-- the number of a name is below their count, and its record says the name
+pub number_in : (v : Records) (names : List (List ℕ)) (number : ℕ) (label : List ℕ) → names ≡ names_of v → slice_get names number ≡ Some label → (number < high v format.names_file) × (text_of (rec_at v format.names_file number) ≡ label)
+number_in v names number label is at =
+    let inside = slice_get_within names number label at in
+    let long = ap length is ∙ length-names_of v in
+    let lt : number < high v format.names_file = omega arith in
+    (lt, inner (text_of (rec_at v format.names_file number)) label (sym (first-names_of v number lt) ∙ ap (λ xs. slice_get xs number) (sym is) ∙ at))
+  where
+    inner : (a b : List ℕ) → Some a ≡ Some b → a ≡ b
+    inner a b e = cc
+
+module _ (s m t : State) (names : List (List ℕ)) (id number : ℕ) (label : List ℕ) (store : IsStore s names) (at : slice_get names number ≡ Some label)
+    (taken : (free : List ℕ) → IsFreeList s.records format.nodes_file free → HasTaken s.records m.records format.nodes_file id free)
+    (small : id < s.shape.limit) (shape : m.shape ≡ s.shape) (saved : t ≡ after_put m (node_key id) (node_record (new_row id number))) where
+  abbrev rec : Rec
+  rec = node_record (new_row id number)
+
+  abbrev after : Records
+  after = put m.records (node_key id) rec
+
+  known : (number < high s.records format.names_file) × (text_of (rec_at s.records format.names_file number) ≡ label)
+  known = number_in s.records names number label store.names at
+
+  fresh : IsNewNode rec number
+  fresh = let few = (store.store.keeps.ranges.metas format.names_file refl).high in IsNewNode-node_record id number (omega (arith, known.0, few))
+
+  has : HasTaken s.records m.records format.nodes_file id (store.store.keeps.split format.nodes_file refl).0
+  has = let split = store.store.keeps.split format.nodes_file refl in taken split.0 split.1.walk
+
+  made : IsMade s.records after s.shape format.nodes_file id rec
+  made = let split = store.store.keeps.split format.nodes_file refl in
+      is_made s.records m.records after s.shape format.nodes_file id split.0 rec refl split.1 has (put_same m.records (node_key id) rec) (put_other m.records (node_key id) rec)
+      (λ e. let k = fresh.kind in omega arith) small (room_small s.records s.shape format.nodes_file store.store.keeps.ranges) (store.store.keeps.ranges.metas format.nodes_file refl)
+
+  other_meta : (file : ℕ) → file ≢ format.nodes_file → after (meta_key_of file) ≡ s.records (meta_key_of file)
+  other_meta file ne = put_other m.records (node_key id) rec (meta_key_of file) (λ e. let f = ap (λ (k : Key). k.file) e in omega arith) ∙ has.others (meta_key_of file) (λ e. ne (ap (λ (k : Key). k.id) e))
+
+  puts : PutsNode s (after_put m (node_key id) rec) names label id
+  puts = record {
+    store = record {
+      store = subst (IsSparseStore after) (sym shape) (node_store s.records after s.shape id number rec made fresh store.store known.0);
+      names = store.names ∙ sym (names_stay s.records after id made.change);
+    };
+    below = small;
+    fresh = node_fresh s.records after s.shape id number rec made fresh store.store.keeps known.0;
+    nodes = node_added s.records after s.shape id number rec made fresh store.store.keeps known.0
+        ∙ ap (λ l. with_row node_number (record { id = id; label = l; properties = no_properties }) (graph_in s).nodes) known.1;
+    edges = edges_stay s.records after id made.change;
+    metas = λ file ne. ap metas.meta_of (other_meta file ne);
+  }
+
+  pub puts_node : PutsNode s t names label id
+  puts_node = subst (λ z. PutsNode s z names label id) (sym saved) puts

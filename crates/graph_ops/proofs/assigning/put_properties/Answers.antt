@@ -1,0 +1,95 @@
+use Rattle.std.specs.FinMap as maps
+use Rattle.std.proofs.Common.{◌≡◌, ◌<◌, None, [], get_or, length, ◌∙◌, sym, ap, subst, inl, arith, refl}
+use Rattle.std.proofs.lemmas.List.{get_or_read}
+use Rattle.std.proofs.lemmas.List.Sums.{sum_by_more}
+use Rattle.plain_graph.specs.Properties.{blocks_of}
+use Rattle.plain_graph.specs.declared.pairs.Pair.{Pair}
+use Rattle.plain_graph.specs.declared.value.Value.TheVariants as values
+use Rattle.prop_store.specs.Changing.{HasKey, IsSetRefusal, SetsValue, properties_of, text_at}
+use Rattle.prop_store.specs.declared.owner.Owner.{Owner}
+use Rattle.graph_ops.specs.Assigning.{pair_at, pairs_of}
+use Rattle.graph_ops.specs.ChangeFault.{IsOutside, of_set}
+use Rattle.graph_ops.specs.declared.assigning.Assignment.{Assignment}
+use Rattle.graph_ops.proofs.Assigned.{pair_form}
+use Rattle.graph_ops.proofs.Exits.{fault_exit}
+use Rattle.graph_ops.proofs.PairsPut.{all_put, key_fits, key_new, key_there, none_put, put_more, put_outside}
+use Rattle.graph_ops.proofs.Writes.{beside_more, beside_then, this_written}
+use Rattle.graph_ops.proofs.assigning.put_properties.Goals as goal
+use Rattle.graph_ops.proofs.assigning.put_properties.Goals.{After-index-pairs-assignment}
+use Rattle.graph_ops.proofs.assigning.put_properties.Given.{Over}
+
+pub loop-assignment-init : goal.loop-assignment-init
+loop-assignment-init g c =
+    let s = g.S.Reads.state c.args.space.now in
+    record {
+      put = λ tells names target is can. none_put s names target (pairs_of names c.args.pairs.now c.args.assigned.now) can.store;
+      shape = λ tells. refl;
+      writes = this_written c.args.owner.key s s [] (λ q i. absurd i) (record { each = λ q w. inl w });
+      onward_is = g.met.S.Reads.stays_onward c.args.space.now;
+      later = omega arith;
+    }
+
+-- the assignment at the place
+abbrev this : (g : Over) → After-index-pairs-assignment g → Assignment
+this g c = get_or c.args.assigned.now c.loop-assignment.assignment-index (record { key = 0; pair = 0 })
+
+inside : (g : Over) (c : After-index-pairs-assignment g) → (this g c).pair < length c.args.pairs.now
+inside g c = c.requires.placed c.loop-assignment.assignment-index (record { key = 0; pair = 0 }) c.loop-assignment-test.true
+
+-- its value is that of its pair
+value_is : (g : Over) (c : After-index-pairs-assignment g) → (get_or c.args.pairs.now (this g c).pair c.index-pairs-assignment.result).value ≡ (pair_at c.args.pairs.now (this g c).pair).value
+value_is g c = ap (λ (p : Pair). p.value) (sym c.index-pairs-assignment.is ∙ get_or_read c.args.pairs.now (this g c).pair c.index-pairs-assignment.result (inside g c) c.index-pairs-assignment.is (record { key = []; value = values.Text [] }))
+
+pub add-requires-clause-kept : goal.add-requires-clause-kept
+add-requires-clause-kept g c = (pair_form c.args.pairs.now (this g c).pair c.index-pairs-assignment.result c.requires.pairs (inside g c)).1
+
+pub loop-assignment-preserved : goal.loop-assignment-preserved
+loop-assignment-preserved g c =
+    let inv = c.loop-assignment.invariant in
+    let at = (goal.at.loop-assignment-preserved g c).After-index-pairs-assignment in
+    let s = g.S.Reads.state c.args.space.now in
+    let t = g.S.Reads.state c.loop-assignment.space in
+    let u = g.S.Reads.state c.add.new.space in
+    let pairs = c.args.pairs.now in
+    let assigned = c.args.assigned.now in
+    let i = c.loop-assignment.assignment-index in
+    let value = (get_or pairs (get_or assigned i (record { key = 0; pair = 0 })).pair c.index-pairs-assignment.result).value in
+    record {
+      put = λ tells names target is can.
+          let put = inv.put tells names target is can in
+          let lt = c.loop-assignment-test.true in
+          let shape = inv.shape tells in
+          let added = subst (λ (o : Owner). HasKey t o (this g at).key → maps.get (properties_of t o) (text_at t (this g at).key) ≡ None → maps.len (properties_of t o) < 32 → SetsValue t u o (this g at).key value 0) is (c.in_ok-add.ensures.added tells) in
+          put_more s t names target pairs assigned i can c.requires.few put lt shape u value (value_is g at)
+          (added (key_there s t names target pairs assigned i can c.requires.few put lt shape) (key_new s t names target pairs assigned i can c.requires.few put lt shape) (key_fits s t names target pairs assigned i can c.requires.few put lt shape));
+      shape = λ tells. c.add.ensures.shape tells ∙ inv.shape tells;
+      writes =
+          let more = sum_by_more (λ (a : Assignment). blocks_of (pair_at pairs a.pair).value) assigned i (record { key = 0; pair = 0 }) c.loop-assignment-test.true in
+          let same = ap blocks_of (value_is g at) in
+          beside_more (omega arith) (beside_then inv.writes c.in_ok-add.ensures.writes);
+      onward_is = g.met.S.Reads.further_onward c.args.space.now c.loop-assignment.space c.add.new.space inv.onward_is c.add.ensures.onward;
+      later = let a = inv.later in let b = c.add.ensures.cause.later in omega arith;
+    }
+
+pub returns-in_err-add-clause-sound : goal.returns-in_err-add-clause-sound
+returns-in_err-add-clause-sound g c tells names target is can room =
+    let inv = c.loop-assignment.invariant in
+    let at = (goal.at.returns-in_err-add-clause-sound g c).After-index-pairs-assignment in
+    let s = g.S.Reads.state c.args.space.now in
+    let t = g.S.Reads.state c.loop-assignment.space in
+    let pairs = c.args.pairs.now in
+    let assigned = c.args.assigned.now in
+    let i = c.loop-assignment.assignment-index in
+    let value = (get_or pairs (get_or assigned i (record { key = 0; pair = 0 })).pair c.index-pairs-assignment.result).value in
+    let fault = c.in_err-add.field-0.0 in
+    let put = inv.put tells names target is can in
+    let lt = c.loop-assignment-test.true in
+    let shape = inv.shape tells in
+    let refused = subst (λ (o : Owner). HasKey t o (this g at).key → maps.get (properties_of t o) (text_at t (this g at).key) ≡ None → maps.len (properties_of t o) < 32 → IsSetRefusal t o (this g at).key value fault) is (c.in_err-add.ensures.refused tells) in
+    fault_exit of_set IsOutside fault c.from_residual.result c.from_residual.ensures.1
+    (put_outside s t names target pairs assigned i can c.requires.few put lt shape room value (value_is g at) fault
+    (refused (key_there s t names target pairs assigned i can c.requires.few put lt shape) (key_new s t names target pairs assigned i can c.requires.few put lt shape) (key_fits s t names target pairs assigned i can c.requires.few put lt shape)))
+
+pub returns-clause-put : goal.returns-clause-put
+returns-clause-put g c tells names target is can =
+    all_put (g.S.Reads.state c.args.space.now) (g.S.Reads.state c.loop-assignment.space) names target c.args.pairs.now c.args.assigned.now c.loop-assignment.assignment-index c.loop-assignment-test.false (c.loop-assignment.invariant.put tells names target is can)

@@ -1,0 +1,46 @@
+use Rattle.std.proofs.Common.{◌≡◌, ◌∙◌, ap, refl, inl, inr, ⊎_elim, [], ◌∷◌}
+use Rattle.rec_bytes.specs.Format as format
+use Rattle.rec_bytes.specs.RecordFiles.{meta_key_of}
+use Rattle.rec_bytes.specs.Space.{State, after_put}
+use Rattle.store_rules.specs.Views.{key_in}
+use Rattle.node_store.specs.declared.node_row.NodeRow.{NodeRow}
+use Rattle.node_store.specs.NodeRecord.{node_key, node_record}
+use Rattle.graph_ops.specs.ChangeFault.{IsOutside, of_take}
+use Rattle.graph_ops.proofs.Exits.{fault_exit}
+use Rattle.graph_ops.proofs.NodePut.{puts_node}
+use Rattle.graph_ops.proofs.Takes.{store_can_take, take_outside, taken-shape}
+use Rattle.graph_ops.proofs.Writes.{among_metas, this_written, beside_then}
+use Rattle.graph_ops.proofs.node_adding.put_node.Goals as goal
+use Rattle.graph_ops.proofs.node_adding.put_node.Goals.{In_ok-id}
+use Rattle.graph_ops.proofs.node_adding.put_node.Given.{Over}
+
+pub returns-in_err-id-clause-sound : goal.returns-in_err-id-clause-sound
+returns-in_err-id-clause-sound g c tells names store room =
+    let s = g.S.Reads.state c.args.space.now in
+    fault_exit of_take IsOutside c.in_err-id.field-0.0 c.from_residual.result c.from_residual.ensures.1
+    (take_outside s format.nodes_file c.in_err-id.field-0.0 room (c.in_err-id.ensures.refused tells) (c.in_err-id.ensures.sound tells _ (store_can_take s names format.nodes_file refl refl store)))
+
+-- the shape after the identifier was taken
+took : (g : Over) (c : In_ok-id g) → g.S.Reads.tells → (g.S.Reads.state c.take.new.space).shape ≡ (g.S.Reads.state c.args.space.now).shape
+took g c tells = ap (λ (s : State). s.shape) (c.in_ok-id.ensures.ok tells) ∙ taken-shape (g.S.Reads.state c.args.space.now) format.nodes_file
+
+pub returns-in_err-save-clause-shape : goal.returns-in_err-save-clause-shape
+returns-in_err-save-clause-shape g c tells = ap (λ (s : State). s.shape) c.in_err-save.ensures.err ∙ took g (goal.at.returns-in_err-save-clause-shape g c).In_ok-id tells
+
+pub returns-clause-put : goal.returns-clause-put
+returns-clause-put g c tells names text store at =
+    puts_node (g.S.Reads.state c.args.space.now) (g.S.Reads.state c.take.new.space) (g.S.Reads.state c.save.new.space) names c.in_ok-id.id c.args.label text store at
+    (c.in_ok-id.ensures.taken tells) c.in_ok-id.ensures.small (took g (goal.at.returns-clause-put g c).In_ok-id tells)
+    (c.in_ok-save.ensures.ok ∙ ap (λ (r : NodeRow). after_put (g.S.Reads.state c.take.new.space) (node_key r.id) (node_record r)) c.new_row.ensures)
+
+pub returns-clause-shape : goal.returns-clause-shape
+returns-clause-shape g c tells = ap (λ (s : State). s.shape) c.in_ok-save.ensures.ok ∙ took g (goal.at.returns-clause-shape g c).In_ok-id tells
+
+pub returns-clause-writes : goal.returns-clause-writes
+returns-clause-writes g c =
+    let key = key_in format.nodes_file c.in_ok-id.id in
+    beside_then
+    (this_written key (g.S.Reads.state c.args.space.now) (g.S.Reads.state c.take.new.space) (meta_key_of format.nodes_file ∷ [])
+    (λ q i. ⊎_elim (λ e. inr (among_metas format.nodes_file q refl e)) (λ e. absurd e) i) c.take.ensures.writes)
+    (this_written key (g.S.Reads.state c.take.new.space) (g.S.Reads.state c.save.new.space) (node_key c.new_row.result.id ∷ [])
+    (λ q i. ⊎_elim (λ e. inl (e ∙ ap (λ (r : NodeRow). node_key r.id) c.new_row.ensures)) (λ e. absurd e) i) c.save.ensures.writes)

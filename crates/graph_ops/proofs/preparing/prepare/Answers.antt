@@ -1,0 +1,104 @@
+use Rattle.std.specs.Prelude.{Contains, slice_get}
+use Rattle.std.proofs.Common.{◌≡◌, ◌≢◌, ◌++◌, ◌∷◌, Some, length, ◌∙◌, sym, ap, subst, append_assoc, arith, refl}
+use Rattle.plain_graph.specs.Graph.{UsesName}
+use Rattle.plain_graph.specs.Names.{IsShortName}
+use Rattle.plain_graph.specs.Properties.{keys_in}
+use Rattle.plain_graph.specs.Refusals.{most_names}
+use Rattle.plain_graph.specs.declared.command.Command.TheVariants as commands
+use Rattle.graph_ops.specs.Assigning.{HasPropertyRoom, IsReserveFault, assigned_blocks}
+use Rattle.graph_ops.specs.Change.{IsRefusedBy}
+use Rattle.graph_ops.specs.ChangeFault.{of_intern}
+use Rattle.graph_ops.specs.Preparing.{line_reasons}
+use Rattle.graph_ops.specs.Store.{IsStore, KeepsElements, graph_in}
+use Rattle.graph_ops.proofs.Exits.{fault_exit}
+use Rattle.graph_ops.proofs.Interned.{keeps_interned, keeps_then, name_written}
+use Rattle.graph_ops.proofs.LineNames.{held_name, name_long, name_prefix, uses_long, uses_once}
+use Rattle.graph_ops.proofs.Preparation.{assign_refused_by, label_refused, prepared_is, reserve_refused}
+use Rattle.graph_ops.proofs.Writes.{more_written, then_written}
+use Rattle.graph_ops.proofs.preparing.prepare.Goals as goal
+use Rattle.graph_ops.proofs.preparing.prepare.Goals.{In_ok-assigned, In_ok-label}
+use Rattle.graph_ops.proofs.preparing.prepare.Given.{Over}
+
+pub returns-in_err-label-clause-refused : goal.returns-in_err-label-clause-refused
+returns-in_err-label-clause-refused g c tells store =
+    let s = g.S.Reads.state c.args.space.now in
+    let reasons = IsRefusedBy line_reasons s.shape.limit (graph_in s) (commands.Node c.args.label.now c.args.pairs.now) in
+    fault_exit of_intern reasons c.in_err-label.field-0.0 c.from_residual.result c.from_residual.ensures.1
+    (label_refused s c.args.names.now.names c.args.label.now c.args.pairs.now store c.in_err-label.field-0.0 (rw c.as_bytes.ensures at c.in_err-label.ensures.full_only))
+
+-- the label has a number
+uses : (g : Over) (c : In_ok-label g) → UsesName c.args.names.now.names c.args.label.now c.intern.new.self.names
+uses g c = subst (λ x. UsesName c.args.names.now.names x c.intern.new.self.names) c.as_bytes.ensures c.in_ok-label.ensures.names
+
+short : (g : Over) (c : In_ok-label g) → IsShortName c.as_bytes.result.now
+short g c = subst IsShortName (sym c.as_bytes.ensures) c.requires.label
+
+room : (g : Over) (c : In_ok-label g) → ¬ Contains c.args.names.now.names c.as_bytes.result.now → length c.args.names.now.names ≢ most_names
+room g c lacks all = absurd (let e = c.in_ok-label.ensures.full all lacks in cc)
+
+pub assign_pairs-requires-clause-names : goal.assign_pairs-requires-clause-names
+assign_pairs-requires-clause-names g c =
+    let at = (goal.at.assign_pairs-requires-clause-names g c).In_ok-label in
+    held_name c.args.names.now.names c.as_bytes.result.now c.intern.new.self.names c.count-known.ensures.are_names c.in_ok-label.ensures.names (short g at) (room g at)
+
+pub returns-in_err-assigned-clause-refused : goal.returns-in_err-assigned-clause-refused
+returns-in_err-assigned-clause-refused g c tells store =
+    let s = g.S.Reads.state c.args.space.now in
+    let reasons = IsRefusedBy line_reasons s.shape.limit (graph_in s) (commands.Node c.args.label.now c.args.pairs.now) in
+    fault_exit (λ f. f) reasons c.in_err-assigned.field-0.0 c.from_residual-in_err-assigned.result c.from_residual-in_err-assigned.ensures.1
+    (assign_refused_by s c.args.names.now.names c.intern.new.self.names c.args.label.now c.args.pairs.now store (uses g (goal.at.returns-in_err-assigned-clause-refused g c).In_ok-label) c.in_err-assigned.field-0.0 c.in_err-assigned.ensures.refused)
+
+-- the elements are kept
+kept : (g : Over) (c : In_ok-assigned g) → g.S.Reads.tells → IsStore (g.S.Reads.state c.args.space.now) c.args.names.now.names → KeepsElements (g.S.Reads.state c.args.space.now) (g.S.Reads.state c.assign_pairs.new.space) c.assign_pairs.new.names.names
+kept g c tells store =
+    let at = (goal.at.In_ok-assigned g c).In_ok-label in
+    let s = g.S.Reads.state c.args.space.now in
+    let t = g.S.Reads.state c.intern.new.space in
+    let u = g.S.Reads.state c.assign_pairs.new.space in
+    let first = keeps_interned s t c.args.names.now.names c.intern.new.self.names c.as_bytes.result.now (c.in_ok-label.ensures.ok tells) c.in_ok-label.ensures.names (short g at) (room g at) store in
+    keeps_then s t u c.intern.new.self.names c.assign_pairs.new.names.names first (c.in_ok-assigned.ensures.kept tells first.store)
+
+pub returns-in_err-blocks-clause-refused : goal.returns-in_err-blocks-clause-refused
+returns-in_err-blocks-clause-refused g c tells store =
+    let at = (goal.at.returns-in_err-blocks-clause-refused g c).In_ok-assigned in
+    let s = g.S.Reads.state c.args.space.now in
+    let u = g.S.Reads.state c.assign_pairs.new.space in
+    let pairs = c.args.pairs.now in
+    let reasons = IsRefusedBy line_reasons s.shape.limit (graph_in s) (commands.Node c.args.label.now pairs) in
+    let fault = c.in_err-blocks.field-0.0 in
+    fault_exit (λ f. f) reasons fault c.from_residual-in_err-blocks.result c.from_residual-in_err-blocks.ensures.1
+    (reserve_refused s c.args.names.now.names c.intern.new.self.names c.args.label.now pairs store (uses g (goal.at.returns-in_err-blocks-clause-refused g c).In_ok-label) u c.assign_pairs.new.names.names c.in_ok-assigned.assigned.items
+    c.in_ok-assigned.ensures.uses (kept g at tells store) c.in_ok-assigned.ensures.assigned c.in_ok-assigned.ensures.few c.in_ok-assigned.ensures.held.few fault
+    (subst (λ l. IsReserveFault u (length l) (assigned_blocks pairs l) fault) c.deref.ensures.0 c.in_err-blocks.ensures.refused))
+
+pub returns-clause-prepared : goal.returns-clause-prepared
+returns-clause-prepared g c tells store =
+    let at = (goal.at.returns-clause-prepared g c).In_ok-assigned in
+    let s = g.S.Reads.state c.args.space.now in
+    let u = g.S.Reads.state c.assign_pairs.new.space in
+    let pairs = c.args.pairs.now in
+    let items = c.in_ok-assigned.assigned.items in
+    prepared_is s c.args.names.now.names c.intern.new.self.names c.args.label.now pairs store (uses g (goal.at.returns-clause-prepared g c).In_ok-label) u c.assign_pairs.new.names.names items
+    c.in_ok-assigned.ensures.uses (kept g at tells store) c.in_ok-assigned.ensures.assigned c.in_ok-assigned.ensures.few c.in_ok-assigned.ensures.held.few _ refl (c.in_ok-label.ensures.number ∙ ap (λ l. Some l) c.as_bytes.ensures)
+    (subst (λ l. HasPropertyRoom u (length l) (assigned_blocks pairs l)) c.deref.ensures.0 c.in_ok-blocks.ensures.room)
+    (let n = c.len.ensures.value in let b = c.in_ok-blocks.ensures.blocks ∙ ap (assigned_blocks pairs) c.deref.ensures.0 in let k = c.count-known.ensures.value in let m = c.count.ensures.value in omega arith)
+
+pub returns-clause-names_full : goal.returns-clause-names_full
+returns-clause-names_full g c used other many =
+    let same = ap length (uses_once c.args.names.now.names (c.args.label.now ∷ keys_in c.args.pairs.now) used c.assign_pairs.new.names.names other (c.intern.new.self.names, uses g (goal.at.returns-clause-names_full g c).In_ok-label, c.in_ok-assigned.ensures.uses)) in
+    let few = c.in_ok-assigned.ensures.held.few in
+    absurd (omega arith)
+
+pub returns-clause-prefix : goal.returns-clause-prefix
+returns-clause-prefix g c =
+    let one = name_prefix c.args.names.now.names c.as_bytes.result.now c.intern.new.self.names c.in_ok-label.ensures.names in
+    let two = c.assign_pairs.ensures.prefix in
+    (one.0 ++ two.0, two.1 ∙ ap (λ l. l ++ two.0) one.1 ∙ append_assoc c.args.names.now.names one.0 two.0)
+
+pub returns-clause-writes : goal.returns-clause-writes
+returns-clause-writes g c =
+    let one = name_long c.args.names.now.names c.as_bytes.result.now c.intern.new.self.names c.in_ok-label.ensures.names in
+    let two = uses_long c.intern.new.self.names (keys_in c.args.pairs.now) c.assign_pairs.new.names.names c.in_ok-assigned.ensures.uses in
+    more_written (omega arith) (then_written
+    (name_written (g.S.Reads.state c.args.space.now) (g.S.Reads.state c.intern.new.space) c.args.names.now.names c.intern.new.self.names c.as_bytes.result.now c.in_ok-label.ensures.names (λ k. (c.intern.ensures.known k).1) c.intern.ensures.writes)
+    c.in_ok-assigned.ensures.writes)

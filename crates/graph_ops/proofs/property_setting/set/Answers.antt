@@ -1,0 +1,127 @@
+use Rattle.std.specs.Prelude.{Contains, slice_get}
+use Rattle.std.proofs.Common.{◌≡◌, ◌≢◌, ◌∙◌, ℕ, ◌+◌, ◌-◌, ◌≤◌, true, Some, length, sym, ap, subst, arith}
+use Rattle.plain_graph.specs.Graph.{UsesName, has_element}
+use Rattle.plain_graph.specs.Properties.{blocks_of}
+use Rattle.plain_graph.specs.Refusals.{most_names}
+use Rattle.plain_graph.specs.Reply.{Done}
+use Rattle.plain_graph.specs.declared.command.Command.TheVariants as commands
+use Rattle.prop_store.specs.Changing.{HasKey, IsSetRefusal}
+use Rattle.prop_store.specs.declared.set_fault.SetFault.{SetFault}
+use Rattle.rec_bytes.specs.Space.{State}
+use Rattle.name_store.specs.Interning.{IsFullFault, interned}
+use Rattle.graph_ops.specs.Change.{IsRefusal}
+use Rattle.graph_ops.specs.ChangeFault.{LeavesSpace, of_intern, of_set}
+use Rattle.graph_ops.specs.Store.{IsStore, KeepsElements, graph_in}
+use Rattle.graph_ops.proofs.Exits.{fault_exit}
+use Rattle.graph_ops.proofs.Interned.{keeps_interned, name_written}
+use Rattle.graph_ops.proofs.LineNames.{held_name}
+use Rattle.graph_ops.proofs.Setting.{set_known, set_leaves, set_missing, set_refused, set_unnamed, set_value}
+use Rattle.graph_ops.proofs.Readings.{made_read, store_read, there_read}
+use Rattle.graph_ops.proofs.Writes.{more_written, none_written, then_written}
+use Rattle.graph_ops.proofs.property_setting.set.Goals as goal
+use Rattle.graph_ops.proofs.property_setting.set.Goals.{After-set}
+use Rattle.graph_ops.proofs.property_setting.set.Given.{Over}
+
+pub returns-in_err-owner-clause-refused : goal.returns-in_err-owner-clause-refused
+returns-in_err-owner-clause-refused g c tells store =
+    let s = g.S.Reads.state c.args.space.now in
+    fault_exit (λ f. f) (IsRefusal s.shape.limit (graph_in s) (commands.Set c.args.target c.args.key.now c.args.value.now)) c.in_err-owner.field-0.0 c.from_residual.result c.from_residual.ensures.1
+    (set_missing s.shape.limit (graph_in s) c.args.target c.args.key.now c.args.value.now c.in_err-owner.field-0.0 (c.in_err-owner.ensures.refused tells c.args.names.now.names store))
+
+pub returns-in_err-number-clause-refused : goal.returns-in_err-number-clause-refused
+returns-in_err-number-clause-refused g c tells store =
+    let s = g.S.Reads.state c.args.space.now in
+    let old = c.args.names.now.names in
+    fault_exit of_intern (IsRefusal s.shape.limit (graph_in s) (commands.Set c.args.target c.args.key.now c.args.value.now)) c.in_err-number.field-0.0 c.from_residual-in_err-number.result c.from_residual-in_err-number.ensures.1
+    (set_unnamed s old c.args.target c.args.key.now c.args.value.now store (c.in_ok-owner.ensures.there tells) c.in_err-number.field-0.0
+    (subst (λ k. IsFullFault old k c.in_err-number.field-0.0) c.as_bytes.ensures c.in_err-number.ensures.full_only))
+
+-- the name of the key
+text_is : (g : Over) (c : After-set g) → c.as_bytes.result.now ≡ c.args.key.now
+text_is g c = c.as_bytes.ensures
+
+uses : (g : Over) (c : After-set g) → UsesName c.args.names.now.names c.args.key.now c.intern.new.self.names
+uses g c = subst (λ k. UsesName c.args.names.now.names k c.intern.new.self.names) (text_is g c) c.in_ok-number.ensures.names
+
+-- there is room for it where it is new
+room : (g : Over) (c : After-set g) → ¬ Contains c.args.names.now.names c.args.key.now → length c.args.names.now.names ≢ most_names
+room g c lacks all = absurd (let e = c.in_ok-number.ensures.full all (subst (λ k. ¬ Contains c.args.names.now.names k) (sym (text_is g c)) lacks) in cc)
+
+few : (g : Over) (c : After-set g) → length c.intern.new.self.names ≤ most_names
+few g c = (held_name c.args.names.now.names c.args.key.now c.intern.new.self.names c.count-known.ensures.are_names (uses g c) c.requires.0 (room g c)).few
+
+at : (g : Over) (c : After-set g) → slice_get c.intern.new.self.names c.in_ok-number.number ≡ Some c.args.key.now
+at g c = c.in_ok-number.ensures.number ∙ ap Some (text_is g c)
+
+module _ (g : Over) (c : After-set g) (tells : g.S.Reads.tells) (store : IsStore (g.S.Reads.state c.args.space.now) c.args.names.now.names) where
+  -- the store before the name got its number, and after that
+  store_found : IsStore (g.S.Reads.state c.find_owner.new.space) c.args.names.now.names
+  store_found = store_read (g.S.Reads.state c.args.space.now) (g.S.Reads.state c.find_owner.new.space) c.args.names.now.names c.find_owner.ensures.state store
+
+  there : has_element (graph_in (g.S.Reads.state c.find_owner.new.space)) c.args.target ≡ true
+  there = there_read (g.S.Reads.state c.args.space.now) (g.S.Reads.state c.find_owner.new.space) c.args.target c.find_owner.ensures.state (c.in_ok-owner.ensures.there tells)
+
+  kept : KeepsElements (g.S.Reads.state c.find_owner.new.space) (g.S.Reads.state c.intern.new.space) c.intern.new.self.names
+  kept = keeps_interned (g.S.Reads.state c.find_owner.new.space) (g.S.Reads.state c.intern.new.space) c.args.names.now.names c.intern.new.self.names c.args.key.now
+      (subst (λ k. g.S.Reads.state c.intern.new.space ≡ interned (g.S.Reads.state c.find_owner.new.space) c.args.names.now.names k) (text_is g c) (c.in_ok-number.ensures.ok tells))
+      (uses g c) c.requires.0 (room g c) store_found
+
+  known : HasKey (g.S.Reads.state c.intern.new.space) c.in_ok-owner.owner c.in_ok-number.number
+  known = set_known (g.S.Reads.state c.find_owner.new.space) c.args.names.now.names c.args.target c.args.key.now c.args.value.now store_found there
+      (g.S.Reads.state c.intern.new.space) c.intern.new.self.names c.in_ok-number.number c.in_ok-owner.owner c.in_ok-owner.ensures.owner (uses g c) kept (few g c) (at g c)
+
+  refused : (fault : SetFault) → IsSetRefusal (g.S.Reads.state c.intern.new.space) c.in_ok-owner.owner c.in_ok-number.number c.args.value.now fault
+      → IsRefusal (g.S.Reads.state c.args.space.now).shape.limit (graph_in (g.S.Reads.state c.args.space.now)) (commands.Set c.args.target c.args.key.now c.args.value.now) (of_set fault)
+  refused fault why = subst (λ z. IsRefusal z.shape.limit (graph_in z) (commands.Set c.args.target c.args.key.now c.args.value.now) (of_set fault)) c.find_owner.ensures.state
+      (set_refused (g.S.Reads.state c.find_owner.new.space) c.args.names.now.names c.args.target c.args.key.now c.args.value.now store_found there
+      (g.S.Reads.state c.intern.new.space) c.intern.new.self.names c.in_ok-number.number c.in_ok-owner.owner c.in_ok-owner.ensures.owner (uses g c) kept (few g c) (at g c) fault why)
+
+  leaves : (u : State) (fault : SetFault) → IsSetRefusal (g.S.Reads.state c.intern.new.space) c.in_ok-owner.owner c.in_ok-number.number c.args.value.now fault → LeavesSpace (g.S.Reads.state c.args.space.now) u (of_set fault)
+  leaves u fault why = set_leaves (g.S.Reads.state c.find_owner.new.space) c.args.names.now.names c.args.target c.args.key.now c.args.value.now store_found there
+      (g.S.Reads.state c.intern.new.space) c.intern.new.self.names c.in_ok-number.number c.in_ok-owner.owner c.in_ok-owner.ensures.owner (uses g c) kept (few g c) (at g c) (g.S.Reads.state c.args.space.now) u fault why
+
+pub returns-in_err-released-clause-refused : goal.returns-in_err-released-clause-refused
+returns-in_err-released-clause-refused g c tells store =
+    let s = g.S.Reads.state c.args.space.now in
+    let after = (goal.at.returns-in_err-released-clause-refused g c).After-set in
+    fault_exit of_set (IsRefusal s.shape.limit (graph_in s) (commands.Set c.args.target c.args.key.now c.args.value.now)) c.in_err-released.field-0.0 c.from_residual-in_err-released.result c.from_residual-in_err-released.ensures.1
+    (refused g after tells store c.in_err-released.field-0.0 (c.in_err-released.ensures.refused tells (known g after tells store)))
+
+pub returns-in_err-released-clause-leaves : goal.returns-in_err-released-clause-leaves
+returns-in_err-released-clause-leaves g c tells store =
+    let s = g.S.Reads.state c.args.space.now in
+    let u = g.S.Reads.state c.set.new.space in
+    let after = (goal.at.returns-in_err-released-clause-leaves g c).After-set in
+    fault_exit of_set (LeavesSpace s u) c.in_err-released.field-0.0 c.from_residual-in_err-released.result c.from_residual-in_err-released.ensures.1
+    (leaves g after tells store u c.in_err-released.field-0.0 (c.in_err-released.ensures.refused tells (known g after tells store)))
+
+-- what the weight is
+weight_is : (known now blocks old new of released : ℕ) → known ≡ old → now ≡ new → blocks ≡ of → 2 + blocks + released + (now - known) ≡ 2 + of + released + (new - old)
+weight_is known now blocks old new of released a b e = omega arith
+
+pub returns-clause-made : goal.returns-clause-made
+returns-clause-made g c tells store =
+    let s = g.S.Reads.state c.args.space.now in
+    let m = g.S.Reads.state c.find_owner.new.space in
+    let u = g.S.Reads.state c.set.new.space in
+    let old = c.args.names.now.names in
+    let new = c.intern.new.self.names in
+    let value = c.args.value.now in
+    let after = (goal.at.returns-clause-made g c).After-set in
+    let weight = 2 + c.block_count.result + c.in_ok-released.released + (c.count.result - c.count-known.result) in
+    made_read s m u new (commands.Set c.args.target c.args.key.now value) Done weight c.find_owner.ensures.state
+    (set_value m old c.args.target c.args.key.now value (store_found g after tells store) (there g after tells store)
+    (g.S.Reads.state c.intern.new.space) new c.in_ok-number.number c.in_ok-owner.owner c.in_ok-owner.ensures.owner (uses g after) (kept g after tells store) (few g after) (at g after)
+    u c.in_ok-released.released weight (c.in_ok-released.ensures.set tells (known g after tells store)) (c.set.ensures.shape tells)
+    (weight_is c.count-known.result c.count.result c.block_count.result (length old) (length new) (blocks_of value) c.in_ok-released.released c.count-known.ensures.value c.count.ensures.value c.block_count.ensures.is))
+
+pub returns-clause-writes : goal.returns-clause-writes
+returns-clause-writes g c =
+    let s = g.S.Reads.state c.args.space.now in
+    let m = g.S.Reads.state c.find_owner.new.space in
+    let t = g.S.Reads.state c.intern.new.space in
+    let old = c.args.names.now.names in
+    let new = c.intern.new.self.names in
+    let named = name_written m t old new c.as_bytes.result.now c.in_ok-number.ensures.names (λ k. (c.intern.ensures.known k).1) c.intern.ensures.writes in
+    let weight = weight_is c.count-known.result c.count.result c.block_count.result (length old) (length new) (blocks_of c.args.value.now) c.in_ok-released.released c.count-known.ensures.value c.count.ensures.value c.block_count.ensures.is in
+    more_written (omega arith) (then_written (none_written s m c.find_owner.ensures.state) (then_written named c.in_ok-released.ensures.writes))

@@ -1,0 +1,29 @@
+-- Elements as owners of properties.
+use Rattle.std.specs.Prelude.{◌≡◌, ℕ, false}
+use Rattle.plain_graph.specs.Graph.{Graph, has_edge, has_node}
+use Rattle.plain_graph.specs.declared.command.Target.{Target}
+use Rattle.plain_graph.specs.declared.command.Target.TheVariants as targets
+use Rattle.prop_store.specs.declared.owner.Owner.{Owner}
+use Rattle.rec_bytes.specs.Format as format
+use Rattle.store_rules.specs.Views.{key_in}
+use Rattle.graph_ops.specs.declared.change_fault.ChangeFault.{ChangeFault}
+use Rattle.graph_ops.specs.declared.change_fault.ChangeFault.TheVariants.{NoNode, NoEdge, HasRelationships, Full, NamesFull, PropsFull, Memory, Disk, Damaged}
+
+-- the record of an element, and the place of its first property
+abbrev pub owner_of : Target → Owner
+owner_of (targets.Node id) =
+    record { key = key_in format.nodes_file id; field = format.node_first_property }
+owner_of (targets.Edge id) =
+    record { key = key_in format.relationships_file id; field = format.relationship_first_property }
+
+-- why an element isn't found: it isn't there, or the disk failed
+abbrev pub IsMissing : Graph → Target → ChangeFault → Type 0
+IsMissing graph target (NoNode id) = (target ≡ targets.Node id) × (has_node graph id ≡ false)
+IsMissing graph target (NoEdge id) = (target ≡ targets.Edge id) × (has_edge graph id ≡ false)
+IsMissing graph target (HasRelationships id degree) = ⊥
+IsMissing graph target (Full file live) = ⊥
+IsMissing graph target (NamesFull count) = ⊥
+IsMissing graph target (PropsFull count) = ⊥
+IsMissing graph target Memory = ⊥
+IsMissing graph target Disk = Unit {0}
+IsMissing graph target (Damaged damage) = ⊥

@@ -1,0 +1,15 @@
+-- Room in the files of a store.
+use Rattle.std.specs.Prelude.{◌≡◌, ℕ, ◌+◌, ◌<◌, ◌≤◌}
+use Rattle.rec_bytes.specs.RecordFiles.{room_of}
+use Rattle.rec_bytes.specs.Space.{State, meta_of}
+use Rattle.graph_ops.specs.declared.change_fault.ChangeFault.{ChangeFault}
+use Rattle.graph_ops.specs.declared.change_fault.ChangeFault.TheVariants.{Full}
+
+-- the file has room for so many records more
+abbrev pub HasRoom : State → ℕ → ℕ → Type 0
+HasRoom s file needed = (meta_of s file).live + needed ≤ room_of s.shape file
+
+-- The file has no room for so many records more, and the fault says how many are live.
+pub record LacksRoom (s : State) (file needed : ℕ) (fault : ChangeFault) : Type 0 where
+  pub is : fault ≡ Full file (meta_of s file).live
+  pub lacks : room_of s.shape file < (meta_of s file).live + needed

@@ -1,0 +1,173 @@
+//! The pairs of a line as properties of a new element.
+
+ghost use Rattle.std.specs.Prelude.{◌≡◌, ◌≤◌, ◌+◌, ◌-◌, ◌++◌, ℕ, List, IfErr, IfOk, OnOk, length, nat_eq, position, take};
+ghost use Rattle.plain_graph.specs.Forms.{ArePairs};
+ghost use Rattle.plain_graph.specs.Graph.{UsesNames};
+ghost use Rattle.plain_graph.specs.Properties.{keys_in};
+ghost use Rattle.plain_graph.specs.declared.command.Target.{Target};
+ghost use Rattle.name_store.specs.Names.{AreHeldNames};
+ghost use Rattle.prop_store.specs.Owner.{IsOwner};
+ghost use Rattle.graph_ops.specs.Assigning.{
+  AreAssigned,
+  ArePlaced,
+  CanPut,
+  HasPropertyRoom,
+  IsAssignFault,
+  IsReserveFault,
+  PutsPairs,
+  assigned_blocks,
+  pairs_of,
+  with_place,
+};
+ghost use Rattle.store_rules.specs.Writes.{WritesAtMost, WritesBeside};
+ghost use Rattle.graph_ops.specs.ChangeFault.{HasChangeCause, IsOutside};
+ghost use Rattle.graph_ops.specs.Owners.{owner_of};
+ghost use Rattle.graph_ops.specs.Store.{IsStore, KeepsElements};
+
+use crate::ChangeFault;
+use crate::blocks::block_count;
+use crate::rooms::test_room;
+use arrayvec::ArrayVec;
+use name_store::Names;
+use plain_graph::Pair;
+use prop_store::{Owner, add};
+use rec_bytes::{PROPERTIES, Reads, STRINGS, Space};
+
+/// How many properties an element may have.
+const MOST_PROPERTIES: u32 = 32;
+
+/// The number of a key, with the place of the pair whose value the key gets.
+#[derive(Clone, Copy, Default, Debug, PartialEq, Eq)]
+pub(crate) struct Assignment {
+    pub key: u32,
+    pub pair: usize,
+}
+
+/// Gives the keys of the pairs their numbers, and each different key the last of its pairs. All keys
+/// are names then, before it is told that they are too many.
+pub(crate) fn assign_pairs<S: Space>(
+    space: &mut S,
+    names: &mut Names,
+    pairs: &[Pair],
+) -> Result<ArrayVec<Assignment, 33>, ChangeFault>
+    requires pairs { ArePairs pairs.now }
+    requires names { AreHeldNames names.old.names }
+    ensures uses { OnOk result (UsesNames names.old.names (keys_in pairs.now) names.new.names) }
+    ensures assigned { IfOk result (λ assigned.
+        AreAssigned names.new.names pairs.now assigned.items) }
+    ensures few { IfOk result (λ assigned. length assigned.items ≤ MOST_PROPERTIES) }
+    ensures held { OnOk result (AreHeldNames names.new.names) }
+    ensures kept { S.tells → OnOk result (IsStore (S.state space.old) names.old.names
+        → KeepsElements (S.state space.old) (S.state space.new) names.new.names) }
+    ensures refused { IfErr result (IsAssignFault names.old.names pairs.now) }
+    ensures prefix { (rest : List (List ℕ)) × (names.new.names ≡ names.old.names ++ rest) }
+    ensures shape { S.tells → (S.state space.new).shape ≡ (S.state space.old).shape }
+    ensures writes { OnOk result (WritesAtMost (length names.new.names - length names.old.names)
+        (S.state space.old) (S.state space.new)) }
+    ensures onward { S.onward space.old space.new }
+    ensures cause { HasChangeCause (S.faults space.old) (S.faults space.new) result }
+{
+    let mut assigned = ArrayVec::new();
+    for (place, pair) in pairs.iter().enumerate() {
+        let key = names.intern(space, pair.key.as_bytes())?;
+        assign(&mut assigned, key, place);
+    }
+    if assigned.len() > MOST_PROPERTIES as usize {
+        return Err(ChangeFault::PropsFull {
+            count: MOST_PROPERTIES,
+        });
+    }
+    Ok(assigned)
+}
+
+/// Puts the place of a pair at its key, or behind the others where the key is new. One of more than
+/// 33 keys is left out.
+fn assign(assigned: &mut ArrayVec<Assignment, 33>, key: u32, pair: usize)
+    ensures { assigned.new.items ≡ take 33 (with_place assigned.old.items key pair) }
+{
+    match place_of(assigned, key) {
+        Some(at) => assigned[at] = Assignment { key, pair },
+        None => {
+            if !assigned.is_full() {
+                assigned.push(Assignment { key, pair });
+            }
+        }
+    }
+}
+
+/// The place of a key among the assignments.
+fn place_of(assigned: &[Assignment], key: u32) -> Option<usize>
+    ensures { result ≡ position (λ assignment. nat_eq assignment.key key) assigned.now }
+{
+    assigned.iter().position(|assignment| assignment.key == key)
+}
+
+/// Tests whether the store has room for the properties, and then for the blocks of their values,
+/// and answers how many blocks those are.
+pub(crate) fn reserve_properties<R: Reads>(
+    space: &R,
+    assigned: &[Assignment],
+    pairs: &[Pair],
+) -> Result<u32, ChangeFault>
+    requires few { length assigned.now ≤ MOST_PROPERTIES }
+    requires placed { ArePlaced pairs.now assigned.now }
+    requires pairs { ArePairs pairs.now }
+    ensures blocks { IfOk result (λ blocks. blocks ≡ assigned_blocks pairs.now assigned.now) }
+    ensures few_blocks { IfOk result (λ blocks. blocks ≤ 1024) }
+    ensures room { OnOk result (HasPropertyRoom (R.state space.now) (length assigned.now)
+        (assigned_blocks pairs.now assigned.now)) }
+    ensures refused { IfErr result (IsReserveFault (R.state space.now) (length assigned.now)
+        (assigned_blocks pairs.now assigned.now)) }
+{
+    test_room(space, PROPERTIES, assigned.len() as u32)?;
+    let blocks = block_total(assigned, pairs);
+    test_room(space, STRINGS, blocks)?;
+    Ok(blocks)
+}
+
+/// How many blocks the values take together.
+fn block_total(assigned: &[Assignment], pairs: &[Pair]) -> u32
+    requires few { length assigned.now ≤ MOST_PROPERTIES }
+    requires placed { ArePlaced pairs.now assigned.now }
+    requires pairs { ArePairs pairs.now }
+    ensures is { result ≡ assigned_blocks pairs.now assigned.now }
+    ensures few { result ≤ 1024 }
+{
+    let mut blocks = 0;
+    for assignment in assigned {
+        blocks += block_count(&pairs[assignment.pair].value);
+    }
+    blocks
+}
+
+/// Puts the properties at an element that has none: the keys with the values of their pairs.
+pub(crate) fn put_properties<S: Space>(
+    space: &mut S,
+    owner: Owner,
+    assigned: &[Assignment],
+    pairs: &[Pair],
+) -> Result<(), ChangeFault>
+    requires owner { IsOwner owner }
+    requires few { length assigned.now ≤ MOST_PROPERTIES }
+    requires placed { ArePlaced pairs.now assigned.now }
+    requires pairs { ArePairs pairs.now }
+    ensures put { S.tells → OnOk result ((names : List (List ℕ)) (target : Target)
+        → owner ≡ owner_of target → CanPut (S.state space.old) names target pairs.now assigned.now
+        → PutsPairs (S.state space.old) (S.state space.new) names target
+        (pairs_of names pairs.now assigned.now)) }
+    ensures sound { S.tells → (names : List (List ℕ)) (target : Target)
+        → owner ≡ owner_of target → CanPut (S.state space.old) names target pairs.now assigned.now
+        → HasPropertyRoom (S.state space.old) (length assigned.now)
+        (assigned_blocks pairs.now assigned.now) → IfErr result IsOutside }
+    ensures shape { S.tells → (S.state space.new).shape ≡ (S.state space.old).shape }
+    ensures writes { OnOk result (WritesBeside owner.key
+        (length assigned.now + assigned_blocks pairs.now assigned.now)
+        (S.state space.old) (S.state space.new)) }
+    ensures onward { S.onward space.old space.new }
+    ensures cause { HasChangeCause (S.faults space.old) (S.faults space.new) result }
+{
+    for assignment in assigned {
+        add(space, owner, assignment.key, &pairs[assignment.pair].value)?;
+    }
+    Ok(())
+}

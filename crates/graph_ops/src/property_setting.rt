@@ -1,0 +1,85 @@
+ghost use Rattle.std.specs.Prelude.{◌≡◌, ◌++◌, ◌<◌, ℕ, List, [], ◌∷◌, IfErr, IfOk, IsErr, length};
+ghost use Rattle.plain_graph.specs.Forms.{HasForm};
+ghost use Rattle.plain_graph.specs.Graph.{UsesNames};
+ghost use Rattle.plain_graph.specs.Refusals.{most_names};
+ghost use Rattle.plain_graph.specs.Reply.{Done};
+ghost use Rattle.plain_graph.specs.declared.command.Command.TheVariants as commands;
+ghost use Rattle.store_rules.specs.Writes.{WritesAtMost};
+ghost use Rattle.graph_ops.specs.Change.{IsRefusal, MakesChange};
+ghost use Rattle.graph_ops.specs.ChangeFault.{HasChangeCause, LeavesSpace};
+ghost use Rattle.graph_ops.specs.Store.{IsStore, graph_in};
+
+use crate::ChangeFault;
+use crate::blocks::block_count;
+use crate::owners::find_owner;
+use name_store::Names;
+use plain_graph::{Target, Text, Value};
+use rec_bytes::{Reads, Space};
+
+/// Gives a key of an element a value, and answers the weight of the change. A value that the key
+/// had is gone, with its blocks.
+pub fn set<S: Space>(
+    space: &mut S,
+    names: &mut Names,
+    target: Target,
+    key: &Text,
+    value: &Value,
+) -> Result<u32, ChangeFault>
+    requires { HasForm (commands.Set target key.now value.now) }
+    ensures made { S.tells → IfOk result (λ weight. IsStore (S.state space.old) names.old.names
+        → MakesChange (commands.Set target key.now value.now) Done weight
+        (S.state space.old) (S.state space.new) names.new.names) }
+    ensures refused { S.tells → IsStore (S.state space.old) names.old.names
+        → IfErr result (IsRefusal (S.state space.old).shape.limit (graph_in (S.state space.old))
+        (commands.Set target key.now value.now)) }
+    ensures names_full { (used : List (List ℕ)) → UsesNames names.old.names (key.now ∷ []) used
+        → most_names < length used → IsErr result }
+    ensures leaves { S.tells → IsStore (S.state space.old) names.old.names
+        → IfErr result (LeavesSpace (S.state space.old) (S.state space.new)) }
+    ensures prefix { (rest : List (List ℕ)) × (names.new.names ≡ names.old.names ++ rest) }
+    ensures shape { S.tells → (S.state space.new).shape ≡ (S.state space.old).shape }
+    ensures writes { IfOk result (λ weight.
+        WritesAtMost weight (S.state space.old) (S.state space.new)) }
+    ensures onward { S.onward space.old space.new }
+    ensures cause { HasChangeCause (S.faults space.old) (S.faults space.new) result }
+{
+    let owner = find_owner(space, target)?;
+    let known = names.count();
+    let number = names.intern(space, key.as_bytes())?;
+    let released = prop_store::set(space, owner, number, value)?;
+    Ok(2 + block_count(value) + released + (names.count() - known))
+}
+
+/// Takes the value of a key of an element away, and answers the weight of the change. Where the
+/// element hasn't the key nothing changes. Names stay.
+pub fn unset<S: Space>(
+    space: &mut S,
+    names: &Names,
+    target: Target,
+    key: &Text,
+) -> Result<u32, ChangeFault>
+    ensures made { S.tells → IfOk result (λ weight. IsStore (S.state space.old) names.now.names
+        → MakesChange (commands.Unset target key.now) Done weight
+        (S.state space.old) (S.state space.new) names.now.names) }
+    ensures refused { S.tells → IsStore (S.state space.old) names.now.names
+        → IfErr result (IsRefusal (S.state space.old).shape.limit (graph_in (S.state space.old))
+        (commands.Unset target key.now)) }
+    ensures leaves { IfErr result (LeavesSpace (S.state space.old) (S.state space.new)) }
+    ensures shape { S.tells → (S.state space.new).shape ≡ (S.state space.old).shape }
+    ensures writes { IfOk result (λ weight.
+        WritesAtMost weight (S.state space.old) (S.state space.new)) }
+    ensures onward { S.onward space.old space.new }
+    ensures cause { HasChangeCause (S.faults space.old) (S.faults space.new) result }
+{
+    let owner = find_owner(space, target)?;
+    let Some(number) = names.find(key.as_bytes()) else {
+        return Ok(2);
+    };
+    match prop_store::unset(space, owner, number)? {
+        Some(released) => Ok(2 + released),
+        None => Ok(2),
+    }
+}
+
+#[cfg(test)]
+mod tests;
