@@ -10,13 +10,13 @@ use Rattle.gremlin_parse.specs.Symbols.{AnyBlanks, Takes}
 use Rattle.gremlin_parse.specs.Stopping.{BadStop, IsStop, left_of, fault_of, bad_fault}
 use Rattle.gremlin_parse.specs.Commands.{BadTail, IsSomeTail, IsTail, LacksMemory}
 use Rattle.gremlin_parse.specs.declared.bad_token.BadToken.{BadToken}
-use Rattle.gremlin_parse.specs.declared.bad_token.BadToken.TheVariants.{LongName, WideNumber}
+use Rattle.gremlin_parse.specs.declared.bad_token.BadToken.TheVariants.{LongName, LongText, WideNumber}
 use Rattle.gremlin_parse.specs.declared.line_fault.LineFault.{LineFault}
 use Rattle.gremlin_parse.specs.declared.line_fault.LineFault.TheVariants as faults
 use Rattle.gremlin_parse.specs.declared.stop.Stop.{Stop}
 use Rattle.gremlin_parse.specs.declared.stop.Stop.TheVariants as stops
 use Rattle.gremlin_parse.proofs.Stops.{StopsBefore-refuses, StopsBefore-StopsAt, take-append-add}
-use Rattle.gremlin_parse.proofs.Heads.{commands_agree}
+use Rattle.gremlin_parse.proofs.Commands.{commands_agree}
 use Rattle.gremlin_parse.proofs.Lines.{BadLine, tail_after, spelled_after, bad_tail_after, no_bad_tail}
 
 -- ---- places
@@ -45,6 +45,7 @@ syntax_before : (line : List ℕ) (left : ℕ) → StopsBefore IsLine line left 
 syntax_before line left stop none faults.Memory has = absurd has
 syntax_before line left stop none (faults.Syntax place) has = viable_is_before IsLine line stop.read stop.unread left place has.1 stop.bytes_are stop.left_is stop.viable
 syntax_before line left stop none (faults.NameLength place) has = absurd (none LongName (length line - place) (bad_line_at LongName line place has))
+syntax_before line left stop none (faults.TextLength place) has = absurd (none LongText (length line - place) (bad_line_at LongText line place has))
 syntax_before line left stop none (faults.NumberRange place) has = absurd (none WideNumber (length line - place) (bad_line_at WideNumber line place has))
 
 bad_before : (kind : BadToken) (line : List ℕ) (left : ℕ) → BadStop IsLine BadLine kind line left → (other : LineFault) → HasFault line other → length line - left ≤ place_of other
@@ -53,6 +54,10 @@ bad_before kind line left stop (faults.Syntax place) has = viable_is_before IsLi
 bad_before kind line left stop (faults.NameLength place) has =
     let within = bad_within LongName line place has in
     let le = stop.first LongName (length line - place) (bad_line_at LongName line place has) in
+    omega arith
+bad_before kind line left stop (faults.TextLength place) has =
+    let within = bad_within LongText line place has in
+    let le = stop.first LongText (length line - place) (bad_line_at LongText line place has) in
     omega arith
 bad_before kind line left stop (faults.NumberRange place) has =
     let within = bad_within WideNumber line place has in
@@ -64,6 +69,7 @@ has_bad kind line left (at, place, has) = let at_is : at ≡ length line - left 
 
 bad_leftmost : (kind : BadToken) (line : List ℕ) (left : ℕ) → BadStop IsLine BadLine kind line left → IsLeftmostFault line (bad_fault kind (length line - left))
 bad_leftmost LongName line left stop = record { has = has_bad LongName line left stop.has; leftmost = bad_before LongName line left stop }
+bad_leftmost LongText line left stop = record { has = has_bad LongText line left stop.has; leftmost = bad_before LongText line left stop }
 bad_leftmost WideNumber line left stop = record { has = has_bad WideNumber line left stop.has; leftmost = bad_before WideNumber line left stop }
 
 pub fault_is_leftmost : (Lack : Type 0) (line : List ℕ) (stop : Stop) → IsStop IsLine BadLine Lack line stop → fault_of stop (length line) ≢ faults.Memory → IsLeftmostFault line (fault_of stop (length line))
@@ -91,6 +97,8 @@ no_fault_of line bytes command takes tail keeps faults.Memory = λ has. has
 no_fault_of line bytes command takes tail keeps (faults.Syntax place) = λ has. has.0 (command, spelled_after command line bytes takes tail)
 no_fault_of line bytes command takes tail keeps (faults.NameLength place) = λ has.
     no_bad_tail command bytes tail keeps LongName (length line - place) (bad_tail_after LongName (length line - place) line bytes takes (bad_line_at LongName line place has))
+no_fault_of line bytes command takes tail keeps (faults.TextLength place) = λ has.
+    no_bad_tail command bytes tail keeps LongText (length line - place) (bad_tail_after LongText (length line - place) line bytes takes (bad_line_at LongText line place has))
 no_fault_of line bytes command takes tail keeps (faults.NumberRange place) = λ has.
     no_bad_tail command bytes tail keeps WideNumber (length line - place) (bad_tail_after WideNumber (length line - place) line bytes takes (bad_line_at WideNumber line place has))
 
@@ -109,4 +117,5 @@ pub no_such_command : (line bytes : List ℕ) (stop : Stop) → Takes AnyBlanks 
 no_such_command line bytes stops.Memory takes lacks same = λ command none spelled. lacks command none (tail_after command line bytes takes spelled.0)
 no_such_command line bytes (stops.Syntax left) takes at same = cc
 no_such_command line bytes (stops.Bad LongName left) takes at same = cc
+no_such_command line bytes (stops.Bad LongText left) takes at same = cc
 no_such_command line bytes (stops.Bad WideNumber left) takes at same = cc

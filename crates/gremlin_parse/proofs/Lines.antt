@@ -1,103 +1,27 @@
 -- From the bytes after the blanks to the whole line.
-use Rattle.std.proofs.Common.{◌≡◌, ◌+◌, ◌⊎◌, inl, inr, ℕ, List, [], ◌∷◌, ◌++◌, codes, flat_map, length, refl, sym, ap, ◌∙◌, subst, ⊎_elim, append_assoc, length-append, arith}
+use Rattle.std.proofs.Common.{◌≡◌, ◌+◌, inl, inr, ℕ, List, [], ◌∷◌, ◌++◌, flat_map, length, refl, sym, ap, ◌∙◌, subst, ⊎_elim, append_assoc, length-append, arith}
 use Rattle.std.specs.List.{AllByRecursion}
 use Rattle.plain_graph.specs.declared.command.Command.{Command}
 use Rattle.plain_graph.specs.declared.command.Command.TheVariants as commands
-use Rattle.plain_graph.specs.declared.command.Target.TheVariants as targets
-use Rattle.gremlin_parse.specs.Grammar.{Part, Blanks, Gap, Exactly, Number, IsPart, IsMadeOf, IsBounded, parts_of, IsCommand, KeepsBounds, SpellsLoosely, IsLine, AreBlanks, is_blank, step_tokens}
+use Rattle.gremlin_parse.specs.Grammar.{Part, Blanks, Exactly, IsPart, IsMadeOf, IsBounded, parts_of, IsCommand, KeepsBounds, SpellsLoosely, IsLine, AreBlanks, is_blank, step_tokens}
 use Rattle.gremlin_parse.specs.Faults.{EndsRun, EndsToken, IsOutOfBounds, HasBadToken}
-use Rattle.gremlin_parse.specs.Reading.{Then}
-use Rattle.gremlin_parse.specs.Keywords.{Entry}
-use Rattle.gremlin_parse.specs.Symbols.{AnyBlanks, Values, Takes}
+use Rattle.gremlin_parse.specs.Reading.{Then, IsBadPart, BadParts}
+use Rattle.gremlin_parse.specs.Symbols.{AnyBlanks, Takes}
 use Rattle.gremlin_parse.specs.Stopping.{Bads, IsStop}
-use Rattle.gremlin_parse.specs.Commands.{head_words, target_of, kind_named, production, LastValue, last_parts, command_of, BadAfter, SpellsAfter, IsSomeTail, BadTail, IsTail}
+use Rattle.gremlin_parse.specs.Commands.{head_words, production, BadLast, LastContent, last_parts, command_of, BadAfter, SpellsAfter, IsSomeTail, BadTail, IsTail}
 use Rattle.gremlin_parse.specs.declared.bad_token.BadToken.{BadToken}
 use Rattle.gremlin_parse.specs.declared.head.Head.{Head}
 use Rattle.gremlin_parse.specs.declared.head.Head.TheVariants as heads
-use Rattle.gremlin_parse.specs.declared.word.Word.TheVariants as words
 use Rattle.gremlin_parse.specs.declared.stop.Stop.{Stop}
 use Rattle.gremlin_parse.proofs.Runs.{Halts}
 use Rattle.gremlin_parse.proofs.Tables.{lookup_in, words_agree}
 use Rattle.gremlin_parse.proofs.Symbols.{takes_again, after_symbol}
 use Rattle.gremlin_parse.proofs.Productions.{Goes, stop_after}
-use Rattle.gremlin_parse.proofs.Spelling.{parts_with, AllowsAll, made_of_then, then_of_made, IsBadPart, BadParts, HasNoBad, loosely_no_bad, bad_of_parts, parts_of_bad, no_bad_within}
-use Rattle.gremlin_parse.proofs.Heads.{word_of, named, entry_word, production_is, last_closes, last_is, bad_after_halts, spells_halts, Spelled, spelled_of_values, values_of_spelled, some_spelled, spelled_is_some, word_halts, head_table, no_word_in_nothing}
-
--- ---- a command and its values
-
--- the parts after a command's first word
-abbrev tail_parts : (head : Head) → Values (production head) → LastValue head → List Part
-tail_parts head values last = parts_with (production head) values ++ last_parts head last
-
-command_parts : (head : Head) (values : Values (production head)) (last : LastValue head) → AllowsAll (production head) values → parts_of (command_of head values last) ≡ Blanks ∷ Exactly (word_of head) ∷ tail_parts head values last
-command_parts (heads.Alone words.Begin) values last allows = refl
-command_parts (heads.Alone words.Commit) values last allows = refl
-command_parts (heads.Alone words.Rollback) values last allows = refl
-command_parts (heads.Alone words.Checkpoint) values last allows = refl
-command_parts (heads.Alone words.Stats) values last allows = refl
-command_parts (heads.Alone words.Reopen) values last allows = refl
-command_parts (heads.Alone words.Quit) values last allows = refl
-command_parts heads.Node values last allows = refl
-command_parts heads.Edge values last allows = refl
-command_parts heads.Delete values last allows =
-    let id = values.1.1.1.0 in
-    let Made : Entry (Unit {0}) → Type 0 = λ entry. parts_of (commands.Delete (target_of (kind_named entry.0) id)) ≡ Blanks ∷ Exactly (codes "delete") ∷ Gap ∷ Exactly entry.0 ∷ Gap ∷ Number id ∷ Blanks ∷ [] in
-    let Here : Entry (Unit {0}) → Type 0 = λ entry. (values.1.0, tt) ≡ entry in
-    ⊎_elim
-    (λ (node : Here (codes "node", tt)). subst Made (sym node) refl)
-    (λ (later : Here (codes "edge", tt) ⊎ ⊥). ⊎_elim (λ (edge : Here (codes "edge", tt)). subst Made (sym edge) refl) (λ (none : ⊥). absurd none) later)
-    allows.1.0
-command_parts heads.Query values last allows = refl
-
-is_command : (head : Head) (values : Values (production head)) (last : LastValue head) → IsCommand (command_of head values last)
-is_command (heads.Alone words.Begin) values last = tt
-is_command (heads.Alone words.Commit) values last = tt
-is_command (heads.Alone words.Rollback) values last = tt
-is_command (heads.Alone words.Checkpoint) values last = tt
-is_command (heads.Alone words.Stats) values last = tt
-is_command (heads.Alone words.Reopen) values last = tt
-is_command (heads.Alone words.Quit) values last = tt
-is_command heads.Node values last = tt
-is_command heads.Edge values last = tt
-is_command heads.Delete values last = tt
-is_command heads.Query values last = last.1
-
-record Sentence (command : Command) : Type 0 where
-  pub head : Head
-  pub values : Values (production head)
-  pub allowed : AllowsAll (production head) values
-  pub last : LastValue head
-  pub is : command ≡ command_of head values last
-
-sentence_of : (command : Command) → IsCommand command → (command ≡ commands.Blank) ⊎ Sentence command
-sentence_of commands.Blank is = inl refl
-sentence_of commands.Begin is = inr (record { head = heads.Alone words.Begin; values = (tt, tt); allowed = (tt, tt); last = tt; is = refl })
-sentence_of commands.Commit is = inr (record { head = heads.Alone words.Commit; values = (tt, tt); allowed = (tt, tt); last = tt; is = refl })
-sentence_of commands.Rollback is = inr (record { head = heads.Alone words.Rollback; values = (tt, tt); allowed = (tt, tt); last = tt; is = refl })
-sentence_of commands.Checkpoint is = inr (record { head = heads.Alone words.Checkpoint; values = (tt, tt); allowed = (tt, tt); last = tt; is = refl })
-sentence_of commands.Stats is = inr (record { head = heads.Alone words.Stats; values = (tt, tt); allowed = (tt, tt); last = tt; is = refl })
-sentence_of commands.Reopen is = inr (record { head = heads.Alone words.Reopen; values = (tt, tt); allowed = (tt, tt); last = tt; is = refl })
-sentence_of commands.Quit is = inr (record { head = heads.Alone words.Quit; values = (tt, tt); allowed = (tt, tt); last = tt; is = refl })
-sentence_of (commands.Node label) is = inr (record { head = heads.Node; values = (tt, (label, (tt, tt))); allowed = (tt, (tt, (tt, tt))); last = tt; is = refl })
-sentence_of (commands.Edge from label to) is = inr (record {
-  head = heads.Edge;
-  values = (tt, (from, (tt, (label, (tt, (to, (tt, tt)))))));
-  allowed = (tt, (tt, (tt, (tt, (tt, (tt, (tt, tt)))))));
-  last = tt;
-  is = refl;
-})
-sentence_of (commands.Delete (targets.Edge id)) is = inr (record { head = heads.Delete; values = (tt, (codes "edge", (tt, (id, (tt, tt))))); allowed = (tt, (inr (inl refl), (tt, (tt, (tt, tt))))); last = tt; is = refl })
-sentence_of (commands.Delete (targets.Node id)) is = inr (record { head = heads.Delete; values = (tt, (codes "node", (tt, (id, (tt, tt))))); allowed = (tt, (inl refl, (tt, (tt, (tt, tt))))); last = tt; is = refl })
-sentence_of (commands.Query query) is = inr (record {
-  head = heads.Query;
-  values = (tt, (tt, (tt, (tt, (tt, (tt, (tt, (tt, (tt, tt)))))))));
-  allowed = (tt, (tt, (tt, (tt, (tt, (tt, (tt, (tt, (tt, tt)))))))));
-  last = (query.steps, is);
-  is = refl;
-})
-
-sentence_parts : (command : Command) → (sentence : Sentence command) → parts_of command ≡ Blanks ∷ Exactly (word_of sentence.head) ∷ tail_parts sentence.head sentence.values sentence.last
-sentence_parts command sentence = ap parts_of sentence.is ∙ command_parts sentence.head sentence.values sentence.last sentence.allowed
+use Rattle.gremlin_parse.proofs.Spelling.{parts_with, made_of_then, then_of_made, bad_then_of_parts, bad_then_map, bad_parts_choice, bad_follows_of_then, then_of_bad_follows, loosely_no_bad, no_bad_within}
+use Rattle.gremlin_parse.proofs.Repeats.{all_split}
+use Rattle.gremlin_parse.proofs.Pairs.{no_bad_pairs}
+use Rattle.gremlin_parse.proofs.Heads.{word_of, named, entry_word, enders, production_is, last_closes, bad_after_halts, word_halts, head_table, no_word_in_nothing}
+use Rattle.gremlin_parse.proofs.Commands.{spells_halts, Spelled, spelled_of_contents, contents_of_spelled, some_spelled, spelled_is_some, tail_parts, command_parts, is_command, Sentence, sentence_of, sentence_parts}
 
 -- ---- spelled by parts, and by the table
 
@@ -110,11 +34,11 @@ tail_of_spelled command line (is, made) =
     found)
     (λ (sentence : Sentence command).
     let head = sentence.head in
-    let parts = parts_with (production head) sentence.values in
-    let these : IsMadeOf (Blanks ∷ Exactly (word_of head) ∷ tail_parts head sentence.values sentence.last) line = subst (λ parts. IsMadeOf parts line) (sentence_parts command sentence) made in
+    let parts = parts_with (production head) sentence.contents in
+    let these : IsMadeOf (Blanks ∷ Exactly (word_of head) ∷ tail_parts head sentence.contents sentence.last) line = subst (λ parts. IsMadeOf parts line) (sentence_parts command sentence) made in
     let (prefix, rest, whole, are, (word, after, rest_is, word_is, tail)) = these in
-    let spelled : Spelled command head after = record { values = sentence.values; allowed = sentence.allowed; last = sentence.last; is = sentence.is; made = then_of_made parts (last_parts head sentence.last) after tail } in
-    let found : Then Blanks (IsTail command) line = (prefix, rest, whole, are, inr ((word_of head, head), lookup_in head_words (word_of head) head (named head), (word, after, rest_is, word_is, spelled_of_values command head after spelled))) in
+    let spelled : Spelled command head after = record { contents = sentence.contents; allowed = sentence.allowed; last = sentence.last; is = sentence.is; made = then_of_made parts (last_parts head sentence.last) after tail } in
+    let found : Then Blanks (IsTail command) line = (prefix, rest, whole, are, inr ((word_of head, head), lookup_in head_words (word_of head) head (named head), (word, after, rest_is, word_is, spelled_of_contents command head after spelled))) in
     found)
     (sentence_of command is)
 
@@ -123,11 +47,11 @@ spelled_of_tail command line (prefix, rest, whole, are, inl (blank, end)) =
     subst (SpellsLoosely line) (sym blank) (tt, (prefix, rest, whole, are, end))
 spelled_of_tail command line (prefix, rest, whole, are, inr (entry, within, (word, after, rest_is, word_is, spells))) =
     let head = entry.1 in
-    let spelled = values_of_spelled command head after spells in
-    let tail : IsMadeOf (tail_parts head spelled.values spelled.last) after = made_of_then (parts_with (production head) spelled.values) (last_parts head spelled.last) after spelled.made in
-    let these : IsMadeOf (Blanks ∷ Exactly (word_of head) ∷ tail_parts head spelled.values spelled.last) line = (prefix, rest, whole, are, (word, after, rest_is, word_is ∙ entry_word entry within, tail)) in
-    let made : IsMadeOf (parts_of (command_of head spelled.values spelled.last)) line = subst (λ parts. IsMadeOf parts line) (sym (command_parts head spelled.values spelled.last spelled.allowed)) these in
-    subst (SpellsLoosely line) (sym spelled.is) (is_command head spelled.values spelled.last, made)
+    let spelled = contents_of_spelled command head after spells in
+    let tail : IsMadeOf (tail_parts head spelled.contents spelled.last) after = made_of_then (parts_with (production head) spelled.contents) (last_parts head spelled.last) after spelled.made in
+    let these : IsMadeOf (Blanks ∷ Exactly (word_of head) ∷ tail_parts head spelled.contents spelled.last) line = (prefix, rest, whole, are, (word, after, rest_is, word_is ∙ entry_word entry within, tail)) in
+    let made : IsMadeOf (parts_of (command_of head spelled.contents spelled.last)) line = subst (λ parts. IsMadeOf parts line) (sym (command_parts head spelled.contents spelled.last spelled.allowed)) these in
+    subst (SpellsLoosely line) (sym spelled.is) (is_command head spelled.contents spelled.last, made)
 
 tail_halts : (command : Command) → Halts is_blank (IsTail command)
 tail_halts command = λ bytes tail. ends bytes tail
@@ -159,20 +83,20 @@ tail_some bytes (inr (entry, within, (word, after, whole, word_is, is))) =
 abbrev pub BadLine : Bads
 BadLine kind left line = (at : ℕ) × (at + left ≡ length line) × HasBadToken kind line at
 
-bad_at : (kind : BadToken) (before after : List Part) (this : Part) (prefix token rest : List ℕ) → IsMadeOf before prefix → IsPart this token → EndsToken this rest → IsOutOfBounds this kind → BadParts kind (length (token ++ rest)) (before ++ this ∷ after) (prefix ++ (token ++ rest))
+bad_at : (kind : BadToken) (before after : List Part) (this : Part) (prefix token rest : List ℕ) → IsMadeOf before prefix → IsPart this token → EndsToken this rest → IsOutOfBounds this kind → BadParts (before ++ this ∷ after) kind (length (token ++ rest)) (prefix ++ (token ++ rest))
 bad_at kind [] after this prefix token rest made part_is ends bad =
-    subst (λ p. BadParts kind (length (token ++ rest)) (this ∷ after) (p ++ (token ++ rest))) (sym made) (inl (token, rest, refl, part_is, ends, bad, refl))
+    subst (λ p. BadParts (this ∷ after) kind (length (token ++ rest)) (p ++ (token ++ rest))) (sym made) (inl (token, rest, refl, part_is, ends, bad, refl))
 bad_at kind (first ∷ before) after this prefix token rest (head, tail, whole, head_is, made) part_is ends bad =
     inr (head, tail ++ (token ++ rest), ap (λ p. p ++ (token ++ rest)) whole ∙ append_assoc head tail (token ++ rest), head_is, bad_at kind before after this tail token rest made part_is ends bad)
 
-bad_parts : (kind : BadToken) (line : List ℕ) (at left : ℕ) → at + left ≡ length line → (has : HasBadToken kind line at) → BadParts kind left (parts_of has.command) line
+bad_parts : (kind : BadToken) (line : List ℕ) (at left : ℕ) → at + left ≡ length line → (has : HasBadToken kind line at) → BadParts (parts_of has.command) kind left line
 bad_parts kind line at left place has =
     let found = bad_at kind has.before has.after has.part has.prefix has.token has.rest has.prefix_is has.token_is has.ends has.bad in
     let len : length line ≡ length has.prefix + length (has.token ++ has.rest) = ap length has.line_is ∙ length-append has.prefix (has.token ++ has.rest) in
     let left_is : length (has.token ++ has.rest) ≡ left = omega (arith, has.place, len, place) in
-    let moved : BadParts kind left (has.before ++ has.part ∷ has.after) (has.prefix ++ (has.token ++ has.rest)) = subst (λ n. BadParts kind n (has.before ++ has.part ∷ has.after) (has.prefix ++ (has.token ++ has.rest))) left_is found in
-    let these : BadParts kind left (has.before ++ has.part ∷ has.after) line = subst (BadParts kind left (has.before ++ has.part ∷ has.after)) (sym has.line_is) moved in
-    subst (λ parts. BadParts kind left parts line) (sym has.parts_are) these
+    let moved : BadParts (has.before ++ has.part ∷ has.after) kind left (has.prefix ++ (has.token ++ has.rest)) = subst (λ n. BadParts (has.before ++ has.part ∷ has.after) kind n (has.prefix ++ (has.token ++ has.rest))) left_is found in
+    let these : BadParts (has.before ++ has.part ∷ has.after) kind left line = subst (BadParts (has.before ++ has.part ∷ has.after) kind left) (sym has.line_is) moved in
+    subst (λ parts. BadParts parts kind left line) (sym has.parts_are) these
 
 -- such a token among the parts
 record FoundBad (kind : BadToken) (left : ℕ) (parts : List Part) (bytes : List ℕ) : Type 0 where
@@ -190,7 +114,7 @@ record FoundBad (kind : BadToken) (left : ℕ) (parts : List Part) (bytes : List
   pub bad : IsOutOfBounds part kind
   pub left_is : left ≡ length (token ++ rest)
 
-found_bad : (kind : BadToken) (left : ℕ) (parts : List Part) (bytes : List ℕ) → BadParts kind left parts bytes → FoundBad kind left parts bytes
+found_bad : (kind : BadToken) (left : ℕ) (parts : List Part) (bytes : List ℕ) → BadParts parts kind left bytes → FoundBad kind left parts bytes
 found_bad kind left [] bytes bad = absurd bad
 found_bad kind left (this ∷ parts) bytes (inl (token, rest, whole, part_is, ends, bad, left_is)) = record {
   before = [];
@@ -225,7 +149,7 @@ found_bad kind left (this ∷ parts) bytes (inr (first, tail, whole, first_is, l
       left_is = found.left_is;
     }
 
-bad_line : (command : Command) (kind : BadToken) (left : ℕ) (line : List ℕ) → IsCommand command → BadParts kind left (parts_of command) line → BadLine kind left line
+bad_line : (command : Command) (kind : BadToken) (left : ℕ) (line : List ℕ) → IsCommand command → BadParts (parts_of command) kind left line → BadLine kind left line
 bad_line command kind left line is bad =
     let found = found_bad kind left (parts_of command) line bad in
     let len : length line ≡ length found.prefix + length (found.token ++ found.rest) = ap length found.bytes_are ∙ length-append found.prefix (found.token ++ found.rest) in (
@@ -250,17 +174,12 @@ bad_line command kind left line is bad =
       },
     )
 
-last_no_bad : (head : Head) (last : LastValue head) → HasNoBad (last_parts head last)
-last_no_bad (heads.Alone word) last = λ kind left bytes bad. bad
-last_no_bad heads.Node last = λ kind left bytes bad. bad
-last_no_bad heads.Edge last = λ kind left bytes bad. bad
-last_no_bad heads.Delete last = λ kind left bytes bad. bad
-last_no_bad heads.Query last = loosely_no_bad (flat_map step_tokens last.0)
-
-some_last : (head : Head) → LastValue head
+some_last : (head : Head) → LastContent head
 some_last (heads.Alone word) = tt
-some_last heads.Node = tt
-some_last heads.Edge = tt
+some_last heads.Node = []
+some_last heads.Edge = []
+some_last heads.Set = tt
+some_last heads.Unset = tt
 some_last heads.Delete = tt
 some_last heads.Query = ([], omega arith)
 
@@ -268,31 +187,34 @@ some_last heads.Query = ([], omega arith)
 bad_onto : (kind : BadToken) (left : ℕ) (blanks bytes : List ℕ) → AreBlanks blanks → BadTail kind left bytes → BadLine kind left (blanks ++ bytes)
 bad_onto kind left blanks bytes are (entry, within, (word, after, whole, word_is, bad)) =
     let head = entry.1 in
-    let last = some_last head in
-    let found = parts_of_bad (production head) (production_is head) (last_parts head last) kind left after bad in
-    let these : BadParts kind left (Blanks ∷ Exactly (word_of head) ∷ tail_parts head found.values last) (blanks ++ bytes) = inr (blanks, bytes, refl, are, inr (word, after, whole, word_is ∙ entry_word entry within, found.bad)) in
-    bad_line (command_of head found.values last) kind left (blanks ++ bytes) (is_command head found.values last) (subst (λ parts. BadParts kind left parts (blanks ++ bytes)) (sym (command_parts head found.values last found.allowed)) these)
+    let found = then_of_bad_follows (enders head) (production head) (production_is head) (BadLast head) kind left after bad in
+    let (last, tail) = bad_parts_choice (LastContent head) (last_parts head) (some_last head) (parts_with (production head) found.contents) kind left after found.bad in
+    let these : BadParts (Blanks ∷ Exactly (word_of head) ∷ tail_parts head found.contents last) kind left (blanks ++ bytes) = inr (blanks, bytes, refl, are, inr (word, after, whole, word_is ∙ entry_word entry within, tail)) in
+    bad_line (command_of head found.contents last) kind left (blanks ++ bytes) (is_command head found.contents last) (subst (λ parts. BadParts parts kind left (blanks ++ bytes)) (sym (command_parts head found.contents last found.allowed)) these)
 
-bad_tail_of_sentence : (command : Command) (kind : BadToken) (left : ℕ) (line : List ℕ) → Sentence command → BadParts kind left (parts_of command) line → Then Blanks (BadTail kind left) line
-bad_tail_of_sentence command kind left line sentence bad = blanks_first (subst (λ parts. BadParts kind left parts line) (sentence_parts command sentence) bad)
+bad_tail_of_sentence : (command : Command) (kind : BadToken) (left : ℕ) (line : List ℕ) → Sentence command → BadParts (parts_of command) kind left line → Then Blanks (BadTail kind left) line
+bad_tail_of_sentence command kind left line sentence bad = blanks_first (subst (λ parts. BadParts parts kind left line) (sentence_parts command sentence) bad)
   where
-    word_first : (bytes : List ℕ) → BadParts kind left (Exactly (word_of sentence.head) ∷ tail_parts sentence.head sentence.values sentence.last) bytes → BadTail kind left bytes
+    word_first : (bytes : List ℕ) → BadParts (Exactly (word_of sentence.head) ∷ tail_parts sentence.head sentence.contents sentence.last) kind left bytes → BadTail kind left bytes
     word_first bytes (inl here) = absurd here.5
     word_first bytes (inr (word, after, whole, word_is, later)) =
-        ((word_of sentence.head, sentence.head), lookup_in head_words (word_of sentence.head) sentence.head (named sentence.head), (word, after, whole, word_is, bad_of_parts (production sentence.head) sentence.values sentence.allowed (last_parts sentence.head sentence.last) (last_no_bad sentence.head sentence.last) kind left after later))
+        let head = sentence.head in
+        let parts = parts_with (production head) sentence.contents in
+        let then = bad_then_map (BadParts (last_parts head sentence.last)) (BadLast head) kind left (λ rest these. (sentence.last, these)) parts after (bad_then_of_parts parts (last_parts head sentence.last) kind left after later) in
+        ((word_of head, head), lookup_in head_words (word_of head) head (named head), (word, after, whole, word_is, bad_follows_of_then (production head) sentence.contents sentence.allowed (BadLast head) kind left after then))
 
-    blanks_first : BadParts kind left (Blanks ∷ Exactly (word_of sentence.head) ∷ tail_parts sentence.head sentence.values sentence.last) line → Then Blanks (BadTail kind left) line
+    blanks_first : BadParts (Blanks ∷ Exactly (word_of sentence.head) ∷ tail_parts sentence.head sentence.contents sentence.last) kind left line → Then Blanks (BadTail kind left) line
     blanks_first (inl here) = absurd here.5
     blanks_first (inr (blanks, rest, whole, are, later)) = (blanks, rest, whole, are, word_first rest later)
 
-blank_no_bad : (kind : BadToken) (left : ℕ) (line : List ℕ) → ¬ BadParts kind left (Blanks ∷ []) line
-blank_no_bad kind left line = λ bad. ⊎_elim (λ (here : IsBadPart Blanks kind left line). absurd here.5) (λ ((prefix, rest, whole, are, later) : Then Blanks (BadParts kind left []) line). later) bad
+blank_no_bad : (kind : BadToken) (left : ℕ) (line : List ℕ) → ¬ BadParts (Blanks ∷ []) kind left line
+blank_no_bad kind left line = λ bad. ⊎_elim (λ (here : IsBadPart Blanks kind left line). absurd here.5) (λ ((prefix, rest, whole, are, later) : Then Blanks (BadParts [] kind left) line). later) bad
 
 bad_tail_of_line : (kind : BadToken) (left : ℕ) (line : List ℕ) → BadLine kind left line → Then Blanks (BadTail kind left) line
 bad_tail_of_line kind left line (at, place, has) =
     let bad = bad_parts kind line at left place has in
     ⊎_elim
-    (λ (blank : has.command ≡ commands.Blank). absurd (blank_no_bad kind left line (subst (λ c. BadParts kind left (parts_of c) line) blank bad)))
+    (λ (blank : has.command ≡ commands.Blank). absurd (blank_no_bad kind left line (subst (λ c. BadParts (parts_of c) kind left line) blank bad)))
     (λ (sentence : Sentence has.command). bad_tail_of_sentence has.command kind left line sentence bad)
     (sentence_of has.command has.in_grammar)
 
@@ -316,9 +238,15 @@ goes_line line bytes takes = record {
 pub stop_of_line : (Lack : Type 0) (line bytes : List ℕ) (stop : Stop) → Takes AnyBlanks tt line bytes → IsStop IsSomeTail BadTail Lack bytes stop → IsStop IsLine BadLine Lack line stop
 stop_of_line Lack line bytes stop takes at = stop_after IsLine BadLine Lack IsSomeTail BadTail Lack line takes.prefix bytes stop takes.bytes_are (λ lack. lack) (goes_line line bytes takes) at
 
-all_left : (P : Part → Type 0) (one two : List Part) → AllByRecursion P (one ++ two) → AllByRecursion P one
-all_left P [] two all = tt
-all_left P (first ∷ one) two all = (all.0, all_left P one two all.1)
+-- What stands last within its bounds leaves no bad token.
+last_no_bad : (head : Head) (last : LastContent head) → AllByRecursion IsBounded (last_parts head last) → (kind : BadToken) (left : ℕ) (rest : List ℕ) → IsMadeOf (last_parts head last) rest → ¬ BadLast head kind left rest
+last_no_bad (heads.Alone word) last within kind left rest made = λ bad. bad.1
+last_no_bad heads.Node pairs within kind left rest made = no_bad_pairs pairs rest within made kind left
+last_no_bad heads.Edge pairs within kind left rest made = no_bad_pairs pairs rest within made kind left
+last_no_bad heads.Set last within kind left rest made = λ bad. bad.1
+last_no_bad heads.Unset last within kind left rest made = λ bad. bad.1
+last_no_bad heads.Delete last within kind left rest made = λ bad. bad.1
+last_no_bad heads.Query few within kind left rest made = λ bad. loosely_no_bad (flat_map step_tokens bad.0.0) kind left rest bad.1
 
 -- A command within its bounds leaves no bad token.
 pub no_bad_tail : (command : Command) (bytes : List ℕ) → IsTail command bytes → KeepsBounds command → (kind : BadToken) (left : ℕ) → ¬ BadTail kind left bytes
@@ -326,8 +254,10 @@ no_bad_tail command bytes (inl (blank, end)) keeps kind left = λ bad. no_word_i
 no_bad_tail command bytes (inr word) keeps kind left = λ bad.
     let both = words_agree head_words head_table (SpellsAfter command) (λ head. BadAfter head kind left) (spells_halts command) (bad_after_halts kind left) bytes word bad in
     let head = both.kind in
-    let spelled = values_of_spelled command head both.rest both.one in
-    let parts = parts_with (production head) spelled.values in
+    let spelled = contents_of_spelled command head both.rest both.one in
+    let parts = parts_with (production head) spelled.contents in
     let last : List Part = last_parts head spelled.last in
-    let all : AllByRecursion IsBounded (Blanks ∷ Exactly (word_of head) ∷ (parts ++ last)) = subst (AllByRecursion IsBounded) (ap parts_of spelled.is ∙ command_parts head spelled.values spelled.last spelled.allowed) keeps in
-    no_bad_within (production head) (production_is head) spelled.values spelled.allowed (all_left IsBounded parts last all.1.1) (IsMadeOf last) (λ class rest made. (last_closes head).ends class rest (last_is head spelled.last rest made)) kind left both.rest spelled.made both.two
+    let all : AllByRecursion IsBounded (Blanks ∷ Exactly (word_of head) ∷ (parts ++ last)) = subst (AllByRecursion IsBounded) (ap parts_of spelled.is ∙ command_parts head spelled.contents spelled.last spelled.allowed) keeps in
+    let within = all_split parts last all.1.1 in
+    let closes = last_closes head in
+    no_bad_within (enders head) (production head) (production_is head) spelled.contents spelled.allowed within.0 (IsMadeOf last) (λ class halts rest made. closes.ends class halts rest (spelled.last, made)) (BadLast head) kind left (closes.bads_end kind left) (last_no_bad head spelled.last within.1 kind left) both.rest spelled.made both.two

@@ -1,7 +1,8 @@
 -- Runs of bytes that pass a test, and the byte after a run.
-use Rattle.std.proofs.Common.{◌≡◌, ℕ, suc, ◌+◌, Bool, true, false, not, ◌&&◌, List, [], ◌∷◌, ◌++◌, take, drop, refl, sym, ap, ◌∙◌, ⊎_elim, subst, arith}
+use Rattle.std.proofs.Common.{◌≡◌, ◌≢◌, ◌==◌, ℕ, suc, ◌+◌, Bool, true, false, not, ◌&&◌, ◌-◌, ◌≤◌, List, [], ◌∷◌, ◌++◌, length, get_or, take, drop, refl, sym, ap, ◌∙◌, ⊎_elim, subst, arith}
 use Rattle.std.specs.List.{prefix_len}
-use Rattle.std.proofs.lemmas.Bool.{cases_Bool, cond-true, cond-false}
+use Rattle.std.proofs.lemmas.Bool.{cases_Bool, cond-true, cond-false, eqb-true}
+use Rattle.std.proofs.lemmas.List.{take_rest}
 use Rattle.gremlin_parse.specs.Faults.{EndsRun}
 use Rattle.gremlin_parse.specs.Reading.{first_byte, Passes, CutsRun}
 
@@ -12,6 +13,11 @@ both false b is = cc
 pub turned : (a : Bool) → not a ≡ true → a ≡ false
 turned true is = cc
 turned false is = refl
+
+-- bytes by their first one, as a pattern has them
+pub first_and_rest : (bytes : List ℕ) → 1 ≤ length bytes → bytes ≡ get_or bytes 0 0 ∷ take (length bytes - 1) (drop 1 bytes)
+first_and_rest [] some = absurd (omega arith)
+first_and_rest (b ∷ bytes) some = ap (λ rest. b ∷ rest) (sym (take_rest (b ∷ bytes) 1))
 
 -- No line of the language begins with a byte that passes.
 abbrev pub Halts : (ℕ → Bool) → (List ℕ → Type 0) → Type 0
@@ -63,3 +69,12 @@ run_is_unique p (b ∷ run) (c ∷ other) rest more ps qs ends stops e =
     let heads : b ≡ c = cc in
     let (here, after) = run_is_unique p run other rest more ps.1 qs.1 ends stops tails in
     (cc, after)
+
+-- what a test for no bytes says
+pub not_empty : (bytes : List ℕ) (empty : Bool) → empty ≡ (length bytes == 0) → empty ≡ false → bytes ≢ []
+not_empty [] empty is fails = λ _. let clash : false ≡ true = sym fails ∙ is in cc
+not_empty (b ∷ bytes) empty is fails = λ none. cc
+
+pub is_nothing : (bytes : List ℕ) (empty : Bool) → empty ≡ (length bytes == 0) → empty ≡ true → bytes ≡ []
+is_nothing [] empty is holds = refl
+is_nothing (b ∷ bytes) empty is holds = let none = eqb-true (length (b ∷ bytes)) 0 (sym is ∙ holds) in absurd (omega (arith, none))

@@ -1,15 +1,22 @@
 -- The faults of a line that spells no command, with their places.
 use Rattle.std.specs.Prelude.{◌≡◌, ℕ, ◌≤◌, ◌<◌, Bool, false, List, [], ◌∷◌, ◌++◌, length, take}
+use Rattle.std.specs.Int.RustNames.{FitsSigned}
+use mir.Syntax.{w64}
 use Rattle.plain_graph.specs.declared.command.Command.{Command}
+use Rattle.plain_graph.specs.declared.value.Value.{Value}
+use Rattle.plain_graph.specs.declared.value.Value.TheVariants as values
 use Rattle.plain_graph.specs.Names.{is_name_byte}
 use Rattle.gremlin_parse.specs.Numbers.{is_digit}
-use Rattle.gremlin_parse.specs.Grammar.{Part, Blanks, Gap, Exactly, Name, Number, IsPart, IsMadeOf}
+use Rattle.gremlin_parse.specs.Grammar.{Part, Name, Number, Written, IsPart, IsMadeOf}
 use Rattle.gremlin_parse.specs.Grammar.{parts_of, IsCommand, IsLine, most_name_bytes, most_id}
+use Rattle.gremlin_parse.specs.Grammar.{most_text_bytes}
 use Rattle.gremlin_parse.specs.declared.bad_token.BadToken.{BadToken}
-use Rattle.gremlin_parse.specs.declared.bad_token.BadToken.TheVariants.{LongName, WideNumber}
+use Rattle.gremlin_parse.specs.declared.bad_token.BadToken.TheVariants.{LongName, LongText}
+use Rattle.gremlin_parse.specs.declared.bad_token.BadToken.TheVariants.{WideNumber}
 use Rattle.gremlin_parse.specs.declared.line_fault.LineFault.{LineFault}
 use Rattle.gremlin_parse.specs.declared.line_fault.LineFault.TheVariants.{Memory, Syntax}
-use Rattle.gremlin_parse.specs.declared.line_fault.LineFault.TheVariants.{NameLength, NumberRange}
+use Rattle.gremlin_parse.specs.declared.line_fault.LineFault.TheVariants.{NameLength, TextLength}
+use Rattle.gremlin_parse.specs.declared.line_fault.LineFault.TheVariants.{NumberRange}
 
 -- some line of the language begins with these bytes
 abbrev pub IsViable : (List ℕ → Type 0) → List ℕ → Type 0
@@ -27,23 +34,31 @@ abbrev pub EndsRun : (ℕ → Bool) → List ℕ → Type 0
 EndsRun p [] = Unit {0}
 EndsRun p (b ∷ bytes) = p b ≡ false
 
--- what stands after a name or a number ends it
+-- What stands after a number of a value ends it; a text is ended by its quote.
+abbrev pub EndsValue : Value → List ℕ → Type 0
+EndsValue (values.Int number) rest = EndsRun is_digit rest
+EndsValue (values.Bool truth) rest = ⊥
+EndsValue (values.Text text) rest = Unit {0}
+
+-- what stands after a name, a number or a value ends it
 abbrev pub EndsToken : Part → List ℕ → Type 0
-EndsToken Blanks rest = ⊥
-EndsToken Gap rest = ⊥
-EndsToken (Exactly word) rest = ⊥
 EndsToken (Name name) rest = EndsRun is_name_byte rest
 EndsToken (Number number) rest = EndsRun is_digit rest
+EndsToken (Written value) rest = EndsValue value rest
+EndsToken _ rest = ⊥
+
+-- The value is out of its bounds.
+abbrev pub IsBadValue : Value → BadToken → Type 0
+IsBadValue (values.Int number) WideNumber = ¬ FitsSigned w64 number
+IsBadValue (values.Text text) LongText = most_text_bytes < length text
+IsBadValue _ _ = ⊥
 
 -- The part is a token out of its bounds.
 abbrev pub IsOutOfBounds : Part → BadToken → Type 0
-IsOutOfBounds Blanks kind = ⊥
-IsOutOfBounds Gap kind = ⊥
-IsOutOfBounds (Exactly word) kind = ⊥
 IsOutOfBounds (Name name) LongName = most_name_bytes < length name
-IsOutOfBounds (Name name) WideNumber = ⊥
-IsOutOfBounds (Number number) LongName = ⊥
 IsOutOfBounds (Number number) WideNumber = most_id < number
+IsOutOfBounds (Written value) kind = IsBadValue value kind
+IsOutOfBounds _ _ = ⊥
 
 -- Such a token stands whole in the line at this place, where the grammar has it.
 pub record HasBadToken (kind : BadToken) (line : List ℕ) (at : ℕ) : Type 0 where
@@ -67,6 +82,7 @@ pub record HasBadToken (kind : BadToken) (line : List ℕ) (at : ℕ) : Type 0 w
 abbrev pub HasFault : List ℕ → LineFault → Type 0
 HasFault line (Syntax at) = (¬ IsLine line) × StopsAt IsLine line at
 HasFault line (NameLength at) = HasBadToken LongName line at
+HasFault line (TextLength at) = HasBadToken LongText line at
 HasFault line (NumberRange at) = HasBadToken WideNumber line at
 HasFault line Memory = ⊥
 
@@ -74,6 +90,7 @@ HasFault line Memory = ⊥
 abbrev pub place_of : LineFault → ℕ
 place_of (Syntax at) = at
 place_of (NameLength at) = at
+place_of (TextLength at) = at
 place_of (NumberRange at) = at
 place_of Memory = 0
 

@@ -3,18 +3,26 @@ use Rattle.std.specs.Prelude.{◌≡◌, ◌≢◌, ℕ, ◌≤◌, Bool, true, 
 use Rattle.std.specs.Prelude.{List, [], ◌∷◌, ◌++◌, length, codes, flat_map}
 use Rattle.std.specs.List.{AllByRecursion}
 use Rattle.plain_graph.specs.Names.{IsName}
+use Rattle.plain_graph.specs.Forms.{IsKept}
 use Rattle.plain_graph.specs.declared.command.Command.{Command}
 use Rattle.plain_graph.specs.declared.command.Command.TheVariants as commands
 use Rattle.plain_graph.specs.declared.command.Target.{Target}
 use Rattle.plain_graph.specs.declared.command.Target.TheVariants as targets
+use Rattle.plain_graph.specs.declared.pairs.Pair.{Pair}
 use Rattle.plain_graph.specs.declared.query.Query.{Query}
 use Rattle.plain_graph.specs.declared.query.Step.{Step}
 use Rattle.plain_graph.specs.declared.query.Step.TheVariants as steps
+use Rattle.plain_graph.specs.declared.value.Value.{Value}
 use Rattle.gremlin_parse.specs.Numbers.{IsNumber}
+use Rattle.gremlin_parse.specs.Values.{IsWritten}
 
 -- how many bytes a name has at most
 abbrev pub most_name_bytes : ℕ
 most_name_bytes = 48
+
+-- how many bytes a text has at most
+abbrev pub most_text_bytes : ℕ
+most_text_bytes = 1024
 
 -- the greatest identifier
 abbrev pub most_id : ℕ
@@ -28,13 +36,14 @@ abbrev pub AreBlanks : List ℕ → Type 0
 AreBlanks bytes = AllByRecursion (λ b. is_blank b ≡ true) bytes
 
 -- A part of a spelled command: any blanks, one blank or more, a word or a sign of the grammar,
--- a name, or a number.
+-- a name, an identifier's number, or a value.
 pub data Part : Type 0 where
   Blanks : Part
   Gap : Part
   Exactly : (word : List ℕ) → Part
   Name : (name : List ℕ) → Part
   Number : (number : ℕ) → Part
+  Written : (value : Value) → Part
 
 abbrev pub IsPart : Part → List ℕ → Type 0
 IsPart Blanks bytes = AreBlanks bytes
@@ -42,6 +51,7 @@ IsPart Gap bytes = AreBlanks bytes × (bytes ≢ [])
 IsPart (Exactly word) bytes = bytes ≡ word
 IsPart (Name name) bytes = (bytes ≡ name) × IsName name
 IsPart (Number number) bytes = IsNumber number bytes
+IsPart (Written value) bytes = IsWritten value bytes
 
 -- the bytes are these parts, one after the other
 abbrev pub IsMadeOf : List Part → List ℕ → Type 0
@@ -72,6 +82,14 @@ abbrev pub target_parts : Target → List Part
 target_parts (targets.Node id) = Exactly (codes "node") ∷ Gap ∷ Number id ∷ []
 target_parts (targets.Edge id) = Exactly (codes "edge") ∷ Gap ∷ Number id ∷ []
 
+-- a key and its value, after one blank or more
+abbrev pub pair_parts : Pair → List Part
+pair_parts pair = Gap ∷ Name pair.key ∷ Exactly (codes "=") ∷ Written pair.value ∷ []
+
+-- pairs, and any blanks
+abbrev pub pairs_to_end : List Pair → List Part
+pairs_to_end pairs = flat_map pair_parts pairs ++ Blanks ∷ []
+
 -- the parts that spell a command
 abbrev pub parts_of : Command → List Part
 parts_of commands.Blank = Blanks ∷ []
@@ -82,10 +100,17 @@ parts_of commands.Checkpoint = alone (codes "checkpoint")
 parts_of commands.Stats = alone (codes "stats")
 parts_of commands.Reopen = alone (codes "reopen")
 parts_of commands.Quit = alone (codes "quit")
-parts_of (commands.Node label) = Blanks ∷ Exactly (codes "node") ∷ Gap ∷ Name label ∷ Blanks ∷ []
-parts_of (commands.Edge from label to) =
+parts_of (commands.Node label pairs) =
+    Blanks ∷ Exactly (codes "node") ∷ Gap ∷ Name label ∷ pairs_to_end pairs
+parts_of (commands.Edge from label to pairs) =
     Blanks ∷ Exactly (codes "edge") ∷ Gap ∷ Number from ∷ Gap ∷ Name label ∷ Gap ∷ Number to
-    ∷ Blanks ∷ []
+    ∷ pairs_to_end pairs
+parts_of (commands.Set target key value) =
+    (Blanks ∷ Exactly (codes "set") ∷ Gap ∷ []) ++ target_parts target
+    ++ Gap ∷ Name key ∷ Gap ∷ Written value ∷ Blanks ∷ []
+parts_of (commands.Unset target key) =
+    (Blanks ∷ Exactly (codes "unset") ∷ Gap ∷ []) ++ target_parts target
+    ++ Gap ∷ Name key ∷ Blanks ∷ []
 parts_of (commands.Delete target) =
     (Blanks ∷ Exactly (codes "delete") ∷ Gap ∷ []) ++ target_parts target ++ Blanks ∷ []
 parts_of (commands.Query query) = Blanks ∷ loosely (query_tokens query)
@@ -102,6 +127,7 @@ IsBounded Gap = Unit {0}
 IsBounded (Exactly word) = Unit {0}
 IsBounded (Name name) = length name ≤ most_name_bytes
 IsBounded (Number number) = number ≤ most_id
+IsBounded (Written value) = IsKept value
 
 abbrev pub KeepsBounds : Command → Type 0
 KeepsBounds command = AllByRecursion IsBounded (parts_of command)
@@ -120,7 +146,9 @@ IsLine line = (command : Command) × SpellsLoosely line command
 
 -- The command is read without asking for memory.
 abbrev pub NeedsNoMemory : Command → Type 0
-NeedsNoMemory (commands.Node label) = ⊥
-NeedsNoMemory (commands.Edge from label to) = ⊥
+NeedsNoMemory (commands.Node label pairs) = ⊥
+NeedsNoMemory (commands.Edge from label to pairs) = ⊥
+NeedsNoMemory (commands.Set target key value) = ⊥
+NeedsNoMemory (commands.Unset target key) = ⊥
 NeedsNoMemory (commands.Query query) = ⊥
 NeedsNoMemory _ = Unit {0}

@@ -1,8 +1,11 @@
 pub mod Numbers
+pub mod Values
 pub mod Grammar
 pub mod Faults
 pub mod Reading
 pub mod Keywords
+pub mod Texts
 pub mod Symbols
 pub mod Stopping
 pub mod Commands
+pub mod Pairs

@@ -1,11 +1,13 @@
 -- What is left to read of a line: a reader is given the bytes from some place to the line's end.
-use Rattle.std.specs.Prelude.{◌≡◌, ◌≢◌, ℕ, Bool, true, Option, Some, None, List, [], ◌∷◌, ◌++◌}
+use Rattle.std.specs.Prelude.{◌≡◌, ◌≢◌, ◌⊎◌, ℕ, Bool, true, Option, Some, None}
+use Rattle.std.specs.Prelude.{List, [], ◌∷◌, ◌++◌}
 use Rattle.std.specs.Prelude.{length}
 use Rattle.std.specs.List.{AllByRecursion}
 use Rattle.plain_graph.specs.Names.{is_name_start}
 use Rattle.gremlin_parse.specs.Numbers.{is_digit}
 use Rattle.gremlin_parse.specs.Grammar.{Part, IsPart}
-use Rattle.gremlin_parse.specs.Faults.{IsViable, EndsRun}
+use Rattle.gremlin_parse.specs.Faults.{IsViable, EndsRun, EndsToken, IsOutOfBounds}
+use Rattle.gremlin_parse.specs.declared.bad_token.BadToken.{BadToken}
 
 abbrev pub first_byte : List ℕ → Option ℕ
 first_byte [] = None
@@ -47,6 +49,23 @@ abbrev pub Then : Part → (List ℕ → Type 0) → List ℕ → Type 0
 Then part Language bytes =
     (prefix : List ℕ) × (rest : List ℕ) × (bytes ≡ prefix ++ rest) × IsPart part prefix
     × Language rest
+
+-- the part is a token out of its bounds, whole at the head, `left` bytes from the end
+abbrev pub IsBadPart : Part → BadToken → ℕ → List ℕ → Type 0
+IsBadPart part kind left bytes =
+    (token : List ℕ) × (rest : List ℕ) × (bytes ≡ token ++ rest) × IsPart part token
+    × EndsToken part rest × IsOutOfBounds part kind × (left ≡ length bytes)
+
+-- One of these parts is such a token, or one after them is; the parts before it stand before it.
+abbrev pub BadThen :
+    List Part → (BadToken → ℕ → List ℕ → Type 0) → BadToken → ℕ → List ℕ → Type 0
+BadThen [] Bad kind left bytes = Bad kind left bytes
+BadThen (part ∷ parts) Bad kind left bytes =
+    IsBadPart part kind left bytes ⊎ Then part (BadThen parts Bad kind left) bytes
+
+-- one of these parts is such a token
+abbrev pub BadParts : List Part → BadToken → ℕ → List ℕ → Type 0
+BadParts parts kind left bytes = BadThen parts (λ _ _ _. ⊥) kind left bytes
 
 abbrev pub StartsName : List ℕ → Type 0
 StartsName [] = ⊥

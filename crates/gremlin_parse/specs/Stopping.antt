@@ -1,9 +1,11 @@
 -- Where and why reading stops, in one fact for every fault.
 use Rattle.std.specs.Prelude.{◌≡◌, ◌≤◌, ℕ, ◌-◌, List, [], ◌++◌, length}
+use Rattle.gremlin_parse.specs.Grammar.{Part, IsMadeOf}
 use Rattle.gremlin_parse.specs.Faults.{IsViable}
-use Rattle.gremlin_parse.specs.Reading.{StopsBefore}
+use Rattle.gremlin_parse.specs.Reading.{StopsBefore, BadParts}
 use Rattle.gremlin_parse.specs.declared.bad_token.BadToken.{BadToken}
-use Rattle.gremlin_parse.specs.declared.bad_token.BadToken.TheVariants.{LongName, WideNumber}
+use Rattle.gremlin_parse.specs.declared.bad_token.BadToken.TheVariants.{LongName, LongText}
+use Rattle.gremlin_parse.specs.declared.bad_token.BadToken.TheVariants.{WideNumber}
 use Rattle.gremlin_parse.specs.declared.line_fault.LineFault.{LineFault}
 use Rattle.gremlin_parse.specs.declared.line_fault.LineFault.TheVariants as faults
 use Rattle.gremlin_parse.specs.declared.stop.Stop.{Stop}
@@ -46,6 +48,15 @@ IsEnd bytes = bytes ≡ []
 abbrev pub NoBad : Bads
 NoBad kind left bytes = ⊥
 
+module _ {X : Type 0} (parts : X → List Part) where
+  -- the bytes are the parts of one of several values
+  abbrev pub IsOneOf : List ℕ → Type 0
+  IsOneOf bytes = (x : X) × IsMadeOf (parts x) bytes
+
+  -- a bad token among the parts of one of several values
+  abbrev pub BadInOne : Bads
+  BadInOne kind left bytes = (x : X) × BadParts (parts x) kind left bytes
+
 -- how many bytes from the end
 abbrev pub left_of : Stop → ℕ
 left_of stops.Memory = 0
@@ -54,6 +65,7 @@ left_of (stops.Bad kind left) = left
 
 abbrev pub bad_fault : BadToken → ℕ → LineFault
 bad_fault LongName at = faults.NameLength at
+bad_fault LongText at = faults.TextLength at
 bad_fault WideNumber at = faults.NumberRange at
 
 -- the fault of a line of so many bytes

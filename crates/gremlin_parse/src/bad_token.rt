@@ -3,6 +3,8 @@
 pub(crate) enum BadToken {
     /// A name of more than 48 bytes.
     LongName,
-    /// A number above 4,294,967,294.
+    /// A text of more than 1,024 bytes.
+    LongText,
+    /// An identifier above 4,294,967,294, or a number that 64 bits with a sign don't hold.
     WideNumber,
 }

@@ -8,12 +8,14 @@ ghost use Rattle.plain_graph.specs.declared.command.Command.TheVariants as comma
 
 use crate::head::{Head, read_head};
 use crate::number::read_number;
-use crate::parts::{read_end, read_gap, read_name, skip_blanks};
+use crate::pair::read_pairs;
+use crate::parts::{copy_name, read_end, read_gap, read_name, skip_blanks};
 use crate::query::parse_query;
 use crate::stop::Stop;
-use crate::target::{read_target, target_of};
+use crate::target::read_element;
+use crate::value::{read_value, value_of};
 use crate::word::{Word, plain_command};
-use plain_graph::{Command, Target, Text};
+use plain_graph::{Command, Target};
 use std::alloc::Global;
 
 /// The command or query that the bytes spell, from its first letter.
@@ -35,11 +37,19 @@ pub(crate) fn parse_tail(alloc: Global, bytes: &[u8]) -> Result<Command, Stop>
             Ok(command)
         }
         Head::Node => {
-            let label = parse_node(alloc, rest)?;
-            Ok(Command::Node { label })
+            let command = parse_node(alloc, rest)?;
+            Ok(command)
         }
         Head::Edge => {
             let command = parse_edge(alloc, rest)?;
+            Ok(command)
+        }
+        Head::Set => {
+            let command = parse_set(alloc, rest)?;
+            Ok(command)
+        }
+        Head::Unset => {
+            let command = parse_unset(alloc, rest)?;
             Ok(command)
         }
         Head::Delete => {
@@ -63,20 +73,20 @@ fn parse_alone(word: Word, bytes: &[u8]) -> Result<Command, Stop>
     Ok(plain_command(word))
 }
 
-/// The label after `node`.
-fn parse_node(alloc: Global, bytes: &[u8]) -> Result<Text, Stop>
-    ensures ok { IfOk result (λ label. SpellsAfter (commands.Node label) heads.Node bytes.now) }
-    ensures bounds { IfOk result (λ label. KeepsBounds (commands.Node label)) }
+/// The node after `node`: its label and its pairs.
+fn parse_node(alloc: Global, bytes: &[u8]) -> Result<Command, Stop>
+    ensures ok { IfOk result (λ command. SpellsAfter command heads.Node bytes.now) }
+    ensures bounds { IfOk result KeepsBounds }
     ensures err { IfErr result (StopsAfter heads.Node (Unit {0}) bytes.now) }
 {
-    let after_gap = read_gap(bytes)?;
-    let (label, after_label) = read_name(after_gap)?;
-    read_end(skip_blanks(after_label))?;
-    let copy = Vec::from_slice(alloc, label).map_err(|_| Stop::Memory)?;
-    Ok(Text::new(copy))
+    let at_name = read_gap(bytes)?;
+    let (name, after_name) = read_name(at_name)?;
+    let pairs = read_pairs(alloc, after_name)?;
+    let label = copy_name(alloc, name)?;
+    Ok(Command::Node { label, pairs })
 }
 
-/// The edge after `edge`: its source, its type and its target.
+/// The edge after `edge`: its source, its type, its target and its pairs.
 fn parse_edge(alloc: Global, bytes: &[u8]) -> Result<Command, Stop>
     ensures ok { IfOk result (λ command. SpellsAfter command heads.Edge bytes.now) }
     ensures bounds { IfOk result KeepsBounds }
@@ -88,10 +98,45 @@ fn parse_edge(alloc: Global, bytes: &[u8]) -> Result<Command, Stop>
     let (name, after_name) = read_name(at_name)?;
     let at_to = read_gap(after_name)?;
     let (to, after_to) = read_number(at_to)?;
-    read_end(skip_blanks(after_to))?;
-    let copy = Vec::from_slice(alloc, name).map_err(|_| Stop::Memory)?;
-    let label = Text::new(copy);
-    Ok(Command::Edge { from, label, to })
+    let pairs = read_pairs(alloc, after_to)?;
+    let label = copy_name(alloc, name)?;
+    Ok(Command::Edge {
+        from,
+        label,
+        to,
+        pairs,
+    })
+}
+
+/// The value for a key of an element, after `set`.
+fn parse_set(alloc: Global, bytes: &[u8]) -> Result<Command, Stop>
+    ensures ok { IfOk result (λ command. SpellsAfter command heads.Set bytes.now) }
+    ensures bounds { IfOk result KeepsBounds }
+    ensures err { IfErr result (StopsAfter heads.Set (Unit {0}) bytes.now) }
+{
+    let (target, after_target) = read_element(bytes)?;
+    let at_name = read_gap(after_target)?;
+    let (name, after_name) = read_name(at_name)?;
+    let at_value = read_gap(after_name)?;
+    let (written, after_value) = read_value(at_value)?;
+    read_end(skip_blanks(after_value))?;
+    let key = copy_name(alloc, name)?;
+    let value = value_of(alloc, written)?;
+    Ok(Command::Set { target, key, value })
+}
+
+/// The key of an element whose value goes, after `unset`.
+fn parse_unset(alloc: Global, bytes: &[u8]) -> Result<Command, Stop>
+    ensures ok { IfOk result (λ command. SpellsAfter command heads.Unset bytes.now) }
+    ensures bounds { IfOk result KeepsBounds }
+    ensures err { IfErr result (StopsAfter heads.Unset (Unit {0}) bytes.now) }
+{
+    let (target, after_target) = read_element(bytes)?;
+    let at_name = read_gap(after_target)?;
+    let (name, after_name) = read_name(at_name)?;
+    read_end(skip_blanks(after_name))?;
+    let key = copy_name(alloc, name)?;
+    Ok(Command::Unset { target, key })
 }
 
 /// What is taken away, after `delete`.
@@ -101,10 +146,7 @@ fn parse_delete(bytes: &[u8]) -> Result<Target, Stop>
     ensures bounds { IfOk result (λ target. KeepsBounds (commands.Delete target)) }
     ensures err { IfErr result (StopsAfter heads.Delete ⊥ bytes.now) }
 {
-    let after_gap = read_gap(bytes)?;
-    let (word, after_word) = read_target(after_gap)?;
-    let number = read_gap(after_word)?;
-    let (id, after_id) = read_number(number)?;
-    read_end(skip_blanks(after_id))?;
-    Ok(target_of(word, id))
+    let (target, rest) = read_element(bytes)?;
+    read_end(skip_blanks(rest))?;
+    Ok(target)
 }

@@ -13,11 +13,13 @@ pub(crate) enum Head {
     Alone(Word),
     Node,
     Edge,
+    Set,
+    Unset,
     Delete,
     Query,
 }
 
-const HEADS: [(&[u8], Head); 11] = [
+const HEADS: [(&[u8], Head); 13] = [
     (b"begin", Head::Alone(Word::Begin)),
     (b"commit", Head::Alone(Word::Commit)),
     (b"rollback", Head::Alone(Word::Rollback)),
@@ -27,6 +29,8 @@ const HEADS: [(&[u8], Head); 11] = [
     (b"quit", Head::Alone(Word::Quit)),
     (b"node", Head::Node),
     (b"edge", Head::Edge),
+    (b"set", Head::Set),
+    (b"unset", Head::Unset),
     (b"delete", Head::Delete),
     (b"g", Head::Query),
 ];

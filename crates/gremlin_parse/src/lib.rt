@@ -1,5 +1,5 @@
 //! The grammar of the console's lines, and the reader that gives a line's command or the leftmost
-//! fault with its place. A line is read once; its label is copied once.
+//! fault with its place. A line is read once; each of its names and texts is copied once.
 #![tactic(auto)]
 
 mod bad_token;
@@ -8,11 +8,14 @@ mod head;
 mod keyword;
 mod line_fault;
 mod number;
+mod pair;
 mod parts;
 mod query;
 mod reader;
 mod stop;
 mod target;
+mod text;
+mod value;
 mod word;
 
 pub use line_fault::LineFault;

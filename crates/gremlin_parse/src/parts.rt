@@ -8,7 +8,8 @@ ghost use Rattle.gremlin_parse.specs.Symbols.{Reads, ReadsToken, Leaves};
 use crate::bad_token::BadToken;
 use crate::keyword::word_len;
 use crate::stop::Stop;
-use plain_graph::{NAME_BYTES, is_name_start};
+use plain_graph::{NAME_BYTES, Text, is_name_start};
+use std::alloc::Global;
 
 /// The bytes after the blanks at the head.
 pub(crate) fn skip_blanks(bytes: &[u8]) -> &[u8]
@@ -101,6 +102,15 @@ pub(crate) fn read_name(bytes: &[u8]) -> Result<(&[u8], &[u8]), Stop>
         });
     }
     Ok(bytes.split_at(len))
+}
+
+/// The name once more.
+pub(crate) fn copy_name(alloc: Global, name: &[u8]) -> Result<Text, Stop>
+    ensures ok { IfOk result (λ text. text ≡ name.now) }
+    ensures err { IfErr result (λ stop. stop ≡ Stop.Memory) }
+{
+    let bytes = Vec::from_slice(alloc, name).map_err(|_| Stop::Memory)?;
+    Ok(Text::new(bytes))
 }
 
 /// Says that the line ends here.

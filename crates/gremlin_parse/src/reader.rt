@@ -1,5 +1,6 @@
 ghost use Rattle.std.specs.Prelude.{◌≡◌, ◌≢◌, ◌≤◌, length, IfOk, IfErr};
 ghost use Rattle.plain_graph.specs.declared.command.Command.{Command};
+ghost use Rattle.plain_graph.specs.Forms.{HasForm};
 ghost use Rattle.gremlin_parse.specs.Grammar.{Spells, NeedsNoMemory};
 ghost use Rattle.gremlin_parse.specs.Faults.{HasFault, IsLeftmostFault};
 ghost use Rattle.gremlin_parse.specs.Stopping.{left_of, fault_of};
@@ -13,14 +14,16 @@ use crate::stop::Stop;
 use plain_graph::Command;
 use std::alloc::Global;
 
-/// The command that the line spells, or its leftmost fault. Memory is asked for by a label, by
-/// the type of an edge and by the steps of a query alone.
+/// The command that the line spells, or its leftmost fault. Memory is asked for by names, by texts,
+/// by pairs and by the steps of a query alone.
 pub fn parse_line(alloc: Global, line: &[u8]) -> Result<Command, LineFault>
     // The line spells this command and no other, and has no fault.
     ensures spelled { IfOk result (λ command. Spells line.now command) }
     ensures only { IfOk result (λ command.
         (other : Command) → Spells line.now other → other ≡ command) }
     ensures no_fault { IfOk result (λ command. (fault : LineFault) → ¬ HasFault line.now fault) }
+    // Its labels and keys are names of at most 48 bytes, and its values are ones that a store keeps.
+    ensures form { IfOk result HasForm }
 
     // The line spells no command, and this is its leftmost fault.
     ensures fault { IfErr result (λ fault.
@@ -48,6 +51,7 @@ fn fault_of(stop: Stop, len: usize) -> LineFault
         Stop::Syntax { left } => LineFault::Syntax { at: len - left },
         Stop::Bad { token, left } => match token {
             BadToken::LongName => LineFault::NameLength { at: len - left },
+            BadToken::LongText => LineFault::TextLength { at: len - left },
             BadToken::WideNumber => LineFault::NumberRange { at: len - left },
         },
     }

@@ -1,6 +1,19 @@
 use super::*;
-use plain_graph::{Step, Target};
+use plain_graph::{Pairs, Step, Target, Value};
+use std::alloc::AllocError;
+use std::process::Abort;
 use std::test::Fail;
+
+/// A value that a line is wanted to give.
+#[derive(Clone, Copy)]
+enum Kept<'a> {
+    Int(i64),
+    Bool(bool),
+    Text(&'a [u8]),
+}
+
+/// A key and its value.
+type KeptPair<'a> = (&'a [u8], Kept<'a>);
 
 /// What a line is wanted to give.
 #[derive(Clone, Copy)]
@@ -14,13 +27,43 @@ enum Wanted<'a> {
     Reopen,
     Quit,
     Node(&'a [u8]),
+    NodeWith(&'a [u8], &'a [KeptPair<'a>]),
     Edge(u32, &'a [u8], u32),
+    EdgeWith(u32, &'a [u8], u32, &'a [KeptPair<'a>]),
+    Set(Target, &'a [u8], Kept<'a>),
+    Unset(Target, &'a [u8]),
     Delete(u32),
     DeleteEdge(u32),
     Query(&'a [Step]),
     Syntax(usize),
     NameLength(usize),
+    TextLength(usize),
     NumberRange(usize),
+}
+
+/// A name of 48 bytes.
+const LONGEST: &[u8] = b"abcdefghijklmnopqrstuvwxyz_0123456789ABCDEFGHIJK";
+
+fn is_kept(given: &Value, wanted: Kept) -> bool {
+    match (given, wanted) {
+        (Value::Int(number), Kept::Int(other)) => *number == other,
+        (Value::Bool(truth), Kept::Bool(other)) => *truth == other,
+        (Value::Text(text), Kept::Text(bytes)) => text.as_bytes() == bytes,
+        _ => false,
+    }
+}
+
+fn are_pairs(given: &Pairs, wanted: &[KeptPair]) -> bool {
+    let pairs = given.as_slice();
+    if pairs.len() != wanted.len() {
+        return false;
+    }
+    for (pair, (key, value)) in pairs.iter().zip(wanted) {
+        if pair.key.as_bytes() != *key || !is_kept(&pair.value, *value) {
+            return false;
+        }
+    }
+    true
 }
 
 fn is_wanted(given: &Result<Command, LineFault>, wanted: Wanted) -> bool {
@@ -33,282 +76,669 @@ fn is_wanted(given: &Result<Command, LineFault>, wanted: Wanted) -> bool {
         | (Ok(Command::Stats), Wanted::Stats)
         | (Ok(Command::Reopen), Wanted::Reopen)
         | (Ok(Command::Quit), Wanted::Quit) => true,
-        (Ok(Command::Node { label }), Wanted::Node(bytes)) => label.as_bytes() == bytes,
-        (Ok(Command::Edge { from, label, to }), Wanted::Edge(source, bytes, target)) => {
-            *from == source && label.as_bytes() == bytes && *to == target
+        (Ok(Command::Node { label, pairs }), Wanted::Node(bytes)) => {
+            label.as_bytes() == bytes && pairs.as_slice().is_empty()
+        }
+        (Ok(Command::Node { label, pairs }), Wanted::NodeWith(bytes, list)) => {
+            label.as_bytes() == bytes && are_pairs(pairs, list)
+        }
+        (
+            Ok(
+                Command::Edge {
+                    from,
+                    label,
+                    to,
+                    pairs,
+                },
+            ),
+            Wanted::Edge(source, bytes, target),
+        ) => {
+            *from == source
+                && label.as_bytes() == bytes
+                && *to == target
+                && pairs.as_slice().is_empty()
+        }
+        (
+            Ok(
+                Command::Edge {
+                    from,
+                    label,
+                    to,
+                    pairs,
+                },
+            ),
+            Wanted::EdgeWith(source, bytes, target, list),
+        ) => {
+            *from == source && label.as_bytes() == bytes && *to == target && are_pairs(pairs, list)
+        }
+        (Ok(Command::Set { target, key, value }), Wanted::Set(element, name, kept)) => {
+            *target == element && key.as_bytes() == name && is_kept(value, kept)
+        }
+        (Ok(Command::Unset { target, key }), Wanted::Unset(element, name)) => {
+            *target == element && key.as_bytes() == name
         }
         (Ok(Command::Delete(Target::Node(id))), Wanted::Delete(number))
         | (Ok(Command::Delete(Target::Edge(id))), Wanted::DeleteEdge(number)) => *id == number,
         (Ok(Command::Query(query)), Wanted::Query(steps)) => query.steps.as_slice() == steps,
         (Err(LineFault::Syntax { at }), Wanted::Syntax(place)) => *at == place,
         (Err(LineFault::NameLength { at }), Wanted::NameLength(place)) => *at == place,
+        (Err(LineFault::TextLength { at }), Wanted::TextLength(place)) => *at == place,
         (Err(LineFault::NumberRange { at }), Wanted::NumberRange(place)) => *at == place,
         _ => false,
     }
 }
 
-#[test]
-fn lines(rt: HostRuntime) {
-    let longest = b"abcdefghijklmnopqrstuvwxyz_0123456789ABCDEFGHIJK";
-    let table: [(&[u8], Wanted); 60] = [
-        (b"", Wanted::Blank),
-        (b" \t  ", Wanted::Blank),
-        (b"quit", Wanted::Quit),
-        (b" quit\t", Wanted::Quit),
-        (b"quit x", Wanted::Syntax(5)),
-        (b"quitx", Wanted::Syntax(4)),
-        (b"quit.", Wanted::Syntax(4)),
-        (b"qui", Wanted::Syntax(3)),
-        (b" q", Wanted::Syntax(2)),
-        (b"x", Wanted::Syntax(0)),
-        (b"  x", Wanted::Syntax(2)),
-        (b"\x00", Wanted::Syntax(0)),
-        (b"\xff", Wanted::Syntax(0)),
-        (b"node person", Wanted::Node(b"person")),
-        (b" \tnode\tperson ", Wanted::Node(b"person")),
-        (b"node _", Wanted::Node(b"_")),
-        (b"node _Z9a", Wanted::Node(b"_Z9a")),
-        (b"node node", Wanted::Node(b"node")),
-        (
-            b"node abcdefghijklmnopqrstuvwxyz_0123456789ABCDEFGHIJK",
-            Wanted::Node(longest),
-        ),
-        (
-            b"node abcdefghijklmnopqrstuvwxyz_0123456789ABCDEFGHIJKL",
-            Wanted::NameLength(5),
-        ),
-        (
-            b"node abcdefghijklmnopqrstuvwxyz_0123456789ABCDEFGHIJKL x",
-            Wanted::NameLength(5),
-        ),
-        (
-            b"node abcdefghijklmnopqrstuvwxyz_0123456789ABCDEFGHIJKL!",
-            Wanted::NameLength(5),
-        ),
-        (
-            b" node\t abcdefghijklmnopqrstuvwxyz_0123456789ABCDEFGHIJKL",
-            Wanted::NameLength(7),
-        ),
-        (b"nod", Wanted::Syntax(3)),
-        (b"node", Wanted::Syntax(4)),
-        (b"node ", Wanted::Syntax(5)),
-        (b"nodeperson", Wanted::Syntax(4)),
-        (b"node.a", Wanted::Syntax(4)),
-        (b"node 1a", Wanted::Syntax(5)),
-        (b"node a b", Wanted::Syntax(7)),
-        (b"node a!", Wanted::Syntax(6)),
-        (b"node a-b", Wanted::Syntax(6)),
-        (b"node a.b", Wanted::Syntax(6)),
-        (b"node a\x00", Wanted::Syntax(6)),
-        (b"Node a", Wanted::Syntax(0)),
-        (b"g.V()", Wanted::Query(&[])),
-        (b"g . V ( )", Wanted::Query(&[])),
-        (b"g.V().count()", Wanted::Query(&[Step::Count])),
-        (b" g.V( ) . count ( ) ", Wanted::Query(&[Step::Count])),
-        (
-            b"\tg\t.\tV\t(\t)\t.\tcount\t(\t)\t",
-            Wanted::Query(&[Step::Count]),
-        ),
-        (b"g", Wanted::Syntax(1)),
-        (b"gx", Wanted::Syntax(1)),
-        (b"g x", Wanted::Syntax(2)),
-        (b"g V()", Wanted::Syntax(2)),
-        (b"g.V", Wanted::Syntax(3)),
-        (b"g.V(", Wanted::Syntax(4)),
-        (b"g.E()", Wanted::Syntax(2)),
-        (b"g.v()", Wanted::Syntax(2)),
-        (b"g.V()x", Wanted::Syntax(5)),
-        (b"g.V() x", Wanted::Syntax(6)),
-        (b"g.V().", Wanted::Syntax(6)),
-        (b"g.V().foo()", Wanted::Syntax(6)),
-        (b"g.V().count", Wanted::Syntax(11)),
-        (b"g.V().count()x", Wanted::Syntax(13)),
-        (b"g.V().count().count()", Wanted::Syntax(13)),
-        (b"g . V ( ) . co unt()", Wanted::Syntax(14)),
-        (b"g . V ( ) . count ( ", Wanted::Syntax(20)),
-        (b"node begin", Wanted::Node(b"begin")),
-        (b"nodes", Wanted::Syntax(4)),
-        (b"g begin", Wanted::Syntax(2)),
-    ];
-    for (line, wanted) in table {
-        let given = parse_line(rt.alloc(), line);
-        assert!(rt; is_wanted(&given, wanted), "{line:?}");
+/// Each line gives what is wanted.
+fn all_wanted(rt: &impl Abort, alloc: Global, rows: &[(&[u8], Wanted)]) {
+    for (line, wanted) in rows {
+        let given = parse_line(alloc, line);
+        assert!(rt; is_wanted(&given, *wanted), "{line:?}");
     }
 }
+
+const LINE_ROWS: [(&[u8], Wanted); 60] = [
+    (b"", Wanted::Blank),
+    (b" \t  ", Wanted::Blank),
+    (b"quit", Wanted::Quit),
+    (b" quit\t", Wanted::Quit),
+    (b"quit x", Wanted::Syntax(5)),
+    (b"quitx", Wanted::Syntax(4)),
+    (b"quit.", Wanted::Syntax(4)),
+    (b"qui", Wanted::Syntax(3)),
+    (b" q", Wanted::Syntax(2)),
+    (b"x", Wanted::Syntax(0)),
+    (b"  x", Wanted::Syntax(2)),
+    (b"\x00", Wanted::Syntax(0)),
+    (b"\xff", Wanted::Syntax(0)),
+    (b"node person", Wanted::Node(b"person")),
+    (b" \tnode\tperson ", Wanted::Node(b"person")),
+    (b"node _", Wanted::Node(b"_")),
+    (b"node _Z9a", Wanted::Node(b"_Z9a")),
+    (b"node node", Wanted::Node(b"node")),
+    (
+        b"node abcdefghijklmnopqrstuvwxyz_0123456789ABCDEFGHIJK",
+        Wanted::Node(LONGEST),
+    ),
+    (
+        b"node abcdefghijklmnopqrstuvwxyz_0123456789ABCDEFGHIJKL",
+        Wanted::NameLength(5),
+    ),
+    (
+        b"node abcdefghijklmnopqrstuvwxyz_0123456789ABCDEFGHIJKL x",
+        Wanted::NameLength(5),
+    ),
+    (
+        b"node abcdefghijklmnopqrstuvwxyz_0123456789ABCDEFGHIJKL!",
+        Wanted::NameLength(5),
+    ),
+    (
+        b" node\t abcdefghijklmnopqrstuvwxyz_0123456789ABCDEFGHIJKL",
+        Wanted::NameLength(7),
+    ),
+    (b"nod", Wanted::Syntax(3)),
+    (b"node", Wanted::Syntax(4)),
+    (b"node ", Wanted::Syntax(5)),
+    (b"nodeperson", Wanted::Syntax(4)),
+    (b"node.a", Wanted::Syntax(4)),
+    (b"node 1a", Wanted::Syntax(5)),
+    (b"node a b", Wanted::Syntax(8)),
+    (b"node a!", Wanted::Syntax(6)),
+    (b"node a-b", Wanted::Syntax(6)),
+    (b"node a.b", Wanted::Syntax(6)),
+    (b"node a\x00", Wanted::Syntax(6)),
+    (b"Node a", Wanted::Syntax(0)),
+    (b"g.V()", Wanted::Query(&[])),
+    (b"g . V ( )", Wanted::Query(&[])),
+    (b"g.V().count()", Wanted::Query(&[Step::Count])),
+    (b" g.V( ) . count ( ) ", Wanted::Query(&[Step::Count])),
+    (
+        b"\tg\t.\tV\t(\t)\t.\tcount\t(\t)\t",
+        Wanted::Query(&[Step::Count]),
+    ),
+    (b"g", Wanted::Syntax(1)),
+    (b"gx", Wanted::Syntax(1)),
+    (b"g x", Wanted::Syntax(2)),
+    (b"g V()", Wanted::Syntax(2)),
+    (b"g.V", Wanted::Syntax(3)),
+    (b"g.V(", Wanted::Syntax(4)),
+    (b"g.E()", Wanted::Syntax(2)),
+    (b"g.v()", Wanted::Syntax(2)),
+    (b"g.V()x", Wanted::Syntax(5)),
+    (b"g.V() x", Wanted::Syntax(6)),
+    (b"g.V().", Wanted::Syntax(6)),
+    (b"g.V().foo()", Wanted::Syntax(6)),
+    (b"g.V().count", Wanted::Syntax(11)),
+    (b"g.V().count()x", Wanted::Syntax(13)),
+    (b"g.V().count().count()", Wanted::Syntax(13)),
+    (b"g . V ( ) . co unt()", Wanted::Syntax(14)),
+    (b"g . V ( ) . count ( ", Wanted::Syntax(20)),
+    (b"node begin", Wanted::Node(b"begin")),
+    (b"nodes", Wanted::Syntax(4)),
+    (b"g begin", Wanted::Syntax(2)),
+];
+
+#[test]
+fn lines(rt: HostRuntime) {
+    all_wanted(&rt, rt.alloc(), &LINE_ROWS);
+}
+
+const WORD_ROWS: [(&[u8], Wanted); 26] = [
+    (b"begin", Wanted::Begin),
+    (b" commit\t", Wanted::Commit),
+    (b"rollback", Wanted::Rollback),
+    (b"checkpoint ", Wanted::Checkpoint),
+    (b"stats", Wanted::Stats),
+    (b"reopen", Wanted::Reopen),
+    (b"b", Wanted::Syntax(1)),
+    (b"beginx", Wanted::Syntax(5)),
+    (b"begin x", Wanted::Syntax(6)),
+    (b"begin begin", Wanted::Syntax(6)),
+    (b"Begin", Wanted::Syntax(0)),
+    (b"c", Wanted::Syntax(1)),
+    (b"cx", Wanted::Syntax(1)),
+    (b"comit", Wanted::Syntax(3)),
+    (b"commit1", Wanted::Syntax(6)),
+    (b"commit_", Wanted::Syntax(6)),
+    (b"check", Wanted::Syntax(5)),
+    (b"checkpoin", Wanted::Syntax(9)),
+    (b"checkpoints", Wanted::Syntax(10)),
+    (b"r", Wanted::Syntax(1)),
+    (b"re", Wanted::Syntax(2)),
+    (b"ro", Wanted::Syntax(2)),
+    (b"reopn", Wanted::Syntax(4)),
+    (b"rollback!", Wanted::Syntax(8)),
+    (b"st", Wanted::Syntax(2)),
+    (b"stats.", Wanted::Syntax(5)),
+];
 
 #[test]
 fn words(rt: HostRuntime) {
-    let table: [(&[u8], Wanted); 26] = [
-        (b"begin", Wanted::Begin),
-        (b" commit\t", Wanted::Commit),
-        (b"rollback", Wanted::Rollback),
-        (b"checkpoint ", Wanted::Checkpoint),
-        (b"stats", Wanted::Stats),
-        (b"reopen", Wanted::Reopen),
-        (b"b", Wanted::Syntax(1)),
-        (b"beginx", Wanted::Syntax(5)),
-        (b"begin x", Wanted::Syntax(6)),
-        (b"begin begin", Wanted::Syntax(6)),
-        (b"Begin", Wanted::Syntax(0)),
-        (b"c", Wanted::Syntax(1)),
-        (b"cx", Wanted::Syntax(1)),
-        (b"comit", Wanted::Syntax(3)),
-        (b"commit1", Wanted::Syntax(6)),
-        (b"commit_", Wanted::Syntax(6)),
-        (b"check", Wanted::Syntax(5)),
-        (b"checkpoin", Wanted::Syntax(9)),
-        (b"checkpoints", Wanted::Syntax(10)),
-        (b"r", Wanted::Syntax(1)),
-        (b"re", Wanted::Syntax(2)),
-        (b"ro", Wanted::Syntax(2)),
-        (b"reopn", Wanted::Syntax(4)),
-        (b"rollback!", Wanted::Syntax(8)),
-        (b"st", Wanted::Syntax(2)),
-        (b"stats.", Wanted::Syntax(5)),
-    ];
-    for (line, wanted) in table {
-        let given = parse_line(rt.alloc(), line);
-        assert!(rt; is_wanted(&given, wanted), "{line:?}");
-    }
+    all_wanted(&rt, rt.alloc(), &WORD_ROWS);
 }
+
+const DELETION_ROWS: [(&[u8], Wanted); 39] = [
+    (b"d", Wanted::Syntax(1)),
+    (b"delete", Wanted::Syntax(6)),
+    (b"delete ", Wanted::Syntax(7)),
+    (b"deletenode 1", Wanted::Syntax(6)),
+    (b"delete nod", Wanted::Syntax(10)),
+    (b"delete nope 1", Wanted::Syntax(9)),
+    (b"delete edge 1", Wanted::DeleteEdge(1)),
+    (
+        b" delete\tedge  4294967294\t",
+        Wanted::DeleteEdge(4_294_967_294),
+    ),
+    (b"delete edge 4294967295", Wanted::NumberRange(12)),
+    (b"delete n", Wanted::Syntax(8)),
+    (b"delete e 1", Wanted::Syntax(8)),
+    (b"delete edg", Wanted::Syntax(10)),
+    (b"delete edge", Wanted::Syntax(11)),
+    (b"delete edges 1", Wanted::Syntax(11)),
+    (b"delete nodeedge 1", Wanted::Syntax(11)),
+    (b"delete edge x", Wanted::Syntax(12)),
+    (b"delete edge 00", Wanted::Syntax(13)),
+    (b"delete edge 1 2", Wanted::Syntax(14)),
+    (b"delete name 1", Wanted::Syntax(8)),
+    (b"delete 1", Wanted::Syntax(7)),
+    (b"delete node", Wanted::Syntax(11)),
+    (b"delete node7", Wanted::Syntax(11)),
+    (b"delete node ", Wanted::Syntax(12)),
+    (b"delete node x", Wanted::Syntax(12)),
+    (b"delete node -1", Wanted::Syntax(12)),
+    (b"delete node 0", Wanted::Delete(0)),
+    (b"delete  node\t7 ", Wanted::Delete(7)),
+    (b"\tdelete\tnode 1020", Wanted::Delete(1020)),
+    (b"delete node 4294967294", Wanted::Delete(4_294_967_294)),
+    (b"delete node 01", Wanted::Syntax(13)),
+    (b"delete node 00", Wanted::Syntax(13)),
+    (b"delete node 12a", Wanted::Syntax(14)),
+    (b"delete node 1 2", Wanted::Syntax(14)),
+    (b"delete node 4294967295", Wanted::NumberRange(12)),
+    (b"  delete node 4294967295 ", Wanted::NumberRange(14)),
+    (b"delete node 4294967295 x", Wanted::NumberRange(12)),
+    (b"delete node 42949672940", Wanted::NumberRange(12)),
+    (b"delete node 18446744073709551616", Wanted::NumberRange(12)),
+    (
+        b"delete node 99999999999999999999x",
+        Wanted::NumberRange(12),
+    ),
+];
 
 #[test]
 fn deletions(rt: HostRuntime) {
-    let table: [(&[u8], Wanted); 39] = [
-        (b"d", Wanted::Syntax(1)),
-        (b"delete", Wanted::Syntax(6)),
-        (b"delete ", Wanted::Syntax(7)),
-        (b"deletenode 1", Wanted::Syntax(6)),
-        (b"delete nod", Wanted::Syntax(10)),
-        (b"delete nope 1", Wanted::Syntax(9)),
-        (b"delete edge 1", Wanted::DeleteEdge(1)),
-        (
-            b" delete\tedge  4294967294\t",
-            Wanted::DeleteEdge(4_294_967_294),
-        ),
-        (b"delete edge 4294967295", Wanted::NumberRange(12)),
-        (b"delete n", Wanted::Syntax(8)),
-        (b"delete e 1", Wanted::Syntax(8)),
-        (b"delete edg", Wanted::Syntax(10)),
-        (b"delete edge", Wanted::Syntax(11)),
-        (b"delete edges 1", Wanted::Syntax(11)),
-        (b"delete nodeedge 1", Wanted::Syntax(11)),
-        (b"delete edge x", Wanted::Syntax(12)),
-        (b"delete edge 00", Wanted::Syntax(13)),
-        (b"delete edge 1 2", Wanted::Syntax(14)),
-        (b"delete name 1", Wanted::Syntax(8)),
-        (b"delete 1", Wanted::Syntax(7)),
-        (b"delete node", Wanted::Syntax(11)),
-        (b"delete node7", Wanted::Syntax(11)),
-        (b"delete node ", Wanted::Syntax(12)),
-        (b"delete node x", Wanted::Syntax(12)),
-        (b"delete node -1", Wanted::Syntax(12)),
-        (b"delete node 0", Wanted::Delete(0)),
-        (b"delete  node\t7 ", Wanted::Delete(7)),
-        (b"\tdelete\tnode 1020", Wanted::Delete(1020)),
-        (b"delete node 4294967294", Wanted::Delete(4_294_967_294)),
-        (b"delete node 01", Wanted::Syntax(13)),
-        (b"delete node 00", Wanted::Syntax(13)),
-        (b"delete node 12a", Wanted::Syntax(14)),
-        (b"delete node 1 2", Wanted::Syntax(14)),
-        (b"delete node 4294967295", Wanted::NumberRange(12)),
-        (b"  delete node 4294967295 ", Wanted::NumberRange(14)),
-        (b"delete node 4294967295 x", Wanted::NumberRange(12)),
-        (b"delete node 42949672940", Wanted::NumberRange(12)),
-        (b"delete node 18446744073709551616", Wanted::NumberRange(12)),
-        (
-            b"delete node 99999999999999999999x",
-            Wanted::NumberRange(12),
-        ),
-    ];
-    for (line, wanted) in table {
-        let given = parse_line(rt.alloc(), line);
-        assert!(rt; is_wanted(&given, wanted), "{line:?}");
-    }
+    all_wanted(&rt, rt.alloc(), &DELETION_ROWS);
 }
+
+const EDGE_ROWS: [(&[u8], Wanted); 51] = [
+    (b"edge 0 self 0", Wanted::Edge(0, b"self", 0)),
+    (b" \tedge\t0  knows \t1\t", Wanted::Edge(0, b"knows", 1)),
+    (b"edge 7 edge 12", Wanted::Edge(7, b"edge", 12)),
+    (b"edge 12 _Z9a 7", Wanted::Edge(12, b"_Z9a", 7)),
+    (b"edge 4294967294 T 0", Wanted::Edge(4_294_967_294, b"T", 0)),
+    (b"edge 0 T 4294967294", Wanted::Edge(0, b"T", 4_294_967_294)),
+    (
+        b"edge 1 abcdefghijklmnopqrstuvwxyz_0123456789ABCDEFGHIJK 2",
+        Wanted::Edge(1, LONGEST, 2),
+    ),
+    (b"e", Wanted::Syntax(1)),
+    (b"edg", Wanted::Syntax(3)),
+    (b"edge", Wanted::Syntax(4)),
+    (b"edge ", Wanted::Syntax(5)),
+    (b"edge 0", Wanted::Syntax(6)),
+    (b"edge 0 ", Wanted::Syntax(7)),
+    (b"edge 0 self", Wanted::Syntax(11)),
+    (b"edge 0 self ", Wanted::Syntax(12)),
+    (b"Edge 0 T 0", Wanted::Syntax(0)),
+    (b"edges 0 T 0", Wanted::Syntax(4)),
+    (b"edge0 T 0", Wanted::Syntax(4)),
+    (b"edge.0 T 0", Wanted::Syntax(4)),
+    (b"edge T 0 0", Wanted::Syntax(5)),
+    (b"edge -1 T 0", Wanted::Syntax(5)),
+    (b"edge node 0 T 0", Wanted::Syntax(5)),
+    (b"edge 00 T 0", Wanted::Syntax(6)),
+    (b"edge 0T 0", Wanted::Syntax(6)),
+    (b"edge 0!", Wanted::Syntax(6)),
+    (b"edge 1 2 3", Wanted::Syntax(7)),
+    (b"edge 0 'T' 0", Wanted::Syntax(7)),
+    (b"edge 0 T-1 0", Wanted::Syntax(8)),
+    (b"edge 0 T0", Wanted::Syntax(9)),
+    (b"edge 0 T T", Wanted::Syntax(9)),
+    (b"edge 0 T -1", Wanted::Syntax(9)),
+    (b"edge 0 T 01", Wanted::Syntax(10)),
+    (b"edge 0 T 0x", Wanted::Syntax(10)),
+    (b"edge 0 T 0.", Wanted::Syntax(10)),
+    (b"edge 0 T 0 x", Wanted::Syntax(12)),
+    (b"edge 0 T 0 1", Wanted::Syntax(11)),
+    (
+        b"edge 0 T 0 k=1",
+        Wanted::EdgeWith(0, b"T", 0, &[(b"k", Kept::Int(1))]),
+    ),
+    (b"edge 4294967295", Wanted::NumberRange(5)),
+    (b"edge 4294967295x", Wanted::NumberRange(5)),
+    (b" edge 4294967295 T 0", Wanted::NumberRange(6)),
+    (b"edge 42949672940 T x", Wanted::NumberRange(5)),
+    (b"edge 0 T 4294967295", Wanted::NumberRange(9)),
+    (b"edge 0 T 4294967295 x", Wanted::NumberRange(9)),
+    (b"edge 0 T 18446744073709551616!", Wanted::NumberRange(9)),
+    (b"edge 4294967295 T 4294967295", Wanted::NumberRange(5)),
+    (b"edge 0 0 4294967295", Wanted::Syntax(7)),
+    (
+        b"edge 0 abcdefghijklmnopqrstuvwxyz_0123456789ABCDEFGHIJKL 0",
+        Wanted::NameLength(7),
+    ),
+    (
+        b"edge 0 abcdefghijklmnopqrstuvwxyz_0123456789ABCDEFGHIJKL",
+        Wanted::NameLength(7),
+    ),
+    (
+        b"edge 0 abcdefghijklmnopqrstuvwxyz_0123456789ABCDEFGHIJKL!",
+        Wanted::NameLength(7),
+    ),
+    (
+        b"edge 0 abcdefghijklmnopqrstuvwxyz_0123456789ABCDEFGHIJKL 4294967295",
+        Wanted::NameLength(7),
+    ),
+    (
+        b"edge 4294967295 abcdefghijklmnopqrstuvwxyz_0123456789ABCDEFGHIJKL 0",
+        Wanted::NumberRange(5),
+    ),
+];
 
 #[test]
 fn edges(rt: HostRuntime) {
-    let longest = b"abcdefghijklmnopqrstuvwxyz_0123456789ABCDEFGHIJK";
-    let table: [(&[u8], Wanted); 51] = [
-        (b"edge 0 self 0", Wanted::Edge(0, b"self", 0)),
-        (b" \tedge\t0  knows \t1\t", Wanted::Edge(0, b"knows", 1)),
-        (b"edge 7 edge 12", Wanted::Edge(7, b"edge", 12)),
-        (b"edge 12 _Z9a 7", Wanted::Edge(12, b"_Z9a", 7)),
-        (b"edge 4294967294 T 0", Wanted::Edge(4_294_967_294, b"T", 0)),
-        (b"edge 0 T 4294967294", Wanted::Edge(0, b"T", 4_294_967_294)),
-        (
-            b"edge 1 abcdefghijklmnopqrstuvwxyz_0123456789ABCDEFGHIJK 2",
-            Wanted::Edge(1, longest, 2),
-        ),
-        (b"e", Wanted::Syntax(1)),
-        (b"edg", Wanted::Syntax(3)),
-        (b"edge", Wanted::Syntax(4)),
-        (b"edge ", Wanted::Syntax(5)),
-        (b"edge 0", Wanted::Syntax(6)),
-        (b"edge 0 ", Wanted::Syntax(7)),
-        (b"edge 0 self", Wanted::Syntax(11)),
-        (b"edge 0 self ", Wanted::Syntax(12)),
-        (b"Edge 0 T 0", Wanted::Syntax(0)),
-        (b"edges 0 T 0", Wanted::Syntax(4)),
-        (b"edge0 T 0", Wanted::Syntax(4)),
-        (b"edge.0 T 0", Wanted::Syntax(4)),
-        (b"edge T 0 0", Wanted::Syntax(5)),
-        (b"edge -1 T 0", Wanted::Syntax(5)),
-        (b"edge node 0 T 0", Wanted::Syntax(5)),
-        (b"edge 00 T 0", Wanted::Syntax(6)),
-        (b"edge 0T 0", Wanted::Syntax(6)),
-        (b"edge 0!", Wanted::Syntax(6)),
-        (b"edge 1 2 3", Wanted::Syntax(7)),
-        (b"edge 0 'T' 0", Wanted::Syntax(7)),
-        (b"edge 0 T-1 0", Wanted::Syntax(8)),
-        (b"edge 0 T0", Wanted::Syntax(9)),
-        (b"edge 0 T T", Wanted::Syntax(9)),
-        (b"edge 0 T -1", Wanted::Syntax(9)),
-        (b"edge 0 T 01", Wanted::Syntax(10)),
-        (b"edge 0 T 0x", Wanted::Syntax(10)),
-        (b"edge 0 T 0.", Wanted::Syntax(10)),
-        (b"edge 0 T 0 x", Wanted::Syntax(11)),
-        (b"edge 0 T 0 1", Wanted::Syntax(11)),
-        (b"edge 0 T 0 k=1", Wanted::Syntax(11)),
-        (b"edge 4294967295", Wanted::NumberRange(5)),
-        (b"edge 4294967295x", Wanted::NumberRange(5)),
-        (b" edge 4294967295 T 0", Wanted::NumberRange(6)),
-        (b"edge 42949672940 T x", Wanted::NumberRange(5)),
-        (b"edge 0 T 4294967295", Wanted::NumberRange(9)),
-        (b"edge 0 T 4294967295 x", Wanted::NumberRange(9)),
-        (b"edge 0 T 18446744073709551616!", Wanted::NumberRange(9)),
-        (b"edge 4294967295 T 4294967295", Wanted::NumberRange(5)),
-        (b"edge 0 0 4294967295", Wanted::Syntax(7)),
-        (
-            b"edge 0 abcdefghijklmnopqrstuvwxyz_0123456789ABCDEFGHIJKL 0",
-            Wanted::NameLength(7),
-        ),
-        (
-            b"edge 0 abcdefghijklmnopqrstuvwxyz_0123456789ABCDEFGHIJKL",
-            Wanted::NameLength(7),
-        ),
-        (
-            b"edge 0 abcdefghijklmnopqrstuvwxyz_0123456789ABCDEFGHIJKL!",
-            Wanted::NameLength(7),
-        ),
-        (
-            b"edge 0 abcdefghijklmnopqrstuvwxyz_0123456789ABCDEFGHIJKL 4294967295",
-            Wanted::NameLength(7),
-        ),
-        (
-            b"edge 4294967295 abcdefghijklmnopqrstuvwxyz_0123456789ABCDEFGHIJKL 0",
-            Wanted::NumberRange(5),
-        ),
-    ];
-    for (line, wanted) in table {
-        let given = parse_line(rt.alloc(), line);
-        assert!(rt; is_wanted(&given, wanted), "{line:?}");
-    }
+    all_wanted(&rt, rt.alloc(), &EDGE_ROWS);
 }
 
-/// Lines of the grammar.
-const LINES: [&[u8]; 12] = [
+const PAIR_ROWS: [(&[u8], Wanted); 36] = [
+    (
+        b"node a k=1",
+        Wanted::NodeWith(b"a", &[(b"k", Kept::Int(1))]),
+    ),
+    (
+        b" node a \tk=true  _=false\t",
+        Wanted::NodeWith(b"a", &[(b"k", Kept::Bool(true)), (b"_", Kept::Bool(false))]),
+    ),
+    (
+        b"node a k=1 k=2 k='1'",
+        Wanted::NodeWith(
+            b"a",
+            &[
+                (b"k", Kept::Int(1)),
+                (b"k", Kept::Int(2)),
+                (b"k", Kept::Text(b"1")),
+            ],
+        ),
+    ),
+    (
+        b"node true true=true",
+        Wanted::NodeWith(b"true", &[(b"true", Kept::Bool(true))]),
+    ),
+    (
+        b"edge 1 T 2 a=-7 b=\"x\" ",
+        Wanted::EdgeWith(
+            1,
+            b"T",
+            2,
+            &[(b"a", Kept::Int(-7)), (b"b", Kept::Text(b"x"))],
+        ),
+    ),
+    (b"node a ", Wanted::Node(b"a")),
+    (b"node a b", Wanted::Syntax(8)),
+    (b"node a b c", Wanted::Syntax(8)),
+    (b"node a k=", Wanted::Syntax(9)),
+    (b"node a k =1", Wanted::Syntax(8)),
+    (b"node a k= 1", Wanted::Syntax(9)),
+    (b"node a k==1", Wanted::Syntax(9)),
+    (b"node a =1", Wanted::Syntax(7)),
+    (b"node a=1", Wanted::Syntax(6)),
+    (b"node a 1=1", Wanted::Syntax(7)),
+    (b"node a 'k'=1", Wanted::Syntax(7)),
+    (b"node a k:1", Wanted::Syntax(8)),
+    (b"node a k=1,b=2", Wanted::Syntax(10)),
+    (b"node a k=1k=2", Wanted::Syntax(10)),
+    (b"node a k='1'k=2", Wanted::Syntax(12)),
+    (b"node a k=1 2", Wanted::Syntax(11)),
+    (b"node a k=1 b", Wanted::Syntax(12)),
+    (b"node a k=1 !", Wanted::Syntax(11)),
+    (b"edge 0 T k=1", Wanted::Syntax(9)),
+    (b"edge 0 T 1k=1", Wanted::Syntax(10)),
+    (b"begin k=1", Wanted::Syntax(6)),
+    (
+        b"node a abcdefghijklmnopqrstuvwxyz_0123456789ABCDEFGHIJK=1",
+        Wanted::NodeWith(
+            b"a",
+            &[(
+                b"abcdefghijklmnopqrstuvwxyz_0123456789ABCDEFGHIJK",
+                Kept::Int(1),
+            )],
+        ),
+    ),
+    (
+        b"node a abcdefghijklmnopqrstuvwxyz_0123456789ABCDEFGHIJKL=1",
+        Wanted::NameLength(7),
+    ),
+    (
+        b"node a k=1 abcdefghijklmnopqrstuvwxyz_0123456789ABCDEFGHIJKL",
+        Wanted::NameLength(11),
+    ),
+    (
+        b"node a k=9223372036854775808 abcdefghijklmnopqrstuvwxyz_0123456789ABCDEFGHIJKL=1",
+        Wanted::NumberRange(9),
+    ),
+    (
+        b"node a abcdefghijklmnopqrstuvwxyz_0123456789ABCDEFGHIJKL=9223372036854775808",
+        Wanted::NameLength(7),
+    ),
+    (
+        b"node abcdefghijklmnopqrstuvwxyz_0123456789ABCDEFGHIJKL k=9223372036854775808 !",
+        Wanted::NameLength(5),
+    ),
+    (
+        b"edge 4294967295 T 0 k=9223372036854775808",
+        Wanted::NumberRange(5),
+    ),
+    (
+        b"edge 4294967294 T 0 k=9223372036854775808",
+        Wanted::NumberRange(22),
+    ),
+    (b"node a k=9223372036854775808x", Wanted::NumberRange(9)),
+    (
+        b"node a k=1 b=-9223372036854775809 c='",
+        Wanted::NumberRange(13),
+    ),
+];
+
+#[test]
+fn pairs(rt: HostRuntime) {
+    all_wanted(&rt, rt.alloc(), &PAIR_ROWS);
+}
+
+/// The value of a set key.
+const VALUE_ROWS: [(&[u8], Kept); 35] = [
+    (b"0", Kept::Int(0)),
+    (b"-0", Kept::Int(0)),
+    (b"7", Kept::Int(7)),
+    (b"-7", Kept::Int(-7)),
+    (b"10\t", Kept::Int(10)),
+    (b"4294967296", Kept::Int(4_294_967_296)),
+    (b"9223372036854775807", Kept::Int(9_223_372_036_854_775_807)),
+    (
+        b"-9223372036854775808",
+        Kept::Int(-9_223_372_036_854_775_808),
+    ),
+    (
+        b"-9223372036854775807",
+        Kept::Int(-9_223_372_036_854_775_807),
+    ),
+    (b"true", Kept::Bool(true)),
+    (b"false ", Kept::Bool(false)),
+    (b"''", Kept::Text(b"")),
+    (b"\"\"", Kept::Text(b"")),
+    (b"'a'", Kept::Text(b"a")),
+    (b"\"a\" \t", Kept::Text(b"a")),
+    (b"'\"'", Kept::Text(b"\"")),
+    (b"\"'\"", Kept::Text(b"'")),
+    (b"'\\''", Kept::Text(b"'")),
+    (b"'\\\"'", Kept::Text(b"\"")),
+    (b"\"\\'\"", Kept::Text(b"'")),
+    (b"\"\\\"\"", Kept::Text(b"\"")),
+    (b"'\\\\'", Kept::Text(b"\\")),
+    (b"'\\\\\\''", Kept::Text(b"\\'")),
+    (b"'\\n\\r\\t'", Kept::Text(b"\n\r\t")),
+    (b"\"\\n\\r\\t\"", Kept::Text(b"\n\r\t")),
+    (b"'nrt'", Kept::Text(b"nrt")),
+    (b"'\\nn'", Kept::Text(b"\nn")),
+    (b"'a b=c d'", Kept::Text(b"a b=c d")),
+    (b"' '", Kept::Text(b" ")),
+    (b"'true'", Kept::Text(b"true")),
+    (b"'1'", Kept::Text(b"1")),
+    (b"'\x00\xff\x01'", Kept::Text(b"\x00\xff\x01")),
+    (b"'\xc3\xa4'", Kept::Text(b"\xc3\xa4")),
+    (b"'--'", Kept::Text(b"--")),
+    (b"'\\t\t'", Kept::Text(b"\t\t")),
+];
+
+#[test]
+fn values(rt: HostRuntime) -> Result<(), Fail> {
+    let alloc = rt.alloc();
+    for (bytes, kept) in VALUE_ROWS {
+        let mut line = Vec::from_slice(alloc, b"set node 3 k ")?;
+        line.extend_from_slice(bytes)?;
+        let given = parse_line(alloc, &line);
+        let wanted = Wanted::Set(Target::Node(3), b"k", kept);
+        assert!(rt; is_wanted(&given, wanted), "{line:?}");
+    }
+    Ok(())
+}
+
+/// The fault of bytes where a value is wanted, counted from the value's place.
+const VALUE_FAULT_ROWS: [(&[u8], Wanted); 45] = [
+    (b"", Wanted::Syntax(0)),
+    (b" ", Wanted::Syntax(1)),
+    (b"x", Wanted::Syntax(0)),
+    (b"!", Wanted::Syntax(0)),
+    (b"=1", Wanted::Syntax(0)),
+    (b"t", Wanted::Syntax(1)),
+    (b"tru", Wanted::Syntax(3)),
+    (b"truex", Wanted::Syntax(4)),
+    (b"true1", Wanted::Syntax(4)),
+    (b"true'", Wanted::Syntax(4)),
+    (b"fals", Wanted::Syntax(4)),
+    (b"falsee", Wanted::Syntax(5)),
+    (b"True", Wanted::Syntax(0)),
+    (b"tfalse", Wanted::Syntax(1)),
+    (b"012", Wanted::Syntax(1)),
+    (b"-012", Wanted::Syntax(2)),
+    (b"00", Wanted::Syntax(1)),
+    (b"-", Wanted::Syntax(1)),
+    (b"--1", Wanted::Syntax(1)),
+    (b"- 1", Wanted::Syntax(1)),
+    (b"-x", Wanted::Syntax(1)),
+    (b"+1", Wanted::Syntax(0)),
+    (b"1.5", Wanted::Syntax(1)),
+    (b"1e3", Wanted::Syntax(1)),
+    (b"1x", Wanted::Syntax(1)),
+    (b"1 2", Wanted::Syntax(2)),
+    (b"1'", Wanted::Syntax(1)),
+    (b"9223372036854775808", Wanted::NumberRange(0)),
+    (b"-9223372036854775809", Wanted::NumberRange(0)),
+    (b"18446744073709551616", Wanted::NumberRange(0)),
+    (b"-99999999999999999999", Wanted::NumberRange(0)),
+    (b"99999999999999999999x", Wanted::NumberRange(0)),
+    (b"9223372036854775808 !", Wanted::NumberRange(0)),
+    (b"'", Wanted::Syntax(1)),
+    (b"'a", Wanted::Syntax(2)),
+    (b"'a\"", Wanted::Syntax(3)),
+    (b"\"a'", Wanted::Syntax(3)),
+    (b"'a\\", Wanted::Syntax(3)),
+    (b"'a\\'", Wanted::Syntax(4)),
+    (b"'a\\x'", Wanted::Syntax(3)),
+    (b"'\\N'", Wanted::Syntax(2)),
+    (b"'\\0'", Wanted::Syntax(2)),
+    (b"'a'b", Wanted::Syntax(3)),
+    (b"''''", Wanted::Syntax(2)),
+    (b"'a' 'b'", Wanted::Syntax(4)),
+];
+
+#[test]
+fn faults_of_values(rt: HostRuntime) -> Result<(), Fail> {
+    let alloc = rt.alloc();
+    for (bytes, wanted) in VALUE_FAULT_ROWS {
+        let mut line = Vec::from_slice(alloc, b"set edge 7 some_key ")?;
+        line.extend_from_slice(bytes)?;
+        let given = parse_line(alloc, &line);
+        let wanted = match wanted {
+            Wanted::Syntax(at) => Wanted::Syntax(at.saturating_add(20)),
+            Wanted::NumberRange(at) => Wanted::NumberRange(at.saturating_add(20)),
+            other => other,
+        };
+        assert!(rt; is_wanted(&given, wanted), "{line:?}");
+    }
+    Ok(())
+}
+
+/// `set node 0 t`, a blank and a text of so many pieces.
+fn text_line(alloc: Global, count: usize, piece: &[u8]) -> Result<Vec<u8>, AllocError> {
+    let mut line = Vec::from_slice(alloc, b"set node 0 t '")?;
+    for _ in 0..count {
+        line.extend_from_slice(piece)?;
+    }
+    line.push(b'\'')?;
+    Ok(line)
+}
+
+/// A text may have 1,024 bytes, an escape counted as one.
+#[test]
+fn long_texts(rt: HostRuntime) -> Result<(), Fail> {
+    let alloc = rt.alloc();
+    let pieces: [(&[u8], u8); 3] = [(b"a", b'a'), (b"\\n", b'\n'), (b"\\'", b'\'')];
+    for (piece, byte) in pieces {
+        for count in [0, 1, 2, 1_023, 1_024] {
+            let line = text_line(alloc, count, piece)?;
+            let text = vec![in alloc; byte; count]?;
+            let given = parse_line(alloc, &line);
+            let wanted = Wanted::Set(Target::Node(0), b"t", Kept::Text(&text));
+            assert!(rt; is_wanted(&given, wanted), "{piece:?} {count}");
+        }
+        for count in [1_025, 1_026, 4_000] {
+            let mut line = text_line(alloc, count, piece)?;
+            let given = parse_line(alloc, &line);
+            assert!(rt;
+                is_wanted(&given, Wanted::TextLength(13)),
+                "{piece:?} {count}"
+            );
+            line.extend_from_slice(b"x")?;
+            let given = parse_line(alloc, &line);
+            assert!(rt;
+                is_wanted(&given, Wanted::TextLength(13)),
+                "{piece:?} {count}"
+            );
+            line.truncate(line.len().saturating_sub(2));
+            let given = parse_line(alloc, &line);
+            let end = line.len();
+            assert!(rt; is_wanted(&given, Wanted::Syntax(end)), "{piece:?} {count}");
+        }
+    }
+    Ok(())
+}
+
+const SET_ROWS: [(&[u8], Wanted); 42] = [
+    (
+        b"set node 0 k 1",
+        Wanted::Set(Target::Node(0), b"k", Kept::Int(1)),
+    ),
+    (
+        b"\tset  edge\t4294967294 k  'v' ",
+        Wanted::Set(Target::Edge(4_294_967_294), b"k", Kept::Text(b"v")),
+    ),
+    (b"unset node 0 k", Wanted::Unset(Target::Node(0), b"k")),
+    (
+        b" unset\tedge 12  _9\t",
+        Wanted::Unset(Target::Edge(12), b"_9"),
+    ),
+    (b"s", Wanted::Syntax(1)),
+    (b"se", Wanted::Syntax(2)),
+    (b"set", Wanted::Syntax(3)),
+    (b"sets node 0 k 1", Wanted::Syntax(3)),
+    (b"setnode 0 k 1", Wanted::Syntax(3)),
+    (b"set ", Wanted::Syntax(4)),
+    (b"set nod", Wanted::Syntax(7)),
+    (b"set 0 k 1", Wanted::Syntax(4)),
+    (b"set g 0 k 1", Wanted::Syntax(4)),
+    (b"set node", Wanted::Syntax(8)),
+    (b"set node k 1", Wanted::Syntax(9)),
+    (b"set node 0", Wanted::Syntax(10)),
+    (b"set node 0 ", Wanted::Syntax(11)),
+    (b"set node 0 1", Wanted::Syntax(11)),
+    (b"set node 0 k", Wanted::Syntax(12)),
+    (b"set node 0 k ", Wanted::Syntax(13)),
+    (b"set node 0 k=1", Wanted::Syntax(12)),
+    (b"set node 0 k1", Wanted::Syntax(13)),
+    (b"set node 0 k 1 x=2", Wanted::Syntax(15)),
+    (b"set node 00 k 1", Wanted::Syntax(10)),
+    (b"set node -1 k 1", Wanted::Syntax(9)),
+    (b"set node 4294967295 k 1", Wanted::NumberRange(9)),
+    (
+        b"set node 4294967295 k 9223372036854775808",
+        Wanted::NumberRange(9),
+    ),
+    (
+        b"set node 0 abcdefghijklmnopqrstuvwxyz_0123456789ABCDEFGHIJKL 1",
+        Wanted::NameLength(11),
+    ),
+    (
+        b"set node 0 abcdefghijklmnopqrstuvwxyz_0123456789ABCDEFGHIJK 1",
+        Wanted::Set(
+            Target::Node(0),
+            b"abcdefghijklmnopqrstuvwxyz_0123456789ABCDEFGHIJK",
+            Kept::Int(1),
+        ),
+    ),
+    (b"u", Wanted::Syntax(1)),
+    (b"unse", Wanted::Syntax(4)),
+    (b"unset", Wanted::Syntax(5)),
+    (b"unset node", Wanted::Syntax(10)),
+    (b"unset node 0", Wanted::Syntax(12)),
+    (b"unset node 0 ", Wanted::Syntax(13)),
+    (b"unset node 0 k 1", Wanted::Syntax(15)),
+    (b"unset node 0 k=1", Wanted::Syntax(14)),
+    (b"unset node 0 'k'", Wanted::Syntax(13)),
+    (b"unset edge 4294967295 k", Wanted::NumberRange(11)),
+    (
+        b"unset edge 0 abcdefghijklmnopqrstuvwxyz_0123456789ABCDEFGHIJKL",
+        Wanted::NameLength(13),
+    ),
+    (b"Set node 0 k 1", Wanted::Syntax(0)),
+    (b"st node 0 k 1", Wanted::Syntax(2)),
+];
+
+#[test]
+fn set_and_unset(rt: HostRuntime) {
+    all_wanted(&rt, rt.alloc(), &SET_ROWS);
+}
+
+/// Lines of the grammar, without a text.
+const LINES: [&[u8]; 19] = [
     b"rollback",
     b" commit ",
     b"\tcheckpoint",
@@ -321,12 +751,27 @@ const LINES: [&[u8]; 12] = [
     b" g . V ( ) . count ( ) ",
     b" quit\t",
     b" \t ",
+    b"node a k=true b=-20",
+    b" node\ta  key=0\t _2=-9223372036854775808 k=false ",
+    b"edge 1 T 2 k=9223372036854775807\tk=1 ",
+    b"set node 0 key -1",
+    b"\tset\tedge  4294967294 k\ttrue ",
+    b"unset edge 0 k",
+    b" unset  node 70\tkey ",
+];
+
+/// Lines of the grammar with texts.
+const TEXTS: [&[u8]; 4] = [
+    b"node a k='' b=\"\" c='a b'",
+    b" set edge 0 k  'it\\'s \\\\ a \\\"text\\\"\\r\\n\\t' ",
+    b"edge 0 T 0 k=\"it's\" b='\xff\x00' c=1",
+    b"set node 1 t \"\\\"\"\t",
 ];
 
 /// Each prefix of a line of the grammar is such a line too, or has its fault at its end.
 #[test]
 fn prefixes(rt: HostRuntime) {
-    for line in LINES {
+    for line in LINES.iter().chain(TEXTS.iter()) {
         for len in 0..line.len() {
             let given = parse_line(rt.alloc(), &line[..len]);
             assert!(rt;
@@ -334,6 +779,7 @@ fn prefixes(rt: HostRuntime) {
                 "{line:?} {len}"
             );
         }
+        assert!(rt; parse_line(rt.alloc(), line).is_ok(), "{line:?}");
     }
 }
 

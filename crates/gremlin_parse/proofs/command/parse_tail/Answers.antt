@@ -5,7 +5,10 @@ use Rattle.gremlin_parse.specs.Keywords.{TakesWord}
 use Rattle.gremlin_parse.specs.Commands.{head_words, LacksMemory}
 use Rattle.gremlin_parse.specs.declared.head.Head.{Head}
 use Rattle.gremlin_parse.specs.declared.head.Head.TheVariants as heads
-use Rattle.gremlin_parse.proofs.Heads.{tail_at_word, tail_after_word, tail_of_word, lacks_memory, query_keeps, not_empty}
+use Rattle.gremlin_parse.proofs.Runs.{not_empty}
+use Rattle.gremlin_parse.proofs.Heads.{tail_at_word, tail_after_word}
+use Rattle.gremlin_parse.proofs.Commands.{tail_of_word, lacks_memory}
+use Rattle.gremlin_parse.proofs.Queries.{query_keeps}
 use Rattle.gremlin_parse.proofs.command.parse_tail.Goals as goal
 
 pub returns-in_err-head-clause-err : goal.returns-in_err-head-clause-err
@@ -19,18 +22,17 @@ returns-in_err-command-in-Alone-clause-err c =
     let p = err_from_is_err_and c.from_residual-in_err-command-in-Alone.result c.from_residual-in_err-command-in-Alone.ensures.1 in
     let bytes = c.args.bytes.now in
     let rest = c.in_ok-head.rest.now in
-    let head = heads.Alone c.in-Alone.word in
     let takes = subst (λ (h : Head). TakesWord head_words bytes h rest) c.in-Alone.is c.in_ok-head.ensures.ok in
-    rw (p.1, p.2) (tail_after_word (LacksMemory bytes) ⊥ bytes rest head c.in_err-command-in-Alone.field-0.0 (not_empty bytes c.is_empty.result c.is_empty.ensures c.if-is_empty.false) (λ none. absurd none) takes c.in_err-command-in-Alone.ensures.err)
+    rw (p.1, p.2) (tail_after_word (LacksMemory bytes) ⊥ bytes rest (heads.Alone c.in-Alone.word) c.in_err-command-in-Alone.field-0.0 (not_empty bytes c.is_empty.result c.is_empty.ensures c.if-is_empty.false) (λ none. absurd none) takes c.in_err-command-in-Alone.ensures.err)
 
-pub returns-in_err-label-in-Node-clause-err : goal.returns-in_err-label-in-Node-clause-err
-returns-in_err-label-in-Node-clause-err c =
-    let p = err_from_is_err_and c.from_residual-in_err-label-in-Node.result c.from_residual-in_err-label-in-Node.ensures.1 in
+pub returns-in_err-command-in-Node-clause-err : goal.returns-in_err-command-in-Node-clause-err
+returns-in_err-command-in-Node-clause-err c =
+    let p = err_from_is_err_and c.from_residual-in_err-command-in-Node.result c.from_residual-in_err-command-in-Node.ensures.1 in
     let bytes = c.args.bytes.now in
     let rest = c.in_ok-head.rest.now in
     let some = not_empty bytes c.is_empty.result c.is_empty.ensures c.if-is_empty.false in
     let takes = subst (λ (h : Head). TakesWord head_words bytes h rest) c.in-Node.is c.in_ok-head.ensures.ok in
-    rw (p.1, p.2) (tail_after_word (LacksMemory bytes) (Unit {0}) bytes rest heads.Node c.in_err-label-in-Node.field-0.0 some (λ lack. lacks_memory heads.Node (λ values last none. none) bytes rest some takes) takes c.in_err-label-in-Node.ensures.err)
+    rw (p.1, p.2) (tail_after_word (LacksMemory bytes) (Unit {0}) bytes rest heads.Node c.in_err-command-in-Node.field-0.0 some (λ lack. lacks_memory heads.Node (λ contents last none. none) bytes rest some takes) takes c.in_err-command-in-Node.ensures.err)
 
 pub returns-in_err-command-in-Edge-clause-err : goal.returns-in_err-command-in-Edge-clause-err
 returns-in_err-command-in-Edge-clause-err c =
@@ -39,7 +41,25 @@ returns-in_err-command-in-Edge-clause-err c =
     let rest = c.in_ok-head.rest.now in
     let some = not_empty bytes c.is_empty.result c.is_empty.ensures c.if-is_empty.false in
     let takes = subst (λ (h : Head). TakesWord head_words bytes h rest) c.in-Edge.is c.in_ok-head.ensures.ok in
-    rw (p.1, p.2) (tail_after_word (LacksMemory bytes) (Unit {0}) bytes rest heads.Edge c.in_err-command-in-Edge.field-0.0 some (λ lack. lacks_memory heads.Edge (λ values last none. none) bytes rest some takes) takes c.in_err-command-in-Edge.ensures.err)
+    rw (p.1, p.2) (tail_after_word (LacksMemory bytes) (Unit {0}) bytes rest heads.Edge c.in_err-command-in-Edge.field-0.0 some (λ lack. lacks_memory heads.Edge (λ contents last none. none) bytes rest some takes) takes c.in_err-command-in-Edge.ensures.err)
+
+pub returns-in_err-command-in-Set-clause-err : goal.returns-in_err-command-in-Set-clause-err
+returns-in_err-command-in-Set-clause-err c =
+    let p = err_from_is_err_and c.from_residual-in_err-command-in-Set.result c.from_residual-in_err-command-in-Set.ensures.1 in
+    let bytes = c.args.bytes.now in
+    let rest = c.in_ok-head.rest.now in
+    let some = not_empty bytes c.is_empty.result c.is_empty.ensures c.if-is_empty.false in
+    let takes = subst (λ (h : Head). TakesWord head_words bytes h rest) c.in-Set.is c.in_ok-head.ensures.ok in
+    rw (p.1, p.2) (tail_after_word (LacksMemory bytes) (Unit {0}) bytes rest heads.Set c.in_err-command-in-Set.field-0.0 some (λ lack. lacks_memory heads.Set (λ contents last none. none) bytes rest some takes) takes c.in_err-command-in-Set.ensures.err)
+
+pub returns-in_err-command-in-Unset-clause-err : goal.returns-in_err-command-in-Unset-clause-err
+returns-in_err-command-in-Unset-clause-err c =
+    let p = err_from_is_err_and c.from_residual-in_err-command-in-Unset.result c.from_residual-in_err-command-in-Unset.ensures.1 in
+    let bytes = c.args.bytes.now in
+    let rest = c.in_ok-head.rest.now in
+    let some = not_empty bytes c.is_empty.result c.is_empty.ensures c.if-is_empty.false in
+    let takes = subst (λ (h : Head). TakesWord head_words bytes h rest) c.in-Unset.is c.in_ok-head.ensures.ok in
+    rw (p.1, p.2) (tail_after_word (LacksMemory bytes) (Unit {0}) bytes rest heads.Unset c.in_err-command-in-Unset.field-0.0 some (λ lack. lacks_memory heads.Unset (λ contents last none. none) bytes rest some takes) takes c.in_err-command-in-Unset.ensures.err)
 
 pub returns-in_err-target-in-Delete-clause-err : goal.returns-in_err-target-in-Delete-clause-err
 returns-in_err-target-in-Delete-clause-err c =
@@ -56,22 +76,21 @@ returns-in_err-query-in-Query-clause-err c =
     let rest = c.in_ok-head.rest.now in
     let some = not_empty bytes c.is_empty.result c.is_empty.ensures c.if-is_empty.false in
     let takes = subst (λ (h : Head). TakesWord head_words bytes h rest) c.in-Query.is c.in_ok-head.ensures.ok in
-    rw (p.1, p.2) (tail_after_word (LacksMemory bytes) (Unit {0}) bytes rest heads.Query c.in_err-query-in-Query.field-0.0 some (λ lack. lacks_memory heads.Query (λ values last none. none) bytes rest some takes) takes c.in_err-query-in-Query.ensures.err)
+    rw (p.1, p.2) (tail_after_word (LacksMemory bytes) (Unit {0}) bytes rest heads.Query c.in_err-query-in-Query.field-0.0 some (λ lack. lacks_memory heads.Query (λ contents last none. none) bytes rest some takes) takes c.in_err-query-in-Query.ensures.err)
 
 pub returns-in_ok-command-in-Alone-clause-ok : goal.returns-in_ok-command-in-Alone-clause-ok
 returns-in_ok-command-in-Alone-clause-ok c =
     let bytes = c.args.bytes.now in
     let rest = c.in_ok-head.rest.now in
-    let head = heads.Alone c.in-Alone.word in
     let takes = subst (λ (h : Head). TakesWord head_words bytes h rest) c.in-Alone.is c.in_ok-head.ensures.ok in
-    tail_of_word c.in_ok-command-in-Alone.command head bytes rest takes c.in_ok-command-in-Alone.ensures.ok
+    tail_of_word c.in_ok-command-in-Alone.command (heads.Alone c.in-Alone.word) bytes rest takes c.in_ok-command-in-Alone.ensures.ok
 
-pub returns-in_ok-label-in-Node-clause-ok : goal.returns-in_ok-label-in-Node-clause-ok
-returns-in_ok-label-in-Node-clause-ok c =
+pub returns-in_ok-command-in-Node-clause-ok : goal.returns-in_ok-command-in-Node-clause-ok
+returns-in_ok-command-in-Node-clause-ok c =
     let bytes = c.args.bytes.now in
     let rest = c.in_ok-head.rest.now in
     let takes = subst (λ (h : Head). TakesWord head_words bytes h rest) c.in-Node.is c.in_ok-head.ensures.ok in
-    tail_of_word (commands.Node c.in_ok-label-in-Node.label) heads.Node bytes rest takes c.in_ok-label-in-Node.ensures.ok
+    tail_of_word c.in_ok-command-in-Node.command heads.Node bytes rest takes c.in_ok-command-in-Node.ensures.ok
 
 pub returns-in_ok-command-in-Edge-clause-ok : goal.returns-in_ok-command-in-Edge-clause-ok
 returns-in_ok-command-in-Edge-clause-ok c =
@@ -79,6 +98,20 @@ returns-in_ok-command-in-Edge-clause-ok c =
     let rest = c.in_ok-head.rest.now in
     let takes = subst (λ (h : Head). TakesWord head_words bytes h rest) c.in-Edge.is c.in_ok-head.ensures.ok in
     tail_of_word c.in_ok-command-in-Edge.command heads.Edge bytes rest takes c.in_ok-command-in-Edge.ensures.ok
+
+pub returns-in_ok-command-in-Set-clause-ok : goal.returns-in_ok-command-in-Set-clause-ok
+returns-in_ok-command-in-Set-clause-ok c =
+    let bytes = c.args.bytes.now in
+    let rest = c.in_ok-head.rest.now in
+    let takes = subst (λ (h : Head). TakesWord head_words bytes h rest) c.in-Set.is c.in_ok-head.ensures.ok in
+    tail_of_word c.in_ok-command-in-Set.command heads.Set bytes rest takes c.in_ok-command-in-Set.ensures.ok
+
+pub returns-in_ok-command-in-Unset-clause-ok : goal.returns-in_ok-command-in-Unset-clause-ok
+returns-in_ok-command-in-Unset-clause-ok c =
+    let bytes = c.args.bytes.now in
+    let rest = c.in_ok-head.rest.now in
+    let takes = subst (λ (h : Head). TakesWord head_words bytes h rest) c.in-Unset.is c.in_ok-head.ensures.ok in
+    tail_of_word c.in_ok-command-in-Unset.command heads.Unset bytes rest takes c.in_ok-command-in-Unset.ensures.ok
 
 pub returns-in_ok-target-in-Delete-clause-ok : goal.returns-in_ok-target-in-Delete-clause-ok
 returns-in_ok-target-in-Delete-clause-ok c =

@@ -1,6 +1,7 @@
 use Rattle.std.proofs.Common.{rules}
 use Rattle.std.proofs.lemmas.Result.{err_from_is_err_and}
-use Rattle.gremlin_parse.proofs.Heads.{query_stop_in_vertices, query_stop_in_count, query_stop_at_end, query_of_vertices, query_of_count, not_empty, is_nothing}
+use Rattle.gremlin_parse.proofs.Runs.{not_empty, is_nothing}
+use Rattle.gremlin_parse.proofs.Queries.{query_stop_in_vertices, query_stop_in_count, query_stop_at_end, query_of_vertices, query_of_count}
 use Rattle.gremlin_parse.proofs.query.parse_query.Goals as goal
 
 pub returns-in_err-after_vertices-clause-err : goal.returns-in_err-after_vertices-clause-err

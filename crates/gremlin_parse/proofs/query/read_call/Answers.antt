@@ -1,7 +1,7 @@
 use Rattle.std.proofs.Common.{List, ◌∷◌, [], inl, codes}
 use Rattle.std.proofs.lemmas.Result.{err_from_is_err_and}
 use Rattle.gremlin_parse.specs.Symbols.{Symbol, Sign, AnyBlanks}
-use Rattle.gremlin_parse.proofs.Heads.{leaves_later}
+use Rattle.gremlin_parse.proofs.Queries.{leaves_later}
 use Rattle.gremlin_parse.proofs.query.read_call.Goals as goal
 
 abbrev close : List Symbol

@@ -1,0 +1,233 @@
+-- A command and the contents of its production: its parts, its bounds, and that one tail is of one command.
+use Rattle.std.proofs.Common.{◌≡◌, ◌≢◌, ◌⊎◌, inl, inr, ℕ, List, [], ◌∷◌, ◌++◌, codes, refl, sym, ap, ◌∙◌, subst, ⊎_elim}
+use Rattle.std.specs.List.{AllByRecursion}
+use Rattle.plain_graph.specs.Names.{is_name_byte}
+use Rattle.plain_graph.specs.declared.command.Command.{Command}
+use Rattle.plain_graph.specs.declared.command.Command.TheVariants as commands
+use Rattle.plain_graph.specs.declared.command.Target.{Target}
+use Rattle.plain_graph.specs.declared.command.Target.TheVariants as targets
+use Rattle.plain_graph.specs.declared.pairs.Pair.{Pair}
+use Rattle.plain_graph.specs.declared.query.Step.{Step}
+use Rattle.gremlin_parse.specs.Grammar.{Part, Blanks, Gap, Exactly, Name, Number, Written, IsMadeOf, target_parts, IsBounded, parts_of, IsCommand, KeepsBounds, NeedsNoMemory}
+use Rattle.gremlin_parse.specs.Keywords.{Entry, InTable, plain, TakesWord}
+use Rattle.gremlin_parse.specs.Symbols.{Contents, ReadsAll}
+use Rattle.gremlin_parse.specs.Commands.{IsLastOf, head_words, element_of, target_name, target_id, target_names, production, LastContent, last_parts, command_of, IsLast, IsAfter, SpellsAfter, IsTail, LacksMemory}
+use Rattle.gremlin_parse.specs.declared.head.Head.{Head}
+use Rattle.gremlin_parse.specs.declared.head.Head.TheVariants as heads
+use Rattle.gremlin_parse.specs.declared.word.Word.TheVariants as words
+use Rattle.gremlin_parse.proofs.Runs.{Halts}
+use Rattle.gremlin_parse.proofs.Tables.{lookup_in, ThenWord-after, words_agree}
+use Rattle.gremlin_parse.proofs.Symbols.{NameByte}
+use Rattle.gremlin_parse.proofs.Productions.{HaltsAt, follows_halts, read_follows}
+use Rattle.gremlin_parse.proofs.Spelling.{AllowsAll, parts_with, ThenParts, then_parts_map, then_parts_choice, follows_of_parts, parts_of_follows, follows_agree, read_allowed, read_bounded}
+use Rattle.gremlin_parse.proofs.Pairs.{pairs_agree}
+use Rattle.gremlin_parse.proofs.Steps.{steps_agree}
+use Rattle.gremlin_parse.proofs.Heads.{word_of, head_table, enders, production_is, production_halts, last_closes, no_word_in_nothing}
+
+-- ---- the command that is spelled
+
+last_of_halts : (command : Command) (head : Head) (contents : Contents (production head)) → HaltsAt (enders head) (IsLastOf command head contents)
+last_of_halts command head contents = λ class halts rest (last, is, made). (last_closes head).ends class halts rest (last, made)
+
+pub spells_halts : (command : Command) (head : Head) → Halts is_name_byte (SpellsAfter command head)
+spells_halts command head = follows_halts NameByte (enders head NameByte) (production head) (production_halts head) (IsLastOf command head) (λ contents. last_of_halts command head contents NameByte)
+
+-- the contents of a spelled command
+pub record Spelled (command : Command) (head : Head) (bytes : List ℕ) : Type 0 where
+  pub contents : Contents (production head)
+  pub allowed : AllowsAll (production head) contents
+  pub last : LastContent head
+  pub is : command ≡ command_of head contents last
+  pub made : ThenParts (parts_with (production head) contents) (IsMadeOf (last_parts head last)) bytes
+
+pub spelled_of_contents : (command : Command) (head : Head) (bytes : List ℕ) → Spelled command head bytes → SpellsAfter command head bytes
+spelled_of_contents command head bytes spelled =
+    follows_of_parts (production head) spelled.contents (IsLastOf command head) spelled.allowed bytes (then_parts_map (IsMadeOf (last_parts head spelled.last)) (IsLastOf command head spelled.contents) (λ rest made. (spelled.last, spelled.is, made)) (parts_with (production head) spelled.contents) bytes spelled.made)
+
+pub contents_of_spelled : (command : Command) (head : Head) (bytes : List ℕ) → SpellsAfter command head bytes → Spelled command head bytes
+contents_of_spelled command head bytes spells =
+    let found = parts_of_follows (production head) (IsLastOf command head) bytes spells in
+    let One : Type 0 = (last : LastContent head) × (command ≡ command_of head found.contents last) in
+    let Made : One → List ℕ → Type 0 = λ one rest. IsMadeOf (last_parts head one.0) rest in
+    let Both : List ℕ → Type 0 = λ rest. (one : One) × Made one rest in
+    let chosen = then_parts_choice One Made (parts_with (production head) found.contents) bytes (then_parts_map (IsLastOf command head found.contents) Both (λ rest (last, is, made). ((last, is), made)) (parts_with (production head) found.contents) bytes found.is) in
+    record { contents = found.contents; allowed = found.allowed; last = chosen.0.0; is = chosen.0.1; made = chosen.1 }
+
+-- after the word, some command is one
+pub some_spelled : (head : Head) (bytes : List ℕ) → IsAfter head bytes → (command : Command) × SpellsAfter command head bytes
+some_spelled head bytes is =
+    let found = parts_of_follows (production head) (λ _. IsLast head) bytes is in
+    let chosen = then_parts_choice (LastContent head) (λ last rest. IsMadeOf (last_parts head last) rest) (parts_with (production head) found.contents) bytes found.is in
+    let command : Command = command_of head found.contents chosen.0 in
+    let spelled : Spelled command head bytes = record { contents = found.contents; allowed = found.allowed; last = chosen.0; is = refl; made = chosen.1 } in
+    (command, spelled_of_contents command head bytes spelled)
+
+pub spelled_is_some : (command : Command) (head : Head) (bytes : List ℕ) → SpellsAfter command head bytes → IsAfter head bytes
+spelled_is_some command head bytes spells =
+    let spelled = contents_of_spelled command head bytes spells in
+    follows_of_parts (production head) spelled.contents (λ _. IsLast head) spelled.allowed bytes (then_parts_map (IsMadeOf (last_parts head spelled.last)) (IsLast head) (λ rest made. (spelled.last, made)) (parts_with (production head) spelled.contents) bytes spelled.made)
+
+-- the command of the word that stands there
+pub tail_of_word : (command : Command) (head : Head) (bytes rest : List ℕ) → TakesWord head_words bytes head rest → SpellsAfter command head rest → IsTail command bytes
+tail_of_word command head bytes rest (run, cut, is) spells = inr ((run, head), lookup_in head_words run head is, (run, rest, cut.bytes_are, refl, spells))
+
+-- ---- one command
+
+-- the same last bytes are of the same command
+last_agrees : (head : Head) (contents : Contents (production head)) (one two : LastContent head) (rest : List ℕ) → IsMadeOf (last_parts head one) rest → IsMadeOf (last_parts head two) rest → command_of head contents two ≡ command_of head contents one
+last_agrees (heads.Alone word) contents one two rest made other = refl
+last_agrees heads.Node contents one two rest made other = ap (λ (pairs : List Pair). commands.Node contents.1.0 pairs) (pairs_agree one two rest made other)
+last_agrees heads.Edge contents one two rest made other = ap (λ (pairs : List Pair). commands.Edge contents.1.0 contents.1.1.1.0 contents.1.1.1.1.1.0 pairs) (pairs_agree one two rest made other)
+last_agrees heads.Set contents one two rest made other = refl
+last_agrees heads.Unset contents one two rest made other = refl
+last_agrees heads.Delete contents one two rest made other = refl
+last_agrees heads.Query contents one two rest made other =
+    let make : List Step → Command = λ list. commands.Query (record { steps = list }) in
+    ap make (steps_agree one.0 two.0 one.1 two.1 rest made other)
+
+same_command : (command other : Command) (head : Head) (contents : Contents (production head)) (rest : List ℕ) → IsLastOf command head contents rest → IsLastOf other head contents rest → other ≡ command
+same_command command other head contents rest (last, is, made) (second, is_other, others) = is_other ∙ last_agrees head contents last second rest made others ∙ sym is
+
+-- One tail is of one command.
+pub commands_agree : (command other : Command) (bytes : List ℕ) → IsTail command bytes → IsTail other bytes → other ≡ command
+commands_agree command other bytes (inl (blank, end)) (inl (empty, ends)) = empty ∙ sym blank
+commands_agree command other bytes (inl (blank, end)) (inr two) = absurd (no_word_in_nothing (SpellsAfter other) bytes end two)
+commands_agree command other bytes (inr one) (inl (empty, end)) = absurd (no_word_in_nothing (SpellsAfter command) bytes end one)
+commands_agree command other bytes (inr one) (inr two) =
+    let word = words_agree head_words head_table (SpellsAfter command) (SpellsAfter other) (spells_halts command) (spells_halts other) bytes one two in
+    let found = follows_agree (enders word.kind) (production word.kind) (production_is word.kind) (IsLastOf command word.kind) (IsLastOf other word.kind) (last_of_halts command word.kind) (last_of_halts other word.kind) word.rest word.one word.two in
+    same_command command other word.kind found.contents found.rest found.one found.two
+
+-- Where a word of a command that asks for memory stands, no other command does.
+pub lacks_memory : (head : Head) → ((contents : Contents (production head)) (last : LastContent head) → ¬ NeedsNoMemory (command_of head contents last)) → (bytes rest : List ℕ) → bytes ≢ [] → TakesWord head_words bytes head rest → LacksMemory bytes
+lacks_memory head asks bytes rest some takes = λ command none tail. refuse command none tail
+  where
+    refuse : (command : Command) → NeedsNoMemory command → ¬ IsTail command bytes
+    refuse command none (inl (blank, end)) = some end
+    refuse command none (inr word) =
+        let spelled = contents_of_spelled command head rest (ThenWord-after head_words head_table (SpellsAfter command) (spells_halts command) bytes rest head takes word) in
+        asks spelled.contents spelled.last (subst NeedsNoMemory spelled.is none)
+
+-- ---- the parts of a command
+
+-- the parts after a command's first word
+abbrev pub tail_parts : (head : Head) → Contents (production head) → LastContent head → List Part
+tail_parts head contents last = parts_with (production head) contents ++ last_parts head last
+
+-- the parts of an element between others
+element_parts : (word name : List ℕ) (id : ℕ) (more : List Part) → InTable (name, tt) (plain target_names) → ((Blanks ∷ Exactly word ∷ Gap ∷ []) ++ target_parts (element_of name id)) ++ more ≡ Blanks ∷ Exactly word ∷ Gap ∷ Exactly name ∷ Gap ∷ Number id ∷ more
+element_parts word name id more allowed =
+    let Made : Entry (Unit {0}) → Type 0 = λ entry. ((Blanks ∷ Exactly word ∷ Gap ∷ []) ++ target_parts (element_of entry.0 id)) ++ more ≡ Blanks ∷ Exactly word ∷ Gap ∷ Exactly entry.0 ∷ Gap ∷ Number id ∷ more in
+    let Here : Entry (Unit {0}) → Type 0 = λ entry. (name, tt) ≡ entry in
+    ⊎_elim
+    (λ (node : Here (codes "node", tt)). subst Made (sym node) refl)
+    (λ (later : Here (codes "edge", tt) ⊎ ⊥). ⊎_elim (λ (edge : Here (codes "edge", tt)). subst Made (sym edge) refl) (λ (none : ⊥). absurd none) later)
+    allowed
+
+pub command_parts : (head : Head) (contents : Contents (production head)) (last : LastContent head) → AllowsAll (production head) contents → parts_of (command_of head contents last) ≡ Blanks ∷ Exactly (word_of head) ∷ tail_parts head contents last
+command_parts (heads.Alone words.Begin) contents last allows = refl
+command_parts (heads.Alone words.Commit) contents last allows = refl
+command_parts (heads.Alone words.Rollback) contents last allows = refl
+command_parts (heads.Alone words.Checkpoint) contents last allows = refl
+command_parts (heads.Alone words.Stats) contents last allows = refl
+command_parts (heads.Alone words.Reopen) contents last allows = refl
+command_parts (heads.Alone words.Quit) contents last allows = refl
+command_parts heads.Node contents last allows = refl
+command_parts heads.Edge contents last allows = refl
+command_parts heads.Set contents last allows = element_parts (codes "set") contents.1.0 contents.1.1.1.0 (Gap ∷ Name contents.1.1.1.1.1.0 ∷ Gap ∷ Written contents.1.1.1.1.1.1.1.0 ∷ Blanks ∷ []) allows.1.0
+command_parts heads.Unset contents last allows = element_parts (codes "unset") contents.1.0 contents.1.1.1.0 (Gap ∷ Name contents.1.1.1.1.1.0 ∷ Blanks ∷ []) allows.1.0
+command_parts heads.Delete contents last allows = element_parts (codes "delete") contents.1.0 contents.1.1.1.0 (Blanks ∷ []) allows.1.0
+command_parts heads.Query contents last allows = refl
+
+pub is_command : (head : Head) (contents : Contents (production head)) (last : LastContent head) → IsCommand (command_of head contents last)
+is_command (heads.Alone words.Begin) contents last = tt
+is_command (heads.Alone words.Commit) contents last = tt
+is_command (heads.Alone words.Rollback) contents last = tt
+is_command (heads.Alone words.Checkpoint) contents last = tt
+is_command (heads.Alone words.Stats) contents last = tt
+is_command (heads.Alone words.Reopen) contents last = tt
+is_command (heads.Alone words.Quit) contents last = tt
+is_command heads.Node contents last = tt
+is_command heads.Edge contents last = tt
+is_command heads.Set contents last = tt
+is_command heads.Unset contents last = tt
+is_command heads.Delete contents last = tt
+is_command heads.Query contents last = last.1
+
+-- the element of its name and its identifier
+pub element_is : (target : Target) → element_of (target_name target) (target_id target) ≡ target
+element_is (targets.Node id) = refl
+element_is (targets.Edge id) = refl
+
+pub name_allowed : (target : Target) → InTable (target_name target, tt) (plain target_names)
+name_allowed (targets.Node id) = inl refl
+name_allowed (targets.Edge id) = inr (inl refl)
+
+-- the contents of which a command is
+pub record Sentence (command : Command) : Type 0 where
+  pub head : Head
+  pub contents : Contents (production head)
+  pub allowed : AllowsAll (production head) contents
+  pub last : LastContent head
+  pub is : command ≡ command_of head contents last
+
+pub sentence_of : (command : Command) → IsCommand command → (command ≡ commands.Blank) ⊎ Sentence command
+sentence_of commands.Blank is = inl refl
+sentence_of commands.Begin is = inr (record { head = heads.Alone words.Begin; contents = (tt, tt); allowed = (tt, tt); last = tt; is = refl })
+sentence_of commands.Commit is = inr (record { head = heads.Alone words.Commit; contents = (tt, tt); allowed = (tt, tt); last = tt; is = refl })
+sentence_of commands.Rollback is = inr (record { head = heads.Alone words.Rollback; contents = (tt, tt); allowed = (tt, tt); last = tt; is = refl })
+sentence_of commands.Checkpoint is = inr (record { head = heads.Alone words.Checkpoint; contents = (tt, tt); allowed = (tt, tt); last = tt; is = refl })
+sentence_of commands.Stats is = inr (record { head = heads.Alone words.Stats; contents = (tt, tt); allowed = (tt, tt); last = tt; is = refl })
+sentence_of commands.Reopen is = inr (record { head = heads.Alone words.Reopen; contents = (tt, tt); allowed = (tt, tt); last = tt; is = refl })
+sentence_of commands.Quit is = inr (record { head = heads.Alone words.Quit; contents = (tt, tt); allowed = (tt, tt); last = tt; is = refl })
+sentence_of (commands.Node label pairs) is = inr (record { head = heads.Node; contents = (tt, (label, tt)); allowed = (tt, (tt, tt)); last = pairs; is = refl })
+sentence_of (commands.Edge from label to pairs) is = inr (record {
+  head = heads.Edge;
+  contents = (tt, (from, (tt, (label, (tt, (to, tt))))));
+  allowed = (tt, (tt, (tt, (tt, (tt, (tt, tt))))));
+  last = pairs;
+  is = refl;
+})
+sentence_of (commands.Set target key value) is = inr (record {
+  head = heads.Set;
+  contents = (tt, (target_name target, (tt, (target_id target, (tt, (key, (tt, (value, (tt, tt)))))))));
+  allowed = (tt, (name_allowed target, (tt, (tt, (tt, (tt, (tt, (tt, (tt, tt)))))))));
+  last = tt;
+  is = ap (λ (t : Target). commands.Set t key value) (sym (element_is target));
+})
+sentence_of (commands.Unset target key) is = inr (record {
+  head = heads.Unset;
+  contents = (tt, (target_name target, (tt, (target_id target, (tt, (key, (tt, tt)))))));
+  allowed = (tt, (name_allowed target, (tt, (tt, (tt, (tt, (tt, tt)))))));
+  last = tt;
+  is = ap (λ (t : Target). commands.Unset t key) (sym (element_is target));
+})
+sentence_of (commands.Delete target) is = inr (record {
+  head = heads.Delete;
+  contents = (tt, (target_name target, (tt, (target_id target, (tt, tt)))));
+  allowed = (tt, (name_allowed target, (tt, (tt, (tt, tt)))));
+  last = tt;
+  is = ap (λ (t : Target). commands.Delete t) (sym (element_is target));
+})
+sentence_of (commands.Query query) is = inr (record {
+  head = heads.Query;
+  contents = (tt, (tt, (tt, (tt, (tt, (tt, (tt, (tt, (tt, tt)))))))));
+  allowed = (tt, (tt, (tt, (tt, (tt, (tt, (tt, (tt, (tt, tt)))))))));
+  last = (query.steps, is);
+  is = refl;
+})
+
+pub sentence_parts : (command : Command) → (sentence : Sentence command) → parts_of command ≡ Blanks ∷ Exactly (word_of sentence.head) ∷ tail_parts sentence.head sentence.contents sentence.last
+sentence_parts command sentence = ap parts_of sentence.is ∙ command_parts sentence.head sentence.contents sentence.last sentence.allowed
+
+-- ---- what readers have read
+
+-- the command whose symbols were read, and what stands last
+pub spells_read : (head : Head) (contents : Contents (production head)) (last : LastContent head) (bytes rest : List ℕ) → ReadsAll (production head) contents bytes rest → IsMadeOf (last_parts head last) rest → SpellsAfter (command_of head contents last) head bytes
+spells_read head contents last bytes rest reads made =
+    read_follows (production head) contents (IsLastOf (command_of head contents last) head) bytes rest reads (last, refl, made)
+
+-- Its parts are within their bounds.
+pub read_keeps : (head : Head) (contents : Contents (production head)) (last : LastContent head) (bytes rest : List ℕ) → ReadsAll (production head) contents bytes rest → AllByRecursion IsBounded (last_parts head last) → KeepsBounds (command_of head contents last)
+read_keeps head contents last bytes rest reads within =
+    subst (AllByRecursion IsBounded) (sym (command_parts head contents last (read_allowed (production head) contents bytes rest reads))) (tt, (tt, read_bounded (production head) contents bytes rest reads (last_parts head last) within))
