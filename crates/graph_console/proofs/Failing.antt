@@ -34,8 +34,10 @@ module _ (old new : State) (live : old.standing ≡ Live) where
   carried_live commands.Stats reply done = stays_live done.1
   carried_live commands.Reopen reply done = ap (λ (s : State). s.standing) done.3
   carried_live commands.Quit reply never = absurd never
-  carried_live (commands.Node label) reply done = changed_live (commands.Node label) reply done
-  carried_live (commands.Edge from label to) reply done = changed_live (commands.Edge from label to) reply done
+  carried_live (commands.Node label pairs) reply done = changed_live (commands.Node label pairs) reply done
+  carried_live (commands.Edge from label to pairs) reply done = changed_live (commands.Edge from label to pairs) reply done
+  carried_live (commands.Set target key value) reply done = changed_live (commands.Set target key value) reply done
+  carried_live (commands.Unset target key) reply done = changed_live (commands.Unset target key) reply done
   carried_live (commands.Delete target) reply done = changed_live (commands.Delete target) reply done
   carried_live (commands.Query query) reply done = stays_live done.1
 

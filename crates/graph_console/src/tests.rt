@@ -2,6 +2,7 @@
 mod edges;
 mod generated;
 mod lists;
+mod properties;
 mod rows;
 mod stops;
 mod stored;
@@ -142,7 +143,7 @@ fn lines_get_their_replies(rt: HostRuntime) -> Result<(), Fail> {
         ),
         (
             b"node\nNODE a\nnode 1\nnode a b\nnodea\n",
-            b"error syntax 4\nerror syntax 0\nerror syntax 5\nerror syntax 7\nerror syntax 4\n",
+            b"error syntax 4\nerror syntax 0\nerror syntax 5\nerror syntax 8\nerror syntax 4\n",
         ),
         (
             b"g.V\ng.V()x\ng.E()\ng.V().count\n",

@@ -1,18 +1,16 @@
 -- Which of the conditions of a refusal hold.
-use Rattle.std.proofs.Common.{◌≡◌, ◌≢◌, ◌⊎◌, ◌+◌, ◌<◌, ◌≤◌, ◌∙◌, ℕ, Bool, false, true, Some, None, List, [], ◌∷◌, ◌++◌, length, Contains, inl, inr, refl, sym, subst, arith}
-use Rattle.std.proofs.lemmas.Bool.{true≢false}
+use Rattle.std.proofs.Common.{◌≡◌, ◌≢◌, ◌⊎◌, ◌+◌, ◌<◌, ◌≤◌, ◌∙◌, ℕ, Some, None, List, [], ◌∷◌, ◌++◌, inl, inr, refl, sym, subst, arith}
 use Rattle.stream_io.specs.Lines.{Long, Whole}
 use Rattle.plain_graph.specs.Changes.{IsChange, Weighs, most_weight}
-use Rattle.plain_graph.specs.Graph.{degree_in, has_edge, has_node}
+use Rattle.plain_graph.specs.Graph.{Graph, empty_graph}
+use Rattle.plain_graph.specs.Refusals.{FirstReason, NoReason, Reason, change_reasons}
 use Rattle.plain_graph.specs.declared.command.Command.{Command}
 use Rattle.plain_graph.specs.declared.command.Command.TheVariants as commands
-use Rattle.plain_graph.specs.declared.command.Target.TheVariants as targets
 use Rattle.plain_graph.specs.declared.refusal.Refusal.{Refusal}
 use Rattle.plain_graph.specs.declared.refusal.Refusal.TheVariants as refusals
 use Rattle.gremlin_parse.specs.Faults.{IsLeftmostFault}
 use Rattle.gremlin_parse.specs.declared.line_fault.LineFault.{LineFault}
-use Rattle.rec_bytes.specs.Format.{most_names}
-use Rattle.graph_session.specs.Refusals.{Condition, FirstHolds, FirstReason, IsAccepted, IsReached, IsRefused, NoReason, NoneHolds, Reason, SpellsOnly, change_reasons, conditions_of, early_order, grammar_fault, late_order, line_too_long, no_name_left, no_transaction, refusal_of, store_failed, transaction_full, transaction_open}
+use Rattle.graph_session.specs.Refusals.{Condition, FirstHolds, IsAccepted, IsReached, IsRefused, NoneHolds, SpellsOnly, conditions_of, early_order, grammar_fault, late_order, line_too_long, no_transaction, refusal_of, store_failed, transaction_full, transaction_open}
 use Rattle.graph_session.specs.State.{IsFailed, IsOpen, SpellsLine, State, Transaction, seen}
 use Rattle.graph_session.proofs.Spelling.{IsMute, silent-mute, spells-same}
 use Rattle.graph_session.proofs.States.{same_one}
@@ -44,21 +42,11 @@ first_after : (front later : List Condition) (state : State) (line : List ℕ) (
 first_after [] later state line why none first = first
 first_after (condition ∷ front) later state line why none first = inr (none.0, first_after front later state line why none.1 first)
 
--- no reason of two lists, one after the other
-both_reasons : (front later : List Reason) (state : State) (command : Command) → NoReason front state command → NoReason later state command → NoReason (front ++ later) state command
-both_reasons [] later state command none more = more
-both_reasons (reason ∷ front) later state command none more = (none.0, both_reasons front later state command none.1 more)
-
--- the first reason of a list is that of a longer one
-front_reason : (front later : List Reason) (state : State) (command : Command) (why : Refusal) → FirstReason front state command why → FirstReason (front ++ later) state command why
-front_reason [] later state command why first = absurd first
-front_reason (reason ∷ front) later state command why (inl h) = inl h
-front_reason (reason ∷ front) later state command why (inr h) = inr (h.0, front_reason front later state command why h.1)
-
--- and that of a list after another, none of whose reasons holds
-after_reason : (front later : List Reason) (state : State) (command : Command) (why : Refusal) → NoReason front state command → FirstReason later state command why → FirstReason (front ++ later) state command why
-after_reason [] later state command why none first = first
-after_reason (reason ∷ front) later state command why none first = inr (none.0, after_reason front later state command why none.1 first)
+-- the first of a list is that of a longer one
+first_front : (front later : List Condition) (state : State) (line : List ℕ) (why : Refusal) → FirstHolds front state (Whole line) why → FirstHolds (front ++ later) state (Whole line) why
+first_front [] later state line why first = absurd first
+first_front (condition ∷ front) later state line why (inl h) = inl h
+first_front (condition ∷ front) later state line why (inr h) = inr (h.0, first_front front later state line why h.1)
 
 -- a line that is too long
 pub long-refused : (state : State) → IsRefused state Long refusals.LongLine
@@ -72,40 +60,31 @@ whole state line why h = cc
 pub fault-refused : (state : State) (line : List ℕ) (fault : LineFault) (why : Refusal) → IsLeftmostFault line fault → refusal_of fault ≡ Some why → IsRefused state (Whole line) why
 fault-refused state line fault why leftmost told = inr (whole state line, inl (line, refl, fault, leftmost, told))
 
--- the transaction's weight doesn't refuse the command
+-- the command fits into the open transaction, where there is one
 abbrev pub IsLight : State → Command → Type 0
-IsLight state command = (why : Refusal) → ¬ transaction_full state command why
+IsLight state command =
+    (transaction : Transaction) → state.open_one ≡ Some transaction → (weight : ℕ) → Weighs state.shape.threshold transaction.graph command weight → transaction.weight + weight ≤ most_weight
 
--- a test has one result
-differ : {test : Bool} → test ≡ true → test ≡ false → ⊥
-differ a b = true≢false (sym a ∙ b)
+-- no reason of a change holds of a line of blanks
+idle_reasons : NoReason change_reasons 0 empty_graph commands.Blank
+idle_reasons = (λ _ h. h, (λ _ h. h, (λ _ h. h, (λ _ h. h, (λ _ h. h, (λ _ h. h, (λ _ h. h, (λ _ h. h, (λ _ h. h, (λ _ h. h, (λ _ h. h, tt)))))))))))
 
--- there is a name left, or the name is known
-name-left : (state : State) (name : List ℕ) (why : Refusal) → Contains (seen state).names name ⊎ (length (seen state).names < most_names) → ¬ no_name_left state name why
-name-left state name why (inl known) (new, full, told) = new known
-name-left state name why (inr few) (new, full, told) = absurd (omega (arith, few, full))
-
--- reasons that can't hold
-abbrev NoneOf : Type 0
-NoneOf = (other : Refusal) → ¬ ⊥
-
-idle_reasons : NoneOf × (NoneOf × (NoneOf × (NoneOf × (NoneOf × (NoneOf × (NoneOf × (NoneOf × Unit {0})))))))
-idle_reasons = (λ _ h. h, (λ _ h. h, (λ _ h. h, (λ _ h. h, (λ _ h. h, (λ _ h. h, (λ _ h. h, (λ _ h. h, tt))))))))
-
--- no reason of a change refuses another command
-no_reason : (state : State) (command : Command) → ¬ IsChange command → NoReason change_reasons state command
-no_reason state commands.Blank idle = idle_reasons
-no_reason state commands.Begin idle = idle_reasons
-no_reason state commands.Commit idle = idle_reasons
-no_reason state commands.Rollback idle = idle_reasons
-no_reason state commands.Checkpoint idle = idle_reasons
-no_reason state commands.Stats idle = idle_reasons
-no_reason state commands.Reopen idle = idle_reasons
-no_reason state commands.Quit idle = idle_reasons
-no_reason state (commands.Node label) idle = absurd (idle tt)
-no_reason state (commands.Edge from label to) idle = absurd (idle tt)
-no_reason state (commands.Delete target) idle = absurd (idle tt)
-no_reason state (commands.Query query) idle = idle_reasons
+-- nor of another command that is no change
+no_reason : (limit : ℕ) (graph : Graph) (command : Command) → ¬ IsChange command → NoReason change_reasons limit graph command
+no_reason limit graph commands.Blank idle = idle_reasons
+no_reason limit graph commands.Begin idle = idle_reasons
+no_reason limit graph commands.Commit idle = idle_reasons
+no_reason limit graph commands.Rollback idle = idle_reasons
+no_reason limit graph commands.Checkpoint idle = idle_reasons
+no_reason limit graph commands.Stats idle = idle_reasons
+no_reason limit graph commands.Reopen idle = idle_reasons
+no_reason limit graph commands.Quit idle = idle_reasons
+no_reason limit graph (commands.Node label pairs) idle = absurd (idle tt)
+no_reason limit graph (commands.Edge from label to pairs) idle = absurd (idle tt)
+no_reason limit graph (commands.Set target key value) idle = absurd (idle tt)
+no_reason limit graph (commands.Unset target key) idle = absurd (idle tt)
+no_reason limit graph (commands.Delete target) idle = absurd (idle tt)
+no_reason limit graph (commands.Query query) idle = idle_reasons
 
 module _ (state : State) {line : List ℕ} {command : Command} (only : SpellsOnly line command) where
   -- a line that spells a command has no fault of the grammar
@@ -156,109 +135,64 @@ module _ (state : State) {line : List ℕ} {command : Command} (only : SpellsOnl
       spelled (inl e) = inl (spells commands.Commit e)
       spelled (inr e) = inr (spells commands.Rollback e)
 
-  -- what the reasons say of the command, the conditions say of the line
-  reason-spelled : (reason : Reason) (other : Command) (why : Refusal) → SpellsLine (Whole line) other → reason state other why → reason state command why
-  reason-spelled reason other why spelled h = subst (λ (c : Command). reason state c why) (sym (spells-same only other spelled)) h
+  -- what a reason says of the command, its condition says of the line
+  reason-spelled : (reason : Reason) (other : Command) (why : Refusal) → SpellsLine (Whole line) other → reason state.shape.limit (seen state) other why → reason state.shape.limit (seen state) command why
+  reason-spelled reason other why spelled h = subst (λ (c : Command). reason state.shape.limit (seen state) c why) (sym (spells-same only other spelled)) h
 
-  none-spelled : (reasons : List Reason) → NoReason reasons state command → NoneHolds (conditions_of reasons) state (Whole line)
+  none-spelled : (reasons : List Reason) → NoReason reasons state.shape.limit (seen state) command → NoneHolds (conditions_of reasons) state (Whole line)
   none-spelled [] none = tt
   none-spelled (reason ∷ later) none = (λ why h. none.0 why (reason-spelled reason h.0 why h.1 h.2), none-spelled later none.1)
 
-  first-spelled : (reasons : List Reason) (why : Refusal) → FirstReason reasons state command why → FirstHolds (conditions_of reasons) state (Whole line) why
+  first-spelled : (reasons : List Reason) (why : Refusal) → FirstReason reasons state.shape.limit (seen state) command why → FirstHolds (conditions_of reasons) state (Whole line) why
   first-spelled [] why first = absurd first
   first-spelled (reason ∷ later) why (inl h) = inl (command, only.spelled, h)
   first-spelled (reason ∷ later) why (inr h) = inr (λ other k. h.0 other (reason-spelled reason k.0 other k.1 k.2), first-spelled later why h.1)
 
+  -- a light command's line has room in the open transaction
+  light-spelled : IsLight state command → Fails transaction_full state line
+  light-spelled light why (other, spelled, transaction, is, weight, weighs, more, told) =
+      let fits : transaction.weight + weight ≤ most_weight =
+      light transaction is weight (subst (λ (c : Command). Weighs state.shape.threshold transaction.graph c weight) (sym (spells-same only other spelled)) weighs) in
+      absurd (omega (arith, fits, more))
+
   -- no reason refuses the command, so no condition refuses the line
-  pub accepted : IsReached state (Whole line) → NoReason change_reasons state command → IsLight state command → IsAccepted state (Whole line)
+  pub accepted : IsReached state (Whole line) → NoReason change_reasons state.shape.limit (seen state) command → IsLight state command → IsAccepted state (Whole line)
   accepted reach free light =
       none_both early_order late_order state line reach
-      (none-spelled (change_reasons ++ transaction_full ∷ []) (both_reasons change_reasons (transaction_full ∷ []) state command free (light, tt)))
+      (none_both (conditions_of change_reasons) (transaction_full ∷ []) state line (none-spelled change_reasons free) (light-spelled light, tt))
 
   -- the first reason refuses the line
-  pub refused : IsReached state (Whole line) → (why : Refusal) → FirstReason change_reasons state command why → IsRefused state (Whole line) why
+  pub refused : IsReached state (Whole line) → (why : Refusal) → FirstReason change_reasons state.shape.limit (seen state) command why → IsRefused state (Whole line) why
   refused reach why first =
       first_after early_order late_order state line why reach
-      (first-spelled (change_reasons ++ transaction_full ∷ []) why (front_reason change_reasons (transaction_full ∷ []) state command why first))
+      (first_front (conditions_of change_reasons) (transaction_full ∷ []) state line why (first-spelled change_reasons why first))
 
   -- the open transaction has not the weight, and no other reason holds
-  pub heavy-refused : NoReason change_reasons state command → IsReached state (Whole line) → (transaction : Transaction) → state.open_one ≡ Some transaction
+  pub heavy-refused : NoReason change_reasons state.shape.limit (seen state) command → IsReached state (Whole line) → (transaction : Transaction) → state.open_one ≡ Some transaction
       → (weight : ℕ) → Weighs state.shape.threshold transaction.graph command weight → most_weight < transaction.weight + weight → IsRefused state (Whole line) refusals.TransactionFull
   heavy-refused none reach transaction is weight weighs more =
       first_after early_order late_order state line refusals.TransactionFull reach
-      (first-spelled (change_reasons ++ transaction_full ∷ []) refusals.TransactionFull
-      (after_reason change_reasons (transaction_full ∷ []) state command refusals.TransactionFull none (inl (transaction, is, weight, weighs, more, refl))))
+      (first_after (conditions_of change_reasons) (transaction_full ∷ []) state line refusals.TransactionFull (none-spelled change_reasons none)
+      (inl (command, only.spelled, transaction, is, weight, weighs, more, refl)))
 
   -- a command that is no change is accepted where the graph is looked at
   pub idle-accepted : ¬ IsChange command → IsReached state (Whole line) → IsAccepted state (Whole line)
-  idle-accepted idle reach = accepted reach (no_reason state command idle) (λ why (transaction, is, weight, weighs, more, told). idle (Weighs-change state.shape.threshold transaction.graph command weight weighs))
+  idle-accepted idle reach =
+      accepted reach (no_reason state.shape.limit (seen state) command idle)
+      (λ transaction is weight weighs. absurd (idle (Weighs-change state.shape.threshold transaction.graph command weight weighs)))
 
 -- the open transaction, by what the change weighs
 pub weight-light : (state : State) (command : Command) (transaction : Transaction) → state.open_one ≡ Some transaction → (weight : ℕ) → Weighs state.shape.threshold transaction.graph command weight → transaction.weight + weight ≤ most_weight
     → IsLight state command
-weight-light state command transaction is weight weighs fits why (other, also, count, counts, more, told) =
+weight-light state command transaction is weight weighs fits other also count counts =
     let one : transaction ≡ other = same_one transaction other (sym is ∙ also) in
     let same : count ≡ weight = Weighs-only state.shape.threshold transaction.graph command count weight (subst (λ (t : Transaction). Weighs state.shape.threshold t.graph command count) (sym one) counts) weighs in
     let low : transaction.weight + count ≤ most_weight = omega (arith, same, fits) in
-    let less : other.weight + count ≤ most_weight = subst (λ (t : Transaction). t.weight + count ≤ most_weight) one low in
-    absurd (omega (arith, less, more))
+    subst (λ (t : Transaction). t.weight + count ≤ most_weight) one low
 
 -- no transaction is open
 pub alone-light : (state : State) (command : Command) → state.open_one ≡ None → IsLight state command
-alone-light state command none why h = clash h.0 none h.1
+alone-light state command none transaction is = absurd (clash none is)
   where
-    clash : (transaction : Transaction) → state.open_one ≡ None → state.open_one ≡ Some transaction → ⊥
-    clash transaction a b = cc
-
--- no reason of a change refuses a node that has room, with its name
-pub node-room : (state : State) (label : List ℕ) → length (seen state).nodes ≢ state.shape.limit → Contains (seen state).names label ⊎ (length (seen state).names < most_names) → NoReason change_reasons state (commands.Node label)
-node-room state label nodes names =
-    (λ why h. nodes h.0, (λ why h. h, (λ why h. h, (λ why h. h, (λ why h. name-left state label why names h, (λ why h. h, (λ why h. h, (λ why h. h, tt))))))))
-
-pub nodes-refused : (state : State) (label : List ℕ) → length (seen state).nodes ≡ state.shape.limit → FirstReason change_reasons state (commands.Node label) refusals.FullNodes
-nodes-refused state label full = inl (full, refl)
-
-pub names-refused : (state : State) (label : List ℕ) → length (seen state).nodes ≢ state.shape.limit → ¬ Contains (seen state).names label → most_names ≤ length (seen state).names
-    → FirstReason change_reasons state (commands.Node label) refusals.FullNames
-names-refused state label nodes new full = inr (λ why h. nodes h.0, inr (λ why h. h, inr (λ why h. h, inr (λ why h. h, inl (new, full, refl)))))
-
--- nor an edge that has its ends and room
-pub edge-room : (state : State) (from : ℕ) (label : List ℕ) (to : ℕ) → has_node (seen state) from ≡ true → has_node (seen state) to ≡ true → length (seen state).edges ≢ state.shape.limit
-    → Contains (seen state).names label ⊎ (length (seen state).names < most_names) → NoReason change_reasons state (commands.Edge from label to)
-edge-room state from label to leaves enters edges names =
-    (λ why h. h, (λ why h. differ leaves h.0, (λ why h. differ enters h.0, (λ why h. edges h.0, (λ why h. name-left state label why names h, (λ why h. h, (λ why h. h, (λ why h. h, tt))))))))
-
-pub source-refused : (state : State) (from : ℕ) (label : List ℕ) (to : ℕ) → has_node (seen state) from ≡ false → FirstReason change_reasons state (commands.Edge from label to) (refusals.NoNode from)
-source-refused state from label to gone = inr (λ why h. h, inl (gone, refl))
-
-pub target-refused : (state : State) (from : ℕ) (label : List ℕ) (to : ℕ) → has_node (seen state) from ≡ true → has_node (seen state) to ≡ false
-    → FirstReason change_reasons state (commands.Edge from label to) (refusals.NoNode to)
-target-refused state from label to leaves gone = inr (λ why h. h, inr (λ why h. differ leaves h.0, inl (gone, refl)))
-
-pub edges-refused : (state : State) (from : ℕ) (label : List ℕ) (to : ℕ) → has_node (seen state) from ≡ true → has_node (seen state) to ≡ true → length (seen state).edges ≡ state.shape.limit
-    → FirstReason change_reasons state (commands.Edge from label to) refusals.FullEdges
-edges-refused state from label to leaves enters full = inr (λ why h. h, inr (λ why h. differ leaves h.0, inr (λ why h. differ enters h.0, inl (full, refl))))
-
-pub types-refused : (state : State) (from : ℕ) (label : List ℕ) (to : ℕ) → has_node (seen state) from ≡ true → has_node (seen state) to ≡ true → length (seen state).edges ≢ state.shape.limit
-    → ¬ Contains (seen state).names label → most_names ≤ length (seen state).names → FirstReason change_reasons state (commands.Edge from label to) refusals.FullNames
-types-refused state from label to leaves enters edges new full =
-    inr (λ why h. h, inr (λ why h. differ leaves h.0, inr (λ why h. differ enters h.0, inr (λ why h. edges h.0, inl (new, full, refl)))))
-
--- nor the deletion of a node that is there, and at which no edge is
-pub delete-room : (state : State) (id : ℕ) → has_node (seen state) id ≡ true → degree_in (seen state) id ≡ 0 → NoReason change_reasons state (commands.Delete (targets.Node id))
-delete-room state id there lone = (λ why h. h, (λ why h. h, (λ why h. h, (λ why h. h, (λ why h. h, (λ why h. differ there h.0, (λ why h. h.0 lone, (λ why h. h, tt))))))))
-
-pub no_node-refused : (state : State) (id : ℕ) → has_node (seen state) id ≡ false → FirstReason change_reasons state (commands.Delete (targets.Node id)) (refusals.NoNode id)
-no_node-refused state id gone = inr (λ why h. h, inr (λ why h. h, inr (λ why h. h, inr (λ why h. h, inr (λ why h. h, inl (gone, refl))))))
-
-pub relationships-refused : (state : State) (id : ℕ) → has_node (seen state) id ≡ true → degree_in (seen state) id ≢ 0 → FirstReason change_reasons state (commands.Delete (targets.Node id)) (refusals.HasRelationships id)
-relationships-refused state id there some =
-    inr (λ why h. h, inr (λ why h. h, inr (λ why h. h, inr (λ why h. h, inr (λ why h. h, inr (λ why h. differ there h.0, inl (some, refl)))))))
-
--- nor that of an edge that is there
-pub edge-there : (state : State) (id : ℕ) → has_edge (seen state) id ≡ true → NoReason change_reasons state (commands.Delete (targets.Edge id))
-edge-there state id there = (λ why h. h, (λ why h. h, (λ why h. h, (λ why h. h, (λ why h. h, (λ why h. h, (λ why h. h, (λ why h. differ there h.0, tt))))))))
-
-pub no_edge-refused : (state : State) (id : ℕ) → has_edge (seen state) id ≡ false → FirstReason change_reasons state (commands.Delete (targets.Edge id)) (refusals.NoEdge id)
-no_edge-refused state id gone =
-    inr (λ why h. h, inr (λ why h. h, inr (λ why h. h, inr (λ why h. h, inr (λ why h. h, inr (λ why h. h, inr (λ why h. h, inl (gone, refl))))))))
+    clash : state.open_one ≡ None → state.open_one ≡ Some transaction → ⊥
+    clash a b = cc

@@ -1,4 +1,4 @@
--- How many nodes and names there are.
+-- How many there are of each part of the graph.
 use Rattle.std.proofs.Common.{◌≡◌, ◌∙◌, ℕ, nat_eq, Bool, true, false, not, cond, Some, None, is_some, List, length, inl, inr, refl, sym, ap}
 use Rattle.disk_model.specs.declared.disk.Disk.{Ghosts}
 use Rattle.stream_io.specs.Lines.{Whole}
@@ -7,16 +7,18 @@ use Rattle.plain_graph.specs.Graph.{Graph}
 use Rattle.plain_graph.specs.Reply.{Counted}
 use Rattle.plain_graph.specs.declared.command.Command.TheVariants as commands
 use Rattle.plain_graph.specs.declared.counts.Counts.{Counts}
-use Rattle.rec_bytes.specs.Format.{names_file, nodes_file, relationships_file}
+use Rattle.rec_bytes.specs.Format.{names_file, nodes_file, properties_file, relationships_file, strings_file}
 use Rattle.rec_bytes.specs.Space.{meta_in}
 use Rattle.rec_bytes.specs.declared.key.Key.{Key}
 use Rattle.rec_bytes.specs.declared.record.Rec.{Rec}
 use Rattle.rec_bytes.specs.declared.shape.Shape.{Shape}
 use Rattle.store_rules.specs.Graph.{graph_of, node_from, node_of}
+use Rattle.store_rules.specs.Properties.{property_records}
 use Rattle.store_rules.specs.Rules.{IsSparseStore}
 use Rattle.store_rules.specs.Views.{high, is_live, kind_at, node_in, rec_at}
 use Rattle.store_rules.proofs.Counts.{length-collect}
 use Rattle.store_rules.proofs.GraphRows.{count_edges}
+use Rattle.store_rules.proofs.PropertyCounts.{count_blocks, count_properties}
 use Rattle.graph_session.specs.Answer.{Settles}
 use Rattle.graph_session.specs.Console.{ConsoleView, HoldsGraphs, IsAt, SessionView}
 use Rattle.graph_session.specs.Refusals.{SpellsOnly}
@@ -33,7 +35,7 @@ use Rattle.graph_session.proofs.Staying.{Stays, comes-stays}
 pub is_some-node : (records : Key → Rec) (x : ℕ) → is_some (node_of records x) ≡ is_live records nodes_file x
 is_some-node records x = by (nat_eq (kind_at records nodes_file x) 0)
   where
-    by : (free : Bool) → is_some (node_from (rec_at records names_file) (cond free None (Some (node_in (rec_at records nodes_file x) x)))) ≡ not free
+    by : (free : Bool) → is_some (node_from (rec_at records names_file) (property_records records) (cond free None (Some (node_in (rec_at records nodes_file x) x)))) ≡ not free
     by true = refl
     by false = refl
 
@@ -43,18 +45,24 @@ count_nodes records shape store =
     let split = store.keeps.split nodes_file refl in
     split.1.exact ∙ sym (length-collect _ (node_of records) (is_live records nodes_file) (high records nodes_file) (is_some-node records))
 
+abbrev pub counts_from : ℕ → ℕ → ℕ → ℕ → ℕ → Counts
+counts_from nodes edges properties blocks names = record { nodes = nodes; edges = edges; properties = properties; blocks = blocks; names = names }
+
+-- what is counted of these parts
+pub counts_from-same : {a b c d e v w x y z : ℕ} → a ≡ v → b ≡ w → c ≡ x → d ≡ y → e ≡ z → counts_from a b c d e ≡ counts_from v w x y z
+counts_from-same f g h i j = cc
+
 -- what a console counts
 abbrev pub counts_in : (Key → Rec) → List (List ℕ) → Counts
-counts_in records names = record { nodes = (meta_in records nodes_file).live; edges = (meta_in records relationships_file).live; properties = 0; blocks = 0; names = length names }
-
-abbrev counts_from : ℕ → ℕ → ℕ → Counts
-counts_from nodes edges names = record { nodes = nodes; edges = edges; properties = 0; blocks = 0; names = names }
+counts_in records names =
+    counts_from (meta_in records nodes_file).live (meta_in records relationships_file).live (meta_in records properties_file).live (meta_in records strings_file).live (length names)
 
 pub counts-seen : (console : ConsoleView) (state : State) → HoldsGraphs console state → counts_in console.working console.names ≡ counts_of (seen state)
 counts-seen console state held =
-    ap (λ (n : ℕ). counts_from n (meta_in console.working relationships_file).live (length console.names)) (count_nodes console.working state.shape held.working ∙ ap (λ (graph : Graph). length graph.nodes) held.working_graph)
-    ∙ ap (λ (n : ℕ). counts_from (length (seen state).nodes) n (length console.names)) (count_edges console.working state.shape held.working.keeps ∙ ap (λ (graph : Graph). length graph.edges) held.working_graph)
-    ∙ ap (λ (names : List (List ℕ)). counts_from (length (seen state).nodes) (length (seen state).edges) (length names)) held.names
+    let keeps = held.working.keeps in
+    counts_from-same (count_nodes console.working state.shape held.working) (count_edges console.working state.shape keeps) (count_properties console.working state.shape keeps) (count_blocks console.working state.shape keeps)
+    (ap length held.names ∙ ap (λ (graph : Graph). length graph.names) (sym held.working_graph))
+    ∙ ap counts_of held.working_graph
 
 stats-none : ¬ NeedsNone commands.Stats
 stats-none (inl e) = cc

@@ -30,8 +30,10 @@ NeedsDisk commands.Checkpoint = Unit {0}
 NeedsDisk commands.Stats = ⊥
 NeedsDisk commands.Reopen = Unit {0}
 NeedsDisk commands.Quit = ⊥
-NeedsDisk (commands.Node label) = Unit {0}
-NeedsDisk (commands.Edge from label to) = Unit {0}
+NeedsDisk (commands.Node label pairs) = Unit {0}
+NeedsDisk (commands.Edge from label to pairs) = Unit {0}
+NeedsDisk (commands.Set target key value) = Unit {0}
+NeedsDisk (commands.Unset target key) = Unit {0}
 NeedsDisk (commands.Delete target) = Unit {0}
 NeedsDisk (commands.Query query) = Unit {0}
 
@@ -44,8 +46,10 @@ change-needs commands.Checkpoint change = tt
 change-needs commands.Stats change = change
 change-needs commands.Reopen change = tt
 change-needs commands.Quit change = change
-change-needs (commands.Node label) change = tt
-change-needs (commands.Edge from label to) change = tt
+change-needs (commands.Node label pairs) change = tt
+change-needs (commands.Edge from label to pairs) change = tt
+change-needs (commands.Set target key value) change = tt
+change-needs (commands.Unset target key) change = tt
 change-needs (commands.Delete target) change = tt
 change-needs (commands.Query query) change = tt
 

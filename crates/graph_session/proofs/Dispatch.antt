@@ -7,7 +7,6 @@ use Rattle.stream_io.specs.declared.streams.Sink.{Ghosts as SinkGhosts}
 use Rattle.plain_graph.specs.Reply.{Faulted, NoMemory, Refused, Reply, reply_text}
 use Rattle.plain_graph.specs.declared.command.Command.{Command}
 use Rattle.plain_graph.specs.declared.command.Command.TheVariants as commands
-use Rattle.plain_graph.specs.declared.query.Query.{Query}
 use Rattle.plain_graph.specs.declared.refusal.Refusal.{Refusal}
 use Rattle.plain_graph.specs.declared.refusal.Refusal.TheVariants as refusals
 use Rattle.gremlin_parse.specs.Faults.{IsLeftmostFault}
@@ -18,8 +17,7 @@ use Rattle.graph_session.specs.Answer.{AnswersLine, Gives, Terminal}
 use Rattle.graph_session.specs.Answering.{reply_of}
 use Rattle.graph_session.specs.Console.{SessionView}
 use Rattle.graph_session.specs.Refusals.{SpellsOnly, refusal_of}
-use Rattle.graph_session.specs.Settling.{AnswersCommand, HasName, IsLoud, IsPlain, IsServed, SettlesCommand, told_of}
-use Rattle.graph_session.specs.declared.health.Health.{Health}
+use Rattle.graph_session.specs.Settling.{IsLoud, IsServed, SettlesCommand, told_of}
 use Rattle.graph_session.specs.declared.health.Health.TheVariants as healths
 use Rattle.graph_session.specs.declared.turn.Turn.{Turn}
 use Rattle.graph_session.specs.declared.turn.Turn.TheVariants as turns
@@ -28,36 +26,12 @@ use Rattle.graph_session.proofs.Conditions.{failed-refused, fault-refused, long-
 use Rattle.graph_session.proofs.Spelling.{IsMute, lacks-memory, quit-only}
 use Rattle.graph_session.proofs.States.{is_failed}
 
--- the label of a node, or the type of an edge, that a line spells is a name
-pub spelled-name : (line : List ℕ) (command : Command) → Spells line command → HasName command
-spelled-name line commands.Blank spells = tt
-spelled-name line commands.Begin spells = tt
-spelled-name line commands.Commit spells = tt
-spelled-name line commands.Rollback spells = tt
-spelled-name line commands.Checkpoint spells = tt
-spelled-name line commands.Stats spells = tt
-spelled-name line commands.Reopen spells = tt
-spelled-name line commands.Quit spells = tt
-spelled-name line (commands.Node label) spells = (spells.0.1.4.4.4.3.1, spells.1.1.1.1.0)
-spelled-name line (commands.Edge from label to) spells = (spells.0.1.4.4.4.4.4.3.1, spells.1.1.1.1.1.1.0)
-spelled-name line (commands.Delete target) spells = tt
-spelled-name line (commands.Query query) spells = tt
-
 module _ {D K : Type 0} {g : DiskGhosts D} {sink : SinkGhosts K} {line : List ℕ} {command : Command} (only : SpellsOnly line command) {old new : Terminal D K} {turn : Turn} where
   -- a command that was settled, and whose reply was given
   pub answers-settled : (reply : Reply) → command ≢ commands.Quit → IsServed old.session.console command → SettlesCommand g command old.session new.session reply
       → Gives sink (reply_text reply) old.output new.output turn → AnswersLine g sink (Whole line) old new turn
   answers-settled reply other served settles gives =
       answers-given {line = Whole line} reply gives (quit-only only other) settles.onward (λ state at. settles.settles line state only served at)
-
-  -- one that gives its own reply
-  pub answers-command : IsServed old.session.console command → AnswersCommand g sink command old new turn → AnswersLine g sink (Whole line) old new turn
-  answers-command served command_answers = record {
-    answers = λ state at. command_answers.answers line state only served at;
-    cause = command_answers.cause;
-    later = command_answers.later;
-    onward = command_answers.onward;
-  }
 
 blank-not_quit : ¬ (commands.Quit ≡ commands.Blank)
 blank-not_quit e = cc
@@ -105,36 +79,8 @@ module _ {D K : Type 0} (g : DiskGhosts D) (only_now : OnlyNow g) (sink : SinkGh
         (λ state at. settles-memory_at_once {g = g} only_now {line = Whole line} at (lacks-memory line (memory refl)))
     answers-fault (faults.Syntax at) leftmost none memory gives = answers-refused (faults.Syntax at) (refusals.Syntax at) (leftmost (λ e. cc)) refl (none (λ e. cc) commands.Quit) gives
     answers-fault (faults.NameLength at) leftmost none memory gives = answers-refused (faults.NameLength at) (refusals.NameLength at) (leftmost (λ e. cc)) refl (none (λ e. cc) commands.Quit) gives
+    answers-fault (faults.TextLength at) leftmost none memory gives = answers-refused (faults.TextLength at) (refusals.TextLength at) (leftmost (λ e. cc)) refl (none (λ e. cc) commands.Quit) gives
     answers-fault (faults.NumberRange at) leftmost none memory gives = answers-refused (faults.NumberRange at) (refusals.NumberRange at) (leftmost (λ e. cc)) refl (none (λ e. cc) commands.Quit) gives
-
--- which commands are told apart
-pub loud-other : (command : Command) → command ≢ commands.Blank → command ≢ commands.Quit → command ≢ commands.Reopen → IsLoud command
-loud-other commands.Blank blank quit reopen = blank refl
-loud-other commands.Begin blank quit reopen = tt
-loud-other commands.Commit blank quit reopen = tt
-loud-other commands.Rollback blank quit reopen = tt
-loud-other commands.Checkpoint blank quit reopen = tt
-loud-other commands.Stats blank quit reopen = tt
-loud-other commands.Reopen blank quit reopen = reopen refl
-loud-other commands.Quit blank quit reopen = quit refl
-loud-other (commands.Node label) blank quit reopen = tt
-loud-other (commands.Edge from label to) blank quit reopen = tt
-loud-other (commands.Delete target) blank quit reopen = tt
-loud-other (commands.Query query) blank quit reopen = tt
-
-pub plain-other : (command : Command) → IsLoud command → ((query : Query) → command ≢ commands.Query query) → IsPlain command
-plain-other commands.Blank loud other = loud
-plain-other commands.Begin loud other = tt
-plain-other commands.Commit loud other = tt
-plain-other commands.Rollback loud other = tt
-plain-other commands.Checkpoint loud other = tt
-plain-other commands.Stats loud other = tt
-plain-other commands.Reopen loud other = loud
-plain-other commands.Quit loud other = loud
-plain-other (commands.Node label) loud other = tt
-plain-other (commands.Edge from label to) loud other = tt
-plain-other (commands.Delete target) loud other = tt
-plain-other (commands.Query query) loud other = other query refl
 
 pub loud-not_mute : (command : Command) → IsLoud command → ¬ IsMute command
 loud-not_mute command loud (inl e) = subst IsLoud e loud
@@ -142,8 +88,3 @@ loud-not_mute command loud (inr e) = subst IsLoud e loud
 
 pub loud-not_reopen : (command : Command) → IsLoud command → command ≢ commands.Reopen
 loud-not_reopen command loud e = subst IsLoud e loud
-
--- a session that the disk has not failed is live
-pub not_failed-live : (health : Health) → health ≢ healths.Failed → health ≡ healths.Live
-not_failed-live healths.Live other = refl
-not_failed-live healths.Failed other = absurd (other refl)

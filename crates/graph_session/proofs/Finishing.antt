@@ -1,11 +1,12 @@
 -- A change, from its draft to its reply.
-use Rattle.std.proofs.Common.{◌≡◌, ◌∙◌, ◌+◌, ◌<◌, ◌≤◌, ℕ, true, Ok, Err, Result, Some, List, [], ◌∷◌, length, take, inl, inr, refl, sym, ap, subst, arith}
+use Rattle.std.proofs.Common.{◌≡◌, ◌∙◌, ◌+◌, ◌<◌, ◌≤◌, ℕ, true, Ok, Err, Result, Some, List, [], length, take, inl, inr, refl, sym, ap, subst, arith}
 use Rattle.fault_count.specs.Cause.{Rose}
 use Rattle.disk_model.specs.Spans.{OnlyReads}
 use Rattle.disk_model.specs.declared.disk.Disk.{Ghosts}
 use Rattle.stream_io.specs.Lines.{Whole}
 use Rattle.plain_graph.specs.Changes.{Changes, IsChange, Weighs, most_weight}
 use Rattle.plain_graph.specs.Graph.{Graph}
+use Rattle.plain_graph.specs.Refusals.{FirstReason, NoReason, change_reasons}
 use Rattle.plain_graph.specs.Reply.{DiskFailed, Faulted, NoMemory, Reply}
 use Rattle.plain_graph.specs.declared.command.Command.{Command}
 use Rattle.plain_graph.specs.declared.refusal.Refusal.TheVariants as refusals
@@ -20,11 +21,11 @@ use Rattle.graph_session.specs.Answer.{Settles}
 use Rattle.graph_session.specs.Answering.{reply_of}
 use Rattle.graph_session.specs.Console.{IsAt, SessionView}
 use Rattle.graph_session.specs.DiskUse.{UsesDisk}
-use Rattle.graph_session.specs.Drafting.{Discards, Drafts, Finishes, HasDraft, HasStore, IsStopped, KeepsDraft, OnlyDrafts, Sees, TellsChange}
-use Rattle.graph_session.specs.Refusals.{IsAccepted, SpellsOnly}
-use Rattle.graph_session.specs.Session.{HaveSameDisk, view}
+use Rattle.graph_session.specs.Drafting.{Discards, Drafts, Finishes, HasDraft, HasStore, IsStopped, KeepsDraft, OnlyDrafts, TellsChange}
+use Rattle.graph_session.specs.Refusals.{SpellsOnly}
+use Rattle.graph_session.specs.Session.{view}
 use Rattle.graph_session.specs.Settling.{SettlesCommand}
-use Rattle.graph_session.specs.State.{State, Transaction}
+use Rattle.graph_session.specs.State.{State, Transaction, seen}
 use Rattle.graph_session.specs.declared.answer.Answer.{Answer}
 use Rattle.graph_session.specs.declared.answer.Answer.TheVariants as answers
 use Rattle.graph_session.specs.declared.changing.Drafted.{Drafted}
@@ -34,6 +35,7 @@ use Rattle.graph_session.proofs.Answering.{IsGood, settles-damaged, settles-memo
 use Rattle.graph_session.proofs.Changes.{Keeps, change-reached, settles-change_fault, settles-kept}
 use Rattle.graph_session.proofs.Conditions.{accepted, heavy-refused, refused, weight-light}
 use Rattle.graph_session.proofs.DiskUse.{change-needs, uses-reads}
+use Rattle.graph_session.proofs.Drafts.{Sees, sees-as}
 use Rattle.graph_session.proofs.StoreRecords.{committed-beneath, committed-read, drafted-none, working-beneath, working-read}
 use Rattle.graph_session.proofs.Held.{held, names-working, seen_open, take-brought}
 use Rattle.graph_session.proofs.Spelling.{change-spared, spared-only}
@@ -84,7 +86,7 @@ module _ {D : Type 0} {g : Ghosts D} where
     settles-stopped (answers.EdgeMade id) stopped stays fault = absurd stopped
     settles-stopped (answers.Counted counts) stopped stays fault = absurd stopped
     settles-stopped (answers.Refused why) stopped stays fault =
-        settles-refused at (stays (λ e. cc)) why (λ told. refused state spelled (change-reached at live spelled change) why (stopped told (has told) state (sees told)))
+        settles-refused at (stays (λ e. cc)) why (λ told. refused state spelled (change-reached at live spelled change) why (sees-as (sees told) (λ limit graph. FirstReason change_reasons limit graph command why) (stopped told (has told))))
         (unmade-uses at live spelled change (stays (λ e. cc)))
     settles-stopped answers.NoMemory stopped stays fault = unmade-memory at live spelled change (stays (λ e. cc))
     settles-stopped answers.DiskFailed stopped stays fault = fault refl stopped
@@ -138,11 +140,15 @@ module _ {D : Type 0} {g : Ghosts D} where
           subst (λ (threshold : ℕ). Weighs threshold transaction.graph command made.weight) (ap (λ (shape : Shape). shape.threshold) (sym at.shape))
           (subst (λ (graph : Graph). Weighs old.store.base.shape.threshold graph command made.weight) (same-graph told) (has-draft told).weighs)
 
+      -- no reason refuses the change in the graph that the line sees
+      is-free : g.tells_reads → NoReason change_reasons state.shape.limit (seen state) command
+      is-free told = sees-as (has-sees old at live told) (λ limit graph. NoReason change_reasons limit graph command) (has-draft told).free
+
       settles-full : Stays g (view old) (view new) → most_weight < mid.weight + made.weight → Settles g (Whole line) (view old) (view new) state (reply_of (answers.Refused refusals.TransactionFull))
       settles-full stays more =
           settles-refused at stays refusals.TransactionFull
           (λ told.
-          heavy-refused state spelled ((has-draft told).free state (has-sees old at live told)) (change-reached at live spelled change) transaction is made.weight (weighs-it told)
+          heavy-refused state spelled (is-free told) (change-reached at live spelled change) transaction is made.weight (weighs-it told)
           (let a = at.weight transaction is in let b = only.weight in omega (arith, a, b, more)))
           (unmade-uses at live spelled change stays)
 
@@ -156,7 +162,7 @@ module _ {D : Type 0} {g : Ghosts D} where
             named = kept.names ∙ (has-draft told).store.names ∙ ap names_of (sym kept.working);
           })
           (λ told.
-          accepted state spelled (change-reached at live spelled change) ((has-draft told).free state (has-sees old at live told))
+          accepted state spelled (change-reached at live spelled change) (is-free told)
           (weight-light state command transaction is made.weight (weighs-it told)
           (let a = at.weight transaction is in let b = only.weight in let fits = kept.fits in omega (arith, a, b, fits))))
           (λ told.
@@ -203,8 +209,3 @@ module _ {D : Type 0} {g : Ghosts D} where
             subst (λ (a : Answer). Settles g (Whole line) (view old) (view new) state (reply_of a)) (sym told_so) (settles-unmade spelled at why drafts drops);
         onward = record { disk_later = later-on new.store.base.disk.now drops.beneath.disk };
       }
-
-    pub finish-disk : (result : Result Drafted Answer) (count : ℕ) (answer : Answer) → Finishes result count mid new answer → HaveSameDisk old new
-    finish-disk (Ok made) count answer (inl h) = h.1.beneath.same_disk ∙ only.base.same_disk
-    finish-disk (Ok made) count answer (inr h) = h.1.beneath.same_disk ∙ only.base.same_disk
-    finish-disk (Err why) count answer h = h.1.beneath.same_disk ∙ only.base.same_disk

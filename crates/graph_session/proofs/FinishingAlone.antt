@@ -6,6 +6,7 @@ use Rattle.disk_model.specs.declared.disk.Disk.{Ghosts}
 use Rattle.stream_io.specs.Lines.{Whole}
 use Rattle.plain_graph.specs.Changes.{Changes, IsChange}
 use Rattle.plain_graph.specs.Graph.{Graph}
+use Rattle.plain_graph.specs.Refusals.{NoReason, change_reasons}
 use Rattle.plain_graph.specs.declared.command.Command.{Command}
 use Rattle.rec_bytes.specs.declared.key.Key.{Key}
 use Rattle.rec_bytes.specs.declared.record.Rec.{Rec}
@@ -18,9 +19,9 @@ use Rattle.txn_core.specs.Store.{committed, drafted, state_of}
 use Rattle.graph_session.specs.Answer.{Settles}
 use Rattle.graph_session.specs.Answering.{reply_of}
 use Rattle.graph_session.specs.Console.{IsAt}
-use Rattle.graph_session.specs.Drafting.{CommitsRecords, DoubtsRecords, Drafts, DropsAlone, FinishesAlone, HasDraft, HasStore, IsStopped, OnlyDrafts, Sees, TellsChange, TriesCommit}
+use Rattle.graph_session.specs.Drafting.{CommitsRecords, DoubtsRecords, Drafts, DropsAlone, FinishesAlone, HasDraft, HasStore, IsStopped, OnlyDrafts, TellsChange, TriesCommit}
 use Rattle.graph_session.specs.Refusals.{IsAccepted, SpellsOnly}
-use Rattle.graph_session.specs.Session.{HaveSameDisk, view}
+use Rattle.graph_session.specs.Session.{view}
 use Rattle.graph_session.specs.Settling.{SettlesCommand}
 use Rattle.graph_session.specs.State.{State}
 use Rattle.graph_session.specs.declared.answer.Answer.{Answer}
@@ -30,7 +31,7 @@ use Rattle.graph_session.specs.declared.health.Health.TheVariants as healths
 use Rattle.graph_session.specs.declared.session.Session.{Session}
 use Rattle.graph_session.proofs.Changes.{CommitsAlone, CommitsFrom, FailsAlone, IsAloneInDoubt, change-reached, settles-alone, settles-alone_fault, settles-alone_read_fault}
 use Rattle.graph_session.proofs.Conditions.{accepted, alone-light}
-use Rattle.graph_session.proofs.Drafts.{stored-either}
+use Rattle.graph_session.proofs.Drafts.{Sees, sees-as, stored-either}
 use Rattle.graph_session.proofs.StoreRecords.{committed-beneath, committed-read, drafted-none, length-none, working-none}
 use Rattle.graph_session.proofs.Finishing.{settles-stopped, tells-good, unmade-memory}
 use Rattle.graph_session.proofs.Held.{held, seen_closed, take-brought}
@@ -172,7 +173,7 @@ module _ {D : Type 0} {g : Ghosts D} {begun mid : Session D g} (old new : Sessio
         where
           is_accepted : g.tells_reads → IsAccepted state (Whole line)
           is_accepted told =
-              accepted state spelled (change-reached at live spelled change) ((alone-draft told).free state (sees-begun at told)) (alone-light state command (is_closed at closed))
+              accepted state spelled (change-reached at live spelled change) (sees-as (sees-begun at told) (λ limit graph. NoReason change_reasons limit graph command) (alone-draft told).free) (alone-light state command (is_closed at closed))
 
           by : ((answer ≡ made.answer) × CommitsRecords (drafted mid.store) mid new) ⊎ ((answer ≡ answers.DiskFailed) × DoubtsRecords (drafted mid.store) mid new)
               → Settles g (Whole line) (view old) (view new) state (reply_of answer)
@@ -204,15 +205,3 @@ module _ {D : Type 0} {g : Ghosts D} {begun mid : Session D g} (old new : Sessio
           unmade-alone count counts answer drops change spelled at (subst (λ (a : Answer). IsStopped command begun mid.store.base.disk.now a) (sym is) drafts);
       onward = record { disk_later = later-dropped count counts answer drops };
     }
-
-  tried-disk : (now : Key → Rec) (made answer : Answer) → TriesCommit now mid new made answer → HaveSameDisk mid new
-  tried-disk now made answer tries = by tries.ends
-    where
-      by : ((answer ≡ made) × CommitsRecords now mid new) ⊎ ((answer ≡ answers.DiskFailed) × DoubtsRecords now mid new) → HaveSameDisk mid new
-      by (inl h) = h.1.closes.same.same_disk
-      by (inr h) = h.1.closes.same.same_disk
-
-  pub finish_alone-disk : (result : Result Drafted Answer) (count : ℕ) (answer : Answer) → FinishesAlone result count mid new answer → HaveSameDisk old new
-  finish_alone-disk (Ok made) count answer (inl tries) = tried-disk (drafted mid.store) made.answer answer tries ∙ only.base.same_disk ∙ same.same_disk
-  finish_alone-disk (Ok made) count answer (inr h) = h.1.beneath.same_disk ∙ only.base.same_disk ∙ same.same_disk
-  finish_alone-disk (Err why) count answer h = h.1.beneath.same_disk ∙ only.base.same_disk ∙ same.same_disk

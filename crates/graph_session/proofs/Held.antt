@@ -1,19 +1,12 @@
 -- What a live session holds.
-use Rattle.std.proofs.Common.{◌≡◌, ◌⊎◌, ◌∙◌, ◌<◌, ◌≤◌, ℕ, Bool, true, false, nat_eq, Some, None, List, ◌++◌, Contains, length, take, inl, inr, ⊎_elim, true≢false, refl, sym, ap, arith}
-use Rattle.std.specs.Cmp.Lexicographic.{pointwise, same_text}
-use Rattle.std.specs.List.{list_any}
-use Rattle.std.proofs.lemmas.Bool.{cases_lt}
-use Rattle.std.proofs.lemmas.Cmp.{nat_list_eq_equiv}
-use Rattle.std.proofs.lemmas.Map.Views.{Contains-from_any, list_any-from_Contains}
+use Rattle.std.proofs.Common.{◌≡◌, ◌∙◌, ℕ, Some, None, List, ◌++◌, length, take, sym, ap}
 use Rattle.std.proofs.Math.Seq.{take-append_seam}
 use Rattle.disk_model.specs.declared.disk.Disk.{Ghosts}
 use Rattle.plain_graph.specs.Graph.{Graph}
-use Rattle.rec_bytes.specs.Format.{most_names, names_file}
+use Rattle.rec_bytes.specs.Format.{names_file}
 use Rattle.rec_bytes.specs.declared.key.Key.{Key}
 use Rattle.rec_bytes.specs.declared.record.Rec.{Rec}
-use Rattle.rec_bytes.specs.declared.shape.Shape.{Shape}
 use Rattle.store_rules.specs.Graph.{graph_of, names_of}
-use Rattle.store_rules.specs.Rules.{IsSparseStore}
 use Rattle.store_rules.specs.Views.{high, rec_at, text_of}
 use Rattle.store_rules.proofs.NameRows.{length-rows}
 use Rattle.graph_session.specs.Console.{HoldsGraphs, IsAt, SessionView}
@@ -32,28 +25,6 @@ seen_open state transaction is = ap (seen_by state.committed) is
 -- as many names as were given out
 pub length-names : (records : Key → Rec) → length (names_of records) ≡ high records names_file
 length-names records = length-rows (λ x. text_of (rec_at records names_file x)) (high records names_file)
-
--- at most as many as a store may have
-pub names-few : (records : Key → Rec) (shape : Shape) → IsSparseStore records shape → length (names_of records) ≤ most_names
-names-few records shape store =
-    let most : high records names_file ≤ most_names = (store.keeps.ranges.metas names_file refl).high in
-    let count = length-names records in
-    omega (arith, most, count)
-
--- a name is known or new
-pub known_or_new : (names : List (List ℕ)) (name : List ℕ) → Contains names name ⊎ (¬ Contains names name)
-known_or_new names name = by (list_any (pointwise nat_eq name) names) refl
-  where
-    by : (known : Bool) → list_any (pointwise nat_eq name) names ≡ known → Contains names name ⊎ (¬ Contains names name)
-    by true e = inl (Contains-from_any (λ x y h. same_text x y (sym h)) name names e)
-    by false e = inr (λ h. absurd (true≢false (sym (list_any-from_Contains nat_list_eq_equiv name names h) ∙ e)))
-
--- a name has room where it is known, or there are fewer than there may be
-pub name-room : (names : List (List ℕ)) (name : List ℕ) → length names ≤ most_names → (length names ≡ most_names → (¬ Contains names name) → ⊥) → Contains names name ⊎ (length names < most_names)
-name-room names name few full = ⊎_elim
-    (λ (known : Contains names name). inl known)
-    (λ (new : ¬ Contains names name). ⊎_elim (λ (lt : length names < most_names). inr lt) (λ (ge : most_names ≤ length names). absurd (full (omega (arith, few, ge)) new)) (cases_lt (length names) most_names))
-    (known_or_new names name)
 
 -- names that were brought are cut
 pub take-brought : {E : Type 0} (names more : List E) (count : ℕ) → count ≡ length names → take count (names ++ more) ≡ names

@@ -16,6 +16,7 @@ pub mod Moves
 pub mod Openings
 pub mod Queries
 pub mod Reopening
+pub mod ShortLines
 pub mod Spelling
 pub mod Stands
 pub mod States

@@ -6,9 +6,8 @@ use Rattle.disk_model.specs.declared.disk.Disk.{Ghosts}
 use Rattle.disk_model.proofs.Spans.{OnlyNow, only_reads_none}
 use Rattle.plain_graph.specs.Reply.{Counted, DiskFailed, Done, Faulted, Refused}
 use Rattle.plain_graph.specs.declared.command.Command.TheVariants as commands
-use Rattle.plain_graph.specs.declared.counts.Counts.{Counts}
 use Rattle.plain_graph.specs.declared.refusal.Refusal.TheVariants as refusals
-use Rattle.rec_bytes.specs.Format.{names_file, nodes_file, relationships_file}
+use Rattle.rec_bytes.specs.Format.{names_file, nodes_file, properties_file, relationships_file, strings_file}
 use Rattle.rec_bytes.specs.Pairs.{Held}
 use Rattle.rec_bytes.specs.Space.{meta_in, meta_of}
 use Rattle.rec_bytes.specs.declared.key.Key.{Key}
@@ -27,7 +26,7 @@ use Rattle.graph_session.specs.declared.health.Health.{Health}
 use Rattle.graph_session.specs.declared.health.Health.TheVariants as healths
 use Rattle.graph_session.proofs.Answering.{settles-refused_at_once}
 use Rattle.graph_session.proofs.Conditions.{closed-refused, open-refused}
-use Rattle.graph_session.proofs.Counts.{settles-stats}
+use Rattle.graph_session.proofs.Counts.{counts_from, counts_from-same, settles-stats}
 use Rattle.graph_session.proofs.Stands.{IsStored}
 use Rattle.graph_session.proofs.States.{is_open, not_failed, not_open}
 use Rattle.graph_session.proofs.Staying.{KeepsBeneath, stays-none}
@@ -52,9 +51,6 @@ seen_as store health weight names = record {
   disk = store.base.disk.now;
 }
 
-abbrev counts_so : ℕ → ℕ → ℕ → Counts
-counts_so nodes edges names = record { nodes = nodes; edges = edges; properties = 0; blocks = 0; names = names }
-
 module _ {D : Type 0} {g : Ghosts D} where
   stored-one : (disk : D) (space : Key → Rec) → IsOnDisk g disk (λ left. Redoes left space) → IsStored g disk (λ left. Redoes left space)
   stored-one disk space stored = record { read = stored.read; images = λ told image left. stored.images told.0 told.1 image left }
@@ -64,20 +60,6 @@ module _ {D : Type 0} {g : Ghosts D} where
 
   -- a line that is refused at once, for a transaction that is open or none
   module _ (only_now : OnlyNow g) (old : SessionView D) (live : old.console.health ≡ healths.Live) where
-    pub refused-begin : old.console.is_open ≡ true → SettlesCommand g commands.Begin old old (Refused refusals.TransactionOpen)
-    refused-begin opened = record {
-      settles = λ line state only served at.
-          settles-refused_at_once only_now at refusals.TransactionOpen (λ told. open-refused state only (inl (not_failed at live)) (inl refl) (is_open at opened));
-      onward = record { disk_later = omega arith };
-    }
-
-    pub refused-checkpoint : old.console.is_open ≡ true → SettlesCommand g commands.Checkpoint old old (Refused refusals.TransactionOpen)
-    refused-checkpoint opened = record {
-      settles = λ line state only served at.
-          settles-refused_at_once only_now at refusals.TransactionOpen (λ told. open-refused state only (inl (not_failed at live)) (inr (inl refl)) (is_open at opened));
-      onward = record { disk_later = omega arith };
-    }
-
     pub refused-commit : old.console.is_open ≡ false → SettlesCommand g commands.Commit old old (Refused refusals.NoTransaction)
     refused-commit closed = record {
       settles = λ line state only served at.
@@ -221,13 +203,14 @@ module _ {D : Type 0} {g : Ghosts D} where
     }
 
   -- what is counted
-  pub counted : OnlyNow g → (s : Store D g) (health : Health) → health ≡ healths.Live → (weight : ℕ) (names : List (List ℕ)) (nodes edges : Meta) (count : ℕ) → nodes ≡ meta_of (state_of s) nodes_file → edges ≡ meta_of (state_of s) relationships_file → count ≡ length names
-      → SettlesCommand g commands.Stats (seen_as s health weight names) (seen_as s health weight names) (Counted (record { nodes = nodes.live; edges = edges.live; properties = 0; blocks = 0; names = count }))
-  counted only_now s health live weight names nodes edges count is linked all = record {
+  pub counted : OnlyNow g → (s : Store D g) (health : Health) → health ≡ healths.Live → (weight : ℕ) (names : List (List ℕ)) (nodes edges properties blocks : Meta) (count : ℕ)
+      → nodes ≡ meta_of (state_of s) nodes_file → edges ≡ meta_of (state_of s) relationships_file → properties ≡ meta_of (state_of s) properties_file → blocks ≡ meta_of (state_of s) strings_file → count ≡ length names
+      → SettlesCommand g commands.Stats (seen_as s health weight names) (seen_as s health weight names) (Counted (counts_from nodes.live edges.live properties.live blocks.live count))
+  counted only_now s health live weight names nodes edges properties blocks count node_is edge_is property_is block_is all = record {
     settles = λ line state only served at.
-        settles-stats at live only (stays-none only_now (seen_as s health weight names) at.no_draft) refl (counts_so nodes.live edges.live count)
-        (ap (λ (m : Meta). counts_so m.live edges.live count) is ∙ ap (λ (m : Meta). counts_so (meta_of (state_of s) nodes_file).live m.live count) linked
-        ∙ ap (λ (records : Key → Rec). counts_so (meta_in records nodes_file).live (meta_in records relationships_file).live count) (drafted-none s at.no_draft)
-        ∙ ap (λ (n : ℕ). counts_so (meta_in (working s) nodes_file).live (meta_in (working s) relationships_file).live n) all);
+        let live_of = λ (meta : Meta) (file : ℕ) (is : meta ≡ meta_of (state_of s) file).
+        ap (λ (m : Meta). m.live) is ∙ ap (λ (records : Key → Rec). (meta_in records file).live) (drafted-none s at.no_draft) in
+        settles-stats at live only (stays-none only_now (seen_as s health weight names) at.no_draft) refl (counts_from nodes.live edges.live properties.live blocks.live count)
+        (counts_from-same (live_of nodes nodes_file node_is) (live_of edges relationships_file edge_is) (live_of properties properties_file property_is) (live_of blocks strings_file block_is) all);
     onward = record { disk_later = omega arith };
   }

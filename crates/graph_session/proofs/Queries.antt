@@ -11,7 +11,7 @@ use Rattle.plain_graph.specs.Reply.{Counted, DamagedRecord, DiskFailed, Done, Fa
 use Rattle.plain_graph.specs.declared.command.Command.TheVariants as commands
 use Rattle.plain_graph.specs.declared.item.Item.{Item}
 use Rattle.plain_graph.specs.declared.item.Item.TheVariants as items
-use Rattle.plain_graph.specs.declared.item.Value.TheVariants as values
+use Rattle.plain_graph.specs.declared.value.Value.TheVariants as values
 use Rattle.plain_graph.specs.declared.query.Query.{Query}
 use Rattle.plain_graph.specs.declared.query.Step.{Step}
 use Rattle.plain_graph.specs.declared.query.Step.TheVariants as steps

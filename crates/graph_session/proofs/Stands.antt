@@ -56,9 +56,6 @@ Stands-only content shape other a b (inr h) (inr k) = IsMade-only content shape 
 pub IsMade-redoes : (content : Files) (space : Key → Rec) (shape : Shape) → Redoes content space → IsSparseStore space shape → IsMade content shape (graph_of space)
 IsMade-redoes content space shape redoes store = record { space = space; redoes = redoes; store = store; graph_is = refl }
 
-pub Stands-redoes : (content : Files) (space : Key → Rec) (shape : Shape) → Redoes content space → IsSparseStore space shape → Stands content shape (graph_of space)
-Stands-redoes content space shape redoes store = inr (IsMade-redoes content space shape redoes store)
-
 -- the records are those of a well-formed store, and the state admits their graph
 pub record IsOneOf (state : State) (space : Key → Rec) : Type 0 where
   pub store : IsSparseStore space state.shape

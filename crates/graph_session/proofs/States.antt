@@ -1,10 +1,7 @@
 -- How a console stands whose state is known.
-use Rattle.std.proofs.Common.{◌≡◌, ◌≢◌, ◌∙◌, true, false, Option, Some, None, is_some, inl, inr, refl, sym}
+use Rattle.std.proofs.Common.{◌≡◌, ◌∙◌, true, false, Option, Some, None, is_some, refl, sym}
 use Rattle.disk_model.specs.declared.disk.Disk.{Ghosts}
-use Rattle.plain_graph.specs.declared.command.Command.{Command}
-use Rattle.plain_graph.specs.declared.command.Command.TheVariants as commands
-use Rattle.graph_session.specs.Console.{ConsoleView, IsAt, SessionView}
-use Rattle.graph_session.specs.Settling.{IsServed}
+use Rattle.graph_session.specs.Console.{IsAt, SessionView}
 use Rattle.graph_session.specs.State.{Failed, IsFailed, IsOpen, Live, Standing, State, Transaction, health_of}
 use Rattle.graph_session.specs.declared.health.Health.TheVariants as healths
 
@@ -34,11 +31,6 @@ same_one a b e = cc
 
 pub closed-not_open : (state : State) → state.open_one ≡ None → ¬ IsOpen state
 closed-not_open state none (transaction, is) = cc
-
--- a console that serves another command than `reopen` is live
-pub served-live : (console : ConsoleView) (command : Command) → IsServed console command → command ≢ commands.Reopen → console.health ≡ healths.Live
-served-live console command (inl live) other = live
-served-live console command (inr again) other = absurd (other again)
 
 module _ {D : Type 0} {g : Ghosts D} {session : SessionView D} {state : State} (at : IsAt g session state) where
   pub is_failed : session.console.health ≡ healths.Failed → IsFailed state.standing

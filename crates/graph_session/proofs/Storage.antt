@@ -28,7 +28,7 @@ use Rattle.graph_session.proofs.Conditions.{NeedsOne, idle-accepted, reached}
 use Rattle.graph_session.proofs.DiskUse.{uses-writes}
 use Rattle.graph_session.proofs.Held.{committed-one, held, seen_closed}
 use Rattle.graph_session.proofs.Known.{begin-same, known-admitted, known-one}
-use Rattle.graph_session.proofs.Stands.{IsOneOf, IsStored, Redoes-only, all-admitted, own-one, redone-admitted, redone-held}
+use Rattle.graph_session.proofs.Stands.{IsOneOf, IsStored, all-admitted, own-one, redone-admitted, redone-held}
 use Rattle.graph_session.proofs.States.{is_closed, not_failed, not_open}
 use Rattle.graph_session.proofs.Transactions.{Ends}
 
@@ -156,10 +156,6 @@ LeavesSame g old new = TellsAll g → (space : Key → Rec) → Redoes (g.reads 
 -- and so it is after further reads
 pub leaves-same_read : {D : Type 0} (g : Ghosts D) (old mid new : D) → CountsNow g → LeavesSame g old mid → OnlyReads g mid new → LeavesSame g old new
 leaves-same_read g old mid new counts leaves reads told space redoes = at_each_moment_read g old mid new _ counts told.1 (leaves told space redoes) reads
-
--- what redoes like the one redoes to the other
-pub redoes-alike : (content left : Files) (a space : Key → Rec) → Redoes content a → Redoes left a → Redoes content space → Redoes left space
-redoes-alike content left a space was is redoes = subst (λ (found : Key → Rec). Redoes left found) (Redoes-only content a space was redoes) is
 
 -- the state in which the disk still has one of the graphs
 abbrev pub lost : State → State

@@ -14,10 +14,6 @@ use Rattle.graph_session.specs.declared.turn.Turn.TheVariants.{Go, Quit, SinkFau
 pub Rose-from : (a b c : ℕ) → a ≤ b → Rose b c → Rose a c
 Rose-from a b c le rose = omega arith
 
--- and it rose until later
-pub Rose-until : (a b c : ℕ) → Rose a b → b ≤ c → Rose a c
-Rose-until a b c rose le = omega arith
-
 -- a prefix of a longer text
 pub takes-more : (old new bytes more : List ℕ) → TakesFront old new bytes → TakesFront old new (bytes ++ more)
 takes-more old new bytes more (n, short, is) =

@@ -13,6 +13,7 @@ use Rattle.node_store.specs.Loading.{IsReadable, after_load, row_at}
 use Rattle.node_store.specs.NodeRecord.{row_of}
 use Rattle.node_store.specs.declared.node_row.NodeRow.{NodeRow}
 use Rattle.store_rules.specs.Graph.{graph_of, node_from, node_of}
+use Rattle.store_rules.specs.Properties.{property_records}
 use Rattle.store_rules.specs.Ranges.{Layout, layout_of}
 use Rattle.store_rules.specs.Rows.{collect, option_list}
 use Rattle.store_rules.specs.Rules.{IsSparseStore}
@@ -51,7 +52,7 @@ module _ {R : Type 0} (space : SpaceGhosts R) where
 
 -- the node of this record, by whether it is free
 abbrev node_by : Records → ℕ → Bool → Option Node
-node_by records id free = node_from (rec_at records names_file) (cond free None (Some (node_in (rec_at records nodes_file id) id)))
+node_by records id free = node_from (rec_at records names_file) (property_records records) (cond free None (Some (node_in (rec_at records nodes_file id) id)))
 
 -- a node is in use where its row is found
 pub is_some-row : (records : Records) (id : ℕ) → is_some (node_of records id) ≡ is_some (row_at records id)

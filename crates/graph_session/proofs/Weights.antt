@@ -1,16 +1,37 @@
 -- What a change weighs.
-use Rattle.std.proofs.Common.{◌≡◌, ◌+◌, ◌∙◌, ℕ, List, inl, inr, sym, ap}
-use Rattle.plain_graph.specs.Changes.{IsChange, Weighs, ends_weight}
-use Rattle.plain_graph.specs.Graph.{Graph, NeedsNames}
+use Rattle.std.proofs.Common.{◌≡◌, ◌+◌, ◌∙◌, ℕ, List, [], ◌∷◌, length, inl, inr, sym, ap, subst, arith}
+use Rattle.plain_graph.specs.Changes.{IsChange, Weighs, ends_weight, properties_weight}
+use Rattle.plain_graph.specs.Graph.{Graph, NeedsNames, UsesName, UsesNames, properties_at}
+use Rattle.plain_graph.specs.Properties.{blocks_at, blocks_of, keys_in, no_properties, with_pairs}
 use Rattle.plain_graph.specs.declared.command.Command.{Command}
 use Rattle.plain_graph.specs.declared.command.Command.TheVariants as commands
 use Rattle.plain_graph.specs.declared.command.Target.TheVariants as targets
 
-pub NeedsNames-only : (names : List (List ℕ)) (label : List ℕ) (a b : ℕ) → NeedsNames names label a → NeedsNames names label b → a ≡ b
-NeedsNames-only names label a b (inl h) (inl k) = h.1 ∙ sym k.1
-NeedsNames-only names label a b (inl h) (inr k) = absurd (k.0 h.0)
-NeedsNames-only names label a b (inr h) (inl k) = absurd (h.0 k.0)
-NeedsNames-only names label a b (inr h) (inr k) = h.1 ∙ sym k.1
+-- one name leaves one list of names
+UsesName-only : (old : List (List ℕ)) (name : List ℕ) (a b : List (List ℕ)) → UsesName old name a → UsesName old name b → a ≡ b
+UsesName-only old name a b (inl h) (inl k) = h.1 ∙ sym k.1
+UsesName-only old name a b (inl h) (inr k) = absurd (k.0 h.0)
+UsesName-only old name a b (inr h) (inl k) = absurd (h.0 k.0)
+UsesName-only old name a b (inr h) (inr k) = h.1 ∙ sym k.1
+
+-- and so do the names of a line
+UsesNames-only : (old line a b : List (List ℕ)) → UsesNames old line a → UsesNames old line b → a ≡ b
+UsesNames-only old [] a b h k = h ∙ sym k
+UsesNames-only old (name ∷ later) a b h k =
+    let same : h.0 ≡ k.0 = UsesName-only old name h.0 k.0 h.1 k.1 in
+    UsesNames-only k.0 later a b (subst (λ (known : List (List ℕ)). UsesNames known later a) same h.2) k.2
+
+-- so many of the names of a line are new, and no other number
+NeedsNames-only : (names line : List (List ℕ)) (a b : ℕ) → NeedsNames names line a → NeedsNames names line b → a ≡ b
+NeedsNames-only names line a b h k =
+    let same = ap (λ (known : List (List ℕ)). length known) (UsesNames-only names line h.0 k.0 h.1 k.1) in
+    let one = h.2 in
+    let other = k.2 in
+    omega (arith, same, one, other)
+
+-- what a line weighs by the names that it needs
+weight-only : (of : ℕ → ℕ) (names line : List (List ℕ)) (a b : ℕ) → ((count : ℕ) × NeedsNames names line count × (a ≡ of count)) → ((count : ℕ) × NeedsNames names line count × (b ≡ of count)) → a ≡ b
+weight-only of names line a b h k = h.2 ∙ ap of (NeedsNames-only names line h.0 k.0 h.1 k.1) ∙ sym k.2
 
 -- a change weighs one number
 pub Weighs-only : (threshold : ℕ) (graph : Graph) (command : Command) (a b : ℕ) → Weighs threshold graph command a → Weighs threshold graph command b → a ≡ b
@@ -22,9 +43,11 @@ Weighs-only threshold graph commands.Checkpoint a b h k = absurd h
 Weighs-only threshold graph commands.Stats a b h k = absurd h
 Weighs-only threshold graph commands.Reopen a b h k = absurd h
 Weighs-only threshold graph commands.Quit a b h k = absurd h
-Weighs-only threshold graph (commands.Node label) a b h k = h.2 ∙ ap (λ (n : ℕ). 1 + n) (NeedsNames-only graph.names label h.0 k.0 h.1 k.1) ∙ sym k.2
-Weighs-only threshold graph (commands.Edge from label to) a b h k =
-    h.2 ∙ ap (λ (n : ℕ). 9 + n + ends_weight threshold graph from to) (NeedsNames-only graph.names label h.0 k.0 h.1 k.1) ∙ sym k.2
+Weighs-only threshold graph (commands.Node label pairs) a b h k = weight-only (λ (n : ℕ). 1 + properties_weight (with_pairs no_properties pairs) + n) graph.names (label ∷ keys_in pairs) a b h k
+Weighs-only threshold graph (commands.Edge from label to pairs) a b h k =
+    weight-only (λ (n : ℕ). 9 + properties_weight (with_pairs no_properties pairs) + n + ends_weight threshold graph from to) graph.names (label ∷ keys_in pairs) a b h k
+Weighs-only threshold graph (commands.Set target key value) a b h k = weight-only (λ (n : ℕ). 2 + blocks_of value + blocks_at (properties_at graph target) key + n) graph.names (key ∷ []) a b h k
+Weighs-only threshold graph (commands.Unset target key) a b h k = h ∙ sym k
 Weighs-only threshold graph (commands.Delete (targets.Node id)) a b h k = h ∙ sym k
 Weighs-only threshold graph (commands.Delete (targets.Edge id)) a b h k = h ∙ sym k
 Weighs-only threshold graph (commands.Query query) a b h k = absurd h
@@ -39,8 +62,10 @@ Weighs-change threshold graph commands.Checkpoint weight h = h
 Weighs-change threshold graph commands.Stats weight h = h
 Weighs-change threshold graph commands.Reopen weight h = h
 Weighs-change threshold graph commands.Quit weight h = h
-Weighs-change threshold graph (commands.Node label) weight h = tt
-Weighs-change threshold graph (commands.Edge from label to) weight h = tt
+Weighs-change threshold graph (commands.Node label pairs) weight h = tt
+Weighs-change threshold graph (commands.Edge from label to pairs) weight h = tt
+Weighs-change threshold graph (commands.Set target key value) weight h = tt
+Weighs-change threshold graph (commands.Unset target key) weight h = tt
 Weighs-change threshold graph (commands.Delete (targets.Node id)) weight h = tt
 Weighs-change threshold graph (commands.Delete (targets.Edge id)) weight h = tt
 Weighs-change threshold graph (commands.Query query) weight h = h

@@ -1,13 +1,13 @@
 -- What the steps of a change say: its draft, and what becomes of that.
-use Rattle.std.specs.Prelude.{◌≡◌, ◌⊎◌, ℕ, ◌+◌, ◌<◌, ◌≤◌, IsTrue, false, Result, Ok, Err, List, [], ◌∷◌, ◌++◌, if◌then◌else◌, nat_eq, take}
+use Rattle.std.specs.Prelude.{◌≡◌, ◌⊎◌, ℕ, ◌+◌, ◌<◌, ◌≤◌, IsTrue, false, Result, Ok, Err, List, [], ◌++◌, take}
 use Rattle.fault_count.specs.Cause.{Rose}
 use Rattle.disk_model.specs.Spans.{AtEachMoment}
 use Rattle.disk_model.specs.declared.disk.Disk.{Ghosts}
-use Rattle.plain_graph.specs.Changes.{Changes, Weighs, most_weight}
+use Rattle.plain_graph.specs.Changes.{most_weight}
+use Rattle.plain_graph.specs.Refusals.{FirstReason, change_reasons}
 use Rattle.plain_graph.specs.declared.command.Command.{Command}
 use Rattle.plain_graph.specs.declared.refusal.Refusal.{Refusal}
 use Rattle.plain_graph.specs.declared.refusal.Refusal.TheVariants as refusals
-use Rattle.rec_bytes.specs.Format.{relationships_file}
 use Rattle.rec_bytes.specs.declared.key.Key.{Key}
 use Rattle.rec_bytes.specs.declared.record.Rec.{Rec}
 use Rattle.rec_bytes.specs.Space.{State as Space}
@@ -15,21 +15,16 @@ use Rattle.record_file.specs.Redone.{Redoes}
 use Rattle.txn_core.specs.Base.{OnlyReadsBase, SameBeneath, SameStore}
 use Rattle.txn_core.specs.Kept.{IsOnDisk}
 use Rattle.txn_core.specs.Store.{committed, drafted, state_of, working}
+use Rattle.graph_ops.specs.Change.{MakesChange, full_of}
 use Rattle.graph_ops.specs.Store.{IsStore, graph_in}
 use Rattle.graph_ops.specs.declared.change_fault.ChangeFault.{ChangeFault}
 use Rattle.graph_ops.specs.declared.change_fault.ChangeFault.TheVariants as faults
 use Rattle.graph_session.specs.Answering.{reply_of}
-use Rattle.graph_session.specs.Refusals.{FirstReason, NoReason, change_reasons}
-use Rattle.graph_session.specs.State.{State, seen}
 use Rattle.graph_session.specs.declared.answer.Answer.{Answer}
 use Rattle.graph_session.specs.declared.answer.Answer.TheVariants as answers
 use Rattle.graph_session.specs.declared.changing.Drafted.{Drafted}
 use Rattle.graph_session.specs.declared.health.Health.TheVariants as healths
 use Rattle.graph_session.specs.declared.session.Session.{Session}
-
--- which part of the graph has no room, by its file
-abbrev pub full_of : ℕ → Refusal
-full_of file = if nat_eq file relationships_file then refusals.FullEdges else refusals.FullNodes
 
 -- the answer of a change that is refused
 abbrev pub answer_for : ChangeFault → Answer
@@ -38,6 +33,7 @@ answer_for (faults.NoEdge id) = answers.Refused (refusals.NoEdge id)
 answer_for (faults.HasRelationships id degree) = answers.Refused (refusals.HasRelationships id)
 answer_for (faults.Full file live) = answers.Refused (full_of file)
 answer_for (faults.NamesFull count) = answers.Refused refusals.FullNames
+answer_for (faults.PropsFull count) = answers.Refused refusals.TooManyProperties
 answer_for faults.Memory = answers.NoMemory
 answer_for faults.Disk = answers.DiskFailed
 answer_for (faults.Damaged damage) = answers.Damaged damage
@@ -53,19 +49,9 @@ TellsChange answers.NoMemory = ⊥
 TellsChange answers.DiskFailed = ⊥
 TellsChange (answers.Damaged damage) = ⊥
 
--- The graph that a line sees at this state is that of the space.
-pub record Sees (space : Space) (state : State) : Type 0 where
-  pub shape : state.shape ≡ space.shape
-  pub graph : seen state ≡ graph_in space
-
--- no reason but the weight refuses the command
-abbrev pub IsFree : Command → Space → Type 0
-IsFree command space = (state : State) → Sees space state → NoReason change_reasons state command
-
--- the command is refused so
+-- the command is refused so by the graph of the space
 abbrev pub Refuses : Command → Space → Refusal → Type 0
-Refuses command space why =
-    (state : State) → Sees space state → FirstReason change_reasons state command why
+Refuses command space why = FirstReason change_reasons space.shape.limit (graph_in space) command why
 
 module _ {D : Type 0} {g : Ghosts D} where
   -- the records with the draft are a well-formed store, whose names are those in memory
@@ -81,13 +67,10 @@ module _ {D : Type 0} {g : Ghosts D} where
     pub later : g.faults old.store.base.disk.now ≤ g.faults new.store.base.disk.now
 
   -- The draft has the change of this command, which gets this reply.
-  pub record HasDraft (command : Command) (old new : Session D g) (made : Drafted) : Type 0 where
-    pub store : HasStore new
-    pub changes : Changes old.store.base.shape.limit (graph_in (state_of old.store)) command
-        (reply_of made.answer) (graph_in (state_of new.store))
-    pub weighs : Weighs old.store.base.shape.threshold (graph_in (state_of old.store)) command
-        made.weight
-    pub free : IsFree command (state_of old.store)
+  abbrev pub HasDraft : Command → Session D g → Session D g → Drafted → Type 0
+  HasDraft command old new made =
+      MakesChange command (reply_of made.answer) made.weight (state_of old.store)
+      (state_of new.store) new.names.names
 
   -- why no change was drafted, over the disk as it is then
   abbrev pub IsStopped : Command → Session D g → D → Answer → Type 0

@@ -49,9 +49,14 @@ CarriesOut old commands.Reopen reply new =
     (reply ≡ Done) × (graph : Graph) × Admits old graph
     × (new ≡ record old { committed = graph; standing = Live })
 CarriesOut old commands.Quit reply new = ⊥
-CarriesOut old (commands.Node label) reply new = MakesChange old (commands.Node label) reply new
-CarriesOut old (commands.Edge from label to) reply new =
-    MakesChange old (commands.Edge from label to) reply new
+CarriesOut old (commands.Node label pairs) reply new =
+    MakesChange old (commands.Node label pairs) reply new
+CarriesOut old (commands.Edge from label to pairs) reply new =
+    MakesChange old (commands.Edge from label to pairs) reply new
+CarriesOut old (commands.Set target key value) reply new =
+    MakesChange old (commands.Set target key value) reply new
+CarriesOut old (commands.Unset target key) reply new =
+    MakesChange old (commands.Unset target key) reply new
 CarriesOut old (commands.Delete target) reply new =
     MakesChange old (commands.Delete target) reply new
 CarriesOut old (commands.Query query) reply new =
@@ -69,8 +74,10 @@ ShowsSome state commands.Checkpoint results = results ≡ []
 ShowsSome state commands.Stats results = results ≡ []
 ShowsSome state commands.Reopen results = results ≡ []
 ShowsSome state commands.Quit results = results ≡ []
-ShowsSome state (commands.Node label) results = results ≡ []
-ShowsSome state (commands.Edge from label to) results = results ≡ []
+ShowsSome state (commands.Node label pairs) results = results ≡ []
+ShowsSome state (commands.Edge from label to pairs) results = results ≡ []
+ShowsSome state (commands.Set target key value) results = results ≡ []
+ShowsSome state (commands.Unset target key) results = results ≡ []
 ShowsSome state (commands.Delete target) results = results ≡ []
 
 -- A change outside a transaction leaves the graph open: the one before, or the one after it where
@@ -95,9 +102,14 @@ LeavesOpen old line commands.Checkpoint new = new ≡ failing old (old.committed
 LeavesOpen old line commands.Stats new = new ≡ old
 LeavesOpen old line commands.Reopen new = new ≡ failing old (admitted old)
 LeavesOpen old line commands.Quit new = ⊥
-LeavesOpen old line (commands.Node label) new = LeavesChange old line (commands.Node label) new
-LeavesOpen old line (commands.Edge from label to) new =
-    LeavesChange old line (commands.Edge from label to) new
+LeavesOpen old line (commands.Node label pairs) new =
+    LeavesChange old line (commands.Node label pairs) new
+LeavesOpen old line (commands.Edge from label to pairs) new =
+    LeavesChange old line (commands.Edge from label to pairs) new
+LeavesOpen old line (commands.Set target key value) new =
+    LeavesChange old line (commands.Set target key value) new
+LeavesOpen old line (commands.Unset target key) new =
+    LeavesChange old line (commands.Unset target key) new
 LeavesOpen old line (commands.Delete target) new =
     LeavesChange old line (commands.Delete target) new
 LeavesOpen old line (commands.Query query) new = new ≡ old

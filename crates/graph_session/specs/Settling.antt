@@ -3,7 +3,6 @@ use Rattle.std.specs.Prelude.{◌≡◌, ◌⊎◌, ◌≤◌, ℕ, List}
 use Rattle.disk_model.specs.declared.disk.Disk.{Ghosts}
 use Rattle.stream_io.specs.declared.streams.Sink.{Ghosts as SinkGhosts}
 use Rattle.stream_io.specs.Lines.{Whole}
-use Rattle.plain_graph.specs.Names.{IsShortName}
 use Rattle.plain_graph.specs.Reply.{Reply}
 use Rattle.plain_graph.specs.declared.command.Command.{Command}
 use Rattle.plain_graph.specs.declared.command.Command.TheVariants as commands
@@ -30,13 +29,8 @@ abbrev pub told_of : LineFault → Answer
 told_of faults.Memory = answers.NoMemory
 told_of (faults.Syntax at) = answers.Refused (refusals.Syntax at)
 told_of (faults.NameLength at) = answers.Refused (refusals.NameLength at)
+told_of (faults.TextLength at) = answers.Refused (refusals.TextLength at)
 told_of (faults.NumberRange at) = answers.Refused (refusals.NumberRange at)
-
--- the label of a new node, or the type of a new edge, is a name
-abbrev pub HasName : Command → Type 0
-HasName (commands.Node label) = IsShortName label
-HasName (commands.Edge from label to) = IsShortName label
-HasName _ = Unit {0}
 
 -- a command that gets a reply, and only of a live session another than a refusal
 abbrev pub IsLoud : Command → Type 0

@@ -1,9 +1,11 @@
 ghost use Rattle.std.specs.Prelude.{◌≡◌, IfErr, IsTrue, OnErr, OnOk};
+ghost use Rattle.plain_graph.specs.Changes.{IsChange};
+ghost use Rattle.plain_graph.specs.Forms.{HasForm};
 ghost use Rattle.plain_graph.specs.declared.command.Command.TheVariants as commands;
 ghost use Rattle.plain_graph.specs.declared.command.Target.TheVariants as targets;
-ghost use Rattle.plain_graph.specs.Names.{IsShortName};
+ghost use Rattle.graph_ops.specs.Change.{full_of};
 ghost use Rattle.graph_session.specs.Answering.{reply_of};
-ghost use Rattle.graph_session.specs.Drafting.{answer_for, full_of};
+ghost use Rattle.graph_session.specs.Drafting.{answer_for};
 ghost use Rattle.graph_session.specs.Settling.{SettlesCommand};
 ghost use Rattle.graph_session.specs.declared.health.Health.TheVariants as healths;
 
@@ -11,9 +13,9 @@ use crate::answer::Answer;
 use crate::{Health, Session};
 use disk_model::Disk;
 use fault_count::Failed;
-use graph_ops::{Added, ChangeFault, add_edge, add_node, delete_edge, delete_node};
-use plain_graph::{Refusal, Text};
-use rec_bytes::RELATIONSHIPS;
+use graph_ops::{Added, ChangeFault, add_edge, add_node, delete_edge, delete_node, set, unset};
+use plain_graph::{Command, Pairs, Refusal, Target, Text, Value};
+use rec_bytes::{NODES, PROPERTIES, RELATIONSHIPS};
 
 /// What a transaction may weigh. A change's weight bounds the records that it writes.
 const MOST_WEIGHT: u32 = 2_048;
@@ -40,83 +42,63 @@ impl<'d, D: Disk> Session<'d, D> {
     };
     ghost use Rattle.graph_session.specs.Session.{HaveSameDisk, view};
 
-    /// Makes a node with this label.
-    pub(crate) fn make_node(&mut self, label: &Text) -> Answer
-        requires named { IsShortName label.now }
+    /// Carries a change out: in the open transaction, or else as a transaction by itself.
+    pub(crate) fn change(&mut self, command: &Command) -> Answer
+        requires change { IsChange command.now }
+        requires form { HasForm command.now }
         requires live { self.old.health ≡ healths.Live }
-        ensures settles { SettlesCommand D.Disk (commands.Node label.now)
+        ensures settles { SettlesCommand D.Disk command.now
             (view self.old) (view self.new) (reply_of result) }
         ensures same_disk { HaveSameDisk self.old self.new }
     {
         let names = self.names.count();
         if self.store.in_transaction() {
-            let drafted = self.draft_node(label);
+            let drafted = self.draft(command);
             return self.finish(drafted, names);
         }
         self.store.begin();
-        let drafted = self.draft_node(label);
+        let drafted = self.draft(command);
         self.finish_alone(drafted, names)
     }
 
-    /// Deletes the node of this identifier.
-    pub(crate) fn remove_node(&mut self, id: u32) -> Answer
-        requires live { self.old.health ≡ healths.Live }
-        ensures settles { SettlesCommand D.Disk (commands.Delete (targets.Node id))
-            (view self.old) (view self.new) (reply_of result) }
-        ensures same_disk { HaveSameDisk self.old self.new }
+    // The change in the draft.
+    fn draft(&mut self, command: &Command) -> Result<Drafted, Answer>
+        requires change { IsChange command.now }
+        requires form { HasForm command.now }
+        ensures only { OnlyDrafts self.old self.new }
+        ensures drafts { Drafts command.now self.old self.new result }
     {
-        let names = self.names.count();
-        if self.store.in_transaction() {
-            let drafted = self.draft_deletion(id);
-            return self.finish(drafted, names);
+        match command {
+            Command::Node { label, pairs } => self.draft_node(label, pairs),
+            Command::Edge {
+                from,
+                label,
+                to,
+                pairs,
+            } => self.draft_edge(*from, label, *to, pairs),
+            Command::Set { target, key, value } => self.draft_value(*target, key, value),
+            Command::Unset { target, key } => self.draft_no_value(*target, key),
+            Command::Delete(Target::Node(id)) => self.draft_deletion(*id),
+            Command::Delete(Target::Edge(id)) => self.draft_edge_deletion(*id),
+            Command::Blank
+            | Command::Begin
+            | Command::Commit
+            | Command::Rollback
+            | Command::Checkpoint
+            | Command::Stats
+            | Command::Reopen
+            | Command::Quit
+            | Command::Query(_) => unreachable!(),
         }
-        self.store.begin();
-        let drafted = self.draft_deletion(id);
-        self.finish_alone(drafted, names)
-    }
-
-    /// Makes an edge of this type, from one node to another.
-    pub(crate) fn make_edge(&mut self, from: u32, label: &Text, to: u32) -> Answer
-        requires named { IsShortName label.now }
-        requires live { self.old.health ≡ healths.Live }
-        ensures settles { SettlesCommand D.Disk (commands.Edge from label.now to)
-            (view self.old) (view self.new) (reply_of result) }
-        ensures same_disk { HaveSameDisk self.old self.new }
-    {
-        let names = self.names.count();
-        if self.store.in_transaction() {
-            let drafted = self.draft_edge(from, label, to);
-            return self.finish(drafted, names);
-        }
-        self.store.begin();
-        let drafted = self.draft_edge(from, label, to);
-        self.finish_alone(drafted, names)
-    }
-
-    /// Deletes the edge of this identifier.
-    pub(crate) fn remove_edge(&mut self, id: u32) -> Answer
-        requires live { self.old.health ≡ healths.Live }
-        ensures settles { SettlesCommand D.Disk (commands.Delete (targets.Edge id))
-            (view self.old) (view self.new) (reply_of result) }
-        ensures same_disk { HaveSameDisk self.old self.new }
-    {
-        let names = self.names.count();
-        if self.store.in_transaction() {
-            let drafted = self.draft_edge_deletion(id);
-            return self.finish(drafted, names);
-        }
-        self.store.begin();
-        let drafted = self.draft_edge_deletion(id);
-        self.finish_alone(drafted, names)
     }
 
     // A new node in the draft.
-    fn draft_node(&mut self, label: &Text) -> Result<Drafted, Answer>
-        requires { IsShortName label.now }
+    fn draft_node(&mut self, label: &Text, pairs: &Pairs) -> Result<Drafted, Answer>
+        requires { HasForm (commands.Node label.now pairs.now) }
         ensures only { OnlyDrafts self.old self.new }
-        ensures drafts { Drafts (commands.Node label.now) self.old self.new result }
+        ensures drafts { Drafts (commands.Node label.now pairs.now) self.old self.new result }
     {
-        match add_node(&mut self.store, &mut self.names, label) {
+        match add_node(&mut self.store, &mut self.names, label, pairs) {
             Ok(Added { id, weight }) => Ok(Drafted {
                 answer: Answer::NodeMade(id),
                 weight,
@@ -126,14 +108,51 @@ impl<'d, D: Disk> Session<'d, D> {
     }
 
     // A new edge in the draft.
-    fn draft_edge(&mut self, from: u32, label: &Text, to: u32) -> Result<Drafted, Answer>
-        requires { IsShortName label.now }
+    fn draft_edge(
+        &mut self,
+        from: u32,
+        label: &Text,
+        to: u32,
+        pairs: &Pairs,
+    ) -> Result<Drafted, Answer>
+        requires { HasForm (commands.Edge from label.now to pairs.now) }
         ensures only { OnlyDrafts self.old self.new }
-        ensures drafts { Drafts (commands.Edge from label.now to) self.old self.new result }
+        ensures drafts { Drafts (commands.Edge from label.now to pairs.now)
+            self.old self.new result }
     {
-        match add_edge(&mut self.store, &mut self.names, from, label, to) {
+        match add_edge(&mut self.store, &mut self.names, from, label, to, pairs) {
             Ok(Added { id, weight }) => Ok(Drafted {
                 answer: Answer::EdgeMade(id),
+                weight,
+            }),
+            Err(fault) => Err(answer_of(fault)),
+        }
+    }
+
+    // A value of a property in the draft.
+    fn draft_value(&mut self, target: Target, key: &Text, value: &Value) -> Result<Drafted, Answer>
+        requires { HasForm (commands.Set target key.now value.now) }
+        ensures only { OnlyDrafts self.old self.new }
+        ensures drafts { Drafts (commands.Set target key.now value.now)
+            self.old self.new result }
+    {
+        match set(&mut self.store, &mut self.names, target, key, value) {
+            Ok(weight) => Ok(Drafted {
+                answer: Answer::Done,
+                weight,
+            }),
+            Err(fault) => Err(answer_of(fault)),
+        }
+    }
+
+    // A property taken away in the draft.
+    fn draft_no_value(&mut self, target: Target, key: &Text) -> Result<Drafted, Answer>
+        ensures only { OnlyDrafts self.old self.new }
+        ensures drafts { Drafts (commands.Unset target key.now) self.old self.new result }
+    {
+        match unset(&mut self.store, &self.names, target, key) {
+            Ok(weight) => Ok(Drafted {
+                answer: Answer::Done,
                 weight,
             }),
             Err(fault) => Err(answer_of(fault)),
@@ -271,6 +290,7 @@ fn answer_of(fault: ChangeFault) -> Answer
         ChangeFault::NoEdge { id } => Answer::Refused(Refusal::NoEdge { id }),
         ChangeFault::Full { file, .. } => Answer::Refused(full_of(file)),
         ChangeFault::NamesFull { .. } => Answer::Refused(Refusal::FullNames),
+        ChangeFault::PropsFull { .. } => Answer::Refused(Refusal::TooManyProperties),
         ChangeFault::Memory => Answer::NoMemory,
         ChangeFault::Disk => Answer::DiskFailed,
         ChangeFault::HasRelationships { id, .. } => {
@@ -284,9 +304,10 @@ fn answer_of(fault: ChangeFault) -> Answer
 fn full_of(file: u8) -> Refusal
     ensures { result ≡ full_of file }
 {
-    if file == RELATIONSHIPS {
-        Refusal::FullEdges
-    } else {
-        Refusal::FullNodes
+    match file {
+        NODES => Refusal::FullNodes,
+        RELATIONSHIPS => Refusal::FullEdges,
+        PROPERTIES => Refusal::FullProperties,
+        _ => Refusal::FullStrings,
     }
 }

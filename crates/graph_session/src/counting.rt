@@ -8,7 +8,7 @@ use crate::Session;
 use crate::answer::Answer;
 use disk_model::Disk;
 use plain_graph::Counts;
-use rec_bytes::{NODES, RELATIONSHIPS, Reads};
+use rec_bytes::{NODES, PROPERTIES, RELATIONSHIPS, Reads, STRINGS};
 
 impl<'d, D: Disk> Session<'d, D> {
     ghost use Rattle.graph_session.specs.Session.{view};
@@ -22,8 +22,8 @@ impl<'d, D: Disk> Session<'d, D> {
         Answer::Counted(Counts {
             nodes: self.store.meta(NODES).live,
             edges: self.store.meta(RELATIONSHIPS).live,
-            properties: 0,
-            blocks: 0,
+            properties: self.store.meta(PROPERTIES).live,
+            blocks: self.store.meta(STRINGS).live,
             names: self.names.count(),
         })
     }

@@ -1,9 +1,10 @@
-ghost use Rattle.std.specs.Prelude.{◌≡◌, ◌↔◌, ◌+◌, ◌++◌, ◌≤◌, [], IsTrue, length};
+ghost use Rattle.std.specs.Prelude.{◌≡◌, ◌+◌, ◌++◌, ◌≤◌, [], length};
 ghost use Rattle.graph_session.specs.Answer.{Gives};
 ghost use Rattle.graph_session.specs.LineBuffer.{Adds};
 
 use crate::Turn;
 use crate::giving::give;
+use plain_graph::ByteBuffer;
 use std::marker::Model;
 use stream_io::Sink;
 
@@ -13,19 +14,15 @@ pub(crate) const BUFFER_BYTES: usize = 4_096;
 /// Lines of a reply that are gathered for the sink. Contracts see the bytes.
 #[derive(Drop)]
 pub(crate) struct LineBuffer {
-    bytes: [u8; BUFFER_BYTES],
-    len: usize,
+    bytes: ByteBuffer<BUFFER_BYTES>,
 }
 
 impl Model for LineBuffer {
-    ghost use Rattle.std.specs.Prelude.{List, ℕ, ◌≤◌, take};
-    ghost use Rattle.graph_session.specs.declared.line_buffer.TheConstants.{BUFFER_BYTES};
+    ghost use Rattle.std.specs.Prelude.{List, ℕ};
 
     ghost Value = { List ℕ };
 
-    ghost view = { λ b. take b.len b.bytes };
-
-    ghost invariant = { λ b. b.len ≤ BUFFER_BYTES };
+    ghost view = { λ b. b.bytes };
 }
 
 impl LineBuffer {
@@ -34,16 +31,8 @@ impl LineBuffer {
         ensures { result ≡ [] }
     {
         LineBuffer {
-            bytes: [0; BUFFER_BYTES],
-            len: 0,
+            bytes: ByteBuffer::new(),
         }
-    }
-
-    /// Whether so many bytes more have room.
-    pub(crate) fn has_room(&self, more: usize) -> bool
-        ensures { IsTrue result ↔ (length self.now + more ≤ BUFFER_BYTES) }
-    {
-        more <= BUFFER_BYTES - self.len
     }
 
     /// Puts the bytes at the end.
@@ -51,9 +40,7 @@ impl LineBuffer {
         requires { length self.old + length bytes.now ≤ BUFFER_BYTES }
         ensures { self.new ≡ self.old ++ bytes.now }
     {
-        let end = self.len + bytes.len();
-        self.bytes[self.len..end].copy_from_slice(bytes);
-        self.len = end;
+        self.bytes.push(bytes);
     }
 
     /// Puts a line at the end. Where it has no room, what was gathered goes to the sink first.
@@ -61,7 +48,7 @@ impl LineBuffer {
         requires { length line.now ≤ BUFFER_BYTES }
         ensures { Adds K.Sink line.now self.old self.new output.old output.new result }
     {
-        if !self.has_room(line.len()) {
+        if !self.bytes.has_room(line.len()) {
             match self.flush(output) {
                 Turn::Go => {}
                 turn => return turn,
@@ -87,8 +74,8 @@ impl LineBuffer {
         ensures gives { Gives K.Sink self.old output.old output.new result }
         ensures empty { self.new ≡ [] }
     {
-        let turn = give(output, &self.bytes[..self.len]);
-        self.len = 0;
+        let turn = give(output, self.bytes.as_bytes());
+        self.bytes.clear();
         turn
     }
 }

@@ -6,7 +6,7 @@ ghost use Rattle.graph_session.specs.QueryResults.{GivesQuery, fault_of};
 use crate::Turn;
 use crate::line_buffer::LineBuffer;
 use node_store::load;
-use plain_graph::{Item, damaged, disk_fault, end_of_results, result_line};
+use plain_graph::{Item, ResultLine, damaged, disk_fault, end_of_results, result_line};
 use rec_bytes::{NODES, Reads, RowFault};
 use stream_io::Sink;
 
@@ -17,13 +17,15 @@ pub(crate) fn give_vertices<R: Reads, K: Sink>(space: &mut R, output: &mut K) ->
         space.old space.new output.old output.new result }
 {
     let mut lines = LineBuffer::new();
+    let mut line = ResultLine::new();
     for id in 0..space.meta(NODES).high {
         let row = match load(space, id) {
             Ok(row) => row,
             Err(fault) => return give_fault(&mut lines, output, fault),
         };
         if row.is_some() {
-            match lines.add(output, result_line(Item::Vertex(id)).as_bytes()) {
+            result_line(&Item::Vertex(id), &mut line);
+            match lines.add(output, line.as_bytes()) {
                 Turn::Go => {}
                 turn => return turn,
             }

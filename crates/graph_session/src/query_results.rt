@@ -7,7 +7,7 @@ use crate::Turn;
 use crate::line_buffer::LineBuffer;
 use crate::listing::{give_fault, give_vertices};
 use crate::node_count::count_nodes;
-use plain_graph::{Item, Query, Step, Value, end_of_results, result_line};
+use plain_graph::{Item, Query, ResultLine, Step, Value, end_of_results, result_line};
 use rec_bytes::Reads;
 use stream_io::Sink;
 
@@ -31,9 +31,10 @@ fn give_count<K: Sink>(output: &mut K, count: u32) -> Turn
     ensures { Gives K.Sink (reply_text (Results (Item.Value (Value.Int (pos count)) ∷ [])))
         output.old output.new result }
 {
+    let mut line = ResultLine::new();
+    result_line(&Item::Value(Value::Int(i64::from(count))), &mut line);
     let mut lines = LineBuffer::new();
-    let count = Item::Value(Value::Int(i64::from(count)));
-    lines.push(result_line(count).as_bytes());
+    lines.push(line.as_bytes());
     lines.finish(output, end_of_results())
 }
 

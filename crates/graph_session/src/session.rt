@@ -3,7 +3,8 @@ ghost use Rattle.stream_io.specs.Lines.{Long, Whole};
 ghost use Rattle.graph_session.specs.Answer.{AnswersLine};
 ghost use Rattle.graph_session.specs.Answering.{reply_of};
 ghost use Rattle.graph_session.specs.Refusals.{SpellsOnly};
-ghost use Rattle.graph_session.specs.Settling.{HasName, IsLoud, IsPlain, SettlesCommand, told_of};
+ghost use Rattle.plain_graph.specs.Forms.{HasForm};
+ghost use Rattle.graph_session.specs.Settling.{IsLoud, IsPlain, SettlesCommand, told_of};
 ghost use Rattle.graph_session.specs.declared.health.Health.TheVariants as healths;
 
 use crate::answer::Answer;
@@ -12,7 +13,7 @@ use crate::{Health, Turn};
 use disk_model::Disk;
 use gremlin_parse::{LineFault, parse_line};
 use name_store::Names;
-use plain_graph::{Command, Refusal, Target};
+use plain_graph::{Command, Refusal};
 use std::alloc::Global;
 use stream_io::Sink;
 use txn_core::Store;
@@ -75,7 +76,7 @@ impl<'d, D: Disk> Session<'d, D> {
 
     // Answers a line of this command.
     fn answer<K: Sink>(&mut self, command: &Command, output: &mut K) -> Turn
-        requires { HasName command.now }
+        requires { HasForm command.now }
         ensures answers { (line : List ℕ) → SpellsOnly line command.now
             → AnswersLine D.Disk K.Sink (Whole line)
             (with_sink self.old output.old) (with_sink self.new output.new) result }
@@ -94,7 +95,7 @@ impl<'d, D: Disk> Session<'d, D> {
 
     // Answers a line of a command that a session refuses once the disk has failed it.
     fn serve<K: Sink>(&mut self, command: &Command, output: &mut K) -> Turn
-        requires named { HasName command.now }
+        requires form { HasForm command.now }
         requires loud { IsLoud command.now }
         ensures answers { (line : List ℕ) → SpellsOnly line command.now
             → AnswersLine D.Disk K.Sink (Whole line)
@@ -117,7 +118,7 @@ impl<'d, D: Disk> Session<'d, D> {
     // return holds before a byte of the reply is given.
     fn settle(&mut self, command: &Command) -> Answer
         requires live { self.old.health ≡ healths.Live }
-        requires named { HasName command.now }
+        requires form { HasForm command.now }
         requires plain { IsPlain command.now }
         ensures settles { SettlesCommand D.Disk command.now
             (view self.old) (view self.new) (reply_of result) }
@@ -129,10 +130,11 @@ impl<'d, D: Disk> Session<'d, D> {
             Command::Rollback => self.rollback(),
             Command::Checkpoint => self.checkpoint(),
             Command::Stats => self.stats(),
-            Command::Node { label } => self.make_node(label),
-            Command::Edge { from, label, to } => self.make_edge(*from, label, *to),
-            Command::Delete(Target::Node(id)) => self.remove_node(*id),
-            Command::Delete(Target::Edge(id)) => self.remove_edge(*id),
+            Command::Node { .. }
+            | Command::Edge { .. }
+            | Command::Set { .. }
+            | Command::Unset { .. }
+            | Command::Delete(_) => self.change(command),
             Command::Blank | Command::Quit | Command::Reopen | Command::Query(_) => unreachable!(),
         }
     }
@@ -146,6 +148,7 @@ fn answer_of(fault: LineFault) -> Answer
         LineFault::Memory => Answer::NoMemory,
         LineFault::Syntax { at } => Answer::Refused(Refusal::Syntax { at }),
         LineFault::NameLength { at } => Answer::Refused(Refusal::NameLength { at }),
+        LineFault::TextLength { at } => Answer::Refused(Refusal::TextLength { at }),
         LineFault::NumberRange { at } => Answer::Refused(Refusal::NumberRange { at }),
     }
 }

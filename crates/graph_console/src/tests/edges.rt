@@ -1,24 +1,8 @@
 //! Rows of edges: loops, edges side by side, what is missing or full, and what edges weigh.
-use super::rows::{check_end, check_words, many};
+use super::rows::{Row, check_end, check_rows, check_words, many};
 use std::alloc::{AllocError, Global};
 use std::process::Abort;
 use std::test::Fail;
-
-/// A line and its reply, both without their last newline.
-type Row<'a> = (&'a [u8], &'a [u8]);
-
-/// The rows' lines are answered so, in one run.
-fn check_rows(rt: &impl Abort, alloc: Global, rows: &[Row]) -> Result<(), AllocError> {
-    let mut input = Vec::new(alloc);
-    let mut want = Vec::new(alloc);
-    for (line, reply) in rows {
-        input.extend_from_slice(line)?;
-        input.push(b'\n')?;
-        want.extend_from_slice(reply)?;
-        want.push(b'\n')?;
-    }
-    check_words(rt, alloc, &["nipakeel", "run"], &input, &want)
-}
 
 #[test]
 fn rows_of_edges(rt: HostRuntime) -> Result<(), Fail> {
@@ -136,7 +120,7 @@ fn rows_of_edges(rt: HostRuntime) -> Result<(), Fail> {
             (b"edge 0 t", b"error syntax 8"),
             (b"edge 01 t 0", b"error syntax 6"),
             (b"edge 0 -t 1", b"error syntax 7"),
-            (b"edge 0 t 1 x", b"error syntax 11"),
+            (b"edge 0 t 1 x", b"error syntax 12"),
             (b"edges", b"error syntax 4"),
             (b"Edge 0 t 1", b"error syntax 0"),
             (b"edge 4294967295 t 0", b"error number range 5"),

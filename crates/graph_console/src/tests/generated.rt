@@ -1,6 +1,7 @@
-//! Scripts that are drawn: nodes and edges come and go, loops and edges side by side among them.
+//! Scripts that are drawn: nodes, edges and their properties come and go, loops and edges side by side
+//! among them.
 //! Each reply is the one that plain lists foretell.
-use super::lists::{Console, Line};
+use super::lists::{Console, Element, Given, Line, Pair, Pairs};
 use super::{PLAIN, run_on};
 use crate::Exit;
 use disk_model::PlainDisk;
@@ -57,14 +58,70 @@ impl Draws {
         }
     }
 
+    fn element(&mut self) -> Element {
+        match self.draw() % 2 {
+            0 => Element::Node(self.node()),
+            _ => Element::Edge(self.edge()),
+        }
+    }
+
+    /// A value. Texts are of lengths at which one block more is needed, or nearly.
+    fn value(&mut self) -> Given {
+        match self.draw() % 12 {
+            0..=3 => Given::Number((self.draw() % 100) as i64),
+            4 => Given::Truth(true),
+            5 => Given::Truth(false),
+            6 => Given::Text(0),
+            7 => Given::Text(40),
+            8 => Given::Text(41),
+            9 => Given::Text(96),
+            10 => Given::Text(97),
+            _ => Given::Text(480),
+        }
+    }
+
+    fn pair(&mut self) -> Pair {
+        let key = self.name();
+        let value = self.value();
+        Pair { key, value }
+    }
+
+    /// No pair mostly, and three at most.
+    fn pairs(&mut self) -> Pairs {
+        let mut pairs = [None, None, None];
+        for place in &mut pairs {
+            if self.draw() % 3 == 0 {
+                *place = Some(self.pair());
+            }
+        }
+        pairs
+    }
+
     fn change(&mut self, console: &Console) -> Line {
-        match self.draw() % 32 {
-            0..=3 if console.node_count() < NODES => Line::Node(self.name()),
-            0..=6 => Line::DeleteNode(self.node()),
-            7..=14 => Line::DeleteEdge(self.edge()),
+        match self.draw() % 48 {
+            0..=3 if console.node_count() < NODES => {
+                let (label, pairs) = (self.name(), self.pairs());
+                Line::Node { label, pairs }
+            }
+            0..=6 => Line::Delete(Element::Node(self.node())),
+            7..=14 => Line::Delete(Element::Edge(self.edge())),
+            15..=28 => {
+                let (element, pair) = (self.element(), self.pair());
+                Line::Set { element, pair }
+            }
+            29..=34 => {
+                let (element, key) = (self.element(), self.name());
+                Line::Unset { element, key }
+            }
             _ => {
                 let (from, label, to) = (self.node(), self.name(), self.node());
-                Line::Edge { from, label, to }
+                let pairs = self.pairs();
+                Line::Edge {
+                    from,
+                    label,
+                    to,
+                    pairs,
+                }
             }
         }
     }

@@ -1,7 +1,7 @@
 //! A console over plain lists, by which the replies to lines are foretold.
 use std::alloc::{AllocError, Global};
 
-/// How many nodes, and how many edges, there may be.
+/// How many nodes there may be, how many edges, how many properties and how many blocks.
 pub(crate) const LIMIT: usize = 16;
 
 /// What a transaction weighs before its first change, and what it may weigh.
@@ -9,13 +9,99 @@ const LEAST_WEIGHT: u64 = 6;
 
 const MOST_WEIGHT: u64 = 2_048;
 
+/// A node or an edge by its identifier.
+#[derive(Clone, Copy, Debug, Drop, PartialEq, Eq)]
+pub(crate) enum Element {
+    Node(u32),
+    Edge(u32),
+}
+
+impl Element {
+    fn text(self, alloc: Global) -> Result<String, AllocError> {
+        match self {
+            Element::Node(id) => format!(in alloc; "node {id}"),
+            Element::Edge(id) => format!(in alloc; "edge {id}"),
+        }
+    }
+}
+
+/// A value: a number, a truth, or a text of so many letters.
+#[derive(Clone, Copy, Debug, Drop)]
+pub(crate) enum Given {
+    Number(i64),
+    Truth(bool),
+    Text(u64),
+}
+
+impl Given {
+    fn text(self, alloc: Global) -> Result<String, AllocError> {
+        match self {
+            Given::Number(number) => format!(in alloc; "{number}"),
+            Given::Truth(true) => String::from_str(alloc, "true"),
+            Given::Truth(false) => String::from_str(alloc, "false"),
+            Given::Text(count) => {
+                let mut text = String::from_str(alloc, "'")?;
+                for _ in 0..count {
+                    text.push_str("x")?;
+                }
+                text.push_str("'")?;
+                Ok(text)
+            }
+        }
+    }
+
+    /// How many blocks it takes.
+    fn blocks(self) -> u64 {
+        match self {
+            Given::Text(count) if count > 40 => count.saturating_add(47) / 48,
+            _ => 0,
+        }
+    }
+}
+
+/// A key and its value. Keys are letters.
+#[derive(Clone, Copy, Debug, Drop)]
+pub(crate) struct Pair {
+    pub key: char,
+    pub value: Given,
+}
+
+/// The pairs of a line, as many as there are.
+pub(crate) type Pairs = [Option<Pair>; 3];
+
+fn pairs_text(alloc: Global, pairs: Pairs) -> Result<String, AllocError> {
+    let mut text = String::new(alloc);
+    for pair in pairs {
+        if let Some(Pair { key, value }) = pair {
+            let value = value.text(alloc)?;
+            write!(text, " {key}={value}")?;
+        }
+    }
+    Ok(text)
+}
+
 /// A line of a script. Labels and types are letters.
 #[derive(Clone, Copy, Debug, Drop)]
 pub(crate) enum Line {
-    Node(char),
-    Edge { from: u32, label: char, to: u32 },
-    DeleteNode(u32),
-    DeleteEdge(u32),
+    Node {
+        label: char,
+        pairs: Pairs,
+    },
+    Edge {
+        from: u32,
+        label: char,
+        to: u32,
+        pairs: Pairs,
+    },
+    Set {
+        element: Element,
+        pair: Pair,
+    },
+    Unset {
+        element: Element,
+        key: char,
+    },
+    Delete(Element),
     Begin,
     Commit,
     Rollback,
@@ -28,10 +114,33 @@ pub(crate) enum Line {
 impl Line {
     pub(crate) fn text(self, alloc: Global) -> Result<String, AllocError> {
         match self {
-            Line::Node(label) => format!(in alloc; "node {label}\n"),
-            Line::Edge { from, label, to } => format!(in alloc; "edge {from} {label} {to}\n"),
-            Line::DeleteNode(id) => format!(in alloc; "delete node {id}\n"),
-            Line::DeleteEdge(id) => format!(in alloc; "delete edge {id}\n"),
+            Line::Node { label, pairs } => {
+                let pairs = pairs_text(alloc, pairs)?;
+                format!(in alloc; "node {label}{pairs}\n")
+            }
+            Line::Edge {
+                from,
+                label,
+                to,
+                pairs,
+            } => {
+                let pairs = pairs_text(alloc, pairs)?;
+                format!(in alloc; "edge {from} {label} {to}{pairs}\n")
+            }
+            Line::Set { element, pair } => {
+                let element = element.text(alloc)?;
+                let value = pair.value.text(alloc)?;
+                let key = pair.key;
+                format!(in alloc; "set {element} {key} {value}\n")
+            }
+            Line::Unset { element, key } => {
+                let element = element.text(alloc)?;
+                format!(in alloc; "unset {element} {key}\n")
+            }
+            Line::Delete(element) => {
+                let element = element.text(alloc)?;
+                format!(in alloc; "delete {element}\n")
+            }
             Line::Begin => String::from_str(alloc, "begin\n"),
             Line::Commit => String::from_str(alloc, "commit\n"),
             Line::Rollback => String::from_str(alloc, "rollback\n"),
@@ -96,12 +205,21 @@ struct Ends {
     to: u32,
 }
 
+/// A property of an element, and how many blocks its value takes.
+#[derive(Clone, Copy, Drop)]
+struct Property {
+    element: Element,
+    key: char,
+    blocks: u64,
+}
+
 /// A graph as lists.
 #[derive(Drop)]
 struct Lists {
     nodes: Ids,
     edges: Ids,
     ends: Vec<Ends>,
+    properties: Vec<Property>,
     names: Vec<char>,
 }
 
@@ -111,6 +229,7 @@ impl Lists {
             nodes: self.nodes.copy()?,
             edges: self.edges.copy()?,
             ends: self.ends.clone()?,
+            properties: self.properties.clone()?,
             names: self.names.clone()?,
         })
     }
@@ -128,9 +247,82 @@ impl Lists {
         Ok(())
     }
 
-    /// What the name weighs: 1 where it is new.
-    fn name_weight(&self, name: char) -> u64 {
-        u64::from(!self.names.contains(&name))
+    fn has(&self, element: Element) -> bool {
+        match element {
+            Element::Node(id) => self.nodes.live.contains(&id),
+            Element::Edge(id) => self.edges.live.contains(&id),
+        }
+    }
+
+    /// How many blocks all values take.
+    fn blocks(&self) -> u64 {
+        let mut sum: u64 = 0;
+        for property in &self.properties {
+            sum = sum.saturating_add(property.blocks);
+        }
+        sum
+    }
+
+    /// Gives a key of the element a value.
+    fn assign(&mut self, element: Element, pair: Pair) -> Result<(), AllocError> {
+        self.name(pair.key)?;
+        self.forget(element, pair.key);
+        self.properties.push(Property {
+            element,
+            key: pair.key,
+            blocks: pair.value.blocks(),
+        })?;
+        Ok(())
+    }
+
+    /// Takes a key of the element away, and answers how many blocks its value had.
+    fn forget(&mut self, element: Element, key: char) -> u64 {
+        let before = self.blocks();
+        self.properties.retain(|property| property.element != element || property.key != key);
+        before.saturating_sub(self.blocks())
+    }
+
+    /// Takes all keys of the element away, and answers what they weighed.
+    fn strip(&mut self, element: Element) -> u64 {
+        let blocks = self.blocks();
+        let count = self.properties.len() as u64;
+        self.properties
+            .retain(|property| property.element != element);
+        let left = self.properties.len() as u64;
+        let gone = count.saturating_sub(left);
+        gone.saturating_add(blocks.saturating_sub(self.blocks()))
+    }
+
+    /// Gives the new element its properties, and answers what they and new names weigh.
+    fn dress(&mut self, element: Element, label: char, pairs: Pairs) -> Result<u64, AllocError> {
+        let names = self.names.len() as u64;
+        let blocks = self.blocks();
+        let count = self.properties.len() as u64;
+        self.name(label)?;
+        for pair in pairs {
+            if let Some(pair) = pair {
+                self.assign(element, pair)?;
+            }
+        }
+        let new_names = (self.names.len() as u64).saturating_sub(names);
+        let new_blocks = self.blocks().saturating_sub(blocks);
+        let new_count = (self.properties.len() as u64).saturating_sub(count);
+        Ok(
+            new_names
+                .saturating_add(new_blocks)
+                .saturating_add(new_count),
+        )
+    }
+
+    /// What a graph with more than the limit of properties or blocks is refused with.
+    fn excess(&self) -> Option<&'static str> {
+        if self.properties.len() > LIMIT {
+            return Some("error full properties\n");
+        }
+        if self.blocks() > LIMIT as u64 {
+            return Some("error full strings\n");
+        }
+        None
     }
 
     /// What an end of a new edge weighs beside the edge.
@@ -159,6 +351,7 @@ impl Console {
             nodes: Ids::new(alloc),
             edges: Ids::new(alloc),
             ends: Vec::new(alloc),
+            properties: Vec::new(alloc),
             names: Vec::new(alloc),
         };
         Console {
@@ -177,10 +370,16 @@ impl Console {
     /// Carries out the line, and answers its reply.
     pub(crate) fn answer(&mut self, line: Line) -> Result<String, AllocError> {
         match line {
-            Line::Node(label) => self.make_node(label),
-            Line::Edge { from, label, to } => self.make_edge(from, label, to),
-            Line::DeleteNode(id) => self.delete_node(id),
-            Line::DeleteEdge(id) => self.delete_edge(id),
+            Line::Node { label, pairs } => self.make_node(label, pairs),
+            Line::Edge {
+                from,
+                label,
+                to,
+                pairs,
+            } => self.make_edge(from, label, to, pairs),
+            Line::Set { element, pair } => self.set(element, pair),
+            Line::Unset { element, key } => self.unset(element, key),
+            Line::Delete(element) => self.delete(element),
             Line::Begin => self.begin(),
             Line::Commit => self.commit(),
             Line::Rollback => self.rollback(),
@@ -207,20 +406,36 @@ impl Console {
         true
     }
 
-    fn make_node(&mut self, label: char) -> Result<String, AllocError> {
-        if self.seen.nodes.live.len() == LIMIT {
-            return self.say("error full nodes\n");
+    /// Takes the graph that a change of this weight makes, and answers so; unless it is too much.
+    fn take(&mut self, next: Lists, weight: u64, reply: String) -> Result<String, AllocError> {
+        if let Some(refusal) = next.excess() {
+            return self.say(refusal);
         }
-        let weight = self.seen.name_weight(label).saturating_add(1);
         if !self.bears(weight) {
             return self.say("error transaction full\n");
         }
-        self.seen.name(label)?;
-        let id = self.seen.nodes.take()?;
-        format!(in self.alloc; "node {id}\n")
+        self.seen = next;
+        Ok(reply)
     }
 
-    fn make_edge(&mut self, from: u32, label: char, to: u32) -> Result<String, AllocError> {
+    fn make_node(&mut self, label: char, pairs: Pairs) -> Result<String, AllocError> {
+        if self.seen.nodes.live.len() == LIMIT {
+            return self.say("error full nodes\n");
+        }
+        let mut next = self.seen.copy()?;
+        let id = next.nodes.take()?;
+        let weight = next.dress(Element::Node(id), label, pairs)?;
+        let reply = format!(in self.alloc; "node {id}\n")?;
+        self.take(next, weight.saturating_add(1), reply)
+    }
+
+    fn make_edge(
+        &mut self,
+        from: u32,
+        label: char,
+        to: u32,
+        pairs: Pairs,
+    ) -> Result<String, AllocError> {
         for end in [from, to] {
             if !self.seen.nodes.live.contains(&end) {
                 return format!(in self.alloc; "error no node {end}\n");
@@ -229,49 +444,80 @@ impl Console {
         if self.seen.edges.live.len() == LIMIT {
             return self.say("error full edges\n");
         }
-        let weight = self.edge_weight(from, label, to);
-        if !self.bears(weight) {
-            return self.say("error transaction full\n");
-        }
-        self.seen.name(label)?;
-        let id = self.seen.edges.take()?;
-        self.seen.ends.push(Ends { id, from, to })?;
-        format!(in self.alloc; "edge {id}\n")
+        let ends_weight = self.ends_weight(from, to);
+        let mut next = self.seen.copy()?;
+        let id = next.edges.take()?;
+        next.ends.push(Ends { id, from, to })?;
+        let weight = next.dress(Element::Edge(id), label, pairs)?;
+        let reply = format!(in self.alloc; "edge {id}\n")?;
+        self.take(
+            next,
+            weight.saturating_add(ends_weight).saturating_add(9),
+            reply,
+        )
     }
 
-    fn edge_weight(&self, from: u32, label: char, to: u32) -> u64 {
-        let mut weight = self.seen.name_weight(label).saturating_add(9);
-        weight = weight.saturating_add(self.seen.end_weight(from, self.threshold));
-        if to != from {
-            weight = weight.saturating_add(self.seen.end_weight(to, self.threshold));
+    fn ends_weight(&self, from: u32, to: u32) -> u64 {
+        let weight = self.seen.end_weight(from, self.threshold);
+        if to == from {
+            return weight;
         }
-        weight
+        weight.saturating_add(self.seen.end_weight(to, self.threshold))
     }
 
-    fn delete_node(&mut self, id: u32) -> Result<String, AllocError> {
-        if !self.seen.nodes.live.contains(&id) {
-            return format!(in self.alloc; "error no node {id}\n");
-        }
-        if self.seen.degree(id) > 0 {
-            return format!(in self.alloc; "error node {id} has relationships\n");
-        }
-        if !self.bears(1) {
-            return self.say("error transaction full\n");
-        }
-        self.seen.nodes.give(id)?;
-        self.say("ok\n")
+    /// The refusal of a line about an element that isn't there.
+    fn lacks(&self, element: Element) -> Result<String, AllocError> {
+        let element = element.text(self.alloc)?;
+        format!(in self.alloc; "error no {element}\n")
     }
 
-    fn delete_edge(&mut self, id: u32) -> Result<String, AllocError> {
-        if !self.seen.edges.live.contains(&id) {
-            return format!(in self.alloc; "error no edge {id}\n");
+    fn set(&mut self, element: Element, pair: Pair) -> Result<String, AllocError> {
+        if !self.seen.has(element) {
+            return self.lacks(element);
         }
-        if !self.bears(13) {
-            return self.say("error transaction full\n");
+        let names = self.seen.names.len() as u64;
+        let mut next = self.seen.copy()?;
+        let released = next.forget(element, pair.key);
+        next.assign(element, pair)?;
+        let new_names = (next.names.len() as u64).saturating_sub(names);
+        let blocks = pair.value.blocks().saturating_add(released);
+        let weight = blocks.saturating_add(new_names).saturating_add(2);
+        let reply = self.say("ok\n")?;
+        self.take(next, weight, reply)
+    }
+
+    fn unset(&mut self, element: Element, key: char) -> Result<String, AllocError> {
+        if !self.seen.has(element) {
+            return self.lacks(element);
         }
-        self.seen.edges.give(id)?;
-        self.seen.ends.retain(|ends| ends.id != id);
-        self.say("ok\n")
+        let mut next = self.seen.copy()?;
+        let released = next.forget(element, key);
+        let reply = self.say("ok\n")?;
+        self.take(next, released.saturating_add(2), reply)
+    }
+
+    fn delete(&mut self, element: Element) -> Result<String, AllocError> {
+        if !self.seen.has(element) {
+            return self.lacks(element);
+        }
+        let mut next = self.seen.copy()?;
+        let stripped = next.strip(element);
+        let own = match element {
+            Element::Node(id) => {
+                if next.degree(id) > 0 {
+                    return format!(in self.alloc; "error node {id} has relationships\n");
+                }
+                next.nodes.give(id)?;
+                1
+            }
+            Element::Edge(id) => {
+                next.ends.retain(|ends| ends.id != id);
+                next.edges.give(id)?;
+                13
+            }
+        };
+        let reply = self.say("ok\n")?;
+        self.take(next, stripped.saturating_add(own), reply)
     }
 
     fn begin(&mut self) -> Result<String, AllocError> {
@@ -311,8 +557,12 @@ impl Console {
     fn stats(&self) -> Result<String, AllocError> {
         let nodes = self.seen.nodes.live.len();
         let edges = self.seen.edges.live.len();
+        let properties = self.seen.properties.len();
+        let blocks = self.seen.blocks();
         let names = self.seen.names.len();
-        format!(in self.alloc; "nodes {nodes} edges {edges} properties 0 blocks 0 names {names}\n")
+        format!(in self.alloc;
+            "nodes {nodes} edges {edges} properties {properties} blocks {blocks} names {names}\n"
+        )
     }
 
     fn vertices(&self) -> Result<String, AllocError> {

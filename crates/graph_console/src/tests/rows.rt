@@ -29,6 +29,22 @@ pub(crate) fn check_words(
     Ok(())
 }
 
+/// A line and its reply, both without their last newline.
+pub(crate) type Row<'a> = (&'a [u8], &'a [u8]);
+
+/// The rows' lines are answered so, in one run.
+pub(crate) fn check_rows(rt: &impl Abort, alloc: Global, rows: &[Row]) -> Result<(), AllocError> {
+    let mut input = Vec::new(alloc);
+    let mut want = Vec::new(alloc);
+    for (line, reply) in rows {
+        input.extend_from_slice(line)?;
+        input.push(b'\n')?;
+        want.extend_from_slice(reply)?;
+        want.push(b'\n')?;
+    }
+    check_words(rt, alloc, &["nipakeel", "run"], &input, &want)
+}
+
 #[test]
 fn rows_of_lines(rt: HostRuntime) -> Result<(), Fail> {
     let cases: [(&[u8], &[u8]); 6] = [

@@ -4,6 +4,7 @@ use Rattle.rec_bytes.specs.declared.meta.Meta.{Meta}
 use Rattle.node_store.specs.declared.node_row.NodeRow.{NodeRow}
 use Rattle.store_rules.specs.Views.{high}
 use Rattle.graph_session.proofs.ListedLines.{lists-add, lists-end, lists-fault, lists-none, lists-skip, lists-stop, sound-fault}
+use Rattle.graph_session.proofs.ShortLines.{vertex-short}
 use Rattle.graph_session.proofs.Walks.{found-node, is_read-load, read-store, store-readable}
 use Rattle.graph_session.proofs.listing.give_vertices.Goals as goal
 use Rattle.graph_session.proofs.listing.give_vertices.Goals.{then-is_some+in-Go, else-is_some}
@@ -52,3 +53,6 @@ returns g c =
     let mark : c.loop-id.id ≡ high (g.R.Reads.state c.args.space.now).records nodes_file =
     let at_end = c.loop-id.invariant.mark in let test = c.loop-id-test.false in let bound = c.loop-id.auto.id-end in omega (arith, at_end, test, bound) in
     lists-end g.met.R.Reads.further_onward c.loop-id.invariant.lists mark c.finish.new.output c.finish.result (rw c.end_of_results.ensures at c.finish.ensures)
+
+pub add-requires : goal.add-requires
+add-requires g c = vertex-short c.loop-id.id (omega arith) c.as_bytes.result.now (c.as_bytes.ensures ∙ c.result_line.ensures)

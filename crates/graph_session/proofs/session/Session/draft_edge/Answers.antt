@@ -1,23 +1,8 @@
-use Rattle.std.proofs.Common.{Err, ap, refl}
-use Rattle.txn_core.specs.Store.{state_of}
-use Rattle.graph_session.proofs.Drafts.{edge-free, edge-stopped, weighs-edge}
+use Rattle.std.proofs.Common.{Err, ap}
+use Rattle.plain_graph.specs.declared.command.Command.TheVariants as commands
+use Rattle.graph_session.proofs.Drafts.{fault-stopped}
 use Rattle.graph_session.proofs.session.Session.draft_edge.Goals as goal
-
-pub returns-in-Ok-clause-drafts : goal.returns-in-Ok-clause-drafts
-returns-in-Ok-clause-drafts g c = (
-  tt,
-  λ told has.
-      let space = state_of c.args.self.now.store in
-      let names = c.args.self.now.names.names in
-      let adds = c.in-Ok.ensures.adds told has in
-      record {
-        store = c.in-Ok.ensures.well told has;
-        changes = (c.in-Ok.field-0.id, refl, adds);
-        weighs = weighs-edge space names c.args.from c.args.label.now c.args.to c.in-Ok.field-0.weight has (c.in-Ok.ensures.weight told has);
-        free = edge-free space names c.args.from c.args.label.now c.args.to has adds.leaves adds.enters (λ full. let clash = c.in-Ok.ensures.full has full in cc) (λ full. let clash = c.in-Ok.ensures.names_full full in cc);
-      },
-)
 
 pub returns-in-Err-clause-drafts : goal.returns-in-Err-clause-drafts
 returns-in-Err-clause-drafts g c =
-    rw c.answer_of.ensures (edge-stopped c.args.self.now c.add_edge.new.space.base.disk.now c.args.from c.args.label.now c.args.to c.in-Err.fault (λ told has. c.in-Err.ensures.refused told has) (λ e. c.in-Err.ensures.cause.disk (ap Err e)))
+    fault-stopped (commands.Edge c.args.from c.args.label.now c.args.to c.args.pairs.now) c.args.self.now c.add_edge.new.space.base.disk.now c.in-Err.fault (λ told has. c.in-Err.ensures.refused told has) (λ e. c.in-Err.ensures.cause.disk (ap Err e)) c.answer_of.result c.answer_of.ensures

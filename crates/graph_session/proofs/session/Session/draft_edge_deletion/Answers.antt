@@ -1,19 +1,9 @@
-use Rattle.std.proofs.Common.{Err, ap, refl}
-use Rattle.txn_core.specs.Store.{state_of}
-use Rattle.graph_session.proofs.Drafts.{edge_deletion-free, edge_deletion-stopped}
+use Rattle.std.proofs.Common.{Err, ap}
+use Rattle.plain_graph.specs.declared.command.Command.TheVariants as commands
+use Rattle.plain_graph.specs.declared.command.Target.TheVariants as targets
+use Rattle.graph_session.proofs.Drafts.{fault-stopped}
 use Rattle.graph_session.proofs.session.Session.draft_edge_deletion.Goals as goal
-
-pub returns-in-Ok-clause-drafts : goal.returns-in-Ok-clause-drafts
-returns-in-Ok-clause-drafts g c = (
-  tt,
-  λ told has. record {
-    store = c.in-Ok.ensures.well told has;
-    changes = (refl, c.in-Ok.ensures.removes told has);
-    weighs = c.in-Ok.ensures.weight;
-    free = edge_deletion-free (state_of c.args.self.now.store) c.args.id (c.in-Ok.ensures.removes told has).there;
-  },
-)
 
 pub returns-in-Err-clause-drafts : goal.returns-in-Err-clause-drafts
 returns-in-Err-clause-drafts g c =
-    rw c.answer_of.ensures (edge_deletion-stopped c.args.self.now c.delete_edge.new.space.base.disk.now c.args.id c.in-Err.fault (λ told has. c.in-Err.ensures.refused told has) (λ e. c.in-Err.ensures.cause.disk (ap Err e)))
+    fault-stopped (commands.Delete (targets.Edge c.args.id)) c.args.self.now c.delete_edge.new.space.base.disk.now c.in-Err.fault (λ told has. c.in-Err.ensures.refused told has) (λ e. c.in-Err.ensures.cause.disk (ap Err e)) c.answer_of.result c.answer_of.ensures

@@ -1,0 +1,8 @@
+use Rattle.std.proofs.Common.{Err, ap}
+use Rattle.plain_graph.specs.declared.command.Command.TheVariants as commands
+use Rattle.graph_session.proofs.Drafts.{fault-stopped}
+use Rattle.graph_session.proofs.session.Session.draft_value.Goals as goal
+
+pub returns-in-Err-clause-drafts : goal.returns-in-Err-clause-drafts
+returns-in-Err-clause-drafts g c =
+    fault-stopped (commands.Set c.args.target c.args.key.now c.args.value.now) c.args.self.now c.set.new.space.base.disk.now c.in-Err.fault (λ told has. c.in-Err.ensures.refused told has) (λ e. c.in-Err.ensures.cause.disk (ap Err e)) c.answer_of.result c.answer_of.ensures
