@@ -63,9 +63,9 @@ def count(number):
     return b"==>%d\nend\n" % number
 
 
-def stats(nodes, names, edges=0):
+def stats(nodes, names, edges=0, properties=0, blocks=0):
     """The reply to `stats`."""
-    return b"nodes %d edges %d properties 0 blocks 0 names %d\n" % (nodes, edges, names)
+    return b"nodes %d edges %d properties %d blocks %d names %d\n" % (nodes, edges, properties, blocks, names)
 
 
 def has(folder, number):
