@@ -85,7 +85,7 @@ fn each_line_gets_its_reply(rt: HostRuntime) -> Result<(), Fail> {
         (b"g.V().count()", b"==>1\nend\n"),
         (b"stats", b"nodes 1 edges 0 properties 0 blocks 0 names 2\n"),
         (b" \t", b""),
-        (b"node c d", b"error syntax 7\n"),
+        (b"node c d", b"error syntax 8\n"),
     ];
     let alloc = rt.alloc();
     let mut disk = disk_until(alloc, None)?;
