@@ -1,8 +1,10 @@
 -- What a line that asks for a change makes of the graph, its reply and its weight.
 use Rattle.std.specs.Prelude.{◌≡◌, ℕ, ◌+◌, ◌*◌, nat_eq, if◌then◌else◌, [], ◌∷◌}
 use Rattle.std.specs.FinMap as maps
-use Rattle.plain_graph.specs.Graph.{AddsEdge, AddsNode, Graph, NeedsNames, RemovesEdge, RemovesNode, SetsProperty, UnsetsProperty, degree_in, properties_at}
-use Rattle.plain_graph.specs.Properties.{Properties, blocks_at, blocks_in, blocks_of, keys_in, no_properties, with_pairs}
+use Rattle.plain_graph.specs.Graph.{AddsEdge, AddsNode, Graph, NeedsNames, RemovesEdge, RemovesNode}
+use Rattle.plain_graph.specs.Graph.{SetsProperty, UnsetsProperty, degree_in, properties_at}
+use Rattle.plain_graph.specs.Properties.{Properties, blocks_at, blocks_in, blocks_of, keys_in}
+use Rattle.plain_graph.specs.Properties.{no_properties, with_pairs}
 use Rattle.plain_graph.specs.Reply.{Done, EdgeMade, NodeMade, Reply}
 use Rattle.plain_graph.specs.declared.command.Command.{Command}
 use Rattle.plain_graph.specs.declared.command.Command.TheVariants as commands
@@ -23,9 +25,11 @@ IsChange (commands.Edge from label to pairs) = Unit {0}
 IsChange (commands.Set target key value) = Unit {0}
 IsChange (commands.Unset target key) = Unit {0}
 IsChange (commands.Delete target) = Unit {0}
+IsChange (commands.Expand id direction label) = ⊥
 IsChange (commands.Query query) = ⊥
 
--- The line changes the graph so, with this reply. The limit says how many nodes, and how many edges, there may be.
+-- The line changes the graph so, with this reply. The limit says how many nodes, and how many
+-- edges, there may be.
 abbrev pub Changes : ℕ → Graph → Command → Reply → Graph → Type 0
 Changes limit old commands.Blank reply new = ⊥
 Changes limit old commands.Begin reply new = ⊥
@@ -35,30 +39,40 @@ Changes limit old commands.Checkpoint reply new = ⊥
 Changes limit old commands.Stats reply new = ⊥
 Changes limit old commands.Reopen reply new = ⊥
 Changes limit old commands.Quit reply new = ⊥
-Changes limit old (commands.Node label pairs) reply new = (id : ℕ) × (reply ≡ NodeMade id) × AddsNode limit old label pairs id new
+Changes limit old (commands.Node label pairs) reply new =
+    (id : ℕ) × (reply ≡ NodeMade id) × AddsNode limit old label pairs id new
 Changes limit old (commands.Edge from label to pairs) reply new =
     (id : ℕ) × (reply ≡ EdgeMade id) × AddsEdge limit old from label to pairs id new
-Changes limit old (commands.Set target key value) reply new = (reply ≡ Done) × SetsProperty old target key value new
-Changes limit old (commands.Unset target key) reply new = (reply ≡ Done) × UnsetsProperty old target key new
-Changes limit old (commands.Delete (targets.Node id)) reply new = (reply ≡ Done) × RemovesNode old id new
-Changes limit old (commands.Delete (targets.Edge id)) reply new = (reply ≡ Done) × RemovesEdge old id new
+Changes limit old (commands.Set target key value) reply new =
+    (reply ≡ Done) × SetsProperty old target key value new
+Changes limit old (commands.Unset target key) reply new =
+    (reply ≡ Done) × UnsetsProperty old target key new
+Changes limit old (commands.Delete (targets.Node id)) reply new =
+    (reply ≡ Done) × RemovesNode old id new
+Changes limit old (commands.Delete (targets.Edge id)) reply new =
+    (reply ≡ Done) × RemovesEdge old id new
+Changes limit old (commands.Expand id direction label) reply new = ⊥
 Changes limit old (commands.Query query) reply new = ⊥
 
--- What an end of a new edge weighs: where the node has as many edges as the threshold, each of its edges comes into a group.
+-- What an end of a new edge weighs: where the node has as many edges as the threshold, each of its
+-- edges comes into a group.
 abbrev pub end_weight : ℕ → Graph → ℕ → ℕ
-end_weight threshold graph node = if nat_eq (degree_in graph node) threshold then 2 * (threshold + 1) else 0
+end_weight threshold graph node =
+    if nat_eq (degree_in graph node) threshold then 2 * (threshold + 1) else 0
 
 -- What both ends weigh; a loop has one.
 abbrev pub ends_weight : ℕ → Graph → ℕ → ℕ → ℕ
-ends_weight threshold graph from to = end_weight threshold graph from + (if nat_eq from to then 0 else end_weight threshold graph to)
+ends_weight threshold graph from to =
+    end_weight threshold graph from + (if nat_eq from to then 0 else end_weight threshold graph to)
 
 -- what properties weigh: 1 for each, and 1 for each block of a text
 abbrev pub properties_weight : Properties → ℕ
 properties_weight properties = maps.len properties + blocks_in properties
 
--- What the change weighs at this threshold: 1 for a node that is made or deleted, 9 for an edge that is made with what its ends weigh,
--- 13 for one that is deleted, 2 for a value that is set or taken away. A property of an element that is made or deleted weighs 1 more,
--- each block that is taken or given back 1, and a new name 1.
+-- What the change weighs at this threshold: 1 for a node that is made or deleted, 9 for an edge
+-- that is made with what its ends weigh, 13 for one that is deleted, 2 for a value that is set or
+-- taken away. A property of an element that is made or deleted weighs 1 more, each block that is
+-- taken or given back 1, and a new name 1.
 abbrev pub Weighs : ℕ → Graph → Command → ℕ → Type 0
 Weighs threshold old commands.Blank weight = ⊥
 Weighs threshold old commands.Begin weight = ⊥
@@ -73,13 +87,19 @@ Weighs threshold old (commands.Node label pairs) weight =
     × (weight ≡ 1 + properties_weight (with_pairs no_properties pairs) + new_names)
 Weighs threshold old (commands.Edge from label to pairs) weight =
     (new_names : ℕ) × NeedsNames old.names (label ∷ keys_in pairs) new_names
-    × (weight ≡ 9 + properties_weight (with_pairs no_properties pairs) + new_names + ends_weight threshold old from to)
+    × (weight
+    ≡ 9 + properties_weight (with_pairs no_properties pairs) + new_names
+    + ends_weight threshold old from to)
 Weighs threshold old (commands.Set target key value) weight =
     (new_names : ℕ) × NeedsNames old.names (key ∷ []) new_names
     × (weight ≡ 2 + blocks_of value + blocks_at (properties_at old target) key + new_names)
-Weighs threshold old (commands.Unset target key) weight = weight ≡ 2 + blocks_at (properties_at old target) key
-Weighs threshold old (commands.Delete (targets.Node id)) weight = weight ≡ 1 + properties_weight (properties_at old (targets.Node id))
-Weighs threshold old (commands.Delete (targets.Edge id)) weight = weight ≡ 13 + properties_weight (properties_at old (targets.Edge id))
+Weighs threshold old (commands.Unset target key) weight =
+    weight ≡ 2 + blocks_at (properties_at old target) key
+Weighs threshold old (commands.Delete (targets.Node id)) weight =
+    weight ≡ 1 + properties_weight (properties_at old (targets.Node id))
+Weighs threshold old (commands.Delete (targets.Edge id)) weight =
+    weight ≡ 13 + properties_weight (properties_at old (targets.Edge id))
+Weighs threshold old (commands.Expand id direction label) weight = ⊥
 Weighs threshold old (commands.Query query) weight = ⊥
 
 -- a transaction weighs so much before its first change, and at most so much

@@ -20,6 +20,7 @@ IsKept (values.Text text) = length text ≤ 1024
 -- a result that has a line: a value is one that a store may keep
 abbrev pub IsShown : Item → Type 0
 IsShown (items.Vertex id) = Unit {0}
+IsShown (items.Edge id label from to) = length label ≤ 48
 IsShown (items.Value value) = IsKept value
 
 -- keys are names, and values ones that a store may keep
@@ -42,4 +43,5 @@ HasForm (commands.Edge from label to pairs) = IsShortName label × ArePairs pair
 HasForm (commands.Set target key value) = IsShortName key × IsKept value
 HasForm (commands.Unset target key) = IsShortName key
 HasForm (commands.Delete target) = Unit {0}
+HasForm (commands.Expand id direction label) = IsShortName label
 HasForm (commands.Query query) = Unit {0}

@@ -1,5 +1,7 @@
 -- The plain property graph: lists, and nothing of records, chains or logs.
-use Rattle.std.specs.Prelude.{◌≡◌, ◌⊎◌, ℕ, ◌+◌, ◌<◌, nat_eq, nat_lt, Bool, true, false, ◌||◌, not, cond, if◌then◌else◌, Option, None, Some, List, [], ◌∷◌, ◌++◌, length, map, find, Contains}
+use Rattle.std.specs.Prelude.{◌≡◌, ◌⊎◌, ℕ, ◌+◌, ◌<◌, nat_eq, nat_lt, Bool, true, false, ◌||◌, not}
+use Rattle.std.specs.Prelude.{cond, if◌then◌else◌, Option, None, Some, List, [], ◌∷◌, ◌++◌, length}
+use Rattle.std.specs.Prelude.{map, find, Contains}
 use Rattle.std.specs.List.{filter, list_any, sum_by}
 use Rattle.std.specs.FinMap as maps
 use Rattle.plain_graph.specs.Properties.{Properties, blocks_in, keys_in, no_properties, with_pairs}
@@ -34,7 +36,8 @@ empty_graph = record { nodes = []; edges = []; names = [] }
 -- the row at its place among rows of ascending numbers
 abbrev pub with_row : {E : Type 0} → (E → ℕ) → E → List E → List E
 with_row of e [] = e ∷ []
-with_row of e (first ∷ later) = cond (nat_lt (of e) (of first)) (e ∷ first ∷ later) (first ∷ with_row of e later)
+with_row of e (first ∷ later) =
+    cond (nat_lt (of e) (of first)) (e ∷ first ∷ later) (first ∷ with_row of e later)
 
 -- the rows without those of a number
 abbrev pub without_row : {E : Type 0} → (E → ℕ) → ℕ → List E → List E
@@ -81,8 +84,10 @@ edge_properties (Some edge) = edge.properties
 
 -- the properties of an element, and none where it isn't there
 abbrev pub properties_at : Graph → Target → Properties
-properties_at graph (targets.Node id) = node_properties (find (λ node. nat_eq (node_number node) id) graph.nodes)
-properties_at graph (targets.Edge id) = edge_properties (find (λ edge. nat_eq (edge_number edge) id) graph.edges)
+properties_at graph (targets.Node id) =
+    node_properties (find (λ node. nat_eq (node_number node) id) graph.nodes)
+properties_at graph (targets.Edge id) =
+    edge_properties (find (λ edge. nat_eq (edge_number edge) id) graph.edges)
 
 abbrev pub change_node : (Properties → Properties) → Node → Node
 change_node change node = record node { properties = change node.properties }
@@ -92,71 +97,98 @@ change_edge change edge = record edge { properties = change edge.properties }
 
 -- the graph with the properties of an element changed
 abbrev pub with_properties : Graph → Target → (Properties → Properties) → Graph
-with_properties graph (targets.Node id) change = record graph { nodes = with_change node_number id (change_node change) graph.nodes }
-with_properties graph (targets.Edge id) change = record graph { edges = with_change edge_number id (change_edge change) graph.edges }
+with_properties graph (targets.Node id) change =
+    record graph { nodes = with_change node_number id (change_node change) graph.nodes }
+with_properties graph (targets.Edge id) change =
+    record graph { edges = with_change edge_number id (change_edge change) graph.edges }
 
 -- the graph with a value set for a key of an element
 abbrev pub with_value : Graph → Target → List ℕ → Value → Graph
-with_value graph target key value = with_properties graph target (λ properties. maps.insert properties key value)
+with_value graph target key value =
+    with_properties graph target (λ properties. maps.insert properties key value)
 
 -- the graph with no value for it
 abbrev pub without_value : Graph → Target → List ℕ → Graph
-without_value graph target key = with_properties graph target (λ properties. maps.remove properties key)
+without_value graph target key =
+    with_properties graph target (λ properties. maps.remove properties key)
 
 -- how many properties there are
 abbrev pub property_count : Graph → ℕ
-property_count graph = sum_by (λ (node : Node). maps.len node.properties) graph.nodes + sum_by (λ (edge : Edge). maps.len edge.properties) graph.edges
+property_count graph =
+    sum_by (λ (node : Node). maps.len node.properties) graph.nodes
+    + sum_by (λ (edge : Edge). maps.len edge.properties) graph.edges
 
 -- how many blocks of long texts there are
 abbrev pub block_count : Graph → ℕ
-block_count graph = sum_by (λ (node : Node). blocks_in node.properties) graph.nodes + sum_by (λ (edge : Edge). blocks_in edge.properties) graph.edges
+block_count graph =
+    sum_by (λ (node : Node). blocks_in node.properties) graph.nodes
+    + sum_by (λ (edge : Edge). blocks_in edge.properties) graph.edges
 
 -- A name that is known is used again, and a new one goes to the end.
 abbrev pub UsesName : List (List ℕ) → List ℕ → List (List ℕ) → Type 0
-UsesName old name new = (Contains old name × (new ≡ old)) ⊎ ((¬ Contains old name) × (new ≡ old ++ name ∷ []))
+UsesName old name new =
+    (Contains old name × (new ≡ old)) ⊎ ((¬ Contains old name) × (new ≡ old ++ name ∷ []))
 
 -- the names of a line, one after the other
 abbrev pub UsesNames : List (List ℕ) → List (List ℕ) → List (List ℕ) → Type 0
 UsesNames old [] new = new ≡ old
-UsesNames old (name ∷ later) new = (with_name : List (List ℕ)) × UsesName old name with_name × UsesNames with_name later new
+UsesNames old (name ∷ later) new =
+    (with_name : List (List ℕ)) × UsesName old name with_name × UsesNames with_name later new
 
 -- so many of the names of a line are new
 abbrev pub NeedsNames : List (List ℕ) → List (List ℕ) → ℕ → Type 0
-NeedsNames old line count = (new : List (List ℕ)) × UsesNames old line new × (length new ≡ length old + count)
+NeedsNames old line count =
+    (new : List (List ℕ)) × UsesNames old line new × (length new ≡ length old + count)
 
 -- The new graph has one more node. Its identifier is one below the limit that no node has.
-pub record AddsNode (limit : ℕ) (old : Graph) (label : List ℕ) (pairs : List Pair) (id : ℕ) (new : Graph) : Type 0 where
+pub record AddsNode (limit : ℕ) (old : Graph) (label : List ℕ) (pairs : List Pair) (id : ℕ)
+    (new : Graph) : Type 0 where
   pub below : id < limit
   pub fresh : has_node old id ≡ false
-  pub nodes : new.nodes ≡ with_row node_number (record { id = id; label = label; properties = with_pairs no_properties pairs }) old.nodes
+  pub nodes : new.nodes ≡ with_row node_number (record {
+    id = id;
+    label = label;
+    properties = with_pairs no_properties pairs;
+  }) old.nodes
   pub edges : new.edges ≡ old.edges
   pub names : UsesNames old.names (label ∷ keys_in pairs) new.names
 
--- The new graph has one more edge, between two of its nodes. Its identifier is one below the limit that no edge has.
-pub record AddsEdge (limit : ℕ) (old : Graph) (from : ℕ) (label : List ℕ) (to : ℕ) (pairs : List Pair) (id : ℕ) (new : Graph) : Type 0 where
+-- The new graph has one more edge, between two of its nodes. Its identifier is one below the limit
+-- that no edge has.
+pub record AddsEdge (limit : ℕ) (old : Graph) (from : ℕ) (label : List ℕ) (to : ℕ)
+    (pairs : List Pair) (id : ℕ) (new : Graph) : Type 0 where
   pub leaves : has_node old from ≡ true
   pub enters : has_node old to ≡ true
   pub below : id < limit
   pub fresh : has_edge old id ≡ false
   pub nodes : new.nodes ≡ old.nodes
-  pub edges : new.edges ≡ with_row edge_number (record { id = id; label = label; from = from; to = to; properties = with_pairs no_properties pairs }) old.edges
+  pub edges : new.edges ≡ with_row edge_number (record {
+    id = id;
+    label = label;
+    from = from;
+    to = to;
+    properties = with_pairs no_properties pairs;
+  }) old.edges
   pub names : UsesNames old.names (label ∷ keys_in pairs) new.names
 
 -- The new graph has this value for a key of an element. A value that the key had is gone.
-pub record SetsProperty (old : Graph) (target : Target) (key : List ℕ) (value : Value) (new : Graph) : Type 0 where
+pub record SetsProperty (old : Graph) (target : Target) (key : List ℕ) (value : Value)
+    (new : Graph) : Type 0 where
   pub there : has_element old target ≡ true
   pub nodes : new.nodes ≡ (with_value old target key value).nodes
   pub edges : new.edges ≡ (with_value old target key value).edges
   pub names : UsesName old.names key new.names
 
 -- The new graph has no value for a key of an element. Names stay.
-pub record UnsetsProperty (old : Graph) (target : Target) (key : List ℕ) (new : Graph) : Type 0 where
+pub record UnsetsProperty (old : Graph) (target : Target) (key : List ℕ) (new : Graph)
+    : Type 0 where
   pub there : has_element old target ≡ true
   pub nodes : new.nodes ≡ (without_value old target key).nodes
   pub edges : new.edges ≡ (without_value old target key).edges
   pub names : new.names ≡ old.names
 
--- The new graph lacks the node of this identifier, which no edge was at, with its properties. Names stay.
+-- The new graph lacks the node of this identifier, which no edge was at, with its properties. Names
+-- stay.
 pub record RemovesNode (old : Graph) (id : ℕ) (new : Graph) : Type 0 where
   pub there : has_node old id ≡ true
   pub lone : degree_in old id ≡ 0

@@ -7,4 +7,5 @@ pub mod Names
 pub mod Properties
 pub mod Refusals
 pub mod Reply
+pub mod Sorting
 pub mod Values

@@ -1,7 +1,8 @@
 -- Why the graph refuses a change: reasons in the order in which they count.
 use Rattle.std.specs.Prelude.{◌≡◌, ◌≢◌, ◌⊎◌, ℕ, ◌+◌, ◌<◌, false, List, [], ◌∷◌, length}
 use Rattle.std.specs.FinMap as maps
-use Rattle.plain_graph.specs.Graph.{Graph, UsesNames, block_count, degree_in, has_edge, has_node, properties_at, property_count, with_value}
+use Rattle.plain_graph.specs.Graph.{Graph, UsesNames, block_count, degree_in, has_edge, has_node}
+use Rattle.plain_graph.specs.Graph.{properties_at, property_count, with_value}
 use Rattle.plain_graph.specs.Properties.{Properties, blocks_in, keys_in, no_properties, with_pairs}
 use Rattle.plain_graph.specs.declared.command.Command.{Command}
 use Rattle.plain_graph.specs.declared.command.Command.TheVariants as commands
@@ -9,7 +10,8 @@ use Rattle.plain_graph.specs.declared.command.Target.TheVariants as targets
 use Rattle.plain_graph.specs.declared.refusal.Refusal.{Refusal}
 use Rattle.plain_graph.specs.declared.refusal.Refusal.TheVariants as refusals
 
--- A graph of this limit refuses the command so. The limit says how many there may be of nodes, of edges, of properties and of blocks.
+-- A graph of this limit refuses the command so. The limit says how many there may be of nodes, of
+-- edges, of properties and of blocks.
 abbrev pub Reason : Type 1
 Reason = ℕ → Graph → Command → Refusal → Type 0
 
@@ -22,22 +24,26 @@ most_properties = 32
 
 -- a node more would be more than the limit
 abbrev pub nodes_full : Reason
-nodes_full limit graph (commands.Node label pairs) why = (length graph.nodes ≡ limit) × (why ≡ refusals.FullNodes)
+nodes_full limit graph (commands.Node label pairs) why =
+    (length graph.nodes ≡ limit) × (why ≡ refusals.FullNodes)
 nodes_full limit graph _ why = ⊥
 
 -- no node has the identifier that the new edge is to leave
 abbrev pub no_source : Reason
-no_source limit graph (commands.Edge from label to pairs) why = (has_node graph from ≡ false) × (why ≡ refusals.NoNode from)
+no_source limit graph (commands.Edge from label to pairs) why =
+    (has_node graph from ≡ false) × (why ≡ refusals.NoNode from)
 no_source limit graph _ why = ⊥
 
 -- no node has the identifier that it is to enter
 abbrev pub no_target : Reason
-no_target limit graph (commands.Edge from label to pairs) why = (has_node graph to ≡ false) × (why ≡ refusals.NoNode to)
+no_target limit graph (commands.Edge from label to pairs) why =
+    (has_node graph to ≡ false) × (why ≡ refusals.NoNode to)
 no_target limit graph _ why = ⊥
 
 -- an edge more would be more than the limit
 abbrev pub edges_full : Reason
-edges_full limit graph (commands.Edge from label to pairs) why = (length graph.edges ≡ limit) × (why ≡ refusals.FullEdges)
+edges_full limit graph (commands.Edge from label to pairs) why =
+    (length graph.edges ≡ limit) × (why ≡ refusals.FullEdges)
 edges_full limit graph _ why = ⊥
 
 -- no node has the identifier
@@ -48,6 +54,7 @@ abbrev pub no_node : Reason
 no_node limit graph (commands.Set (targets.Node id) key value) why = lacks_node graph id why
 no_node limit graph (commands.Unset (targets.Node id) key) why = lacks_node graph id why
 no_node limit graph (commands.Delete (targets.Node id)) why = lacks_node graph id why
+no_node limit graph (commands.Expand id direction label) why = lacks_node graph id why
 no_node limit graph _ why = ⊥
 
 -- no edge has the identifier
@@ -62,28 +69,36 @@ no_edge limit graph _ why = ⊥
 
 -- edges are at the node
 abbrev pub has_relationships : Reason
-has_relationships limit graph (commands.Delete (targets.Node id)) why = (degree_in graph id ≢ 0) × (why ≡ refusals.HasRelationships id)
+has_relationships limit graph (commands.Delete (targets.Node id)) why =
+    (degree_in graph id ≢ 0) × (why ≡ refusals.HasRelationships id)
 has_relationships limit graph _ why = ⊥
 
 -- with the names of the line there would be more than a store may have
 abbrev pub lacks_names : Graph → List (List ℕ) → Refusal → Type 0
 lacks_names graph line why =
-    (names : List (List ℕ)) × UsesNames graph.names line names × (most_names < length names) × (why ≡ refusals.FullNames)
+    (names : List (List ℕ)) × UsesNames graph.names line names × (most_names < length names)
+    × (why ≡ refusals.FullNames)
 
 abbrev pub names_full : Reason
-names_full limit graph (commands.Node label pairs) why = lacks_names graph (label ∷ keys_in pairs) why
-names_full limit graph (commands.Edge from label to pairs) why = lacks_names graph (label ∷ keys_in pairs) why
+names_full limit graph (commands.Node label pairs) why =
+    lacks_names graph (label ∷ keys_in pairs) why
+names_full limit graph (commands.Edge from label to pairs) why =
+    lacks_names graph (label ∷ keys_in pairs) why
 names_full limit graph (commands.Set target key value) why = lacks_names graph (key ∷ []) why
 names_full limit graph _ why = ⊥
 
 -- the element would have more properties than it may
 abbrev pub has_too_many : Properties → Refusal → Type 0
-has_too_many properties why = (most_properties < maps.len properties) × (why ≡ refusals.TooManyProperties)
+has_too_many properties why =
+    (most_properties < maps.len properties) × (why ≡ refusals.TooManyProperties)
 
 abbrev pub too_many_properties : Reason
-too_many_properties limit graph (commands.Node label pairs) why = has_too_many (with_pairs no_properties pairs) why
-too_many_properties limit graph (commands.Edge from label to pairs) why = has_too_many (with_pairs no_properties pairs) why
-too_many_properties limit graph (commands.Set target key value) why = has_too_many (maps.insert (properties_at graph target) key value) why
+too_many_properties limit graph (commands.Node label pairs) why =
+    has_too_many (with_pairs no_properties pairs) why
+too_many_properties limit graph (commands.Edge from label to pairs) why =
+    has_too_many (with_pairs no_properties pairs) why
+too_many_properties limit graph (commands.Set target key value) why =
+    has_too_many (maps.insert (properties_at graph target) key value) why
 too_many_properties limit graph _ why = ⊥
 
 -- there would be more than the limit
@@ -93,19 +108,24 @@ lacks_room limit count full why = (limit < count) × (why ≡ full)
 -- the graph would have more properties than the limit; a value that is replaced counts no longer
 abbrev pub properties_full : Reason
 properties_full limit graph (commands.Node label pairs) why =
-    lacks_room limit (property_count graph + maps.len (with_pairs no_properties pairs)) refusals.FullProperties why
+    lacks_room limit (property_count graph + maps.len (with_pairs no_properties pairs))
+    refusals.FullProperties why
 properties_full limit graph (commands.Edge from label to pairs) why =
-    lacks_room limit (property_count graph + maps.len (with_pairs no_properties pairs)) refusals.FullProperties why
+    lacks_room limit (property_count graph + maps.len (with_pairs no_properties pairs))
+    refusals.FullProperties why
 properties_full limit graph (commands.Set target key value) why =
-    lacks_room limit (property_count (with_value graph target key value)) refusals.FullProperties why
+    lacks_room limit (property_count (with_value graph target key value))
+    refusals.FullProperties why
 properties_full limit graph _ why = ⊥
 
 -- or more blocks of long texts
 abbrev pub strings_full : Reason
 strings_full limit graph (commands.Node label pairs) why =
-    lacks_room limit (block_count graph + blocks_in (with_pairs no_properties pairs)) refusals.FullStrings why
+    lacks_room limit (block_count graph + blocks_in (with_pairs no_properties pairs))
+    refusals.FullStrings why
 strings_full limit graph (commands.Edge from label to pairs) why =
-    lacks_room limit (block_count graph + blocks_in (with_pairs no_properties pairs)) refusals.FullStrings why
+    lacks_room limit (block_count graph + blocks_in (with_pairs no_properties pairs))
+    refusals.FullStrings why
 strings_full limit graph (commands.Set target key value) why =
     lacks_room limit (block_count (with_value graph target key value)) refusals.FullStrings why
 strings_full limit graph _ why = ⊥
@@ -113,17 +133,20 @@ strings_full limit graph _ why = ⊥
 -- the reasons of changes, in the order in which they count
 abbrev pub change_reasons : List Reason
 change_reasons =
-    nodes_full ∷ no_source ∷ no_target ∷ edges_full ∷ no_node ∷ no_edge ∷ has_relationships ∷ names_full ∷ too_many_properties
+    nodes_full ∷ no_source ∷ no_target ∷ edges_full ∷ no_node ∷ no_edge ∷ has_relationships
+    ∷ names_full ∷ too_many_properties
     ∷ properties_full ∷ strings_full ∷ []
 
 -- no reason refuses the command
 abbrev pub NoReason : List Reason → ℕ → Graph → Command → Type 0
 NoReason [] limit graph command = Unit {0}
-NoReason (reason ∷ later) limit graph command = ((other : Refusal) → ¬ reason limit graph command other) × NoReason later limit graph command
+NoReason (reason ∷ later) limit graph command =
+    ((other : Refusal) → ¬ reason limit graph command other) × NoReason later limit graph command
 
 -- the first reason that holds refuses the command so
 abbrev pub FirstReason : List Reason → ℕ → Graph → Command → Refusal → Type 0
 FirstReason [] limit graph command why = ⊥
 FirstReason (reason ∷ later) limit graph command why =
     reason limit graph command why
-    ⊎ (((other : Refusal) → ¬ reason limit graph command other) × FirstReason later limit graph command why)
+    ⊎ (((other : Refusal) → ¬ reason limit graph command other)
+    × FirstReason later limit graph command why)

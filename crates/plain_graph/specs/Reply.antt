@@ -1,5 +1,6 @@
 -- The replies of the console, and their bytes.
-use Rattle.std.specs.Prelude.{ℕ, nat_eq, if◌then◌else◌, List, [], ◌∷◌, ◌++◌, codes, decimal, flat_map, slice_index_or}
+use Rattle.std.specs.Prelude.{ℕ, nat_eq, if◌then◌else◌, List, [], ◌∷◌, ◌++◌, codes, decimal}
+use Rattle.std.specs.Prelude.{flat_map, slice_index_or}
 use Rattle.std.specs.Fmt.{signed_decimal}
 use Rattle.plain_graph.specs.declared.counts.Counts.{Counts}
 use Rattle.plain_graph.specs.declared.item.Item.{Item}
@@ -9,13 +10,16 @@ use Rattle.plain_graph.specs.declared.value.Value.TheVariants as values
 use Rattle.plain_graph.specs.declared.refusal.Refusal.{Refusal}
 use Rattle.plain_graph.specs.declared.refusal.Refusal.TheVariants as refusals
 
--- why a line is not carried out, or not to its end: no memory, the disk, or a record that breaks a rule of the store
+-- why a line is not carried out, or not to its end: no memory, the disk, a record that breaks a
+-- rule of the store, or more results at a count than a number holds
 pub data Fault : Type 0 where
+  PastCount : Fault
   NoMemory : Fault
   DiskFailed : Fault
   DamagedRecord : (file id : ℕ) → Fault
 
--- What a line of the console is answered with. A fault comes after a prefix of the results that a query has shown by then.
+-- What a line of the console is answered with. A fault comes after a prefix of the results that a
+-- query has shown by then.
 pub data Reply : Type 0 where
   Silent : Reply
   Done : Reply
@@ -30,7 +34,8 @@ pub data Reply : Type 0 where
 abbrev pub text_line : List ℕ → List ℕ
 text_line text = text ++ 10 ∷ []
 
--- A byte of a text as it is shown: a quote, a backslash, a newline, a carriage return and a tab stand behind a backslash.
+-- A byte of a text as it is shown: a quote, a backslash, a newline, a carriage return and a tab
+-- stand behind a backslash.
 abbrev pub escaped : ℕ → List ℕ
 escaped b =
     if nat_eq b 39 then codes "\\'"
@@ -45,8 +50,14 @@ value_text (values.Int number) = signed_decimal number
 value_text (values.Bool truth) = if truth then codes "true" else codes "false"
 value_text (values.Text text) = codes "'" ++ flat_map escaped text ++ codes "'"
 
+abbrev pub edge_text : ℕ → List ℕ → ℕ → ℕ → List ℕ
+edge_text id label from to =
+    codes "e[" ++ decimal id ++ codes "][" ++ decimal from ++ codes "-" ++ label ++ codes "->"
+    ++ decimal to ++ codes "]"
+
 abbrev pub item_text : Item → List ℕ
 item_text (items.Vertex id) = codes "v[" ++ decimal id ++ codes "]"
+item_text (items.Edge id label from to) = edge_text id label from to
 item_text (items.Value value) = value_text value
 
 -- one result of a query
@@ -57,6 +68,9 @@ abbrev pub refusal_text : Refusal → List ℕ
 refusal_text refusals.LongLine = codes "error line"
 refusal_text (refusals.Syntax at) = codes "error syntax " ++ decimal at
 refusal_text (refusals.NameLength at) = codes "error name length " ++ decimal at
+refusal_text (refusals.TimesRange at) = codes "error times range " ++ decimal at
+refusal_text (refusals.StepKind at) = codes "error step kind " ++ decimal at
+refusal_text (refusals.TooManySteps at) = codes "error too many steps " ++ decimal at
 refusal_text (refusals.TextLength at) = codes "error text length " ++ decimal at
 refusal_text refusals.Failed = codes "error failed"
 refusal_text refusals.FullNodes = codes "error full nodes"
@@ -70,25 +84,32 @@ refusal_text refusals.NoTransaction = codes "error no transaction"
 refusal_text refusals.FullEdges = codes "error full edges"
 refusal_text (refusals.NoNode id) = codes "error no node " ++ decimal id
 refusal_text (refusals.NoEdge id) = codes "error no edge " ++ decimal id
-refusal_text (refusals.HasRelationships id) = codes "error node " ++ decimal id ++ codes " has relationships"
+refusal_text (refusals.HasRelationships id) =
+    codes "error node " ++ decimal id ++ codes " has relationships"
 refusal_text refusals.TransactionFull = codes "error transaction full"
 
 -- how many there are of each part of the graph
 abbrev pub counts_text : Counts → List ℕ
 counts_text counts =
-    codes "nodes " ++ decimal counts.nodes ++ codes " edges " ++ decimal counts.edges ++ codes " properties " ++ decimal counts.properties ++ codes " blocks " ++ decimal counts.blocks
+    codes "nodes " ++ decimal counts.nodes ++ codes " edges " ++ decimal counts.edges
+    ++ codes " properties " ++ decimal counts.properties ++ codes " blocks "
+    ++ decimal counts.blocks
     ++ codes " names " ++ decimal counts.names
 
 -- what the lines of the console call each file of the store
 abbrev pub file_name : ℕ → List ℕ
-file_name file = slice_index_or (codes "meta" ∷ codes "nodes" ∷ codes "edges" ∷ codes "groups" ∷ codes "properties" ∷ codes "strings" ∷ codes "names" ∷ []) file (codes "log")
+file_name file =
+    slice_index_or (codes "meta" ∷ codes "nodes" ∷ codes "edges" ∷ codes "groups"
+    ∷ codes "properties" ∷ codes "strings" ∷ codes "names" ∷ []) file (codes "log")
 
--- the record of this number in the file breaks a rule of the store; for the log the number is the place of an entry
+-- the record of this number in the file breaks a rule of the store; for the log the number is the
+-- place of an entry
 abbrev pub damaged_text : ℕ → ℕ → List ℕ
 damaged_text file id = codes "damaged " ++ file_name file ++ codes " " ++ decimal id
 
 -- the line of a fault
 abbrev pub fault_line : Fault → List ℕ
+fault_line PastCount = text_line (codes "error count")
 fault_line NoMemory = text_line (codes "error memory")
 fault_line DiskFailed = text_line (codes "fault disk")
 fault_line (DamagedRecord file id) = text_line (damaged_text file id)
@@ -106,4 +127,5 @@ reply_text (Refused why) = text_line (refusal_text why)
 
 -- the threshold and the limit of the store
 abbrev pub configuration_text : ℕ → ℕ → List ℕ
-configuration_text threshold limit = codes "configuration " ++ decimal threshold ++ codes " " ++ decimal limit
+configuration_text threshold limit =
+    codes "configuration " ++ decimal threshold ++ codes " " ++ decimal limit

@@ -1,4 +1,4 @@
-use crate::{Pairs, Query, Text, Value};
+use crate::{Direction, Pairs, Query, Text, Value};
 
 /// An element of the graph that a line names.
 #[derive(Clone, Copy, Debug, PartialEq, Eq)]
@@ -53,6 +53,12 @@ pub enum Command {
     },
     /// The graph without this element.
     Delete(Target),
+    /// The edges of a type at a node, in a direction.
+    Expand {
+        id: u32,
+        direction: Direction,
+        label: Text,
+    },
     /// The results of a query.
     Query(Query),
 }

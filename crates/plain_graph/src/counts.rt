@@ -1,4 +1,5 @@
-/// How many there are of each part of a graph. Blocks hold the texts of more than 40 bytes, 48 bytes each.
+/// How many there are of each part of a graph. Blocks hold the texts of more than 40 bytes, 48
+/// bytes each.
 #[derive(Clone, Copy, Debug, PartialEq, Eq)]
 pub struct Counts {
     pub nodes: u32,

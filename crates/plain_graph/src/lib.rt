@@ -1,11 +1,13 @@
 //! The plain property graph: what a graph is, what a change and a query mean, and the bytes of each
-//! reply. Definitions of specs/ say it with lists; the Rust types are commands, items, refusals and texts.
+//! reply. Definitions of specs/ say it with lists; the Rust types are commands, items, refusals and
+//! texts.
 #![tactic(auto)]
 
 mod byte_buffer;
 mod command;
 mod counts;
 mod direction;
+mod filter;
 mod item;
 mod limits;
 mod name;
@@ -14,21 +16,24 @@ mod query;
 mod refusal;
 mod reply;
 mod text;
+mod texts;
 mod value;
 
 pub use byte_buffer::ByteBuffer;
 pub use command::{Command, Target};
 pub use counts::Counts;
 pub use direction::Direction;
+pub use filter::{Filter, Relation};
 pub use item::Item;
 pub use limits::{NAME_BYTES, NAMES, PROPERTIES, TEXT_BYTES};
 pub use name::{is_name_byte, is_name_start, is_short_name};
 pub use pairs::{Pair, Pairs};
-pub use query::{Query, Step, StepList};
+pub use query::{Body, BodyStep, Hop, Ids, Query, Step, StepList};
 pub use refusal::Refusal;
 pub use reply::{
     ResultLine, ShortText, configuration, counted, damaged, disk_fault, done, edge_made,
-    end_of_results, no_memory, node_made, not_a_store, refused, result_line,
+    end_of_results, no_memory, node_made, not_a_store, past_count, refused, result_line,
 };
 pub use text::Text;
+pub use texts::Texts;
 pub use value::Value;

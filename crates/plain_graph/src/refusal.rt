@@ -11,6 +11,12 @@ pub enum Refusal {
     TextLength { at: usize },
     /// The number at the byte place `at` is out of its range.
     NumberRange { at: usize },
+    /// The number of times at the byte place `at` is not 1 to 16.
+    TimesRange { at: usize },
+    /// The step whose name is at the byte place `at` does not fit what comes to it.
+    StepKind { at: usize },
+    /// The step whose name is at the byte place `at` is the 33rd.
+    TooManySteps { at: usize },
     /// The disk failed the session, which can't say what is stored.
     Failed,
     /// A transaction is open, and the line needs that none is.

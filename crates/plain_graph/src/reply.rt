@@ -1,15 +1,19 @@
 ghost use Rattle.std.specs.Prelude.{◌≡◌, ◌≤◌, ◌+◌, ◌*◌, ◌++◌, codes, decimal, flat_map, length};
 ghost use Rattle.plain_graph.specs.Forms.{IsKept, IsShown};
-ghost use Rattle.plain_graph.specs.Reply.{Counted, DamagedRecord, DiskFailed, Done, EdgeMade, NoMemory, NodeMade, Refused, configuration_text, damaged_text, escaped, fault_line, file_name, reply_text, result_text, text_line, value_text};
+ghost use Rattle.plain_graph.specs.Reply.{Counted, DamagedRecord, DiskFailed, Done, EdgeMade};
+ghost use Rattle.plain_graph.specs.Reply.{NoMemory, NodeMade, PastCount, Refused};
+ghost use Rattle.plain_graph.specs.Reply.{configuration_text, damaged_text, edge_text, escaped};
+ghost use Rattle.plain_graph.specs.Reply.{fault_line, file_name, reply_text, result_text};
+ghost use Rattle.plain_graph.specs.Reply.{text_line, value_text};
 
-use crate::{ByteBuffer, Counts, Item, Refusal, Value};
+use crate::{ByteBuffer, Counts, Item, Refusal, Text, Value};
 use itoa::Buffer;
 
 /// A reply of one line, which takes no memory.
 pub type ShortText = ByteBuffer<128>;
 
-/// The line of a result, which takes no memory. The longest one has a text of 1,024 bytes between quotes, each of them
-/// escaped.
+/// The line of a result, which takes no memory. The longest one has a text of 1,024 bytes between
+/// quotes, each of them escaped.
 pub type ResultLine = ByteBuffer<2_112>;
 
 /// The reply to a line that made a node: `node ID`.
@@ -111,6 +115,18 @@ pub fn refused(why: Refusal) -> ShortText
             text.push(b"error name length ");
             text.push(digits.format(at).as_bytes());
         }
+        Refusal::TimesRange { at } => {
+            text.push(b"error times range ");
+            text.push(digits.format(at).as_bytes());
+        }
+        Refusal::StepKind { at } => {
+            text.push(b"error step kind ");
+            text.push(digits.format(at).as_bytes());
+        }
+        Refusal::TooManySteps { at } => {
+            text.push(b"error too many steps ");
+            text.push(digits.format(at).as_bytes());
+        }
         Refusal::TextLength { at } => {
             text.push(b"error text length ");
             text.push(digits.format(at).as_bytes());
@@ -134,9 +150,34 @@ pub fn result_line(item: &Item, line: &mut ResultLine)
             line.push(digits.format(*id).as_bytes());
             line.push(b"]");
         }
+        Item::Edge {
+            id,
+            label,
+            from,
+            to,
+        } => push_edge(line, *id, label, *from, *to),
         Item::Value(value) => push_value(line, value),
     }
     line.push(b"\n");
+}
+
+/// Puts an edge at the end: `e[ID][FROM-TYPE->TO]`.
+fn push_edge(line: &mut ResultLine, id: u32, label: &Text, from: u32, to: u32)
+    requires label { length label.now ≤ 48 }
+    requires room { length line.old ≤ 3 }
+    ensures text { line.new ≡ line.old ++ edge_text id label.now from to }
+    ensures room { length line.new ≤ 2100 }
+{
+    let mut digits = Buffer::new();
+    line.push(b"e[");
+    line.push(digits.format(id).as_bytes());
+    line.push(b"][");
+    line.push(digits.format(from).as_bytes());
+    line.push(b"-");
+    line.push(label.as_bytes());
+    line.push(b"->");
+    line.push(digits.format(to).as_bytes());
+    line.push(b"]");
 }
 
 /// Puts a value at the end: a number in decimal, `true`, `false`, or a text between quotes.
@@ -191,6 +232,13 @@ pub fn no_memory() -> &'static [u8]
     b"error memory\n"
 }
 
+/// The line where more results come to a count than a number holds.
+pub fn past_count() -> &'static [u8]
+    ensures { result.now ≡ fault_line PastCount }
+{
+    b"error count\n"
+}
+
 /// The line where the disk failed.
 pub fn disk_fault() -> &'static [u8]
     ensures { result.now ≡ fault_line DiskFailed }
@@ -205,8 +253,8 @@ pub fn not_a_store() -> &'static [u8]
     b"not a store\n"
 }
 
-/// The line where a record breaks a rule of the store: the name of its file and its number, or for an
-/// entry of the log its place.
+/// The line where a record breaks a rule of the store: the name of its file and its number, or for
+/// an entry of the log its place.
 pub fn damaged(file: u8, id: u32) -> ShortText
     ensures text { result ≡ text_line (damaged_text file id) }
     ensures fault { result ≡ fault_line (DamagedRecord file id) }
@@ -221,7 +269,8 @@ pub fn damaged(file: u8, id: u32) -> ShortText
     text
 }
 
-/// The line where a store has another shape than the one that was asked for: the stored threshold and limit.
+/// The line where a store has another shape than the one that was asked for: the stored threshold
+/// and limit.
 pub fn configuration(threshold: u16, limit: u32) -> ShortText
     ensures { result ≡ text_line (configuration_text threshold limit) }
 {
