@@ -42,7 +42,8 @@ without x (y ∷ ys) = if nat_eq x y then ys else y ∷ without x ys
 -- chains of the two nodes use different links of a relationship
 abbrev pub Differ : Records → ℕ → ℕ → ℕ → Type 0
 Differ records n m x =
-    place_of (rec_at records relationships_file x) n ≢ place_of (rec_at records relationships_file x) m
+    place_of (rec_at records relationships_file x) n
+    ≢ place_of (rec_at records relationships_file x) m
 
 -- so it is for each relationship that is in both lists
 abbrev pub ShareNoLink : Records → ℕ → List ℕ → ℕ → List ℕ → Type 0

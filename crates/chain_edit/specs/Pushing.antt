@@ -8,7 +8,8 @@ use Rattle.rec_bytes.specs.Space.{State, after_get, after_put}
 use Rattle.store_rules.specs.Chains.{In}
 use Rattle.store_rules.specs.Rules.{Head, first_of}
 use Rattle.store_rules.specs.Views.{Records}
-use Rattle.chain_edit.specs.Chains.{ChangeOnly, IsChainAt, IsChainFrom, ShareNoLink, next_place, prev_of, prev_place}
+use Rattle.chain_edit.specs.Chains.{ChangeOnly, IsChainAt, IsChainFrom, ShareNoLink, next_place}
+use Rattle.chain_edit.specs.Chains.{prev_of, prev_place}
 use Rattle.chain_edit.specs.Links.{IsLinkDamage, backed, next_set}
 use Rattle.chain_edit.specs.declared.chain_fault.ChainFault.{ChainFault}
 use Rattle.chain_edit.specs.declared.chain_fault.ChainFault.TheVariants.{Memory, Disk, Damaged}
@@ -32,7 +33,8 @@ pub record HasPushed (old new : Records) (head : Head) (node rel : ℕ) (xs : Li
   pub chain : IsChainAt new head node (rel ∷ xs)
   pub others : (m from : ℕ) (ys : List ℕ) → IsChainFrom old m from ys
       → ShareNoLink old node (rel ∷ xs) m ys → IsChainFrom new m from ys
-  pub only : ChangeOnly old new (prev_place old node (first_of old head) ∷ next_place old node rel ∷ head ∷ [])
+  pub only : ChangeOnly old new (prev_place old node (first_of old head) ∷ next_place old node rel
+      ∷ head ∷ [])
 
 abbrev pub first_damage : Key → Damage
 first_damage key = record { file = key.file; id = key.id; rule = 1 }
@@ -41,4 +43,5 @@ first_damage key = record { file = key.file; id = key.id; rule = 1 }
 abbrev pub IsPushFault : State → Head → ChainFault → Type 0
 IsPushFault s head Memory = Unit {0}
 IsPushFault s head Disk = Unit {0}
-IsPushFault s head (Damaged damage) = IsLinkDamage s (first_of s.records head) (first_damage head.key) damage
+IsPushFault s head (Damaged damage) =
+    IsLinkDamage s (first_of s.records head) (first_damage head.key) damage

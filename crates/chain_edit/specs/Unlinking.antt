@@ -8,7 +8,8 @@ use Rattle.store_rules.specs.Chains.{In, place_of}
 use Rattle.store_rules.specs.Rules.{Head}
 use Rattle.store_rules.specs.Views.{Records}
 use Rattle.rel_store.specs.RelRecord.{range_damage, rel_key}
-use Rattle.chain_edit.specs.Chains.{ChangeOnly, IsChainAt, IsChainFrom, ShareNoLink, next_of, next_place, prev_of, prev_place, without}
+use Rattle.chain_edit.specs.Chains.{ChangeOnly, IsChainAt, IsChainFrom, ShareNoLink, next_of}
+use Rattle.chain_edit.specs.Chains.{next_place, prev_of, prev_place, without}
 use Rattle.chain_edit.specs.Links.{IsLinkDamage, backed, next_set, number_set}
 use Rattle.chain_edit.specs.declared.chain_fault.ChainFault.{ChainFault}
 use Rattle.chain_edit.specs.declared.chain_fault.ChainFault.TheVariants.{Memory, Disk, Damaged}

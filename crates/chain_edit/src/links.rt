@@ -4,7 +4,8 @@ ghost use Rattle.std.specs.Prelude.{◌≡◌, ◌≢◌, ◌∷◌, [], IfErr, 
 ghost use Rattle.rec_bytes.specs.Key.{IsKey};
 ghost use Rattle.rec_bytes.specs.Space.{after_get, HasCause, WritesOnly};
 ghost use Rattle.rel_store.specs.RelRecord.{rel_key};
-ghost use Rattle.chain_edit.specs.Links.{IsKnownLink, IsLinkDamage, IsRightLink, backed, next_set, prev_set};
+ghost use Rattle.chain_edit.specs.Links.{IsKnownLink, IsLinkDamage, IsRightLink, backed, next_set};
+ghost use Rattle.chain_edit.specs.Links.{prev_set};
 
 use rec_bytes::{Damage, Key, META, NIL, RELATIONSHIPS, Reads, Space, SpaceFault, room_of};
 use rel_store::{Linked, place_of};
@@ -44,7 +45,8 @@ pub(crate) fn set_next<S: Space>(
     to: u32,
 ) -> Result<(), SpaceFault>
     requires { IsKey (rel_key id) }
-    ensures ok { S.tells → OnOk result (S.state space.new ≡ next_set (S.state space.old) node id to) }
+    ensures ok { S.tells
+        → OnOk result (S.state space.new ≡ next_set (S.state space.old) node id to) }
     ensures err { OnErr result (S.state space.new ≡ after_get (S.state space.old)) }
     ensures writes { WritesOnly (S.state space.old) (S.state space.new) (rel_key id ∷ []) }
     ensures shape { S.tells → (S.state space.new).shape ≡ (S.state space.old).shape }
@@ -63,7 +65,8 @@ pub(crate) fn set_next<S: Space>(
 /// Changes what comes before a relationship in a chain of the node.
 fn set_previous<S: Space>(space: &mut S, id: u32, node: u32, to: u32) -> Result<(), SpaceFault>
     requires { IsKey (rel_key id) }
-    ensures ok { S.tells → OnOk result (S.state space.new ≡ prev_set (S.state space.old) node id to) }
+    ensures ok { S.tells
+        → OnOk result (S.state space.new ≡ prev_set (S.state space.old) node id to) }
     ensures err { OnErr result (S.state space.new ≡ after_get (S.state space.old)) }
     ensures writes { WritesOnly (S.state space.old) (S.state space.new) (rel_key id ∷ []) }
     ensures shape { S.tells → (S.state space.new).shape ≡ (S.state space.old).shape }

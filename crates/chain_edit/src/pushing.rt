@@ -12,8 +12,8 @@ use crate::links::{RANGE_RULE, back, set_next, test_link};
 use crate::{ChainFault, Head};
 use rec_bytes::{Damage, Space};
 
-/// Puts a relationship at the front of a chain of the node. The head is damaged where its link leads
-/// nowhere, and then nothing is written.
+/// Puts a relationship at the front of a chain of the node. The head is damaged where its link
+/// leads nowhere, and then nothing is written.
 #[tactic(auto, unfolding(crate::specs::Pushing::pushed))]
 pub fn push_front<S: Space>(
     space: &mut S,
@@ -25,7 +25,8 @@ pub fn push_front<S: Space>(
     requires rel { IsKey (rel_key rel) }
     ensures chains { S.tells → OnOk result ((xs : List ℕ)
         → CanPush (S.state space.old).records (head_of head) node rel xs
-        → HasPushed (S.state space.old).records (S.state space.new).records (head_of head) node rel xs) }
+        → HasPushed (S.state space.old).records (S.state space.new).records (head_of head) node
+        rel xs) }
     ensures ok { S.tells
         → OnOk result (S.state space.new ≡ pushed (S.state space.old) (head_of head) node rel) }
     ensures damaged { S.tells → IfErr result (IsPushFault (S.state space.old) (head_of head)) }
@@ -36,7 +37,8 @@ pub fn push_front<S: Space>(
         (IsKnownLink (S.state space.old) (first_of (S.state space.old).records (head_of head))) }
     ensures unwritten { OnDamage result (S.state space.new ≡ after_get (S.state space.old)) }
     ensures neighbours { S.tells → WritesOnly (S.state space.old) (S.state space.new)
-        (rel_key (first_of (S.state space.old).records (head_of head)) ∷ rel_key rel ∷ head.key ∷ []) }
+        (rel_key (first_of (S.state space.old).records (head_of head)) ∷ rel_key rel ∷ head.key
+        ∷ []) }
     ensures writes { (first : ℕ) × WritesOnly (S.state space.old) (S.state space.new)
         (rel_key first ∷ rel_key rel ∷ head.key ∷ []) }
     ensures shape { S.tells → (S.state space.new).shape ≡ (S.state space.old).shape }

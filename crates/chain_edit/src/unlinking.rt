@@ -21,7 +21,8 @@ pub fn unlink<S: Space>(space: &mut S, head: Head, node: u32, rel: u32) -> Resul
     requires rel { IsKey (rel_key rel) }
     ensures chains { S.tells → OnOk result ((xs : List ℕ)
         → CanUnlink (S.state space.old).records (head_of head) node rel xs
-        → HasUnlinked (S.state space.old).records (S.state space.new).records (head_of head) node rel xs) }
+        → HasUnlinked (S.state space.old).records (S.state space.new).records (head_of head) node
+        rel xs) }
     ensures ok { S.tells
         → OnOk result (S.state space.new ≡ unlinked (S.state space.old) (head_of head) node rel) }
     ensures damaged { S.tells → IfErr result (IsUnlinkFault (S.state space.old) node rel) }

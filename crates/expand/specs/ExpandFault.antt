@@ -6,7 +6,8 @@ use Rattle.rec_bytes.specs.declared.row_fault.RowFault.TheVariants as row
 use Rattle.chain_edit.specs.declared.chain_fault.ChainFault.{ChainFault}
 use Rattle.chain_edit.specs.declared.chain_fault.ChainFault.TheVariants as chain
 use Rattle.expand.specs.declared.expand_fault.ExpandFault.{ExpandFault}
-use Rattle.expand.specs.declared.expand_fault.ExpandFault.TheVariants.{NoNode, Memory, Disk, Damaged}
+use Rattle.expand.specs.declared.expand_fault.ExpandFault.TheVariants.{NoNode, Memory, Disk}
+use Rattle.expand.specs.declared.expand_fault.ExpandFault.TheVariants.{Damaged}
 
 -- faults of the crates below as one of this crate
 abbrev pub of_row : RowFault → ExpandFault

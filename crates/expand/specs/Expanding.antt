@@ -1,5 +1,6 @@
 -- What is found of the edges of a node, and what it costs.
-use Rattle.std.specs.Prelude.{◌≡◌, ◌<◌, ℕ, Bool, true, false, Option, List, Result, Ok, Err, All, Some}
+use Rattle.std.specs.Prelude.{◌≡◌, ◌<◌, ℕ, Bool, true, false, Option, List, Result, Ok, Err, All}
+use Rattle.std.specs.Prelude.{Some}
 use Rattle.std.specs.List.{AllZip}
 use Rattle.plain_graph.specs.Graph.{Edge, Graph}
 use Rattle.rec_bytes.specs.declared.damage.Damage.{Damage}
@@ -15,7 +16,8 @@ use Rattle.rel_store.specs.declared.edge_row.EdgeRow.{EdgeRow}
 use Rattle.rel_store.specs.Loading.{rel_mark}
 use Rattle.chain_edit.specs.Walking.{IsWalkDamage, edge_at}
 use Rattle.expand.specs.declared.expand_fault.ExpandFault.{ExpandFault}
-use Rattle.expand.specs.declared.expand_fault.ExpandFault.TheVariants.{NoNode, Memory, Disk, Damaged}
+use Rattle.expand.specs.declared.expand_fault.ExpandFault.TheVariants.{NoNode, Memory, Disk}
+use Rattle.expand.specs.declared.expand_fault.ExpandFault.TheVariants.{Damaged}
 
 -- the records are those of a well-formed store of this version, in which each node is sparse
 abbrev pub IsSparse : State → Type 0

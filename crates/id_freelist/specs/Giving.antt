@@ -12,14 +12,16 @@ use Rattle.id_freelist.specs.FreeLists.{IsFreeList, free_record}
 abbrev pub given : State → ℕ → ℕ → State
 given s file id =
     let m = meta_of s file in
-    after_meta (after_put s (key_in file id) (free_record m.free)) file (record { high = m.high; free = id; live = m.live - 1 })
+    after_meta (after_put s (key_in file id) (free_record m.free)) file
+    (record { high = m.high; free = id; live = m.live - 1 })
 
 -- The identifier isn't on the free list.
 pub record CanGive (s : State) (file id : ℕ) (free : List ℕ) : Type 0 where
   pub list : IsFreeList s.records file free
   pub fresh : In id free → ⊥
 
--- The identifier stands first on the free list, and is no longer counted as live. No record but the file's meta record and its own changed.
+-- The identifier stands first on the free list, and is no longer counted as live. No record but the
+-- file's meta record and its own changed.
 pub record HasGiven (old new : Records) (file id : ℕ) (free : List ℕ) : Type 0 where
   pub list : IsFreeList new file (id ∷ free)
   pub mark : high new file ≡ high old file

@@ -1,5 +1,6 @@
 -- What taking an identifier makes of a space.
-use Rattle.std.specs.Prelude.{◌≡◌, ◌≢◌, ◌⊎◌, ℕ, ◌+◌, ◌<◌, ◌≤◌, nat_eq, nat_le, nat_lt, Bool, ◌&&◌, ◌||◌, if◌then◌else◌, List, [], ◌∷◌}
+use Rattle.std.specs.Prelude.{◌≡◌, ◌≢◌, ◌⊎◌, ℕ, ◌+◌, ◌<◌, ◌≤◌, nat_eq, nat_le, nat_lt, Bool, ◌&&◌}
+use Rattle.std.specs.Prelude.{◌||◌, if◌then◌else◌, List, [], ◌∷◌}
 use Rattle.rec_bytes.specs.declared.damage.Damage.{Damage}
 use Rattle.rec_bytes.specs.declared.key.Key.{Key}
 use Rattle.rec_bytes.specs.declared.meta.Meta.{Meta}
@@ -22,11 +23,13 @@ room s file = room_of s.shape file
 
 -- the mark and the first free identifier are ones that may stand there
 abbrev pub is_ranged : Meta → ℕ → Bool
-is_ranged meta most = nat_le meta.high most && (nat_eq meta.free format.nil || nat_lt meta.free meta.high)
+is_ranged meta most =
+    nat_le meta.high most && (nat_eq meta.free format.nil || nat_lt meta.free meta.high)
 
 -- all below the mark are live where none is free, else fewer are
 abbrev pub is_counted : Meta → Bool
-is_counted meta = if nat_eq meta.free format.nil then nat_eq meta.live meta.high else nat_lt meta.live meta.high
+is_counted meta =
+    if nat_eq meta.free format.nil then nat_eq meta.live meta.high else nat_lt meta.live meta.high
 
 -- ---- what is made of the space
 
@@ -36,14 +39,20 @@ taken_id meta = if nat_eq meta.free format.nil then meta.high else meta.free
 
 -- after the mark was taken
 unfoldable pub mark_taken : State → ℕ → State
-mark_taken s file = let m = meta_of s file in after_meta s file (record { high = m.high + 1; free = format.nil; live = m.live + 1 })
+mark_taken s file =
+    let m = meta_of s file in
+    after_meta s file (record { high = m.high + 1; free = format.nil; live = m.live + 1 })
 
 -- after the first free identifier was taken
 unfoldable pub free_taken : State → ℕ → State
-free_taken s file = let m = meta_of s file in after_meta (after_get s) file (record { high = m.high; free = next_free s.records file m.free; live = m.live + 1 })
+free_taken s file =
+    let m = meta_of s file in
+    after_meta (after_get s) file
+    (record { high = m.high; free = next_free s.records file m.free; live = m.live + 1 })
 
 abbrev pub taken : State → ℕ → State
-taken s file = if nat_eq (meta_of s file).free format.nil then mark_taken s file else free_taken s file
+taken s file =
+    if nat_eq (meta_of s file).free format.nil then mark_taken s file else free_taken s file
 
 -- ---- the same by the free list
 
@@ -74,7 +83,8 @@ abbrev pub IsCounted : List ℕ → ℕ → ℕ → Type 0
 IsCounted [] live mark = live ≡ mark
 IsCounted (x ∷ later) live mark = live < mark
 
--- The mark is within the room. The identifiers on the free list are below the mark and not in use, and the count of the others goes with them.
+-- The mark is within the room. The identifiers on the free list are below the mark and not in use,
+-- and the count of the others goes with them.
 pub record CanTake (s : State) (file : ℕ) (free : List ℕ) : Type 0 where
   pub list : IsFreeList s.records file free
   pub low : (x : ℕ) → In x free → x < high s.records file
@@ -95,14 +105,22 @@ pub record IsRanged (meta : Meta) (most : ℕ) : Type 0 where
   pub mark : meta.high ≤ most
   pub first : (meta.free ≡ format.nil) ⊎ (meta.free < meta.high)
 
--- The record that is said to be damaged breaks the rule. The meta record has a number that can't stand there, or its count and its free list don't go together.
--- The first free record is in use, or the next one that it names is none that can stand there.
+-- The record that is said to be damaged breaks the rule. The meta record has a number that can't
+-- stand there, or its count and its free list don't go together. The first free record is in use,
+-- or the next one that it names is none that can stand there.
 pub data IsTakeDamage (s : State) (file : ℕ) : Damage → Type 0 where
-  Unranged : (IsRanged (meta_of s file) (room s file) → ⊥) → IsTakeDamage s file (meta_damage file 1)
-  Uncounted : (meta_of s file).free ≡ format.nil → (meta_of s file).live ≢ (meta_of s file).high → IsTakeDamage s file (meta_damage file 2)
-  Overcounted : (meta_of s file).free ≢ format.nil → (meta_of s file).high ≤ (meta_of s file).live → IsTakeDamage s file (meta_damage file 2)
-  InUse : (meta_of s file).free ≢ format.nil → kind_at s.records file (meta_of s file).free ≢ format.free_kind → IsTakeDamage s file (record_damage file (meta_of s file).free 2)
-  BadNext : (meta_of s file).free ≢ format.nil → next_free s.records file (meta_of s file).free ≢ format.nil → high s.records file ≤ next_free s.records file (meta_of s file).free
+  Unranged : (IsRanged (meta_of s file) (room s file) → ⊥)
+      → IsTakeDamage s file (meta_damage file 1)
+  Uncounted : (meta_of s file).free ≡ format.nil → (meta_of s file).live ≢ (meta_of s file).high
+      → IsTakeDamage s file (meta_damage file 2)
+  Overcounted : (meta_of s file).free ≢ format.nil → (meta_of s file).high ≤ (meta_of s file).live
+      → IsTakeDamage s file (meta_damage file 2)
+  InUse : (meta_of s file).free ≢ format.nil
+      → kind_at s.records file (meta_of s file).free ≢ format.free_kind
+      → IsTakeDamage s file (record_damage file (meta_of s file).free 2)
+  BadNext : (meta_of s file).free ≢ format.nil
+      → next_free s.records file (meta_of s file).free ≢ format.nil
+      → high s.records file ≤ next_free s.records file (meta_of s file).free
       → IsTakeDamage s file (record_damage file (meta_of s file).free 1)
 
 -- no record that a take reads breaks a rule
@@ -116,7 +134,8 @@ IsNextLow s file =
     (next ≡ format.nil) ⊎ (next < high s.records file)
 
 abbrev pub IsTakeFault : State → ℕ → TakeFault → Type 0
-IsTakeFault s file (Full full live) = (full ≡ file) × (live ≡ (meta_of s file).live) × (live ≡ room s file)
+IsTakeFault s file (Full full live) =
+    (full ≡ file) × (live ≡ (meta_of s file).live) × (live ≡ room s file)
 IsTakeFault s file Memory = Unit {0}
 IsTakeFault s file Disk = Unit {0}
 IsTakeFault s file (Damaged damage) = IsTakeDamage s file damage

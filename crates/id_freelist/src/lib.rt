@@ -1,5 +1,6 @@
-//! Identifiers of a file of records: the last one given back is the first one taken, and the mark follows.
-//! A take costs at most two reads and a write, a give a read and two writes. Neither takes memory of its own.
+//! Identifiers of a file of records: the last one given back is the first one taken, and the mark
+//! follows. A take costs at most two reads and a write, a give a read and two writes. Neither takes
+//! memory of its own.
 #![tactic(auto)]
 
 mod giving;

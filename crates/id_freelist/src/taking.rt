@@ -1,12 +1,13 @@
-ghost use Rattle.std.specs.Prelude.{◌≡◌, ◌≢◌, ◌+◌, ◌<◌, ◌≤◌, ◌↔◌, ℕ, List, [], ◌∷◌, IfErr, IfOk, OnErr, OnOk, true};
+ghost use Rattle.std.specs.Prelude.{◌≡◌, ◌≢◌, ◌+◌, ◌<◌, ◌≤◌, ℕ, List, [], ◌∷◌, IfErr, IfOk};
+ghost use Rattle.std.specs.Prelude.{OnErr, OnOk, true};
 ghost use Rattle.rec_bytes.specs.Format.{free_kind, most_ids};
 ghost use Rattle.rec_bytes.specs.Key.{IsKey};
 ghost use Rattle.rec_bytes.specs.RecordFiles.{is_meta_file, meta_key_of, room_of};
-ghost use Rattle.rec_bytes.specs.Shape.{is_allowed};
 ghost use Rattle.rec_bytes.specs.Space.{HasCause, SameButReads, WritesOnly, after_get, meta_of};
 ghost use Rattle.store_rules.specs.Ranges.{is_reused};
 ghost use Rattle.store_rules.specs.Rules.{next_free};
 ghost use Rattle.store_rules.specs.Views.{key_in, kind_at};
+ghost use Rattle.store_rules.specs.Writes.{ChangesOnly};
 ghost use Rattle.id_freelist.specs.TakeFault.{HasTakeCause, NotDamaged};
 ghost use Rattle.id_freelist.specs.FreeLists.{IsFreeList};
 ghost use Rattle.id_freelist.specs.Taking.{
@@ -34,17 +35,20 @@ const RANGE_RULE: u8 = 1;
 /// The rule that live and free identifiers split those below the mark.
 const SPLIT_RULE: u8 = 2;
 
-/// Takes an identifier of a file, which the caller makes live: the first free one, or else the mark. All is read
-/// and tested before the meta record is written.
+/// Takes an identifier of a file, which the caller makes live: the first free one, or else the
+/// mark. All is read and tested before the meta record is written.
 pub fn take<S: Space>(space: &mut S, file: u8) -> Result<u32, TakeFault>
     requires { is_reused file ≡ true }
-    ensures taken { S.tells → IfOk result (λ id. (free : List ℕ) → IsFreeList (S.state space.old).records file free
+    ensures taken { S.tells
+        → IfOk result (λ id. (free : List ℕ) → IsFreeList (S.state space.old).records file free
         → HasTaken (S.state space.old).records (S.state space.new).records file id free) }
-    ensures fresh { S.tells → IfOk result (λ id. kind_at (S.state space.old).records file id ≡ free_kind) }
+    ensures fresh { S.tells
+        → IfOk result (λ id. kind_at (S.state space.old).records file id ≡ free_kind) }
     ensures full { (meta_of (S.state space.old) file).live ≡ room_of (S.state space.old).shape file
         → result ≡ Err (TakeFault.Full file (meta_of (S.state space.old) file).live) }
     ensures refused { S.tells → IfErr result (IsTakeFault (S.state space.old) file) }
-    ensures sound { S.tells → (free : List ℕ) → CanTake (S.state space.old) file free → NotDamaged result }
+    ensures sound { S.tells → (free : List ℕ) → CanTake (S.state space.old) file free
+        → NotDamaged result }
     ensures undamaged { S.tells → OnOk result (IsUndamaged (S.state space.old) file) }
     ensures err { OnErr result (SameButReads (S.state space.old) (S.state space.new)) }
     ensures ok { S.tells → OnOk result (S.state space.new ≡ taken (S.state space.old) file) }
@@ -52,6 +56,8 @@ pub fn take<S: Space>(space: &mut S, file: u8) -> Result<u32, TakeFault>
     ensures small { IfOk result (λ id. id < room_of (S.state space.old).shape file) }
     ensures key { IfOk result (λ id. IsKey (key_in file id)) }
     ensures writes { WritesOnly (S.state space.old) (S.state space.new) (meta_key_of file ∷ []) }
+    ensures stays { S.tells → ChangesOnly (S.state space.old) (S.state space.new)
+        (meta_key_of file ∷ []) }
     ensures onward { S.onward space.old space.new }
     ensures cause { HasTakeCause (S.faults space.old) (S.faults space.new) result }
 {
@@ -106,13 +112,16 @@ fn take_mark<S: Space>(space: &mut S, file: u8, meta: Meta) -> Result<u32, Space
     requires last { meta.free ≡ NIL }
     requires mark { meta.high < most_ids }
     requires live { meta.live < most_ids }
-    ensures taken { S.tells → IfOk result (λ id. (free : List ℕ) → IsFreeList (S.state space.old).records file free
+    ensures taken { S.tells
+        → IfOk result (λ id. (free : List ℕ) → IsFreeList (S.state space.old).records file free
         → HasTaken (S.state space.old).records (S.state space.new).records file id free) }
     ensures fresh { IfOk result (λ id. kind_at (S.state space.old).records file id ≡ free_kind) }
     ensures is { IfOk result (λ id. id ≡ meta.high) }
     ensures ok { S.tells → OnOk result (S.state space.new ≡ mark_taken (S.state space.old) file) }
     ensures err { OnErr result (SameButReads (S.state space.old) (S.state space.new)) }
     ensures writes { WritesOnly (S.state space.old) (S.state space.new) (meta_key_of file ∷ []) }
+    ensures stays { S.tells → ChangesOnly (S.state space.old) (S.state space.new)
+        (meta_key_of file ∷ []) }
     ensures onward { S.onward space.old space.new }
     ensures cause { HasCause (S.faults space.old) (S.faults space.new) result }
 {
@@ -134,15 +143,19 @@ fn take_free<S: Space>(space: &mut S, file: u8, meta: Meta) -> Result<u32, TakeF
     requires low { meta.free < meta.high }
     requires mark { meta.high ≤ most_ids }
     requires live { meta.live < most_ids }
-    ensures taken { S.tells → IfOk result (λ id. (free : List ℕ) → IsFreeList (S.state space.old).records file free
+    ensures taken { S.tells
+        → IfOk result (λ id. (free : List ℕ) → IsFreeList (S.state space.old).records file free
         → HasTaken (S.state space.old).records (S.state space.new).records file id free) }
-    ensures fresh { S.tells → IfOk result (λ id. kind_at (S.state space.old).records file id ≡ free_kind) }
+    ensures fresh { S.tells
+        → IfOk result (λ id. kind_at (S.state space.old).records file id ≡ free_kind) }
     ensures is { IfOk result (λ id. id ≡ meta.free) }
     ensures ok { S.tells → OnOk result (S.state space.new ≡ free_taken (S.state space.old) file) }
     ensures low { S.tells → OnOk result (IsNextLow (S.state space.old) file) }
     ensures refused { S.tells → IfErr result (IsTakeFault (S.state space.old) file) }
     ensures err { OnErr result (SameButReads (S.state space.old) (S.state space.new)) }
     ensures writes { WritesOnly (S.state space.old) (S.state space.new) (meta_key_of file ∷ []) }
+    ensures stays { S.tells → ChangesOnly (S.state space.old) (S.state space.new)
+        (meta_key_of file ∷ []) }
     ensures onward { S.onward space.old space.new }
     ensures cause { HasTakeCause (S.faults space.old) (S.faults space.new) result }
 {
@@ -163,8 +176,10 @@ fn next_free<R: Reads>(space: &mut R, file: u8, meta: Meta) -> Result<u32, TakeF
     requires some { meta.free ≢ NIL }
     requires low { meta.free < meta.high }
     requires mark { meta.high ≤ most_ids }
-    ensures fresh { R.tells → OnOk result (kind_at (R.state space.old).records file meta.free ≡ free_kind) }
-    ensures is { R.tells → IfOk result (λ next. next ≡ next_free (R.state space.old).records file meta.free) }
+    ensures fresh { R.tells
+        → OnOk result (kind_at (R.state space.old).records file meta.free ≡ free_kind) }
+    ensures is { R.tells
+        → IfOk result (λ next. next ≡ next_free (R.state space.old).records file meta.free) }
     ensures low { R.tells → OnOk result (IsNextLow (R.state space.old) file) }
     ensures refused { R.tells → IfErr result (IsTakeFault (R.state space.old) file) }
     ensures state { R.state space.new ≡ after_get (R.state space.old) }

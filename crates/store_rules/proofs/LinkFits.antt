@@ -19,9 +19,10 @@ abbrev pub IsLink : ℕ → Type 0
 IsLink at = (at ≡ format.relationship_source_previous) ⊎ ((at ≡ format.relationship_source_next)
     ⊎ ((at ≡ format.relationship_target_previous) ⊎ (at ≡ format.relationship_target_next)))
 
-abbrev node_layout_is : Layout
-node_layout_is = record {
-  pointers = may format.node_first_link format.relationships_file ∷ may format.node_first_property format.properties_file ∷ [];
+-- a node's, by the file that its first link points into
+abbrev node_layout_is : ℕ → Layout
+node_layout_is into = record {
+  pointers = may format.node_first_link into ∷ may format.node_first_property format.properties_file ∷ [];
   used = bytes_of format.kind 1 ∷ bytes_of format.node_label 16 ∷ [];
 }
 
@@ -89,8 +90,11 @@ module _ (marks : ℕ → ℕ) (r : Rec) (at to : ℕ) (low : 4 ≤ at) (fits : 
             ∙ (subst (λ (l : Layout). IsBlankOutside l.used r) (sym same) h.blank) i lt out;
       }
 
-  node_as : at + 4 ≤ 20 → PointRight node_layout_is.pointers → field 1 r format.kind ≡ format.sparse → Fits marks format.nodes_file r → Fits marks format.nodes_file now
-  node_as inside right kind = fits_as format.nodes_file 16 node_layout_is refl inside right (ap (layout_by format.nodes_file r) kind) (ap (layout_by format.nodes_file now) (kind_same ∙ kind))
+  node_as : at + 4 ≤ 20 → PointRight (node_layout_is format.relationships_file).pointers → field 1 r format.kind ≡ format.sparse → Fits marks format.nodes_file r → Fits marks format.nodes_file now
+  node_as inside right kind = fits_as format.nodes_file 16 (node_layout_is format.relationships_file) refl inside right (ap (layout_by format.nodes_file r) kind) (ap (layout_by format.nodes_file now) (kind_same ∙ kind))
+
+  dense_as : at + 4 ≤ 20 → PointRight (node_layout_is format.groups_file).pointers → field 1 r format.kind ≡ format.dense → Fits marks format.nodes_file r → Fits marks format.nodes_file now
+  dense_as inside right kind = fits_as format.nodes_file 16 (node_layout_is format.groups_file) refl inside right (ap (layout_by format.nodes_file r) kind) (ap (layout_by format.nodes_file now) (kind_same ∙ kind))
 
   rel_as : at + 4 ≤ 36 → PointRight rel_layout_is.pointers → field 1 r format.kind ≡ format.related → Fits marks format.relationships_file r → Fits marks format.relationships_file now
   rel_as inside right kind = fits_as format.relationships_file 32 rel_layout_is refl inside right (ap (layout_by format.relationships_file r) kind) (ap (layout_by format.relationships_file now) (kind_same ∙ kind))
@@ -128,10 +132,11 @@ fits_link marks r at to is small low = ⊎_elim (λ (e : at ≡ 16). subst (Link
     at_28 = rel_as marks r 28 to (omega arith) (omega arith) small (omega arith)
         (inl (omega arith, inl (omega arith)), (inl (omega arith, inl (omega arith)), (inl (omega arith, inl (omega arith)), (inl (omega arith, inl (omega arith)), (inl (omega arith, inl (omega arith)), (inr (refl, refl, low), (inl (omega arith, inr (omega arith)), tt)))))))
 
--- the first property of a sparse node, and of a relationship
-pub fits_node_property : (marks : ℕ → ℕ) (r : Rec) (to : ℕ) → to < 2 ^ 32 → IsLow (marks format.properties_file) to → field 1 r format.kind ≡ format.sparse → Fits marks format.nodes_file r
+-- the first property of a node, and of a relationship
+pub fits_node_property : (marks : ℕ → ℕ) (r : Rec) (to : ℕ) → to < 2 ^ 32 → IsLow (marks format.properties_file) to → (field 1 r format.kind ≡ format.sparse) ⊎ (field 1 r format.kind ≡ format.dense) → Fits marks format.nodes_file r
     → Fits marks format.nodes_file (with_field 4 r format.node_first_property to)
-fits_node_property marks r to small low = node_as marks r format.node_first_property to (omega arith) (omega arith) small (omega arith) (inl (omega arith, inl (omega arith)), (inr (refl, refl, low), tt))
+fits_node_property marks r to small low (inl sparse) = node_as marks r format.node_first_property to (omega arith) (omega arith) small (omega arith) (inl (omega arith, inl (omega arith)), (inr (refl, refl, low), tt)) sparse
+fits_node_property marks r to small low (inr dense) = dense_as marks r format.node_first_property to (omega arith) (omega arith) small (omega arith) (inl (omega arith, inl (omega arith)), (inr (refl, refl, low), tt)) dense
 
 pub fits_rel_property : (marks : ℕ → ℕ) (r : Rec) (to : ℕ) → to < 2 ^ 32 → IsLow (marks format.properties_file) to → field 1 r format.kind ≡ format.related → Fits marks format.relationships_file r
     → Fits marks format.relationships_file (with_field 4 r format.relationship_first_property to)

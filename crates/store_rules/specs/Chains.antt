@@ -1,6 +1,7 @@
 -- Lists of identifiers that follow links.
 use Rattle.std.specs.Prelude.{◌≡◌, ◌≢◌, ◌⊎◌, ℕ, ◌+◌, nat_eq, if◌then◌else◌, List, [], ◌∷◌}
-use Rattle.rec_bytes.specs.Format.{nil, relationship_source, relationship_source_previous, relationship_target_previous}
+use Rattle.rec_bytes.specs.Format.{nil, relationship_source, relationship_source_previous}
+use Rattle.rec_bytes.specs.Format.{relationship_target_previous}
 use Rattle.rec_bytes.specs.Record.{field}
 use Rattle.rec_bytes.specs.declared.record.Rec.{Rec}
 
@@ -16,12 +17,16 @@ IsWalk next from (x ∷ xs) = (from ≡ x) × (x ≢ nil) × IsWalk next (next x
 -- besides, the other link of each names the one before it
 abbrev pub IsChain : (ℕ → ℕ) → (ℕ → ℕ) → ℕ → ℕ → List ℕ → Type 0
 IsChain next prev before from [] = from ≡ nil
-IsChain next prev before from (x ∷ xs) = (from ≡ x) × (x ≢ nil) × (prev x ≡ before) × IsChain next prev x (next x) xs
+IsChain next prev before from (x ∷ xs) =
+    (from ≡ x) × (x ≢ nil) × (prev x ≡ before) × IsChain next prev x (next x) xs
 
--- The place of the two links that a chain of the node uses in a relationship: those of its source where the node is the source,
--- else those of its target. The next link stands after the previous one.
+-- The place of the two links that a chain of the node uses in a relationship: those of its source
+-- where the node is the source, else those of its target. The next link stands after the previous
+-- one.
 abbrev pub place_of : Rec → ℕ → ℕ
-place_of r node = if nat_eq (field 4 r relationship_source) node then relationship_source_previous else relationship_target_previous
+place_of r node =
+    if nat_eq (field 4 r relationship_source) node then relationship_source_previous
+    else relationship_target_previous
 
 abbrev pub prev_in : Rec → ℕ → ℕ
 prev_in r node = field 4 r (place_of r node)

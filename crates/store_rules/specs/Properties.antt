@@ -1,5 +1,7 @@
 -- What the records of properties and of blocks say, with no rule in mind.
-use Rattle.std.specs.Prelude.{◌≡◌, ◌<◌, ◌≤◌, ℤ, ℕ, zero, suc, ◌+◌, ◌/◌, min, nat_eq, nat_le, nat_lt, Bool, ◌&&◌, cond, Option, None, Some, List, [], ◌∷◌, length, map, drop, take, flat_map}
+use Rattle.std.specs.Prelude.{◌≡◌, ◌<◌, ◌≤◌, ℤ, ℕ, zero, suc, ◌+◌, ◌/◌, min, nat_eq, nat_le, nat_lt}
+use Rattle.std.specs.Prelude.{Bool, ◌&&◌, cond, Option, None, Some, List, [], ◌∷◌, length, map}
+use Rattle.std.specs.Prelude.{drop, take, flat_map}
 use Rattle.std.specs.Int.{cast_signed}
 use mir.Syntax.{w64}
 use Rattle.plain_graph.specs.Forms.{IsKept}
@@ -15,7 +17,8 @@ use Rattle.store_rules.specs.Views.{Records, rec_at, text_of}
 
 -- ---- what a property's record says
 
--- The value of a property, but for the bytes of a text in blocks: its length and its first block stand for them.
+-- The value of a property, but for the bytes of a text in blocks: its length and its first block
+-- stand for them.
 pub data Content : Type 0 where
   Number : (number : ℤ) → Content
   Truth : (truth : Bool) → Content
@@ -25,10 +28,14 @@ pub data Content : Type 0 where
 -- the content of a property's record; none where its kind or its length is no property's
 abbrev pub content_by : Rec → ℕ → ℕ → Option Content
 content_by r kind size =
-    cond (nat_eq kind format.int) (Some (Number (cast_signed w64 (field 8 r format.property_number))))
-    (cond (nat_eq kind format.bool && nat_le (field 1 r format.property_truth) 1) (Some (Truth (nat_eq (field 1 r format.property_truth) 1)))
-    (cond (nat_eq kind format.text_inline && nat_le size 40) (Some (Inline (text_in r format.property_text size)))
-    (cond (nat_eq kind format.text_in_blocks && (nat_lt 40 size && nat_le size 1024)) (Some (Long size (field 4 r format.property_first_block)))
+    cond (nat_eq kind format.int)
+    (Some (Number (cast_signed w64 (field 8 r format.property_number))))
+    (cond (nat_eq kind format.bool && nat_le (field 1 r format.property_truth) 1)
+    (Some (Truth (nat_eq (field 1 r format.property_truth) 1)))
+    (cond (nat_eq kind format.text_inline && nat_le size 40)
+    (Some (Inline (text_in r format.property_text size)))
+    (cond (nat_eq kind format.text_in_blocks && (nat_lt 40 size && nat_le size 1024))
+    (Some (Long size (field 4 r format.property_first_block)))
     None)))
 
 abbrev pub content_of : Rec → Option Content
@@ -63,14 +70,16 @@ piece_of r = text_in r format.block_text (field 1 r format.block_length)
 
 -- the text of so many bytes in blocks
 abbrev pub long_text_from : (ℕ → Rec) → ℕ → ℕ → List ℕ
-long_text_from string_file size first = flat_map (λ b. piece_of (string_file b)) (block_ids string_file size first)
+long_text_from string_file size first =
+    flat_map (λ b. piece_of (string_file b)) (block_ids string_file size first)
 
 abbrev pub value_from : (ℕ → Rec) → Option Content → Value
 value_from string_file None = values.Text []
 value_from string_file (Some (Number number)) = values.Int number
 value_from string_file (Some (Truth truth)) = values.Bool truth
 value_from string_file (Some (Inline text)) = values.Text text
-value_from string_file (Some (Long size first)) = values.Text (long_text_from string_file size first)
+value_from string_file (Some (Long size first)) =
+    values.Text (long_text_from string_file size first)
 
 abbrev pub blocks_from : (ℕ → Rec) → Option Content → List ℕ
 blocks_from string_file None = []
@@ -79,7 +88,8 @@ blocks_from string_file (Some (Truth truth)) = []
 blocks_from string_file (Some (Inline text)) = []
 blocks_from string_file (Some (Long size first)) = block_ids string_file size first
 
--- A property as its records have it: its identifier, its key's number, its value, and the blocks of its text.
+-- A property as its records have it: its identifier, its key's number, its value, and the blocks of
+-- its text.
 pub record Property : Type 0 where
   pub id : ℕ
   pub key : ℕ
@@ -92,7 +102,10 @@ pub record PropertyRecords : Type 0 where
   pub strings : ℕ → Rec
 
 abbrev pub property_records : Records → PropertyRecords
-property_records records = record { properties = rec_at records format.properties_file; strings = rec_at records format.strings_file }
+property_records records = record {
+  properties = rec_at records format.properties_file;
+  strings = rec_at records format.strings_file;
+}
 
 -- the property of an identifier
 abbrev pub property_at : PropertyRecords → ℕ → Property
@@ -112,7 +125,8 @@ map_of name_file es = maps.from_entries (map (named_property name_file) es)
 
 -- the properties of the element whose first one this is
 unfoldable pub properties_from : (ℕ → Rec) → PropertyRecords → ℕ → Properties
-properties_from name_file files first = map_of name_file (map (property_at files) (property_ids files.properties first))
+properties_from name_file files first =
+    map_of name_file (map (property_at files) (property_ids files.properties first))
 
 -- ---- properties that are right by themselves
 
@@ -143,13 +157,15 @@ pub record IsBlock (string_file : ℕ → Rec) (text : List ℕ) (b next : ℕ) 
 -- the blocks have the text, 48 bytes in each but the last
 abbrev pub AreBlocks : (ℕ → Rec) → List ℕ → List ℕ → Type 0
 AreBlocks string_file text [] = text ≡ []
-AreBlocks string_file text (b ∷ bs) = IsBlock string_file text b (head_of bs) × AreBlocks string_file (drop 48 text) bs
+AreBlocks string_file text (b ∷ bs) =
+    IsBlock string_file text b (head_of bs) × AreBlocks string_file (drop 48 text) bs
 
 -- the content of a property of this value, whose text begins at this block
 abbrev pub content_for : Value → ℕ → Content
 content_for (values.Int number) first = Number number
 content_for (values.Bool truth) first = Truth truth
-content_for (values.Text text) first = cond (nat_le (length text) 40) (Inline text) (Long (length text) first)
+content_for (values.Text text) first =
+    cond (nat_le (length text) 40) (Inline text) (Long (length text) first)
 
 -- Its record and its blocks have the property, and its record leads to the next one.
 pub record IsProperty (files : PropertyRecords) (e : Property) (next : ℕ) : Type 0 where

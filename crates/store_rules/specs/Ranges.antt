@@ -1,5 +1,7 @@
--- The first rule: each record is of a known kind, its numbers are ones that may stand there, and its other bytes are zero.
-use Rattle.std.specs.Prelude.{◌≡◌, ℕ, ◌+◌, ◌<◌, nat_eq, nat_le, nat_lt, Bool, true, false, ◌&&◌, ◌||◌, cond, Option, None, Some, List, [], ◌∷◌}
+-- The first rule: each record is of a known kind, its numbers are ones that may stand there, and
+-- its other bytes are zero.
+use Rattle.std.specs.Prelude.{◌≡◌, ℕ, ◌+◌, ◌<◌, nat_eq, nat_le, nat_lt, Bool, true, false, ◌&&◌}
+use Rattle.std.specs.Prelude.{◌||◌, cond, Option, None, Some, List, [], ◌∷◌}
 use Rattle.std.specs.List.{list_any}
 use Rattle.rec_bytes.specs.declared.record.Rec.{Rec}
 use Rattle.rec_bytes.specs.declared.shape.Shape.{Shape}
@@ -10,7 +12,8 @@ use Rattle.rec_bytes.specs.RecordFiles.{is_meta_file, meta_key_of, room_of}
 use Rattle.rec_bytes.specs.Shape.{shape_of_record}
 use Rattle.store_rules.specs.Views.{Records, high, rec_at}
 
--- a number of a record that names a record: its place, the file of that record, and whether it may be none
+-- a number of a record that names a record: its place, the file of that record, and whether it may
+-- be none
 pub record Pointer : Type 0 where
   pub place : ℕ
   pub into : ℕ
@@ -44,20 +47,29 @@ free_layout file = laid (may format.free_next file ∷ []) (bytes_of format.free
 
 -- a node, by the file that its first link points into
 abbrev pub node_layout : ℕ → Option Layout
-node_layout into = laid (may format.node_first_link into ∷ may format.node_first_property format.properties_file ∷ []) (bytes_of format.kind 1 ∷ bytes_of format.node_label 16 ∷ [])
+node_layout into = laid
+    (may format.node_first_link into
+    ∷ may format.node_first_property format.properties_file ∷ [])
+    (bytes_of format.kind 1 ∷ bytes_of format.node_label 16 ∷ [])
 
 abbrev pub relationship_layout : Option Layout
 relationship_layout = laid
-    (must format.relationship_source format.nodes_file ∷ must format.relationship_target format.nodes_file
-    ∷ may format.relationship_source_previous format.relationships_file ∷ may format.relationship_source_next format.relationships_file
-    ∷ may format.relationship_target_previous format.relationships_file ∷ may format.relationship_target_next format.relationships_file
+    (must format.relationship_source format.nodes_file
+    ∷ must format.relationship_target format.nodes_file
+    ∷ may format.relationship_source_previous format.relationships_file
+    ∷ may format.relationship_source_next format.relationships_file
+    ∷ may format.relationship_target_previous format.relationships_file
+    ∷ may format.relationship_target_next format.relationships_file
     ∷ may format.relationship_first_property format.properties_file ∷ [])
     (bytes_of format.kind 1 ∷ bytes_of format.relationship_type 32 ∷ [])
 
 abbrev pub group_layout : Option Layout
 group_layout = laid
-    (must format.group_owner format.nodes_file ∷ may format.group_previous format.groups_file ∷ may format.group_next format.groups_file
-    ∷ may format.group_first_out format.relationships_file ∷ may format.group_first_in format.relationships_file ∷ may format.group_first_loop format.relationships_file ∷ [])
+    (must format.group_owner format.nodes_file
+    ∷ may format.group_previous format.groups_file ∷ may format.group_next format.groups_file
+    ∷ may format.group_first_out format.relationships_file
+    ∷ may format.group_first_in format.relationships_file
+    ∷ may format.group_first_loop format.relationships_file ∷ [])
     (bytes_of format.kind 1 ∷ bytes_of format.group_type 28 ∷ [])
 
 abbrev pub next_property : Pointer
@@ -66,29 +78,54 @@ next_property = may format.property_next format.properties_file
 -- a property, by its kind and the length of its text
 abbrev pub property_layout : Rec → ℕ → ℕ → Option Layout
 property_layout r kind size =
-    cond (nat_eq kind format.int) (laid (next_property ∷ []) (bytes_of format.kind 1 ∷ bytes_of format.property_key 8 ∷ bytes_of format.property_number 8 ∷ []))
-    (cond (nat_eq kind format.bool && nat_le (field 1 r format.property_truth) 1) (laid (next_property ∷ []) (bytes_of format.kind 1 ∷ bytes_of format.property_key 8 ∷ bytes_of format.property_truth 1 ∷ []))
-    (cond (nat_eq kind format.text_inline && nat_le size 40) (laid (next_property ∷ []) (bytes_of format.kind 1 ∷ bytes_of format.property_length 10 ∷ bytes_of format.property_text size ∷ []))
+    cond (nat_eq kind format.int)
+    (laid (next_property ∷ [])
+    (bytes_of format.kind 1 ∷ bytes_of format.property_key 8
+    ∷ bytes_of format.property_number 8 ∷ []))
+    (cond (nat_eq kind format.bool && nat_le (field 1 r format.property_truth) 1)
+    (laid (next_property ∷ [])
+    (bytes_of format.kind 1 ∷ bytes_of format.property_key 8
+    ∷ bytes_of format.property_truth 1 ∷ []))
+    (cond (nat_eq kind format.text_inline && nat_le size 40)
+    (laid (next_property ∷ [])
+    (bytes_of format.kind 1 ∷ bytes_of format.property_length 10
+    ∷ bytes_of format.property_text size ∷ []))
     (cond (nat_eq kind format.text_in_blocks && (nat_lt 40 size && nat_le size 1024))
-    (laid (next_property ∷ may format.property_first_block format.strings_file ∷ []) (bytes_of format.kind 1 ∷ bytes_of format.property_length 14 ∷ []))
+    (laid (next_property ∷ may format.property_first_block format.strings_file ∷ [])
+    (bytes_of format.kind 1 ∷ bytes_of format.property_length 14 ∷ []))
     None)))
 
 -- a block of a text of so many bytes, and a name
 abbrev pub block_layout : ℕ → Option Layout
-block_layout size = cond (nat_lt 0 size && nat_le size 48) (laid (may format.block_next format.strings_file ∷ []) (bytes_of format.kind 2 ∷ bytes_of format.block_next 4 ∷ bytes_of format.block_text size ∷ [])) None
+block_layout size =
+    cond (nat_lt 0 size && nat_le size 48)
+    (laid (may format.block_next format.strings_file ∷ [])
+    (bytes_of format.kind 2 ∷ bytes_of format.block_next 4
+    ∷ bytes_of format.block_text size ∷ []))
+    None
 
 abbrev pub name_layout : ℕ → Option Layout
-name_layout size = cond (nat_lt 0 size && nat_le size 48) (laid [] (bytes_of format.kind 2 ∷ bytes_of format.name_text size ∷ [])) None
+name_layout size =
+    cond (nat_lt 0 size && nat_le size 48)
+    (laid [] (bytes_of format.kind 2 ∷ bytes_of format.name_text size ∷ []))
+    None
 
 -- the layout of a record in use, by its file, where the kind is one of the file's
 abbrev pub used_layout : ℕ → Rec → ℕ → Option Layout
 used_layout file r kind =
-    cond (nat_eq file format.nodes_file) (cond (nat_eq kind format.sparse) (node_layout format.relationships_file) (cond (nat_eq kind format.dense) (node_layout format.groups_file) None))
-    (cond (nat_eq file format.relationships_file) (cond (nat_eq kind format.related) relationship_layout None)
-    (cond (nat_eq file format.groups_file) (cond (nat_eq kind format.grouped) group_layout None)
-    (cond (nat_eq file format.properties_file) (property_layout r kind (field 2 r format.property_length))
-    (cond (nat_eq file format.strings_file) (cond (nat_eq kind format.block) (block_layout (field 1 r format.block_length)) None)
-    (cond (nat_eq file format.names_file) (cond (nat_eq kind format.named) (name_layout (field 1 r format.name_length)) None)
+    cond (nat_eq file format.nodes_file)
+    (cond (nat_eq kind format.sparse) (node_layout format.relationships_file)
+    (cond (nat_eq kind format.dense) (node_layout format.groups_file) None))
+    (cond (nat_eq file format.relationships_file)
+    (cond (nat_eq kind format.related) relationship_layout None)
+    (cond (nat_eq file format.groups_file)
+    (cond (nat_eq kind format.grouped) group_layout None)
+    (cond (nat_eq file format.properties_file)
+    (property_layout r kind (field 2 r format.property_length))
+    (cond (nat_eq file format.strings_file)
+    (cond (nat_eq kind format.block) (block_layout (field 1 r format.block_length)) None)
+    (cond (nat_eq file format.names_file)
+    (cond (nat_eq kind format.named) (name_layout (field 1 r format.name_length)) None)
     None)))))
 
 -- records of this file are given back and used again; names are not
@@ -97,14 +134,18 @@ is_reused file = is_meta_file file && cond (nat_eq file format.names_file) false
 
 -- the layout of a record, where its kind and its lengths are right
 abbrev pub layout_by : ℕ → Rec → ℕ → Option Layout
-layout_by file r kind = cond (nat_eq kind format.free_kind) (cond (is_reused file) (free_layout file) None) (used_layout file r kind)
+layout_by file r kind =
+    cond (nat_eq kind format.free_kind) (cond (is_reused file) (free_layout file) None)
+    (used_layout file r kind)
 
 abbrev pub layout_of : ℕ → Rec → Option Layout
 layout_of file r = layout_by file r (field 1 r format.kind)
 
 -- the number is below the mark of its file, or it is none and may be
 abbrev pub points : (ℕ → ℕ) → Rec → Pointer → Bool
-points marks r p = nat_lt (field 4 r p.place) (marks p.into) || (p.optional && nat_eq (field 4 r p.place) format.nil)
+points marks r p =
+    nat_lt (field 4 r p.place) (marks p.into)
+    || (p.optional && nat_eq (field 4 r p.place) format.nil)
 
 abbrev pub all_point : (ℕ → ℕ) → Rec → List Pointer → Bool
 all_point marks r [] = true
@@ -124,8 +165,11 @@ pub record Fits (marks : ℕ → ℕ) (file : ℕ) (r : Rec) : Type 0 where
   pub point : all_point marks r layout.pointers ≡ true
   pub blank : IsBlankOutside layout.used r
 
--- The store's own record says this shape, and each file's meta record and each record below its mark fits.
+-- The store's own record says this shape, and each file's meta record and each record below its
+-- mark fits.
 pub record AreInRange (records : Records) (shape : Shape) : Type 0 where
   pub own : shape_of_record (records (meta_key_of format.meta_file)) ≡ Some shape
-  pub metas : (file : ℕ) → is_meta_file file ≡ true → IsMetaInRange (room_of shape file) (records (meta_key_of file))
-  pub fit : (file x : ℕ) → is_meta_file file ≡ true → x < high records file → Fits (high records) file (rec_at records file x)
+  pub metas : (file : ℕ) → is_meta_file file ≡ true
+      → IsMetaInRange (room_of shape file) (records (meta_key_of file))
+  pub fit : (file x : ℕ) → is_meta_file file ≡ true → x < high records file
+      → Fits (high records) file (rec_at records file x)

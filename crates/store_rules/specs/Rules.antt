@@ -1,5 +1,7 @@
--- The rules of a well-formed store, over its records. Parameters stand for what holds in the middle of a change.
-use Rattle.std.specs.Prelude.{◌≡◌, ◌≢◌, ◌⊎◌, ℕ, ◌-◌, ◌<◌, ◌≤◌, nat_eq, Bool, true, false, ◌&&◌, not, cond, Option, None, Some, List, [], ◌∷◌, length}
+-- The rules of a well-formed store, over its records. Parameters stand for what holds in the middle
+-- of a change.
+use Rattle.std.specs.Prelude.{◌≡◌, ◌≢◌, ◌⊎◌, ℕ, ◌-◌, ◌<◌, ◌≤◌, nat_eq, Bool, true, false, ◌&&◌, not}
+use Rattle.std.specs.Prelude.{cond, Option, None, Some, List, [], ◌∷◌, length}
 use Rattle.rec_bytes.specs.declared.record.Rec.{Rec}
 use Rattle.rec_bytes.specs.declared.key.Key.{Key}
 use Rattle.rec_bytes.specs.declared.shape.Shape.{Shape}
@@ -11,7 +13,9 @@ use Rattle.plain_graph.specs.Names.{IsShortName}
 use Rattle.store_rules.specs.Chains.{In, IsChain, IsWalk, next_in, prev_in}
 use Rattle.store_rules.specs.Ranges.{AreInRange, is_reused}
 use Rattle.store_rules.specs.Rows.{ids}
-use Rattle.store_rules.specs.Views.{GroupRow, NodeRow, Records, RelRow, degree, first_link, group_at, high, is_at, is_live, key_in, kind_at, node_at, rec_at, rel_at, text_of}
+use Rattle.store_rules.specs.Views.{GroupRow, NodeRow, Records, RelRow, degree, first_link}
+use Rattle.store_rules.specs.Views.{group_at, high, is_at, is_live, key_in, kind_at, node_at}
+use Rattle.store_rules.specs.Views.{rec_at, rel_at, text_of}
 
 -- ---- the second rule: what is not in use is on the free list, and the count is exact
 
@@ -19,7 +23,8 @@ use Rattle.store_rules.specs.Views.{GroupRow, NodeRow, Records, RelRow, degree, 
 abbrev pub next_free : Records → ℕ → ℕ → ℕ
 next_free records file x = field 4 (rec_at records file x) format.free_next
 
--- The free list of a file is these, and they are just the identifiers below the mark that aren't live.
+-- The free list of a file is these, and they are just the identifiers below the mark that aren't
+-- live.
 pub record IsSplit (records : Records) (file : ℕ) (live : ℕ → Bool) (free : List ℕ) : Type 0 where
   pub walk : IsWalk (next_free records file) (meta_in records file).free free
   pub low : (x : ℕ) → In x free → x < high records file
@@ -41,15 +46,19 @@ pub record Head : Type 0 where
 abbrev pub first_of : Records → Head → ℕ
 first_of records head = field 4 (records head.key) head.field
 
--- the chain that begins at the head, by the links of the node, has these members, each of which stands there
+-- the chain that begins at the head, by the links of the node, has these members, each of which
+-- stands there
 pub record IsListed (records : Records) (head : Head) (node : ℕ) (at : ℕ → Type 0) : Type 0 where
   pub members : List ℕ
-  pub chain : IsChain (λ x. next_in (rec_at records format.relationships_file x) node) (λ x. prev_in (rec_at records format.relationships_file x) node) format.nil (first_of records head) members
+  pub chain : IsChain (λ x. next_in (rec_at records format.relationships_file x) node)
+      (λ x. prev_in (rec_at records format.relationships_file x) node) format.nil
+      (first_of records head) members
   pub only : (x : ℕ) → In x members → at x
   pub all : (x : ℕ) → at x → In x members
 
 -- each head that a node owns lists what stands at it
-pub record AllListed (records : Records) (owns : Head → ℕ → Type 0) (at : Head → ℕ → Type 0) : Type 0 where
+pub record AllListed (records : Records) (owns : Head → ℕ → Type 0)
+    (at : Head → ℕ → Type 0) : Type 0 where
   pub each : (head : Head) (node : ℕ) → owns head node → IsListed records head node (at head)
 
 abbrev pub node_head : ℕ → Head
@@ -67,7 +76,8 @@ pub record GroupHead (kind : ℕ → ℕ) (groups : ℕ → Option GroupRow) (h 
   pub group : groups row.id ≡ Some row
   pub owner : row.owner ≡ n
   pub key : h.key ≡ key_in format.groups_file row.id
-  pub field : (h.field ≡ format.group_first_out) ⊎ ((h.field ≡ format.group_first_in) ⊎ (h.field ≡ format.group_first_loop))
+  pub field : (h.field ≡ format.group_first_out)
+      ⊎ ((h.field ≡ format.group_first_in) ⊎ (h.field ≡ format.group_first_loop))
 
 abbrev pub Owns : (ℕ → ℕ) → (ℕ → Option GroupRow) → Head → ℕ → Type 0
 Owns kind groups h n = SparseHead kind h n ⊎ GroupHead kind groups h n
@@ -86,10 +96,13 @@ pub record IsInGroup (groups : ℕ → Option GroupRow) (h : Head) (rel : RelRow
       ⊎ ((h.field ≡ format.group_first_loop) × (rel.from ≡ row.owner) × (rel.to ≡ row.owner)))
 
 abbrev pub IsOn : (ℕ → Option GroupRow) → Head → RelRow → Type 0
-IsOn groups h rel = ((h.key.file ≡ format.nodes_file) × IsEnd h.key.id rel) ⊎ ((h.key.file ≡ format.groups_file) × IsInGroup groups h rel)
+IsOn groups h rel =
+    ((h.key.file ≡ format.nodes_file) × IsEnd h.key.id rel)
+    ⊎ ((h.key.file ≡ format.groups_file) × IsInGroup groups h rel)
 
 -- a relationship in use that stands at the head
-pub record StandsAt (rels : ℕ → Option RelRow) (groups : ℕ → Option GroupRow) (h : Head) (x : ℕ) : Type 0 where
+pub record StandsAt (rels : ℕ → Option RelRow)
+    (groups : ℕ → Option GroupRow) (h : Head) (x : ℕ) : Type 0 where
   pub row : RelRow
   pub live : rels x ≡ Some row
   pub on : IsOn groups h row
@@ -106,39 +119,55 @@ pub record HasGroup (groups : ℕ → Option GroupRow) (n type : ℕ) : Type 0 w
   pub owner : row.owner ≡ n
   pub label : row.label ≡ type
 
--- The ends are nodes, a dense one of which has a group for the relationship, and each head lists what stands at it.
-pub record IsLinked (records : Records) (kind : ℕ → ℕ) (rels : ℕ → Option RelRow) (groups : ℕ → Option GroupRow) : Type 0 where
+-- The ends are nodes, a dense one of which has a group for the relationship, and each head lists
+-- what stands at it.
+pub record IsLinked (records : Records) (kind : ℕ → ℕ) (rels : ℕ → Option RelRow)
+    (groups : ℕ → Option GroupRow) : Type 0 where
   pub ends : (x : ℕ) (row : RelRow) → rels x ≡ Some row → HasEnds kind row
-  pub typed : (x n : ℕ) (row : RelRow) → rels x ≡ Some row → IsEnd n row → kind n ≡ format.dense → HasGroup groups n row.label
+  pub typed : (x n : ℕ) (row : RelRow) → rels x ≡ Some row → IsEnd n row → kind n ≡ format.dense
+      → HasGroup groups n row.label
   pub listed : AllListed records (Owns kind groups) (StandsAt rels groups)
 
 -- ---- the fourth rule: each group is on its owner's chain
 
 -- one of its chains has a relationship
 abbrev pub is_filled : Rec → Bool
-is_filled r = not (nat_eq (field 4 r format.group_first_out) format.nil && (nat_eq (field 4 r format.group_first_in) format.nil && nat_eq (field 4 r format.group_first_loop) format.nil))
+is_filled r =
+    not (nat_eq (field 4 r format.group_first_out) format.nil
+    && (nat_eq (field 4 r format.group_first_in) format.nil
+    && nat_eq (field 4 r format.group_first_loop) format.nil))
 
 -- the groups of a node, from the first on; each has a type of its own
-pub record HasGroups (first n : ℕ) (group_file : ℕ → Rec) (groups : ℕ → Option GroupRow) : Type 0 where
+pub record HasGroups (first n : ℕ) (group_file : ℕ → Rec)
+    (groups : ℕ → Option GroupRow) : Type 0 where
   pub members : List ℕ
-  pub chain : IsChain (λ g. field 4 (group_file g) format.group_next) (λ g. field 4 (group_file g) format.group_previous) format.nil first members
-  pub only : (g : ℕ) → In g members → (row : GroupRow) × ((groups g ≡ Some row) × (row.owner ≡ n) × (is_filled (group_file g) ≡ true))
+  pub chain : IsChain (λ g. field 4 (group_file g) format.group_next)
+      (λ g. field 4 (group_file g) format.group_previous) format.nil first members
+  pub only : (g : ℕ) → In g members
+      → (row : GroupRow)
+      × ((groups g ≡ Some row) × (row.owner ≡ n) × (is_filled (group_file g) ≡ true))
   pub all : (g : ℕ) (row : GroupRow) → groups g ≡ Some row → row.owner ≡ n → In g members
-  pub once : (g k : ℕ) → In g members → In k members → field 4 (group_file g) format.group_type ≡ field 4 (group_file k) format.group_type → g ≡ k
+  pub once : (g k : ℕ) → In g members → In k members
+      → field 4 (group_file g) format.group_type ≡ field 4 (group_file k) format.group_type → g ≡ k
 
-pub record IsGrouped (kind first : ℕ → ℕ) (group_file : ℕ → Rec) (groups : ℕ → Option GroupRow) : Type 0 where
+pub record IsGrouped (kind first : ℕ → ℕ) (group_file : ℕ → Rec)
+    (groups : ℕ → Option GroupRow) : Type 0 where
   pub owned : (g : ℕ) (row : GroupRow) → groups g ≡ Some row → kind row.owner ≡ format.dense
   pub each : (n : ℕ) → kind n ≡ format.dense → HasGroups (first n) n group_file groups
 
 -- ---- the fifth rule: properties and blocks are each in the list of one owner
 
--- An owner is a file and an identifier, with the first of its list where it is in use. Each record in use is in the list of one owner, and the lists have records in use alone.
+-- An owner is a file and an identifier, with the first of its list where it is in use. Each record
+-- in use is in the list of one owner, and the lists have records in use alone.
 pub record AreHeld (owner : ℕ → ℕ → Option ℕ) (next : ℕ → ℕ) (live : ℕ → Bool) : Type 0 where
   pub lists : ℕ → ℕ → List ℕ
   pub walk : (file x first : ℕ) → owner file x ≡ Some first → IsWalk next first (lists file x)
   pub only : (file x first p : ℕ) → owner file x ≡ Some first → In p (lists file x) → live p ≡ true
-  pub held : (p : ℕ) → live p ≡ true → (file : ℕ) × (x : ℕ) × (first : ℕ) × ((owner file x ≡ Some first) × In p (lists file x))
-  pub once : (file x first other y second p : ℕ) → owner file x ≡ Some first → owner other y ≡ Some second → In p (lists file x) → In p (lists other y) → (file ≡ other) × (x ≡ y)
+  pub held : (p : ℕ) → live p ≡ true
+      → (file : ℕ) × (x : ℕ) × (first : ℕ) × ((owner file x ≡ Some first) × In p (lists file x))
+  pub once : (file x first other y second p : ℕ) → owner file x ≡ Some first
+      → owner other y ≡ Some second → In p (lists file x) → In p (lists other y)
+      → (file ≡ other) × (x ≡ y)
 
 -- the first property of a node or relationship in use
 abbrev pub node_first : Option NodeRow → Option ℕ
@@ -151,18 +180,27 @@ rel_first (Some row) = Some row.property
 
 -- the owners of properties
 abbrev pub property_owner : (ℕ → Option NodeRow) → (ℕ → Option RelRow) → ℕ → ℕ → Option ℕ
-property_owner nodes rels file x = cond (nat_eq file format.nodes_file) (node_first (nodes x)) (cond (nat_eq file format.relationships_file) (rel_first (rels x)) None)
+property_owner nodes rels file x =
+    cond (nat_eq file format.nodes_file) (node_first (nodes x))
+    (cond (nat_eq file format.relationships_file) (rel_first (rels x)) None)
 
 -- the owners of blocks: the properties with a text in blocks
 abbrev pub block_owner : (ℕ → ℕ) → (ℕ → Rec) → ℕ → ℕ → Option ℕ
-block_owner kind property_file file x = cond (nat_eq file format.properties_file && nat_eq (kind x) format.text_in_blocks) (Some (field 4 (property_file x) format.property_first_block)) None
+block_owner kind property_file file x =
+    cond (nat_eq file format.properties_file && nat_eq (kind x) format.text_in_blocks)
+    (Some (field 4 (property_file x) format.property_first_block))
+    None
 
 -- keys are names, no key comes twice among an owner's properties, and there are at most 32
-pub record HaveKeys (owner : ℕ → ℕ → Option ℕ) (lists : ℕ → ℕ → List ℕ) (property_file : ℕ → Rec) (names : ℕ) : Type 0 where
+pub record HaveKeys (owner : ℕ → ℕ → Option ℕ) (lists : ℕ → ℕ → List ℕ)
+    (property_file : ℕ → Rec) (names : ℕ) : Type 0 where
   pub few : (file x first : ℕ) → owner file x ≡ Some first → length (lists file x) ≤ 32
-  pub named : (file x first p : ℕ) → owner file x ≡ Some first → In p (lists file x) → field 4 (property_file p) format.property_key < names
-  pub distinct : (file x first p q : ℕ) → owner file x ≡ Some first → In p (lists file x) → In q (lists file x)
-      → field 4 (property_file p) format.property_key ≡ field 4 (property_file q) format.property_key → p ≡ q
+  pub named : (file x first p : ℕ) → owner file x ≡ Some first → In p (lists file x)
+      → field 4 (property_file p) format.property_key < names
+  pub distinct : (file x first p q : ℕ) → owner file x ≡ Some first → In p (lists file x)
+      → In q (lists file x)
+      → field 4 (property_file p) format.property_key
+      ≡ field 4 (property_file q) format.property_key → p ≡ q
 
 -- the pieces of a text of so many bytes: all but the last have 48
 abbrev pub ArePieces : (ℕ → ℕ) → ℕ → List ℕ → Type 0
@@ -170,8 +208,11 @@ ArePieces size n [] = n ≡ 0
 ArePieces size n (b ∷ []) = (size b ≡ n) × (0 < n) × (n ≤ 48)
 ArePieces size n (b ∷ c ∷ rest) = (size b ≡ 48) × (48 < n) × ArePieces size (n - 48) (c ∷ rest)
 
-pub record HaveTexts (owner : ℕ → ℕ → Option ℕ) (lists : ℕ → ℕ → List ℕ) (property_file string_file : ℕ → Rec) : Type 0 where
-  pub pieces : (file x first : ℕ) → owner file x ≡ Some first → ArePieces (λ b. field 1 (string_file b) format.block_length) (field 2 (property_file x) format.property_length) (lists file x)
+pub record HaveTexts (owner : ℕ → ℕ → Option ℕ)
+    (lists : ℕ → ℕ → List ℕ) (property_file string_file : ℕ → Rec) : Type 0 where
+  pub pieces : (file x first : ℕ) → owner file x ≡ Some first
+      → ArePieces (λ b. field 1 (string_file b) format.block_length)
+      (field 2 (property_file x) format.property_length) (lists file x)
 
 -- What the fifth rule reads of the two files: kinds, records, and which are in use.
 pub record PropertyFiles : Type 0 where
@@ -191,14 +232,19 @@ property_files records = record {
 }
 
 -- properties and blocks are held, by so many names
-pub record HaveProperties (files : PropertyFiles) (nodes : ℕ → Option NodeRow) (rels : ℕ → Option RelRow) (names : ℕ) : Type 0 where
-  pub held : AreHeld (property_owner nodes rels) (λ p. field 4 (files.property p) format.property_next) files.property_live
+pub record HaveProperties (files : PropertyFiles) (nodes : ℕ → Option NodeRow)
+    (rels : ℕ → Option RelRow) (names : ℕ) : Type 0 where
+  pub held : AreHeld (property_owner nodes rels)
+      (λ p. field 4 (files.property p) format.property_next) files.property_live
   pub keys : HaveKeys (property_owner nodes rels) held.lists files.property names
-  pub blocks : AreHeld (block_owner files.kind files.property) (λ b. field 4 (files.string b) format.block_next) files.string_live
-  pub texts : HaveTexts (block_owner files.kind files.property) blocks.lists files.property files.string
+  pub blocks : AreHeld (block_owner files.kind files.property)
+      (λ b. field 4 (files.string b) format.block_next) files.string_live
+  pub texts : HaveTexts
+      (block_owner files.kind files.property) blocks.lists files.property files.string
 
 -- labels and types are names
-pub record AreNamed (nodes : ℕ → Option NodeRow) (rels : ℕ → Option RelRow) (names : ℕ) : Type 0 where
+pub record AreNamed (nodes : ℕ → Option NodeRow)
+    (rels : ℕ → Option RelRow) (names : ℕ) : Type 0 where
   pub nodes_named : (x : ℕ) (row : NodeRow) → nodes x ≡ Some row → row.label < names
   pub rels_named : (x : ℕ) (row : RelRow) → rels x ≡ Some row → row.label < names
 
@@ -206,7 +252,8 @@ pub record AreNamed (nodes : ℕ → Option NodeRow) (rels : ℕ → Option RelR
 
 pub record AreNames (name_file : ℕ → Rec) (names : ℕ) : Type 0 where
   pub form : (x : ℕ) → x < names → IsShortName (text_of (name_file x))
-  pub distinct : (x y : ℕ) → x < names → y < names → text_of (name_file x) ≡ text_of (name_file y) → x ≡ y
+  pub distinct : (x y : ℕ) → x < names → y < names → text_of (name_file x) ≡ text_of (name_file y)
+      → x ≡ y
 
 -- ---- the seventh rule: degrees are exact
 
@@ -219,23 +266,31 @@ abbrev pub degree_of : (ℕ → Option RelRow) → ℕ → ℕ → ℕ
 degree_of rels mark n = length (ids (λ x. stands_in n (rels x)) mark)
 
 -- Degrees are exact, and a sparse node has at most so many relationships.
-pub record AreCounted (kind degrees : ℕ → ℕ) (rels : ℕ → Option RelRow) (mark most : ℕ) : Type 0 where
+pub record AreCounted (kind degrees : ℕ → ℕ)
+    (rels : ℕ → Option RelRow) (mark most : ℕ) : Type 0 where
   pub each : (n : ℕ) → kind n ≢ format.free_kind → degrees n ≡ degree_of rels mark n
   pub few : (n : ℕ) → kind n ≡ format.sparse → degrees n ≤ most
 
 -- ---- all of them
 
--- The records of a well-formed store of this shape, but for how many relationships a sparse node may have.
+-- The records of a well-formed store of this shape, but for how many relationships a sparse node
+-- may have.
 pub record KeepsRules (records : Records) (shape : Shape) (most : ℕ) : Type 0 where
   pub ranges : AreInRange records shape
-  pub split : (file : ℕ) → is_reused file ≡ true → (free : List ℕ) × IsSplit records file (is_live records file) free
-  pub kept : (file : ℕ) → is_meta_file file ≡ true → is_reused file ≡ false → AreAllLive records file
-  pub linked : IsLinked records (kind_at records format.nodes_file) (rel_at records) (group_at records)
-  pub grouped : IsGrouped (kind_at records format.nodes_file) (first_link records) (rec_at records format.groups_file) (group_at records)
-  pub properties : HaveProperties (property_files records) (node_at records) (rel_at records) (high records format.names_file)
+  pub split : (file : ℕ) → is_reused file ≡ true
+      → (free : List ℕ) × IsSplit records file (is_live records file) free
+  pub kept : (file : ℕ) → is_meta_file file ≡ true → is_reused file ≡ false
+      → AreAllLive records file
+  pub linked : IsLinked records (kind_at records format.nodes_file) (rel_at records)
+      (group_at records)
+  pub grouped : IsGrouped (kind_at records format.nodes_file) (first_link records)
+      (rec_at records format.groups_file) (group_at records)
+  pub properties : HaveProperties (property_files records) (node_at records) (rel_at records)
+      (high records format.names_file)
   pub named : AreNamed (node_at records) (rel_at records) (high records format.names_file)
   pub names : AreNames (rec_at records format.names_file) (high records format.names_file)
-  pub degrees : AreCounted (kind_at records format.nodes_file) (degree records) (rel_at records) (high records format.relationships_file) most
+  pub degrees : AreCounted (kind_at records format.nodes_file) (degree records) (rel_at records)
+      (high records format.relationships_file) most
 
 -- the records of a well-formed store of this shape
 abbrev pub IsWellFormed : Records → Shape → Type 0

@@ -1,5 +1,6 @@
 -- What the rules and the graph read of the records of a store. Each rule speaks of these alone.
-use Rattle.std.specs.Prelude.{ℕ, nat_eq, nat_lt, Bool, ◌||◌, not, cond, Option, None, Some, List, take, drop}
+use Rattle.std.specs.Prelude.{ℕ, nat_eq, nat_lt, Bool, ◌||◌, not, cond, Option, None, Some, List}
+use Rattle.std.specs.Prelude.{take, drop}
 use Rattle.rec_bytes.specs.declared.record.Rec.{Rec}
 use Rattle.rec_bytes.specs.declared.key.Key.{Key}
 use Rattle.rec_bytes.specs.Format as format
@@ -50,7 +51,11 @@ pub record GroupRow : Type 0 where
   pub owner : ℕ
 
 abbrev pub node_in : Rec → ℕ → NodeRow
-node_in r x = record { id = x; label = field 4 r format.node_label; property = field 4 r format.node_first_property }
+node_in r x = record {
+  id = x;
+  label = field 4 r format.node_label;
+  property = field 4 r format.node_first_property;
+}
 
 abbrev pub rel_in : Rec → ℕ → RelRow
 rel_in r x = record {
@@ -62,20 +67,28 @@ rel_in r x = record {
 }
 
 abbrev pub group_in : Rec → ℕ → GroupRow
-group_in r x = record { id = x; label = field 4 r format.group_type; owner = field 4 r format.group_owner }
+group_in r x = record {
+  id = x;
+  label = field 4 r format.group_type;
+  owner = field 4 r format.group_owner;
+}
 
 -- the row of a record in use
 abbrev pub row_if : {E : Type 0} → ℕ → E → Option E
 row_if kind row = cond (nat_eq kind 0) None (Some row)
 
 abbrev pub node_at : Records → ℕ → Option NodeRow
-node_at records x = row_if (kind_at records format.nodes_file x) (node_in (rec_at records format.nodes_file x) x)
+node_at records x =
+    row_if (kind_at records format.nodes_file x) (node_in (rec_at records format.nodes_file x) x)
 
 abbrev pub rel_at : Records → ℕ → Option RelRow
-rel_at records x = row_if (kind_at records format.relationships_file x) (rel_in (rec_at records format.relationships_file x) x)
+rel_at records x =
+    row_if (kind_at records format.relationships_file x)
+    (rel_in (rec_at records format.relationships_file x) x)
 
 abbrev pub group_at : Records → ℕ → Option GroupRow
-group_at records x = row_if (kind_at records format.groups_file x) (group_in (rec_at records format.groups_file x) x)
+group_at records x =
+    row_if (kind_at records format.groups_file x) (group_in (rec_at records format.groups_file x) x)
 
 -- the relationship leaves the node or enters it
 abbrev pub is_at : ℕ → RelRow → Bool

@@ -1,8 +1,8 @@
--- How many records a change writes.
-use Rattle.std.specs.Prelude.{◌≡◌, ℕ, ◌≤◌, true, List, [], ◌∷◌, ◌++◌, length, map}
+-- Which records a change writes, and how many.
+use Rattle.std.specs.Prelude.{◌≡◌, ◌⊎◌, ℕ, ◌≤◌, true, List, [], ◌∷◌, ◌++◌, length, map}
 use Rattle.rec_bytes.specs.declared.key.Key.{Key}
 use Rattle.rec_bytes.specs.RecordFiles.{is_meta_file, meta_files, meta_key_of}
-use Rattle.rec_bytes.specs.Space.{State, WritesOnly}
+use Rattle.rec_bytes.specs.Space.{IsAmong, State, WritesOnly}
 
 -- the keys of the files' meta records
 abbrev pub meta_keys : List Key
@@ -26,3 +26,7 @@ pub record WritesBeside (key : Key) (count : ℕ) (old new : State) : Type 0 whe
   pub few : length keys ≤ count
   pub own : AreOwn keys
   pub only : WritesOnly old new (key ∷ keys ++ meta_keys)
+
+-- what is other now than it was is among these keys
+pub record ChangesOnly (old new : State) (keys : List Key) : Type 0 where
+  pub each : (q : Key) → (new.records q ≡ old.records q) ⊎ IsAmong q keys

@@ -1,3 +1,3 @@
-//! The rules of a well-formed store of records, and the graph that its records in use are. Definitions of specs/
-//! and their laws; there is no code.
+//! The rules of a well-formed store of records, and the graph that its records in use are.
+//! Definitions of specs/ and their laws; there is no code.
 #![tactic(auto)]
