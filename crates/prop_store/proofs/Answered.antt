@@ -1,22 +1,13 @@
--- The properties that were read so far.
-use Rattle.std.proofs.Common.{◌≡◌, ◌≤◌, ◌+◌, ◌/◌, ◌∙◌, ◌++◌, ℕ, List, [], ◌∷◌, Bool, true, false, cond, length, map, ap, sym, arith}
+-- How many blocks the values have that were read so far.
+use Rattle.std.proofs.Common.{◌≡◌, ◌≤◌, ◌+◌, ◌/◌, ◌∙◌, ◌++◌, List, [], ◌∷◌, Bool, true, false, cond, length, ap, arith}
 use Rattle.std.specs.Prelude.{nat_le}
-use Rattle.std.proofs.lemmas.List.{map-append}
 use Rattle.std.proofs.lemmas.List.Sums.{sum_by_push}
 use Rattle.plain_graph.specs.Forms.{IsKept}
 use Rattle.plain_graph.specs.Properties.{blocks_of}
 use Rattle.plain_graph.specs.declared.value.Value.{Value}
 use Rattle.plain_graph.specs.declared.value.Value.TheVariants as values
-use Rattle.store_rules.specs.Properties.{Property}
-use Rattle.prop_store.specs.Reading.{block_total, prop_of}
+use Rattle.prop_store.specs.Reading.{block_total}
 use Rattle.prop_store.specs.declared.prop.Prop.{Prop}
-
--- one more is answered
-pub answered_one : (props pushed : List Prop) (passed : List Property) (e : Property) (key : ℕ) (value : Value) → pushed ≡ props ++ record { key = key; value = value } ∷ [] → props ≡ map prop_of passed → key ≡ e.key → value ≡ e.value
-    → pushed ≡ map prop_of (passed ++ e ∷ [])
-answered_one props pushed passed e key value is before key_is value_is =
-    is ∙ ap (λ (z : List Prop). z ++ record { key = key; value = value } ∷ []) before ∙ ap (λ k. map prop_of passed ++ record { key = k; value = value } ∷ []) key_is
-    ∙ ap (λ v. map prop_of passed ++ record { key = e.key; value = v } ∷ []) value_is ∙ sym (map-append prop_of passed (e ∷ []))
 
 pub block_total-one : (props pushed : List Prop) (prop : Prop) → pushed ≡ props ++ prop ∷ [] → block_total pushed ≡ block_total props + blocks_of prop.value
 block_total-one props pushed prop is = ap block_total is ∙ sum_by_push (λ (p : Prop). blocks_of p.value) props prop

@@ -9,14 +9,12 @@ use Rattle.rec_bytes.specs.Format as format
 use Rattle.rec_bytes.specs.Key.{IsKey, key_eq}
 use Rattle.rec_bytes.specs.Record.{field, text_in}
 use Rattle.rec_bytes.specs.RecordFiles.{meta_key_of, room_of}
-use Rattle.rec_bytes.specs.Space.{State, WritesOnly, after_put, meta_in, meta_of}
+use Rattle.rec_bytes.specs.Space.{State, after_put, meta_in, meta_of}
 use Rattle.rec_bytes.proofs.KeyLaws.{key_eq-other, key_eq-same}
-use Rattle.rec_bytes.proofs.Spaces.{writes_one, writes_then}
 use Rattle.store_rules.specs.Chains.{In}
 use Rattle.store_rules.specs.Properties.{AreBlocks, IsBlock, head_of}
 use Rattle.store_rules.specs.PropertyChange.{ChangesFile}
 use Rattle.store_rules.specs.Views.{high, is_live, key_in, kind_at, rec_at}
-use Rattle.store_rules.specs.Writes.{WritesAtMost}
 use Rattle.store_rules.proofs.BlockLists.{length-blocks}
 use Rattle.store_rules.proofs.PropertyStays.{blocks_stay}
 use Rattle.store_rules.proofs.ViewLaws.{kind_below, live_false}
@@ -32,7 +30,6 @@ use Rattle.prop_store.specs.FileChange.{HasWritten, IsSameBeside, IsWriteFault, 
 use Rattle.prop_store.proofs.BlockRecords.{kind-block_record, next-block_record, size-block_record, text-block_record}
 use Rattle.prop_store.proofs.FileSteps.{file_more, file_taken, keeps_file, live_taken}
 use Rattle.prop_store.proofs.RecordFits.{Fits-block_record}
-use Rattle.prop_store.proofs.WriteCounts.{at_most_only}
 
 -- ---- an identifier taken
 
@@ -68,12 +65,6 @@ module _ (s m t : State) (file id : ℕ) (rec : Rec) (took : m ≡ taken s file)
 
   pub beside_put : IsSameBeside file s.records t.records
   beside_put key out other = others-put m t (key_in file id) rec is key (λ e. out (ap (λ (k : Key). k.file) e)) ∙ ap (λ (z : State). z.records key) took ∙ records-taken s file key other
-
--- one record besides meta records
-pub writes_block : (s m t : State) (id : ℕ) (rec : Rec) → WritesOnly s m (meta_key_of format.strings_file ∷ []) → t ≡ after_put m (key_in format.strings_file id) rec → WritesAtMost 1 s t
-writes_block s m t id rec took is = at_most_only s t (key_in format.strings_file id ∷ []) (meta_key_of format.strings_file ∷ key_in format.strings_file id ∷ []) (refl, tt)
-    (writes_then s m t (meta_key_of format.strings_file ∷ []) (key_in format.strings_file id ∷ []) took (writes_one m t (key_in format.strings_file id) (ap (λ (z : State). z.written) is)))
-    (λ q i. ⊎_elim (λ e. inr (inr (inr (inr (inr (inl e)))))) (λ k. ⊎_elim (λ e. inl e) (λ (j : ⊥). absurd j) k) i)
 
 -- ---- why no block was taken
 

@@ -1,26 +1,21 @@
 -- A key of an element that is given a value: what the element's properties are then, and why they are not.
-use Rattle.std.proofs.Common.{◌≡◌, ◌≢◌, ◌⊎◌, ℕ, ◌+◌, ◌<◌, ◌≤◌, true, cond, Some, None, List, [], ◌∷◌, ◌++◌, length, sym, ap, ◌∙◌, subst, inl, inr, ⊎_elim, append-nil, length-append, arith, refl}
-use Rattle.std.specs.Prelude.{is_some}
-use Rattle.std.specs.FinMap as maps
+use Rattle.std.proofs.Common.{◌≡◌, ◌≢◌, ◌⊎◌, ℕ, ◌<◌, ◌≤◌, true, Some, None, List, [], ◌∷◌, ◌++◌, length, sym, ap, ◌∙◌, subst, inl, inr, ⊎_elim, append-nil, length-append, arith, refl}
 use Rattle.std.proofs.lemmas.Bool.{true≢false}
-use Rattle.plain_graph.specs.Graph.{with_value}
 use Rattle.plain_graph.specs.Properties as plain
 use Rattle.plain_graph.specs.declared.value.Value.{Value}
-use Rattle.plain_graph.proofs.PropertyLaws.{len-insert}
 use Rattle.rec_bytes.specs.Format as format
-use Rattle.rec_bytes.specs.Space.{SameButReads, State, after_set, meta_in, meta_of}
+use Rattle.rec_bytes.specs.RecordFiles.{room_of}
+use Rattle.rec_bytes.specs.Space.{SameButReads, State, after_set, meta_of}
 use Rattle.store_rules.specs.Chains.{In}
-use Rattle.store_rules.specs.Graph.{graph_of}
-use Rattle.store_rules.specs.PropertyChange.{ChangesProperties, property_from}
 use Rattle.store_rules.specs.Properties.{AreOnce, AreProperties, IsProperty, Property, PropertyRecords, blocks_of, first_property, ids_of, keys_of, property_records}
 use Rattle.store_rules.specs.Views.{high, is_live, rec_at}
-use Rattle.store_rules.proofs.PropertyCounts.{count_properties, property_count-limit}
+use Rattle.store_rules.proofs.Counts.{length-ids}
 use Rattle.store_rules.proofs.PropertyStays.{linked_stay, properties_stay}
-use Rattle.store_rules.proofs.PropertySteps.{property_added, property_replaced, value_found}
-use Rattle.prop_store.specs.Changing.{HasKey, IsSetRefusal, SetsValue, properties_of, properties_with, set_properties, target_of, text_at}
-use Rattle.prop_store.specs.Dropping.{AreHeld, ChangesRecords}
+use Rattle.prop_store.specs.Alone.{HasRoomForOne, IsSetRefusalAlone, LacksKey, MayHaveKey, OwnsProperties, SetsAlone, blocks_at_key, blocks_held}
+use Rattle.prop_store.specs.Dropping.{ChangesRecords}
 use Rattle.prop_store.specs.FileChange.{KeepsFile}
 use Rattle.prop_store.specs.Fault.{IsUndamaged}
+use Rattle.prop_store.specs.Finding.{property_of}
 use Rattle.prop_store.specs.Owner.{IsOwner, first_of}
 use Rattle.prop_store.specs.SetFault.{of_fault}
 use Rattle.prop_store.specs.declared.fault.Fault.{Fault}
@@ -30,153 +25,118 @@ use Rattle.prop_store.specs.declared.owner.Owner.{Owner}
 use Rattle.prop_store.specs.declared.set_fault.SetFault.{SetFault}
 use Rattle.prop_store.specs.declared.set_fault.SetFault.TheVariants.{Damaged, Disk, Full, Memory, PropsFull}
 use Rattle.prop_store.proofs.DropSteps.{live_low}
-use Rattle.prop_store.proofs.ElementChanges.{are_listed, count_is, element_changed, element_held, first_kept, first_set, keys_known, list_changed, listed_at}
-use Rattle.prop_store.proofs.ElementCounts.{blocks_with-live, properties_with-live}
-use Rattle.prop_store.proofs.ElementParts.{are_parts, block_in_use, blocks_found, id_live, other_blocks_kept, other_kept, replaced_records}
+use Rattle.prop_store.proofs.ElementChanges.{first_kept, first_set, list_changed}
+use Rattle.prop_store.proofs.ElementParts.{are_parts, block_in_use, id_live, other_blocks_kept, other_kept, replaced_records}
 use Rattle.prop_store.proofs.FileMoves.{middle}
-use Rattle.prop_store.proofs.FileSteps.{keeps_in_store}
+use Rattle.prop_store.proofs.FileSteps.{keeps_file}
+use Rattle.prop_store.proofs.Keys.{no_key}
 use Rattle.prop_store.proofs.LinkChanges.{blocks_apart, not_its_block}
 use Rattle.prop_store.proofs.ListLaws.{in_either, in_left, in_right, once_join, once_split}
 use Rattle.prop_store.proofs.PropertyParts.{blocks_parts, first_same, ids_parts, keys_parts, linked_after, linked_before}
 use Rattle.prop_store.proofs.RecordMoves.{records_then}
-
--- ---- keys of lists
-
--- a property of the key stands somewhere in the list
-record KeyPlaced (es : List Property) (key : ℕ) : Type 0 where
-  front : List Property
-  property : Property
-  back : List Property
-  all : es ≡ front ++ property ∷ back
-  key_is : property.key ≡ key
-
-key_placed : (es : List Property) (key : ℕ) → In key (keys_of es) → KeyPlaced es key
-key_placed [] key i = elim i [ ]
-key_placed (e ∷ es) key (inl k) = record { front = []; property = e; back = es; all = refl; key_is = sym k }
-key_placed (e ∷ es) key (inr i) = let p = key_placed es key i in record { front = e ∷ p.front; property = p.property; back = p.back; all = ap (λ (z : List Property). e ∷ z) p.all; key_is = p.key_is }
 
 -- a first property in use may be led to
 leads_to : (s : State) (fs : List Property) (first : ℕ) → first ≡ first_property fs → ((x : ℕ) → In x (ids_of fs) → is_live s.records format.properties_file x ≡ true) → MayLead s first
 leads_to s [] first e live = inl e
 leads_to s (f ∷ fs) first e live = inr (subst (λ z. z < high s.records format.properties_file) (sym e) (live_low s.records format.properties_file f.id (live f.id (inl refl))))
 
-module _ (s : State) (owner : Owner) (is : IsOwner owner) (key : ℕ) (has : HasKey s owner key) where
-  abbrev es : List Property
-  es = listed_at s owner is has.element
+module _ (s : State) (owner : Owner) (es : List Property) (owns : OwnsProperties s owner es) where
+  -- the files keep their rules, and the first property may follow
+  pub keeps_properties : KeepsFile s format.properties_file
+  keeps_properties = keeps_file s.records s.records s.shape format.properties_file (ids_of es) (ids_of es) owns.held.properties
 
-  abbrev held : AreHeld s (first_of s.records owner) es
-  held = element_held s owner is has.element
+  pub keeps_strings : KeepsFile s format.strings_file
+  keeps_strings = keeps_file s.records s.records s.shape format.strings_file (blocks_of es) (blocks_of es) owns.held.strings
 
-  -- a key that has no value in the graph is none of its properties'
-  pub key_absent : maps.get (properties_of s owner) (text_at s key) ≡ None → ¬ In key (keys_of es)
-  key_absent none i =
-      let p = key_placed es key i in
-      let found = value_found s.records s.shape has.element.store owner.key.file owner.key.id is.file has.element.used p.front p.property p.back (subst (AreProperties (property_records s.records) _) p.all (are_listed s owner is has.element)) in
-      let here : maps.get (properties_of s owner) (text_at s key) ≡ Some p.property.value = subst (λ k. maps.get (properties_of s owner) (text_at s k) ≡ Some p.property.value) p.key_is found in
-      both p.property.value (sym none ∙ here)
-    where
-      both : (v : Value) → None ≡ Some v → ⊥
-      both v e = cc
+  pub first_leads : MayLead s (first_of s.records owner)
+  first_leads = leads_to s es (first_of s.records owner) owns.held.are.first_is owns.held.properties.live
 
-  -- a new key makes one property more
-  pub one_more : (value : Value) → maps.get (properties_of s owner) (text_at s key) ≡ None → maps.len (set_properties s owner key value) ≡ maps.len (properties_of s owner) + 1
-  one_more value none = len-insert (properties_of s owner) (text_at s key) value ∙ ap (λ o. cond (is_some o) (maps.len (properties_of s owner)) (maps.len (properties_of s owner) + 1)) none
+  -- what comes after one of its properties may come after it again
+  pub next_leads : (z : State) → SameButReads s z → (front : List Property) (e : Property) (back : List Property) → es ≡ front ++ e ∷ back → (next : ℕ) → next ≡ first_property back → MayLead z next
+  next_leads z same front e back all next next_is = subst (λ (y : State). MayLead y next) (sym same)
+      (leads_to s back next next_is (λ x i. id_live s owner es owns front e back all x (in_right x (ids_of front) ((e.id ∷ []) ++ ids_of back) (in_right x (e.id ∷ []) (ids_of back) i))))
 
-  -- ---- why it is not
+  -- ---- why a value is not set
 
-  live_limit : (meta_of s format.properties_file).live ≤ s.shape.limit
-  live_limit = let count = count_properties s.records s.shape has.element.store.keeps in let most = property_count-limit s.records s.shape has.element.store.keeps in omega arith
+  -- no more properties are live than their file has room for
+  live_within : (meta_of s format.properties_file).live ≤ room_of s.shape format.properties_file
+  live_within =
+      let count = owns.held.properties.split.exact in
+      let most = length-ids (is_live s.records format.properties_file) (high s.records format.properties_file) in
+      let top = owns.held.properties.meta.high in
+      omega arith
 
-  pub counted_new : (value : Value) → maps.get (properties_of s owner) (text_at s key) ≡ None → properties_with s owner key value ≡ (meta_of s format.properties_file).live + 1
-  counted_new value none = properties_with-live s owner is has.element key value ∙ ap (λ o. (meta_in s.records format.properties_file).live + cond (is_some o) 0 1) none
+  module _ (key : ℕ) (value : Value) where
+    -- there is no room for the property
+    pub no_property : (live : ℕ) → LacksKey es key → length es < 32 → (meta_of s format.properties_file).live ≡ room_of s.shape format.properties_file → IsSetRefusalAlone s es key value (Full format.properties_file live)
+    no_property live absent few full = inl (refl, absent, few, (λ (room : HasRoomForOne s). absurd (omega arith)))
 
-  -- there is no room for the property
-  pub no_property : (value : Value) (live : ℕ) → maps.get (properties_of s owner) (text_at s key) ≡ None → maps.len (properties_of s owner) < 32 → (meta_of s format.properties_file).live ≡ s.shape.limit → IsSetRefusal s owner key value (Full format.properties_file live)
-  no_property value live none few full = let more = one_more value none in let all = counted_new value none in (omega arith, inl (refl, omega arith))
+    -- or none for its blocks
+    no_blocks : (gone : ℕ) (fault : SetFault) → MayHaveKey s es key → gone ≡ blocks_at_key es key → IsPutFault s gone (plain.blocks_of value) fault → IsSetRefusalAlone s es key value fault
+    no_blocks gone (Full file live) may same put = inr (put.0, may, (let a = put.1 in omega arith))
+    no_blocks gone Memory may same is = tt
+    no_blocks gone Disk may same is = tt
+    no_blocks gone (PropsFull count) may same is = absurd is
+    no_blocks gone (Damaged damage) may same is = is
 
-  -- or none for its blocks
-  pub no_blocks : (value : Value) (gone : ℕ) (fault : SetFault) → maps.len (set_properties s owner key value) ≤ 32 → properties_with s owner key value ≤ s.shape.limit → gone ≡ plain.blocks_at (properties_of s owner) (text_at s key)
-      → IsPutFault s gone (plain.blocks_of value) fault → IsSetRefusal s owner key value fault
-  no_blocks value gone (Full file live) few room same put = (few, inr (put.0, room, (let a = put.1 in let b = blocks_with-live s owner is has.element key value in omega arith)))
-  no_blocks value gone Memory few room same is = tt
-  no_blocks value gone Disk few room same is = tt
-  no_blocks value gone (PropsFull count) few room same is = absurd is
-  no_blocks value gone (Damaged damage) few room same is = is
+    pub no_new_blocks : (fault : SetFault) → LacksKey es key → length es < 32 → (meta_of s format.properties_file).live ≢ room_of s.shape format.properties_file → IsPutFault s 0 (plain.blocks_of value) fault → IsSetRefusalAlone s es key value fault
+    no_new_blocks fault absent few room put = let most = live_within in no_blocks 0 fault (λ lacks. (few, omega arith)) (sym (ap blocks_held absent)) put
 
-  pub no_new_blocks : (value : Value) (fault : SetFault) → maps.get (properties_of s owner) (text_at s key) ≡ None → maps.len (properties_of s owner) < 32 → (meta_of s format.properties_file).live ≢ s.shape.limit
-      → IsPutFault s 0 (plain.blocks_of value) fault → IsSetRefusal s owner key value fault
-  no_new_blocks value fault none few room put =
-      let more = one_more value none in
-      let all = counted_new value none in
-      let most = live_limit in
-      no_blocks value 0 fault (omega arith) (omega arith) (sym (ap plain.blocks_if none)) put
+    pub no_other_blocks : (e : Property) (fault : SetFault) → property_of es key ≡ Some e → IsPutFault s (length e.blocks) (plain.blocks_of value) fault → IsSetRefusalAlone s es key value fault
+    no_other_blocks e fault found put = no_blocks (length e.blocks) fault (λ lacks. absurd (both e (sym lacks ∙ found))) (sym (ap blocks_held found)) put
+      where
+        both : (e : Property) → None ≡ Some e → ⊥
+        both e same = cc
 
   -- ---- one more
 
-  module _ (m t : State) (value : Value) (id next : ℕ) (none : maps.get (properties_of s owner) (text_at s key) ≡ None) (few : maps.len (properties_of s owner) < 32) (next_is : next ≡ first_of s.records owner)
-      (puts : PutsProperty s m [] [] id key value next) (set : t ≡ after_set m owner.key 4 owner.field id) (shape : t.shape ≡ s.shape) where
+  module _ (is : IsOwner owner) (m t : State) (key : ℕ) (value : Value) (id next : ℕ) (known : key < high s.records format.names_file) (absent : LacksKey es key) (more : length es < 32) (next_is : next ≡ first_of s.records owner)
+      (puts : PutsProperty s m [] [] id key value next) (set : t ≡ after_set m owner.key 4 owner.field id) where
     abbrev added : Property
     added = record { id = id; key = key; value = value; blocks = puts.blocks }
 
     added_changes : ChangesRecords s.records m.records s.shape (ids_of es) (ids_of (added ∷ es)) (blocks_of es) (blocks_of (added ∷ es))
     added_changes = records_then s.records s.records m.records s.shape (ids_of es) (ids_of es) (id ∷ ids_of es) (blocks_of es) (blocks_of es) (puts.blocks ++ blocks_of es) [] (id ∷ []) [] puts.blocks
-        (middle [] [] (id ∷ []) (ids_of es) held.are.ids_once) (middle [] [] puts.blocks (blocks_of es) held.are.blocks_once)
-        (record { properties = held.properties; strings = held.strings; others = λ q a b c d. refl }) puts.changes
+        (middle [] [] (id ∷ []) (ids_of es) owns.held.are.ids_once) (middle [] [] puts.blocks (blocks_of es) owns.held.are.blocks_once)
+        (record { properties = owns.held.properties; strings = owns.held.strings; others = λ q a b c d. refl }) puts.changes
 
     added_are : AreProperties (property_records m.records) id (added ∷ es)
     added_are = record {
       first_is = refl;
       linked = (
-        subst (IsProperty (property_records m.records) added) (next_is ∙ held.are.first_is) puts.is,
-        (properties_stay (property_records s.records) (property_records m.records) (first_of s.records owner) es (λ p i. (puts.changes.properties.kept p (held.properties.live p i) (λ j. j)).1) (λ b i. (puts.changes.strings.kept b (held.strings.live b i) (λ j. j)).1) held.are).linked,
+        subst (IsProperty (property_records m.records) added) (next_is ∙ owns.held.are.first_is) puts.is,
+        (properties_stay (property_records s.records) (property_records m.records) (first_of s.records owner) es (λ p i. (puts.changes.properties.kept p (owns.held.properties.live p i) (λ j. j)).1) (λ b i. (puts.changes.strings.kept b (owns.held.strings.live b i) (λ j. j)).1) owns.held.are).linked,
       );
-      few = let n = count_is s owner is has.element in omega arith;
-      ids_once = ((λ i. ⊎_elim (λ (j : ⊥). j) (λ dead. true≢false (sym (held.properties.live id i) ∙ dead)) (puts.changes.properties.from id (inl refl))), held.are.ids_once);
-      blocks_once = once_join puts.blocks (blocks_of es) puts.once held.are.blocks_once (λ x i j. ⊎_elim (λ (k : ⊥). k) (λ dead. true≢false (sym (held.strings.live x j) ∙ dead)) (puts.changes.strings.from x i));
-      keys_once = (key_absent none, held.are.keys_once);
+      few = omega arith;
+      ids_once = ((λ i. ⊎_elim (λ (j : ⊥). j) (λ dead. true≢false (sym (owns.held.properties.live id i) ∙ dead)) (puts.changes.properties.from id (inl refl))), owns.held.are.ids_once);
+      blocks_once = once_join puts.blocks (blocks_of es) puts.once owns.held.are.blocks_once (λ x i j. ⊎_elim (λ (k : ⊥). k) (λ dead. true≢false (sym (owns.held.strings.live x j) ∙ dead)) (puts.changes.strings.from x i));
+      keys_once = (no_key es key absent, owns.held.are.keys_once);
     }
 
-    pub value_added : SetsValue s t owner key value 0
+    pub value_added : SetsAlone s t owner es key value 0
     value_added =
         let low : id < high m.records format.properties_file = live_low m.records format.properties_file id (puts.changes.properties.live id (inl refl)) in
         let small = puts.is.low in
-        let first = first_set s owner is has.element m (added ∷ es) added_changes t id set (omega arith) (inr low) in
-        let list = list_changed s owner is has.element m (added ∷ es) added_changes t first added_are (λ k i. ⊎_elim (λ (e : k ≡ key). subst (λ z. z < high s.records format.names_file) (sym e) has.known) (λ j. keys_known s owner is has.element k j) i) in
-        let steps = property_added s.records t.records s.shape owner.key.file owner.key.id has.element.store added es list in
-        let more = one_more value none in
+        let first = first_set s owner es owns is m (added ∷ es) added_changes t id set (omega arith) (inr low) in
         record {
-          changes = element_changed s owner is has.element t (added ∷ es) list shape steps.store;
-          graph = steps.graph_is;
-          released_is = sym (ap plain.blocks_if none);
-          few = omega arith;
+          after = added ∷ es;
+          changes = list_changed s owner es owns is m (added ∷ es) added_changes t first added_are (λ k i. ⊎_elim (λ (e : k ≡ key). subst (λ z. z < high s.records format.names_file) (sym e) known) (λ j. owns.known k j) i);
+          property = added;
+          key_is = refl;
+          value_is = refl;
+          place = inl (record { lacked = absent; all = refl; released_is = refl });
         }
 
   -- ---- another value
 
-  module _ (front : List Property) (e : Property) (back : List Property) (all : es ≡ front ++ e ∷ back) (key_is : e.key ≡ key) where
-    abbrev parts : AreProperties (property_records s.records) (property_from s.records owner.key.file owner.key.id) (front ++ e ∷ back)
-    parts = are_parts s owner is has.element front e back all
+  module _ (front : List Property) (e : Property) (back : List Property) (all : es ≡ front ++ e ∷ back) where
+    abbrev first : ℕ
+    first = first_of s.records owner
 
-    found_value : maps.get (properties_of s owner) (text_at s key) ≡ Some e.value
-    found_value = subst (λ k. maps.get (properties_of s owner) (text_at s k) ≡ Some e.value) key_is (value_found s.records s.shape has.element.store owner.key.file owner.key.id is.file has.element.used front e back parts)
+    abbrev parts : AreProperties (property_records s.records) first (front ++ e ∷ back)
+    parts = are_parts s owner es owns front e back all
 
-    as_many : (value : Value) → maps.len (set_properties s owner key value) ≤ 32
-    as_many value =
-        let same = len-insert (properties_of s owner) (text_at s key) value ∙ ap (λ o. cond (is_some o) (maps.len (properties_of s owner)) (maps.len (properties_of s owner) + 1)) found_value in
-        let n = count_is s owner is has.element in
-        let m = held.are.few in
-        omega arith
-
-    found_blocks : length e.blocks ≡ plain.blocks_at (properties_of s owner) (text_at s key)
-    found_blocks = sym (subst (λ k. plain.blocks_at (properties_of s owner) (text_at s k) ≡ length e.blocks) key_is (blocks_found s owner is has.element front e back all))
-
-    pub no_other_blocks : (value : Value) (fault : SetFault) → IsPutFault s (length e.blocks) (plain.blocks_of value) fault → IsSetRefusal s owner key value fault
-    no_other_blocks value fault put =
-        let count = properties_with-live s owner is has.element key value ∙ ap (λ o. (meta_in s.records format.properties_file).live + cond (is_some o) 0 1) found_value in
-        let most = live_limit in
-        no_blocks value (length e.blocks) fault (as_many value) (omega arith) found_blocks put
-
-    module _ (m : State) (value : Value) (next : ℕ) (next_is : next ≡ first_property back) (puts : PutsProperty s m (e.id ∷ []) e.blocks e.id key value next) (shape : m.shape ≡ s.shape) where
+    module _ (is : IsOwner owner) (key : ℕ) (key_is : e.key ≡ key) (m : State) (value : Value) (next : ℕ) (next_is : next ≡ first_property back) (puts : PutsProperty s m (e.id ∷ []) e.blocks e.id key value next) where
       abbrev now : Property
       now = record { id = e.id; key = key; value = value; blocks = puts.blocks }
 
@@ -190,18 +150,18 @@ module _ (s : State) (owner : Owner) (is : IsOwner owner) (key : ℕ) (has : Has
       now_records = property_records m.records
 
       now_changes : ChangesRecords s.records m.records s.shape (ids_of es) (ids_of new) (blocks_of es) (blocks_of new)
-      now_changes = replaced_records s owner is has.element front e back all m.records (now ∷ []) (subst (λ bs. ChangesRecords s.records m.records s.shape (e.id ∷ []) (e.id ∷ []) e.blocks bs) (sym (append-nil puts.blocks)) puts.changes)
+      now_changes = replaced_records s owner es owns front e back all m.records (now ∷ []) (subst (λ bs. ChangesRecords s.records m.records s.shape (e.id ∷ []) (e.id ∷ []) e.blocks bs) (sym (append-nil puts.blocks)) puts.changes)
 
       same_record : (x : ℕ) → In x (ids_of front) ⊎ In x (ids_of back) → rec_at m.records format.properties_file x ≡ rec_at s.records format.properties_file x
-      same_record x i = (other_kept s owner is has.element front e back all m.records (e.id ∷ []) puts.changes.properties x i).1
+      same_record x i = (other_kept s owner es owns front e back all m.records (e.id ∷ []) puts.changes.properties x i).1
 
       same_block : (x : ℕ) → In x (blocks_of front) ⊎ In x (blocks_of back) → rec_at m.records format.strings_file x ≡ rec_at s.records format.strings_file x
-      same_block x i = (other_blocks_kept s owner is has.element front e back all m.records puts.blocks puts.changes.strings x i).1
+      same_block x i = (other_blocks_kept s owner es owns front e back all m.records puts.blocks puts.changes.strings x i).1
 
       -- the new blocks are none of the others'
       fresh_block : (x : ℕ) → In x puts.blocks → In x (blocks_of front) ⊎ In x (blocks_of back) → ⊥
-      fresh_block x j i = ⊎_elim (λ old. not_its_block was_records was_records (property_from s.records owner.key.file owner.key.id) front e back parts x i old)
-          (λ dead. true≢false (sym (block_in_use s owner is has.element front e back all x (⊎_elim (λ f. in_left x (blocks_of front) (e.blocks ++ blocks_of back) f) (λ b. in_right x (blocks_of front) (e.blocks ++ blocks_of back) (in_right x e.blocks (blocks_of back) b)) i)) ∙ dead))
+      fresh_block x j i = ⊎_elim (λ old. not_its_block was_records was_records first front e back parts x i old)
+          (λ dead. true≢false (sym (block_in_use s owner es owns front e back all x (⊎_elim (λ f. in_left x (blocks_of front) (e.blocks ++ blocks_of back) f) (λ b. in_right x (blocks_of front) (e.blocks ++ blocks_of back) (in_right x e.blocks (blocks_of back) b)) i)) ∙ dead))
           (puts.changes.strings.from x j)
 
       keys_same : keys_of (front ++ e ∷ back) ≡ keys_of new
@@ -209,7 +169,7 @@ module _ (s : State) (owner : Owner) (is : IsOwner owner) (key : ℕ) (has : Has
 
       now_are : AreProperties now_records (first_property new) new
       now_are =
-          let outer = once_split (blocks_of front) (e.blocks ++ blocks_of back) (blocks_apart was_records was_records (property_from s.records owner.key.file owner.key.id) front e back parts) in
+          let outer = once_split (blocks_of front) (e.blocks ++ blocks_of back) (blocks_apart was_records was_records first front e back parts) in
           let inner = once_split e.blocks (blocks_of back) outer.right in
           record {
             first_is = refl;
@@ -223,27 +183,17 @@ module _ (s : State) (owner : Owner) (is : IsOwner owner) (key : ℕ) (has : Has
             keys_once = subst AreOnce keys_same parts.keys_once;
           }
 
-      pub value_replaced : SetsValue s m owner key value (length e.blocks)
+      pub value_replaced : SetsAlone s m owner es key value (length e.blocks)
       value_replaced =
-          let first = first_kept s owner is has.element m new now_changes (held.are.first_is ∙ ap first_property all ∙ first_same front (e ∷ back) (now ∷ back) refl) in
-          let list = list_changed s owner is has.element m new now_changes m first now_are (λ k i. keys_known s owner is has.element k (subst (In k) (sym (ap keys_of all ∙ keys_same)) i)) in
-          let steps = property_replaced s.records m.records s.shape owner.key.file owner.key.id has.element.store front e now back (subst (λ l. ChangesProperties s.records m.records s.shape owner.key.file owner.key.id l new) all list) (sym key_is) in
+          let kept = first_kept s owner es owns is m new now_changes (owns.held.are.first_is ∙ ap first_property all ∙ first_same front (e ∷ back) (now ∷ back) refl) in
           record {
-            changes = element_changed s owner is has.element m new list shape steps.store;
-            graph = subst (λ k. graph_of m.records ≡ with_value (graph_of s.records) (target_of owner) (text_at s k) value) key_is steps.graph_is;
-            released_is = found_blocks;
-            few = as_many value;
+            after = new;
+            changes = list_changed s owner es owns is m new now_changes m kept now_are (λ k i. owns.known k (subst (In k) (sym (ap keys_of all ∙ keys_same)) i));
+            property = now;
+            key_is = refl;
+            value_is = refl;
+            place = inr (record { before = front; was = e; rest = back; found = record { all = all; key_is = key_is }; all = refl; id_is = refl; released_is = refl });
           }
-
-  -- the files keep their rules, and the first property may follow
-  pub keeps_properties : KeepsFile s format.properties_file
-  keeps_properties = keeps_in_store s.records s.shape format.properties_file (inl refl) has.element.store
-
-  pub keeps_strings : KeepsFile s format.strings_file
-  keeps_strings = keeps_in_store s.records s.shape format.strings_file (inr refl) has.element.store
-
-  pub first_leads : MayLead s (first_of s.records owner)
-  first_leads = leads_to s es (first_of s.records owner) held.are.first_is held.properties.live
 
 -- a read before leaves it so
 pub puts_read : (s z m : State) (ids gone : List ℕ) (id key : ℕ) (value : Value) (next : ℕ) → SameButReads s z → PutsProperty z m ids gone id key value next → PutsProperty s m ids gone id key value next
@@ -252,19 +202,16 @@ puts_read s z m ids gone id key value next same puts = by (subst (λ (y : State)
     by : PutsProperty (record s { reads = z.reads }) m ids gone id key value next → PutsProperty s m ids gone id key value next
     by p = record { blocks = p.blocks; once = p.once; changes = p.changes; is = p.is }
 
-pub sets_read : (s z t : State) (owner : Owner) (key : ℕ) (value : Value) (released : ℕ) → SameButReads s z → SetsValue z t owner key value released → SetsValue s t owner key value released
-sets_read s z t owner key value released same sets = by (subst (λ (y : State). SetsValue y t owner key value released) same sets)
+pub sets_read : (s z t : State) (owner : Owner) (es : List Property) (key : ℕ) (value : Value) (released : ℕ) → SameButReads s z → SetsAlone z t owner es key value released → SetsAlone s t owner es key value released
+sets_read s z t owner es key value released same sets = by (subst (λ (y : State). SetsAlone y t owner es key value released) same sets)
   where
-    by : SetsValue (record s { reads = z.reads }) t owner key value released → SetsValue s t owner key value released
-    by p = record { changes = record { before = p.changes.before; after = p.changes.after; changes = p.changes.changes; store = p.changes.store }; graph = p.graph; released_is = p.released_is; few = p.few }
+    by : SetsAlone (record s { reads = z.reads }) t owner es key value released → SetsAlone s t owner es key value released
+    by p = record { after = p.after; changes = p.changes; property = p.property; key_is = p.key_is; value_is = p.value_is; place = p.place }
 
-pub has_read : (s z : State) (owner : Owner) (key : ℕ) → SameButReads s z → HasKey s owner key → HasKey z owner key
-has_read s z owner key same has = subst (λ (y : State). HasKey y owner key) (sym same) (record { element = record { store = has.element.store; used = has.element.used }; known = has.known })
-
-pub refusal_read : (s z : State) (owner : Owner) (key : ℕ) (value : Value) (fault : SetFault) → SameButReads s z → IsSetRefusal z owner key value fault → IsSetRefusal s owner key value fault
-refusal_read s z owner key value fault same is = by fault (subst (λ (y : State). IsSetRefusal y owner key value fault) same is)
+pub refusal_read : (s z : State) (es : List Property) (key : ℕ) (value : Value) (fault : SetFault) → SameButReads s z → IsSetRefusalAlone z es key value fault → IsSetRefusalAlone s es key value fault
+refusal_read s z es key value fault same is = by fault (subst (λ (y : State). IsSetRefusalAlone y es key value fault) same is)
   where
-    by : (fault : SetFault) → IsSetRefusal (record s { reads = z.reads }) owner key value fault → IsSetRefusal s owner key value fault
+    by : (fault : SetFault) → IsSetRefusalAlone (record s { reads = z.reads }) es key value fault → IsSetRefusalAlone s es key value fault
     by (PropsFull count) h = h
     by (Full file live) h = h
     by Memory h = h
@@ -282,13 +229,7 @@ put_read_fault s z gone needed fault same is = by fault (subst (λ (y : State). 
     by (Damaged damage) h = h
 
 -- a fault of the search is none of the element's
-pub read_refusal : (s : State) (owner : Owner) (key : ℕ) (value : Value) (fault : Fault) → IsUndamaged fault → IsSetRefusal s owner key value (of_fault fault)
-read_refusal s owner key value faults.Memory sound = tt
-read_refusal s owner key value faults.Disk sound = tt
-read_refusal s owner key value (faults.Damaged damage) sound = sound
-
--- what comes after a property of the element may come after it again
-pub next_leads : (s z : State) (owner : Owner) (is : IsOwner owner) (key : ℕ) (has : HasKey s owner key) → SameButReads s z → (front : List Property) (e : Property) (back : List Property) → listed_at s owner is has.element ≡ front ++ e ∷ back
-    → (next : ℕ) → next ≡ first_property back → MayLead z next
-next_leads s z owner is key has same front e back all next next_is = subst (λ (y : State). MayLead y next) (sym same)
-    (leads_to s back next next_is (λ x i. id_live s owner is has.element front e back all x (in_right x (ids_of front) ((e.id ∷ []) ++ ids_of back) (in_right x (e.id ∷ []) (ids_of back) i))))
+pub read_refusal : (s : State) (es : List Property) (key : ℕ) (value : Value) (fault : Fault) → IsUndamaged fault → IsSetRefusalAlone s es key value (of_fault fault)
+read_refusal s es key value faults.Memory sound = tt
+read_refusal s es key value faults.Disk sound = tt
+read_refusal s es key value (faults.Damaged damage) sound = sound

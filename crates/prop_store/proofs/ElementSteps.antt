@@ -40,15 +40,16 @@ pub stays_first : (s : Records) (file x : ℕ) → SetsFirst s s file x (propert
 stays_first s file x = record { first = refl; own = λ n at inside apart. refl; fits = λ h. h; others = λ key ne. refl }
 
 -- it is written in a record in use
-module _ (s t : Records) (file x to : ℕ) (is : IsElementFile file) (used : field 1 (rec_at s file x) format.kind ≢ format.free_kind) (thin : file ≡ format.nodes_file → field 1 (rec_at s file x) format.kind ≢ format.dense)
+module _ (s t : Records) (file x to : ℕ) (is : IsElementFile file) (used : field 1 (rec_at s file x) format.kind ≢ format.free_kind)
     (small : to < 2 ^ 32) (low : IsLow (high s format.properties_file) to) (here : rec_at t file x ≡ with_field 4 (rec_at s file x) (property_place file) to) (others : (key : Key) → key ≢ key_in file x → t key ≡ s key) where
   abbrev r : Rec
   r = rec_at s file x
 
-  node_kind : Fits (high s) format.nodes_file r → field 1 r format.kind ≢ format.dense → field 1 r format.kind ≡ format.sparse
-  node_kind h thin = ⊎_elim (λ (e : field 1 r format.kind ≡ format.sparse). e)
-      (λ (ne : field 1 r format.kind ≢ format.sparse). absurd (by (nat_eq (field 1 r format.kind) 0) (nat_eq (field 1 r format.kind) 1) (nat_eq (field 1 r format.kind) 2) h.layout
-      (eq_false (field 1 r format.kind) 0 used) (eq_false (field 1 r format.kind) 1 ne) (eq_false (field 1 r format.kind) 2 thin) h.is)) (nat_cases (field 1 r format.kind) format.sparse)
+  node_kind : Fits (high s) format.nodes_file r → (field 1 r format.kind ≡ format.sparse) ⊎ (field 1 r format.kind ≡ format.dense)
+  node_kind h = ⊎_elim (λ (e : field 1 r format.kind ≡ format.sparse). inl e)
+      (λ (ne : field 1 r format.kind ≢ format.sparse). ⊎_elim (λ (e : field 1 r format.kind ≡ format.dense). inr e)
+      (λ (thin : field 1 r format.kind ≢ format.dense). absurd (by (nat_eq (field 1 r format.kind) 0) (nat_eq (field 1 r format.kind) 1) (nat_eq (field 1 r format.kind) 2) h.layout
+      (eq_false (field 1 r format.kind) 0 used) (eq_false (field 1 r format.kind) 1 ne) (eq_false (field 1 r format.kind) 2 thin) h.is)) (nat_cases (field 1 r format.kind) format.dense)) (nat_cases (field 1 r format.kind) format.sparse)
     where
       by : (free sparse dense : Bool) (layout : Layout) → free ≡ false → sparse ≡ false → dense ≡ false
           → cond free (free_layout format.nodes_file) (cond sparse (node_layout format.relationships_file) (cond dense (node_layout format.groups_file) None)) ≡ Some layout → ⊥
@@ -74,8 +75,8 @@ module _ (s t : Records) (file x to : ℕ) (is : IsElementFile file) (used : fie
     first = ap (λ q. field 4 q (property_place file)) here ∙ field-with_field_same 4 r (property_place file) to place_fits (omega arith);
     own = λ n at inside apart. ap (λ q. field n q at) here ∙ field-with_field_other 4 r (property_place file) to n at inside (⊎_elim (λ a. inr a) (λ a. inl a) apart);
     fits = λ h. subst (Fits (high s) file) (sym here) (⊎_elim
-        (λ (e : file ≡ format.nodes_file). (subst (λ f. Fits (high s) f r → (f ≡ format.nodes_file → field 1 r format.kind ≢ format.dense) → Fits (high s) f (with_field 4 r (property_place f) to)) (sym e)
-        (λ k t'. fits_node_property (high s) r to small low (node_kind k (t' refl)) k)) h thin)
+        (λ (e : file ≡ format.nodes_file). (subst (λ f. Fits (high s) f r → Fits (high s) f (with_field 4 r (property_place f) to)) (sym e)
+        (λ k. fits_node_property (high s) r to small low (node_kind k) k)) h)
         (λ (e : file ≡ format.relationships_file). (subst (λ f. Fits (high s) f r → Fits (high s) f (with_field 4 r (property_place f) to)) (sym e) (λ k. fits_rel_property (high s) r to small low (rel_kind k) k)) h) is);
     others = others;
   }

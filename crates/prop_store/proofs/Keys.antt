@@ -6,6 +6,7 @@ use Rattle.store_rules.specs.Chains.{In}
 use Rattle.store_rules.specs.Properties.{Property, keys_of, property_records}
 use Rattle.store_rules.specs.Views.{Records, rec_at}
 use Rattle.store_rules.proofs.NumberLaws.{eq_false, eq_true, nat_cases}
+use Rattle.prop_store.specs.Alone.{HasKeyAt}
 use Rattle.prop_store.specs.Finding.{FoundAt, property_of}
 use Rattle.prop_store.specs.Link.{link_after, link_of, next_link}
 use Rattle.prop_store.specs.declared.finding.Spot.{Spot}
@@ -28,6 +29,24 @@ no_key (e ∷ es) key none i = ⊎_elim
     (λ (k : e.key ≡ key). let some : Some e ≡ None = sym (ap (λ b. cond b (Some e) (property_of es key)) (eq_true e.key key k)) ∙ none in cc)
     (λ (k : e.key ≢ key). ⊎_elim (λ q. k (sym q)) (λ j. no_key es key (sym (ap (λ b. cond b (Some e) (property_of es key)) (eq_false e.key key k)) ∙ none) j) i)
     (nat_cases e.key key)
+
+-- The property of a key that was found stands among the others.
+pub record Placed (es : List Property) (e : Property) (key : ℕ) : Type 0 where
+  pub before : List Property
+  pub rest : List Property
+  pub at : HasKeyAt es before e rest key
+
+pub placed : (es : List Property) (e : Property) (key : ℕ) → property_of es key ≡ Some e → Placed es e key
+placed [] e key some = absurd cc
+placed (p ∷ es) e key some = ⊎_elim
+    (λ (k : p.key ≡ key).
+    let same : Some p ≡ Some e = sym (ap (λ b. cond b (Some p) (property_of es key)) (eq_true p.key key k)) ∙ some in
+    let is : p ≡ e = cc in
+    record { before = []; rest = es; at = record { all = ap (λ z. z ∷ es) is; key_is = ap (λ (z : Property). z.key) (sym is) ∙ k } })
+    (λ (k : p.key ≢ key).
+    let later = placed es e key (sym (ap (λ b. cond b (Some p) (property_of es key)) (eq_false p.key key k)) ∙ some) in
+    record { before = p ∷ later.before; rest = later.rest; at = record { all = ap (λ z. p ∷ z) later.at.all; key_is = later.at.key_is } })
+    (nat_cases p.key key)
 
 -- a key that wasn't passed and isn't here is still none of those passed
 pub keys_passed : (before : List Property) (e : Property) (key : ℕ) → (In key (keys_of before) → ⊥) → e.key ≢ key → In key (keys_of (before ++ e ∷ [])) → ⊥

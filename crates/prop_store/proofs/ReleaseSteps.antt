@@ -1,8 +1,8 @@
 -- One of several blocks is given back.
-use Rattle.std.proofs.Common.{◌≡◌, ℕ, ◌+◌, true, false, List, [], ◌∷◌, map, ap, refl, subst, sym, ◌∙◌, inl, inr, ⊎_elim, arith}
+use Rattle.std.proofs.Common.{◌≡◌, ℕ, ◌+◌, true, false, List, [], ◌∷◌, ap, refl, subst, sym, ◌∙◌, inl, inr, ⊎_elim, arith}
 use Rattle.std.proofs.lemmas.Bool.{true≢false}
 use Rattle.rec_bytes.specs.RecordFiles.{meta_key_of}
-use Rattle.rec_bytes.specs.Space.{IsAmong, State, WritesOnly, meta_in}
+use Rattle.rec_bytes.specs.Space.{State, meta_in}
 use Rattle.rec_bytes.specs.declared.key.Key.{Key}
 use Rattle.rec_bytes.specs.Key.{key_eq}
 use Rattle.rec_bytes.proofs.KeyLaws.{key_eq-other}
@@ -14,7 +14,6 @@ use Rattle.store_rules.specs.Views.{Records, is_live, key_in}
 use Rattle.id_freelist.specs.Giving.{CanGive, HasGiven, given}
 use Rattle.prop_store.specs.FileChange.{IsSameBeside}
 use Rattle.prop_store.proofs.FileSteps.{IsPropertyFile, file_given, file_less, file_now, live_given}
-use Rattle.prop_store.proofs.WriteCounts.{among_map, writes_into}
 
 -- Of the blocks these are left, none twice, and so many fewer are live.
 pub record HasLeft (s t : Records) (shape : Shape) (file : ℕ) (blocks rest : List ℕ) (count : ℕ) : Type 0 where
@@ -40,12 +39,6 @@ one_given s t u shape file blocks whole rest id count more is e one gives left =
       once = once.1;
       fewer = let l = live_given t.records u.records shape file id [] [] is now live has in let f = left.fewer in omega arith;
     }
-
--- the keys that giving a block of the list back writes
-pub release_writes : (a b c : State) (file id : ℕ) (blocks : List ℕ) → In id blocks → WritesOnly a b (meta_key_of file ∷ map (key_in file) blocks) → WritesOnly b c (key_in file id ∷ meta_key_of file ∷ []) → WritesOnly a c (meta_key_of file ∷ map (key_in file) blocks)
-release_writes a b c file id blocks i first last = writes_into a b c (meta_key_of file ∷ map (key_in file) blocks) (key_in file id ∷ meta_key_of file ∷ []) first last
-    (λ q k. ⊎_elim (λ (e : q ≡ key_in file id). inr (subst (λ z. IsAmong z (map (key_in file) blocks)) (sym e) (among_map file id blocks i)))
-    (λ k. ⊎_elim (λ e. inl e) (λ (j : ⊥). absurd j) k) k)
 
 -- Nothing beside the file changed.
 pub beside_given : (s t : State) (file id : ℕ) → t ≡ given s file id → IsSameBeside file s.records t.records

@@ -1,13 +1,13 @@
 -- A loop along the blocks of a text.
-use Rattle.std.proofs.Common.{◌≡◌, ◌<◌, ◌-◌, ◌∙◌, ◌++◌, append_assoc, ℕ, List, [], ◌∷◌, length, take, drop, min, ap, sym, subst, arith, inl, refl, length-drop}
-use Rattle.std.proofs.lemmas.List.{take-append-drop}
+use Rattle.std.proofs.Common.{◌≡◌, ◌<◌, ◌+◌, ◌-◌, ◌/◌, ◌∙◌, ◌++◌, append_assoc, append-nil, ℕ, suc, List, [], ◌∷◌, length, take, drop, flat_map, min, ap, sym, subst, arith, inl, refl, length-drop}
 use Rattle.rec_bytes.specs.declared.record.Rec.{Rec}
 use Rattle.rec_bytes.specs.Format as format
 use Rattle.rec_bytes.specs.Record.{field, text_in}
-use Rattle.store_rules.specs.Properties.{AreBlocks, head_of}
+use Rattle.store_rules.specs.Properties.{AreBlocks, followed, head_of, long_text_from, next_block, piece_of}
 use Rattle.store_rules.specs.Views.{Records, rec_at}
 use Rattle.prop_store.specs.Blocks.{HasBlockForm, HasText}
 use Rattle.prop_store.specs.GivenOut.{AreGivenOut, IsGivenOut}
+use Rattle.prop_store.proofs.Followed.{followed_one}
 
 -- Of the text so many bytes are left, in blocks from this one on, and these and their bytes have a property.
 pub record TextLeft (string_file : ℕ → Rec) (at left : ℕ) (P : List ℕ → List ℕ → Type 0) : Type 0 where
@@ -81,9 +81,21 @@ right_here records now at left piece same piece_is here =
     subst (λ (r : Records). IsGivenOut r format.strings_file at × HasBlockForm (rec_at r format.strings_file at) piece) (sym same)
     (here.kept at (inl refl), record { kind = here.form.kind; length_is = here.form.length_is ∙ sym piece_is })
 
--- the bytes of the block at hand come after those so far
-pub piece_append : (string_file : ℕ → Rec) (at left : ℕ) (P : List ℕ → List ℕ → Type 0) (here : BlockHere string_file at left P) (so_far pushed whole : List ℕ) (rec : Rec) (piece : ℕ) (bytes : List ℕ)
-    → rec ≡ string_file at → piece ≡ min 48 left → bytes ≡ text_in rec format.block_text piece → pushed ≡ so_far ++ bytes → so_far ++ here.text ≡ whole → pushed ++ drop 48 here.text ≡ whole
-piece_append string_file at left P here so_far pushed whole rec piece bytes rec_is piece_is bytes_are pushed_is kept =
-    let mine : bytes ≡ take 48 here.text = bytes_are ∙ ap (λ r. text_in r format.block_text piece) rec_is ∙ ap (text_in (string_file at) format.block_text) piece_is ∙ here.piece in
-    ap (λ z. z ++ drop 48 here.text) (pushed_is ∙ ap (λ z. so_far ++ z) mine) ∙ append_assoc so_far (take 48 here.text) (drop 48 here.text) ∙ ap (λ z. so_far ++ z) (take-append-drop 48 here.text) ∙ kept
+-- the bytes of the block at hand come after those so far, by what was read
+pub piece_read : (string_file : ℕ → Rec) (so_far pushed whole bytes : List ℕ) (at left piece to : ℕ) (rec : Rec) → 0 < left → at < format.most_ids → rec ≡ string_file at → HasBlockForm rec piece → piece ≡ min 48 left
+    → bytes ≡ text_in rec format.block_text piece → pushed ≡ so_far ++ bytes → to ≡ field 4 rec format.block_next → so_far ++ long_text_from string_file left at ≡ whole → pushed ++ long_text_from string_file (left - piece) to ≡ whole
+piece_read string_file so_far pushed whole bytes at left piece to rec some low rec_is form piece_is bytes_are pushed_is to_is before =
+    let next = next_block string_file in
+    let pieces : List ℕ → List ℕ = flat_map (λ b. piece_of (string_file b)) in
+    let more : (left + 47) / 48 ≡ suc ((left - piece + 47) / 48) = omega (arith, some, piece_is) in
+    let mine : piece_of (string_file at) ≡ bytes = ap piece_of (sym rec_is) ∙ ap (text_in rec format.block_text) form.length_is ∙ sym bytes_are in
+    let there : next at ≡ to = sym (to_is ∙ ap (λ r. field 4 r format.block_next) rec_is) in
+    let whole_is : long_text_from string_file left at ≡ bytes ++ long_text_from string_file (left - piece) to
+    = ap (λ n. pieces (followed n next at)) more ∙ ap pieces (followed_one ((left - piece + 47) / 48) next at (λ e. omega (arith, low, e)))
+    ∙ ap (λ z. z ++ long_text_from string_file (left - piece) (next at)) mine ∙ ap (λ z. bytes ++ long_text_from string_file (left - piece) z) there in
+    ap (λ z. z ++ long_text_from string_file (left - piece) to) pushed_is ∙ append_assoc so_far bytes (long_text_from string_file (left - piece) to) ∙ ap (λ z. so_far ++ z) (sym whole_is) ∙ before
+
+-- no bytes of the text are left
+pub text_read : (string_file : ℕ → Rec) (so_far whole : List ℕ) (at left : ℕ) → left ≡ 0 → so_far ++ long_text_from string_file left at ≡ whole → so_far ≡ whole
+unfolding followed
+text_read string_file so_far whole at left over before = sym (ap (λ n. so_far ++ long_text_from string_file n at) over ∙ append-nil so_far) ∙ before

@@ -1,6 +1,7 @@
 -- Why properties are not read, or not removed.
-use Rattle.std.specs.Prelude.{ℕ, ◌≤◌, Result, Ok, Err, IsErrOf}
+use Rattle.std.specs.Prelude.{◌≡◌, ◌⊎◌, ℕ, ◌≤◌, Result, Ok, Err, IsErrOf}
 use Rattle.fault_count.specs.Cause.{Rose}
+use Rattle.rec_bytes.specs.Format as format
 use Rattle.rec_bytes.specs.declared.space.SpaceFault.{SpaceFault}
 use Rattle.rec_bytes.specs.declared.space.SpaceFault.TheVariants as spaces
 use Rattle.prop_store.specs.declared.fault.Fault.{Fault}
@@ -29,3 +30,10 @@ IsUndamaged (Damaged damage) = ⊥
 abbrev pub NotDamaged : {T : Type 0} → Result T Fault → Type 0
 NotDamaged (Ok value) = Unit {0}
 NotDamaged (Err fault) = IsUndamaged fault
+
+-- only a record of a property or of a block is blamed
+abbrev pub IsOwnDamage : Fault → Type 0
+IsOwnDamage Memory = Unit {0}
+IsOwnDamage Disk = Unit {0}
+IsOwnDamage (Damaged damage) =
+    (damage.file ≡ format.properties_file) ⊎ (damage.file ≡ format.strings_file)

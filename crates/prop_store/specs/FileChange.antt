@@ -12,7 +12,8 @@ use Rattle.id_freelist.specs.declared.take_fault.TakeFault.TheVariants.{Damaged,
 
 -- records of other files are the same
 abbrev pub IsSameBeside : ℕ → Records → Records → Type 0
-IsSameBeside file old new = (key : Key) → key.file ≢ file → key ≢ meta_key_of file → new key ≡ old key
+IsSameBeside file old new =
+    (key : Key) → key.file ≢ file → key ≢ meta_key_of file → new key ≡ old key
 
 -- The file keeps its rules.
 abbrev pub KeepsFile : State → ℕ → Type 0
@@ -33,11 +34,13 @@ pub record HasWritten (old new : State) (text : List ℕ) (first : ℕ) : Type 0
 
 -- There is no room for so many records more; else the machine failed.
 abbrev pub IsWriteFault : State → ℕ → ℕ → TakeFault → Type 0
-IsWriteFault s file needed (Full full live) = (full ≡ file) × (room_of s.shape file < (meta_of s file).live + needed)
+IsWriteFault s file needed (Full full live) =
+    (full ≡ file) × (room_of s.shape file < (meta_of s file).live + needed)
 IsWriteFault s file needed Memory = Unit {0}
 IsWriteFault s file needed Disk = Unit {0}
 IsWriteFault s file needed (Damaged damage) = ⊥
 
 -- so many fewer are live
 abbrev pub HasFewer : State → State → ℕ → ℕ → Type 0
-HasFewer old new file count = (meta_in new.records file).live + count ≡ (meta_in old.records file).live
+HasFewer old new file count =
+    (meta_in new.records file).live + count ≡ (meta_in old.records file).live

@@ -1,13 +1,16 @@
 -- A search for a key among the properties of an element.
-use Rattle.std.specs.Prelude.{◌≡◌, ◌≤◌, ℕ, nat_eq, if◌then◌else◌, Option, None, Some, List, [], ◌∷◌, ◌++◌, length}
+use Rattle.std.specs.Prelude.{◌≡◌, ◌≤◌, ℕ, nat_eq, if◌then◌else◌, Option, None, Some, List, [], ◌∷◌}
+use Rattle.std.specs.Prelude.{◌++◌, length}
 use Rattle.std.specs.Option.{option_map}
 use Rattle.plain_graph.specs.declared.value.Value.{Value}
 use Rattle.rec_bytes.specs.Format as format
 use Rattle.rec_bytes.specs.Record.{field}
-use Rattle.store_rules.specs.Properties.{IsProperty, Property, first_property, property_records}
+use Rattle.store_rules.specs.Properties.{IsProperty, Property, first_property, property_at}
+use Rattle.store_rules.specs.Properties.{property_records}
 use Rattle.store_rules.specs.Views.{Records, rec_at}
-use Rattle.prop_store.specs.Link.{IsLink, link_after, link_of}
+use Rattle.prop_store.specs.Link.{IsLink, IsLinkOf, link_after, link_of}
 use Rattle.prop_store.specs.PropertyRow.{IsRow}
+use Rattle.prop_store.specs.Reading.{properties_met}
 use Rattle.prop_store.specs.declared.finding.Search.{Search}
 use Rattle.prop_store.specs.declared.finding.Search.TheVariants.{Absent, Found}
 use Rattle.prop_store.specs.declared.finding.Spot.{Spot}
@@ -21,8 +24,10 @@ property_of (e ∷ es) key = if nat_eq e.key key then Some e else property_of es
 abbrev pub value_of : List Property → ℕ → Option Value
 value_of es key = option_map (λ (e : Property). e.value) (property_of es key)
 
--- It is one of these, between those before it and those after it, and its link and its record are known.
-pub record FoundAt (records : Records) (owner : Owner) (es : List Property) (key : ℕ) (spot : Spot) : Type 0 where
+-- It is one of these, between those before it and those after it, and its link and its record are
+-- known.
+pub record FoundAt (records : Records) (owner : Owner) (es : List Property) (key : ℕ)
+    (spot : Spot) : Type 0 where
   pub before : List Property
   pub property : Property
   pub after : List Property
@@ -39,12 +44,25 @@ abbrev pub IsSought : Records → Owner → List Property → ℕ → Search →
 IsSought records owner es key (Found spot) = FoundAt records owner es key spot
 IsSought records owner es key (Absent count) = (count ≡ length es) × (property_of es key ≡ None)
 
--- what was found has the key and can be written, and there are no more than there may be
-pub record IsSpot (key : ℕ) (spot : Spot) : Type 0 where
+-- what was found is linked from its element, has the key and can be written
+pub record IsSpot (owner : Owner) (key : ℕ) (spot : Spot) : Type 0 where
   pub link : IsLink spot.link
+  pub from : IsLinkOf owner spot.link
   pub row : IsRow spot.row.id spot.row
   pub key_is : field 4 spot.row.rec format.property_key ≡ key
 
-abbrev pub IsPlaced : ℕ → Search → Type 0
-IsPlaced key (Found spot) = IsSpot key spot
-IsPlaced key (Absent count) = count ≤ 32
+-- so it is, or there are no more properties than there may be
+abbrev pub IsPlaced : Owner → ℕ → Search → Type 0
+IsPlaced owner key (Found spot) = IsSpot owner key spot
+IsPlaced owner key (Absent count) = count ≤ 32
+
+-- It is the first one with the key that the records lead to.
+pub record MetAt (records : Records) (owner : Owner) (key : ℕ) (spot : Spot) : Type 0 where
+  pub rec_is : spot.row.rec ≡ rec_at records format.properties_file spot.row.id
+  pub is : property_of (properties_met records owner) key
+      ≡ Some (property_at (property_records records) spot.row.id)
+
+-- so it was found, or they lead to none with the key
+abbrev pub IsMet : Records → Owner → ℕ → Search → Type 0
+IsMet records owner key (Found spot) = MetAt records owner key spot
+IsMet records owner key (Absent count) = property_of (properties_met records owner) key ≡ None

@@ -1,5 +1,6 @@
 -- What the record of a property says of its value, as the code has it.
-use Rattle.std.specs.Prelude.{ℕ, ◌≤◌, ◌<◌, nat_eq, nat_le, nat_lt, true, false, ◌&&◌, if◌then◌else◌, Option, None, Some, length}
+use Rattle.std.specs.Prelude.{ℕ, ◌≤◌, ◌<◌, nat_eq, nat_le, nat_lt, true, false, ◌&&◌, if◌then◌else◌}
+use Rattle.std.specs.Prelude.{Option, None, Some, length}
 use Rattle.std.specs.Int.{cast_signed}
 use mir.Syntax.{w64}
 use Rattle.rec_bytes.specs.declared.record.Rec.{Rec}

@@ -1,3 +1,4 @@
+pub mod Alone
 pub mod BlockList
 pub mod BlockRecord
 pub mod BlockWriting
@@ -16,3 +17,4 @@ pub mod PropertyRow
 pub mod Reading
 pub mod SetFault
 pub mod Setting
+pub mod Touching

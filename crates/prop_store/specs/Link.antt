@@ -1,5 +1,5 @@
 -- Places of links to properties.
-use Rattle.std.specs.Prelude.{◌≡◌, ℕ, ◌+◌, ◌≤◌, true, List, [], ◌∷◌}
+use Rattle.std.specs.Prelude.{◌≡◌, ◌⊎◌, ℕ, ◌+◌, ◌≤◌, true, List, [], ◌∷◌}
 use Rattle.rec_bytes.specs.Format as format
 use Rattle.rec_bytes.specs.Key.{IsKey}
 use Rattle.rec_bytes.specs.RecordFiles.{is_meta_file}
@@ -25,3 +25,7 @@ pub record IsLink (link : Link) : Type 0 where
   pub key : IsKey link.key
   pub own : is_meta_file link.key.file ≡ true
   pub place : link.field + 4 ≤ format.record_bytes
+
+-- it stands in the element's record, or in one of a property
+abbrev pub IsLinkOf : Owner → Link → Type 0
+IsLinkOf owner link = (link.key ≡ owner.key) ⊎ (link.key.file ≡ format.properties_file)

@@ -3,7 +3,8 @@ use Rattle.std.specs.Prelude.{◌≡◌, ◌⊎◌, ℕ, List}
 use Rattle.rec_bytes.specs.Format as format
 use Rattle.rec_bytes.specs.Key.{IsKey}
 use Rattle.rec_bytes.specs.Record.{field}
-use Rattle.store_rules.specs.Properties.{AreProperties, Property, blocks_of, ids_of, property_records}
+use Rattle.store_rules.specs.Properties.{AreProperties, Property, blocks_of, ids_of}
+use Rattle.store_rules.specs.Properties.{property_records}
 use Rattle.store_rules.specs.PropertyChange.{property_place}
 use Rattle.store_rules.specs.Views.{Records, high}
 use Rattle.prop_store.specs.BlockList.{AreBelow}

@@ -20,9 +20,15 @@ property_body key (values.Bool truth) first =
     with_field 1 (keyed format.bool key) format.property_truth (if truth then 1 else 0)
 property_body key (values.Text text) first =
     if nat_le (length text) 40
-    then with_text (with_field 2 (keyed format.text_inline key) format.property_length (length text)) format.property_text text
-    else with_field 4 (with_field 2 (keyed format.text_in_blocks key) format.property_length (length text)) format.property_first_block first
+    then with_text
+    (with_field 2 (keyed format.text_inline key) format.property_length (length text))
+    format.property_text text
+    else with_field 4
+    (with_field 2 (keyed format.text_in_blocks key) format.property_length (length text))
+    format.property_first_block first
 
--- the record of a property of this value, whose text begins at this block, and the property after it
+-- the record of a property of this value, whose text begins at this block, and the property after
+-- it
 abbrev pub property_record : ℕ → Value → ℕ → ℕ → Rec
-property_record key value first next = with_field 4 (property_body key value first) format.property_next next
+property_record key value first next =
+    with_field 4 (property_body key value first) format.property_next next

@@ -1,6 +1,7 @@
 -- Why a property is not set.
-use Rattle.std.specs.Prelude.{ℕ, ◌≤◌, Result, IsErrOf}
+use Rattle.std.specs.Prelude.{◌≡◌, ◌⊎◌, ℕ, ◌≤◌, Result, IsErrOf}
 use Rattle.fault_count.specs.Cause.{Rose}
+use Rattle.rec_bytes.specs.Format as format
 use Rattle.rec_bytes.specs.declared.space.SpaceFault.{SpaceFault}
 use Rattle.rec_bytes.specs.declared.space.SpaceFault.TheVariants as spaces
 use Rattle.id_freelist.specs.declared.take_fault.TakeFault.{TakeFault}
@@ -8,7 +9,8 @@ use Rattle.id_freelist.specs.declared.take_fault.TakeFault.TheVariants as takes
 use Rattle.prop_store.specs.declared.fault.Fault.{Fault}
 use Rattle.prop_store.specs.declared.fault.Fault.TheVariants as faults
 use Rattle.prop_store.specs.declared.set_fault.SetFault.{SetFault}
-use Rattle.prop_store.specs.declared.set_fault.SetFault.TheVariants.{Full, Memory, Disk, Damaged}
+use Rattle.prop_store.specs.declared.set_fault.SetFault.TheVariants.{PropsFull, Full, Memory, Disk}
+use Rattle.prop_store.specs.declared.set_fault.SetFault.TheVariants.{Damaged}
 
 -- a fault of a read, and one of a space
 abbrev pub of_fault : Fault → SetFault
@@ -31,3 +33,18 @@ of_take (takes.Damaged damage) = Damaged damage
 pub record HasSetCause {T : Type 0} (before now : ℕ) (result : Result T SetFault) : Type 0 where
   pub later : before ≤ now
   pub disk : IsErrOf result Disk → Rose before now
+
+-- where a file is full, it is this one
+abbrev pub IsFullOf : ℕ → TakeFault → Type 0
+IsFullOf file (takes.Full full live) = full ≡ file
+IsFullOf file takes.Memory = Unit {0}
+IsFullOf file takes.Disk = Unit {0}
+IsFullOf file (takes.Damaged damage) = Unit {0}
+
+-- where a file is full, it is that of properties or that of strings
+abbrev pub IsOwnRoom : SetFault → Type 0
+IsOwnRoom (PropsFull count) = Unit {0}
+IsOwnRoom (Full file live) = (file ≡ format.properties_file) ⊎ (file ≡ format.strings_file)
+IsOwnRoom Memory = Unit {0}
+IsOwnRoom Disk = Unit {0}
+IsOwnRoom (Damaged damage) = Unit {0}

@@ -1,9 +1,11 @@
-ghost use Rattle.std.specs.Prelude.{◌≡◌, ◌*◌, ◌<◌, ◌≤◌, IfErr, IfOk, OnOk, length};
+ghost use Rattle.std.specs.Prelude.{◌≡◌, ◌*◌, ◌<◌, ◌≤◌, [], IfErr, IfOk, OnOk, length};
 ghost use Rattle.rec_bytes.specs.Format.{strings_file};
-ghost use Rattle.store_rules.specs.Writes.{WritesAtMost};
 ghost use Rattle.id_freelist.specs.TakeFault.{HasTakeCause};
 ghost use Rattle.prop_store.specs.BlockWriting.{MayFollow, WritesBlock, numbered_piece};
-ghost use Rattle.prop_store.specs.FileChange.{HasWritten, IsSameBeside, IsWriteFault, KeepsFile, blocks_for};
+ghost use Rattle.prop_store.specs.FileChange.{HasWritten, IsSameBeside, IsWriteFault, KeepsFile};
+ghost use Rattle.prop_store.specs.FileChange.{blocks_for};
+ghost use Rattle.prop_store.specs.Touching.{TouchesProperties};
+ghost use Rattle.prop_store.specs.SetFault.{IsFullOf};
 
 use crate::block_record::block_record;
 use id_freelist::{TakeFault, take};
@@ -16,12 +18,14 @@ pub(crate) fn write_text<S: Space>(space: &mut S, text: &[u8]) -> Result<u32, Ta
     ensures written { S.tells → IfOk result (λ first. KeepsFile (S.state space.old) strings_file
         → HasWritten (S.state space.old) (S.state space.new) text.now first) }
     ensures refused { S.tells → KeepsFile (S.state space.old) strings_file
-        → IfErr result (IsWriteFault (S.state space.old) strings_file (blocks_for (length text.now))) }
+        → IfErr result
+        (IsWriteFault (S.state space.old) strings_file (blocks_for (length text.now))) }
     ensures beside { S.tells → OnOk result (IsSameBeside strings_file
         (S.state space.old).records (S.state space.new).records) }
     ensures shape { S.tells → (S.state space.new).shape ≡ (S.state space.old).shape }
-    ensures writes { OnOk result (WritesAtMost (blocks_for (length text.now))
-        (S.state space.old) (S.state space.new)) }
+    ensures touches { TouchesProperties S.tells [] 0 (blocks_for (length text.now))
+        (S.state space.old) (S.state space.new) }
+    ensures full { S.tells → IfErr result (IsFullOf strings_file) }
     ensures onward { S.onward space.old space.new }
     ensures cause { HasTakeCause (S.faults space.old) (S.faults space.new) result }
 {
@@ -59,7 +63,9 @@ fn write_block<S: Space>(space: &mut S, piece: &[u8], next: u32) -> Result<u32, 
     ensures beside { S.tells → OnOk result (IsSameBeside strings_file
         (S.state space.old).records (S.state space.new).records) }
     ensures shape { S.tells → (S.state space.new).shape ≡ (S.state space.old).shape }
-    ensures writes { OnOk result (WritesAtMost 1 (S.state space.old) (S.state space.new)) }
+    ensures touches { TouchesProperties S.tells [] 0 1
+        (S.state space.old) (S.state space.new) }
+    ensures full { S.tells → IfErr result (IsFullOf strings_file) }
     ensures onward { S.onward space.old space.new }
     ensures cause { HasTakeCause (S.faults space.old) (S.faults space.new) result }
 {

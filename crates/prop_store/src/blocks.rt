@@ -1,11 +1,13 @@
 //! The blocks of a long text, followed from the first one on.
 
-ghost use Rattle.std.specs.Prelude.{◌≡◌, ◌↔◌, ◌≤◌, ◌<◌, ◌+◌, ◌/◌, ℕ, List, IfErr, IfOk, IsTrue, OnOk, length, min};
+ghost use Rattle.std.specs.Prelude.{◌≡◌, ◌↔◌, ◌≤◌, ◌<◌, ◌+◌, ◌/◌, ℕ, List, IfOk, IsTrue, IfErr};
+ghost use Rattle.std.specs.Prelude.{OnOk, length, min};
 ghost use Rattle.rec_bytes.specs.Format.{most_ids, strings_file};
 ghost use Rattle.rec_bytes.specs.Space.{after_get};
+ghost use Rattle.store_rules.specs.Properties.{long_text_from};
 ghost use Rattle.store_rules.specs.Views.{rec_at};
 ghost use Rattle.prop_store.specs.Blocks.{HasBlockForm, HasText};
-ghost use Rattle.prop_store.specs.Fault.{HasFaultCause, NotDamaged};
+ghost use Rattle.prop_store.specs.Fault.{HasFaultCause, IsOwnDamage, NotDamaged};
 ghost use Rattle.prop_store.specs.GivenOut.{AreGivenOut, IsGivenOut};
 ghost use Rattle.prop_store.specs.Reading.{ReadsAtMost};
 
@@ -25,6 +27,7 @@ pub(crate) fn block_ids<R: Reads>(space: &mut R, first: u32, size: u16) -> Resul
     ensures followed { R.tells → (text blocks : List ℕ)
         → HasText (rec_at (R.state space.old).records strings_file) first size text blocks
         → IfOk result (λ ids. ids ≡ blocks) }
+    ensures damaged { IfErr result IsOwnDamage }
     ensures sound { R.tells → (text blocks : List ℕ)
         → HasText (rec_at (R.state space.old).records strings_file) first size text blocks
         → AreGivenOut (R.state space.old).records strings_file blocks → NotDamaged result }
@@ -56,9 +59,8 @@ pub(crate) fn read_text<R: Reads>(
     size: u16,
 ) -> Result<Vec<u8>, Fault>
     requires { size ≤ 1024 }
-    ensures read { R.tells → (text blocks : List ℕ)
-        → HasText (rec_at (R.state space.old).records strings_file) first size text blocks
-        → IfOk result (λ bytes. bytes.items ≡ text) }
+    ensures met { R.tells → IfOk result (λ bytes. bytes.items
+        ≡ long_text_from (rec_at (R.state space.old).records strings_file) size first) }
     ensures size { IfOk result (λ bytes. length bytes.items ≡ size) }
     ensures sound { R.tells → (text blocks : List ℕ)
         → HasText (rec_at (R.state space.old).records strings_file) first size text blocks
@@ -99,9 +101,11 @@ fn read_block<R: Reads>(space: &mut R, id: u32, size: u8) -> Result<Rec, Fault>
     ensures got { R.tells
         → IfOk result (λ rec. rec ≡ rec_at (R.state space.old).records strings_file id) }
     ensures small { OnOk result (id < most_ids) }
+    ensures form { IfOk result (λ rec. HasBlockForm rec size) }
     ensures sound { R.tells → IsGivenOut (R.state space.old).records strings_file id
         → HasBlockForm (rec_at (R.state space.old).records strings_file id) size
         → NotDamaged result }
+    ensures damaged { IfErr result IsOwnDamage }
     ensures state { OnOk result (R.state space.new ≡ after_get (R.state space.old)) }
     ensures at_most { ReadsAtMost 1 (R.state space.old) (R.state space.new) }
     ensures onward { R.onward space.old space.new }

@@ -1,25 +1,14 @@
-//! Changes of the properties of one element. All that a refusal rests on is tested before the first
-//! write, but for room that a released text makes.
+//! Properties of one element that are taken away, with the blocks of their values.
 
-ghost use Rattle.std.specs.Prelude.{◌≡◌, ◌+◌, ◌<◌, ◌≤◌, None, IfErr, IfOk};
-ghost use Rattle.std.specs.FinMap as maps;
-ghost use Rattle.plain_graph.specs.Forms.{IsKept};
-ghost use Rattle.plain_graph.specs.Properties.{blocks_of};
+ghost use Rattle.std.specs.Prelude.{◌≡◌, ◌+◌, ◌<◌, ◌≤◌, List, None, IfOk, [], ◌∷◌, IfErr};
+ghost use Rattle.store_rules.specs.Properties.{Property};
 ghost use Rattle.store_rules.specs.Writes.{WritesAtMost, WritesBeside};
-ghost use Rattle.prop_store.specs.Changing.{
-  DropsAll,
-  HasElement,
-  HasKey,
-  IsSetRefusal,
-  SetsValue,
-  UnsetsValue,
-  properties_of,
-  released_blocks,
-  text_at,
-};
-ghost use Rattle.prop_store.specs.Fault.{HasFaultCause, NotDamaged};
+ghost use Rattle.prop_store.specs.Alone.{DropsAllAlone, OwnsProperties, UnsetsAlone};
+ghost use Rattle.prop_store.specs.Changing.{DropsAll, HasElement, HasKey, UnsetsValue};
+ghost use Rattle.prop_store.specs.Changing.{released_blocks};
+ghost use Rattle.prop_store.specs.Fault.{HasFaultCause, NotDamaged, IsOwnDamage};
 ghost use Rattle.prop_store.specs.Owner.{IsOwner};
-ghost use Rattle.prop_store.specs.SetFault.{HasSetCause};
+ghost use Rattle.prop_store.specs.Touching.{TouchesProperties};
 
 use crate::dropping::{drop_chain, drop_property};
 use crate::finding::{Search, find};
@@ -41,10 +30,19 @@ pub fn unset<S: Space>(space: &mut S, owner: Owner, key: u32) -> Result<Option<u
     ensures unset { S.tells → IfOk result (λ released. HasKey (S.state space.old) owner key
         → UnsetsValue (S.state space.old) (S.state space.new) owner key released) }
     ensures sound { S.tells → HasKey (S.state space.old) owner key → NotDamaged result }
+    ensures alone { S.tells → (es : List Property) → OwnsProperties (S.state space.old) owner es
+        → IfOk result (UnsetsAlone (S.state space.old) (S.state space.new) owner es key) }
+    ensures alone_sound { S.tells → (es : List Property)
+        → OwnsProperties (S.state space.old) owner es → NotDamaged result }
     ensures few { IfOk result (λ released. released_blocks released ≤ 22) }
     ensures shape { S.tells → (S.state space.new).shape ≡ (S.state space.old).shape }
     ensures writes { IfOk result (λ released. WritesAtMost (2 + released_blocks released)
         (S.state space.old) (S.state space.new)) }
+    ensures touches { IfOk result (λ released. TouchesProperties S.tells (owner.key ∷ [])
+        2 (released_blocks released) (S.state space.old) (S.state space.new)) }
+    ensures at_most { TouchesProperties S.tells (owner.key ∷ []) 2 22
+        (S.state space.old) (S.state space.new) }
+    ensures few_writes { WritesAtMost 24 (S.state space.old) (S.state space.new) }
     ensures onward { S.onward space.old space.new }
     ensures cause { HasFaultCause (S.faults space.old) (S.faults space.new) result }
 {
@@ -65,11 +63,21 @@ pub fn drop_all<S: Space>(space: &mut S, owner: Owner) -> Result<Dropped, Fault>
     ensures dropped { S.tells → IfOk result (λ dropped. HasElement (S.state space.old) owner
         → DropsAll (S.state space.old) (S.state space.new) owner dropped) }
     ensures sound { S.tells → HasElement (S.state space.old) owner → NotDamaged result }
+    ensures alone { S.tells → (es : List Property) → OwnsProperties (S.state space.old) owner es
+        → IfOk result (DropsAllAlone (S.state space.old) (S.state space.new) owner es) }
+    ensures alone_sound { S.tells → (es : List Property)
+        → OwnsProperties (S.state space.old) owner es → NotDamaged result }
     ensures few_properties { IfOk result (λ dropped. dropped.properties ≤ 32) }
     ensures few_blocks { IfOk result (λ dropped. dropped.blocks ≤ 704) }
     ensures shape { S.tells → (S.state space.new).shape ≡ (S.state space.old).shape }
-    ensures writes { IfOk result (λ dropped. WritesBeside owner.key (dropped.properties + dropped.blocks)
+    ensures writes { IfOk result (λ dropped.
+        WritesBeside owner.key (dropped.properties + dropped.blocks)
         (S.state space.old) (S.state space.new)) }
+    ensures touches { IfOk result (λ dropped. TouchesProperties S.tells (owner.key ∷ [])
+        dropped.properties dropped.blocks (S.state space.old) (S.state space.new)) }
+    ensures at_most { TouchesProperties S.tells (owner.key ∷ []) 32 704
+        (S.state space.old) (S.state space.new) }
+    ensures damaged { IfErr result IsOwnDamage }
     ensures onward { S.onward space.old space.new }
     ensures cause { HasFaultCause (S.faults space.old) (S.faults space.new) result }
 {

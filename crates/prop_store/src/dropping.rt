@@ -1,11 +1,11 @@
 //! Properties given back with their blocks.
 
-ghost use Rattle.std.specs.Prelude.{◌≡◌, ◌+◌, ◌≤◌, ℕ, List, IfOk};
+ghost use Rattle.std.specs.Prelude.{◌≡◌, ◌≤◌, List, [], IfOk, ◌+◌, IfErr};
 ghost use Rattle.store_rules.specs.Properties.{Property};
-ghost use Rattle.store_rules.specs.Writes.{WritesAtMost};
 ghost use Rattle.prop_store.specs.Dropping.{AreHeld, DropsProperties, DropsProperty, IsHeld};
-ghost use Rattle.prop_store.specs.Fault.{HasFaultCause, NotDamaged};
+ghost use Rattle.prop_store.specs.Fault.{HasFaultCause, IsOwnDamage, NotDamaged};
 ghost use Rattle.prop_store.specs.PropertyRow.{IsRow};
+ghost use Rattle.prop_store.specs.Touching.{TouchesProperties};
 
 use crate::Fault;
 use crate::changing::Dropped;
@@ -27,8 +27,10 @@ pub(crate) fn drop_property<S: Space>(space: &mut S, row: &PropertyRow) -> Resul
         → NotDamaged result }
     ensures few { IfOk result (λ released. released ≤ 22) }
     ensures shape { S.tells → (S.state space.new).shape ≡ (S.state space.old).shape }
-    ensures writes { IfOk result (λ released. WritesAtMost (1 + released)
+    ensures touches { IfOk result (λ released. TouchesProperties S.tells [] 1 released
         (S.state space.old) (S.state space.new)) }
+    ensures at_most { TouchesProperties S.tells [] 1 22 (S.state space.old) (S.state space.new) }
+    ensures damaged { IfErr result IsOwnDamage }
     ensures onward { S.onward space.old space.new }
     ensures cause { HasFaultCause (S.faults space.old) (S.faults space.new) result }
 {
@@ -48,8 +50,10 @@ pub(crate) fn drop_chain<S: Space>(space: &mut S, first: u32) -> Result<Dropped,
     ensures few_properties { IfOk result (λ dropped. dropped.properties ≤ 32) }
     ensures few_blocks { IfOk result (λ dropped. dropped.blocks ≤ 704) }
     ensures shape { S.tells → (S.state space.new).shape ≡ (S.state space.old).shape }
-    ensures writes { IfOk result (λ dropped. WritesAtMost (dropped.properties + dropped.blocks)
-        (S.state space.old) (S.state space.new)) }
+    ensures touches { IfOk result (λ dropped. TouchesProperties S.tells []
+        dropped.properties dropped.blocks (S.state space.old) (S.state space.new)) }
+    ensures at_most { TouchesProperties S.tells [] 32 704 (S.state space.old) (S.state space.new) }
+    ensures damaged { IfErr result IsOwnDamage }
     ensures onward { S.onward space.old space.new }
     ensures cause { HasFaultCause (S.faults space.old) (S.faults space.new) result }
 {

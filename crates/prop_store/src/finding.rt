@@ -1,7 +1,7 @@
-ghost use Rattle.std.specs.Prelude.{◌≡◌, ◌+◌, ℕ, List, IfOk, OnOk, length};
+ghost use Rattle.std.specs.Prelude.{◌+◌, List, IfOk, OnOk, length};
 ghost use Rattle.store_rules.specs.Properties.{AreProperties, Property, property_records};
 ghost use Rattle.prop_store.specs.Fault.{HasFaultCause, NotDamaged};
-ghost use Rattle.prop_store.specs.Finding.{IsPlaced, IsSought};
+ghost use Rattle.prop_store.specs.Finding.{IsMet, IsPlaced, IsSought};
 ghost use Rattle.prop_store.specs.Owner.{HasProperties, IsOwner, first_of};
 ghost use Rattle.prop_store.specs.Reading.{ReadsAtMost};
 
@@ -35,9 +35,10 @@ pub(crate) fn find<R: Reads>(space: &mut R, owner: Owner, key: u32) -> Result<Se
         → AreProperties (property_records (R.state space.old).records)
         (first_of (R.state space.old).records owner) es
         → IfOk result (IsSought (R.state space.old).records owner es key) }
+    ensures met { R.tells → IfOk result (IsMet (R.state space.old).records owner key) }
     ensures sound { R.tells → (es : List Property)
         → HasProperties (R.state space.old).records owner es → NotDamaged result }
-    ensures placed { IfOk result (IsPlaced key) }
+    ensures placed { IfOk result (IsPlaced owner key) }
     ensures cost { R.tells → (es : List Property)
         → AreProperties (property_records (R.state space.old).records)
         (first_of (R.state space.old).records owner) es

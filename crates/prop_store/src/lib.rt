@@ -1,6 +1,7 @@
 //! Properties of nodes and relationships, in chains of records; a long text stands in a chain of
 //! blocks. A read costs at most 33 records of the chain and the blocks of what it answers, and a
-//! change what it finds, gives back and writes. Only a read takes memory of its own, for its values.
+//! change what it finds, gives back and writes. Only a read takes memory of its own, for its
+//! values.
 #![tactic(auto)]
 
 mod block_list;

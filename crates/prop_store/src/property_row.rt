@@ -1,8 +1,8 @@
-ghost use Rattle.std.specs.Prelude.{◌≡◌, IfOk, OnOk};
+ghost use Rattle.std.specs.Prelude.{◌≡◌, IfErr, IfOk, OnOk};
 ghost use Rattle.rec_bytes.specs.Format.{properties_file};
 ghost use Rattle.rec_bytes.specs.Space.{after_get};
 ghost use Rattle.store_rules.specs.Views.{rec_at};
-ghost use Rattle.prop_store.specs.Fault.{HasFaultCause, NotDamaged};
+ghost use Rattle.prop_store.specs.Fault.{HasFaultCause, IsOwnDamage, NotDamaged};
 ghost use Rattle.prop_store.specs.GivenOut.{IsGivenOut};
 ghost use Rattle.prop_store.specs.PropertyRow.{HasContent, IsRow};
 ghost use Rattle.prop_store.specs.Reading.{ReadsAtMost};
@@ -33,6 +33,7 @@ pub(crate) fn property_at<R: Reads>(space: &mut R, id: u32) -> Result<PropertyRo
     ensures sound { R.tells → IsGivenOut (R.state space.old).records properties_file id
         → HasContent (rec_at (R.state space.old).records properties_file id)
         → NotDamaged result }
+    ensures damaged { IfErr result IsOwnDamage }
     ensures state { OnOk result (R.state space.new ≡ after_get (R.state space.old)) }
     ensures at_most { ReadsAtMost 1 (R.state space.old) (R.state space.new) }
     ensures onward { R.onward space.old space.new }

@@ -1,11 +1,11 @@
-ghost use Rattle.std.specs.Prelude.{◌≡◌, ◌+◌, ◌≤◌, ℕ, List, All, IfOk, IfSome, length, map};
+ghost use Rattle.std.specs.Prelude.{◌≡◌, ◌+◌, ◌≤◌, List, All, IfOk, IfSome, length, map};
 ghost use Rattle.plain_graph.specs.Forms.{IsKept};
 ghost use Rattle.plain_graph.specs.Properties.{blocks_if};
 ghost use Rattle.store_rules.specs.Properties.{AreProperties, Property, property_records};
 ghost use Rattle.prop_store.specs.Fault.{HasFaultCause, NotDamaged};
 ghost use Rattle.prop_store.specs.Finding.{value_of};
 ghost use Rattle.prop_store.specs.Owner.{HasProperties, IsOwner, first_of};
-ghost use Rattle.prop_store.specs.Reading.{ReadsAtMost, block_total, prop_of};
+ghost use Rattle.prop_store.specs.Reading.{ReadsAtMost, block_total, prop_of, properties_met};
 
 use crate::fault::LIST_RULE;
 use crate::finding::{MOST_PROPERTIES, Search, find};
@@ -28,6 +28,8 @@ pub fn read_key<R: Reads>(
         → AreProperties (property_records (R.state space.old).records)
         (first_of (R.state space.old).records owner) es
         → IfOk result (λ value. value ≡ value_of es key) }
+    ensures met { R.tells → IfOk result
+        (λ value. value ≡ value_of (properties_met (R.state space.old).records owner) key) }
     ensures sound { R.tells → (es : List Property)
         → HasProperties (R.state space.old).records owner es → NotDamaged result }
     ensures kept { IfOk result (λ value. IfSome value IsKept) }
@@ -58,6 +60,8 @@ pub fn read_all<R: Reads>(alloc: Global, space: &mut R, owner: Owner) -> Result<
         → AreProperties (property_records (R.state space.old).records)
         (first_of (R.state space.old).records owner) es
         → IfOk result (λ props. props.items ≡ map prop_of es) }
+    ensures met { R.tells → IfOk result
+        (λ props. props.items ≡ map prop_of (properties_met (R.state space.old).records owner)) }
     ensures sound { R.tells → (es : List Property)
         → HasProperties (R.state space.old).records owner es → NotDamaged result }
     ensures kept { IfOk result (λ props. All (λ prop. IsKept prop.value) props.items) }

@@ -1,12 +1,13 @@
-ghost use Rattle.std.specs.Prelude.{◌≡◌, ◌∷◌, ℕ, List, [], OnOk, length, map};
+ghost use Rattle.std.specs.Prelude.{◌≡◌, ◌∷◌, [], OnOk, length, map};
 ghost use Rattle.rec_bytes.specs.Format.{strings_file};
 ghost use Rattle.rec_bytes.specs.RecordFiles.{meta_key_of};
-ghost use Rattle.rec_bytes.specs.Space.{HasCause, WritesOnly};
+ghost use Rattle.rec_bytes.specs.Space.{HasCause};
 ghost use Rattle.store_rules.specs.Properties.{AreOnce};
 ghost use Rattle.store_rules.specs.PropertyChange.{ChangesFile};
 ghost use Rattle.store_rules.specs.Views.{key_in};
 ghost use Rattle.prop_store.specs.BlockList.{AreSmall};
 ghost use Rattle.prop_store.specs.FileChange.{HasFewer, IsSameBeside};
+ghost use Rattle.prop_store.specs.Touching.{TouchesOnly};
 
 use id_freelist::give;
 use rec_bytes::{STRINGS, Space, SpaceFault};
@@ -23,7 +24,7 @@ pub(crate) fn release<S: Space>(space: &mut S, blocks: &[u32]) -> Result<(), Spa
     ensures beside { S.tells → OnOk result (IsSameBeside strings_file
         (S.state space.old).records (S.state space.new).records) }
     ensures shape { S.tells → (S.state space.new).shape ≡ (S.state space.old).shape }
-    ensures writes { WritesOnly (S.state space.old) (S.state space.new)
+    ensures touches { TouchesOnly S.tells (S.state space.old) (S.state space.new)
         (meta_key_of strings_file ∷ map (key_in strings_file) blocks.now) }
     ensures onward { S.onward space.old space.new }
     ensures cause { HasCause (S.faults space.old) (S.faults space.new) result }

@@ -1,18 +1,29 @@
 //! Values that are given to the keys of one element.
 
-ghost use Rattle.std.specs.Prelude.{◌≡◌, ◌≢◌, ◌+◌, ◌<◌, ◌≤◌, ◌^◌, [], ◌∷◌, None, IfErr, IfOk, OnOk, length};
+ghost use Rattle.std.specs.Prelude.{◌≡◌, ◌≢◌, ◌+◌, ◌<◌, ◌≤◌, List, [], ◌∷◌, None, IfErr, IfOk};
+ghost use Rattle.std.specs.Prelude.{length};
 ghost use Rattle.std.specs.FinMap as maps;
 ghost use Rattle.plain_graph.specs.Forms.{IsKept};
 ghost use Rattle.plain_graph.specs.Properties.{blocks_of};
 ghost use Rattle.store_rules.specs.Writes.{WritesAtMost, WritesBeside};
-ghost use Rattle.prop_store.specs.Changing.{HasKey, IsSetRefusal, SetsValue, properties_of, text_at};
+ghost use Rattle.prop_store.specs.Alone.{
+  IsKnownKey,
+  IsSetRefusalAlone,
+  LacksKey,
+  OwnsProperties,
+  SetsAlone,
+};
+ghost use Rattle.prop_store.specs.Changing.{HasKey, IsSetRefusal, SetsValue, properties_of};
+ghost use Rattle.prop_store.specs.Changing.{text_at};
 ghost use Rattle.prop_store.specs.Dropping.{IsHeld};
 ghost use Rattle.prop_store.specs.FileChange.{KeepsFile};
 ghost use Rattle.prop_store.specs.Owner.{IsOwner};
 ghost use Rattle.prop_store.specs.PropertyRow.{IsRow};
-ghost use Rattle.prop_store.specs.SetFault.{HasSetCause};
+ghost use Rattle.prop_store.specs.SetFault.{HasSetCause, IsOwnRoom};
 ghost use Rattle.prop_store.specs.Setting.{IsPutFault, MayLead, PutsProperty};
-ghost use Rattle.rec_bytes.specs.Format.{properties_file, property_key, property_next, strings_file};
+ghost use Rattle.prop_store.specs.Touching.{TouchesProperties};
+ghost use Rattle.rec_bytes.specs.Format.{properties_file, property_key, property_next};
+ghost use Rattle.rec_bytes.specs.Format.{strings_file};
 ghost use Rattle.rec_bytes.specs.Record.{field};
 ghost use Rattle.rec_bytes.specs.RecordFiles.{room_of};
 ghost use Rattle.rec_bytes.specs.Space.{meta_of};
@@ -32,22 +43,35 @@ use rec_bytes::{
     set_number,
 };
 
-/// Puts a property in front of those of an element that hasn't the key. The key is the number of its
-/// name.
+/// Puts a property in front of those of an element that hasn't the key. The key is the number of
+/// its name.
 pub fn add<S: Space>(space: &mut S, owner: Owner, key: u32, value: &Value) -> Result<(), SetFault>
     requires owner { IsOwner owner }
     requires kept { IsKept value.now }
     ensures added { S.tells → IfOk result (λ _. HasKey (S.state space.old) owner key
-        → maps.get (properties_of (S.state space.old) owner) (text_at (S.state space.old) key) ≡ None
+        → maps.get (properties_of (S.state space.old) owner) (text_at (S.state space.old) key)
+        ≡ None
         → maps.len (properties_of (S.state space.old) owner) < 32
         → SetsValue (S.state space.old) (S.state space.new) owner key value.now 0) }
     ensures refused { S.tells → HasKey (S.state space.old) owner key
-        → maps.get (properties_of (S.state space.old) owner) (text_at (S.state space.old) key) ≡ None
+        → maps.get (properties_of (S.state space.old) owner) (text_at (S.state space.old) key)
+        ≡ None
         → maps.len (properties_of (S.state space.old) owner) < 32
         → IfErr result (IsSetRefusal (S.state space.old) owner key value.now) }
+    ensures alone { S.tells → (es : List Property) → OwnsProperties (S.state space.old) owner es
+        → IsKnownKey (S.state space.old) key → LacksKey es key → length es < 32
+        → IfOk result (λ _. SetsAlone (S.state space.old) (S.state space.new) owner es key
+        value.now 0) }
+    ensures alone_refused { S.tells → (es : List Property)
+        → OwnsProperties (S.state space.old) owner es → IsKnownKey (S.state space.old) key
+        → LacksKey es key → length es < 32
+        → IfErr result (IsSetRefusalAlone (S.state space.old) es key value.now) }
     ensures shape { S.tells → (S.state space.new).shape ≡ (S.state space.old).shape }
     ensures writes { IfOk result (λ _. WritesBeside owner.key (1 + blocks_of value.now)
         (S.state space.old) (S.state space.new)) }
+    ensures touches { TouchesProperties S.tells (owner.key ∷ []) 1 (blocks_of value.now)
+        (S.state space.old) (S.state space.new) }
+    ensures full { S.tells → IfErr result IsOwnRoom }
     ensures onward { S.onward space.old space.new }
     ensures cause { HasSetCause (S.faults space.old) (S.faults space.new) result }
 {
@@ -73,10 +97,21 @@ pub fn set<S: Space>(space: &mut S, owner: Owner, key: u32, value: &Value) -> Re
         → SetsValue (S.state space.old) (S.state space.new) owner key value.now released) }
     ensures refused { S.tells → HasKey (S.state space.old) owner key
         → IfErr result (IsSetRefusal (S.state space.old) owner key value.now) }
+    ensures alone { S.tells → (es : List Property) → OwnsProperties (S.state space.old) owner es
+        → IsKnownKey (S.state space.old) key → IfOk result (SetsAlone (S.state space.old)
+        (S.state space.new) owner es key value.now) }
+    ensures alone_refused { S.tells → (es : List Property)
+        → OwnsProperties (S.state space.old) owner es → IsKnownKey (S.state space.old) key
+        → IfErr result (IsSetRefusalAlone (S.state space.old) es key value.now) }
     ensures few { IfOk result (λ released. released ≤ 22) }
     ensures shape { S.tells → (S.state space.new).shape ≡ (S.state space.old).shape }
     ensures writes { IfOk result (λ released. WritesAtMost (2 + blocks_of value.now + released)
         (S.state space.old) (S.state space.new)) }
+    ensures touches { IfOk result (λ released. TouchesProperties S.tells (owner.key ∷ [])
+        1 (blocks_of value.now + released) (S.state space.old) (S.state space.new)) }
+    ensures at_most { TouchesProperties S.tells (owner.key ∷ []) 1 (22 + blocks_of value.now)
+        (S.state space.old) (S.state space.new) }
+    ensures full { S.tells → IfErr result IsOwnRoom }
     ensures onward { S.onward space.old space.new }
     ensures cause { HasSetCause (S.faults space.old) (S.faults space.new) result }
 {
@@ -124,8 +159,9 @@ fn put_new<S: Space>(space: &mut S, key: u32, value: &Value, next: u32) -> Resul
         ≢ room_of (S.state space.old).shape properties_file
         → IfErr result (IsPutFault (S.state space.old) 0 (blocks_of value.now)) }
     ensures shape { S.tells → (S.state space.new).shape ≡ (S.state space.old).shape }
-    ensures writes { IfOk result (λ _. WritesAtMost (1 + blocks_of value.now)
-        (S.state space.old) (S.state space.new)) }
+    ensures touches { TouchesProperties S.tells [] 1 (blocks_of value.now)
+        (S.state space.old) (S.state space.new) }
+    ensures full { S.tells → IfErr result IsOwnRoom }
     ensures onward { S.onward space.old space.new }
     ensures cause { HasSetCause (S.faults space.old) (S.faults space.new) result }
 {
@@ -154,8 +190,11 @@ fn put_again<S: Space>(space: &mut S, row: &PropertyRow, value: &Value) -> Resul
     ensures refused { S.tells → (e : Property) → IsHeld (S.state space.old) row.now e
         → IfErr result (IsPutFault (S.state space.old) (length e.blocks) (blocks_of value.now)) }
     ensures shape { S.tells → (S.state space.new).shape ≡ (S.state space.old).shape }
-    ensures writes { IfOk result (λ released. WritesAtMost (1 + blocks_of value.now + released)
-        (S.state space.old) (S.state space.new)) }
+    ensures touches { IfOk result (λ released. TouchesProperties S.tells []
+        1 (blocks_of value.now + released) (S.state space.old) (S.state space.new)) }
+    ensures at_most { TouchesProperties S.tells [] 1 (22 + blocks_of value.now)
+        (S.state space.old) (S.state space.new) }
+    ensures full { S.tells → IfErr result IsOwnRoom }
     ensures onward { S.onward space.old space.new }
     ensures cause { HasSetCause (S.faults space.old) (S.faults space.new) result }
 {

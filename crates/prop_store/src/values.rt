@@ -1,12 +1,13 @@
 //! The value of a property, and its blocks.
 
-ghost use Rattle.std.specs.Prelude.{◌≡◌, ℕ, List, IfOk};
+ghost use Rattle.std.specs.Prelude.{◌≡◌, ℕ, List, IfErr, IfOk};
 ghost use Rattle.plain_graph.specs.Forms.{IsKept};
 ghost use Rattle.plain_graph.specs.Properties.{blocks_of};
 ghost use Rattle.plain_graph.specs.declared.value.Value.{Value as StoredValue};
 ghost use Rattle.rec_bytes.specs.Format.{strings_file};
+ghost use Rattle.store_rules.specs.Properties.{content_of, value_from};
 ghost use Rattle.store_rules.specs.Views.{rec_at};
-ghost use Rattle.prop_store.specs.Fault.{HasFaultCause, NotDamaged};
+ghost use Rattle.prop_store.specs.Fault.{HasFaultCause, IsOwnDamage, NotDamaged};
 ghost use Rattle.prop_store.specs.GivenOut.{AreGivenOut};
 ghost use Rattle.prop_store.specs.PropertyRow.{HasValue, IsRow};
 ghost use Rattle.prop_store.specs.Reading.{ReadsAtMost};
@@ -27,9 +28,8 @@ pub(crate) fn read_value<R: Reads>(
     row: &PropertyRow,
 ) -> Result<Value, Fault>
     requires { IsRow row.now.id row.now }
-    ensures read { R.tells → (value : StoredValue) (blocks : List ℕ)
-        → HasValue (rec_at (R.state space.old).records strings_file) row.now.rec value blocks
-        → IfOk result (λ read. read ≡ value) }
+    ensures met { R.tells → IfOk result (λ value. value
+        ≡ value_from (rec_at (R.state space.old).records strings_file) (content_of row.now.rec)) }
     ensures sound { R.tells → (value : StoredValue) (blocks : List ℕ)
         → HasValue (rec_at (R.state space.old).records strings_file) row.now.rec value blocks
         → AreGivenOut (R.state space.old).records strings_file blocks → NotDamaged result }
@@ -63,6 +63,7 @@ pub(crate) fn value_blocks<R: Reads>(space: &mut R, row: &PropertyRow) -> Result
     ensures sound { R.tells → (value : StoredValue) (blocks : List ℕ)
         → HasValue (rec_at (R.state space.old).records strings_file) row.now.rec value blocks
         → AreGivenOut (R.state space.old).records strings_file blocks → NotDamaged result }
+    ensures damaged { IfErr result IsOwnDamage }
     ensures at_most { ReadsAtMost 22 (R.state space.old) (R.state space.new) }
     ensures onward { R.onward space.old space.new }
     ensures cause { HasFaultCause (R.faults space.old) (R.faults space.new) result }

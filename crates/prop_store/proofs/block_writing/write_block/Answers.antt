@@ -1,8 +1,9 @@
-use Rattle.std.proofs.Common.{◌∙◌, ap}
+use Rattle.std.proofs.Common.{[], arith, ◌∙◌, ap}
 use Rattle.std.proofs.lemmas.Result.{err_from_is_err_and}
 use Rattle.rec_bytes.specs.Format.{strings_file}
 use Rattle.rec_bytes.specs.Space.{State}
-use Rattle.prop_store.proofs.BlockSteps.{beside_put, block_written, cannot_take, shape-taken, shape_put, writes_block}
+use Rattle.prop_store.proofs.BlockSteps.{beside_put, block_written, cannot_take, shape-taken, shape_put}
+use Rattle.prop_store.proofs.Touches.{touches_block, touches_block_taken, touches_more, touches_same, touches_then}
 use Rattle.prop_store.proofs.block_writing.write_block.Goals as goal
 
 pub returns-in_err-id-clause-refused : goal.returns-in_err-id-clause-refused
@@ -26,5 +27,15 @@ returns-clause-beside g c tells = beside_put (g.S.Reads.state c.args.space.now) 
 pub returns-clause-shape : goal.returns-clause-shape
 returns-clause-shape g c tells = shape_put (g.S.Reads.state c.args.space.now) (g.S.Reads.state c.take.new.space) (g.S.Reads.state c.put.new.self) strings_file c.in_ok-id.id c.block_record.result (c.in_ok-id.ensures.ok tells) c.in_ok-put.ensures.ok
 
-pub returns-clause-writes : goal.returns-clause-writes
-returns-clause-writes g c = writes_block _ (g.S.Reads.state c.take.new.space) _ c.in_ok-id.id c.block_record.result c.in_ok-id.ensures.writes c.in_ok-put.ensures.ok
+pub returns-in_err-id-clause-touches : goal.returns-in_err-id-clause-touches
+returns-in_err-id-clause-touches g c = touches_more [] 0 0 0 1 _ _ (omega arith) (omega arith) (touches_block_taken _ _ (record { writes = c.take.ensures.writes; stays = c.take.ensures.stays }))
+
+pub returns-in_err-put-clause-touches : goal.returns-in_err-put-clause-touches
+returns-in_err-put-clause-touches g c =
+    let took = touches_block_taken (g.S.Reads.state c.args.space.now) (g.S.Reads.state c.take.new.space) (record { writes = c.take.ensures.writes; stays = c.take.ensures.stays }) in
+    touches_same [] 0 0 0 1 _ _ _ (omega arith) (omega arith) c.in_err-put.ensures.err took
+
+pub returns-clause-touches : goal.returns-clause-touches
+returns-clause-touches g c =
+    let took = touches_block_taken (g.S.Reads.state c.args.space.now) (g.S.Reads.state c.take.new.space) (record { writes = c.take.ensures.writes; stays = c.take.ensures.stays }) in
+    touches_then [] 0 0 0 1 0 1 _ _ _ (omega arith) (omega arith) took (touches_block (g.S.Reads.state c.take.new.space) (g.S.Reads.state c.put.new.self) c.in_ok-id.id c.block_record.result c.in_ok-put.ensures.ok)

@@ -1,11 +1,11 @@
-use Rattle.std.proofs.Common.{◌<◌, ◌-◌, ◌*◌, ◌∙◌, length, drop, ap, arith, rules, length-drop}
+use Rattle.std.proofs.Common.{◌<◌, ◌-◌, ◌*◌, ◌∙◌, [], length, drop, ap, arith, refl, rules, length-drop}
 use Rattle.std.proofs.lemmas.Result.{err_from_is_err_and}
 use Rattle.std.proofs.lemmas.List.{drop_all}
 use Rattle.rec_bytes.specs.Format.{strings_file}
 use Rattle.prop_store.specs.FileChange.{blocks_for}
 use Rattle.prop_store.proofs.BlockSteps.{blocks_are, drop-piece, keeps_now, length-numbered_piece, may_follow, no_room, nothing_stands, one_written}
 use Rattle.prop_store.proofs.FileSteps.{beside_none, beside_then}
-use Rattle.prop_store.proofs.WriteCounts.{at_most_none, at_most_then}
+use Rattle.prop_store.proofs.Touches.{touches_more, touches_reads, touches_then}
 use Rattle.prop_store.proofs.block_writing.write_text.Goals as goal
 
 pub loop-left-init : goal.loop-left-init
@@ -18,7 +18,7 @@ loop-left-init g c =
       few = omega arith;
       beside = λ tells. beside_none strings_file old.records;
       shape = search rules;
-      writes = at_most_none _ old;
+      touches = touches_reads [] 0 _ old old refl;
       onward = search rules;
       later = omega arith;
     }
@@ -49,7 +49,7 @@ loop-left-preserved g c =
       few = omega arith;
       beside = λ tells. beside_then strings_file old.records now.records then.records (c.loop-left.invariant.beside tells) (c.in_ok-first.ensures.beside tells);
       shape = λ tells. c.in_ok-first.ensures.shape tells ∙ c.loop-left.invariant.shape tells;
-      writes = at_most_then (blocks_for (length text) - left) 1 _ old now then (omega arith) c.loop-left.invariant.writes c.in_ok-first.ensures.writes;
+      touches = touches_then [] 0 (blocks_for (length text) - left) 0 1 0 _ old now then (omega arith) (omega arith) c.loop-left.invariant.touches c.write_block.ensures.touches;
       onward = g.met.S.Reads.further_onward _ _ _ c.loop-left.invariant.onward c.in_ok-first.ensures.onward;
       later = omega (arith, c.loop-left.invariant.later, c.in_ok-first.ensures.cause.later);
     }
@@ -68,3 +68,13 @@ returns-in_err-first-clause-refused g c tells keeps =
     let rest = length-drop (48 * left) text in
     rw (p.1, p.2) (no_room old now (drop (48 * left) text) c.loop-left.first shape stands (blocks_for (length text)) c.in_err-first.field-0.0 (omega arith)
     (c.in_err-first.ensures.refused tells (keeps_now old now (drop (48 * left) text) c.loop-left.first shape stands)))
+
+pub returns-in_err-first-clause-touches : goal.returns-in_err-first-clause-touches
+returns-in_err-first-clause-touches g c =
+    let count = blocks_for (length c.args.text.now) in
+    let few = c.loop-left.invariant.few in
+    let some = c.loop-left-test.true in
+    touches_then [] 0 (count - c.loop-left.left) 0 1 0 count _ (g.S.Reads.state c.loop-left.space) _ (omega arith) (omega arith) c.loop-left.invariant.touches c.write_block.ensures.touches
+
+pub returns-clause-touches : goal.returns-clause-touches
+returns-clause-touches g c = touches_more [] 0 _ 0 _ _ _ (omega arith) (omega arith) c.loop-left.invariant.touches

@@ -1,7 +1,7 @@
-use Rattle.std.proofs.Common.{◌≡◌, ◌≤◌, ◌-◌, ◌*◌, drop, length}
+use Rattle.std.proofs.Common.{◌≡◌, ◌≤◌, ◌-◌, ◌*◌, [], drop, length}
 use Rattle.rec_bytes.specs.Format.{strings_file}
-use Rattle.store_rules.specs.Writes.{WritesAtMost}
 use Rattle.prop_store.specs.FileChange.{IsSameBeside, KeepsFile, blocks_for}
+use Rattle.prop_store.specs.Touching.{TouchesProperties}
 use Rattle.prop_store.proofs.BlockSteps.{StandsFrom}
 use Rattle.prop_store.proofs.block_writing.write_text.Given as goal
 
@@ -15,7 +15,7 @@ invariant-loop-left g l =
       few : l.left ≤ blocks_for (length l.fn.text);
       beside : g.S.Reads.tells → IsSameBeside strings_file old.records now.records;
       shape : g.S.Reads.tells → now.shape ≡ old.shape;
-      writes : WritesAtMost (blocks_for (length l.fn.text) - l.left) old now;
+      touches : TouchesProperties g.S.Reads.tells [] 0 (blocks_for (length l.fn.text) - l.left) old now;
       onward : g.S.Reads.onward l.fn.space l.space;
       later : g.S.Reads.faults l.fn.space ≤ g.S.Reads.faults l.space;
     }

@@ -3,14 +3,15 @@ use Rattle.std.proofs.lemmas.Result.{err_from_is_err_and}
 use Rattle.rec_bytes.specs.Format.{block_text, strings_file}
 use Rattle.rec_bytes.specs.Record.{text_in}
 use Rattle.rec_bytes.proofs.Texts.{length-text_in}
+use Rattle.store_rules.specs.Properties.{long_text_from}
 use Rattle.store_rules.specs.Views.{rec_at}
 use Rattle.prop_store.proofs.ReadCounts.{reads_none, reads_one, reads_records, reads_then}
-use Rattle.prop_store.proofs.TextSteps.{all_left, block_here, piece_append, right_here, text_after, text_over}
+use Rattle.prop_store.proofs.TextSteps.{all_left, block_here, piece_read, right_here, text_after, text_over, text_read}
 use Rattle.prop_store.proofs.blocks.read_text.Goals as goal
 
 pub loop-left-init : goal.loop-left-init
 loop-left-init g c = record {
-  told = λ tells text blocks has. all_left _ _ _ text blocks _ has (ap (λ (z : List ℕ). z ++ text) c.new-bytes.ensures.items);
+  met = λ tells. ap (λ (z : List ℕ). z ++ long_text_from (rec_at (g.R.Reads.state c.args.space.now).records strings_file) c.args.size c.args.first) c.new-bytes.ensures.items;
   sound = λ tells text blocks has given. all_left _ _ _ text blocks _ has given;
   size = let none : length c.new-bytes.result.items ≡ 0 = ap (λ (z : List ℕ). length z) c.new-bytes.ensures.items in omega arith;
   reads = reads_none _ _;
@@ -31,11 +32,9 @@ loop-left-preserved g c =
     let more : length c.extend_from_slice.new.self.items ≡ length so_far + c.piece_size-piece.result
     = ap (λ (z : List ℕ). length z) (pushed ∙ ap (λ z. so_far ++ z) c.text.ensures) ∙ length-append so_far (text_in c.in_ok-rec.rec block_text c.piece_size-piece.result) ∙ ap (λ n. length so_far + n) (length-text_in c.in_ok-rec.rec block_text c.piece_size-piece.result fits) in
     record {
-      told = λ tells text blocks has.
-          let here = block_here (rec_at old.records strings_file) c.loop-left.at left _ (search rules) (c.loop-left.invariant.told tells text blocks has) in
-          let got = c.in_ok-rec.ensures.got tells ∙ ap (λ r. rec_at r strings_file c.loop-left.at) same in
-          text_after (rec_at old.records strings_file) c.loop-left.at left _ _ here c.in_ok-rec.rec c.piece_size-piece.result c.number-at.result got piece c.number-at.ensures
-          (piece_append (rec_at old.records strings_file) c.loop-left.at left _ here so_far c.extend_from_slice.new.self.items text c.in_ok-rec.rec c.piece_size-piece.result c.text.result.now got piece c.text.ensures pushed here.kept);
+      met = λ tells.
+          piece_read (rec_at old.records strings_file) so_far c.extend_from_slice.new.self.items _ c.text.result.now c.loop-left.at left c.piece_size-piece.result c.number-at.result c.in_ok-rec.rec (search rules) c.in_ok-rec.ensures.small
+          (c.in_ok-rec.ensures.got tells ∙ ap (λ r. rec_at r strings_file c.loop-left.at) same) c.in_ok-rec.ensures.form piece c.text.ensures pushed c.number-at.ensures (c.loop-left.invariant.met tells);
       sound = λ tells text blocks has given.
           let here = block_here (rec_at old.records strings_file) c.loop-left.at left _ (search rules) (c.loop-left.invariant.sound tells text blocks has given) in
           let got = c.in_ok-rec.ensures.got tells ∙ ap (λ r. rec_at r strings_file c.loop-left.at) same in
@@ -65,3 +64,6 @@ returns-in_err-extend_from_slice-clause-at_most g c = reads_then _ 1 _ _ _ _ (om
 pub returns-then-at-clause-sound : goal.returns-then-at-clause-sound
 returns-then-at-clause-sound g c tells text blocks has given =
     absurd (c.if-at.true (text_over _ _ _ _ (omega (arith, c.loop-left-test.false)) (c.loop-left.invariant.sound tells text blocks has given)).none)
+
+pub returns-clause-met : goal.returns-clause-met
+returns-clause-met g c tells = text_read (rec_at (g.R.Reads.state c.args.space.now).records strings_file) c.loop-left.bytes.items _ c.loop-left.at c.loop-left.left (omega (arith, c.loop-left-test.false)) (c.loop-left.invariant.met tells)

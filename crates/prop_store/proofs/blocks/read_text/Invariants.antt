@@ -1,5 +1,6 @@
 use Rattle.std.proofs.Common.{◌≡◌, ◌≤◌, ◌+◌, ◌-◌, ◌/◌, ◌++◌, ℕ, List, length}
 use Rattle.rec_bytes.specs.Format.{strings_file}
+use Rattle.store_rules.specs.Properties.{long_text_from}
 use Rattle.store_rules.specs.Views.{rec_at}
 use Rattle.prop_store.specs.Blocks.{HasText}
 use Rattle.prop_store.specs.GivenOut.{AreGivenOut}
@@ -13,7 +14,7 @@ invariant-loop-left g l =
     let old = g.R.Reads.state l.fn.space in
     let string_file = rec_at old.records strings_file in
     record {
-      told : g.R.Reads.tells → (text blocks : List ℕ) → HasText string_file l.fn.first l.fn.size text blocks → TextLeft string_file l.at l.left (λ rest later. l.bytes.items ++ rest ≡ text);
+      met : g.R.Reads.tells → l.bytes.items ++ long_text_from string_file l.left l.at ≡ long_text_from string_file l.fn.size l.fn.first;
       sound : g.R.Reads.tells → (text blocks : List ℕ) → HasText string_file l.fn.first l.fn.size text blocks → AreGivenOut old.records strings_file blocks → TextLeft string_file l.at l.left (λ rest later. AreGivenOut old.records strings_file later);
       size : length l.bytes.items + l.left ≡ l.fn.size;
       reads : ReadsAtMost ((l.fn.size + 47) / 48 - (l.left + 47) / 48) old (g.R.Reads.state l.space);

@@ -1,48 +1,110 @@
-use Rattle.std.proofs.Common.{[], sym, ap, ◌∙◌, subst, arith, inl, refl}
+use Rattle.std.proofs.Common.{[], List, sym, ap, ◌∙◌, subst, arith, inl, refl, ◌∷◌}
 use Rattle.std.proofs.lemmas.Result.{err_from_is_err_and}
 use Rattle.rec_bytes.specs.Space.{State}
-use Rattle.prop_store.specs.Changing.{HasElement}
+use Rattle.store_rules.specs.Properties.{Property}
+use Rattle.prop_store.specs.Alone.{OwnsProperties}
 use Rattle.prop_store.specs.Dropping.{AreHeld, DropsProperties}
-use Rattle.prop_store.proofs.ElementChanges.{all_dropped, drops_read, element_held, first_kept, first_set, held_read, listed_at}
+use Rattle.prop_store.proofs.ElementChanges.{all_dropped, drops_read, first_kept, first_set, held_read}
+use Rattle.prop_store.proofs.ElementGraphs.{drops_graph, owns_listed}
+use Rattle.prop_store.proofs.ReadCounts.{reads_one, reads_same}
+use Rattle.prop_store.proofs.Touches.{touches_after, touches_beside, touches_more, touches_owner, touches_reads, touches_then}
+use Rattle.prop_store.proofs.WriteCounts.{touched_beside}
 use Rattle.prop_store.proofs.changing.drop_all.Goals as goal
-use Rattle.prop_store.proofs.changing.drop_all.Goals.{In_ok-first}
+use Rattle.prop_store.proofs.changing.drop_all.Goals.{In_ok-dropped, In_ok-first}
 use Rattle.prop_store.proofs.changing.drop_all.Given.{Over}
 
 -- after the first read the properties of the element are there
-held : (g : Over) (c : In_ok-first g) (tells : g.S.Reads.tells) (has : HasElement (g.S.Reads.state c.args.space.now) c.args.owner)
-    → AreHeld (g.S.Reads.state c.first.new.space) c.in_ok-first.first (listed_at (g.S.Reads.state c.args.space.now) c.args.owner c.requires.owner has)
-held g c tells has =
+held : (g : Over) (c : In_ok-first g) → g.S.Reads.tells → (es : List Property) → OwnsProperties (g.S.Reads.state c.args.space.now) c.args.owner es → AreHeld (g.S.Reads.state c.first.new.space) c.in_ok-first.first es
+held g c tells es owns =
     let s = g.S.Reads.state c.args.space.now in
-    let es = listed_at s c.args.owner c.requires.owner has in
     subst (λ (z : State). AreHeld z c.in_ok-first.first es) (sym c.first.ensures.state)
-    (held_read s c.in_ok-first.first es (subst (λ f. AreHeld s f es) (sym (c.in_ok-first.ensures.got tells)) (element_held s c.args.owner c.requires.owner has)))
+    (held_read s c.in_ok-first.first es (subst (λ f. AreHeld s f es) (sym (c.in_ok-first.ensures.got tells)) owns.held))
+
+-- and they were given back
+drops : (g : Over) (c : In_ok-dropped g) → g.S.Reads.tells → (es : List Property) → AreHeld (g.S.Reads.state c.first.new.space) c.in_ok-first.first es
+    → DropsProperties (g.S.Reads.state c.args.space.now) (g.S.Reads.state c.drop_chain.new.space) es c.in_ok-dropped.dropped
+drops g c tells es at = drops_read _ _ es c.in_ok-dropped.dropped
+    (subst (λ (z : State). DropsProperties z (g.S.Reads.state c.drop_chain.new.space) es c.in_ok-dropped.dropped) c.first.ensures.state (c.in_ok-dropped.ensures.dropped tells es at))
+
+pub returns-in_err-dropped-clause-alone_sound : goal.returns-in_err-dropped-clause-alone_sound
+returns-in_err-dropped-clause-alone_sound g c tells es owns =
+    let p = err_from_is_err_and c.from_residual-in_err-dropped.result c.from_residual-in_err-dropped.ensures.1 in
+    rw (p.1, p.2) (c.in_err-dropped.ensures.sound tells es (held g (goal.at.returns-in_err-dropped-clause-alone_sound g c).In_ok-first tells es owns))
 
 pub returns-in_err-dropped-clause-sound : goal.returns-in_err-dropped-clause-sound
 returns-in_err-dropped-clause-sound g c tells has =
-    let p = err_from_is_err_and c.from_residual-in_err-dropped.result c.from_residual-in_err-dropped.ensures.1 in
+    returns-in_err-dropped-clause-alone_sound g c tells _ (owns_listed (g.S.Reads.state c.args.space.now) c.args.owner c.requires.owner has)
+
+pub returns-in_ok-set_number-clause-alone : goal.returns-in_ok-set_number-clause-alone
+returns-in_ok-set_number-clause-alone g c tells es owns =
     let s = g.S.Reads.state c.args.space.now in
-    rw (p.1, p.2) (c.in_err-dropped.ensures.sound tells (listed_at s c.args.owner c.requires.owner has) (held g (goal.at.returns-in_err-dropped-clause-sound g c).In_ok-first tells has))
+    let m = g.S.Reads.state c.drop_chain.new.space in
+    let t = g.S.Reads.state c.set_number.new.space in
+    let at = goal.at.returns-in_ok-set_number-clause-alone g c in
+    let dropped = drops g at.In_ok-dropped tells es (held g at.In_ok-first tells es owns) in
+    all_dropped s c.args.owner es owns c.requires.owner m t c.in_ok-dropped.dropped dropped
+    (first_set s c.args.owner es owns c.requires.owner m [] dropped.changes t _ (c.in_ok-set_number.ensures.ok tells) (omega arith) (inl refl))
 
 pub returns-in_ok-set_number-clause-dropped : goal.returns-in_ok-set_number-clause-dropped
 returns-in_ok-set_number-clause-dropped g c tells has =
     let s = g.S.Reads.state c.args.space.now in
+    drops_graph s c.args.owner c.requires.owner has (g.S.Reads.state c.set_number.new.space) c.in_ok-dropped.dropped
+    (returns-in_ok-set_number-clause-alone g c tells _ (owns_listed s c.args.owner c.requires.owner has))
+    (ap (λ (z : State). z.shape) (c.in_ok-set_number.ensures.ok tells) ∙ c.drop_chain.ensures.shape tells ∙ ap (λ (z : State). z.shape) c.first.ensures.state)
+
+pub returns-else-first-clause-alone : goal.returns-else-first-clause-alone
+returns-else-first-clause-alone g c tells es owns =
+    let s = g.S.Reads.state c.args.space.now in
     let m = g.S.Reads.state c.drop_chain.new.space in
-    let t = g.S.Reads.state c.set_number.new.space in
-    let es = listed_at s c.args.owner c.requires.owner has in
-    let at = held g (goal.at.returns-in_ok-set_number-clause-dropped g c).In_ok-first tells has in
-    let set = c.in_ok-set_number.ensures.ok tells in
-    let drops = drops_read s m es c.in_ok-dropped.dropped (subst (λ (z : State). DropsProperties z m es c.in_ok-dropped.dropped) c.first.ensures.state (c.in_ok-dropped.ensures.dropped tells es at)) in
-    all_dropped s c.args.owner c.requires.owner has m t c.in_ok-dropped.dropped drops
-    (first_set s c.args.owner c.requires.owner has m [] drops.changes t _ set (omega arith) (inl refl))
-    (ap (λ (z : State). z.shape) set ∙ c.drop_chain.ensures.shape tells ∙ ap (λ (z : State). z.shape) c.first.ensures.state)
+    let at = goal.at.returns-else-first-clause-alone g c in
+    let dropped = drops g at.In_ok-dropped tells es (held g at.In_ok-first tells es owns) in
+    all_dropped s c.args.owner es owns c.requires.owner m m c.in_ok-dropped.dropped dropped
+    (first_kept s c.args.owner es owns c.requires.owner m [] dropped.changes (sym (c.in_ok-first.ensures.got tells) ∙ c.if-first.false))
 
 pub returns-else-first-clause-dropped : goal.returns-else-first-clause-dropped
 returns-else-first-clause-dropped g c tells has =
     let s = g.S.Reads.state c.args.space.now in
-    let m = g.S.Reads.state c.drop_chain.new.space in
-    let es = listed_at s c.args.owner c.requires.owner has in
-    let at = held g (goal.at.returns-else-first-clause-dropped g c).In_ok-first tells has in
-    let drops = drops_read s m es c.in_ok-dropped.dropped (subst (λ (z : State). DropsProperties z m es c.in_ok-dropped.dropped) c.first.ensures.state (c.in_ok-dropped.ensures.dropped tells es at)) in
-    all_dropped s c.args.owner c.requires.owner has m m c.in_ok-dropped.dropped drops
-    (first_kept s c.args.owner c.requires.owner has m [] drops.changes (sym (c.in_ok-first.ensures.got tells) ∙ c.if-first.false))
+    drops_graph s c.args.owner c.requires.owner has (g.S.Reads.state c.drop_chain.new.space) c.in_ok-dropped.dropped
+    (returns-else-first-clause-alone g c tells _ (owns_listed s c.args.owner c.requires.owner has))
     (c.drop_chain.ensures.shape tells ∙ ap (λ (z : State). z.shape) c.first.ensures.state)
+
+pub returns-in_err-first-clause-at_most : goal.returns-in_err-first-clause-at_most
+returns-in_err-first-clause-at_most g c = touches_reads _ 32 704 _ _ (reads_same 1 _ _ (reads_one 1 _ _ (omega arith) c.first.ensures.state))
+
+pub returns-in_err-dropped-clause-at_most : goal.returns-in_err-dropped-clause-at_most
+returns-in_err-dropped-clause-at_most g c = touches_after _ 32 704 _ _ _ (reads_same 1 _ _ (reads_one 1 _ _ (omega arith) c.first.ensures.state)) (touches_beside _ 32 704 _ _ c.drop_chain.ensures.at_most)
+
+pub returns-in_err-set_number-clause-at_most : goal.returns-in_err-set_number-clause-at_most
+returns-in_err-set_number-clause-at_most g c =
+    let dropped = touches_beside (c.args.owner.key ∷ []) 32 704 (g.S.Reads.state c.first.new.space) (g.S.Reads.state c.drop_chain.new.space) c.drop_chain.ensures.at_most in
+    touches_after _ 32 704 _ _ _ (reads_same 1 _ _ (reads_one 1 _ _ (omega arith) c.first.ensures.state))
+    (touches_then _ 32 704 0 0 32 704 _ _ _ (omega arith) (omega arith) dropped (touches_reads _ 0 0 _ _ (reads_same 1 _ _ (reads_one 1 _ _ (omega arith) c.in_err-set_number.ensures.err))))
+
+pub returns-in_ok-set_number-clause-touches : goal.returns-in_ok-set_number-clause-touches
+returns-in_ok-set_number-clause-touches g c =
+    let n = c.in_ok-dropped.dropped.properties in
+    let m = c.in_ok-dropped.dropped.blocks in
+    let dropped = touches_beside (c.args.owner.key ∷ []) n m (g.S.Reads.state c.first.new.space) (g.S.Reads.state c.drop_chain.new.space) c.in_ok-dropped.ensures.touches in
+    touches_after _ n m _ _ _ (reads_same 1 _ _ (reads_one 1 _ _ (omega arith) c.first.ensures.state))
+    (touches_then _ n m 0 0 n m _ _ _ (omega arith) (omega arith) dropped (touches_owner _ _ c.args.owner.key 4 c.args.owner.field _ c.set_number.ensures.writes c.in_ok-set_number.ensures.ok))
+
+pub returns-in_ok-set_number-clause-at_most : goal.returns-in_ok-set_number-clause-at_most
+returns-in_ok-set_number-clause-at_most g c =
+    let few = c.in_ok-dropped.ensures.few_properties in
+    let small = c.in_ok-dropped.ensures.few_blocks in
+    touches_more _ c.in_ok-dropped.dropped.properties c.in_ok-dropped.dropped.blocks 32 704 _ _ (omega arith) (omega arith) (returns-in_ok-set_number-clause-touches g c)
+
+pub returns-in_ok-set_number-clause-writes : goal.returns-in_ok-set_number-clause-writes
+returns-in_ok-set_number-clause-writes g c = touched_beside c.in_ok-dropped.dropped.properties c.in_ok-dropped.dropped.blocks _ _ _ c.args.owner.key (omega arith) (returns-in_ok-set_number-clause-touches g c)
+
+pub returns-else-first-clause-touches : goal.returns-else-first-clause-touches
+returns-else-first-clause-touches g c =
+    let n = c.in_ok-dropped.dropped.properties in
+    let m = c.in_ok-dropped.dropped.blocks in
+    touches_after _ n m _ _ _ (reads_same 1 _ _ (reads_one 1 _ _ (omega arith) c.first.ensures.state)) (touches_beside _ n m _ _ c.in_ok-dropped.ensures.touches)
+
+pub returns-else-first-clause-at_most : goal.returns-else-first-clause-at_most
+returns-else-first-clause-at_most g c = touches_after _ 32 704 _ _ _ (reads_same 1 _ _ (reads_one 1 _ _ (omega arith) c.first.ensures.state)) (touches_beside _ 32 704 _ _ c.drop_chain.ensures.at_most)
+
+pub returns-else-first-clause-writes : goal.returns-else-first-clause-writes
+returns-else-first-clause-writes g c = touched_beside c.in_ok-dropped.dropped.properties c.in_ok-dropped.dropped.blocks _ _ _ c.args.owner.key (omega arith) (returns-else-first-clause-touches g c)

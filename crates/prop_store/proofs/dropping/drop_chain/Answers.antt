@@ -1,14 +1,24 @@
-use Rattle.std.proofs.Common.{◌+◌, sym, ap, ◌∙◌, subst, arith, refl, rules}
+use Rattle.std.proofs.Common.{[], sym, ap, ◌∙◌, subst, arith, refl, rules}
 use Rattle.std.proofs.lemmas.Result.{err_from_is_err_and}
 use Rattle.rec_bytes.specs.Format.{properties_file, property_next}
 use Rattle.rec_bytes.specs.Record.{field}
 use Rattle.rec_bytes.specs.Space.{State}
 use Rattle.store_rules.specs.Views.{rec_at}
-use Rattle.prop_store.proofs.ChainDrops.{Left, given_out, has_content, held_here, here, left_read, none_left, one_less}
-use Rattle.prop_store.proofs.ChangeWrites.{reads_write}
+use Rattle.prop_store.proofs.ChainDrops.{Left, all_left, given_out, has_content, held_here, here, left_read, none_left, one_less}
 use Rattle.prop_store.proofs.ReadCounts.{reads_same}
-use Rattle.prop_store.proofs.WriteCounts.{at_most_then}
+use Rattle.prop_store.proofs.Touches.{touches_after, touches_more, touches_reads, touches_then}
 use Rattle.prop_store.proofs.dropping.drop_chain.Goals as goal
+
+pub loop-at-init : goal.loop-at-init
+loop-at-init g c = record {
+  told = λ tells es held. all_left _ es c.args.first held;
+  few = omega arith;
+  small = omega arith;
+  shape = λ tells. refl;
+  touches = touches_reads [] 0 0 _ _ refl;
+  onward = g.met.S.Reads.stays_onward _;
+  later = omega arith;
+}
 
 pub returns-in_err-row-clause-sound : goal.returns-in_err-row-clause-sound
 returns-in_err-row-clause-sound g c tells es held =
@@ -52,8 +62,8 @@ loop-at-preserved g c =
       few = let f = i.few in let ne = c.if-properties-eq-MOST_PROPERTIES.false in omega arith;
       small = let s = i.small in let r = c.in_ok-released.ensures.few in omega arith;
       shape = λ tells. c.drop_property.ensures.shape tells ∙ ap (λ (z : State). z.shape) (reads_same 1 _ _ c.property_at.ensures.at_most) ∙ i.shape tells;
-      writes = at_most_then (c.loop-at.properties + c.loop-at.blocks) (1 + c.in_ok-released.released) _ old now then (omega arith) i.writes
-          (at_most_then 0 (1 + c.in_ok-released.released) _ now read then (omega arith) (reads_write 0 now read (reads_same 1 _ _ c.property_at.ensures.at_most)) c.in_ok-released.ensures.writes);
+      touches = touches_then [] c.loop-at.properties c.loop-at.blocks 1 c.in_ok-released.released _ _ old now then (omega arith) (omega arith) i.touches
+          (touches_after [] 1 c.in_ok-released.released now read then (reads_same 1 _ _ c.property_at.ensures.at_most) c.in_ok-released.ensures.touches);
       onward = g.met.S.Reads.further_onward _ _ _ i.onward (g.met.S.Reads.further_onward _ _ _ c.property_at.ensures.onward c.drop_property.ensures.onward);
       later = omega (arith, i.later, c.property_at.ensures.cause.later, c.drop_property.ensures.cause.later);
     }
@@ -67,3 +77,22 @@ returns-clause-few_properties g c = c.loop-at.invariant.few
 
 pub returns-clause-few_blocks : goal.returns-clause-few_blocks
 returns-clause-few_blocks g c = let few = c.loop-at.invariant.few in let small = c.loop-at.invariant.small in omega arith
+
+pub returns-then-properties-eq-MOST_PROPERTIES-clause-at_most : goal.returns-then-properties-eq-MOST_PROPERTIES-clause-at_most
+returns-then-properties-eq-MOST_PROPERTIES-clause-at_most g c = let few = c.loop-at.invariant.few in let small = c.loop-at.invariant.small in touches_more [] _ _ 32 704 _ _ (omega arith) (omega arith) c.loop-at.invariant.touches
+
+pub returns-in_err-row-clause-at_most : goal.returns-in_err-row-clause-at_most
+returns-in_err-row-clause-at_most g c =
+    let few = c.loop-at.invariant.few in
+    let small = c.loop-at.invariant.small in
+    touches_then [] c.loop-at.properties c.loop-at.blocks 0 0 32 704 _ _ _ (omega arith) (omega arith) c.loop-at.invariant.touches (touches_reads [] 0 0 _ _ (reads_same 1 _ _ c.property_at.ensures.at_most))
+
+pub returns-in_err-released-clause-at_most : goal.returns-in_err-released-clause-at_most
+returns-in_err-released-clause-at_most g c =
+    let few = c.loop-at.invariant.few in
+    let small = c.loop-at.invariant.small in
+    let ne = c.if-properties-eq-MOST_PROPERTIES.false in
+    touches_then [] c.loop-at.properties c.loop-at.blocks 1 22 32 704 _ _ _ (omega arith) (omega arith) c.loop-at.invariant.touches (touches_after [] 1 22 _ _ _ (reads_same 1 _ _ c.property_at.ensures.at_most) c.drop_property.ensures.at_most)
+
+pub returns-clause-at_most : goal.returns-clause-at_most
+returns-clause-at_most g c = let few = c.loop-at.invariant.few in let small = c.loop-at.invariant.small in touches_more [] _ _ 32 704 _ _ (omega arith) (omega arith) c.loop-at.invariant.touches

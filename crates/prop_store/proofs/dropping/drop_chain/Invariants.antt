@@ -1,7 +1,7 @@
-use Rattle.std.proofs.Common.{◌≡◌, ◌≤◌, ◌+◌, ◌*◌, ◌-◌, List}
+use Rattle.std.proofs.Common.{◌≡◌, ◌≤◌, ◌*◌, ◌-◌, [], List}
 use Rattle.store_rules.specs.Properties.{Property}
-use Rattle.store_rules.specs.Writes.{WritesAtMost}
 use Rattle.prop_store.specs.Dropping.{AreHeld}
+use Rattle.prop_store.specs.Touching.{TouchesProperties}
 use Rattle.prop_store.proofs.ChainDrops.{Left}
 use Rattle.prop_store.proofs.dropping.drop_chain.Given as goal
 
@@ -15,7 +15,7 @@ invariant-loop-at g l =
       few : l.properties ≤ 32;
       small : l.blocks ≤ 22 * l.properties;
       shape : g.S.Reads.tells → now.shape ≡ old.shape;
-      writes : WritesAtMost (l.properties + l.blocks) old now;
+      touches : TouchesProperties g.S.Reads.tells [] l.properties l.blocks old now;
       onward : g.S.Reads.onward l.fn.space l.space;
       later : g.S.Reads.faults l.fn.space ≤ g.S.Reads.faults l.space;
     }

@@ -1,10 +1,10 @@
-use Rattle.std.proofs.Common.{List, ℕ, length, ap, ◌∙◌}
+use Rattle.std.proofs.Common.{List, [], ℕ, length, ap, arith, ◌∙◌}
 use Rattle.std.proofs.lemmas.Result.{err_from_is_err_and}
 use Rattle.rec_bytes.specs.Space.{State}
-use Rattle.prop_store.proofs.ChangeWrites.{property_writes}
 use Rattle.prop_store.proofs.DropSteps.{blocks_given_out, property_dropped}
 use Rattle.prop_store.proofs.Exits.{space_exit}
 use Rattle.prop_store.proofs.ReadCounts.{reads_same}
+use Rattle.prop_store.proofs.Touches.{touches_dropped, touches_freed, touches_more, touches_reads}
 use Rattle.prop_store.proofs.dropping.drop_property.Goals as goal
 
 pub returns-in_err-blocks-clause-sound : goal.returns-in_err-blocks-clause-sound
@@ -44,5 +44,23 @@ returns-clause-dropped g c tells e held =
 pub returns-clause-shape : goal.returns-clause-shape
 returns-clause-shape g c tells = c.give.ensures.shape tells ∙ c.release.ensures.shape tells ∙ ap (λ (z : State). z.shape) (reads_same 22 _ _ c.value_blocks.ensures.at_most)
 
-pub returns-clause-writes : goal.returns-clause-writes
-returns-clause-writes g c = property_writes _ _ _ _ c.args.row.now.id c.as_slice-ids.result.now (reads_same 22 _ _ c.value_blocks.ensures.at_most) c.release.ensures.writes c.give.ensures.writes
+pub returns-in_err-blocks-clause-at_most : goal.returns-in_err-blocks-clause-at_most
+returns-in_err-blocks-clause-at_most g c = touches_reads [] 1 22 _ _ (reads_same 22 _ _ c.value_blocks.ensures.at_most)
+
+pub returns-in_err-release-clause-at_most : goal.returns-in_err-release-clause-at_most
+returns-in_err-release-clause-at_most g c =
+    let few = c.as_slice-ids.ensures.few in
+    touches_more [] 0 (length c.as_slice-ids.result.now) 1 22 _ _ (omega arith) (omega arith) (touches_freed _ _ _ c.as_slice-ids.result.now (reads_same 22 _ _ c.value_blocks.ensures.at_most) c.release.ensures.touches)
+
+pub returns-in_err-give-clause-at_most : goal.returns-in_err-give-clause-at_most
+returns-in_err-give-clause-at_most g c =
+    let few = c.as_slice-ids.ensures.few in
+    touches_more [] 1 (length c.as_slice-ids.result.now) 1 22 _ _ (omega arith) (omega arith)
+    (touches_dropped _ _ _ _ c.args.row.now.id c.as_slice-ids.result.now (reads_same 22 _ _ c.value_blocks.ensures.at_most) c.release.ensures.touches (record { writes = c.give.ensures.writes; stays = c.give.ensures.stays }))
+
+pub returns-clause-touches : goal.returns-clause-touches
+returns-clause-touches g c =
+    touches_dropped _ _ _ _ c.args.row.now.id c.as_slice-ids.result.now (reads_same 22 _ _ c.value_blocks.ensures.at_most) c.release.ensures.touches (record { writes = c.give.ensures.writes; stays = c.give.ensures.stays })
+
+pub returns-clause-at_most : goal.returns-clause-at_most
+returns-clause-at_most g c = let few = c.as_slice-ids.ensures.few in touches_more [] 1 (length c.as_slice-ids.result.now) 1 22 _ _ (omega arith) (omega arith) (returns-clause-touches g c)

@@ -1,10 +1,12 @@
-use Rattle.std.proofs.Common.{arith, rules, ap, sym, ◌∙◌, ◌≡◌, ◌<◌, refl, subst}
+use Rattle.std.proofs.Common.{arith, rules, ap, sym, ◌∙◌, ◌≡◌, ◌<◌, refl, inl, inr, subst}
 use Rattle.std.proofs.lemmas.Result.{err_from_is_err_and}
 use Rattle.rec_bytes.specs.Format.{most_ids, properties_file, property_key}
 use Rattle.rec_bytes.specs.Record.{field}
 use Rattle.store_rules.specs.Properties.{property_records}
 use Rattle.store_rules.specs.Views.{rec_at}
-use Rattle.prop_store.specs.Link.{IsLink, link_of, next_link}
+use Rattle.prop_store.specs.Link.{IsLink, IsLinkOf, link_of, next_link}
+use Rattle.prop_store.specs.Finding.{property_of}
+use Rattle.prop_store.proofs.Ahead.{ahead, ahead_none, ahead_over, met_here, passed_by}
 use Rattle.prop_store.proofs.ElementSteps.{meta_of_element}
 use Rattle.prop_store.proofs.Keys.{absent_key, found_here, keys_passed, link_after-one}
 use Rattle.prop_store.proofs.OwnerPlaces.{place_within}
@@ -18,11 +20,18 @@ returns-in_err-at-clause-at_most g c = reads_one 33 _ _ (omega arith) c.in_err-a
 pub loop-count-init : goal.loop-count-init
 loop-count-init g c = record {
   told = λ tells es are. walk_begins _ _ _ es _ (c.in_ok-at.ensures.got tells) are (c.of-link.ensures, λ i. i);
+  met = λ tells. ap (λ z. property_of (ahead (g.R.Reads.state c.args.space.now).records z 0) c.args.key) (c.in_ok-at.ensures.got tells);
   link = subst IsLink (sym c.of-link.ensures) (record { key = c.requires.key; own = meta_of_element c.args.owner.key.file c.requires.file; place = place_within c.args.owner c.requires });
+  from = subst (IsLinkOf c.args.owner) (sym c.of-link.ensures) (inl refl);
   reads = reads_one 1 _ _ (omega arith) c.in_ok-at.ensures.state;
   onward = search rules;
   later = omega (arith, c.in_ok-at.ensures.cause.later);
 }
+
+pub returns-then-at-clause-met : goal.returns-then-at-clause-met
+returns-then-at-clause-met g c tells =
+    let old = g.R.Reads.state c.args.space.now in
+    sym (c.loop-count.invariant.met tells) ∙ ap (λ es. property_of es c.args.key) (ahead_none old.records c.loop-count.at c.loop-count.count c.if-at.true)
 
 pub returns-then-at-clause-found : goal.returns-then-at-clause-found
 returns-then-at-clause-found g c tells es are =
@@ -49,6 +58,13 @@ returns-then-number-key-clause-found g c tells es are =
     let rec_is = c.in_ok-row.ensures.got tells ∙ ap (λ r. rec_at r properties_file c.loop-count.at) (reads_records _ old now c.loop-count.invariant.reads) in
     found_here old.records c.args.owner es c.loop-count.at c.loop-count.count c.args.key c.loop-count.link _ here refl c.in_ok-row.ensures.row.id_is rec_is (sym c.number.ensures ∙ c.if-number-key.true)
 
+pub returns-then-number-key-clause-met : goal.returns-then-number-key-clause-met
+returns-then-number-key-clause-met g c tells =
+    let old = g.R.Reads.state c.args.space.now in
+    let now = g.R.Reads.state c.loop-count.space in
+    let rec_is = c.in_ok-row.ensures.got tells ∙ ap (λ r. rec_at r properties_file c.loop-count.at) (reads_records _ old now c.loop-count.invariant.reads) in
+    met_here old.records c.args.owner c.args.key c.loop-count.at c.loop-count.count _ c.if-at.false (omega arith) c.in_ok-row.ensures.row.id_is rec_is (sym c.number.ensures ∙ c.if-number-key.true) (c.loop-count.invariant.met tells)
+
 pub returns-then-number-key-clause-cost : goal.returns-then-number-key-clause-cost
 returns-then-number-key-clause-cost g c tells es are =
     let here = walk_here _ es _ _ _ c.if-at.false (c.loop-count.invariant.told tells es are) in
@@ -69,7 +85,12 @@ loop-count-preserved g c =
           let its : here.property.key ≡ field 4 c.in_ok-row.row.rec property_key = sym here.is.key ∙ ap (λ r. field 4 r property_key) (ap (rec_at old.records properties_file) (sym here.at_is) ∙ sym rec_is) in
           walk_after (property_records old.records) es c.loop-count.at c.loop-count.count _ _ here c.in_ok-row.row.rec c.number-at.result rec_is c.number-at.ensures
           (c.after-link.ensures ∙ ap next_link here.at_is ∙ sym (link_after-one (link_of c.args.owner) here.passed here.property), keys_passed here.passed here.property c.args.key here.kept.1 (λ e. c.if-number-key.false (c.number.ensures ∙ sym its ∙ e)));
+      met = λ tells.
+          passed_by old.records c.args.key c.loop-count.at c.loop-count.count c.number-at.result c.in_ok-row.row.rec _ c.if-at.false (omega arith)
+          (c.in_ok-row.ensures.got tells ∙ ap (λ r. rec_at r properties_file c.loop-count.at) (reads_records _ old now c.loop-count.invariant.reads)) c.number-at.ensures
+          (λ e. c.if-number-key.false (c.number.ensures ∙ e)) (c.loop-count.invariant.met tells);
       link = subst IsLink (sym c.after-link.ensures) (record { key = record { file = refl; id = subst (λ z. z < most_ids) c.in_ok-row.ensures.row.id_is c.in_ok-row.ensures.row.small }; own = refl; place = omega arith });
+      from = subst (IsLinkOf c.args.owner) (sym c.after-link.ensures) (inr refl);
       reads = reads_then _ 1 _ _ _ _ (omega arith) c.loop-count.invariant.reads c.in_ok-row.ensures.at_most;
       onward = g.met.R.Reads.further_onward _ _ _ c.loop-count.invariant.onward c.in_ok-row.ensures.onward;
       later = omega (arith, c.loop-count.invariant.later, c.in_ok-row.ensures.cause.later);
@@ -81,3 +102,8 @@ returns-clause-found g c tells es are =
     let over = walk_over _ es _ _ _ none (c.loop-count.invariant.told tells es are) in
     let count = over.count_is in
     (omega arith, absent_key es c.args.key over.kept.1)
+
+pub returns-clause-met : goal.returns-clause-met
+returns-clause-met g c tells =
+    let old = g.R.Reads.state c.args.space.now in
+    sym (c.loop-count.invariant.met tells) ∙ ap (λ es. property_of es c.args.key) (ahead_over old.records c.loop-count.at c.loop-count.count (omega arith))

@@ -1,17 +1,18 @@
 use Rattle.std.specs.Prelude.{All}
-use Rattle.std.proofs.Common.{arith, rules, ap, sym, subst, ◌∙◌, ◌≡◌, ◌+◌, List, length}
+use Rattle.std.proofs.Common.{arith, rules, ap, sym, subst, ◌∙◌, ◌≡◌, ◌+◌, ◌++◌, List, inl, inr, length, map}
 use Rattle.std.proofs.lemmas.List.{length_push}
 use Rattle.std.proofs.lemmas.List.Elements.{All-push}
 use Rattle.std.proofs.lemmas.Result.{err_from_is_err_and}
 use Rattle.plain_graph.specs.Forms.{IsKept}
 use Rattle.plain_graph.specs.Properties.{blocks_of}
-use Rattle.rec_bytes.specs.Format.{properties_file, property_key}
-use Rattle.rec_bytes.specs.Record.{field}
-use Rattle.store_rules.specs.Properties.{first_property, property_records}
+use Rattle.rec_bytes.specs.Format.{properties_file, strings_file}
+use Rattle.store_rules.specs.Properties.{content_of, first_property, property_records, value_from}
 use Rattle.store_rules.specs.Views.{rec_at}
-use Rattle.prop_store.specs.Reading.{block_total}
+use Rattle.store_rules.proofs.PropertyLists.{properties_read}
+use Rattle.prop_store.specs.Reading.{block_total, prop_of}
 use Rattle.prop_store.specs.declared.prop.Prop.{Prop}
-use Rattle.prop_store.proofs.Answered.{answered_one, block_total-one, few_blocks}
+use Rattle.prop_store.proofs.Ahead.{ahead, all_answered, answered_one}
+use Rattle.prop_store.proofs.Answered.{block_total-one, few_blocks}
 use Rattle.prop_store.proofs.ReadCounts.{reads_one, reads_records, reads_then}
 use Rattle.prop_store.proofs.WalkSteps.{blocks_given, has_value, right_property, walk_after, walk_begins, walk_here}
 use Rattle.prop_store.proofs.reading.read_all.Goals as goal
@@ -25,7 +26,10 @@ loop-init g c =
     let no_length : length c.new-props.result.items ≡ 0 = ap (λ (z : List Prop). length z) none in
     let no_blocks : block_total c.new-props.result.items ≡ 0 = ap block_total none in
     record {
-      told = λ tells es are. walk_begins _ _ _ es _ (c.in_ok-at.ensures.got tells) are none;
+      told = λ tells es are. walk_begins _ _ _ es _ (c.in_ok-at.ensures.got tells) are tt;
+      met = λ tells.
+          let old = g.R.Reads.state c.args.space.now in
+          ap (λ (z : List Prop). z ++ map prop_of (ahead old.records c.in_ok-at.at 0)) none ∙ ap (λ z. map prop_of (ahead old.records z 0)) (c.in_ok-at.ensures.got tells);
       count = no_length;
       few = omega arith;
       kept = subst (All (λ (p : Prop). IsKept p.value)) (sym none) (λ k d lt. absurd (omega (arith, lt)));
@@ -83,12 +87,11 @@ loop-preserved g c =
       told = λ tells es are.
           let here = walk_here _ es _ _ _ c.if-at.false (c.loop.invariant.told tells es are) in
           let got = c.in_ok-row.ensures.got tells ∙ ap (λ r. rec_at r properties_file c.loop.at) same in
-          let rec_is = got ∙ ap (rec_at old.records properties_file) here.at_is in
-          let same_then = reads_records 1 now then c.in_ok-row.ensures.at_most ∙ same in
-          let value = has_value old.records then.records here.property (first_property here.later) c.in_ok-row.row.rec same_then here.is rec_is in
-          walk_after (property_records old.records) es c.loop.at c.loop.counter _ _ here c.in_ok-row.row.rec c.number-at.result got c.number-at.ensures
-          (answered_one props c.push.new.self.items here.passed here.property c.number-key.result c.in_ok-value.value pushed here.kept
-          (c.number-key.ensures ∙ ap (λ r. field 4 r property_key) rec_is ∙ here.is.key) (c.in_ok-value.ensures.read tells here.property.value here.property.blocks value));
+          walk_after (property_records old.records) es c.loop.at c.loop.counter _ _ here c.in_ok-row.row.rec c.number-at.result got c.number-at.ensures tt;
+      met = λ tells.
+          answered_one old.records props c.push.new.self.items _ c.loop.at c.loop.counter c.number-at.result c.number-key.result c.in_ok-row.row.rec c.in_ok-value.value pushed c.if-at.false (omega arith)
+          (c.in_ok-row.ensures.got tells ∙ ap (λ r. rec_at r properties_file c.loop.at) same) c.number-at.ensures c.number-key.ensures
+          (c.in_ok-value.ensures.met tells ∙ ap (λ r. value_from (rec_at r strings_file) (content_of c.in_ok-row.row.rec)) (reads_records 1 now then c.in_ok-row.ensures.at_most ∙ same)) (c.loop.invariant.met tells);
       count = omega (arith, more, c.loop.invariant.count);
       few = omega (arith, total, few, c.loop.invariant.few);
       kept = subst (All (λ (p : Prop). IsKept p.value)) (sym pushed) (All-push (λ (p : Prop). IsKept p.value) props prop c.loop.invariant.kept c.in_ok-value.ensures.kept);
@@ -96,3 +99,17 @@ loop-preserved g c =
       onward = g.met.R.Reads.further_onward _ _ _ (g.met.R.Reads.further_onward _ _ _ c.loop.invariant.onward c.in_ok-row.ensures.onward) c.in_ok-value.ensures.onward;
       later = omega (arith, c.loop.invariant.later, c.in_ok-row.ensures.cause.later, c.in_ok-value.ensures.cause.later);
     }
+
+pub returns-then-at-clause-met : goal.returns-then-at-clause-met
+returns-then-at-clause-met g c tells = all_answered (g.R.Reads.state c.args.space.now).records c.loop.props.items _ c.loop.at c.loop.counter (inl c.if-at.true) (c.loop.invariant.met tells)
+
+pub returns-then-at-clause-read : goal.returns-then-at-clause-read
+returns-then-at-clause-read g c tells es are =
+    returns-then-at-clause-met g c tells ∙ ap (map prop_of) (properties_read (property_records (g.R.Reads.state c.args.space.now).records) _ es are)
+
+pub returns-clause-met : goal.returns-clause-met
+returns-clause-met g c tells = all_answered (g.R.Reads.state c.args.space.now).records c.loop.props.items _ c.loop.at c.loop.counter (inr (omega arith)) (c.loop.invariant.met tells)
+
+pub returns-clause-read : goal.returns-clause-read
+returns-clause-read g c tells es are =
+    returns-clause-met g c tells ∙ ap (map prop_of) (properties_read (property_records (g.R.Reads.state c.args.space.now).records) _ es are)

@@ -1,8 +1,10 @@
-use Rattle.std.proofs.Common.{arith, ap, sym, ◌∙◌, Some, subst}
+use Rattle.std.proofs.Common.{arith, ap, ◌∙◌, subst}
 use Rattle.std.proofs.lemmas.Result.{err_from_is_err_and}
-use Rattle.std.specs.Option.{option_map}
-use Rattle.store_rules.specs.Properties.{Property, first_property}
-use Rattle.prop_store.specs.Finding.{IsSought}
+use Rattle.store_rules.specs.Properties.{first_property}
+use Rattle.store_rules.specs.Properties.{property_records}
+use Rattle.store_rules.proofs.PropertyLists.{properties_read}
+use Rattle.prop_store.specs.Finding.{IsMet, IsSought, value_of}
+use Rattle.prop_store.proofs.Ahead.{value_found}
 use Rattle.prop_store.proofs.ReadCounts.{reads_records, reads_then}
 use Rattle.prop_store.proofs.WalkSteps.{blocks_given, has_value}
 use Rattle.prop_store.proofs.reading.read_key.Goals as goal
@@ -20,13 +22,15 @@ returns-in_err-value-in-Found-clause-sound g c tells es has =
 pub returns-in_err-value-in-Found-clause-at_most : goal.returns-in_err-value-in-Found-clause-at_most
 returns-in_err-value-in-Found-clause-at_most g c = reads_then 33 22 55 _ _ _ (omega arith) c.in_ok-find.ensures.at_most c.in_err-value-in-Found.ensures.at_most
 
+pub returns-in_ok-value-in-Found-clause-met : goal.returns-in_ok-value-in-Found-clause-met
+returns-in_ok-value-in-Found-clause-met g c tells =
+    let old = g.R.Reads.state c.args.space.now in
+    value_found old.records (g.R.Reads.state c.find.new.space).records c.args.owner c.args.key c.in-Found.spot c.in_ok-value-in-Found.value (reads_records 33 old _ c.in_ok-find.ensures.at_most)
+    (subst (IsMet old.records c.args.owner c.args.key) c.in-Found.is (c.in_ok-find.ensures.met tells)) (c.in_ok-value-in-Found.ensures.met tells)
+
 pub returns-in_ok-value-in-Found-clause-read : goal.returns-in_ok-value-in-Found-clause-read
 returns-in_ok-value-in-Found-clause-read g c tells es are =
-    let old = g.R.Reads.state c.args.space.now in
-    let now = g.R.Reads.state c.find.new.space in
-    let f = subst (IsSought old.records c.args.owner es c.args.key) c.in-Found.is (c.in_ok-find.ensures.found tells es are) in
-    let value = has_value old.records now.records f.property (first_property f.after) c.in-Found.spot.row.rec (reads_records 33 old now c.in_ok-find.ensures.at_most) f.is f.rec_is in
-    ap (λ v. Some v) (c.in_ok-value-in-Found.ensures.read tells f.property.value f.property.blocks value) ∙ sym (ap (option_map (λ (e : Property). e.value)) f.found)
+    returns-in_ok-value-in-Found-clause-met g c tells ∙ ap (λ z. value_of z c.args.key) (properties_read (property_records (g.R.Reads.state c.args.space.now).records) _ es are)
 
 pub returns-in_ok-value-in-Found-clause-cost : goal.returns-in_ok-value-in-Found-clause-cost
 returns-in_ok-value-in-Found-clause-cost g c tells es are = reads_then _ _ _ _ _ _ (omega arith) (c.in_ok-find.ensures.cost tells es are) c.in_ok-value-in-Found.ensures.reads

@@ -2,14 +2,15 @@ use Rattle.std.proofs.Common.{◌<◌, ◌+◌, length, drop, get_or, ◌∙◌,
 use Rattle.rec_bytes.specs.Format.{strings_file}
 use Rattle.prop_store.proofs.FileSteps.{beside_then}
 use Rattle.prop_store.proofs.ListLaws.{drop_step, in_at}
-use Rattle.prop_store.proofs.ReleaseSteps.{beside_given, one_given, release_writes}
+use Rattle.prop_store.proofs.ReleaseSteps.{beside_given, one_given}
+use Rattle.prop_store.proofs.Touches.{only_given}
 use Rattle.prop_store.proofs.releasing.release.Goals as goal
 
 pub give-requires-clause-key : goal.give-requires-clause-key
 give-requires-clause-key g c = record { file = refl; id = c.requires (get_or c.args.blocks.now c.loop-id.id-index 0) (in_at c.args.blocks.now c.loop-id.id-index (omega arith)) }
 
-pub returns-in_err-give-clause-writes : goal.returns-in_err-give-clause-writes
-returns-in_err-give-clause-writes g c = release_writes _ _ _ strings_file (get_or c.args.blocks.now c.loop-id.id-index 0) c.args.blocks.now (in_at c.args.blocks.now c.loop-id.id-index (omega arith)) c.loop-id.invariant.writes c.give.ensures.writes
+pub returns-in_err-give-clause-touches : goal.returns-in_err-give-clause-touches
+returns-in_err-give-clause-touches g c = only_given _ _ _ strings_file (get_or c.args.blocks.now c.loop-id.id-index 0) c.args.blocks.now (in_at c.args.blocks.now c.loop-id.id-index (omega arith)) c.loop-id.invariant.touches (record { writes = c.give.ensures.writes; stays = c.give.ensures.stays })
 
 pub loop-id-preserved : goal.loop-id-preserved
 loop-id-preserved g c =
@@ -25,7 +26,7 @@ loop-id-preserved g c =
           (c.in_ok-give.ensures.given tells) (c.loop-id.invariant.released tells once h);
       beside = λ tells. beside_then strings_file old.records now.records then.records (c.loop-id.invariant.beside tells) (beside_given now then strings_file id (c.in_ok-give.ensures.ok tells));
       shape = λ tells. c.give.ensures.shape tells ∙ c.loop-id.invariant.shape tells;
-      writes = release_writes old now then strings_file id blocks (in_at blocks i lt) c.loop-id.invariant.writes c.give.ensures.writes;
+      touches = only_given old now then strings_file id blocks (in_at blocks i lt) c.loop-id.invariant.touches (record { writes = c.give.ensures.writes; stays = c.give.ensures.stays });
       onward = g.met.S.Reads.further_onward _ _ _ c.loop-id.invariant.onward c.give.ensures.onward;
       later = omega (arith, c.loop-id.invariant.later, c.give.ensures.cause.later);
     }

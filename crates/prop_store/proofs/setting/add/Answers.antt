@@ -1,48 +1,107 @@
-use Rattle.std.proofs.Common.{◌≡◌, ◌≢◌, [], ap, sym, subst, ◌∙◌, arith}
-use Rattle.std.proofs.lemmas.Result.{err_from_is_err_and}
+use Rattle.std.proofs.Common.{◌≡◌, ◌≢◌, ◌<◌, [], length, ap, sym, subst, ◌∙◌, arith, ◌+◌, ◌∷◌, refl}
+use Rattle.std.proofs.lemmas.Result.{IfErr-weaker, err_from_is_err_and}
+use Rattle.std.specs.FinMap as maps
 use Rattle.plain_graph.specs.Properties.{blocks_of}
 use Rattle.rec_bytes.specs.declared.meta.Meta.{Meta}
 use Rattle.rec_bytes.specs.declared.shape.Shape.{Shape}
 use Rattle.rec_bytes.specs.Format.{properties_file, strings_file}
 use Rattle.rec_bytes.specs.RecordFiles.{room_of}
 use Rattle.rec_bytes.specs.Space.{State, meta_of}
+use Rattle.prop_store.specs.Changing.{HasKey, properties_of}
 use Rattle.prop_store.specs.FileChange.{KeepsFile}
+use Rattle.prop_store.specs.Owner.{IsOwner}
 use Rattle.prop_store.specs.Setting.{IsPutFault, MayLead}
+use Rattle.prop_store.specs.declared.owner.Owner.{Owner}
+use Rattle.prop_store.specs.declared.set_fault.SetFault.TheVariants.{Full}
+use Rattle.prop_store.proofs.ElementGraphs.{count_is, lacks_key, listed_at, owns_listed, refusal_graph, sets_graph}
 use Rattle.prop_store.proofs.ElementSets.{first_leads, keeps_properties, keeps_strings, no_new_blocks, no_property, puts_read, value_added}
 use Rattle.prop_store.proofs.ReadCounts.{reads_one, reads_same}
+use Rattle.prop_store.proofs.Touches.{touches_after, touches_beside, touches_owner, touches_reads, touches_then}
+use Rattle.prop_store.proofs.WriteCounts.{touched_beside}
 use Rattle.prop_store.proofs.setting.add.Goals as goal
+
+-- as few are listed
+few_listed : (s : State) (owner : Owner) (is : IsOwner owner) (key : _) (has : HasKey s owner key) → maps.len (properties_of s owner) < 32 → length (listed_at s owner is has.element) < 32
+few_listed s owner is key has few = let n = count_is s owner is has.element in omega arith
+
+pub returns-then-meta-room_of-clause-alone_refused : goal.returns-then-meta-room_of-clause-alone_refused
+returns-then-meta-room_of-clause-alone_refused g c tells es owns known lacks few =
+    let s = g.S.Reads.state c.args.space.now in
+    let full : (meta_of s properties_file).live ≡ room_of s.shape properties_file
+    = ap (λ (m : Meta). m.live) (sym c.meta-meta.ensures) ∙ c.if-meta-room_of.true ∙ c.room_of.ensures ∙ ap (λ (z : Shape). z.limit) c.shape.ensures.is in
+    no_property s c.args.owner es owns c.args.key c.args.value.now c.meta-meta.result.live lacks few full
 
 pub returns-then-meta-room_of-clause-refused : goal.returns-then-meta-room_of-clause-refused
 returns-then-meta-room_of-clause-refused g c tells has none few =
     let s = g.S.Reads.state c.args.space.now in
-    let full : (meta_of s properties_file).live ≡ s.shape.limit = ap (λ (m : Meta). m.live) (sym c.meta-meta.ensures) ∙ c.if-meta-room_of.true ∙ c.room_of.ensures ∙ ap (λ (z : Shape). z.limit) c.shape.ensures.is in
-    no_property s c.args.owner c.requires.owner c.args.key has c.args.value.now c.meta-meta.result.live none few full
+    let owner = c.args.owner in
+    let is = c.requires.owner in
+    refusal_graph s owner is has.element c.args.key has.known c.args.value.now (Full properties_file c.meta-meta.result.live) (returns-then-meta-room_of-clause-alone_refused g c tells _ (owns_listed s owner is has.element) has.known
+    (lacks_key s owner is has.element c.args.key none) (few_listed s owner is c.args.key has few))
+
+pub returns-in_err-id-clause-alone_refused : goal.returns-in_err-id-clause-alone_refused
+returns-in_err-id-clause-alone_refused g c tells es owns known lacks few =
+    let s = g.S.Reads.state c.args.space.now in
+    let e = c.first.ensures.state in
+    let p = err_from_is_err_and c.from_residual-in_err-id.result c.from_residual-in_err-id.ensures.1 in
+    let room : (meta_of s properties_file).live ≢ room_of s.shape properties_file = λ full. c.if-meta-room_of.false (ap (λ (m : Meta). m.live) c.meta-meta.ensures ∙ full ∙ sym (c.room_of.ensures ∙ ap (λ (y : Shape). y.limit) c.shape.ensures.is)) in
+    let put : IsPutFault s 0 (blocks_of c.args.value.now) c.in_err-id.field-0.0 =
+    subst (λ (y : State). KeepsFile y strings_file → KeepsFile y properties_file → (meta_of y properties_file).live ≢ room_of y.shape properties_file → IsPutFault y 0 (blocks_of c.args.value.now) c.in_err-id.field-0.0) e
+    (c.in_err-id.ensures.refused tells) (keeps_strings s c.args.owner es owns) (keeps_properties s c.args.owner es owns) room in
+    rw (p.1, p.2) (no_new_blocks s c.args.owner es owns c.args.key c.args.value.now c.in_err-id.field-0.0 lacks few room put)
 
 pub returns-in_err-id-clause-refused : goal.returns-in_err-id-clause-refused
 returns-in_err-id-clause-refused g c tells has none few =
     let s = g.S.Reads.state c.args.space.now in
+    let owner = c.args.owner in
+    let is = c.requires.owner in
+    IfErr-weaker _ _ _ (refusal_graph s owner is has.element c.args.key has.known c.args.value.now) (returns-in_err-id-clause-alone_refused g c tells _ (owns_listed s owner is has.element) has.known
+    (lacks_key s owner is has.element c.args.key none) (few_listed s owner is c.args.key has few))
+
+pub returns-clause-alone : goal.returns-clause-alone
+returns-clause-alone g c tells es owns known lacks few =
+    let s = g.S.Reads.state c.args.space.now in
     let z = g.S.Reads.state c.first.new.space in
+    let m = g.S.Reads.state c.put_new.new.space in
+    let owner = c.args.owner in
     let e = c.first.ensures.state in
-    let p = err_from_is_err_and c.from_residual-in_err-id.result c.from_residual-in_err-id.ensures.1 in
-    let room : (meta_of s properties_file).live ≢ s.shape.limit = λ full. c.if-meta-room_of.false (ap (λ (m : Meta). m.live) c.meta-meta.ensures ∙ full ∙ sym (c.room_of.ensures ∙ ap (λ (y : Shape). y.limit) c.shape.ensures.is)) in
-    let put : IsPutFault s 0 (blocks_of c.args.value.now) c.in_err-id.field-0.0 =
-    subst (λ (y : State). KeepsFile y strings_file → KeepsFile y properties_file → (meta_of y properties_file).live ≢ room_of y.shape properties_file → IsPutFault y 0 (blocks_of c.args.value.now) c.in_err-id.field-0.0) e
-    (c.in_err-id.ensures.refused tells) (keeps_strings s c.args.owner c.requires.owner c.args.key has) (keeps_properties s c.args.owner c.requires.owner c.args.key has) room in
-    rw (p.1, p.2) (no_new_blocks s c.args.owner c.requires.owner c.args.key has c.args.value.now c.in_err-id.field-0.0 none few room put)
+    let next_is = c.in_ok-next.ensures.got tells in
+    let strings : KeepsFile z strings_file = subst (λ (y : State). KeepsFile y strings_file) (sym e) (keeps_strings s owner es owns) in
+    let properties : KeepsFile z properties_file = subst (λ (y : State). KeepsFile y properties_file) (sym e) (keeps_properties s owner es owns) in
+    let leads : MayLead z c.in_ok-next.next = subst (λ (y : State). MayLead y c.in_ok-next.next) (sym e) (subst (MayLead s) (sym next_is) (first_leads s owner es owns)) in
+    let puts = puts_read s z m [] [] c.in_ok-id.id c.args.key c.args.value.now c.in_ok-next.next (reads_same 1 s z (reads_one 1 s z (omega arith) e)) (c.in_ok-id.ensures.put tells strings properties leads) in
+    value_added s owner es owns c.requires.owner m (g.S.Reads.state c.set_number.new.space) c.args.key c.args.value.now c.in_ok-id.id c.in_ok-next.next known lacks few next_is puts (c.in_ok-set_number.ensures.ok tells)
 
 pub returns-clause-added : goal.returns-clause-added
 returns-clause-added g c tells has none few =
     let s = g.S.Reads.state c.args.space.now in
-    let z = g.S.Reads.state c.first.new.space in
-    let m = g.S.Reads.state c.put_new.new.space in
-    let t = g.S.Reads.state c.set_number.new.space in
     let owner = c.args.owner in
-    let e = c.first.ensures.state in
-    let next_is = c.in_ok-next.ensures.got tells in
-    let strings : KeepsFile z strings_file = subst (λ (y : State). KeepsFile y strings_file) (sym e) (keeps_strings s owner c.requires.owner c.args.key has) in
-    let properties : KeepsFile z properties_file = subst (λ (y : State). KeepsFile y properties_file) (sym e) (keeps_properties s owner c.requires.owner c.args.key has) in
-    let leads : MayLead z c.in_ok-next.next = subst (λ (y : State). MayLead y c.in_ok-next.next) (sym e) (subst (MayLead s) (sym next_is) (first_leads s owner c.requires.owner c.args.key has)) in
-    let puts = puts_read s z m [] [] c.in_ok-id.id c.args.key c.args.value.now c.in_ok-next.next (reads_same 1 s z (reads_one 1 s z (omega arith) e)) (c.in_ok-id.ensures.put tells strings properties leads) in
-    let set = c.in_ok-set_number.ensures.ok tells in
-    value_added s owner c.requires.owner c.args.key has m t c.args.value.now c.in_ok-id.id c.in_ok-next.next none few next_is puts set
-    (ap (λ (y : State). y.shape) set ∙ c.in_ok-id.ensures.shape tells ∙ ap (λ (y : State). y.shape) e)
+    let is = c.requires.owner in
+    sets_graph s owner is has.element c.args.key has.known (g.S.Reads.state c.set_number.new.space) c.args.value.now 0
+    (returns-clause-alone g c tells _ (owns_listed s owner is has.element) has.known (lacks_key s owner is has.element c.args.key none) (few_listed s owner is c.args.key has few))
+    (ap (λ (y : State). y.shape) (c.in_ok-set_number.ensures.ok tells) ∙ c.in_ok-id.ensures.shape tells ∙ ap (λ (y : State). y.shape) c.first.ensures.state)
+
+pub returns-then-meta-room_of-clause-touches : goal.returns-then-meta-room_of-clause-touches
+returns-then-meta-room_of-clause-touches g c = touches_reads _ 1 _ _ _ refl
+
+pub returns-in_err-next-clause-touches : goal.returns-in_err-next-clause-touches
+returns-in_err-next-clause-touches g c = touches_reads _ 1 _ _ _ (reads_same 1 _ _ (reads_one 1 _ _ (omega arith) c.first.ensures.state))
+
+pub returns-in_err-id-clause-touches : goal.returns-in_err-id-clause-touches
+returns-in_err-id-clause-touches g c = touches_after _ 1 _ _ _ _ (reads_same 1 _ _ (reads_one 1 _ _ (omega arith) c.first.ensures.state)) (touches_beside _ 1 _ _ _ c.put_new.ensures.touches)
+
+pub returns-in_err-set_number-clause-touches : goal.returns-in_err-set_number-clause-touches
+returns-in_err-set_number-clause-touches g c =
+    let put = touches_beside (c.args.owner.key ∷ []) 1 (blocks_of c.args.value.now) (g.S.Reads.state c.first.new.space) (g.S.Reads.state c.put_new.new.space) c.put_new.ensures.touches in
+    touches_after _ 1 _ _ _ _ (reads_same 1 _ _ (reads_one 1 _ _ (omega arith) c.first.ensures.state))
+    (touches_then _ 1 (blocks_of c.args.value.now) 0 0 1 (blocks_of c.args.value.now) _ _ _ (omega arith) (omega arith) put (touches_reads _ 0 0 _ _ (reads_same 1 _ _ (reads_one 1 _ _ (omega arith) c.in_err-set_number.ensures.err))))
+
+pub returns-clause-touches : goal.returns-clause-touches
+returns-clause-touches g c =
+    let put = touches_beside (c.args.owner.key ∷ []) 1 (blocks_of c.args.value.now) (g.S.Reads.state c.first.new.space) (g.S.Reads.state c.put_new.new.space) c.put_new.ensures.touches in
+    touches_after _ 1 _ _ _ _ (reads_same 1 _ _ (reads_one 1 _ _ (omega arith) c.first.ensures.state))
+    (touches_then _ 1 (blocks_of c.args.value.now) 0 0 1 (blocks_of c.args.value.now) _ _ _ (omega arith) (omega arith) put
+    (touches_owner _ _ c.args.owner.key 4 c.args.owner.field c.in_ok-id.id c.set_number.ensures.writes c.in_ok-set_number.ensures.ok))
+
+pub returns-clause-writes : goal.returns-clause-writes
+returns-clause-writes g c = touched_beside 1 (blocks_of c.args.value.now) (1 + blocks_of c.args.value.now) _ _ c.args.owner.key (omega arith) (returns-clause-touches g c)

@@ -1,4 +1,4 @@
-use Rattle.std.proofs.Common.{◌∙◌, ℕ, List, length, ap, arith}
+use Rattle.std.proofs.Common.{◌∙◌, ◌+◌, ℕ, List, [], length, ap, arith}
 use Rattle.std.proofs.lemmas.Result.{err_from_is_err_and}
 use Rattle.plain_graph.specs.Properties.{blocks_of}
 use Rattle.rec_bytes.specs.Format.{property_key, property_next}
@@ -6,8 +6,9 @@ use Rattle.rec_bytes.specs.Record.{field}
 use Rattle.rec_bytes.specs.Space.{State}
 use Rattle.prop_store.proofs.DropSteps.{blocks_given_out}
 use Rattle.prop_store.proofs.PutSteps.{again_put, again_text_fault, read_put_fault, space_put_fault}
-use Rattle.prop_store.proofs.PutWrites.{again_writes}
+use Rattle.prop_store.proofs.PutTouches.{touches_new, touches_texts}
 use Rattle.prop_store.proofs.ReadCounts.{reads_same}
+use Rattle.prop_store.proofs.Touches.{touches_freed, touches_more, touches_reads, touches_same}
 use Rattle.prop_store.proofs.setting.put_again.Goals as goal
 
 pub returns-in_err-blocks-clause-refused : goal.returns-in_err-blocks-clause-refused
@@ -61,7 +62,30 @@ pub returns-clause-shape : goal.returns-clause-shape
 returns-clause-shape g c tells =
     ap (λ (z : State). z.shape) c.in_ok-put.ensures.ok ∙ c.write_text.ensures.shape tells ∙ c.release.ensures.shape tells ∙ ap (λ (z : State). z.shape) (reads_same 22 _ _ c.value_blocks.ensures.at_most)
 
-pub returns-clause-writes : goal.returns-clause-writes
-returns-clause-writes g c =
-    again_writes (g.S.Reads.state c.args.space.now) (g.S.Reads.state c.value_blocks.new.space) (g.S.Reads.state c.release.new.space) (g.S.Reads.state c.write_text.new.space) (g.S.Reads.state c.put.new.self) c.args.value.now c.as_slice-ids.result.now c.long_bytes.result.now c.args.row.now.id
-    c.property_record.result c.long_bytes.ensures.is (reads_same 22 _ _ c.value_blocks.ensures.at_most) c.release.ensures.writes c.in_ok-first.ensures.writes c.in_ok-put.ensures.ok
+pub returns-in_err-blocks-clause-at_most : goal.returns-in_err-blocks-clause-at_most
+returns-in_err-blocks-clause-at_most g c = touches_reads [] 1 _ _ _ (reads_same 22 _ _ c.value_blocks.ensures.at_most)
+
+pub returns-in_err-release-clause-at_most : goal.returns-in_err-release-clause-at_most
+returns-in_err-release-clause-at_most g c =
+    let few = c.as_slice-ids.ensures.few in
+    touches_more [] 0 (length c.as_slice-ids.result.now) 1 (22 + blocks_of c.args.value.now) _ _ (omega arith) (omega arith) (touches_freed _ _ _ c.as_slice-ids.result.now (reads_same 22 _ _ c.value_blocks.ensures.at_most) c.release.ensures.touches)
+
+pub returns-in_err-first-clause-at_most : goal.returns-in_err-first-clause-at_most
+returns-in_err-first-clause-at_most g c =
+    let few = c.as_slice-ids.ensures.few in
+    touches_more [] 0 (blocks_of c.args.value.now + length c.as_slice-ids.result.now) 1 (22 + blocks_of c.args.value.now) _ _ (omega arith) (omega arith)
+    (touches_texts _ _ _ _ c.args.value.now c.as_slice-ids.result.now c.long_bytes.result.now c.long_bytes.ensures.is (reads_same 22 _ _ c.value_blocks.ensures.at_most) c.release.ensures.touches c.write_text.ensures.touches)
+
+pub returns-in_err-put-clause-at_most : goal.returns-in_err-put-clause-at_most
+returns-in_err-put-clause-at_most g c =
+    let few = c.as_slice-ids.ensures.few in
+    touches_same [] 0 (blocks_of c.args.value.now + length c.as_slice-ids.result.now) 1 (22 + blocks_of c.args.value.now) _ _ _ (omega arith) (omega arith) c.in_err-put.ensures.err
+    (touches_texts _ _ _ _ c.args.value.now c.as_slice-ids.result.now c.long_bytes.result.now c.long_bytes.ensures.is (reads_same 22 _ _ c.value_blocks.ensures.at_most) c.release.ensures.touches c.write_text.ensures.touches)
+
+pub returns-clause-touches : goal.returns-clause-touches
+returns-clause-touches g c =
+    touches_new 0 (blocks_of c.args.value.now + length c.as_slice-ids.result.now) _ _ _ c.args.row.now.id c.property_record.result
+    (touches_texts _ _ _ _ c.args.value.now c.as_slice-ids.result.now c.long_bytes.result.now c.long_bytes.ensures.is (reads_same 22 _ _ c.value_blocks.ensures.at_most) c.release.ensures.touches c.write_text.ensures.touches) c.in_ok-put.ensures.ok
+
+pub returns-clause-at_most : goal.returns-clause-at_most
+returns-clause-at_most g c = let few = c.as_slice-ids.ensures.few in touches_more [] 1 _ 1 (22 + blocks_of c.args.value.now) _ _ (omega arith) (omega arith) (returns-clause-touches g c)

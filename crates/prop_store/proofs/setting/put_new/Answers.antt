@@ -1,11 +1,12 @@
-use Rattle.std.proofs.Common.{ap, ◌∙◌}
+use Rattle.std.proofs.Common.{[], ap, arith, ◌∙◌}
 use Rattle.std.proofs.lemmas.Result.{err_from_is_err_and}
 use Rattle.plain_graph.specs.Properties.{blocks_of}
 use Rattle.rec_bytes.specs.Format.{properties_file}
 use Rattle.rec_bytes.specs.Space.{State}
 use Rattle.prop_store.proofs.BlockSteps.{shape-taken, shape_put}
 use Rattle.prop_store.proofs.PutSteps.{property_put, take_put_fault}
-use Rattle.prop_store.proofs.PutWrites.{new_writes}
+use Rattle.prop_store.proofs.PutTouches.{touches_new, touches_text, touches_text_taken}
+use Rattle.prop_store.proofs.Touches.{touches_more, touches_same}
 use Rattle.prop_store.proofs.setting.put_new.Goals as goal
 
 pub returns-in_err-id-clause-refused : goal.returns-in_err-id-clause-refused
@@ -30,7 +31,22 @@ pub returns-clause-shape : goal.returns-clause-shape
 returns-clause-shape g c tells =
     shape_put (g.S.Reads.state c.write_text.new.space) (g.S.Reads.state c.take.new.space) (g.S.Reads.state c.put.new.self) properties_file c.in_ok-id.id c.property_record.result (c.in_ok-id.ensures.ok tells) c.in_ok-put.ensures.ok ∙ c.in_ok-first.ensures.shape tells
 
-pub returns-clause-writes : goal.returns-clause-writes
-returns-clause-writes g c =
-    new_writes (g.S.Reads.state c.args.space.now) (g.S.Reads.state c.write_text.new.space) (g.S.Reads.state c.take.new.space) (g.S.Reads.state c.put.new.self) c.args.value.now c.long_bytes.result.now c.in_ok-id.id c.property_record.result c.long_bytes.ensures.is
-    c.in_ok-first.ensures.writes c.in_ok-id.ensures.writes c.in_ok-put.ensures.ok
+pub returns-in_err-first-clause-touches : goal.returns-in_err-first-clause-touches
+returns-in_err-first-clause-touches g c =
+    touches_more [] 0 (blocks_of c.args.value.now) 1 (blocks_of c.args.value.now) _ _ (omega arith) (omega arith) (touches_text _ _ c.args.value.now c.long_bytes.result.now c.long_bytes.ensures.is c.write_text.ensures.touches)
+
+pub returns-in_err-id-clause-touches : goal.returns-in_err-id-clause-touches
+returns-in_err-id-clause-touches g c =
+    touches_more [] 0 (blocks_of c.args.value.now) 1 (blocks_of c.args.value.now) _ _ (omega arith) (omega arith)
+    (touches_text_taken _ (g.S.Reads.state c.write_text.new.space) _ c.args.value.now c.long_bytes.result.now c.long_bytes.ensures.is c.write_text.ensures.touches (record { writes = c.take.ensures.writes; stays = c.take.ensures.stays }))
+
+pub returns-in_err-put-clause-touches : goal.returns-in_err-put-clause-touches
+returns-in_err-put-clause-touches g c =
+    touches_same [] 0 (blocks_of c.args.value.now) 1 (blocks_of c.args.value.now) _ _ _ (omega arith) (omega arith) c.in_err-put.ensures.err
+    (touches_text_taken _ (g.S.Reads.state c.write_text.new.space) _ c.args.value.now c.long_bytes.result.now c.long_bytes.ensures.is c.write_text.ensures.touches (record { writes = c.take.ensures.writes; stays = c.take.ensures.stays }))
+
+pub returns-clause-touches : goal.returns-clause-touches
+returns-clause-touches g c =
+    touches_new 0 (blocks_of c.args.value.now) _ _ _ c.in_ok-id.id c.property_record.result
+    (touches_text_taken _ (g.S.Reads.state c.write_text.new.space) _ c.args.value.now c.long_bytes.result.now c.long_bytes.ensures.is c.write_text.ensures.touches (record { writes = c.take.ensures.writes; stays = c.take.ensures.stays }))
+    c.in_ok-put.ensures.ok

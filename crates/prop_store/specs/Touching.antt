@@ -1,0 +1,30 @@
+-- Which records a change of properties touches.
+use Rattle.std.specs.Prelude.{ℕ, ◌≤◌, List, [], ◌∷◌, ◌++◌, length, map}
+use Rattle.rec_bytes.specs.declared.key.Key.{Key}
+use Rattle.rec_bytes.specs.Format as format
+use Rattle.rec_bytes.specs.RecordFiles.{meta_key_of}
+use Rattle.rec_bytes.specs.Space.{State, WritesOnly}
+use Rattle.store_rules.specs.Views.{key_in}
+use Rattle.store_rules.specs.Writes.{ChangesOnly}
+
+-- What became written is among these keys, and so is what changed, where the space tells.
+pub record TouchesOnly (tells : Type 0) (old new : State) (keys : List Key) : Type 0 where
+  pub writes : WritesOnly old new keys
+  pub stays : tells → ChangesOnly old new keys
+
+-- the records of these properties and of these blocks, and the meta records of their two files
+abbrev pub property_keys : List ℕ → List ℕ → List Key
+property_keys ids blocks =
+    map (key_in format.properties_file) ids
+    ++ (map (key_in format.strings_file) blocks
+    ++ meta_key_of format.properties_file ∷ meta_key_of format.strings_file ∷ [])
+
+-- Only these links are touched, the records of at most so many properties and so many blocks, and
+-- the meta records of their two files.
+pub record TouchesProperties (tells : Type 0) (links : List Key) (properties blocks : ℕ)
+    (old new : State) : Type 0 where
+  pub ids : List ℕ
+  pub block_ids : List ℕ
+  pub few_ids : length ids ≤ properties
+  pub few_blocks : length block_ids ≤ blocks
+  pub only : TouchesOnly tells old new (links ++ property_keys ids block_ids)
