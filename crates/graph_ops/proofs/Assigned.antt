@@ -2,7 +2,8 @@
 use Rattle.std.specs.FinMap as maps
 use Rattle.std.specs.List.{All, sum_by}
 use Rattle.std.specs.Prelude.{Contains, slice_get}
-use Rattle.std.proofs.Common.{◌≡◌, ◌≢◌, ℕ, zero, suc, ◌+◌, ◌-◌, ◌<◌, ◌≤◌, nat_eq, Bool, true, false, cond, Some, List, [], ◌∷◌, ◌++◌, length, map, take, get_or, sym, ap, ◌∙◌, subst, arith, refl}
+use Rattle.std.proofs.Common.{◌≡◌, ◌≢◌, ℕ, zero, suc, ◌+◌, ◌-◌, ◌<◌, ◌≤◌, nat_eq, nat_le, Bool, true, false, cond, Some, List, [], ◌∷◌, ◌++◌, length, map, take, get_or, sym, ap, ◌∙◌, subst, arith, refl}
+use Rattle.std.proofs.lemmas.Bool.Decides.{nat_tests}
 use Rattle.std.proofs.lemmas.List.{get_or_append_left, length-append, length-map, length-take, take_all, take_more}
 use Rattle.std.proofs.lemmas.List.Elements.{All-head, All-nil, All-tail, All-weaker}
 use Rattle.std.proofs.lemmas.List.Sums.{sum_by-cons}
@@ -25,10 +26,13 @@ use Rattle.store_rules.specs.Properties.{AreOnce}
 use Rattle.store_rules.specs.Writes.{WritesAtMost}
 use Rattle.graph_ops.specs.Assigning.{AreAssigned, HasTooMany, IsAssignFault, assigned_blocks, pair_at, pair_of, pairs_of, with_place}
 use Rattle.graph_ops.specs.ChangeFault.{of_intern}
+use Rattle.graph_ops.specs.Rooms.{KeepsElementMetas}
 use Rattle.graph_ops.specs.Store.{IsStore, KeepsElements}
 use Rattle.graph_ops.specs.declared.assigning.Assignment.{Assignment}
 use Rattle.graph_ops.proofs.LastPairs.{all_placed, blocks_in-with_pairs, len-with_pairs, once_placed, pairs_new, with_pairs-placed, with_pairs-push}
-use Rattle.graph_ops.proofs.LineNames.{held_name, key_lacks, name_prefix, uses_more}
+use Rattle.graph_ops.proofs.LineNames.{held_name, key_lacks, name_long, name_prefix, uses_more}
+use Rattle.graph_ops.proofs.NewNames.{name_one, named_once, placed_grows}
+use Rattle.graph_ops.proofs.Writes.{more_written, then_written}
 
 -- ---- the form of a pair
 pub pair_form : (pairs : List Pair) (i : ℕ) (d : Pair) → ArePairs pairs → i < length pairs → IsShortName (get_or pairs i d).key × IsKept (get_or pairs i d).value
@@ -70,6 +74,7 @@ pub record IsSoFar (old names : List (List ℕ)) (pairs : List Pair) (n : ℕ) (
   pub once : AreOnce (map (λ (a : Assignment). a.key) all)
   pub same : with_pairs no_properties (pairs_of names pairs all) ≡ with_pairs no_properties (take n pairs)
   pub items_is : items ≡ take 33 all
+  pub new_few : length names ≤ length old + length all
 
 pub none_so_far : (names : List (List ℕ)) (pairs : List Pair) → AreHeldNames names → IsSoFar names names pairs 0 []
 none_so_far names pairs held = record {
@@ -81,7 +86,49 @@ none_so_far names pairs held = record {
   once = tt;
   same = refl;
   items_is = refl;
+  new_few = omega arith;
 }
+
+-- fewer than 33 items are all assignments
+pub items_all : (old names : List (List ℕ)) (pairs : List Pair) (n : ℕ) (items : List Assignment) (so_far : IsSoFar old names pairs n items) → length items ≤ 32 → items ≡ so_far.all
+items_all old names pairs n items so_far few =
+    let short : length so_far.all ≤ 33 = let e = ap length so_far.items_is in omega (arith, length-take 33 so_far.all) in
+    so_far.items_is ∙ take_all 33 so_far.all short
+
+pub items_most : (old names : List (List ℕ)) (pairs : List Pair) (n : ℕ) (items : List Assignment) → IsSoFar old names pairs n items → length items ≤ 33
+items_most old names pairs n items so_far = let e = ap length so_far.items_is in omega (arith, length-take 33 so_far.all)
+
+-- while there are fewer, a new name makes one item more
+pub named_more : (old names new : List (List ℕ)) (pairs : List Pair) (n number : ℕ) (items now : List Assignment) (x : List ℕ) → IsSoFar old names pairs n items → UsesName names x new → slice_get new number ≡ Some x
+    → now ≡ take 33 (with_place items number n) → length items ≤ 32 → length new + length items ≤ length names + length now
+named_more old names new pairs n number items now x so_far uses at placed few =
+    let all = items_all old names pairs n items so_far few in
+    let one = name_one names x new uses in
+    let more = named_once number n names x new items uses at (subst (All (λ (a : Assignment). a.key < length names)) (sym all) so_far.known) in
+    let long = ap length placed in
+    omega (arith, length-take 33 (with_place items number n))
+
+-- what is written stays few: a record for each item
+pub few_then : (s t u : State) (old names new : List (List ℕ)) (pairs : List Pair) (n number : ℕ) (items now : List Assignment) (x : List ℕ) → IsSoFar old names pairs n items → UsesName names x new → slice_get new number ≡ Some x
+    → now ≡ take 33 (with_place items number n) → WritesAtMost (length items) s t → WritesAtMost (length new - length names) t u → (32 < length items → u ≡ t) → WritesAtMost (length now) s u
+few_then s t u old names new pairs n number items now x so_far uses at placed before one held = by (nat_le (length items) 32) (λ e. grind (arith, nat_tests)) (λ e. grind (arith, nat_tests))
+  where
+    by : (b : Bool) → (b ≡ true → length items ≤ 32) → (b ≡ false → 32 < length items) → WritesAtMost (length now) s u
+    by true few many =
+        let longer = name_long names x new uses in
+        let more = named_more old names new pairs n number items now x so_far uses at placed (few refl) in
+        more_written (omega arith) (then_written before one)
+    by false few many =
+        let grows = placed_grows number n items now (items_most old names pairs n items so_far) placed in
+        more_written grows (subst (WritesAtMost (length items) s) (sym (held (many refl))) before)
+
+-- so it does where the next key gets no number
+pub few_after : (s t u : State) (items : List Assignment) → length items ≤ 33 → WritesAtMost (length items) s t → WritesAtMost 1 t u → (32 < length items → u ≡ t) → WritesAtMost 33 s u
+few_after s t u items most before one held = by (nat_le (length items) 32) (λ e. grind (arith, nat_tests)) (λ e. grind (arith, nat_tests))
+  where
+    by : (b : Bool) → (b ≡ true → length items ≤ 32) → (b ≡ false → 32 < length items) → WritesAtMost 33 s u
+    by true few many = let le = few refl in more_written (omega arith) (then_written before one)
+    by false few many = more_written most (subst (WritesAtMost (length items) s) (sym (held (many refl))) before)
 
 one_more_at : (old names new : List (List ℕ)) (pairs : List Pair) (n number : ℕ) (items now : List Assignment) → IsSoFar old names pairs n items → n < length pairs → IsShortName (pair_at pairs n).key
     → UsesName names (pair_at pairs n).key new → slice_get new number ≡ Some (pair_at pairs n).key → (¬ Contains names (pair_at pairs n).key → length names ≢ most_names)
@@ -108,6 +155,7 @@ one_more_at old names new pairs n number items now so_far lt short uses at room 
           ∙ ap (λ k. maps.insert (with_pairs no_properties (take n pairs)) k value) (get_or_from_slice_get new number key [] at)
           ∙ sym (ap (with_pairs no_properties) (take_more pairs n (record { key = []; value = values.Text [] }) lt) ∙ with_pairs-push no_properties (take n pairs) (pair_at pairs n));
       items_is = placed ∙ ap (λ l. take 33 (with_place l number n)) so_far.items_is ∙ cut_placed 33 so_far.all number n;
+      new_few = let a = so_far.new_few in let b = named_once number n names key new so_far.all uses at so_far.known in omega arith;
     }
 
 -- the same by the text that got its number
@@ -162,9 +210,10 @@ module _ (old names : List (List ℕ)) (pairs : List Pair) (items : List Assignm
   every = record { known = so_far.known; placed = so_far.placed; once = pairs_new names pairs so_far.held.distinct no_properties so_far.all so_far.known so_far.once (λ k i. maps.get-empty order (get_or names k [])); same = so_far.same ∙ ap (with_pairs no_properties) all_pairs }
 
   pub all_assigned : length items ≤ 32 → AreAssigned names pairs items
-  all_assigned few =
-      let short : length so_far.all ≤ 33 = let e = ap length so_far.items_is in omega (arith, length-take 33 so_far.all) in
-      subst (AreAssigned names pairs) (sym (so_far.items_is ∙ take_all 33 so_far.all short)) every
+  all_assigned few = subst (AreAssigned names pairs) (sym (items_all old names pairs (length pairs) items so_far few)) every
+
+  pub few_named : length items ≤ 32 → length names ≤ length old + length items
+  few_named few = let e = ap length (items_all old names pairs (length pairs) items so_far few) in let n = so_far.new_few in omega arith
 
   pub too_many : 32 < length items → HasTooMany pairs
   too_many many = let e = ap length so_far.items_is in let n = length-assigned names pairs so_far.all every in omega (arith, length-take 33 so_far.all)
@@ -172,8 +221,10 @@ module _ (old names : List (List ℕ)) (pairs : List Pair) (items : List Assignm
 -- ---- the loop's invariant
 pub record IsAssigning (tells onward : Type 0) (s t : State) (before now : ℕ) (old names : List (List ℕ)) (pairs : List Pair) (n : ℕ) (items : List Assignment) : Type 0 where
   pub so_far : IsSoFar old names pairs n items
-  pub kept : tells → IsStore s old → KeepsElements s t names
+  pub kept : tells → length items ≤ 32 → IsStore s old → KeepsElements s t names
+  pub metas : tells → KeepsElementMetas s t
   pub shape : tells → t.shape ≡ s.shape
-  pub writes : WritesAtMost (length names - length old) s t
+  pub writes : length items ≤ 32 → WritesAtMost (length names - length old) s t
+  pub few_writes : WritesAtMost (length items) s t
   pub onward_is : onward
   pub later : before ≤ now

@@ -4,7 +4,6 @@ use Rattle.plain_graph.specs.Graph.{Graph, change_edge, change_node, degree_in, 
 use Rattle.plain_graph.specs.Properties.{no_properties}
 use Rattle.plain_graph.specs.Refusals.{NoReason, change_reasons}
 use Rattle.plain_graph.specs.Reply.{Done}
-use Rattle.plain_graph.specs.declared.command.Command.{Command}
 use Rattle.plain_graph.specs.declared.command.Command.TheVariants as commands
 use Rattle.plain_graph.specs.declared.command.Target.TheVariants as targets
 use Rattle.rec_bytes.specs.Format as format
@@ -26,6 +25,7 @@ use Rattle.node_store.specs.NodeRecord as node_records
 use Rattle.node_store.specs.declared.node_row.NodeRow.{NodeRow}
 use Rattle.prop_store.specs.Changing.{DropsAll, HasElement}
 use Rattle.prop_store.specs.declared.changing.Dropped.{Dropped}
+use Rattle.prop_store.specs.Fault.{IsOwnDamage}
 use Rattle.prop_store.specs.declared.fault.Fault.{Fault}
 use Rattle.prop_store.specs.declared.fault.Fault.TheVariants as prop
 use Rattle.prop_store.specs.declared.owner.Owner.{Owner}
@@ -33,13 +33,12 @@ use Rattle.rel_store.specs.declared.rel_row.RelRow.{RelRow}
 use Rattle.rel_store.specs.Loading as rels
 use Rattle.rel_store.proofs.Rows as rel_rows
 use Rattle.graph_ops.specs.Change.{IsRefusal, MakesChange}
-use Rattle.graph_ops.specs.ChangeFault.{IsOutside, of_prop}
+use Rattle.graph_ops.specs.ChangeFault.{of_prop}
 use Rattle.graph_ops.specs.EdgeDeleting.{IsBareEdge, TakesEdge}
 use Rattle.graph_ops.specs.NodeDeleting.{HasDegree, IsDeleteCause}
 use Rattle.graph_ops.specs.Owners.{owner_of}
 use Rattle.graph_ops.specs.Store.{IsStore, graph_in}
-use Rattle.graph_ops.specs.declared.change_fault.ChangeFault.{ChangeFault}
-use Rattle.graph_ops.specs.declared.change_fault.ChangeFault.TheVariants.{NoNode, NoEdge, HasRelationships, Full, NamesFull, PropsFull, Memory, Disk, Damaged}
+use Rattle.graph_ops.specs.declared.change_fault.ChangeFault.TheVariants.{NoNode, NoEdge, HasRelationships}
 use Rattle.graph_ops.proofs.Elements.{edge_loaded, node_readable, same_both}
 use Rattle.graph_ops.proofs.Readings.{made_read, store_read}
 use Rattle.graph_ops.proofs.Setting.{has_owner}
@@ -68,10 +67,10 @@ edge_free limit graph id there =
     (λ o z. z, (λ o z. z, (λ o z. z, (λ o z. z, (λ o z. z, (λ o z. clash (sym there ∙ z.0), (λ o z. z, (λ o z. z, (λ o z. z, (λ o z. z, (λ o z. z, tt)))))))))))
 
 -- damage that is met among the properties of a node is that of one without relationships
-pub drop_cause : (s : State) (id : ℕ) (row : NodeRow) → Some row ≡ nodes.row_at s.records id → row.degree ≡ 0 → (fault : Fault) → IsDeleteCause s id (of_prop fault)
-drop_cause s id row found lone prop.Memory = tt
-drop_cause s id row found lone prop.Disk = tt
-drop_cause s id row found lone (prop.Damaged damage) = inr (record { row = row; found = sym found; is = lone })
+pub drop_cause : (s : State) (id : ℕ) (row : NodeRow) → Some row ≡ nodes.row_at s.records id → row.degree ≡ 0 → (fault : Fault) → IsOwnDamage fault → IsDeleteCause s id (of_prop fault)
+drop_cause s id row found lone prop.Memory own = tt
+drop_cause s id row found lone prop.Disk own = tt
+drop_cause s id row found lone (prop.Damaged damage) own = inr (record { lone = record { row = row; found = sym found; is = lone }; file = own })
 
 -- ---- rows without the one that was changed are those without it
 without_changed : {E : Type 0} (of : E → ℕ) (id : ℕ) (change : E → E) → ((e : E) → of (change e) ≡ of e) → (rows : List E) → without_row of id (with_change of id change rows) ≡ without_row of id rows

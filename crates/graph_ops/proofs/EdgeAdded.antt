@@ -1,23 +1,19 @@
 -- The whole of adding an edge, by what the calls left.
 use Rattle.std.specs.List.{list_any}
-use Rattle.std.proofs.Common.{◌≡◌, ◌≢◌, ◌⊎◌, ℕ, ◌+◌, ◌*◌, ◌<◌, ◌≤◌, nat_eq, if◌then◌else◌, true, false, Option, None, Some, List, ◌∷◌, filter, find, length, sym, ap, ◌∙◌, subst, inl, inr, ⊎_elim, arith, refl}
-use Rattle.plain_graph.specs.Changes.{ends_weight, properties_weight}
-use Rattle.plain_graph.specs.Graph.{AddsEdge, Edge, Graph, Node, UsesNames, change_edge, degree_in, edge_number, edge_properties, has_edge, has_node, is_at, node_number, with_change, with_row}
-use Rattle.plain_graph.specs.Properties.{Properties, keys_in, no_properties, with_pairs}
+use Rattle.std.proofs.Common.{◌≡◌, ◌≢◌, ℕ, ◌+◌, ◌<◌, nat_eq, true, false, Option, None, Some, List, ◌∷◌, filter, find, length, sym, ap, ◌∙◌, subst, inl, inr, arith, refl}
+use Rattle.plain_graph.specs.Changes.{ends_weight}
+use Rattle.plain_graph.specs.Graph.{Edge, Graph, UsesNames, change_edge, degree_in, edge_number, edge_properties, has_node, is_at, node_number, with_change, with_row}
+use Rattle.plain_graph.specs.Properties.{keys_in, no_properties, with_pairs}
 use Rattle.plain_graph.specs.Refusals.{FirstReason, NoReason, change_reasons, edges_full, no_source, no_target}
 use Rattle.plain_graph.specs.Reply.{EdgeMade}
 use Rattle.plain_graph.specs.declared.command.Command.TheVariants as commands
-use Rattle.plain_graph.specs.declared.command.Target.{Target}
 use Rattle.plain_graph.specs.declared.command.Target.TheVariants as targets
 use Rattle.plain_graph.specs.declared.pairs.Pair.{Pair}
 use Rattle.plain_graph.specs.declared.refusal.Refusal.{Refusal}
 use Rattle.plain_graph.specs.declared.refusal.Refusal.TheVariants as refusals
-use Rattle.rec_bytes.specs.declared.meta.Meta.{Meta}
 use Rattle.rec_bytes.specs.declared.shape.Shape.{Shape}
 use Rattle.rec_bytes.specs.Format as format
 use Rattle.rec_bytes.specs.Space.{SameButReads, State, meta_of}
-use Rattle.store_rules.specs.Views.{high, is_live}
-use Rattle.store_rules.proofs.Counts.{length-ids}
 use Rattle.store_rules.proofs.GraphRows.{count_edges}
 use Rattle.node_store.specs.declared.node_row.NodeRow.{NodeRow}
 use Rattle.node_store.specs.Loading as nodes

@@ -12,7 +12,6 @@ use Rattle.rec_bytes.specs.RecordFiles.{room_of}
 use Rattle.rec_bytes.specs.Space.{State, put}
 use Rattle.rec_bytes.proofs.Spaces.{put_same, put_other}
 use Rattle.store_rules.specs.Chains.{prev_in}
-use Rattle.store_rules.specs.Graph.{graph_of, names_of}
 use Rattle.store_rules.specs.Ranges.{Fits, layout_by, may, must}
 use Rattle.store_rules.specs.Rules.{IsSparseStore, IsSplit, first_of, node_head}
 use Rattle.store_rules.specs.Views as views

@@ -1,5 +1,5 @@
 -- An edge without properties that is taken out of the chains of its ends, and whose identifier is given back.
-use Rattle.std.proofs.Common.{◌≡◌, ◌≢◌, ℕ, ◌-◌, Some, List, sym, ap, ◌∙◌, subst, refl}
+use Rattle.std.proofs.Common.{◌≡◌, ◌≢◌, ℕ, ◌-◌, List, sym, ap, ◌∙◌, subst, refl}
 use Rattle.rec_bytes.specs.Format as format
 use Rattle.rec_bytes.specs.Meta.{IsMetaInRange}
 use Rattle.rec_bytes.specs.RecordFiles.{room_of}

@@ -1,6 +1,6 @@
 -- An element whose properties change, one change after another, and a new element that gets its properties.
 use Rattle.std.specs.List.{list_any}
-use Rattle.std.proofs.Common.{◌≡◌, ◌≢◌, ℕ, nat_eq, nat_lt, Bool, true, false, ◌||◌, cond, if◌then◌else◌, None, Some, option_map, List, [], ◌∷◌, find, sym, ap, ◌∙◌, refl}
+use Rattle.std.proofs.Common.{◌≡◌, ℕ, nat_eq, nat_lt, Bool, true, false, ◌||◌, cond, None, Some, option_map, List, [], ◌∷◌, find, sym, ap, ◌∙◌, refl}
 use Rattle.plain_graph.specs.Graph.{Edge, Graph, Node, change_edge, change_node, edge_number, edge_properties, has_element, node_number, node_properties, properties_at, with_change, with_properties, with_row}
 use Rattle.plain_graph.specs.Properties.{Properties}
 use Rattle.plain_graph.specs.declared.command.Target.{Target}

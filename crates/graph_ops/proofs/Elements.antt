@@ -1,6 +1,8 @@
 -- What a row that was loaded, or none, says of the graph.
 use Rattle.std.proofs.Common.{◌≡◌, ◌≢◌, ℕ, ◌+◌, min, nat_eq, nat_lt, Bool, true, false, cond, ◌&&◌, None, Some, List, sym, ap, ◌∙◌, ⊎_elim, arith, refl}
-use Rattle.plain_graph.specs.Graph.{degree_in, has_edge, has_node}
+use Rattle.plain_graph.specs.Graph.{degree_in, has_edge, has_element, has_node}
+use Rattle.plain_graph.specs.declared.command.Target.{Target}
+use Rattle.plain_graph.specs.declared.command.Target.TheVariants as targets
 use Rattle.rec_bytes.specs.Format as format
 use Rattle.rec_bytes.specs.Space.{SameButReads, State, after_get}
 use Rattle.rec_bytes.specs.Record.{field}
@@ -18,6 +20,7 @@ use Rattle.rel_store.specs.Loading as rels
 use Rattle.rel_store.specs.RelRecord.{row_of}
 use Rattle.rel_store.proofs.Rows as rel_rows
 use Rattle.graph_ops.specs.NodeDeleting.{HasDegree}
+use Rattle.graph_ops.specs.Owners.{owner_of}
 use Rattle.graph_ops.specs.Store.{IsStore, graph_in}
 
 -- ---- a load changes nothing but the count of reads
@@ -57,12 +60,20 @@ edge_missing s id found = rows.no_edge s.records id (none_if (kind_at s.records 
     none_if : (kind : ℕ) → row_if kind (row_of (rec_at s.records format.relationships_file id) id) ≡ None → kind ≡ 0
     none_if kind h = ⊎_elim (λ (e : kind ≡ 0). e) (λ (ne : kind ≢ 0). absurd (let z = sym (row_some kind (row_of (rec_at s.records format.relationships_file id) id) ne) ∙ h in cc)) (nat_cases kind 0)
 
+-- ---- an element of the graph is in use
+pub element_used : (s : State) (target : Target) → has_element (graph_in s) target ≡ true → kind_at s.records (owner_of target).key.file (owner_of target).key.id ≢ format.free_kind
+element_used s (targets.Node id) there free = clash (sym there ∙ rows.no_node s.records id free)
+  where
+    clash : true ≡ false → ⊥
+    clash e = cc
+element_used s (targets.Edge id) there free = clash (sym there ∙ rows.no_edge s.records id free)
+  where
+    clash : true ≡ false → ⊥
+    clash e = cc
+
 -- ---- a store's records can be read
 pub node_readable : (s : State) (names : List (List ℕ)) (id : ℕ) → IsStore s names → nodes.IsReadable s id
 node_readable s names id store = node_rows.IsReadable-AreInRange s id store.store.keeps.ranges
-
-pub rel_readable : (s : State) (names : List (List ℕ)) (id : ℕ) → IsStore s names → rels.IsReadable s id
-rel_readable s names id store = rel_rows.IsReadable-AreInRange s id store.store.keeps.ranges
 
 -- ---- the degree that was read of a node of a store
 

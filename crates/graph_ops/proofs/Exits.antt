@@ -1,12 +1,19 @@
 -- An exit that hands a fault on, and what a fault leaves.
 use Rattle.std.specs.Bool.{OnTrue}
-use Rattle.std.specs.Prelude.{Result, Ok, Err, IfErr, IsErrAnd}
-use Rattle.std.proofs.Common.{◌≡◌, ℕ, Bool, true, false, sym, ap, ◌∙◌, subst}
+use Rattle.std.specs.Prelude.{Result, Err, IfErr, IsErrAnd}
+use Rattle.std.proofs.Common.{◌≡◌, Bool, true, false, sym, ap, ◌∙◌, subst, ⊎_elim}
 use Rattle.std.proofs.lemmas.Result.{err_from_is_err_and}
 use Rattle.rec_bytes.specs.Space.{SameButReads, State}
 use Rattle.graph_ops.specs.declared.change_fault.ChangeFault.{ChangeFault}
 use Rattle.graph_ops.specs.declared.change_fault.ChangeFault.TheVariants.{NoNode, NoEdge, HasRelationships, Full, NamesFull, PropsFull, Memory, Disk, Damaged}
-use Rattle.graph_ops.specs.ChangeFault.{IsOutside, LeavesSpace, is_element_file}
+use Rattle.rec_bytes.specs.declared.space.SpaceFault.{SpaceFault}
+use Rattle.rec_bytes.specs.declared.space.SpaceFault.TheVariants as spaces
+use Rattle.prop_store.specs.SetFault.{IsOwnRoom}
+use Rattle.prop_store.specs.declared.set_fault.SetFault.{SetFault}
+use Rattle.prop_store.specs.declared.set_fault.SetFault.TheVariants as sets
+use Rattle.chain_edit.specs.declared.chain_fault.ChainFault.{ChainFault}
+use Rattle.chain_edit.specs.declared.chain_fault.ChainFault.TheVariants as chains
+use Rattle.graph_ops.specs.ChangeFault.{LeavesSpace, MayComeLate, is_element_file, of_chain, of_set, of_space}
 
 -- what holds of a fault holds of the result that hands it on
 pub fault_exit : {T F : Type 0} (of : F → ChangeFault) (P : ChangeFault → Type 0) (fault : F) (out : Result T ChangeFault) → IsErrAnd out (λ y. y ≡ of fault) → P (of fault) → IfErr out P
@@ -35,14 +42,31 @@ read_leaves s t same Memory = tt
 read_leaves s t same Disk = tt
 read_leaves s t same (Damaged damage) = tt
 
--- so does a failure of the machine leave any space
-pub outside_leaves : (s t : State) (fault : ChangeFault) → IsOutside fault → LeavesSpace s t fault
-outside_leaves s t (NoNode id) out = absurd out
-outside_leaves s t (NoEdge id) out = absurd out
-outside_leaves s t (HasRelationships id degree) out = absurd out
-outside_leaves s t (Full file live) out = absurd out
-outside_leaves s t (NamesFull count) out = absurd out
-outside_leaves s t (PropsFull count) out = absurd out
-outside_leaves s t Memory out = tt
-outside_leaves s t Disk out = tt
-outside_leaves s t (Damaged damage) out = absurd out
+-- so is any space by one that may come late
+pub late_leaves : (s t : State) (fault : ChangeFault) → MayComeLate fault → LeavesSpace s t fault
+late_leaves s t (NoNode id) late = absurd late
+late_leaves s t (NoEdge id) late = absurd late
+late_leaves s t (HasRelationships id degree) late = absurd late
+late_leaves s t (Full file live) late = subst (λ b. OnTrue b (SameButReads s t)) (sym late) tt
+late_leaves s t (NamesFull count) late = tt
+late_leaves s t (PropsFull count) late = tt
+late_leaves s t Memory late = tt
+late_leaves s t Disk late = tt
+late_leaves s t (Damaged damage) late = tt
+
+-- ---- faults of the crates below that may come late
+pub space_late : (fault : SpaceFault) → MayComeLate (of_space fault)
+space_late spaces.Memory = tt
+space_late spaces.Disk = tt
+
+pub chain_late : (fault : ChainFault) → MayComeLate (of_chain fault)
+chain_late chains.Memory = tt
+chain_late chains.Disk = tt
+chain_late (chains.Damaged damage) = tt
+
+pub set_late : (fault : SetFault) → IsOwnRoom fault → MayComeLate (of_set fault)
+set_late (sets.PropsFull count) own = tt
+set_late (sets.Full file live) own = ⊎_elim (λ e. ap is_element_file e) (λ e. ap is_element_file e) own
+set_late sets.Memory own = tt
+set_late sets.Disk own = tt
+set_late (sets.Damaged damage) own = tt

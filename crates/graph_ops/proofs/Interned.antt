@@ -1,13 +1,12 @@
 -- A name that gets its number keeps a store, its nodes and its edges.
 use Rattle.std.specs.Prelude.{Contains}
-use Rattle.std.proofs.Common.{◌≡◌, ◌≢◌, ℕ, ◌-◌, ◌<◌, List, [], ◌∷◌, ◌++◌, length, sym, ap, ◌∙◌, subst, inl, inr, ⊎_elim, arith, refl}
+use Rattle.std.proofs.Common.{◌≡◌, ◌≢◌, ℕ, ◌-◌, List, [], ◌∷◌, ◌++◌, length, sym, ap, ◌∙◌, subst, inl, inr, ⊎_elim, arith, refl}
 use Rattle.std.proofs.lemmas.List.{length-append}
 use Rattle.plain_graph.specs.Graph.{UsesName}
 use Rattle.plain_graph.specs.Names.{IsShortName}
 use Rattle.rec_bytes.specs.Format as format
 use Rattle.rec_bytes.specs.RecordFiles.{meta_key_of}
 use Rattle.rec_bytes.specs.Space.{SameButReads, State, WritesOnly}
-use Rattle.store_rules.specs.Graph.{names_of}
 use Rattle.store_rules.specs.Rules.{IsSparseStore}
 use Rattle.store_rules.specs.Views.{Records, high}
 use Rattle.store_rules.specs.Writes.{WritesAtMost}
@@ -16,6 +15,7 @@ use Rattle.name_store.specs.Interning.{interned, named}
 use Rattle.name_store.specs.NameRecord.{name_key, name_record}
 use Rattle.name_store.proofs.FirstNames.{length-names_of}
 use Rattle.name_store.proofs.NamedStore.{IsNamed-named, interned-known, interned-new}
+use Rattle.graph_ops.specs.Rooms.{KeepsElementMetas}
 use Rattle.graph_ops.specs.Store.{IsStore, KeepsElements}
 use Rattle.graph_ops.proofs.Writes.{among_metas, more_written, none_written, some_written}
 
@@ -49,15 +49,35 @@ keeps_named s old text store short lacks few =
       edges = edges_stay s.records v s.shape (name_record text) text there store.store.keeps;
     })
 
+-- no name touches what the meta records of other files say
+pub metas_same : (s : State) → KeepsElementMetas s s
+metas_same s = record { nodes = refl; edges = refl }
+
+pub metas_then : {s t u : State} → KeepsElementMetas s t → KeepsElementMetas t u → KeepsElementMetas s u
+metas_then h k = record { nodes = k.nodes ∙ h.nodes; edges = k.edges ∙ h.edges }
+
+metas_named : (s : State) (id : ℕ) (text : List ℕ) → KeepsElementMetas s (named s id text)
+unfolding named
+metas_named s id text = record { nodes = refl; edges = refl }
+
+pub metas_interned : (s t : State) (old new : List (List ℕ)) (text : List ℕ) → t ≡ interned s old text → UsesName old text new → KeepsElementMetas s t
+metas_interned s t old new text is uses = ⊎_elim
+    (λ (k : Contains old text × (new ≡ old)). subst (KeepsElementMetas s) (sym (is ∙ interned-known s old text k.0)) (metas_same s))
+    (λ (k : (¬ Contains old text) × (new ≡ old ++ text ∷ [])). subst (KeepsElementMetas s) (sym (is ∙ interned-new s old text k.0)) (metas_named s (length old) text)) uses
+
 pub keeps_interned : (s t : State) (old new : List (List ℕ)) (text : List ℕ) → t ≡ interned s old text → UsesName old text new → IsShortName text → (¬ Contains old text → length old ≢ format.most_names) → IsStore s old → KeepsElements s t new
 keeps_interned s t old new text is uses short few store = ⊎_elim
     (λ (k : Contains old text × (new ≡ old)). subst (λ z. KeepsElements s z new) (sym (is ∙ interned-known s old text k.0)) (subst (KeepsElements s s) (sym k.1) (keeps_same s old store)))
     (λ (k : (¬ Contains old text) × (new ≡ old ++ text ∷ [])). subst (λ z. KeepsElements s z new) (sym (is ∙ interned-new s old text k.0)) (subst (KeepsElements s (named s (length old) text)) (sym k.1) (keeps_named s old text store short k.0 (few k.0)))) uses
+
+-- whatever comes of it, one record is written at most
+pub one_written : (s t : State) (number : ℕ) → WritesOnly s t (name_key number ∷ meta_key_of format.names_file ∷ []) → WritesAtMost 1 s t
+one_written s t number = some_written s t (name_key number ∷ []) (name_key number ∷ meta_key_of format.names_file ∷ []) (refl, tt)
+    (λ q i. ⊎_elim (λ e. inl e) (λ j. inr (⊎_elim (λ e. among_metas format.names_file q refl e) (λ e. absurd e) j)) i)
 
 -- a name that is new has its record written
 pub name_written : (s t : State) (old new : List (List ℕ)) (text : List ℕ) → UsesName old text new → (Contains old text → t ≡ s) → WritesOnly s t (name_key (length old) ∷ meta_key_of format.names_file ∷ []) → WritesAtMost (length new - length old) s t
 name_written s t old new text uses stays writes = ⊎_elim
     (λ (k : Contains old text × (new ≡ old)). more_written (omega arith) (none_written s t (subst (SameButReads s) (sym (stays k.0)) refl)))
     (λ (k : (¬ Contains old text) × (new ≡ old ++ text ∷ [])). more_written (let e = ap length k.1 in omega (arith, length-append old (text ∷ [])))
-    (some_written s t (name_key (length old) ∷ []) (name_key (length old) ∷ meta_key_of format.names_file ∷ []) (refl, tt)
-    (λ q i. ⊎_elim (λ e. inl e) (λ j. inr (⊎_elim (λ e. among_metas format.names_file q refl e) (λ e. absurd e) j)) i) writes)) uses
+    (one_written s t (length old) writes)) uses

@@ -3,20 +3,19 @@ use Rattle.std.specs.FinMap as maps
 use Rattle.std.specs.List.{All, sum_by}
 use Rattle.std.specs.Ordering.{eq_by_cmp}
 use Rattle.std.specs.Prelude.{Contains, is_some}
-use Rattle.std.proofs.Common.{◌≡◌, ◌≢◌, ◌⊎◌, ℕ, zero, suc, ◌+◌, ◌<◌, ◌≤◌, nat_eq, Bool, true, false, cond, Option, None, Some, List, [], ◌∷◌, ◌++◌, length, map, get_or, take, sym, ap, ◌∙◌, subst, inl, inr, ⊎_elim, arith, refl}
+use Rattle.std.proofs.Common.{◌≡◌, ◌≢◌, ◌⊎◌, ℕ, zero, suc, ◌+◌, ◌<◌, nat_eq, Bool, true, false, cond, Option, None, Some, List, [], ◌∷◌, ◌++◌, length, map, get_or, take, sym, ap, ◌∙◌, subst, inl, inr, ⊎_elim, arith, refl}
 use Rattle.std.proofs.lemmas.Cmp.{nat_list_cmp_total}
 use Rattle.std.proofs.lemmas.Bool.Decides.{nat_tests}
 use Rattle.std.proofs.lemmas.List.Elements.{All-cons, All-head, All-tail, All-nil, Contains-get_or}
 use Rattle.std.proofs.lemmas.List.Sums.{sum_by-cons}
-use Rattle.plain_graph.specs.Properties.{Properties, blocks_at, blocks_if, blocks_in, blocks_of, no_properties, with_pairs}
+use Rattle.plain_graph.specs.Properties.{Properties, blocks_if, blocks_in, blocks_of, with_pairs}
 use Rattle.plain_graph.specs.declared.pairs.Pair.{Pair}
 use Rattle.plain_graph.specs.declared.value.Value.{Value}
 use Rattle.plain_graph.proofs.PropertyLaws.{blocks_in-insert, len-insert, order, same_key}
 use Rattle.name_store.specs.Names.{AreDistinct}
 use Rattle.store_rules.specs.Chains.{In}
 use Rattle.store_rules.specs.Properties.{AreOnce}
-use Rattle.store_rules.proofs.NumberLaws.{nat_cases}
-use Rattle.graph_ops.specs.Assigning.{AreNew, pair_at, pair_of, pairs_of, with_place}
+use Rattle.graph_ops.specs.Assigning.{AreNew, pair_at, pairs_of, with_place}
 use Rattle.graph_ops.specs.declared.assigning.Assignment.{Assignment}
 
 -- ---- maps

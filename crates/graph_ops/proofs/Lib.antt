@@ -14,6 +14,7 @@ pub mod Exits
 pub mod Interned
 pub mod LastPairs
 pub mod LineNames
+pub mod NewNames
 pub mod NodeAdded
 pub mod NodePut
 pub mod PairsPut

@@ -1,25 +1,19 @@
 -- The whole of adding a node, by what the calls left.
 use Rattle.std.specs.List.{list_any}
-use Rattle.std.proofs.Common.{◌≡◌, ◌≢◌, ℕ, ◌+◌, ◌<◌, ◌≤◌, nat_eq, true, false, List, ◌∷◌, find, length, sym, ap, ◌∙◌, subst, inl, inr, arith, refl}
-use Rattle.plain_graph.specs.Changes.{properties_weight}
-use Rattle.plain_graph.specs.Graph.{AddsNode, Edge, Graph, Node, UsesNames, change_node, node_number, node_properties, with_change, with_row}
-use Rattle.plain_graph.specs.Properties.{Properties, keys_in, no_properties, with_pairs}
+use Rattle.std.proofs.Common.{◌≡◌, ℕ, ◌+◌, ◌<◌, nat_eq, false, List, ◌∷◌, find, length, sym, ap, ◌∙◌, subst, inl, inr, arith, refl}
+use Rattle.plain_graph.specs.Graph.{Graph, Node, UsesNames, change_node, node_number, node_properties, with_change, with_row}
+use Rattle.plain_graph.specs.Properties.{keys_in, no_properties, with_pairs}
 use Rattle.plain_graph.specs.Refusals.{FirstReason, change_reasons, nodes_full}
 use Rattle.plain_graph.specs.Reply.{NodeMade}
 use Rattle.plain_graph.specs.declared.command.Command.TheVariants as commands
 use Rattle.plain_graph.specs.declared.command.Target.TheVariants as targets
 use Rattle.plain_graph.specs.declared.pairs.Pair.{Pair}
 use Rattle.plain_graph.specs.declared.refusal.Refusal.{Refusal}
-use Rattle.plain_graph.specs.declared.refusal.Refusal.TheVariants as refusals
-use Rattle.rec_bytes.specs.declared.meta.Meta.{Meta}
 use Rattle.rec_bytes.specs.declared.shape.Shape.{Shape}
 use Rattle.rec_bytes.specs.Format as format
-use Rattle.rec_bytes.specs.RecordFiles.{room_of}
 use Rattle.rec_bytes.specs.Space.{State, meta_of}
-use Rattle.store_rules.specs.Views.{high, is_live}
-use Rattle.store_rules.proofs.Counts.{length-ids}
 use Rattle.store_rules.proofs.NodeChange.{count_nodes}
-use Rattle.graph_ops.specs.Assigning.{AreAssigned, CanPut, HasPropertyRoom, PutsPairs, assigned_blocks, pairs_of}
+use Rattle.graph_ops.specs.Assigning.{CanPut, HasPropertyRoom, PutsPairs, assigned_blocks, pairs_of}
 use Rattle.graph_ops.specs.Change.{IsRefusedBy, MakesChange}
 use Rattle.graph_ops.specs.NodeAdding.{IsFullOfNodes, PutsNode}
 use Rattle.graph_ops.specs.Preparing.{IsPrepared, line_reasons}

@@ -1,7 +1,7 @@
 -- A node's record over a store that has its label's name.
-use Rattle.std.specs.Prelude.{Err, slice_get}
+use Rattle.std.specs.Prelude.{slice_get}
 use Rattle.std.proofs.lemmas.Option.{slice_get_within}
-use Rattle.std.proofs.Common.{◌≡◌, ◌≢◌, ℕ, ◌+◌, ◌<◌, Some, List, length, sym, ap, ◌∙◌, subst, arith, refl}
+use Rattle.std.proofs.Common.{◌≡◌, ◌≢◌, ℕ, ◌<◌, Some, List, length, sym, ap, ◌∙◌, subst, arith, refl}
 use Rattle.plain_graph.specs.Graph.{node_number, with_row}
 use Rattle.plain_graph.specs.Properties.{no_properties}
 use Rattle.rec_bytes.specs.declared.key.Key.{Key}
@@ -9,11 +9,11 @@ use Rattle.rec_bytes.specs.declared.record.Rec.{Rec}
 use Rattle.rec_bytes.specs.Format as format
 use Rattle.rec_bytes.specs.Meta as metas
 use Rattle.rec_bytes.specs.RecordFiles.{meta_key_of}
-use Rattle.rec_bytes.specs.Space.{State, after_put, meta_of, put}
+use Rattle.rec_bytes.specs.Space.{State, after_put, put}
 use Rattle.rec_bytes.proofs.Spaces.{put_same, put_other}
 use Rattle.store_rules.specs.Graph.{names_of}
 use Rattle.store_rules.specs.Rules.{IsSparseStore}
-use Rattle.store_rules.specs.Views.{Records, high, key_in, rec_at, text_of}
+use Rattle.store_rules.specs.Views.{Records, high, rec_at, text_of}
 use Rattle.store_rules.proofs.Made.{IsMade}
 use Rattle.store_rules.proofs.NodeChange.{edges_stay, names_stay}
 use Rattle.store_rules.proofs.NodeMade.{IsNewNode, node_added, node_fresh, node_store}

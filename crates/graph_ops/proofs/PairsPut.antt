@@ -1,19 +1,17 @@
 -- Properties that a new element gets, one after another.
 use Rattle.std.specs.FinMap as maps
-use Rattle.std.specs.List.{All, sum_by}
-use Rattle.std.specs.Prelude.{slice_get}
-use Rattle.std.proofs.Common.{◌≡◌, ◌≢◌, ◌⊎◌, ℕ, zero, suc, ◌+◌, ◌<◌, ◌≤◌, nat_eq, Bool, true, false, cond, None, Some, List, [], ◌∷◌, ◌++◌, length, map, take, get_or, sym, ap, ◌∙◌, subst, inl, inr, ⊎_elim, arith, refl}
+use Rattle.std.proofs.Common.{◌≡◌, ℕ, ◌+◌, ◌<◌, ◌≤◌, true, None, List, [], ◌∷◌, ◌++◌, length, take, get_or, sym, ap, ◌∙◌, subst, inl, inr, ⊎_elim, arith, refl}
 use Rattle.std.proofs.lemmas.List.{get_or-map, length-map, length-take-le, take_all, take_more}
 use Rattle.std.proofs.lemmas.List.Sums.{sum_by-take-le}
 use Rattle.std.proofs.lemmas.Option.{slice_get-get_or}
-use Rattle.plain_graph.specs.Graph.{Edge, Graph, Node, block_count, change_edge, change_node, has_edge, has_element, has_node, properties_at, property_count, with_change, with_properties, with_value}
+use Rattle.plain_graph.specs.Graph.{Graph, block_count, has_element, properties_at, property_count, with_properties, with_value}
 use Rattle.plain_graph.specs.Properties.{Properties, blocks_in, blocks_of, no_properties, with_pairs}
 use Rattle.plain_graph.specs.declared.command.Target.{Target}
 use Rattle.plain_graph.specs.declared.command.Target.TheVariants as targets
 use Rattle.plain_graph.specs.declared.pairs.Pair.{Pair}
 use Rattle.plain_graph.specs.declared.value.Value.{Value}
 use Rattle.plain_graph.proofs.PropertyLaws.{blocks_in-empty, order}
-use Rattle.prop_store.specs.Changing.{HasElement, HasKey, IsSetRefusal, SetsValue, properties_of, target_of, text_at}
+use Rattle.prop_store.specs.Changing.{HasKey, IsSetRefusal, SetsValue, properties_of, target_of, text_at}
 use Rattle.prop_store.specs.Owner.{IsOwner}
 use Rattle.prop_store.specs.declared.owner.Owner.{Owner}
 use Rattle.prop_store.specs.declared.set_fault.SetFault.{SetFault}
@@ -23,13 +21,10 @@ use Rattle.rec_bytes.specs.declared.shape.Shape.{Shape}
 use Rattle.rec_bytes.specs.Format as format
 use Rattle.rec_bytes.specs.Key.{IsKey}
 use Rattle.rec_bytes.specs.Space.{State}
-use Rattle.store_rules.specs.Graph.{graph_of, names_of}
-use Rattle.store_rules.specs.Views.{Records, high, kind_at, rec_at, text_of}
+use Rattle.store_rules.specs.Views.{high}
 use Rattle.store_rules.specs.Writes.{WritesBeside}
-use Rattle.store_rules.proofs.GraphRows.{no_edge, no_node}
-use Rattle.store_rules.proofs.NumberLaws.{nat_cases}
 use Rattle.store_rules.proofs.PropertyCounts.{count_blocks, count_properties}
-use Rattle.graph_ops.specs.Assigning.{AreNew, CanPut, HasPropertyRoom, PutsPairs, assigned_blocks, pair_at, pair_of, pairs_of}
+use Rattle.graph_ops.specs.Assigning.{CanPut, HasPropertyRoom, PutsPairs, assigned_blocks, pair_of, pairs_of}
 use Rattle.graph_ops.specs.ChangeFault.{IsOutside, of_set}
 use Rattle.graph_ops.specs.Owners.{owner_of}
 use Rattle.graph_ops.specs.Store.{IsStore, graph_in}
@@ -38,6 +33,7 @@ use Rattle.graph_ops.proofs.Assigned.{sums}
 use Rattle.graph_ops.proofs.ElementChanges.{has_element-with_properties, names-with_properties, properties_at-with_properties, with_properties_same, with_properties_twice}
 use Rattle.graph_ops.proofs.LastPairs.{blocks_in-with_pairs, len-with_pairs, new_at, new_take, with_pairs-push}
 use Rattle.graph_ops.proofs.NodePut.{number_in}
+use Rattle.graph_ops.proofs.Elements.{element_used}
 
 -- ---- elements as owners
 
@@ -49,17 +45,6 @@ target_of-owner_of (targets.Edge id) = refl
 pub owner_is : (target : Target) → IsKey (owner_of target).key → IsOwner (owner_of target)
 owner_is (targets.Node id) key = record { key = key; file = inl refl; place = refl }
 owner_is (targets.Edge id) key = record { key = key; file = inr refl; place = refl }
-
--- an element of the graph is in use
-pub element_used : (s : State) (target : Target) → has_element (graph_in s) target ≡ true → kind_at s.records (owner_of target).key.file (owner_of target).key.id ≢ format.free_kind
-element_used s (targets.Node id) there free = clash (sym there ∙ no_node s.records id free)
-  where
-    clash : true ≡ false → ⊥
-    clash e = cc
-element_used s (targets.Edge id) there free = clash (sym there ∙ no_edge s.records id free)
-  where
-    clash : true ≡ false → ⊥
-    clash e = cc
 
 -- the text of a key that is one of a store's names
 pub text_known : (s : State) (names : List (List ℕ)) (key : ℕ) → IsStore s names → key < length names → (key < high s.records format.names_file) × (text_at s key ≡ get_or names key [])

@@ -1,10 +1,10 @@
 -- What is at hand before the record of a new element is written.
 use Rattle.std.specs.FinMap as maps
-use Rattle.std.specs.Prelude.{Contains, slice_get}
-use Rattle.std.proofs.Common.{◌≡◌, ◌≢◌, ◌⊎◌, ℕ, ◌+◌, ◌-◌, ◌<◌, ◌≤◌, Some, List, [], ◌∷◌, ◌++◌, length, get_or, sym, ap, ◌∙◌, subst, ⊎_elim, arith, refl}
+use Rattle.std.specs.Prelude.{slice_get}
+use Rattle.std.proofs.Common.{◌≡◌, ℕ, ◌+◌, ◌-◌, ◌≤◌, Some, List, [], ◌∷◌, ◌++◌, length, sym, ap, ◌∙◌, subst, ⊎_elim, arith}
 use Rattle.std.proofs.lemmas.List.{get_or_append_left, length-append}
 use Rattle.std.proofs.lemmas.Option.{get_or_from_slice_get, slice_get-get_or, slice_get_within}
-use Rattle.plain_graph.specs.Graph.{Edge, Graph, NeedsNames, Node, UsesName, UsesNames, block_count, property_count}
+use Rattle.plain_graph.specs.Graph.{UsesName, UsesNames, block_count, property_count}
 use Rattle.plain_graph.specs.Properties.{blocks_in, keys_in, no_properties, with_pairs}
 use Rattle.plain_graph.specs.Refusals.{lacks_names, most_names}
 use Rattle.plain_graph.specs.declared.command.Command.TheVariants as commands

@@ -1,6 +1,6 @@
 -- Why the names and the properties of a line are refused, and when they aren't.
 use Rattle.std.specs.FinMap as maps
-use Rattle.std.proofs.Common.{◌≡◌, ℕ, ◌+◌, ◌<◌, ◌≤◌, List, [], ◌∷◌, length, sym, ap, ◌∙◌, subst, inl, inr, arith, refl}
+use Rattle.std.proofs.Common.{ℕ, ◌+◌, ◌<◌, ◌≤◌, List, ◌∷◌, length, ap, inl, inr, arith, refl}
 use Rattle.plain_graph.specs.Graph.{Graph, UsesNames, block_count, property_count}
 use Rattle.plain_graph.specs.Properties.{Properties, blocks_in, keys_in, no_properties, with_pairs}
 use Rattle.plain_graph.specs.Refusals.{FirstReason, NoReason, Reason, has_too_many, lacks_names, lacks_room, most_names}

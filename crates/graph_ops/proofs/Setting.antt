@@ -3,15 +3,15 @@ use Rattle.std.specs.FinMap as maps
 use Rattle.std.specs.FinMap.{get-remove, same_map, slice_cmp-IsAntisymmetric, nat_cmp-IsAntisymmetric}
 use Rattle.std.specs.Cmp.Lexicographic.{nat_list_cmp_total}
 use Rattle.std.specs.Ordering.{eq_by_cmp}
-use Rattle.std.specs.Bool.{OnTrue}
 use Rattle.std.specs.Prelude.{Contains, slice_get}
-use Rattle.std.proofs.Common.{◌≡◌, ◌≢◌, ◌⊎◌, ℕ, ◌+◌, ◌-◌, ◌<◌, ◌≤◌, Bool, true, false, cond, Some, None, List, [], ◌∷◌, length, sym, ap, ◌∙◌, subst, inl, inr, ⊎_elim, arith, refl}
+use Rattle.std.proofs.Common.{◌≡◌, ◌≢◌, ◌⊎◌, ℕ, ◌+◌, ◌-◌, ◌/◌, ◌<◌, ◌≤◌, nat_le, Bool, true, false, cond, Some, None, List, [], ◌∷◌, length, sym, ap, ◌∙◌, subst, inl, inr, ⊎_elim, arith, refl}
 use Rattle.std.proofs.lemmas.Option.{slice_get_within}
 use Rattle.plain_graph.proofs.PropertyLaws.{order, same_key}
 use Rattle.plain_graph.specs.Graph.{Graph, UsesName, UsesNames, block_count, has_element, properties_at, property_count, with_value, without_value}
+use Rattle.plain_graph.specs.Forms.{IsKept}
 use Rattle.plain_graph.specs.Properties.{Properties, blocks_at, blocks_if, blocks_of}
 use Rattle.plain_graph.specs.Refusals.{FirstReason, NoReason, change_reasons, most_names, names_full, no_edge, no_node, properties_full, too_many_properties}
-use Rattle.plain_graph.specs.Reply.{Done, Reply}
+use Rattle.plain_graph.specs.Reply.{Done}
 use Rattle.plain_graph.specs.declared.command.Command.{Command}
 use Rattle.plain_graph.specs.declared.command.Command.TheVariants as commands
 use Rattle.plain_graph.specs.declared.command.Target.{Target}
@@ -19,6 +19,7 @@ use Rattle.plain_graph.specs.declared.command.Target.TheVariants as targets
 use Rattle.plain_graph.specs.declared.refusal.Refusal.{Refusal}
 use Rattle.plain_graph.specs.declared.refusal.Refusal.TheVariants as refusals
 use Rattle.plain_graph.specs.declared.value.Value.{Value}
+use Rattle.plain_graph.specs.declared.value.Value.TheVariants as values
 use Rattle.prop_store.specs.Changing.{HasElement, HasKey, IsSetRefusal, RemovesValue, SetsValue, UnsetsValue, blocks_with, properties_of, properties_with, set_properties, target_of, text_at}
 use Rattle.prop_store.specs.Fault.{IsUndamaged}
 use Rattle.prop_store.specs.declared.fault.Fault.{Fault}
@@ -34,7 +35,6 @@ use Rattle.store_rules.specs.Properties.{AreProperties, Property, map_of, proper
 use Rattle.store_rules.specs.PropertyChange.{property_from}
 use Rattle.store_rules.specs.Views.{high, kind_at, rec_at}
 use Rattle.store_rules.proofs.ElementProperties.{graph_kept, properties_at-is}
-use Rattle.store_rules.proofs.GraphRows as rows
 use Rattle.store_rules.proofs.PropertyCounts.{block_count-limit, property_count-limit}
 use Rattle.store_rules.proofs.PropertyLists.{key_known, listed, owner_in-used, properties_right}
 use Rattle.store_rules.proofs.PropertyMaps.{LackKey}
@@ -44,7 +44,7 @@ use Rattle.name_store.specs.declared.intern_fault.InternFault.{InternFault}
 use Rattle.name_store.specs.declared.intern_fault.InternFault.TheVariants as intern
 use Rattle.name_store.proofs.FirstNames.{contains_at, first-names_of, length-names_of}
 use Rattle.graph_ops.specs.Change.{IsRefusal, MakesChange}
-use Rattle.graph_ops.specs.ChangeFault.{LeavesSpace, is_element_file, of_intern, of_prop, of_set}
+use Rattle.graph_ops.specs.ChangeFault.{of_intern, of_prop, of_set}
 use Rattle.graph_ops.specs.Owners.{IsMissing, owner_of}
 use Rattle.graph_ops.specs.Preparing.{line_reasons}
 use Rattle.graph_ops.specs.Store.{IsStore, KeepsElements, graph_in}
@@ -52,21 +52,22 @@ use Rattle.graph_ops.specs.declared.change_fault.ChangeFault.{ChangeFault}
 use Rattle.graph_ops.specs.declared.change_fault.ChangeFault.TheVariants.{NoNode, NoEdge, HasRelationships, Full, NamesFull, PropsFull, Memory, Disk, Damaged}
 use Rattle.graph_ops.proofs.Readings.{store_read}
 use Rattle.graph_ops.proofs.LineNames.{first_lacks, needs_names, uses_once}
+use Rattle.graph_ops.proofs.Elements.{element_used}
+
+-- ---- a value takes 22 blocks at most
+pub few_blocks : (value : Value) → IsKept value → blocks_of value ≤ 22
+few_blocks (values.Int number) kept = omega arith
+few_blocks (values.Bool truth) kept = omega arith
+few_blocks (values.Text text) kept = by (nat_le (length text) 40)
+  where
+    by : (b : Bool) → cond b 0 ((length text + 47) / 48) ≤ 22
+    by true = omega arith
+    by false = omega arith
 
 -- ---- the owner that an element is
 pub target_is : (target : Target) → target_of (owner_of target) ≡ target
 target_is (targets.Node id) = refl
 target_is (targets.Edge id) = refl
-
-pub owner_used : (s : State) (target : Target) → has_element (graph_in s) target ≡ true → kind_at s.records (owner_of target).key.file (owner_of target).key.id ≢ format.free_kind
-owner_used s (targets.Node id) there free = clash (sym there ∙ rows.no_node s.records id free)
-  where
-    clash : true ≡ false → ⊥
-    clash e = cc
-owner_used s (targets.Edge id) there free = clash (sym there ∙ rows.no_edge s.records id free)
-  where
-    clash : true ≡ false → ⊥
-    clash e = cc
 
 owner_file : (target : Target) → ((owner_of target).key.file ≡ format.nodes_file) ⊎ ((owner_of target).key.file ≡ format.relationships_file)
 owner_file (targets.Node id) = inl refl
@@ -74,7 +75,7 @@ owner_file (targets.Edge id) = inr refl
 
 -- an element that is there is one that properties may be given
 pub has_owner : (s : State) (names : List (List ℕ)) (target : Target) → IsStore s names → has_element (graph_in s) target ≡ true → HasElement s (owner_of target)
-has_owner s names target store there = record { store = store.store; used = owner_used s target there }
+has_owner s names target store there = record { store = store.store; used = element_used s target there }
 
 -- a name that has a number is that of the key
 module _ (s : State) (names : List (List ℕ)) (number : ℕ) (key : List ℕ) (store : IsStore s names) (at : slice_get names number ≡ Some key) where
@@ -137,7 +138,7 @@ module _ (s : State) (names : List (List ℕ)) (target : Target) (key : List ℕ
   element_id = (owner_of target).key.id
 
   used : kind_at s.records element_file element_id ≢ format.free_kind
-  used = owner_used s target there
+  used = element_used s target there
 
   es : List Property
   es = listed s.records s.shape store.store.keeps element_file element_id
@@ -342,15 +343,6 @@ module _ (s : State) (old : List (List ℕ)) (target : Target) (key : List ℕ) 
     set_refused sets.Memory h = tt
     set_refused sets.Disk h = tt
     set_refused (sets.Damaged damage) h = absurd h
-
-    pub set_leaves : (v u : State) (fault : SetFault) → IsSetRefusal t owner number value fault → LeavesSpace v u (of_set fault)
-    set_leaves v u (sets.PropsFull count) h = tt
-    set_leaves v u (sets.Full file live) h = ⊎_elim
-        (λ (k : (file ≡ format.properties_file) × (t.shape.limit < properties_with t owner number value)). subst (λ f. OnTrue (is_element_file f) (SameButReads v u)) (sym k.0) tt)
-        (λ (k : (file ≡ format.strings_file) × (properties_with t owner number value ≤ t.shape.limit) × (t.shape.limit < blocks_with t owner number value)). subst (λ f. OnTrue (is_element_file f) (SameButReads v u)) (sym k.0) tt) h.1
-    set_leaves v u sets.Memory h = tt
-    set_leaves v u sets.Disk h = tt
-    set_leaves v u (sets.Damaged damage) h = absurd h
 
     -- the value stands at the key
     pub set_value : (u : State) (released weight : ℕ) → SetsValue t u owner number value released → u.shape ≡ t.shape → weight ≡ 2 + blocks_of value + released + (length new - length old)

@@ -1,12 +1,19 @@
 -- How many records became written, call after call.
 use Rattle.std.specs.List.{list_any}
-use Rattle.std.proofs.Common.{◌≡◌, ℕ, suc, ◌+◌, ◌≤◌, nat_eq, Bool, true, false, ◌||◌, List, [], ◌∷◌, ◌++◌, length, map, sym, ap, ◌∙◌, subst, inl, inr, ⊎_elim, arith, refl}
+use Rattle.std.specs.Prelude.{Result, Ok, Err, OnErr}
+use Rattle.std.proofs.Common.{◌≡◌, ℕ, ◌+◌, ◌≤◌, nat_eq, Bool, true, false, ◌||◌, List, [], ◌∷◌, ◌++◌, length, map, ap, ◌∙◌, subst, inl, inr, ⊎_elim, arith, refl}
 use Rattle.std.proofs.lemmas.Bool.Decides.{nat_tests}
 use Rattle.std.proofs.lemmas.List.{length-append}
 use Rattle.rec_bytes.specs.declared.key.Key.{Key}
 use Rattle.rec_bytes.specs.RecordFiles.{is_meta_file, meta_files, meta_key_of}
 use Rattle.rec_bytes.specs.Space.{IsAmong, SameButReads, State, WritesOnly}
+use Rattle.store_rules.specs.Views.{key_in}
 use Rattle.store_rules.specs.Writes.{AreOwn, WritesAtMost, WritesBeside, meta_keys}
+use Rattle.plain_graph.specs.declared.command.Target.{Target}
+use Rattle.plain_graph.specs.declared.command.Target.TheVariants as targets
+use Rattle.prop_store.specs.Touching.{TouchesProperties}
+use Rattle.graph_ops.specs.Owners.{owner_of}
+use Rattle.prop_store.proofs.WriteCounts.{touched_beside}
 
 -- ---- lists of keys
 pub among_left : (q : Key) (xs ys : List Key) → IsAmong q xs → IsAmong q (xs ++ ys)
@@ -88,3 +95,34 @@ beside_then {key} h k = record {
 
 pub beside_written : {key : Key} {n : ℕ} {s t : State} → is_meta_file key.file ≡ true → WritesBeside key n s t → WritesAtMost (1 + n) s t
 beside_written {key} own h = record { keys = key ∷ h.keys; few = let f = h.few in omega arith; own = (own, h.own); only = h.only }
+
+-- the record of an element is no meta record
+pub own_record : (target : Target) → is_meta_file (owner_of target).key.file ≡ true
+own_record (targets.Node id) = refl
+own_record (targets.Edge id) = refl
+
+-- what a change of an element's properties touches, counted
+pub touched_written : {tells : Type 0} {key : Key} {n m : ℕ} {s t : State} → is_meta_file key.file ≡ true → TouchesProperties tells (key ∷ []) n m s t → WritesAtMost (1 + (n + m)) s t
+touched_written {tells} {key} {n} {m} {s} {t} own h = beside_written own (touched_beside n m (n + m) s t key (omega arith) h)
+
+-- ---- single calls
+
+-- an identifier that is taken of a file
+pub taken_written : (file : ℕ) (s t : State) → is_meta_file file ≡ true → WritesOnly s t (meta_key_of file ∷ []) → WritesAtMost 0 s t
+taken_written file s t is = some_written s t [] (meta_key_of file ∷ []) tt (λ q i. ⊎_elim (λ e. among_metas file q is e) (λ e. absurd e) i)
+
+-- one that is given back
+pub given_written : (file id : ℕ) (s t : State) → is_meta_file file ≡ true → WritesOnly s t (key_in file id ∷ meta_key_of file ∷ []) → WritesAtMost 1 s t
+given_written file id s t is = some_written s t (key_in file id ∷ []) (key_in file id ∷ meta_key_of file ∷ []) (is, tt) (λ q i. ⊎_elim (λ e. inl e) (λ j. inr (⊎_elim (λ e. among_metas file q is e) (λ e. absurd e) j)) i)
+
+-- one record
+pub record_written : (key : Key) (s t : State) → is_meta_file key.file ≡ true → WritesOnly s t (key ∷ []) → WritesAtMost 1 s t
+record_written key s t is = some_written s t (key ∷ []) (key ∷ []) (is, tt) (λ q i. ⊎_elim (λ e. inl e) (λ e. absurd e) i)
+
+-- what holds of an exit
+pub on_any_err : {T E : Type 0} (r : Result T E) (P : Type 0) → P → OnErr r P
+on_any_err (Ok x) P p = tt
+on_any_err (Err e) P p = p
+
+pub read_exit : {T E : Type 0} (r : Result T E) (n : ℕ) (s t : State) → SameButReads s t → OnErr r (WritesAtMost n s t)
+read_exit r n s t same = on_any_err r (WritesAtMost n s t) (more_written (omega arith) (none_written s t same))

@@ -1,5 +1,6 @@
 -- The pairs of a line by the numbers of their keys, each key once.
-use Rattle.std.specs.Prelude.{◌≡◌, ◌⊎◌, ℕ, ◌+◌, ◌<◌, ◌≤◌, nat_eq, true, if◌then◌else◌, None, List, [], ◌∷◌, length, map, slice_index_or}
+use Rattle.std.specs.Prelude.{◌≡◌, ◌⊎◌, ℕ, ◌<◌, ◌≤◌, nat_eq, true, if◌then◌else◌, None, List, []}
+use Rattle.std.specs.Prelude.{◌∷◌, length, map, slice_index_or}
 use Rattle.std.specs.FinMap as maps
 use Rattle.std.specs.List.{All, sum_by}
 use Rattle.plain_graph.specs.Graph.{UsesNames, has_element, properties_at, with_properties}
@@ -14,7 +15,10 @@ use Rattle.graph_ops.specs.Rooms.{HasRoom, LacksRoom}
 use Rattle.graph_ops.specs.Store.{IsStore, graph_in}
 use Rattle.graph_ops.specs.declared.assigning.Assignment.{Assignment}
 use Rattle.graph_ops.specs.declared.change_fault.ChangeFault.{ChangeFault}
-use Rattle.graph_ops.specs.declared.change_fault.ChangeFault.TheVariants.{NoNode, NoEdge, HasRelationships, Full, NamesFull, PropsFull, Memory, Disk, Damaged}
+use Rattle.graph_ops.specs.declared.change_fault.ChangeFault.TheVariants.{NoNode, NoEdge}
+use Rattle.graph_ops.specs.declared.change_fault.ChangeFault.TheVariants.{HasRelationships, Full}
+use Rattle.graph_ops.specs.declared.change_fault.ChangeFault.TheVariants.{NamesFull, PropsFull}
+use Rattle.graph_ops.specs.declared.change_fault.ChangeFault.TheVariants.{Memory, Disk, Damaged}
 
 -- the pair at a place
 abbrev pub pair_at : List Pair → ℕ → Pair
@@ -45,7 +49,8 @@ ArePlaced pairs assigned = All (λ assignment. assignment.pair < length pairs) a
 abbrev pub AreNew : Properties → List Pair → Type 0
 AreNew properties [] = Unit {0}
 AreNew properties (pair ∷ later) =
-    (maps.get properties pair.key ≡ None) × AreNew (maps.insert properties pair.key pair.value) later
+    (maps.get properties pair.key ≡ None)
+    × AreNew (maps.insert properties pair.key pair.value) later
 
 -- The assignments are those of the pairs: each different key once, by its number among the names,
 -- with the value that stands.
@@ -54,7 +59,8 @@ pub record AreAssigned (names : List (List ℕ)) (pairs : List Pair) (assigned :
   pub known : All (λ assignment. assignment.key < length names) assigned
   pub placed : ArePlaced pairs assigned
   pub once : AreNew no_properties (pairs_of names pairs assigned)
-  pub same : with_pairs no_properties (pairs_of names pairs assigned) ≡ with_pairs no_properties pairs
+  pub same : with_pairs no_properties (pairs_of names pairs assigned)
+      ≡ with_pairs no_properties pairs
 
 -- how many blocks the values of assignments take
 abbrev pub assigned_blocks : List Pair → List Assignment → ℕ
@@ -63,7 +69,8 @@ assigned_blocks pairs assigned =
 
 -- the keys of the pairs need more names than there may be
 abbrev pub LacksNames : List (List ℕ) → List (List ℕ) → Type 0
-LacksNames names line = (used : List (List ℕ)) × UsesNames names line used × (most_names < length used)
+LacksNames names line =
+    (used : List (List ℕ)) × UsesNames names line used × (most_names < length used)
 
 -- the pairs have more different keys than an element may have
 abbrev pub HasTooMany : List Pair → Type 0

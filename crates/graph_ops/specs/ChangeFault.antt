@@ -1,5 +1,5 @@
 -- Faults of the crates below as refusals of a change.
-use Rattle.std.specs.Prelude.{ℕ, ◌≤◌, nat_eq, Bool, ◌||◌, Result, IsErrOf}
+use Rattle.std.specs.Prelude.{◌≡◌, ℕ, ◌≤◌, nat_eq, Bool, false, ◌||◌, Result, IsErrOf}
 use Rattle.std.specs.Bool.{OnTrue}
 use Rattle.fault_count.specs.Cause.{Rose}
 use Rattle.rec_bytes.specs.Format as format
@@ -19,7 +19,10 @@ use Rattle.prop_store.specs.declared.set_fault.SetFault.TheVariants as set
 use Rattle.chain_edit.specs.declared.chain_fault.ChainFault.{ChainFault}
 use Rattle.chain_edit.specs.declared.chain_fault.ChainFault.TheVariants as chain
 use Rattle.graph_ops.specs.declared.change_fault.ChangeFault.{ChangeFault}
-use Rattle.graph_ops.specs.declared.change_fault.ChangeFault.TheVariants.{NoNode, NoEdge, HasRelationships, Full, NamesFull, PropsFull, Memory, Disk, Damaged}
+use Rattle.graph_ops.specs.declared.change_fault.ChangeFault.TheVariants.{NoNode, NoEdge}
+use Rattle.graph_ops.specs.declared.change_fault.ChangeFault.TheVariants.{HasRelationships, Full}
+use Rattle.graph_ops.specs.declared.change_fault.ChangeFault.TheVariants.{NamesFull, PropsFull}
+use Rattle.graph_ops.specs.declared.change_fault.ChangeFault.TheVariants.{Memory, Disk, Damaged}
 
 abbrev pub of_space : SpaceFault → ChangeFault
 of_space space.Memory = Memory
@@ -73,7 +76,20 @@ IsOutside (Damaged damage) = ⊥
 abbrev pub is_element_file : ℕ → Bool
 is_element_file file = nat_eq file format.nodes_file || nat_eq file format.relationships_file
 
--- A refusal for a node, an edge or their room comes before the first write. Another one may come after some, and the caller drops the draft.
+-- It may come after a write: it is no answer about a node, an edge or their room.
+abbrev pub MayComeLate : ChangeFault → Type 0
+MayComeLate (NoNode id) = ⊥
+MayComeLate (NoEdge id) = ⊥
+MayComeLate (HasRelationships id degree) = ⊥
+MayComeLate (Full file live) = is_element_file file ≡ false
+MayComeLate (NamesFull count) = Unit {0}
+MayComeLate (PropsFull count) = Unit {0}
+MayComeLate Memory = Unit {0}
+MayComeLate Disk = Unit {0}
+MayComeLate (Damaged damage) = Unit {0}
+
+-- A refusal for a node, an edge or their room comes before the first write. Another one may come
+-- after some, and the caller drops the draft.
 abbrev pub LeavesSpace : State → State → ChangeFault → Type 0
 LeavesSpace old new (NoNode id) = SameButReads old new
 LeavesSpace old new (NoEdge id) = SameButReads old new
@@ -86,6 +102,7 @@ LeavesSpace old new Disk = Unit {0}
 LeavesSpace old new (Damaged damage) = Unit {0}
 
 -- the disk is blamed only where it failed
-pub record HasChangeCause {T : Type 0} (before now : ℕ) (result : Result T ChangeFault) : Type 0 where
+pub record HasChangeCause {T : Type 0} (before now : ℕ) (result : Result T ChangeFault)
+    : Type 0 where
   pub later : before ≤ now
   pub disk : IsErrOf result Disk → Rose before now

@@ -9,11 +9,15 @@ use Rattle.chain_edit.specs.Unlinking.{unlinked}
 
 -- after a relationship was put at the front of a node's chain, and the node got this degree
 unfoldable pub joined : State → ℕ → ℕ → ℕ → State
-joined s node rel degree = after_set (pushed s (node_head node) node rel) (key_in format.nodes_file node) 4 format.node_degree degree
+joined s node rel degree =
+    after_set (pushed s (node_head node) node rel)
+    (key_in format.nodes_file node) 4 format.node_degree degree
 
 -- after it was taken out of the chain, and the node got this degree
 unfoldable pub parted : State → ℕ → ℕ → ℕ → State
-parted s node rel degree = after_set (unlinked s (node_head node) node rel) (key_in format.nodes_file node) 4 format.node_degree degree
+parted s node rel degree =
+    after_set (unlinked s (node_head node) node rel)
+    (key_in format.nodes_file node) 4 format.node_degree degree
 
 -- so at both ends; a loop has one chain
 abbrev pub both_joined : State → ℕ → ℕ → ℕ → ℕ → ℕ → State

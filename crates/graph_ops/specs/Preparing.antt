@@ -3,7 +3,8 @@ use Rattle.std.specs.Prelude.{◌≡◌, ℕ, ◌+◌, ◌-◌, List, [], ◌∷
 use Rattle.plain_graph.specs.Changes.{properties_weight}
 use Rattle.plain_graph.specs.Graph.{UsesNames}
 use Rattle.plain_graph.specs.Properties.{keys_in, no_properties, with_pairs}
-use Rattle.plain_graph.specs.Refusals.{NoReason, Reason, names_full, properties_full, strings_full, too_many_properties}
+use Rattle.plain_graph.specs.Refusals.{NoReason, Reason, names_full, properties_full, strings_full}
+use Rattle.plain_graph.specs.Refusals.{too_many_properties}
 use Rattle.plain_graph.specs.declared.command.Command.TheVariants as commands
 use Rattle.plain_graph.specs.declared.pairs.Pair.{Pair}
 use Rattle.rec_bytes.specs.Space.{State}

@@ -1,12 +1,22 @@
 //! The pairs of a line as properties of a new element.
 
-ghost use Rattle.std.specs.Prelude.{◌≡◌, ◌≤◌, ◌+◌, ◌-◌, ◌++◌, ℕ, List, IfErr, IfOk, OnOk, length, nat_eq, position, take};
+ghost use Rattle.std.specs.Prelude.{◌≡◌, ◌≤◌, ◌+◌, ◌-◌, ◌++◌, ◌∷◌, [], ℕ, List, Contains, Some};
+ghost use Rattle.std.specs.Prelude.{Err, true, false, IfErr, IfOk, OnErr, OnOk, length, nat_eq};
+ghost use Rattle.std.specs.Prelude.{position, slice_get, take};
 ghost use Rattle.plain_graph.specs.Forms.{ArePairs};
-ghost use Rattle.plain_graph.specs.Graph.{UsesNames};
+ghost use Rattle.plain_graph.specs.Graph.{UsesName, UsesNames};
+ghost use Rattle.plain_graph.specs.Names.{IsShortName};
 ghost use Rattle.plain_graph.specs.Properties.{keys_in};
+ghost use Rattle.plain_graph.specs.Refusals.{most_names};
 ghost use Rattle.plain_graph.specs.declared.command.Target.{Target};
+ghost use Rattle.name_store.specs.InternFault.{HasInternCause};
+ghost use Rattle.name_store.specs.Interning.{IsFullFault, interned};
+ghost use Rattle.name_store.specs.NameRecord.{name_key};
 ghost use Rattle.name_store.specs.Names.{AreHeldNames};
 ghost use Rattle.prop_store.specs.Owner.{IsOwner};
+ghost use Rattle.rec_bytes.specs.Format.{names_file};
+ghost use Rattle.rec_bytes.specs.RecordFiles.{meta_key_of};
+ghost use Rattle.rec_bytes.specs.Space.{WritesOnly};
 ghost use Rattle.graph_ops.specs.Assigning.{
   AreAssigned,
   ArePlaced,
@@ -20,15 +30,16 @@ ghost use Rattle.graph_ops.specs.Assigning.{
   with_place,
 };
 ghost use Rattle.store_rules.specs.Writes.{WritesAtMost, WritesBeside};
-ghost use Rattle.graph_ops.specs.ChangeFault.{HasChangeCause, IsOutside};
+ghost use Rattle.graph_ops.specs.ChangeFault.{HasChangeCause, IsOutside, MayComeLate};
 ghost use Rattle.graph_ops.specs.Owners.{owner_of};
+ghost use Rattle.graph_ops.specs.Rooms.{KeepsElementMetas};
 ghost use Rattle.graph_ops.specs.Store.{IsStore, KeepsElements};
 
 use crate::ChangeFault;
 use crate::blocks::block_count;
 use crate::rooms::test_room;
 use arrayvec::ArrayVec;
-use name_store::Names;
+use name_store::{InternFault, Names};
 use plain_graph::Pair;
 use prop_store::{Owner, add};
 use rec_bytes::{PROPERTIES, Reads, STRINGS, Space};
@@ -43,8 +54,9 @@ pub(crate) struct Assignment {
     pub pair: usize,
 }
 
-/// Gives the keys of the pairs their numbers, and each different key the last of its pairs. All keys
-/// are names then, before it is told that they are too many.
+/// Gives the keys of the pairs their numbers, and each different key the last of its pairs. All
+/// keys are names then, before it is told that they are too many; those after the 33rd different
+/// key get no records.
 pub(crate) fn assign_pairs<S: Space>(
     space: &mut S,
     names: &mut Names,
@@ -62,14 +74,20 @@ pub(crate) fn assign_pairs<S: Space>(
     ensures refused { IfErr result (IsAssignFault names.old.names pairs.now) }
     ensures prefix { (rest : List (List ℕ)) × (names.new.names ≡ names.old.names ++ rest) }
     ensures shape { S.tells → (S.state space.new).shape ≡ (S.state space.old).shape }
+    ensures few_names { IfOk result (λ assigned.
+        length names.new.names ≤ length names.old.names + length assigned.items) }
+    ensures metas { S.tells → OnOk result
+        (KeepsElementMetas (S.state space.old) (S.state space.new)) }
     ensures writes { OnOk result (WritesAtMost (length names.new.names - length names.old.names)
         (S.state space.old) (S.state space.new)) }
+    ensures few_writes { WritesAtMost 33 (S.state space.old) (S.state space.new) }
     ensures onward { S.onward space.old space.new }
     ensures cause { HasChangeCause (S.faults space.old) (S.faults space.new) result }
 {
     let mut assigned = ArrayVec::new();
     for (place, pair) in pairs.iter().enumerate() {
-        let key = names.intern(space, pair.key.as_bytes())?;
+        let are_few = !assigned.is_full();
+        let key = number_key(space, names, pair.key.as_bytes(), are_few)?;
         assign(&mut assigned, key, place);
     }
     if assigned.len() > MOST_PROPERTIES as usize {
@@ -78,6 +96,40 @@ pub(crate) fn assign_pairs<S: Space>(
         });
     }
     Ok(assigned)
+}
+
+/// Gives a key its number. One that is new gets a record where the keys are few; else it is only
+/// counted, for the line is refused.
+fn number_key<S: Space>(
+    space: &mut S,
+    names: &mut Names,
+    key: &[u8],
+    are_few: bool,
+) -> Result<u32, InternFault>
+    requires { IsShortName key.now }
+    ensures ok { S.tells → are_few ≡ true → OnOk result
+        (S.state space.new ≡ interned (S.state space.old) names.old.names key.now) }
+    ensures names { OnOk result (UsesName names.old.names key.now names.new.names) }
+    ensures number { IfOk result (λ id. slice_get names.new.names id ≡ Some key.now) }
+    ensures full { length names.old.names ≡ most_names → (¬ Contains names.old.names key.now)
+        → result ≡ Err (InternFault.NamesFull most_names) }
+    ensures full_only { IfErr result (IsFullFault names.old.names key.now) }
+    ensures err { OnErr result (names.new.names ≡ names.old.names) }
+    ensures known { Contains names.old.names key.now → S.state space.new ≡ S.state space.old }
+    ensures held { are_few ≡ false → S.state space.new ≡ S.state space.old }
+    ensures metas { S.tells → OnOk result
+        (KeepsElementMetas (S.state space.old) (S.state space.new)) }
+    ensures shape { S.tells → (S.state space.new).shape ≡ (S.state space.old).shape }
+    ensures writes { WritesOnly (S.state space.old) (S.state space.new)
+        (name_key (length names.old.names) ∷ meta_key_of names_file ∷ []) }
+    ensures onward { S.onward space.old space.new }
+    ensures cause { HasInternCause (S.faults space.old) (S.faults space.new) result }
+{
+    if are_few {
+        names.intern(space, key)
+    } else {
+        names.hold(key)
+    }
 }
 
 /// Puts the place of a pair at its key, or behind the others where the key is new. One of more than
@@ -113,7 +165,7 @@ pub(crate) fn reserve_properties<R: Reads>(
     requires placed { ArePlaced pairs.now assigned.now }
     requires pairs { ArePairs pairs.now }
     ensures blocks { IfOk result (λ blocks. blocks ≡ assigned_blocks pairs.now assigned.now) }
-    ensures few_blocks { IfOk result (λ blocks. blocks ≤ 1024) }
+    ensures few_blocks { IfOk result (λ blocks. blocks ≤ 704) }
     ensures room { OnOk result (HasPropertyRoom (R.state space.now) (length assigned.now)
         (assigned_blocks pairs.now assigned.now)) }
     ensures refused { IfErr result (IsReserveFault (R.state space.now) (length assigned.now)
@@ -131,7 +183,7 @@ fn block_total(assigned: &[Assignment], pairs: &[Pair]) -> u32
     requires placed { ArePlaced pairs.now assigned.now }
     requires pairs { ArePairs pairs.now }
     ensures is { result ≡ assigned_blocks pairs.now assigned.now }
-    ensures few { result ≤ 1024 }
+    ensures few { result ≤ 704 }
 {
     let mut blocks = 0;
     for assignment in assigned {
@@ -163,6 +215,10 @@ pub(crate) fn put_properties<S: Space>(
     ensures writes { OnOk result (WritesBeside owner.key
         (length assigned.now + assigned_blocks pairs.now assigned.now)
         (S.state space.old) (S.state space.new)) }
+    ensures err_writes { OnErr result (WritesAtMost
+        (2 + length assigned.now + assigned_blocks pairs.now assigned.now)
+        (S.state space.old) (S.state space.new)) }
+    ensures late { S.tells → IfErr result MayComeLate }
     ensures onward { S.onward space.old space.new }
     ensures cause { HasChangeCause (S.faults space.old) (S.faults space.new) result }
 {

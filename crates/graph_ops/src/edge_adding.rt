@@ -1,7 +1,9 @@
-ghost use Rattle.std.specs.Prelude.{◌≡◌, ◌≤◌, ◌<◌, ◌++◌, ◌∷◌, ℕ, List, IfErr, IfOk, IsErr, length};
+ghost use Rattle.std.specs.Prelude.{◌≡◌, ◌≤◌, ◌<◌, ◌++◌, ◌+◌, ◌-◌, ◌*◌, ◌∷◌, ℕ, List, IfErr, IfOk};
+ghost use Rattle.std.specs.Prelude.{IsErr, OnErr, length};
+ghost use Rattle.plain_graph.specs.Changes.{properties_weight};
 ghost use Rattle.plain_graph.specs.Forms.{HasForm};
 ghost use Rattle.plain_graph.specs.Graph.{UsesNames};
-ghost use Rattle.plain_graph.specs.Properties.{keys_in};
+ghost use Rattle.plain_graph.specs.Properties.{keys_in, no_properties, with_pairs};
 ghost use Rattle.plain_graph.specs.Refusals.{most_names};
 ghost use Rattle.plain_graph.specs.Reply.{EdgeMade};
 ghost use Rattle.plain_graph.specs.declared.command.Command.TheVariants as commands;
@@ -9,6 +11,7 @@ ghost use Rattle.store_rules.specs.Writes.{WritesAtMost};
 ghost use Rattle.graph_ops.specs.Change.{IsRefusal, MakesChange};
 ghost use Rattle.graph_ops.specs.ChangeFault.{HasChangeCause, LeavesSpace};
 ghost use Rattle.graph_ops.specs.EdgeAdding.{IsFullOfEdges, degree_weight, degrees_weight};
+ghost use Rattle.graph_ops.specs.NodeDeleting.{HasDegree};
 ghost use Rattle.graph_ops.specs.Store.{IsStore, graph_in};
 
 use crate::assigning::put_properties;
@@ -43,12 +46,21 @@ pub fn add_edge<S: Space>(
     ensures names_full { (used : List (List ℕ))
         → UsesNames names.old.names (label.now ∷ keys_in pairs.now) used
         → most_names < length used → IsErr result }
-    ensures leaves { S.tells → IsStore (S.state space.old) names.old.names
-        → IfErr result (LeavesSpace (S.state space.old) (S.state space.new)) }
+    ensures leaves { S.tells → IfErr result (LeavesSpace (S.state space.old) (S.state space.new)) }
+    ensures weight { S.tells → (from_degree to_degree : ℕ)
+        → HasDegree (S.state space.old).records from from_degree
+        → HasDegree (S.state space.old).records to to_degree
+        → IfOk result (λ added. added.weight
+        ≡ 9 + properties_weight (with_pairs no_properties pairs.now)
+        + (length names.new.names - length names.old.names)
+        + degrees_weight (S.state space.old).shape.threshold from from_degree to to_degree) }
+    ensures light { IfOk result (λ added. added.weight + 6 ≤ 2048) }
     ensures prefix { (rest : List (List ℕ)) × (names.new.names ≡ names.old.names ++ rest) }
     ensures shape { S.tells → (S.state space.new).shape ≡ (S.state space.old).shape }
     ensures writes { IfOk result (λ added.
         WritesAtMost added.weight (S.state space.old) (S.state space.new)) }
+    ensures refused_writes { OnErr result (WritesAtMost 778
+        (S.state space.old) (S.state space.new)) }
     ensures onward { S.onward space.old space.new }
     ensures cause { HasChangeCause (S.faults space.old) (S.faults space.new) result }
 {
@@ -72,7 +84,7 @@ pub fn add_edge<S: Space>(
 fn end_weight(threshold: u32, degree: u32) -> u32
     requires { threshold < 65536 }
     ensures is { result ≡ degree_weight threshold degree }
-    ensures small { result ≤ 131072 }
+    ensures small { result ≤ 2 * (threshold + 1) }
 {
     if degree == threshold {
         2 * (threshold + 1)
@@ -85,7 +97,7 @@ fn end_weight(threshold: u32, degree: u32) -> u32
 fn ends_weight(threshold: u32, from: u32, from_degree: u32, to: u32, to_degree: u32) -> u32
     requires { threshold < 65536 }
     ensures is { result ≡ degrees_weight threshold from from_degree to to_degree }
-    ensures small { result ≤ 262144 }
+    ensures small { result ≤ 4 * (threshold + 1) }
 {
     if from == to {
         end_weight(threshold, from_degree)

@@ -1,8 +1,9 @@
-ghost use Rattle.std.specs.Prelude.{◌≡◌, ◌≢◌, ℕ, List, None, Some, IfErr, IfOk, OnOk};
+ghost use Rattle.std.specs.Prelude.{◌≡◌, ◌≢◌, ℕ, List, None, Some, ◌+◌, ◌≤◌, IfErr, IfOk, OnErr};
+ghost use Rattle.std.specs.Prelude.{OnOk};
 ghost use Rattle.plain_graph.specs.Reply.{Done};
 ghost use Rattle.plain_graph.specs.declared.command.Command.TheVariants as commands;
 ghost use Rattle.plain_graph.specs.declared.command.Target.TheVariants as targets;
-ghost use Rattle.rec_bytes.specs.Format.{nil, nodes_file, relationships_file};
+ghost use Rattle.rec_bytes.specs.Format.{nodes_file, relationships_file};
 ghost use Rattle.rec_bytes.specs.Key.{IsKey};
 ghost use Rattle.store_rules.specs.Views.{key_in};
 ghost use Rattle.rec_bytes.specs.Space.{SameButReads};
@@ -11,7 +12,7 @@ ghost use Rattle.chain_edit.specs.Chains.{next_of, prev_of};
 ghost use Rattle.chain_edit.specs.Links.{IsRightLink};
 ghost use Rattle.store_rules.specs.Writes.{WritesAtMost};
 ghost use Rattle.graph_ops.specs.Change.{IsRefusal, MakesChange};
-ghost use Rattle.graph_ops.specs.ChangeFault.{HasChangeCause, IsOutside, LeavesSpace};
+ghost use Rattle.graph_ops.specs.ChangeFault.{HasChangeCause, IsOutside, LeavesSpace, MayComeLate};
 ghost use Rattle.graph_ops.specs.EdgeDeleting.{IsBareEdge, TakesEdge};
 ghost use Rattle.graph_ops.specs.EdgeEnds.{both_parted, parted};
 ghost use Rattle.graph_ops.specs.NodeDeleting.{HasDegree};
@@ -40,11 +41,13 @@ pub fn delete_edge<S: Space>(space: &mut S, names: &Names, id: u32) -> Result<u3
     ensures refused { S.tells → IsStore (S.state space.old) names.now.names
         → IfErr result (IsRefusal (S.state space.old).shape.limit (graph_in (S.state space.old))
         (commands.Delete (targets.Edge id))) }
-    ensures leaves { S.tells → IsStore (S.state space.old) names.now.names
-        → IfErr result (LeavesSpace (S.state space.old) (S.state space.new)) }
+    ensures leaves { IfErr result (LeavesSpace (S.state space.old) (S.state space.new)) }
+    ensures light { IfOk result (λ weight. weight + 6 ≤ 2048) }
     ensures shape { S.tells → (S.state space.new).shape ≡ (S.state space.old).shape }
     ensures writes { IfOk result (λ weight.
         WritesAtMost weight (S.state space.old) (S.state space.new)) }
+    ensures refused_writes { OnErr result (WritesAtMost 746
+        (S.state space.old) (S.state space.new)) }
     ensures onward { S.onward space.old space.new }
     ensures cause { HasChangeCause (S.faults space.old) (S.faults space.new) result }
 {
@@ -58,8 +61,8 @@ pub fn delete_edge<S: Space>(space: &mut S, names: &Names, id: u32) -> Result<u3
     Ok(13 + dropped.properties + dropped.blocks)
 }
 
-/// How many relationships an end of a relationship has. The relationship is damaged where its end is
-/// no node.
+/// How many relationships an end of a relationship has. The relationship is damaged where its end
+/// is no node.
 fn end_degree<R: Reads>(space: &mut R, rel: u32, node: u32) -> Result<u32, ChangeFault>
     ensures found { R.tells
         → IfOk result (λ degree. HasDegree (R.state space.old).records node degree) }
@@ -93,7 +96,8 @@ fn take_edge<S: Space>(
     requires id { IsKey (key_in relationships_file id) }
     requires from { IsKey (key_in nodes_file from) }
     requires to { IsKey (key_in nodes_file to) }
-    ensures taken { S.tells → OnOk result ((names : List (List ℕ)) → IsStore (S.state space.old) names
+    ensures taken { S.tells
+        → OnOk result ((names : List (List ℕ)) → IsStore (S.state space.old) names
         → IsBareEdge (S.state space.old) id from from_degree to to_degree
         → TakesEdge (S.state space.old) (S.state space.new) names id) }
     ensures sound { S.tells → (names : List (List ℕ)) → IsStore (S.state space.old) names
@@ -101,6 +105,8 @@ fn take_edge<S: Space>(
         → IfErr result IsOutside }
     ensures shape { S.tells → (S.state space.new).shape ≡ (S.state space.old).shape }
     ensures writes { OnOk result (WritesAtMost 9 (S.state space.old) (S.state space.new)) }
+    ensures err_writes { OnErr result (WritesAtMost 9 (S.state space.old) (S.state space.new)) }
+    ensures late { IfErr result MayComeLate }
     ensures onward { S.onward space.old space.new }
     ensures cause { HasChangeCause (S.faults space.old) (S.faults space.new) result }
 {
@@ -136,6 +142,8 @@ fn part_ends<S: Space>(
         → IfErr result IsOutside }
     ensures shape { S.tells → (S.state space.new).shape ≡ (S.state space.old).shape }
     ensures writes { OnOk result (WritesAtMost 8 (S.state space.old) (S.state space.new)) }
+    ensures err_writes { OnErr result (WritesAtMost 8 (S.state space.old) (S.state space.new)) }
+    ensures late { IfErr result MayComeLate }
     ensures onward { S.onward space.old space.new }
     ensures cause { HasChangeCause (S.faults space.old) (S.faults space.new) result }
 {
@@ -159,6 +167,8 @@ fn part_end<S: Space>(space: &mut S, node: u32, rel: u32, degree: u32) -> Result
         → IfErr result IsOutside }
     ensures shape { S.tells → (S.state space.new).shape ≡ (S.state space.old).shape }
     ensures writes { OnOk result (WritesAtMost 4 (S.state space.old) (S.state space.new)) }
+    ensures err_writes { OnErr result (WritesAtMost 4 (S.state space.old) (S.state space.new)) }
+    ensures late { IfErr result MayComeLate }
     ensures onward { S.onward space.old space.new }
     ensures cause { HasChangeCause (S.faults space.old) (S.faults space.new) result }
 {

@@ -1,6 +1,6 @@
 //! What a new edge writes: its record, without properties, and the chains of its ends.
 
-ghost use Rattle.std.specs.Prelude.{◌≡◌, ◌≢◌, ℕ, List, Some, IfErr, IfOk, OnOk, slice_get};
+ghost use Rattle.std.specs.Prelude.{◌≡◌, ◌≢◌, ℕ, List, Some, IfErr, IfOk, OnErr, OnOk, slice_get};
 ghost use Rattle.plain_graph.specs.declared.command.Target.TheVariants as targets;
 ghost use Rattle.rec_bytes.specs.Format.{nodes_file, relationships_file};
 ghost use Rattle.rec_bytes.specs.Key.{IsKey};
@@ -9,7 +9,7 @@ ghost use Rattle.store_rules.specs.Views.{key_in};
 ghost use Rattle.chain_edit.specs.Links.{IsRightLink};
 ghost use Rattle.rec_bytes.specs.Space.{SameButReads};
 ghost use Rattle.store_rules.specs.Writes.{WritesAtMost};
-ghost use Rattle.graph_ops.specs.ChangeFault.{HasChangeCause, IsOutside};
+ghost use Rattle.graph_ops.specs.ChangeFault.{HasChangeCause, IsOutside, MayComeLate};
 ghost use Rattle.graph_ops.specs.EdgeEnds.{both_joined, joined};
 ghost use Rattle.graph_ops.specs.EdgePlacing.{HasPlaced, PutsEdge, new_row};
 ghost use Rattle.graph_ops.specs.NodeDeleting.{HasDegree};
@@ -68,6 +68,9 @@ pub(crate) fn put_edge<S: Space>(
     ensures key { IfOk result (λ id. IsKey (key_in relationships_file id)) }
     ensures shape { S.tells → (S.state space.new).shape ≡ (S.state space.old).shape }
     ensures writes { OnOk result (WritesAtMost 7 (S.state space.old) (S.state space.new)) }
+    ensures err_writes { OnErr result (WritesAtMost 7 (S.state space.old) (S.state space.new)) }
+    ensures late { S.tells → HasRoom (S.state space.old) relationships_file 1
+        → IfErr result MayComeLate }
     ensures onward { S.onward space.old space.new }
     ensures cause { HasChangeCause (S.faults space.old) (S.faults space.new) result }
 {
@@ -92,6 +95,9 @@ fn place<S: Space>(space: &mut S, label: u32, from: u32, to: u32) -> Result<u32,
     ensures key { IfOk result (λ id. IsKey (key_in relationships_file id)) }
     ensures shape { S.tells → (S.state space.new).shape ≡ (S.state space.old).shape }
     ensures writes { OnOk result (WritesAtMost 1 (S.state space.old) (S.state space.new)) }
+    ensures err_writes { OnErr result (WritesAtMost 1 (S.state space.old) (S.state space.new)) }
+    ensures late { S.tells → HasRoom (S.state space.old) relationships_file 1
+        → IfErr result MayComeLate }
     ensures onward { S.onward space.old space.new }
     ensures cause { HasChangeCause (S.faults space.old) (S.faults space.new) result }
 {
@@ -139,6 +145,8 @@ fn join_ends<S: Space>(
         → IfErr result IsOutside }
     ensures shape { S.tells → (S.state space.new).shape ≡ (S.state space.old).shape }
     ensures writes { OnOk result (WritesAtMost 6 (S.state space.old) (S.state space.new)) }
+    ensures err_writes { OnErr result (WritesAtMost 6 (S.state space.old) (S.state space.new)) }
+    ensures late { IfErr result MayComeLate }
     ensures onward { S.onward space.old space.new }
     ensures cause { HasChangeCause (S.faults space.old) (S.faults space.new) result }
 {
@@ -161,6 +169,8 @@ fn join_end<S: Space>(space: &mut S, node: u32, rel: u32, degree: u32) -> Result
         → IfErr result IsOutside }
     ensures shape { S.tells → (S.state space.new).shape ≡ (S.state space.old).shape }
     ensures writes { OnOk result (WritesAtMost 3 (S.state space.old) (S.state space.new)) }
+    ensures err_writes { OnErr result (WritesAtMost 3 (S.state space.old) (S.state space.new)) }
+    ensures late { IfErr result MayComeLate }
     ensures onward { S.onward space.old space.new }
     ensures cause { HasChangeCause (S.faults space.old) (S.faults space.new) result }
 {

@@ -1,7 +1,9 @@
-ghost use Rattle.std.specs.Prelude.{◌≡◌, ◌++◌, ◌<◌, ℕ, List, ◌∷◌, Some, IfErr, IfOk, IsErr, length, slice_get};
+ghost use Rattle.std.specs.Prelude.{◌≡◌, ◌++◌, ◌+◌, ◌-◌, ◌<◌, ◌≤◌, ℕ, List, ◌∷◌, Some, IfErr, IfOk};
+ghost use Rattle.std.specs.Prelude.{IsErr, OnErr, length, slice_get};
+ghost use Rattle.plain_graph.specs.Changes.{properties_weight};
 ghost use Rattle.plain_graph.specs.Forms.{HasForm};
 ghost use Rattle.plain_graph.specs.Graph.{UsesNames};
-ghost use Rattle.plain_graph.specs.Properties.{keys_in};
+ghost use Rattle.plain_graph.specs.Properties.{keys_in, no_properties, with_pairs};
 ghost use Rattle.plain_graph.specs.Refusals.{most_names};
 ghost use Rattle.plain_graph.specs.Reply.{NodeMade};
 ghost use Rattle.plain_graph.specs.declared.command.Command.TheVariants as commands;
@@ -10,7 +12,7 @@ ghost use Rattle.rec_bytes.specs.Key.{IsKey};
 ghost use Rattle.store_rules.specs.Views.{key_in};
 ghost use Rattle.store_rules.specs.Writes.{WritesAtMost, WritesBeside};
 ghost use Rattle.graph_ops.specs.Change.{IsRefusal, MakesChange};
-ghost use Rattle.graph_ops.specs.ChangeFault.{HasChangeCause, IsOutside, LeavesSpace};
+ghost use Rattle.graph_ops.specs.ChangeFault.{HasChangeCause, IsOutside, LeavesSpace, MayComeLate};
 ghost use Rattle.graph_ops.specs.NodeAdding.{IsFullOfNodes, PutsNode, new_row};
 ghost use Rattle.graph_ops.specs.Rooms.{HasRoom};
 ghost use Rattle.graph_ops.specs.Store.{IsStore, graph_in};
@@ -45,12 +47,17 @@ pub fn add_node<S: Space>(
     ensures names_full { (used : List (List ℕ))
         → UsesNames names.old.names (label.now ∷ keys_in pairs.now) used
         → most_names < length used → IsErr result }
-    ensures leaves { S.tells → IsStore (S.state space.old) names.old.names
-        → IfErr result (LeavesSpace (S.state space.old) (S.state space.new)) }
+    ensures leaves { S.tells → IfErr result (LeavesSpace (S.state space.old) (S.state space.new)) }
+    ensures weight { IfOk result (λ added. added.weight
+        ≡ 1 + properties_weight (with_pairs no_properties pairs.now)
+        + (length names.new.names - length names.old.names)) }
+    ensures light { IfOk result (λ added. added.weight + 6 ≤ 2048) }
     ensures prefix { (rest : List (List ℕ)) × (names.new.names ≡ names.old.names ++ rest) }
     ensures shape { S.tells → (S.state space.new).shape ≡ (S.state space.old).shape }
     ensures writes { IfOk result (λ added.
         WritesAtMost added.weight (S.state space.old) (S.state space.new)) }
+    ensures refused_writes { OnErr result (WritesAtMost 772
+        (S.state space.old) (S.state space.new)) }
     ensures onward { S.onward space.old space.new }
     ensures cause { HasChangeCause (S.faults space.old) (S.faults space.new) result }
 {
@@ -65,17 +72,21 @@ pub fn add_node<S: Space>(
     })
 }
 
-/// Writes the record of a new node without relationships and properties, and answers its identifier.
+/// Writes the record of a new node without relationships and properties, and answers its
+/// identifier.
 fn put_node<S: Space>(space: &mut S, label: u32) -> Result<u32, ChangeFault>
     ensures put { S.tells → IfOk result (λ id. (names : List (List ℕ)) (text : List ℕ)
         → IsStore (S.state space.old) names → slice_get names label ≡ Some text
         → PutsNode (S.state space.old) (S.state space.new) names text id) }
     ensures sound { S.tells → (names : List (List ℕ)) → IsStore (S.state space.old) names
         → HasRoom (S.state space.old) nodes_file 1 → IfErr result IsOutside }
+    ensures late { S.tells → HasRoom (S.state space.old) nodes_file 1
+        → IfErr result MayComeLate }
     ensures key { IfOk result (λ id. IsKey (key_in nodes_file id)) }
     ensures shape { S.tells → (S.state space.new).shape ≡ (S.state space.old).shape }
     ensures writes { IfOk result (λ id. WritesBeside (key_in nodes_file id) 0
         (S.state space.old) (S.state space.new)) }
+    ensures err_writes { OnErr result (WritesAtMost 1 (S.state space.old) (S.state space.new)) }
     ensures onward { S.onward space.old space.new }
     ensures cause { HasChangeCause (S.faults space.old) (S.faults space.new) result }
 {

@@ -40,7 +40,8 @@ pub(crate) fn edge_owner(id: u32) -> Owner
 /// An element as an owner of properties, where it is there.
 pub(crate) fn find_owner<R: Reads>(space: &mut R, target: Target) -> Result<Owner, ChangeFault>
     ensures owner { IfOk result (λ owner. owner ≡ owner_of target) }
-    ensures there { R.tells → OnOk result (has_element (graph_in (R.state space.old)) target ≡ true) }
+    ensures there { R.tells
+        → OnOk result (has_element (graph_in (R.state space.old)) target ≡ true) }
     ensures refused { R.tells → (names : List (List ℕ)) → IsStore (R.state space.old) names
         → IfErr result (IsMissing (graph_in (R.state space.old)) target) }
     ensures key { IfOk result (λ owner. IsKey owner.key) }

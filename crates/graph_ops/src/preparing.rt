@@ -1,10 +1,12 @@
 //! What a new element needs before its record is written.
 
-ghost use Rattle.std.specs.Prelude.{◌≡◌, ◌+◌, ◌-◌, ◌<◌, ◌≤◌, ◌++◌, ◌∷◌, ℕ, List, IfErr, IfOk, IsErr, length};
+ghost use Rattle.std.specs.Prelude.{◌≡◌, ◌+◌, ◌-◌, ◌<◌, ◌≤◌, ◌++◌, ◌∷◌, ℕ, List, IfErr, IfOk};
+ghost use Rattle.std.specs.Prelude.{IsErr, OnOk, length};
+ghost use Rattle.plain_graph.specs.Changes.{properties_weight};
 ghost use Rattle.plain_graph.specs.Forms.{ArePairs};
 ghost use Rattle.plain_graph.specs.Graph.{UsesNames};
 ghost use Rattle.plain_graph.specs.Names.{IsShortName};
-ghost use Rattle.plain_graph.specs.Properties.{keys_in};
+ghost use Rattle.plain_graph.specs.Properties.{keys_in, no_properties, with_pairs};
 ghost use Rattle.plain_graph.specs.Refusals.{most_names};
 ghost use Rattle.plain_graph.specs.declared.command.Command.TheVariants as commands;
 ghost use Rattle.graph_ops.specs.Assigning.{ArePlaced, assigned_blocks};
@@ -12,6 +14,7 @@ ghost use Rattle.store_rules.specs.Writes.{WritesAtMost};
 ghost use Rattle.graph_ops.specs.Change.{IsRefusedBy};
 ghost use Rattle.graph_ops.specs.ChangeFault.{HasChangeCause, LeavesSpace};
 ghost use Rattle.graph_ops.specs.Preparing.{IsPrepared, line_reasons};
+ghost use Rattle.graph_ops.specs.Rooms.{KeepsElementMetas};
 ghost use Rattle.graph_ops.specs.Store.{IsStore, graph_in};
 
 use crate::ChangeFault;
@@ -57,13 +60,19 @@ pub(crate) fn prepare<S: Space>(
     ensures weight { IfOk result (λ prepared. prepared.weight ≡ length prepared.assigned.items
         + assigned_blocks pairs.now prepared.assigned.items
         + (length names.new.names - length names.old.names)) }
-    ensures light { IfOk result (λ prepared. prepared.weight ≤ 8192) }
+    ensures weighs { IfOk result (λ prepared. prepared.weight
+        ≡ properties_weight (with_pairs no_properties pairs.now)
+        + (length names.new.names - length names.old.names)) }
+    ensures light { IfOk result (λ prepared. prepared.weight ≤ 769) }
     ensures leaves { IfErr result (LeavesSpace (S.state space.old) (S.state space.new)) }
     ensures prefix { (rest : List (List ℕ)) × (names.new.names ≡ names.old.names ++ rest) }
     ensures shape { S.tells → (S.state space.new).shape ≡ (S.state space.old).shape }
     ensures writes { IfOk result (λ _.
         WritesAtMost (length names.new.names - length names.old.names)
         (S.state space.old) (S.state space.new)) }
+    ensures few_writes { WritesAtMost 34 (S.state space.old) (S.state space.new) }
+    ensures metas { S.tells → OnOk result
+        (KeepsElementMetas (S.state space.old) (S.state space.new)) }
     ensures onward { S.onward space.old space.new }
     ensures cause { HasChangeCause (S.faults space.old) (S.faults space.new) result }
 {

@@ -1,4 +1,5 @@
-ghost use Rattle.std.specs.Prelude.{◌≡◌, ◌++◌, ◌<◌, ℕ, List, [], ◌∷◌, IfErr, IfOk, IsErr, length};
+ghost use Rattle.std.specs.Prelude.{◌≡◌, ◌++◌, ◌+◌, ◌<◌, ◌≤◌, ℕ, List, [], ◌∷◌, IfErr, IfOk, IsErr};
+ghost use Rattle.std.specs.Prelude.{OnErr, length};
 ghost use Rattle.plain_graph.specs.Forms.{HasForm};
 ghost use Rattle.plain_graph.specs.Graph.{UsesNames};
 ghost use Rattle.plain_graph.specs.Refusals.{most_names};
@@ -34,12 +35,14 @@ pub fn set<S: Space>(
         (commands.Set target key.now value.now)) }
     ensures names_full { (used : List (List ℕ)) → UsesNames names.old.names (key.now ∷ []) used
         → most_names < length used → IsErr result }
-    ensures leaves { S.tells → IsStore (S.state space.old) names.old.names
-        → IfErr result (LeavesSpace (S.state space.old) (S.state space.new)) }
+    ensures leaves { S.tells → IfErr result (LeavesSpace (S.state space.old) (S.state space.new)) }
+    ensures light { IfOk result (λ weight. weight + 6 ≤ 2048) }
     ensures prefix { (rest : List (List ℕ)) × (names.new.names ≡ names.old.names ++ rest) }
     ensures shape { S.tells → (S.state space.new).shape ≡ (S.state space.old).shape }
     ensures writes { IfOk result (λ weight.
         WritesAtMost weight (S.state space.old) (S.state space.new)) }
+    ensures refused_writes { OnErr result (WritesAtMost 47
+        (S.state space.old) (S.state space.new)) }
     ensures onward { S.onward space.old space.new }
     ensures cause { HasChangeCause (S.faults space.old) (S.faults space.new) result }
 {
@@ -65,9 +68,12 @@ pub fn unset<S: Space>(
         → IfErr result (IsRefusal (S.state space.old).shape.limit (graph_in (S.state space.old))
         (commands.Unset target key.now)) }
     ensures leaves { IfErr result (LeavesSpace (S.state space.old) (S.state space.new)) }
+    ensures light { IfOk result (λ weight. weight + 6 ≤ 2048) }
     ensures shape { S.tells → (S.state space.new).shape ≡ (S.state space.old).shape }
     ensures writes { IfOk result (λ weight.
         WritesAtMost weight (S.state space.old) (S.state space.new)) }
+    ensures refused_writes { OnErr result (WritesAtMost 24
+        (S.state space.old) (S.state space.new)) }
     ensures onward { S.onward space.old space.new }
     ensures cause { HasChangeCause (S.faults space.old) (S.faults space.new) result }
 {

@@ -26,7 +26,8 @@ fn edges_come_and_go(rt: HostRuntime) -> Result<(), Fail> {
     let node_label = Text::new(b"a".to_vec(rt.alloc())?);
     let edge_label = Text::new(b"r".to_vec(rt.alloc())?);
     let no_pairs = Pairs::new(Vec::new(rt.alloc()));
-    // Each step's identifier with its weight, or why it is refused. The type is new at the first edge.
+    // Each step's identifier with its weight, or why it is refused. The type is new at the first
+    // edge.
     let cases: [&[(Change, Result<(u32, u32), ChangeFault>)]; 3] = [
         // Two edges between the same nodes, and loops. A third edge at a node weighs 6 more.
         &[

@@ -1,5 +1,5 @@
 use Rattle.std.specs.List.{position}
-use Rattle.std.proofs.Common.{◌≡◌, nat_eq, None, Some, length, ◌∙◌, ap, sym}
+use Rattle.std.proofs.Common.{nat_eq, length, ◌∙◌, ap, sym}
 use Rattle.graph_ops.specs.declared.assigning.Assignment.{Assignment}
 use Rattle.graph_ops.proofs.Places.{has_room, no_room, place_known, place_left, place_new}
 use Rattle.graph_ops.proofs.assigning.assign.Goals as goal

@@ -1,14 +1,18 @@
-use Rattle.std.proofs.Common.{◌≡◌, ◌∙◌, [], length, sym, ap, subst, arith, refl}
+use Rattle.std.specs.Prelude.{Contains}
+use Rattle.std.proofs.Common.{◌≡◌, ◌≢◌, ◌∙◌, ◌<◌, ◌≤◌, nat_eq, Bool, true, false, not, [], length, sym, ap, subst, arith, refl}
 use Rattle.std.proofs.lemmas.List.{get_or_read}
 use Rattle.plain_graph.specs.Names.{IsShortName}
+use Rattle.plain_graph.specs.Refusals.{most_names}
 use Rattle.plain_graph.specs.declared.pairs.Pair.{Pair}
 use Rattle.plain_graph.specs.declared.value.Value.TheVariants as values
 use Rattle.graph_ops.specs.Assigning.{IsAssignFault, pair_at}
 use Rattle.graph_ops.specs.ChangeFault.{of_intern}
-use Rattle.graph_ops.proofs.Assigned.{IsSoFar, all_assigned, all_used, assign_refused, none_so_far, one_more, pair_form, too_many}
+use Rattle.graph_ops.proofs.Assigned.{IsSoFar, all_assigned, all_used, assign_refused, few_after, few_named, few_then, items_most, none_so_far, one_more, pair_form, too_many}
 use Rattle.graph_ops.proofs.Exits.{fault_exit}
-use Rattle.graph_ops.proofs.Interned.{keeps_interned, keeps_same, keeps_then, name_written}
+use Rattle.graph_ops.proofs.Interned.{keeps_interned, keeps_same, keeps_then, metas_same, metas_then, name_written, one_written}
 use Rattle.graph_ops.proofs.LineNames.{name_long, uses_long, uses_prefix}
+use Rattle.graph_ops.proofs.NewNames.{placed_grows}
+use Rattle.graph_ops.proofs.Places.{has_room, no_room}
 use Rattle.graph_ops.proofs.Writes.{more_written, none_written, then_written}
 use Rattle.graph_ops.proofs.assigning.assign_pairs.Goals as goal
 use Rattle.graph_ops.proofs.assigning.assign_pairs.Goals.{After-as_bytes, After-len}
@@ -19,9 +23,11 @@ loop-place-init g c =
     let s = g.S.Reads.state c.args.space.now in
     record {
       so_far = subst (IsSoFar c.args.names.now.names c.args.names.now.names c.args.pairs.now 0) (sym c.new-assigned.ensures) (none_so_far c.args.names.now.names c.args.pairs.now c.requires.names);
-      kept = λ tells store. keeps_same s c.args.names.now.names store;
+      kept = λ tells few store. keeps_same s c.args.names.now.names store;
+      metas = λ tells. metas_same s;
       shape = λ tells. refl;
-      writes = more_written (omega arith) (none_written s s refl);
+      writes = λ few. more_written (omega arith) (none_written s s refl);
+      few_writes = more_written (omega arith) (none_written s s refl);
       onward_is = g.met.S.Reads.stays_onward c.args.space.now;
       later = omega arith;
     }
@@ -33,8 +39,8 @@ key_is g c = c.as_bytes.ensures ∙ ap (λ (p : Pair). p.key) (get_or_read c.arg
 short : (g : Over) (c : After-as_bytes g) → IsShortName c.as_bytes.result.now
 short g c = subst IsShortName (sym (key_is g c)) (pair_form c.args.pairs.now c.loop-place.place (record { key = []; value = values.Text [] }) c.requires.pairs c.loop-place-test.true).0
 
-pub intern-requires : goal.intern-requires
-intern-requires g c = short g c
+pub number_key-requires : goal.number_key-requires
+number_key-requires g c = short g c
 
 pub returns-in_err-key-clause-refused : goal.returns-in_err-key-clause-refused
 returns-in_err-key-clause-refused g c =
@@ -42,30 +48,56 @@ returns-in_err-key-clause-refused g c =
     (assign_refused c.args.names.now.names c.loop-place.names.names c.args.pairs.now c.loop-place.place c.loop-place.assigned.items c.as_bytes.result.now (key_is g (goal.at.returns-in_err-key-clause-refused g c).After-as_bytes)
     c.loop-place.invariant.so_far c.loop-place-test.true c.in_err-key.field-0.0 c.in_err-key.ensures.full_only)
 
+-- the keys are few where there is room for one more
+few_true : (g : Over) (c : After-as_bytes g) → length c.loop-place.assigned.items ≤ 32 → not c.is_full-are_few.result ≡ true
+few_true g c few = by c.is_full-are_few.result c.is_full-are_few.ensures.value
+  where
+    by : (b : Bool) → b ≡ nat_eq (length c.loop-place.assigned.items) 33 → not b ≡ true
+    by true e = absurd (let all = no_room (length c.loop-place.assigned.items) (sym e) in omega arith)
+    by false e = refl
+
+few_false : (g : Over) (c : After-as_bytes g) → 32 < length c.loop-place.assigned.items → not c.is_full-are_few.result ≡ false
+few_false g c many = by c.is_full-are_few.result c.is_full-are_few.ensures.value
+  where
+    by : (b : Bool) → b ≡ nat_eq (length c.loop-place.assigned.items) 33 → not b ≡ false
+    by true e = refl
+    by false e = absurd (let less = has_room (length c.loop-place.assigned.items) c.is_full-are_few.ensures.fits (sym e) in omega arith)
+
 pub loop-place-preserved : goal.loop-place-preserved
 loop-place-preserved g c =
     let inv = c.loop-place.invariant in
     let at = (goal.at.loop-place-preserved g c).After-as_bytes in
     let old = c.args.names.now.names in
     let names = c.loop-place.names.names in
-    let new = c.intern.new.self.names in
+    let new = c.number_key.new.names.names in
     let text = c.as_bytes.result.now in
+    let items = c.loop-place.assigned.items in
+    let assigned = c.assign.new.assigned.items in
     let s = g.S.Reads.state c.args.space.now in
     let t = g.S.Reads.state c.loop-place.space in
-    let u = g.S.Reads.state c.intern.new.space in
+    let u = g.S.Reads.state c.number_key.new.space in
     let uses = c.in_ok-key.ensures.names in
-    let now = one_more old names new c.args.pairs.now c.loop-place.place c.in_ok-key.key c.loop-place.assigned.items c.assign.new.assigned.items text (key_is g at) inv.so_far c.loop-place-test.true (short g at) uses c.in_ok-key.ensures.number
-    (λ lacks all. absurd (let e = c.in_ok-key.ensures.full all lacks in cc)) c.assign.ensures in
+    let room : ¬ Contains names text → length names ≢ most_names = λ lacks all. absurd (let e = c.in_ok-key.ensures.full all lacks in cc) in
+    let now = one_more old names new c.args.pairs.now c.loop-place.place c.in_ok-key.key items assigned text (key_is g at) inv.so_far c.loop-place-test.true (short g at) uses c.in_ok-key.ensures.number room c.assign.ensures in
+    let most = items_most old names c.args.pairs.now c.loop-place.place items inv.so_far in
+    let grows = placed_grows c.in_ok-key.key c.loop-place.place items assigned most c.assign.ensures in
+    let longer = name_long names text new uses in
+    let longest = uses_long old _ names inv.so_far.uses in
+    let written = name_written t u names new text uses c.number_key.ensures.known c.number_key.ensures.writes in
     record {
       so_far = now;
-      kept = λ tells store. let kept = inv.kept tells store in keeps_then s t u names new kept (keeps_interned t u names new text (c.in_ok-key.ensures.ok tells) uses (short g at) (λ lacks all. absurd (let e = c.in_ok-key.ensures.full all lacks in cc)) kept.store);
-      shape = λ tells. c.intern.ensures.shape tells ∙ inv.shape tells;
-      writes =
-          let one = uses_long old _ names inv.so_far.uses in
-          let two = name_long names text new uses in
-          more_written (omega arith) (then_written inv.writes (name_written t u names new text uses (λ k. (c.intern.ensures.known k).1) c.intern.ensures.writes));
-      onward_is = g.met.S.Reads.further_onward c.args.space.now c.loop-place.space c.intern.new.space inv.onward_is c.intern.ensures.onward;
-      later = let a = inv.later in let b = c.intern.ensures.cause.later in omega arith;
+      kept = λ tells few store.
+          let before : length items ≤ 32 = omega arith in
+          let kept = inv.kept tells before store in
+          keeps_then s t u names new kept (keeps_interned t u names new text (c.in_ok-key.ensures.ok tells (few_true g at before)) uses (short g at) room kept.store);
+      metas = λ tells. metas_then (inv.metas tells) (c.in_ok-key.ensures.metas tells);
+      shape = λ tells. c.number_key.ensures.shape tells ∙ inv.shape tells;
+      writes = λ few.
+          let before : length items ≤ 32 = omega arith in
+          more_written (omega arith) (then_written (inv.writes before) written);
+      few_writes = few_then s t u old names new c.args.pairs.now c.loop-place.place c.in_ok-key.key items assigned text inv.so_far uses c.in_ok-key.ensures.number c.assign.ensures inv.few_writes written (λ many. c.number_key.ensures.held (few_false g at many));
+      onward_is = g.met.S.Reads.further_onward c.args.space.now c.loop-place.space c.number_key.new.space inv.onward_is c.number_key.ensures.onward;
+      later = let a = inv.later in let b = c.number_key.ensures.cause.later in omega arith;
     }
 
 -- all pairs are assigned at the end
@@ -98,3 +130,14 @@ returns-then-len-clause-prefix g c = uses_prefix c.args.names.now.names _ c.loop
 
 pub returns-clause-prefix : goal.returns-clause-prefix
 returns-clause-prefix g c = uses_prefix c.args.names.now.names _ c.loop-place.names.names c.loop-place.invariant.so_far.uses
+
+pub returns-clause-few_names : goal.returns-clause-few_names
+returns-clause-few_names g c =
+    few_named c.args.names.now.names c.loop-place.names.names c.args.pairs.now c.loop-place.assigned.items (whole g (goal.at.returns-clause-few_names g c).After-len) (let e = c.len.ensures.value in omega arith)
+
+pub returns-in_err-key-clause-few_writes : goal.returns-in_err-key-clause-few_writes
+returns-in_err-key-clause-few_writes g c =
+    let inv = c.loop-place.invariant in
+    let at = (goal.at.returns-in_err-key-clause-few_writes g c).After-as_bytes in
+    few_after (g.S.Reads.state c.args.space.now) (g.S.Reads.state c.loop-place.space) (g.S.Reads.state c.number_key.new.space) c.loop-place.assigned.items
+    (items_most c.args.names.now.names c.loop-place.names.names c.args.pairs.now c.loop-place.place c.loop-place.assigned.items inv.so_far) inv.few_writes (one_written _ _ _ c.number_key.ensures.writes) (λ many. c.number_key.ensures.held (few_false g at many))

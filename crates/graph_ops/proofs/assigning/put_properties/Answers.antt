@@ -1,19 +1,20 @@
 use Rattle.std.specs.FinMap as maps
-use Rattle.std.proofs.Common.{◌≡◌, ◌<◌, None, [], get_or, length, ◌∙◌, sym, ap, subst, inl, arith, refl}
+use Rattle.std.proofs.Common.{◌≡◌, ◌+◌, ◌<◌, ℕ, true, ⊎_elim, None, [], get_or, length, ◌∙◌, sym, ap, subst, inl, arith, refl}
 use Rattle.std.proofs.lemmas.List.{get_or_read}
-use Rattle.std.proofs.lemmas.List.Sums.{sum_by_more}
+use Rattle.std.proofs.lemmas.List.Sums.{sum_by-take-le, sum_by_more}
 use Rattle.plain_graph.specs.Properties.{blocks_of}
 use Rattle.plain_graph.specs.declared.pairs.Pair.{Pair}
 use Rattle.plain_graph.specs.declared.value.Value.TheVariants as values
 use Rattle.prop_store.specs.Changing.{HasKey, IsSetRefusal, SetsValue, properties_of, text_at}
 use Rattle.prop_store.specs.declared.owner.Owner.{Owner}
+use Rattle.rec_bytes.specs.RecordFiles.{is_meta_file}
 use Rattle.graph_ops.specs.Assigning.{pair_at, pairs_of}
-use Rattle.graph_ops.specs.ChangeFault.{IsOutside, of_set}
+use Rattle.graph_ops.specs.ChangeFault.{IsOutside, MayComeLate, of_set}
 use Rattle.graph_ops.specs.declared.assigning.Assignment.{Assignment}
 use Rattle.graph_ops.proofs.Assigned.{pair_form}
-use Rattle.graph_ops.proofs.Exits.{fault_exit}
+use Rattle.graph_ops.proofs.Exits.{fault_exit, set_late}
 use Rattle.graph_ops.proofs.PairsPut.{all_put, key_fits, key_new, key_there, none_put, put_more, put_outside}
-use Rattle.graph_ops.proofs.Writes.{beside_more, beside_then, this_written}
+use Rattle.graph_ops.proofs.Writes.{beside_more, beside_then, beside_written, more_written, on_any_err, then_written, this_written, touched_written}
 use Rattle.graph_ops.proofs.assigning.put_properties.Goals as goal
 use Rattle.graph_ops.proofs.assigning.put_properties.Goals.{After-index-pairs-assignment}
 use Rattle.graph_ops.proofs.assigning.put_properties.Given.{Over}
@@ -93,3 +94,19 @@ returns-in_err-add-clause-sound g c tells names target is can room =
 pub returns-clause-put : goal.returns-clause-put
 returns-clause-put g c tells names target is can =
     all_put (g.S.Reads.state c.args.space.now) (g.S.Reads.state c.loop-assignment.space) names target c.args.pairs.now c.args.assigned.now c.loop-assignment.assignment-index c.loop-assignment-test.false (c.loop-assignment.invariant.put tells names target is can)
+
+pub returns-in_err-add-clause-late : goal.returns-in_err-add-clause-late
+returns-in_err-add-clause-late g c tells = fault_exit of_set MayComeLate c.in_err-add.field-0.0 c.from_residual.result c.from_residual.ensures.1 (set_late c.in_err-add.field-0.0 (c.in_err-add.ensures.full tells))
+
+pub returns-in_err-add-clause-err_writes : goal.returns-in_err-add-clause-err_writes
+returns-in_err-add-clause-err_writes g c =
+    let at = (goal.at.returns-in_err-add-clause-err_writes g c).After-index-pairs-assignment in
+    let assigned = c.args.assigned.now in
+    let i = c.loop-assignment.assignment-index in
+    let blocks : Assignment → ℕ = λ a. blocks_of (pair_at c.args.pairs.now a.pair).value in
+    let own : is_meta_file c.args.owner.key.file ≡ true = ⊎_elim (λ e. ap is_meta_file e) (λ e. ap is_meta_file e) c.requires.owner.file in
+    let lt = c.loop-assignment-test.true in
+    let more = sum_by_more blocks assigned i (record { key = 0; pair = 0 }) lt in
+    let part = sum_by-take-le blocks assigned (i + 1) in
+    let same = ap blocks_of (value_is g at) in
+    on_any_err _ _ (more_written (omega arith) (then_written (beside_written own c.loop-assignment.invariant.writes) (touched_written own c.add.ensures.touches)))

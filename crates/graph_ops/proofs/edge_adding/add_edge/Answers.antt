@@ -1,9 +1,10 @@
 use Rattle.std.specs.Prelude.{IfErr}
-use Rattle.std.proofs.Common.{◌≡◌, ◌+◌, length, ◌∙◌, sym, ap, subst, arith, refl}
+use Rattle.std.proofs.Common.{◌+◌, length, ◌∙◌, sym, ap, subst, arith, refl}
 use Rattle.plain_graph.specs.Refusals.{change_reasons}
 use Rattle.plain_graph.specs.Reply.{EdgeMade}
 use Rattle.plain_graph.specs.declared.command.Command.TheVariants as commands
 use Rattle.plain_graph.specs.declared.command.Target.TheVariants as targets
+use Rattle.rec_bytes.specs.declared.meta.Meta.{Meta}
 use Rattle.rec_bytes.specs.Format as format
 use Rattle.rec_bytes.specs.Space.{SameButReads, State}
 use Rattle.rec_bytes.specs.declared.shape.Shape.{Shape}
@@ -17,14 +18,15 @@ use Rattle.graph_ops.specs.EdgePlacing.{PutsEdge}
 use Rattle.graph_ops.specs.NodeDeleting.{HasDegree}
 use Rattle.graph_ops.specs.Preparing.{IsPrepared}
 use Rattle.graph_ops.specs.Store.{IsStore, graph_in}
-use Rattle.graph_ops.proofs.EdgeAdded.{can_put, degree_kept, edges_refused, enters_then, lacks_full, leaves_then, line_refused, made, not_full, put_room, read_both, room_kept, source_missing, source_then, store_then, target_missing, target_then}
+use Rattle.graph_ops.proofs.EdgeAdded.{can_put, degree_kept, edges_refused, lacks_full, line_refused, made, not_full, put_room, read_both, room_kept, source_missing, source_then, store_then, target_missing, target_then}
+use Rattle.graph_ops.proofs.ElementRooms.{room_still}
 use Rattle.graph_ops.proofs.Elements.{found_there, same_both}
-use Rattle.graph_ops.proofs.Exits.{fault_exit, outside_leaves}
+use Rattle.graph_ops.proofs.Exits.{fault_exit, late_leaves}
 use Rattle.graph_ops.proofs.Readings.{made_read, refused_read, store_read}
 use Rattle.graph_ops.proofs.Reasons.{outside_refused}
-use Rattle.graph_ops.proofs.Writes.{beside_written, more_written, none_written, then_written}
+use Rattle.graph_ops.proofs.Writes.{beside_written, more_written, none_written, on_any_err, then_written}
 use Rattle.graph_ops.proofs.edge_adding.add_edge.Goals as goal
-use Rattle.graph_ops.proofs.edge_adding.add_edge.Goals.{After-put_properties, In_err-id, In_err-put_properties, In_ok-id, In_ok-prepared, In_ok-target, In_ok-test_room}
+use Rattle.graph_ops.proofs.edge_adding.add_edge.Goals.{After-prepare, After-put_properties, In_err-id, In_err-put_properties, In_ok-id, In_ok-prepared, In_ok-target, In_ok-test_room}
 use Rattle.graph_ops.proofs.edge_adding.add_edge.Given.{Over}
 
 -- ---- an end is no node
@@ -129,12 +131,24 @@ returns-in_err-id-clause-refused g c tells store =
     fault_exit (λ f. f) (IsRefusal s.shape.limit (graph_in s) command) c.in_err-id.field-0.0 c.from_residual-in_err-id.result c.from_residual-in_err-id.ensures.1
     (outside_refused change_reasons s.shape.limit (graph_in s) command c.in_err-id.field-0.0 (edge_outside g (goal.at.returns-in_err-id-clause-refused g c).In_err-id tells store))
 
+-- the ends were only read
+ends_read : (g : Over) (c : After-prepare g) → SameButReads (g.S.Reads.state c.args.space.now) (g.S.Reads.state c.node_degree-2.new.space)
+ends_read g c = same_both (g.S.Reads.state c.args.space.now) (g.S.Reads.state c.node_degree.new.space) (g.S.Reads.state c.node_degree-2.new.space) c.node_degree.ensures.state c.node_degree-2.ensures.state
+
 pub returns-in_err-id-clause-leaves : goal.returns-in_err-id-clause-leaves
-returns-in_err-id-clause-leaves g c tells store =
+returns-in_err-id-clause-leaves g c tells =
     let s = g.S.Reads.state c.args.space.now in
+    let n = g.S.Reads.state c.node_degree-2.new.space in
+    let u = g.S.Reads.state c.prepare.new.space in
     let v = g.S.Reads.state c.put_edge.new.space in
+    let live = ap (λ (m : Meta). m.live) (c.in_ok-prepared.ensures.metas tells).edges in
     fault_exit (λ f. f) (LeavesSpace s v) c.in_err-id.field-0.0 c.from_residual-in_err-id.result c.from_residual-in_err-id.ensures.1
-    (outside_leaves s v c.in_err-id.field-0.0 (edge_outside g (goal.at.returns-in_err-id-clause-leaves g c).In_err-id tells store))
+    (late_leaves s v c.in_err-id.field-0.0 (c.in_err-id.ensures.late tells (room_still n u format.relationships_file 1 live (c.prepare.ensures.shape tells) c.in_ok-test_room.ensures.room)))
+
+pub returns-in_err-id-clause-refused_writes : goal.returns-in_err-id-clause-refused_writes
+returns-in_err-id-clause-refused_writes g c =
+    let read = none_written _ _ (ends_read g (goal.at.returns-in_err-id-clause-refused_writes g c).After-prepare) in
+    on_any_err _ _ (more_written (omega arith) (then_written read (then_written c.prepare.ensures.few_writes c.in_err-id.ensures.err_writes)))
 
 -- ---- its properties
 puts : (g : Over) (c : In_ok-id g) → g.S.Reads.tells → IsStore (g.S.Reads.state c.args.space.now) c.args.names.now.names
@@ -168,11 +182,21 @@ returns-in_err-put_properties-clause-refused g c tells store =
     (outside_refused change_reasons s.shape.limit (graph_in s) command c.in_err-put_properties.field-0.0 (properties_outside g (goal.at.returns-in_err-put_properties-clause-refused g c).In_err-put_properties tells store))
 
 pub returns-in_err-put_properties-clause-leaves : goal.returns-in_err-put_properties-clause-leaves
-returns-in_err-put_properties-clause-leaves g c tells store =
+returns-in_err-put_properties-clause-leaves g c tells =
     let s = g.S.Reads.state c.args.space.now in
     let w = g.S.Reads.state c.put_properties.new.space in
     fault_exit (λ f. f) (LeavesSpace s w) c.in_err-put_properties.field-0.0 c.from_residual-in_err-put_properties.result c.from_residual-in_err-put_properties.ensures.1
-    (outside_leaves s w c.in_err-put_properties.field-0.0 (properties_outside g (goal.at.returns-in_err-put_properties-clause-leaves g c).In_err-put_properties tells store))
+    (late_leaves s w c.in_err-put_properties.field-0.0 (c.in_err-put_properties.ensures.late tells))
+
+pub returns-in_err-put_properties-clause-refused_writes : goal.returns-in_err-put_properties-clause-refused_writes
+returns-in_err-put_properties-clause-refused_writes g c =
+    let pairs = c.as_slice-pairs.result.now in
+    let count = ap length c.deref.ensures.0 in
+    let blocks = ap (assigned_blocks pairs) c.deref.ensures.0 in
+    let weight = c.in_ok-prepared.ensures.weight in
+    let light = c.in_ok-prepared.ensures.light in
+    let read = none_written _ _ (ends_read g (goal.at.returns-in_err-put_properties-clause-refused_writes g c).After-prepare) in
+    on_any_err _ _ (more_written (omega arith) (then_written read (then_written c.in_ok-prepared.ensures.writes (then_written c.in_ok-id.ensures.writes c.in_err-put_properties.ensures.err_writes))))
 
 -- call after call the space goes on
 onward : (g : Over) (c : After-put_properties g) → g.S.Reads.onward c.args.space.now c.put_properties.new.space

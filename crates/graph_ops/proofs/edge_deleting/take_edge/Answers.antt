@@ -1,11 +1,9 @@
-use Rattle.std.proofs.Common.{◌≡◌, ◌∙◌, [], ◌∷◌, inl, inr, ⊎_elim, refl}
+use Rattle.std.proofs.Common.{◌∙◌, arith, refl}
 use Rattle.rec_bytes.specs.Format as format
-use Rattle.rec_bytes.specs.RecordFiles.{meta_key_of}
-use Rattle.store_rules.specs.Views.{key_in}
-use Rattle.graph_ops.specs.ChangeFault.{IsOutside}
+use Rattle.graph_ops.specs.ChangeFault.{IsOutside, MayComeLate, of_space}
 use Rattle.graph_ops.proofs.EdgeTaken.{right_from_next, right_from_prev, right_to_next, right_to_prev, takes_edge}
-use Rattle.graph_ops.proofs.Exits.{fault_exit}
-use Rattle.graph_ops.proofs.Writes.{among_metas, some_written, then_written}
+use Rattle.graph_ops.proofs.Exits.{fault_exit, space_late}
+use Rattle.graph_ops.proofs.Writes.{given_written, more_written, on_any_err, then_written}
 use Rattle.graph_ops.proofs.edge_deleting.take_edge.Goals as goal
 
 pub returns-in_err-part_ends-clause-sound : goal.returns-in_err-part_ends-clause-sound
@@ -29,8 +27,13 @@ returns-clause-taken g c tells names store bare =
     (g.S.Reads.state c.part_ends.new.space) (g.S.Reads.state c.give.new.space) (c.in_ok-part_ends.ensures.ok tells) (c.give.ensures.shape tells ∙ c.part_ends.ensures.shape tells) (c.in_ok-give.ensures.given tells)
 
 pub returns-clause-writes : goal.returns-clause-writes
-returns-clause-writes g c =
-    let key = key_in format.relationships_file c.args.id in
-    then_written c.in_ok-part_ends.ensures.writes
-    (some_written (g.S.Reads.state c.part_ends.new.space) (g.S.Reads.state c.give.new.space) (key ∷ []) (key ∷ meta_key_of format.relationships_file ∷ []) (refl, tt)
-    (λ q i. ⊎_elim (λ e. inl e) (λ j. inr (⊎_elim (λ e. among_metas format.relationships_file q refl e) (λ e. absurd e) j)) i) c.give.ensures.writes)
+returns-clause-writes g c = then_written c.in_ok-part_ends.ensures.writes (given_written format.relationships_file c.args.id _ _ refl c.give.ensures.writes)
+
+pub returns-in_err-part_ends-clause-err_writes : goal.returns-in_err-part_ends-clause-err_writes
+returns-in_err-part_ends-clause-err_writes g c = on_any_err _ _ (more_written (omega arith) c.in_err-part_ends.ensures.err_writes)
+
+pub returns-in_err-give-clause-err_writes : goal.returns-in_err-give-clause-err_writes
+returns-in_err-give-clause-err_writes g c = on_any_err _ _ (then_written c.in_ok-part_ends.ensures.writes (given_written format.relationships_file c.args.id _ _ refl c.give.ensures.writes))
+
+pub returns-in_err-give-clause-late : goal.returns-in_err-give-clause-late
+returns-in_err-give-clause-late g c = fault_exit of_space MayComeLate c.in_err-give.field-0.0 c.from_residual-in_err-give.result c.from_residual-in_err-give.ensures.1 (space_late c.in_err-give.field-0.0)

@@ -1,5 +1,5 @@
 use Rattle.std.proofs.Common.{arith}
-use Rattle.graph_ops.proofs.Writes.{more_written, then_written}
+use Rattle.graph_ops.proofs.Writes.{more_written, on_any_err, then_written}
 use Rattle.graph_ops.proofs.edge_placing.join_ends.Goals as goal
 
 pub returns-in_ok-join_end-2-clause-writes : goal.returns-in_ok-join_end-2-clause-writes
@@ -7,3 +7,9 @@ returns-in_ok-join_end-2-clause-writes g c = then_written c.in_ok-join_end.ensur
 
 pub returns-else-from-to-clause-writes : goal.returns-else-from-to-clause-writes
 returns-else-from-to-clause-writes g c = more_written (omega arith) c.in_ok-join_end.ensures.writes
+
+pub returns-in_err-join_end-clause-err_writes : goal.returns-in_err-join_end-clause-err_writes
+returns-in_err-join_end-clause-err_writes g c = on_any_err _ _ (more_written (omega arith) c.in_err-join_end.ensures.err_writes)
+
+pub returns-in_err-join_end-2-clause-err_writes : goal.returns-in_err-join_end-2-clause-err_writes
+returns-in_err-join_end-2-clause-err_writes g c = on_any_err _ _ (then_written c.in_ok-join_end.ensures.writes c.in_err-join_end-2.ensures.err_writes)

@@ -1,16 +1,15 @@
-use Rattle.std.proofs.Common.{◌≡◌, ◌∙◌, ap, refl, inl, inr, ⊎_elim, [], ◌∷◌}
+use Rattle.std.proofs.Common.{◌≡◌, ◌∙◌, ap, refl}
 use Rattle.rec_bytes.specs.Format as format
-use Rattle.rec_bytes.specs.RecordFiles.{meta_key_of}
 use Rattle.rec_bytes.specs.Space.{State, after_put}
-use Rattle.store_rules.specs.Views.{key_in}
+use Rattle.store_rules.specs.Writes.{WritesAtMost}
 use Rattle.rel_store.specs.declared.rel_row.RelRow.{RelRow}
 use Rattle.rel_store.specs.RelRecord.{rel_key, rel_record}
-use Rattle.graph_ops.specs.ChangeFault.{IsOutside, of_take}
-use Rattle.graph_ops.proofs.Exits.{fault_exit}
-use Rattle.graph_ops.proofs.Takes.{store_can_take, take_outside, taken-shape}
-use Rattle.graph_ops.proofs.Writes.{among_metas, some_written, then_written}
+use Rattle.graph_ops.specs.ChangeFault.{IsOutside, MayComeLate, of_space, of_take}
+use Rattle.graph_ops.proofs.Exits.{fault_exit, space_late}
+use Rattle.graph_ops.proofs.Takes.{store_can_take, take_late, take_outside, taken-shape}
+use Rattle.graph_ops.proofs.Writes.{on_any_err, read_exit, record_written, taken_written, then_written}
 use Rattle.graph_ops.proofs.edge_placing.place.Goals as goal
-use Rattle.graph_ops.proofs.edge_placing.place.Goals.{In_ok-id}
+use Rattle.graph_ops.proofs.edge_placing.place.Goals.{After-save, In_ok-id}
 use Rattle.graph_ops.proofs.edge_placing.place.Given.{Over}
 
 pub returns-in_err-id-clause-sound : goal.returns-in_err-id-clause-sound
@@ -38,10 +37,22 @@ returns-clause-placed g c tells = record {
 pub returns-clause-shape : goal.returns-clause-shape
 returns-clause-shape g c tells = ap (λ (s : State). s.shape) c.in_ok-save.ensures.ok ∙ took g (goal.at.returns-clause-shape g c).In_ok-id tells
 
+-- the identifier's meta record, and the relationship's record
+written : (g : Over) (c : After-save g) → WritesAtMost 1 (g.S.Reads.state c.args.space.now) (g.S.Reads.state c.save.new.space)
+written g c = then_written (taken_written format.relationships_file _ _ refl c.take.ensures.writes) (record_written (rel_key c.new_row.result.id) _ _ refl c.save.ensures.writes)
+
 pub returns-clause-writes : goal.returns-clause-writes
-returns-clause-writes g c =
-    then_written
-    (some_written (g.S.Reads.state c.args.space.now) (g.S.Reads.state c.take.new.space) [] (meta_key_of format.relationships_file ∷ []) tt
-    (λ q i. ⊎_elim (λ e. among_metas format.relationships_file q refl e) (λ e. absurd e) i) c.take.ensures.writes)
-    (some_written (g.S.Reads.state c.take.new.space) (g.S.Reads.state c.save.new.space) (key_in format.relationships_file c.in_ok-id.id ∷ []) (rel_key c.new_row.result.id ∷ []) (refl, tt)
-    (λ q i. ⊎_elim (λ e. inl (e ∙ ap (λ (r : RelRow). rel_key r.id) c.new_row.ensures)) (λ e. absurd e) i) c.save.ensures.writes)
+returns-clause-writes g c = written g (goal.at.returns-clause-writes g c).After-save
+
+pub returns-in_err-save-clause-err_writes : goal.returns-in_err-save-clause-err_writes
+returns-in_err-save-clause-err_writes g c = on_any_err _ _ (written g (goal.at.returns-in_err-save-clause-err_writes g c).After-save)
+
+pub returns-in_err-id-clause-err_writes : goal.returns-in_err-id-clause-err_writes
+returns-in_err-id-clause-err_writes g c = read_exit _ 1 _ _ c.in_err-id.ensures.err
+
+pub returns-in_err-id-clause-late : goal.returns-in_err-id-clause-late
+returns-in_err-id-clause-late g c tells room =
+    fault_exit of_take MayComeLate c.in_err-id.field-0.0 c.from_residual.result c.from_residual.ensures.1 (take_late (g.S.Reads.state c.args.space.now) format.relationships_file c.in_err-id.field-0.0 room (c.in_err-id.ensures.refused tells))
+
+pub returns-in_err-save-clause-late : goal.returns-in_err-save-clause-late
+returns-in_err-save-clause-late g c tells room = fault_exit of_space MayComeLate c.in_err-save.field-0.0 c.from_residual-in_err-save.result c.from_residual-in_err-save.ensures.1 (space_late c.in_err-save.field-0.0)

@@ -1,8 +1,8 @@
-use Rattle.std.proofs.Common.{◌∙◌}
+use Rattle.std.proofs.Common.{◌∙◌, arith}
 use Rattle.graph_ops.specs.ChangeFault.{IsOutside}
 use Rattle.graph_ops.proofs.EdgePut.{first_right, puts_edge, second_right}
 use Rattle.graph_ops.proofs.Exits.{fault_exit}
-use Rattle.graph_ops.proofs.Writes.{then_written}
+use Rattle.graph_ops.proofs.Writes.{more_written, on_any_err, then_written}
 use Rattle.graph_ops.proofs.edge_placing.put_edge.Goals as goal
 
 pub returns-in_err-id-clause-sound : goal.returns-in_err-id-clause-sound
@@ -26,3 +26,9 @@ returns-clause-put g c tells names text store at source target =
 
 pub returns-clause-writes : goal.returns-clause-writes
 returns-clause-writes g c = then_written c.in_ok-id.ensures.writes c.in_ok-join_ends.ensures.writes
+
+pub returns-in_err-id-clause-err_writes : goal.returns-in_err-id-clause-err_writes
+returns-in_err-id-clause-err_writes g c = on_any_err _ _ (more_written (omega arith) c.in_err-id.ensures.err_writes)
+
+pub returns-in_err-join_ends-clause-err_writes : goal.returns-in_err-join_ends-clause-err_writes
+returns-in_err-join_ends-clause-err_writes g c = on_any_err _ _ (then_written c.in_ok-id.ensures.writes c.in_err-join_ends.ensures.err_writes)

@@ -1,23 +1,24 @@
 use Rattle.std.specs.Prelude.{Err, IfErr}
-use Rattle.std.proofs.Common.{◌≡◌, ◌+◌, length, ◌∙◌, sym, ap, subst, arith, refl}
+use Rattle.std.proofs.Common.{◌+◌, length, ◌∙◌, sym, ap, subst, arith, refl}
 use Rattle.plain_graph.specs.Refusals.{change_reasons}
 use Rattle.plain_graph.specs.Reply.{NodeMade}
 use Rattle.plain_graph.specs.declared.command.Command.TheVariants as commands
 use Rattle.plain_graph.specs.declared.command.Target.TheVariants as targets
+use Rattle.rec_bytes.specs.declared.meta.Meta.{Meta}
 use Rattle.rec_bytes.specs.Format as format
-use Rattle.rec_bytes.specs.Space.{State}
 use Rattle.store_rules.specs.Writes.{WritesBeside}
 use Rattle.prop_store.specs.declared.owner.Owner.{Owner}
 use Rattle.graph_ops.specs.Assigning.{CanPut, HasPropertyRoom, PutsPairs, assigned_blocks, pairs_of}
 use Rattle.graph_ops.specs.Change.{IsRefusal, MakesChange}
 use Rattle.graph_ops.specs.ChangeFault.{IsOutside, LeavesSpace}
 use Rattle.graph_ops.specs.NodeAdding.{PutsNode}
-use Rattle.graph_ops.specs.Preparing.{IsPrepared, line_reasons}
+use Rattle.graph_ops.specs.Preparing.{IsPrepared}
 use Rattle.graph_ops.specs.Store.{IsStore, graph_in}
-use Rattle.graph_ops.proofs.Exits.{exit_is, fault_exit, outside_leaves}
+use Rattle.graph_ops.proofs.ElementRooms.{room_still}
+use Rattle.graph_ops.proofs.Exits.{exit_is, fault_exit, late_leaves}
 use Rattle.graph_ops.proofs.NodeAdded.{can_put, full_fault, full_refused, line_refused, made, not_full, put_room, room_kept}
 use Rattle.graph_ops.proofs.Reasons.{outside_refused}
-use Rattle.graph_ops.proofs.Writes.{beside_then, beside_written, more_written, then_written}
+use Rattle.graph_ops.proofs.Writes.{beside_then, beside_written, more_written, on_any_err, then_written}
 use Rattle.graph_ops.proofs.node_adding.add_node.Goals as goal
 use Rattle.graph_ops.proofs.node_adding.add_node.Goals.{After-put_properties, In_err-id, In_err-put_properties, In_ok-id, In_ok-prepared}
 use Rattle.graph_ops.proofs.node_adding.add_node.Given.{Over}
@@ -68,11 +69,16 @@ pub returns-in_err-id-clause-full : goal.returns-in_err-id-clause-full
 returns-in_err-id-clause-full g c store full = absurd (not_full (g.S.Reads.state c.args.space.now) c.args.names.now.names store c.in_ok-test_room.ensures.room full)
 
 pub returns-in_err-id-clause-leaves : goal.returns-in_err-id-clause-leaves
-returns-in_err-id-clause-leaves g c tells store =
+returns-in_err-id-clause-leaves g c tells =
     let s = g.S.Reads.state c.args.space.now in
+    let u = g.S.Reads.state c.prepare.new.space in
     let v = g.S.Reads.state c.put_node.new.space in
+    let live = ap (λ (m : Meta). m.live) (c.in_ok-prepared.ensures.metas tells).nodes in
     fault_exit (λ f. f) (LeavesSpace s v) c.in_err-id.field-0.0 c.from_residual-in_err-id.result c.from_residual-in_err-id.ensures.1
-    (outside_leaves s v c.in_err-id.field-0.0 (node_outside g (goal.at.returns-in_err-id-clause-leaves g c).In_err-id tells store))
+    (late_leaves s v c.in_err-id.field-0.0 (c.in_err-id.ensures.late tells (room_still s u format.nodes_file 1 live (c.prepare.ensures.shape tells) c.in_ok-test_room.ensures.room)))
+
+pub returns-in_err-id-clause-refused_writes : goal.returns-in_err-id-clause-refused_writes
+returns-in_err-id-clause-refused_writes g c = on_any_err _ _ (more_written (omega arith) (then_written c.prepare.ensures.few_writes c.in_err-id.ensures.err_writes))
 
 -- ---- its properties
 puts : (g : Over) (c : In_ok-id g) → g.S.Reads.tells → IsStore (g.S.Reads.state c.args.space.now) c.args.names.now.names → PutsNode (g.S.Reads.state c.prepare.new.space) (g.S.Reads.state c.put_node.new.space) c.prepare.new.names.names c.args.label.now c.in_ok-id.id
@@ -107,11 +113,20 @@ pub returns-in_err-put_properties-clause-full : goal.returns-in_err-put_properti
 returns-in_err-put_properties-clause-full g c store full = absurd (not_full (g.S.Reads.state c.args.space.now) c.args.names.now.names store c.in_ok-test_room.ensures.room full)
 
 pub returns-in_err-put_properties-clause-leaves : goal.returns-in_err-put_properties-clause-leaves
-returns-in_err-put_properties-clause-leaves g c tells store =
+returns-in_err-put_properties-clause-leaves g c tells =
     let s = g.S.Reads.state c.args.space.now in
     let w = g.S.Reads.state c.put_properties.new.space in
     fault_exit (λ f. f) (LeavesSpace s w) c.in_err-put_properties.field-0.0 c.from_residual-in_err-put_properties.result c.from_residual-in_err-put_properties.ensures.1
-    (outside_leaves s w c.in_err-put_properties.field-0.0 (properties_outside g (goal.at.returns-in_err-put_properties-clause-leaves g c).In_err-put_properties tells store))
+    (late_leaves s w c.in_err-put_properties.field-0.0 (c.in_err-put_properties.ensures.late tells))
+
+pub returns-in_err-put_properties-clause-refused_writes : goal.returns-in_err-put_properties-clause-refused_writes
+returns-in_err-put_properties-clause-refused_writes g c =
+    let pairs = c.as_slice-pairs.result.now in
+    let n = ap length c.deref.ensures.0 in
+    let b = ap (assigned_blocks pairs) c.deref.ensures.0 in
+    let k = c.in_ok-prepared.ensures.weight in
+    let l = c.in_ok-prepared.ensures.light in
+    on_any_err _ _ (more_written (omega arith) (then_written c.in_ok-prepared.ensures.writes (then_written (beside_written refl c.in_ok-id.ensures.writes) c.in_err-put_properties.ensures.err_writes)))
 
 -- ---- the node is made
 pub returns-clause-made : goal.returns-clause-made

@@ -5,11 +5,11 @@ use Rattle.rec_bytes.specs.Space.{State, after_put}
 use Rattle.store_rules.specs.Views.{key_in}
 use Rattle.node_store.specs.declared.node_row.NodeRow.{NodeRow}
 use Rattle.node_store.specs.NodeRecord.{node_key, node_record}
-use Rattle.graph_ops.specs.ChangeFault.{IsOutside, of_take}
-use Rattle.graph_ops.proofs.Exits.{fault_exit}
+use Rattle.graph_ops.specs.ChangeFault.{IsOutside, MayComeLate, of_space, of_take}
+use Rattle.graph_ops.proofs.Exits.{fault_exit, space_late}
 use Rattle.graph_ops.proofs.NodePut.{puts_node}
-use Rattle.graph_ops.proofs.Takes.{store_can_take, take_outside, taken-shape}
-use Rattle.graph_ops.proofs.Writes.{among_metas, this_written, beside_then}
+use Rattle.graph_ops.proofs.Takes.{store_can_take, take_late, take_outside, taken-shape}
+use Rattle.graph_ops.proofs.Writes.{among_metas, beside_then, on_any_err, read_exit, record_written, taken_written, then_written, this_written}
 use Rattle.graph_ops.proofs.node_adding.put_node.Goals as goal
 use Rattle.graph_ops.proofs.node_adding.put_node.Goals.{In_ok-id}
 use Rattle.graph_ops.proofs.node_adding.put_node.Given.{Over}
@@ -44,3 +44,17 @@ returns-clause-writes g c =
     (λ q i. ⊎_elim (λ e. inr (among_metas format.nodes_file q refl e)) (λ e. absurd e) i) c.take.ensures.writes)
     (this_written key (g.S.Reads.state c.take.new.space) (g.S.Reads.state c.save.new.space) (node_key c.new_row.result.id ∷ [])
     (λ q i. ⊎_elim (λ e. inl (e ∙ ap (λ (r : NodeRow). node_key r.id) c.new_row.ensures)) (λ e. absurd e) i) c.save.ensures.writes)
+
+pub returns-in_err-id-clause-late : goal.returns-in_err-id-clause-late
+returns-in_err-id-clause-late g c tells room =
+    fault_exit of_take MayComeLate c.in_err-id.field-0.0 c.from_residual.result c.from_residual.ensures.1 (take_late (g.S.Reads.state c.args.space.now) format.nodes_file c.in_err-id.field-0.0 room (c.in_err-id.ensures.refused tells))
+
+pub returns-in_err-save-clause-late : goal.returns-in_err-save-clause-late
+returns-in_err-save-clause-late g c tells room = fault_exit of_space MayComeLate c.in_err-save.field-0.0 c.from_residual-in_err-save.result c.from_residual-in_err-save.ensures.1 (space_late c.in_err-save.field-0.0)
+
+pub returns-in_err-id-clause-err_writes : goal.returns-in_err-id-clause-err_writes
+returns-in_err-id-clause-err_writes g c = read_exit _ 1 _ _ c.in_err-id.ensures.err
+
+pub returns-in_err-save-clause-err_writes : goal.returns-in_err-save-clause-err_writes
+returns-in_err-save-clause-err_writes g c =
+    on_any_err _ _ (then_written (taken_written format.nodes_file _ _ refl c.take.ensures.writes) (record_written (node_key c.new_row.result.id) _ _ refl c.save.ensures.writes))

@@ -3,12 +3,13 @@ use Rattle.plain_graph.specs.Reply.{Done}
 use Rattle.plain_graph.specs.declared.command.Command.TheVariants as commands
 use Rattle.plain_graph.specs.declared.command.Target.TheVariants as targets
 use Rattle.prop_store.specs.Changing.{DropsAll, HasElement}
+use Rattle.prop_store.specs.Touching.{TouchesProperties}
 use Rattle.prop_store.specs.declared.owner.Owner.{Owner}
 use Rattle.rec_bytes.specs.Format as format
 use Rattle.rec_bytes.specs.RecordFiles.{meta_key_of}
 use Rattle.rec_bytes.specs.Space.{SameButReads, State}
 use Rattle.store_rules.specs.Views.{degree, key_in}
-use Rattle.store_rules.specs.Writes.{WritesBeside}
+use Rattle.store_rules.specs.Writes.{WritesAtMost, WritesBeside}
 use Rattle.store_rules.proofs.GraphRows.{degree_in-degree}
 use Rattle.graph_ops.specs.Change.{IsRefusal}
 use Rattle.graph_ops.specs.ChangeFault.{of_prop}
@@ -19,8 +20,10 @@ use Rattle.graph_ops.proofs.Elements.{node_loaded, node_missing, same_node, used
 use Rattle.graph_ops.proofs.Exits.{fault_exit}
 use Rattle.graph_ops.proofs.Setting.{has_owner, prop_refused}
 use Rattle.graph_ops.proofs.Readings.{made_read, store_read, there_read}
-use Rattle.graph_ops.proofs.Writes.{among_metas, beside_then, beside_written, more_written, none_written, then_written, this_written}
+use Rattle.graph_ops.proofs.Writes.{among_metas, on_any_err, read_exit, beside_then, beside_written, more_written, none_written, then_written, this_written, touched_written}
 use Rattle.graph_ops.proofs.node_deleting.delete_node.Goals as goal
+use Rattle.graph_ops.proofs.node_deleting.delete_node.Goals.{After-give, After-load}
+use Rattle.graph_ops.proofs.node_deleting.delete_node.Given.{Over}
 
 pub returns-in_default-clause-refused : goal.returns-in_default-clause-refused
 returns-in_default-clause-refused g c tells store =
@@ -50,7 +53,7 @@ pub returns-in_err-dropped-clause-found : goal.returns-in_err-dropped-clause-fou
 returns-in_err-dropped-clause-found g c tells =
     let s = g.S.Reads.state c.args.space.now in
     fault_exit of_prop (IsDeleteCause s c.args.id) c.in_err-dropped.field-0.0 c.from_residual-in_err-dropped.result c.from_residual-in_err-dropped.ensures.1
-    (drop_cause s c.args.id c.in-Some.node (sym c.in-Some.is ∙ c.in_ok-node.ensures.found tells) c.if-node-ne0.false c.in_err-dropped.field-0.0)
+    (drop_cause s c.args.id c.in-Some.node (sym c.in-Some.is ∙ c.in_ok-node.ensures.found tells) c.if-node-ne0.false c.in_err-dropped.field-0.0 c.in_err-dropped.ensures.damaged)
 
 pub overflow_add-result-2 : goal.overflow_add-result-2
 overflow_add-result-2 g c = let p = c.in_ok-dropped.ensures.few_properties in let b = c.in_ok-dropped.ensures.few_blocks in omega arith
@@ -72,8 +75,12 @@ returns-clause-made g c tells store =
     made_read s m t names (commands.Delete (targets.Node id)) Done (1 + c.in_ok-dropped.dropped.properties + c.in_ok-dropped.dropped.blocks) same
     (node_deleted m u names c.in_ok-dropped.dropped kept id drops t (has_owner m names (targets.Node id) kept there).used (subst (λ (z : State). degree z.records id ≡ 0) (sym same) (sym k.1 ∙ c.if-node-ne0.false)) (c.drop_all.ensures.shape tells) (c.give.ensures.shape tells) (c.in_ok-give.ensures.given tells))
 
-pub returns-clause-writes : goal.returns-clause-writes
-returns-clause-writes g c =
+same : (g : Over) (c : After-load g) → SameButReads (g.S.Reads.state c.args.space.now) (g.S.Reads.state c.load.new.space)
+same g c = subst (SameButReads (g.S.Reads.state c.args.space.now)) (sym c.load.ensures.state) (same_node (g.S.Reads.state c.args.space.now) c.args.id)
+
+-- the node's record, those of its properties and their blocks
+written : (g : Over) (c : After-give g) → WritesAtMost (1 + c.in_ok-dropped.dropped.properties + c.in_ok-dropped.dropped.blocks) (g.S.Reads.state c.args.space.now) (g.S.Reads.state c.give.new.space)
+written g c =
     let s = g.S.Reads.state c.args.space.now in
     let m = g.S.Reads.state c.load.new.space in
     let u = g.S.Reads.state c.drop_all.new.space in
@@ -82,4 +89,32 @@ returns-clause-writes g c =
     let count = c.in_ok-dropped.dropped.properties + c.in_ok-dropped.dropped.blocks in
     let drops = subst (λ (o : Owner). WritesBeside o.key count m u) c.node_owner.ensures c.in_ok-dropped.ensures.writes in
     let gives = this_written key u t (key ∷ meta_key_of format.nodes_file ∷ []) (λ q i. ⊎_elim (λ e. inl e) (λ j. inr (⊎_elim (λ e. among_metas format.nodes_file q refl e) (λ e. absurd e) j)) i) c.give.ensures.writes in
-    more_written (omega arith) (then_written (none_written s m (subst (SameButReads s) (sym c.load.ensures.state) (same_node s c.args.id))) (beside_written refl (beside_then drops gives)))
+    more_written (omega arith) (then_written (none_written s m (same g (goal.at.After-give g c).After-load)) (beside_written refl (beside_then drops gives)))
+
+pub returns-clause-writes : goal.returns-clause-writes
+returns-clause-writes g c = written g (goal.at.returns-clause-writes g c).After-give
+
+pub returns-in_err-node-clause-refused_writes : goal.returns-in_err-node-clause-refused_writes
+returns-in_err-node-clause-refused_writes g c = read_exit _ 737 _ _ (same g (goal.at.returns-in_err-node-clause-refused_writes g c).After-load)
+
+pub returns-in_default-clause-refused_writes : goal.returns-in_default-clause-refused_writes
+returns-in_default-clause-refused_writes g c = more_written (omega arith) (none_written _ _ (same g (goal.at.returns-in_default-clause-refused_writes g c).After-load))
+
+pub returns-then-node-ne0-clause-refused_writes : goal.returns-then-node-ne0-clause-refused_writes
+returns-then-node-ne0-clause-refused_writes g c = more_written (omega arith) (none_written _ _ (same g (goal.at.returns-then-node-ne0-clause-refused_writes g c).After-load))
+
+pub returns-in_err-dropped-clause-refused_writes : goal.returns-in_err-dropped-clause-refused_writes
+returns-in_err-dropped-clause-refused_writes g c =
+    let m = g.S.Reads.state c.load.new.space in
+    let u = g.S.Reads.state c.drop_all.new.space in
+    let touched = subst (λ (o : Owner). TouchesProperties g.S.Reads.tells (o.key ∷ []) 32 704 m u) c.node_owner.ensures c.drop_all.ensures.at_most in
+    on_any_err _ _ (then_written (none_written _ _ (same g (goal.at.returns-in_err-dropped-clause-refused_writes g c).After-load)) (touched_written refl touched))
+
+pub returns-in_err-give-clause-refused_writes : goal.returns-in_err-give-clause-refused_writes
+returns-in_err-give-clause-refused_writes g c =
+    let p = c.in_ok-dropped.ensures.few_properties in
+    let b = c.in_ok-dropped.ensures.few_blocks in
+    on_any_err _ _ (more_written (omega arith) (written g (goal.at.returns-in_err-give-clause-refused_writes g c).After-give))
+
+pub returns-clause-light : goal.returns-clause-light
+returns-clause-light g c = let p = c.in_ok-dropped.ensures.few_properties in let b = c.in_ok-dropped.ensures.few_blocks in omega arith

@@ -1,22 +1,25 @@
-use Rattle.std.specs.Prelude.{Contains, slice_get}
-use Rattle.std.proofs.Common.{◌≡◌, ◌≢◌, ◌++◌, ◌∷◌, Some, length, ◌∙◌, sym, ap, subst, append_assoc, arith, refl}
+use Rattle.std.specs.Prelude.{Contains}
+use Rattle.std.proofs.Common.{◌≢◌, ◌++◌, ◌∷◌, Some, length, ◌∙◌, sym, ap, subst, append_assoc, arith, refl}
 use Rattle.plain_graph.specs.Graph.{UsesName}
 use Rattle.plain_graph.specs.Names.{IsShortName}
 use Rattle.plain_graph.specs.Properties.{keys_in}
 use Rattle.plain_graph.specs.Refusals.{most_names}
 use Rattle.plain_graph.specs.declared.command.Command.TheVariants as commands
+use Rattle.store_rules.specs.Writes.{WritesAtMost}
 use Rattle.graph_ops.specs.Assigning.{HasPropertyRoom, IsReserveFault, assigned_blocks}
 use Rattle.graph_ops.specs.Change.{IsRefusedBy}
 use Rattle.graph_ops.specs.ChangeFault.{of_intern}
 use Rattle.graph_ops.specs.Preparing.{line_reasons}
 use Rattle.graph_ops.specs.Store.{IsStore, KeepsElements, graph_in}
 use Rattle.graph_ops.proofs.Exits.{fault_exit}
-use Rattle.graph_ops.proofs.Interned.{keeps_interned, keeps_then, name_written}
+use Rattle.graph_ops.proofs.Interned.{keeps_interned, keeps_then, metas_interned, metas_then, name_written, one_written}
+use Rattle.graph_ops.proofs.Assigned.{blocks-assigned, length-assigned}
 use Rattle.graph_ops.proofs.LineNames.{held_name, name_long, name_prefix, uses_long, uses_once}
+use Rattle.graph_ops.proofs.NewNames.{name_one}
 use Rattle.graph_ops.proofs.Preparation.{assign_refused_by, label_refused, prepared_is, reserve_refused}
 use Rattle.graph_ops.proofs.Writes.{more_written, then_written}
 use Rattle.graph_ops.proofs.preparing.prepare.Goals as goal
-use Rattle.graph_ops.proofs.preparing.prepare.Goals.{In_ok-assigned, In_ok-label}
+use Rattle.graph_ops.proofs.preparing.prepare.Goals.{After-assign_pairs, After-intern, In_ok-assigned, In_ok-label}
 use Rattle.graph_ops.proofs.preparing.prepare.Given.{Over}
 
 pub returns-in_err-label-clause-refused : goal.returns-in_err-label-clause-refused
@@ -88,6 +91,55 @@ returns-clause-names_full g c used other many =
     let same = ap length (uses_once c.args.names.now.names (c.args.label.now ∷ keys_in c.args.pairs.now) used c.assign_pairs.new.names.names other (c.intern.new.self.names, uses g (goal.at.returns-clause-names_full g c).In_ok-label, c.in_ok-assigned.ensures.uses)) in
     let few = c.in_ok-assigned.ensures.held.few in
     absurd (omega arith)
+
+-- the label's record, or none
+label_written : (g : Over) (c : After-intern g) → WritesAtMost 1 (g.S.Reads.state c.args.space.now) (g.S.Reads.state c.intern.new.space)
+label_written g c = one_written (g.S.Reads.state c.args.space.now) (g.S.Reads.state c.intern.new.space) (length c.args.names.now.names) c.intern.ensures.writes
+
+both_written : (g : Over) (c : After-assign_pairs g) → WritesAtMost 34 (g.S.Reads.state c.args.space.now) (g.S.Reads.state c.assign_pairs.new.space)
+both_written g c = then_written (label_written g (goal.at.After-assign_pairs g c).After-intern) c.assign_pairs.ensures.few_writes
+
+pub returns-in_err-label-clause-few_writes : goal.returns-in_err-label-clause-few_writes
+returns-in_err-label-clause-few_writes g c = more_written (omega arith) (label_written g (goal.at.returns-in_err-label-clause-few_writes g c).After-intern)
+
+pub returns-in_err-assigned-clause-few_writes : goal.returns-in_err-assigned-clause-few_writes
+returns-in_err-assigned-clause-few_writes g c = both_written g (goal.at.returns-in_err-assigned-clause-few_writes g c).After-assign_pairs
+
+pub returns-in_err-blocks-clause-few_writes : goal.returns-in_err-blocks-clause-few_writes
+returns-in_err-blocks-clause-few_writes g c = both_written g (goal.at.returns-in_err-blocks-clause-few_writes g c).After-assign_pairs
+
+pub returns-clause-few_writes : goal.returns-clause-few_writes
+returns-clause-few_writes g c = both_written g (goal.at.returns-clause-few_writes g c).After-assign_pairs
+
+pub returns-clause-metas : goal.returns-clause-metas
+returns-clause-metas g c tells =
+    let s = g.S.Reads.state c.args.space.now in
+    let t = g.S.Reads.state c.intern.new.space in
+    metas_then (metas_interned s t c.args.names.now.names c.intern.new.self.names c.as_bytes.result.now (c.in_ok-label.ensures.ok tells) c.in_ok-label.ensures.names) (c.in_ok-assigned.ensures.metas tells)
+
+pub returns-clause-light : goal.returns-clause-light
+returns-clause-light g c =
+    let one = name_one c.args.names.now.names c.as_bytes.result.now c.intern.new.self.names c.in_ok-label.ensures.names in
+    let two = c.in_ok-assigned.ensures.few_names in
+    let few = c.in_ok-assigned.ensures.few in
+    let n = c.len.ensures.value in
+    let b = c.in_ok-blocks.ensures.few_blocks in
+    let k = c.count-known.ensures.value in
+    let m = c.count.ensures.value in
+    omega arith
+
+pub returns-clause-weighs : goal.returns-clause-weighs
+returns-clause-weighs g c =
+    let names = c.assign_pairs.new.names.names in
+    let pairs = c.args.pairs.now in
+    let items = c.in_ok-assigned.assigned.items in
+    let all = length-assigned names pairs items c.in_ok-assigned.ensures.assigned in
+    let blocks = blocks-assigned names pairs items c.in_ok-assigned.ensures.assigned in
+    let n = c.len.ensures.value in
+    let b = c.in_ok-blocks.ensures.blocks ∙ ap (assigned_blocks pairs) c.deref.ensures.0 in
+    let k = c.count-known.ensures.value in
+    let m = c.count.ensures.value in
+    omega arith
 
 pub returns-clause-prefix : goal.returns-clause-prefix
 returns-clause-prefix g c =

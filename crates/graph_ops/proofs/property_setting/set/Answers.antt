@@ -6,20 +6,23 @@ use Rattle.plain_graph.specs.Refusals.{most_names}
 use Rattle.plain_graph.specs.Reply.{Done}
 use Rattle.plain_graph.specs.declared.command.Command.TheVariants as commands
 use Rattle.prop_store.specs.Changing.{HasKey, IsSetRefusal}
+use Rattle.prop_store.specs.declared.owner.Owner.{Owner}
 use Rattle.prop_store.specs.declared.set_fault.SetFault.{SetFault}
-use Rattle.rec_bytes.specs.Space.{State}
+use Rattle.rec_bytes.specs.RecordFiles.{is_meta_file}
+use Rattle.store_rules.specs.Writes.{WritesAtMost}
 use Rattle.name_store.specs.Interning.{IsFullFault, interned}
 use Rattle.graph_ops.specs.Change.{IsRefusal}
 use Rattle.graph_ops.specs.ChangeFault.{LeavesSpace, of_intern, of_set}
 use Rattle.graph_ops.specs.Store.{IsStore, KeepsElements, graph_in}
-use Rattle.graph_ops.proofs.Exits.{fault_exit}
-use Rattle.graph_ops.proofs.Interned.{keeps_interned, name_written}
+use Rattle.graph_ops.proofs.Exits.{fault_exit, late_leaves, set_late}
+use Rattle.graph_ops.proofs.Interned.{keeps_interned, name_written, one_written}
 use Rattle.graph_ops.proofs.LineNames.{held_name}
-use Rattle.graph_ops.proofs.Setting.{set_known, set_leaves, set_missing, set_refused, set_unnamed, set_value}
+use Rattle.graph_ops.proofs.NewNames.{name_one}
+use Rattle.graph_ops.proofs.Setting.{few_blocks, set_known, set_missing, set_refused, set_unnamed, set_value}
 use Rattle.graph_ops.proofs.Readings.{made_read, store_read, there_read}
-use Rattle.graph_ops.proofs.Writes.{more_written, none_written, then_written}
+use Rattle.graph_ops.proofs.Writes.{more_written, none_written, on_any_err, own_record, then_written, touched_written}
 use Rattle.graph_ops.proofs.property_setting.set.Goals as goal
-use Rattle.graph_ops.proofs.property_setting.set.Goals.{After-set}
+use Rattle.graph_ops.proofs.property_setting.set.Goals.{After-intern, After-set}
 use Rattle.graph_ops.proofs.property_setting.set.Given.{Over}
 
 pub returns-in_err-owner-clause-refused : goal.returns-in_err-owner-clause-refused
@@ -76,10 +79,6 @@ module _ (g : Over) (c : After-set g) (tells : g.S.Reads.tells) (store : IsStore
       (set_refused (g.S.Reads.state c.find_owner.new.space) c.args.names.now.names c.args.target c.args.key.now c.args.value.now store_found there
       (g.S.Reads.state c.intern.new.space) c.intern.new.self.names c.in_ok-number.number c.in_ok-owner.owner c.in_ok-owner.ensures.owner (uses g c) kept (few g c) (at g c) fault why)
 
-  leaves : (u : State) (fault : SetFault) → IsSetRefusal (g.S.Reads.state c.intern.new.space) c.in_ok-owner.owner c.in_ok-number.number c.args.value.now fault → LeavesSpace (g.S.Reads.state c.args.space.now) u (of_set fault)
-  leaves u fault why = set_leaves (g.S.Reads.state c.find_owner.new.space) c.args.names.now.names c.args.target c.args.key.now c.args.value.now store_found there
-      (g.S.Reads.state c.intern.new.space) c.intern.new.self.names c.in_ok-number.number c.in_ok-owner.owner c.in_ok-owner.ensures.owner (uses g c) kept (few g c) (at g c) (g.S.Reads.state c.args.space.now) u fault why
-
 pub returns-in_err-released-clause-refused : goal.returns-in_err-released-clause-refused
 returns-in_err-released-clause-refused g c tells store =
     let s = g.S.Reads.state c.args.space.now in
@@ -88,12 +87,33 @@ returns-in_err-released-clause-refused g c tells store =
     (refused g after tells store c.in_err-released.field-0.0 (c.in_err-released.ensures.refused tells (known g after tells store)))
 
 pub returns-in_err-released-clause-leaves : goal.returns-in_err-released-clause-leaves
-returns-in_err-released-clause-leaves g c tells store =
+returns-in_err-released-clause-leaves g c tells =
     let s = g.S.Reads.state c.args.space.now in
     let u = g.S.Reads.state c.set.new.space in
-    let after = (goal.at.returns-in_err-released-clause-leaves g c).After-set in
     fault_exit of_set (LeavesSpace s u) c.in_err-released.field-0.0 c.from_residual-in_err-released.result c.from_residual-in_err-released.ensures.1
-    (leaves g after tells store u c.in_err-released.field-0.0 (c.in_err-released.ensures.refused tells (known g after tells store)))
+    (late_leaves s u (of_set c.in_err-released.field-0.0) (set_late c.in_err-released.field-0.0 (c.in_err-released.ensures.full tells)))
+
+-- the element was read, and the key has its record
+key_written : (g : Over) (c : After-intern g) → WritesAtMost 1 (g.S.Reads.state c.args.space.now) (g.S.Reads.state c.intern.new.space)
+key_written g c = then_written (none_written _ _ c.find_owner.ensures.state) (one_written _ _ _ c.intern.ensures.writes)
+
+pub returns-in_err-number-clause-refused_writes : goal.returns-in_err-number-clause-refused_writes
+returns-in_err-number-clause-refused_writes g c = on_any_err _ _ (more_written (omega arith) (key_written g (goal.at.returns-in_err-number-clause-refused_writes g c).After-intern))
+
+pub returns-in_err-released-clause-refused_writes : goal.returns-in_err-released-clause-refused_writes
+returns-in_err-released-clause-refused_writes g c =
+    let few = few_blocks c.args.value.now c.requires.1 in
+    let own = subst (λ (o : Owner). is_meta_file o.key.file ≡ true) (sym c.in_ok-owner.ensures.owner) (own_record c.args.target) in
+    on_any_err _ _ (more_written (omega arith) (then_written (key_written g (goal.at.returns-in_err-released-clause-refused_writes g c).After-intern) (touched_written own c.set.ensures.at_most)))
+
+pub returns-clause-light : goal.returns-clause-light
+returns-clause-light g c =
+    let one = name_one c.args.names.now.names c.as_bytes.result.now c.intern.new.self.names c.in_ok-number.ensures.names in
+    let k = c.count-known.ensures.value in
+    let m = c.count.ensures.value in
+    let b = c.block_count.ensures.few in
+    let r = c.in_ok-released.ensures.few in
+    omega arith
 
 -- what the weight is
 weight_is : (known now blocks old new of released : ℕ) → known ≡ old → now ≡ new → blocks ≡ of → 2 + blocks + released + (now - known) ≡ 2 + of + released + (new - old)

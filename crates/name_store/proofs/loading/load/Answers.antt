@@ -3,7 +3,7 @@ use Rattle.std.proofs.lemmas.Result.{err_from_is_err_and}
 use Rattle.rec_bytes.specs.declared.meta.Meta.{Meta}
 use Rattle.rec_bytes.specs.Space.{after_gets}
 use Rattle.rec_bytes.proofs.Spaces.{after_gets-zero}
-use Rattle.name_store.specs.Loading.{AreLoadableTo, HasNoForm, HoldsFirst, IsFirstDamage, IsLoadFault, most_reads, name_mark, text_at}
+use Rattle.name_store.specs.Loading.{AreLoadableTo, HasNoForm, HoldsFirst, IsLoadFault, most_reads, name_mark, text_at}
 use Rattle.name_store.specs.Loading.IsNameDamage.{HighMark}
 use Rattle.name_store.proofs.FirstNames.{AreLoadableTo-first, HoldsFirst-next, form_next, names_of-first}
 use Rattle.name_store.proofs.NameDamage.{IsFirstDamage-at, NotDamaged-loadable}
