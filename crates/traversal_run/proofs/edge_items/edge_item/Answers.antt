@@ -1,0 +1,9 @@
+use Rattle.std.proofs.Common.{ℕ, List, ap, ◌∙◌}
+use Rattle.plain_graph.specs.declared.item.Item.TheVariants as items
+use Rattle.traversal_run.proofs.edge_items.edge_item.Goals as goal
+
+pub returns-clause-is : goal.returns-clause-is
+returns-clause-is c = λ records shape store typed.
+    let row = c.args.row.now in
+    let named = c.new-label.ensures ∙ c.in_ok-from_slice.ensures.items ∙ c.in_ok-name.ensures.is records shape store typed in
+    c.edge.ensures ∙ ap (λ (label : List ℕ). items.Edge row.id label row.from row.to) named

@@ -1,0 +1,15 @@
+use Rattle.std.proofs.Common.{◌≡◌, sym, ◌∙◌, None, subst}
+use Rattle.plain_graph.specs.declared.item.Item.{Item}
+use Rattle.traversal_run.specs.Elements.{IsOwnerOf}
+use Rattle.traversal_run.proofs.Loaded.{edge_unowned, node_unowned}
+use Rattle.traversal_run.proofs.elements.owner_of.Goals as goal
+
+pub returns-in-None-clause-found : goal.returns-in-None-clause-found
+returns-in-None-clause-found g c = λ tells.
+    let s = g.R.Reads.state c.args.space.now in
+    subst (λ (item : Item). IsOwnerOf s item None) (sym c.in-Vertex.is) (node_unowned s c.in-Vertex.id (sym c.in-None.is ∙ c.in_ok-load-in-Vertex.ensures.found tells))
+
+pub returns-in-None-2-clause-found : goal.returns-in-None-2-clause-found
+returns-in-None-2-clause-found g c = λ tells.
+    let s = g.R.Reads.state c.args.space.now in
+    subst (λ (item : Item). IsOwnerOf s item None) (sym c.in-Edge.is) (edge_unowned s c.in-Edge.id c.in-Edge.label c.in-Edge.from c.in-Edge.to (sym c.in-None-2.is ∙ c.in_ok-load-in-Edge.ensures.found tells))

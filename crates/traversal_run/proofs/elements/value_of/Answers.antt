@@ -1,0 +1,59 @@
+use Rattle.std.specs.Prelude.{IfSome}
+use Rattle.std.proofs.Common.{◌∙◌, Option, ap, sym, subst, arith, rules}
+use Rattle.std.specs.FinMap as maps
+use Rattle.std.specs.FinMap.{get-empty}
+use Rattle.std.proofs.lemmas.Result.{err_from_is_err_and}
+use Rattle.plain_graph.specs.Meaning.{properties_of}
+use Rattle.plain_graph.proofs.PropertyLaws.{order}
+use Rattle.prop_store.specs.Owner.{IsOwner}
+use Rattle.prop_store.specs.declared.owner.Owner.{Owner}
+use Rattle.store_rules.specs.Graph.{graph_of}
+use Rattle.traversal_run.specs.Elements.{IsOwnerOf}
+use Rattle.traversal_run.proofs.Loaded.{no_name_no_value}
+use Rattle.traversal_run.proofs.Owned.{listed_in, still_undamaged, then_read, value_is}
+use Rattle.traversal_run.proofs.elements.value_of.Goals as goal
+
+pub returns-in_default-clause-found : goal.returns-in_default-clause-found
+returns-in_default-clause-found g c = λ tells store.
+    let s = g.R.Reads.state c.args.space.now in
+    sym (no_name_no_value s store.store c.args.key.now (c.in_default.ensures.finds store) c.args.item.now)
+
+pub returns-in_default-2-clause-found : goal.returns-in_default-2-clause-found
+returns-in_default-2-clause-found g c = λ tells store.
+    let s = g.R.Reads.state c.args.space.now in
+    let none = subst (IsOwnerOf s c.args.item.now) c.in_default-2.is (c.in_ok-owner.ensures.found tells) in
+    sym (ap (λ properties. maps.get properties c.args.key.now) none ∙ get-empty order c.args.key.now)
+
+pub returns-in_err-value-clause-sound : goal.returns-in_err-value-clause-sound
+returns-in_err-value-clause-sound g c = λ tells store.
+    let s = g.R.Reads.state c.args.space.now in
+    let z = g.R.Reads.state c.owner_of.new.space in
+    let owns = subst (IsOwnerOf s c.args.item.now) c.in-Some-2.is (c.in_ok-owner.ensures.found tells) in
+    let is = subst (λ (o : Option Owner). IfSome o IsOwner) c.in-Some-2.is c.in_ok-owner.ensures.owner in
+    let listed = listed_in s z c.args.item.now c.in-Some-2.owner c.in_ok-owner.ensures.read.same store.store is owns in
+    let p = err_from_is_err_and c.from_residual-in_err-value.result c.from_residual-in_err-value.ensures.1 in
+    rw (p.1, p.2) (still_undamaged c.in_err-value.field-0.0 (c.in_err-value.ensures.sound tells listed.es listed.has))
+
+pub returns-in_err-value-clause-read : goal.returns-in_err-value-clause-read
+returns-in_err-value-clause-read g c = record {
+  same = then_read (g.R.Reads.state c.args.space.now) (g.R.Reads.state c.owner_of.new.space) (g.R.Reads.state c.read_key.new.space) 55 c.in_ok-owner.ensures.read.same c.read_key.ensures.at_most;
+  onward = search rules;
+  later = omega arith;
+}
+
+pub returns-clause-found : goal.returns-clause-found
+returns-clause-found g c = λ tells store.
+    let s = g.R.Reads.state c.args.space.now in
+    let z = g.R.Reads.state c.owner_of.new.space in
+    let owns = subst (IsOwnerOf s c.args.item.now) c.in-Some-2.is (c.in_ok-owner.ensures.found tells) in
+    let is = subst (λ (o : Option Owner). IfSome o IsOwner) c.in-Some-2.is c.in_ok-owner.ensures.owner in
+    let listed = listed_in s z c.args.item.now c.in-Some-2.owner c.in_ok-owner.ensures.read.same store.store is owns in
+    c.in_ok-value.ensures.read tells listed.es listed.has.are
+    ∙ value_is s.records s.shape store.store (properties_of (graph_of s.records) c.args.item.now) listed.es listed.known listed.is c.args.key.now c.in-Some.number c.in-Some.ensures.below (c.in-Some.ensures.finds store)
+
+pub returns-clause-read : goal.returns-clause-read
+returns-clause-read g c = record {
+  same = then_read (g.R.Reads.state c.args.space.now) (g.R.Reads.state c.owner_of.new.space) (g.R.Reads.state c.read_key.new.space) 55 c.in_ok-owner.ensures.read.same c.read_key.ensures.at_most;
+  onward = search rules;
+  later = omega arith;
+}

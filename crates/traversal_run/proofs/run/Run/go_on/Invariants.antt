@@ -1,0 +1,15 @@
+use Rattle.std.proofs.Common.{◌≡◌, Some}
+use Rattle.store_rules.specs.Graph.{graph_of}
+use Rattle.traversal_run.specs.Reading.{IsNamedStore, IsRead}
+use Rattle.traversal_run.specs.Run.{still_allowed, to_come}
+use Rattle.traversal_run.proofs.run.Run.go_on.Given as goal
+
+abbrev pub invariant-loop : goal.invariant-loop
+invariant-loop g l =
+    let old = g.R.Reads.state l.fn.space in
+    record {
+      same : g.R.Reads.tells → IsNamedStore old.records old.shape l.names.names → to_come (graph_of old.records) l.self ≡ to_come (graph_of old.records) l.fn.self;
+      allowed : still_allowed l.self ≡ still_allowed l.fn.self;
+      stopped : l.self.stopped ≡ l.fn.self.stopped;
+      read : IsRead g.R.Reads l.fn.space l.space;
+    }

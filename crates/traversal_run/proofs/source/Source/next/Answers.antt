@@ -1,0 +1,52 @@
+use Rattle.std.proofs.Common.{◌++◌, ap, sym, ◌∙◌, subst}
+use Rattle.rec_bytes.specs.Space.{State}
+use Rattle.store_rules.specs.Graph.{graph_of}
+use Rattle.store_rules.specs.Rows.{option_list}
+use Rattle.traversal_run.specs.Finding.{element_at, element_mark}
+use Rattle.traversal_run.specs.Source.{HasNoneBelow, elements_left, left_of}
+use Rattle.traversal_run.specs.declared.source.Source.{Source}
+use Rattle.traversal_run.proofs.LeftRows.{gives-later, gives-some, left-none, left-takes}
+use Rattle.traversal_run.proofs.OnlyReads.{is_read-on, named-read}
+use Rattle.traversal_run.proofs.source.Source.next.Goals as goal
+
+pub returns-then-is_some-clause-first : goal.returns-then-is_some-clause-first
+returns-then-is_some-clause-first g c = λ tells store.
+    let space = g.R.Reads in
+    let s = space.state c.args.space.now in
+    let now = c.loop-id.self in
+    let new : Source = record { edges = now.edges; left = c.take_first.new.self } in
+    let read = c.loop-id.invariant.read in
+    let item = c.in_ok-item.ensures.is tells (named-read space c.args.space.now c.loop-id.space c.args.names.now.names read store)
+    ∙ ap (λ (t : State). element_at t.records now.edges c.in-Some.id) read.same in
+    let takes = left-takes s.records now.edges now.left c.take_first.new.self c.in-Some.id c.in-Some.ensures.some in
+    gives-some (graph_of s.records) c.args.self.now now new c.in_ok-item.item (sym c.is_some.ensures ∙ c.if-is_some.true) (c.loop-id.invariant.same tells store)
+    (takes ∙ ap (λ found. option_list found ++ left_of (graph_of s.records) new) (sym item))
+
+pub loop-id-preserved : goal.loop-id-preserved
+loop-id-preserved g c =
+    let space = g.R.Reads in
+    let s = space.state c.args.space.now in
+    let now = c.loop-id.self in
+    let new : Source = record { edges = now.edges; left = c.take_first.new.self } in
+    let read = c.loop-id.invariant.read in
+    record {
+      same = λ tells store.
+          let item = c.in_ok-item.ensures.is tells (named-read space c.args.space.now c.loop-id.space c.args.names.now.names read store)
+          ∙ ap (λ (t : State). element_at t.records now.edges c.in-Some.id) read.same in
+          let takes = left-takes s.records now.edges now.left c.take_first.new.self c.in-Some.id c.in-Some.ensures.some in
+          gives-later (graph_of s.records) c.args.self.now now new c.in_ok-item.item (sym c.is_some.ensures ∙ c.if-is_some.false) (c.loop-id.invariant.same tells store)
+          (takes ∙ ap (λ found. option_list found ++ left_of (graph_of s.records) new) (sym item));
+      edges = c.loop-id.invariant.edges;
+      over = c.take_first.ensures.over ∙ c.loop-id.invariant.over;
+      mark = c.loop-id.invariant.mark;
+      read = is_read-on space g.met.R.Reads.further_onward c.args.space.now c.loop-id.space c.element_at.new.space read c.element_at.ensures.read;
+    }
+
+pub returns-clause-first : goal.returns-clause-first
+returns-clause-first g c = λ tells store.
+    let s = g.R.Reads.state c.args.space.now in
+    let now = c.loop-id.self in
+    let mark = c.loop-id.invariant.mark ∙ ap (element_mark s.records) (sym c.loop-id.invariant.edges) in
+    let none = subst (λ n. HasNoneBelow n now.left) mark c.in_default.ensures.none.0 in
+    let nothing = left-none s.records now.edges now.left none in
+    (sym (c.loop-id.invariant.same tells store) ∙ nothing, ap (elements_left (graph_of s.records) now.edges) c.in_default.ensures.none.1 ∙ nothing)

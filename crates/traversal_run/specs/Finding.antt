@@ -1,0 +1,18 @@
+-- Elements of a store by their identifiers.
+use Rattle.std.specs.Prelude.{ℕ, Bool, true, false, Option}
+use Rattle.std.specs.Option.{option_map}
+use Rattle.plain_graph.specs.Meaning.{edge_item, vertex_of}
+use Rattle.plain_graph.specs.declared.item.Item.{Item}
+use Rattle.rec_bytes.specs.Format.{nodes_file, relationships_file}
+use Rattle.store_rules.specs.Graph.{edge_of, node_of}
+use Rattle.store_rules.specs.Views.{Records, high}
+
+-- the vertex or the edge of an identifier, where it is in use
+abbrev pub element_at : Records → Bool → ℕ → Option Item
+element_at records false id = option_map vertex_of (node_of records id)
+element_at records true id = option_map edge_item (edge_of records id)
+
+-- how many vertices or edges were given out
+abbrev pub element_mark : Records → Bool → ℕ
+element_mark records false = high records nodes_file
+element_mark records true = high records relationships_file

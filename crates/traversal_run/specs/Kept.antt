@@ -1,0 +1,12 @@
+-- Items that are kept to be put into order.
+use Rattle.std.specs.Prelude.{Bool}
+use Rattle.plain_graph.specs.Meaning as meaning
+use Rattle.traversal_run.specs.declared.kept.Ranked.{Ranked}
+
+-- the item and its rank
+abbrev pub place_of : Ranked → meaning.Ranked
+place_of r = record { rank = r.rank; item = r.item }
+
+-- one comes before another
+abbrev pub row_ranks_below : Bool → Ranked → Ranked → Bool
+row_ranks_below descending a b = meaning.ranks_below descending (place_of a) (place_of b)

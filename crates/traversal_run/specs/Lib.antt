@@ -1,0 +1,17 @@
+pub mod AskedIds
+pub mod EdgeItems
+pub mod Elements
+pub mod Fault
+pub mod Finding
+pub mod KeyValues
+pub mod Kept
+pub mod Naming
+pub mod Reading
+pub mod Row
+pub mod Run
+pub mod Seen
+pub mod Source
+pub mod Stage
+pub mod Starting
+pub mod Stop
+pub mod TextSet

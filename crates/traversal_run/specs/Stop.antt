@@ -1,0 +1,30 @@
+-- Why a run gives nothing more.
+use Rattle.std.specs.Prelude.{◌≡◌, ℕ, ◌≤◌, Result, Ok, Err, IsErrOf}
+use Rattle.fault_count.specs.Cause.{Rose}
+use Rattle.traversal_run.specs.declared.fault.Fault.{Fault}
+use Rattle.traversal_run.specs.declared.fault.Fault.TheVariants as faults
+use Rattle.traversal_run.specs.declared.stop.Stop.{Stop}
+use Rattle.traversal_run.specs.declared.stop.Stop.TheVariants.{End, Memory, Disk, Damaged}
+use Rattle.traversal_run.specs.declared.stop.Stop.TheVariants.{PastCount}
+
+abbrev pub of_fault : Fault → Stop
+of_fault faults.Memory = Memory
+of_fault faults.Disk = Disk
+of_fault (faults.Damaged damage) = Damaged damage
+
+abbrev pub of_memory : Stop
+of_memory = Memory
+
+-- What is known where a run stops: that all was given, or that a count passes. No record is said to
+-- be damaged.
+abbrev pub MayStop : Type 0 → Type 0 → Stop → Type 0
+MayStop ended past End = ended
+MayStop ended past Memory = Unit {0}
+MayStop ended past Disk = Unit {0}
+MayStop ended past (Damaged damage) = ⊥
+MayStop ended past PastCount = past
+
+-- the disk is blamed only where it failed
+pub record HasStopCause {T : Type 0} (before now : ℕ) (result : Result T Stop) : Type 0 where
+  pub later : before ≤ now
+  pub disk : IsErrOf result Disk → Rose before now

@@ -1,0 +1,112 @@
+ghost use Rattle.std.specs.Prelude.{◌≡◌, ◌≤◌, IfOk, IfSome, length};
+ghost use Rattle.std.specs.FinMap as maps;
+ghost use Rattle.plain_graph.specs.Forms.{IsKept, IsShown};
+ghost use Rattle.plain_graph.specs.Meaning.{label_of, properties_of};
+ghost use Rattle.prop_store.specs.Owner.{IsOwner};
+ghost use Rattle.store_rules.specs.Graph.{graph_of};
+ghost use Rattle.store_rules.specs.Rules.{IsSparseStore};
+ghost use Rattle.traversal_run.specs.Elements.{IsOwnerOf};
+ghost use Rattle.traversal_run.specs.Fault.{HasFaultCause, NotDamaged};
+ghost use Rattle.traversal_run.specs.Reading.{IsNamedStore, IsRead};
+
+use crate::fault::Fault;
+use crate::naming::{name_of, number_of};
+use name_store::Names;
+use plain_graph::{Item, Value};
+use prop_store::{Owner, read_key};
+use rec_bytes::{
+    Key, NODE_FIRST_PROPERTY, NODES, RELATIONSHIP_FIRST_PROPERTY, RELATIONSHIPS, Reads,
+};
+use std::alloc::Global;
+
+/// The owner of an item's properties; none where it has no properties, as it is a value or an
+/// element that isn't in use.
+pub(crate) fn owner_of<R: Reads>(space: &mut R, item: &Item) -> Result<Option<Owner>, Fault>
+    ensures found { R.tells
+        → IfOk result (λ owner. IsOwnerOf (R.state space.old) item.now owner) }
+    ensures sound { R.tells
+        → IsSparseStore (R.state space.old).records (R.state space.old).shape → NotDamaged result }
+    ensures owner { IfOk result (λ owner. IfSome owner IsOwner) }
+    ensures read { IsRead R.Reads space.old space.new }
+    ensures cause { HasFaultCause (R.faults space.old) (R.faults space.new) result }
+{
+    match item {
+        Item::Vertex(id) => match node_store::load(space, *id)? {
+            Some(_) => Ok(Some(Owner {
+                key: Key {
+                    file: NODES,
+                    id: *id,
+                },
+                field: NODE_FIRST_PROPERTY,
+            })),
+            None => Ok(None),
+        },
+        Item::Edge { id, .. } => match rel_store::load(space, *id)? {
+            Some(_) => Ok(Some(Owner {
+                key: Key {
+                    file: RELATIONSHIPS,
+                    id: *id,
+                },
+                field: RELATIONSHIP_FIRST_PROPERTY,
+            })),
+            None => Ok(None),
+        },
+        Item::Value(_) => Ok(None),
+    }
+}
+
+/// The label of an item; an empty one where it is a value or a vertex that isn't in use.
+pub(crate) fn label_of<'a, R: Reads>(
+    space: &mut R,
+    names: &'a Names,
+    item: &'a Item,
+) -> Result<&'a [u8], Fault>
+    ensures found { R.tells
+        → IsNamedStore (R.state space.old).records (R.state space.old).shape names.now.names
+        → IfOk result (λ label. label.now
+        ≡ label_of (graph_of (R.state space.old).records) item.now) }
+    ensures sound { R.tells
+        → IsNamedStore (R.state space.old).records (R.state space.old).shape names.now.names
+        → NotDamaged result }
+    ensures short { IsShown item.now → IfOk result (λ label. length label.now ≤ 48) }
+    ensures read { IsRead R.Reads space.old space.new }
+    ensures cause { HasFaultCause (R.faults space.old) (R.faults space.new) result }
+{
+    match item {
+        Item::Vertex(id) => match node_store::load(space, *id)? {
+            Some(row) => name_of(names, row.label, NODES, *id),
+            None => Ok(&[]),
+        },
+        Item::Edge { label, .. } => Ok(label.as_bytes()),
+        Item::Value(_) => Ok(&[]),
+    }
+}
+
+/// The value of a key of an item. A key that is no name of the store has none.
+pub(crate) fn value_of<R: Reads>(
+    alloc: Global,
+    space: &mut R,
+    names: &Names,
+    key: &[u8],
+    item: &Item,
+) -> Result<Option<Value>, Fault>
+    ensures found { R.tells
+        → IsNamedStore (R.state space.old).records (R.state space.old).shape names.now.names
+        → IfOk result (λ value. value
+        ≡ maps.get (properties_of (graph_of (R.state space.old).records) item.now) key.now) }
+    ensures sound { R.tells
+        → IsNamedStore (R.state space.old).records (R.state space.old).shape names.now.names
+        → NotDamaged result }
+    ensures kept { IfOk result (λ value. IfSome value IsKept) }
+    ensures read { IsRead R.Reads space.old space.new }
+    ensures cause { HasFaultCause (R.faults space.old) (R.faults space.new) result }
+{
+    let Some(number) = number_of(space, names, key) else {
+        return Ok(None);
+    };
+    let Some(owner) = owner_of(space, item)? else {
+        return Ok(None);
+    };
+    let value = read_key(alloc, space, owner, number)?;
+    Ok(value)
+}

@@ -1,0 +1,92 @@
+//! Elements that are read by their identifiers.
+
+ghost use Rattle.std.specs.Prelude.{◌≡◌, IfOk, false, true};
+ghost use Rattle.store_rules.specs.Rules.{IsSparseStore};
+ghost use Rattle.traversal_run.specs.Finding.{element_at, element_mark};
+ghost use Rattle.traversal_run.specs.Fault.{HasFaultCause, NotDamaged};
+ghost use Rattle.traversal_run.specs.Reading.{IsNamedStore, IsRead};
+
+use crate::edge_items::edge_item;
+use crate::fault::Fault;
+use crate::shown::Shown;
+use name_store::Names;
+use rec_bytes::{NODES, RELATIONSHIPS, Reads};
+use rel_store::EdgeRow;
+use std::alloc::Global;
+
+/// How many vertices or edges were given out.
+pub(crate) fn mark_of<R: Reads>(space: &R, edges: bool) -> u32
+    ensures { result ≡ element_mark (R.state space.now).records edges }
+{
+    if edges {
+        space.meta(RELATIONSHIPS).high
+    } else {
+        space.meta(NODES).high
+    }
+}
+
+/// The vertex or the edge of an identifier, where it is in use. It costs a read.
+pub(crate) fn element_at<R: Reads>(
+    alloc: Global,
+    space: &mut R,
+    names: &Names,
+    edges: bool,
+    id: u32,
+) -> Result<Option<Shown>, Fault>
+    ensures is { R.tells
+        → IsNamedStore (R.state space.old).records (R.state space.old).shape names.now.names
+        → IfOk result (λ item. item ≡ element_at (R.state space.old).records edges id) }
+    ensures sound { R.tells
+        → IsNamedStore (R.state space.old).records (R.state space.old).shape names.now.names
+        → NotDamaged result }
+    ensures read { IsRead R.Reads space.old space.new }
+    ensures cause { HasFaultCause (R.faults space.old) (R.faults space.new) result }
+{
+    if edges {
+        edge_at(alloc, space, names, id)
+    } else {
+        vertex_at(space, id)
+    }
+}
+
+fn vertex_at<R: Reads>(space: &mut R, id: u32) -> Result<Option<Shown>, Fault>
+    ensures is { R.tells
+        → IfOk result (λ item. item ≡ element_at (R.state space.old).records false id) }
+    ensures sound { R.tells → IsSparseStore (R.state space.old).records (R.state space.old).shape
+        → NotDamaged result }
+    ensures read { IsRead R.Reads space.old space.new }
+    ensures cause { HasFaultCause (R.faults space.old) (R.faults space.new) result }
+{
+    match node_store::load(space, id)? {
+        Some(_) => Ok(Some(Shown::vertex(id))),
+        None => Ok(None),
+    }
+}
+
+fn edge_at<R: Reads>(
+    alloc: Global,
+    space: &mut R,
+    names: &Names,
+    id: u32,
+) -> Result<Option<Shown>, Fault>
+    ensures is { R.tells
+        → IsNamedStore (R.state space.old).records (R.state space.old).shape names.now.names
+        → IfOk result (λ item. item ≡ element_at (R.state space.old).records true id) }
+    ensures sound { R.tells
+        → IsNamedStore (R.state space.old).records (R.state space.old).shape names.now.names
+        → NotDamaged result }
+    ensures read { IsRead R.Reads space.old space.new }
+    ensures cause { HasFaultCause (R.faults space.old) (R.faults space.new) result }
+{
+    let Some(row) = rel_store::load(space, id)? else {
+        return Ok(None);
+    };
+    let row = EdgeRow {
+        id: row.id,
+        label: row.label,
+        from: row.from,
+        to: row.to,
+    };
+    let item = edge_item(alloc, names, &row)?;
+    Ok(Some(item))
+}

@@ -1,0 +1,102 @@
+ghost use Rattle.std.specs.Prelude.{◌≡◌, IfOk};
+ghost use Rattle.expand.specs.Expanding.{AreRowsOf};
+ghost use Rattle.plain_graph.specs.Meaning.{edges_at, incident, neighbours};
+ghost use Rattle.store_rules.specs.Graph.{graph_of};
+ghost use Rattle.traversal_run.specs.Fault.{HasFaultCause, NotDamaged};
+ghost use Rattle.traversal_run.specs.Reading.{IsNamedStore, IsRead};
+
+use crate::edge_items::{edge_items, end_items};
+use crate::fault::Fault;
+use crate::naming::numbers_of;
+use crate::waiting::Waiting;
+use expand::{ExpandFault, expand};
+use name_store::Names;
+use plain_graph::{Hop, Item};
+use rec_bytes::Reads;
+use rel_store::EdgeRow;
+use std::alloc::Global;
+
+/// The vertices at the other ends of edges at an item.
+pub(crate) fn neighbours<R: Reads>(
+    alloc: Global,
+    space: &mut R,
+    names: &Names,
+    hop: &Hop,
+    item: &Item,
+) -> Result<Waiting, Fault>
+    ensures found { R.tells
+        → IsNamedStore (R.state space.old).records (R.state space.old).shape names.now.names
+        → IfOk result (λ items. items
+        ≡ neighbours (graph_of (R.state space.old).records) hop.now item.now) }
+    ensures sound { R.tells
+        → IsNamedStore (R.state space.old).records (R.state space.old).shape names.now.names
+        → NotDamaged result }
+    ensures read { IsRead R.Reads space.old space.new }
+    ensures cause { HasFaultCause (R.faults space.old) (R.faults space.new) result }
+{
+    let Item::Vertex(id) = item else {
+        return Ok(Waiting::new(alloc));
+    };
+    let rows = rows_of(alloc, space, names, hop, *id)?;
+    let items = end_items(alloc, &rows, *id)?;
+    Ok(items)
+}
+
+/// The edges at an item.
+pub(crate) fn incident<R: Reads>(
+    alloc: Global,
+    space: &mut R,
+    names: &Names,
+    hop: &Hop,
+    item: &Item,
+) -> Result<Waiting, Fault>
+    ensures found { R.tells
+        → IsNamedStore (R.state space.old).records (R.state space.old).shape names.now.names
+        → IfOk result (λ value. value
+        ≡ incident (graph_of (R.state space.old).records) hop.now item.now) }
+    ensures sound { R.tells
+        → IsNamedStore (R.state space.old).records (R.state space.old).shape names.now.names
+        → NotDamaged result }
+    ensures read { IsRead R.Reads space.old space.new }
+    ensures cause { HasFaultCause (R.faults space.old) (R.faults space.new) result }
+{
+    let Item::Vertex(id) = item else {
+        return Ok(Waiting::new(alloc));
+    };
+    let rows = rows_of(alloc, space, names, hop, *id)?;
+    edge_items(alloc, names, &rows)
+}
+
+/// The rows of the edges that a hop takes at a vertex. It reads what `expand` does, and nothing
+/// where no type of the hop is a name.
+fn rows_of<R: Reads>(
+    alloc: Global,
+    space: &mut R,
+    names: &Names,
+    hop: &Hop,
+    id: u32,
+) -> Result<Vec<EdgeRow>, Fault>
+    ensures found { R.tells
+        → IsNamedStore (R.state space.old).records (R.state space.old).shape names.now.names
+        → IfOk result (λ rows. AreRowsOf (R.state space.old).records rows.items
+        (edges_at (graph_of (R.state space.old).records) hop.now.direction hop.now.labels id)) }
+    ensures sound { R.tells
+        → IsNamedStore (R.state space.old).records (R.state space.old).shape names.now.names
+        → NotDamaged result }
+    ensures read { IsRead R.Reads space.old space.new }
+    ensures cause { HasFaultCause (R.faults space.old) (R.faults space.new) result }
+{
+    let texts = hop.labels.as_slice();
+    let labels = numbers_of(alloc, space, names, texts)?;
+    // No number stands for all types.
+    if labels.is_empty() && !texts.is_empty() {
+        return Ok(Vec::new(alloc));
+    }
+    match expand(alloc, space, id, hop.direction, &labels) {
+        Ok(rows) => Ok(rows),
+        Err(ExpandFault::NoNode { .. }) => Ok(Vec::new(alloc)),
+        Err(ExpandFault::Memory) => Err(Fault::Memory),
+        Err(ExpandFault::Disk) => Err(Fault::Disk),
+        Err(ExpandFault::Damaged(damage)) => Err(Fault::Damaged(damage)),
+    }
+}

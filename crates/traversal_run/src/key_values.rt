@@ -1,0 +1,231 @@
+ghost use Rattle.std.specs.Prelude.{◌≡◌, ◌≤◌, ◌<◌, ℕ, List, All, IfOk, IfSome, OnOk, find, map};
+ghost use Rattle.std.specs.Prelude.{nat_eq};
+ghost use Rattle.std.specs.FinMap as maps;
+ghost use Rattle.std.specs.List.{filter_map};
+ghost use Rattle.std.specs.Option.{option_map};
+ghost use Rattle.plain_graph.specs.Forms.{IsKept};
+ghost use Rattle.plain_graph.specs.Meaning.{properties_of};
+ghost use Rattle.plain_graph.specs.Properties.{Properties};
+ghost use Rattle.plain_graph.specs.Sorting.{sorted};
+ghost use Rattle.plain_graph.specs.declared.item.Item.{Item as ItemRow};
+ghost use Rattle.plain_graph.specs.declared.item.Item.TheVariants as items;
+ghost use Rattle.prop_store.specs.declared.prop.Prop.{Prop as PropRow};
+ghost use Rattle.rec_bytes.specs.declared.shape.Shape.{Shape};
+ghost use Rattle.store_rules.specs.Graph.{graph_of};
+ghost use Rattle.store_rules.specs.Views.{Records};
+ghost use Rattle.traversal_run.specs.Fault.{HasFaultCause, NotDamaged};
+ghost use Rattle.traversal_run.specs.KeyValues.{AreRead, entry_below, entry_of, named_entry};
+ghost use Rattle.traversal_run.specs.KeyValues.{row_below};
+ghost use Rattle.traversal_run.specs.Naming.{name_count};
+ghost use Rattle.traversal_run.specs.Reading.{IsNamedStore, IsRead};
+
+use crate::elements::owner_of;
+use crate::fault::Fault;
+use crate::naming::{name_of, number_of};
+use crate::shown::Shown;
+use crate::waiting::Waiting;
+use name_store::Names;
+use plain_graph::{Item, Text, Value};
+use prop_store::{Prop, read_all};
+use rec_bytes::{NAMES, Reads};
+use std::alloc::{AllocError, Global};
+
+/// A value with the text of its key.
+#[derive(Drop)]
+pub(crate) struct Named<'a> {
+    pub(crate) key: &'a [u8],
+    pub(crate) value: Shown,
+}
+
+/// The values of all keys of an item, by ascending text of the key.
+pub(crate) fn all_values<R: Reads>(
+    alloc: Global,
+    space: &mut R,
+    names: &Names,
+    item: &Item,
+) -> Result<Waiting, Fault>
+    ensures found { R.tells
+        → IsNamedStore (R.state space.old).records (R.state space.old).shape names.now.names
+        → IfOk result (λ values. values ≡ map items.Value
+        (maps.values (properties_of (graph_of (R.state space.old).records) item.now))) }
+    ensures sound { R.tells
+        → IsNamedStore (R.state space.old).records (R.state space.old).shape names.now.names
+        → NotDamaged result }
+    ensures read { IsRead R.Reads space.old space.new }
+    ensures cause { HasFaultCause (R.faults space.old) (R.faults space.new) result }
+{
+    let props = read_properties(alloc, space, names, item)?;
+    ordered_values(alloc, names, props)
+}
+
+/// The values of several keys of an item, in the order of the keys.
+pub(crate) fn several_values<R: Reads>(
+    alloc: Global,
+    space: &mut R,
+    names: &Names,
+    keys: &[Text],
+    item: &Item,
+) -> Result<Waiting, Fault>
+    ensures found { R.tells
+        → IsNamedStore (R.state space.old).records (R.state space.old).shape names.now.names
+        → IfOk result (λ values. values ≡ map items.Value (filter_map
+        (maps.get (properties_of (graph_of (R.state space.old).records) item.now)) keys.now)) }
+    ensures sound { R.tells
+        → IsNamedStore (R.state space.old).records (R.state space.old).shape names.now.names
+        → NotDamaged result }
+    ensures read { IsRead R.Reads space.old space.new }
+    ensures cause { HasFaultCause (R.faults space.old) (R.faults space.new) result }
+{
+    let props = read_properties(alloc, space, names, item)?;
+    let values = values_among(alloc, space, names, keys, &props)?;
+    Ok(values)
+}
+
+/// The properties of an item, in the order of their chain; none where it has no owner of them.
+fn read_properties<R: Reads>(
+    alloc: Global,
+    space: &mut R,
+    names: &Names,
+    item: &Item,
+) -> Result<Vec<Prop>, Fault>
+    ensures found { R.tells
+        → IsNamedStore (R.state space.old).records (R.state space.old).shape names.now.names
+        → IfOk result (λ props. AreRead (R.state space.old).records props.items
+        (properties_of (graph_of (R.state space.old).records) item.now)) }
+    ensures sound { R.tells
+        → IsNamedStore (R.state space.old).records (R.state space.old).shape names.now.names
+        → NotDamaged result }
+    ensures kept { IfOk result (λ props. All (λ (prop : PropRow). IsKept prop.value) props.items) }
+    ensures read { IsRead R.Reads space.old space.new }
+    ensures cause { HasFaultCause (R.faults space.old) (R.faults space.new) result }
+{
+    let Some(owner) = owner_of(space, item)? else {
+        return Ok(Vec::new(alloc));
+    };
+    let props = read_all(alloc, space, owner)?;
+    Ok(props)
+}
+
+/// The values of these properties, by ascending text of their keys.
+fn ordered_values(alloc: Global, names: &Names, props: Vec<Prop>) -> Result<Waiting, Fault>
+    requires kept { All (λ (prop : PropRow). IsKept prop.value) props.items }
+    ensures ordered { (records : Records) (shape : Shape)
+        → IsNamedStore records shape names.now.names
+        → All (λ (prop : PropRow). prop.key < name_count records) props.items
+        → IfOk result (λ values. values ≡ map (λ (entry : List ℕ × ItemRow). entry.1)
+        (sorted entry_below (map (named_entry records) props.items))) }
+    ensures sound { (records : Records) (shape : Shape) → IsNamedStore records shape names.now.names
+        → All (λ (prop : PropRow). prop.key < name_count records) props.items
+        → NotDamaged result }
+    ensures cause { (before now : ℕ) → before ≤ now → HasFaultCause before now result }
+{
+    let mut rows = named_rows(alloc, names, props)?;
+    sort(&mut rows)?;
+    let values = values_of(alloc, rows)?;
+    Ok(values)
+}
+
+/// The values with the texts of their keys. Where a key is no name, that name is damaged.
+fn named_rows<'a>(
+    alloc: Global,
+    names: &'a Names,
+    props: Vec<Prop>,
+) -> Result<Vec<Named<'a>>, Fault>
+    requires kept { All (λ (prop : PropRow). IsKept prop.value) props.items }
+    ensures named { (records : Records) (shape : Shape) → IsNamedStore records shape names.now.names
+        → All (λ (prop : PropRow). prop.key < name_count records) props.items
+        → IfOk result (λ rows. map entry_of rows.items ≡ map (named_entry records) props.items) }
+    ensures sound { (records : Records) (shape : Shape) → IsNamedStore records shape names.now.names
+        → All (λ (prop : PropRow). prop.key < name_count records) props.items
+        → NotDamaged result }
+    ensures cause { (before now : ℕ) → before ≤ now → HasFaultCause before now result }
+{
+    let mut rows = Vec::new(alloc);
+    for prop in props {
+        let key = name_of(names, prop.key, NAMES, prop.key)?;
+        let value = Shown::value(prop.value);
+        rows.push(Named { key, value })?;
+    }
+    Ok(rows)
+}
+
+/// Puts them in the order of their keys.
+fn sort(rows: &mut Vec<Named<'_>>) -> Result<(), AllocError>
+    ensures { OnOk result (rows.new.items ≡ sorted row_below rows.old.items) }
+{
+    rows.sort_by(|a, b| a.key.cmp(b.key))?;
+    Ok(())
+}
+
+/// The values without their keys.
+fn values_of(alloc: Global, rows: Vec<Named<'_>>) -> Result<Waiting, AllocError>
+    ensures { IfOk result (λ values. values
+        ≡ map (λ (entry : List ℕ × ItemRow). entry.1) (map entry_of rows.entry.items)) }
+{
+    let mut values = Waiting::new(alloc);
+    for row in rows {
+        values.push(row.value)?;
+    }
+    Ok(values)
+}
+
+/// The values of several keys among these properties, in the order of the keys.
+fn values_among<R: Reads>(
+    alloc: Global,
+    space: &R,
+    names: &Names,
+    keys: &[Text],
+    props: &[Prop],
+) -> Result<Waiting, AllocError>
+    requires kept { All (λ (prop : PropRow). IsKept prop.value) props.now }
+    ensures { IsNamedStore (R.state space.now).records (R.state space.now).shape names.now.names
+        → (properties : Properties)
+        → AreRead (R.state space.now).records props.now properties
+        → IfOk result (λ values. values
+        ≡ map items.Value (filter_map (maps.get properties) keys.now)) }
+{
+    let mut values = Waiting::new(alloc);
+    for key in keys {
+        if let Some(value) = value_among(alloc, space, names, key.as_bytes(), props)? {
+            values.push(Shown::value(value))?;
+        }
+    }
+    Ok(values)
+}
+
+/// The value of a key among these properties.
+fn value_among<R: Reads>(
+    alloc: Global,
+    space: &R,
+    names: &Names,
+    key: &[u8],
+    props: &[Prop],
+) -> Result<Option<Value>, AllocError>
+    requires kept { All (λ (prop : PropRow). IsKept prop.value) props.now }
+    ensures found { IsNamedStore (R.state space.now).records (R.state space.now).shape names.now.names
+        → (properties : Properties)
+        → AreRead (R.state space.now).records props.now properties
+        → IfOk result (λ value. value ≡ maps.get properties key.now) }
+    ensures kept { IfOk result (λ value. IfSome value IsKept) }
+{
+    let Some(number) = number_of(space, names, key) else {
+        return Ok(None);
+    };
+    numbered_value(alloc, props, number)
+}
+
+/// The value of a key's number among these properties.
+fn numbered_value(alloc: Global, props: &[Prop], number: u32) -> Result<Option<Value>, AllocError>
+    requires kept { All (λ (prop : PropRow). IsKept prop.value) props.now }
+    ensures found { IfOk result (λ value. value ≡ option_map (λ (prop : PropRow). prop.value)
+        (find (λ (prop : PropRow). nat_eq prop.key number) props.now)) }
+    ensures kept { IfOk result (λ value. IfSome value IsKept) }
+{
+    match props.iter().find(|prop| prop.key == number) {
+        Some(prop) => {
+            let value = prop.value.copy(alloc)?;
+            Ok(Some(value))
+        }
+        None => Ok(None),
+    }
+}

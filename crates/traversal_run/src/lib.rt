@@ -1,0 +1,29 @@
+//! The run of a query: its results come one by one. Each step keeps the items that wait for it, and
+//! the next one is made from the last step that has some, so nothing makes the whole list first.
+//! Only an order and the texts of a dedup grow with what comes to them.
+#![tactic(auto)]
+
+mod asked_ids;
+mod comparing;
+mod counter;
+mod edge_items;
+mod elements;
+mod fault;
+mod finding;
+mod hopping;
+mod kept;
+mod key_values;
+mod lookups;
+mod naming;
+mod row;
+mod run;
+mod seen;
+mod shown;
+mod source;
+mod stage;
+mod starting;
+mod stop;
+mod text_set;
+mod waiting;
+
+pub use run::{Next, Run};

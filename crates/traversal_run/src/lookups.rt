@@ -1,0 +1,176 @@
+ghost use Rattle.std.specs.Prelude.{◌≡◌, [], ◌∷◌, IfOk};
+ghost use Rattle.std.specs.List.{list_any};
+ghost use Rattle.plain_graph.specs.Meaning.{label_value, own_rank, passes};
+ghost use Rattle.plain_graph.specs.Values.{is_text};
+ghost use Rattle.store_rules.specs.Graph.{graph_of};
+ghost use Rattle.traversal_run.specs.Fault.{HasFaultCause, NotDamaged};
+ghost use Rattle.traversal_run.specs.Reading.{IsNamedStore, IsRead};
+ghost use Rattle.traversal_run.specs.Stage.{distinct_values, rank_in};
+
+use crate::comparing::{is_related, is_text};
+use crate::elements::{label_of, value_of};
+use crate::fault::Fault;
+use crate::key_values::{all_values, several_values};
+use crate::shown::Shown;
+use crate::waiting::Waiting;
+use name_store::Names;
+use plain_graph::{Filter, Item, Text, Texts, Value};
+use rec_bytes::Reads;
+use std::alloc::{AllocError, Global};
+
+/// Whether an item passes a filter.
+pub(crate) fn passes<R: Reads>(
+    alloc: Global,
+    space: &mut R,
+    names: &Names,
+    filter: &Filter,
+    item: &Item,
+) -> Result<bool, Fault>
+    ensures found { R.tells
+        → IsNamedStore (R.state space.old).records (R.state space.old).shape names.now.names
+        → IfOk result (λ value. value
+        ≡ passes (graph_of (R.state space.old).records) filter.now item.now) }
+    ensures sound { R.tells
+        → IsNamedStore (R.state space.old).records (R.state space.old).shape names.now.names
+        → NotDamaged result }
+    ensures read { IsRead R.Reads space.old space.new }
+    ensures cause { HasFaultCause (R.faults space.old) (R.faults space.new) result }
+{
+    match filter {
+        Filter::Has(key) => {
+            let value = value_of(alloc, space, names, key.as_bytes(), item)?;
+            Ok(value.is_some())
+        }
+        Filter::HasValue {
+            key,
+            relation,
+            value,
+        } => match value_of(alloc, space, names, key.as_bytes(), item)? {
+            Some(own) => Ok(is_related(*relation, &own, value)),
+            None => Ok(false),
+        },
+        Filter::HasLabel(labels) => {
+            let label = label_of(space, names, item)?;
+            Ok(is_among(label, labels.as_slice()))
+        }
+    }
+}
+
+/// Whether a label is one of these.
+fn is_among(label: &[u8], labels: &[Text]) -> bool
+    ensures { result ≡ list_any (λ other. is_text other label.now) labels.now }
+{
+    labels.iter().any(|other| is_text(other.as_bytes(), label))
+}
+
+/// The values of these keys of an item, or of all where none is written.
+pub(crate) fn distinct_values<R: Reads>(
+    alloc: Global,
+    space: &mut R,
+    names: &Names,
+    keys: &Texts,
+    item: &Item,
+) -> Result<Waiting, Fault>
+    ensures found { R.tells
+        → IsNamedStore (R.state space.old).records (R.state space.old).shape names.now.names
+        → IfOk result (λ value. value
+        ≡ distinct_values (graph_of (R.state space.old).records) keys.now item.now) }
+    ensures sound { R.tells
+        → IsNamedStore (R.state space.old).records (R.state space.old).shape names.now.names
+        → NotDamaged result }
+    ensures read { IsRead R.Reads space.old space.new }
+    ensures cause { HasFaultCause (R.faults space.old) (R.faults space.new) result }
+{
+    match keys.as_slice() {
+        [] => all_values(alloc, space, names, item),
+        [key] => one_value(alloc, space, names, key, item),
+        several => several_values(alloc, space, names, several, item),
+    }
+}
+
+/// The value of one key of an item, where it has it. Only this one is read.
+fn one_value<R: Reads>(
+    alloc: Global,
+    space: &mut R,
+    names: &Names,
+    key: &Text,
+    item: &Item,
+) -> Result<Waiting, Fault>
+    ensures found { R.tells
+        → IsNamedStore (R.state space.old).records (R.state space.old).shape names.now.names
+        → IfOk result (λ value. value
+        ≡ distinct_values (graph_of (R.state space.old).records) (key.now ∷ []) item.now) }
+    ensures sound { R.tells
+        → IsNamedStore (R.state space.old).records (R.state space.old).shape names.now.names
+        → NotDamaged result }
+    ensures read { IsRead R.Reads space.old space.new }
+    ensures cause { HasFaultCause (R.faults space.old) (R.faults space.new) result }
+{
+    match value_of(alloc, space, names, key.as_bytes(), item)? {
+        Some(value) => {
+            let values = Waiting::one(alloc, Shown::value(value))?;
+            Ok(values)
+        }
+        None => Ok(Waiting::new(alloc)),
+    }
+}
+
+/// The label of an item.
+pub(crate) fn label_value<R: Reads>(
+    alloc: Global,
+    space: &mut R,
+    names: &Names,
+    item: &Shown,
+) -> Result<Shown, Fault>
+    ensures found { R.tells
+        → IsNamedStore (R.state space.old).records (R.state space.old).shape names.now.names
+        → IfOk result (λ value. value
+        ≡ label_value (graph_of (R.state space.old).records) item.now) }
+    ensures sound { R.tells
+        → IsNamedStore (R.state space.old).records (R.state space.old).shape names.now.names
+        → NotDamaged result }
+    ensures read { IsRead R.Reads space.old space.new }
+    ensures cause { HasFaultCause (R.faults space.old) (R.faults space.new) result }
+{
+    let label = label_of(space, names, item.as_item())?;
+    let bytes = Vec::from_slice(alloc, label)?;
+    Ok(Shown::value(Value::Text(Text::new(bytes))))
+}
+
+/// What gives an item its place in an order.
+pub(crate) fn rank<R: Reads>(
+    alloc: Global,
+    space: &mut R,
+    names: &Names,
+    key: &Option<Text>,
+    item: &Item,
+) -> Result<Option<Value>, Fault>
+    ensures found { R.tells
+        → IsNamedStore (R.state space.old).records (R.state space.old).shape names.now.names
+        → IfOk result (λ value. value
+        ≡ rank_in (graph_of (R.state space.old).records) key.now item.now) }
+    ensures sound { R.tells
+        → IsNamedStore (R.state space.old).records (R.state space.old).shape names.now.names
+        → NotDamaged result }
+    ensures read { IsRead R.Reads space.old space.new }
+    ensures cause { HasFaultCause (R.faults space.old) (R.faults space.new) result }
+{
+    match key {
+        Some(key) => value_of(alloc, space, names, key.as_bytes(), item),
+        None => {
+            let rank = own_rank(alloc, item)?;
+            Ok(Some(rank))
+        }
+    }
+}
+
+/// The identifier of an element, or the value itself.
+fn own_rank(alloc: Global, item: &Item) -> Result<Value, AllocError>
+    ensures { IfOk result (λ rank. rank ≡ own_rank item.now) }
+{
+    match item {
+        Item::Vertex(id) => Ok(Value::Int(i64::from(*id))),
+        Item::Edge { id, .. } => Ok(Value::Int(i64::from(*id))),
+        Item::Value(value) => value.copy(alloc),
+    }
+}

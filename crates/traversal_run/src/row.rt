@@ -1,0 +1,117 @@
+ghost use Rattle.std.specs.Prelude.{◌≡◌, [], ◌+◌, ◌<◌, ◌≤◌, List, length, take, drop, IfErr};
+ghost use Rattle.std.specs.Prelude.{IfNone, IfOk, IfSome, not};
+ghost use Rattle.std.specs.List.{list_all};
+ghost use Rattle.plain_graph.specs.Graph.{Graph};
+ghost use Rattle.plain_graph.specs.declared.item.Item.{Item};
+ghost use Rattle.store_rules.specs.Graph.{graph_of};
+ghost use Rattle.traversal_run.specs.Reading.{IsNamedStore, IsRead};
+ghost use Rattle.traversal_run.specs.Row.{
+  Advances,
+  AreIdle,
+  AreQuiet,
+  PassesAt,
+  Stream,
+  stages_of,
+  through,
+  with_first,
+};
+ghost use Rattle.traversal_run.specs.Stage.{is_count, limit_left, with_more};
+ghost use Rattle.traversal_run.specs.Stop.{HasStopCause, MayStop};
+
+use crate::stage::Stage;
+use crate::stop::Stop;
+use crate::waiting::Waiting;
+use name_store::Names;
+use rec_bytes::Reads;
+use std::alloc::Global;
+
+/// A step under way, with the items that wait for it.
+#[derive(Drop)]
+pub(crate) struct Row {
+    pub(crate) stage: Stage,
+    pub(crate) waiting: Waiting,
+}
+
+impl Row {
+    /// What the step gives for the first of the items that wait.
+    pub(crate) fn advance<R: Reads>(
+        &mut self,
+        alloc: Global,
+        space: &mut R,
+        names: &Names,
+    ) -> Result<Waiting, Stop>
+        ensures advances { R.tells
+            → IsNamedStore (R.state space.old).records (R.state space.old).shape names.now.names
+            → IfOk result (λ outs. (coming : List Item)
+            → Advances (graph_of (R.state space.old).records) self.old coming outs self.new) }
+        ensures stops { R.tells
+            → IsNamedStore (R.state space.old).records (R.state space.old).shape names.now.names
+            → IfErr result (MayStop ⊥ (PassesAt self.old)) }
+        ensures limits { IfOk result (λ outs.
+            with_more (limit_left self.new.stage) (length outs) ≡ limit_left self.old.stage) }
+        ensures counts { is_count self.new.stage ≡ is_count self.old.stage }
+        ensures read { IsRead R.Reads space.old space.new }
+        ensures cause { HasStopCause (R.faults space.old) (R.faults space.new) result }
+    {
+        match self.waiting.take_first() {
+            Some(item) => self.stage.take(alloc, space, names, item),
+            None => Ok(Waiting::new(alloc)),
+        }
+    }
+}
+
+/// The last row with items that wait.
+#[tactic(auto, using(crate::proofs::Rows::idle_more))]
+pub(crate) fn last_waiting(rows: &[Row]) -> Option<usize>
+    ensures some { IfSome result (λ at. (at < length rows.now) × AreIdle (drop (at + 1) rows.now)) }
+    ensures none { IfNone result (AreIdle rows.now) }
+{
+    let mut at = rows.len();
+    while at > 0 {
+        at -= 1;
+        if !rows[at].waiting.is_empty() {
+            return Some(at);
+        }
+    }
+    None
+}
+
+/// The first row whose step gives more once nothing more comes to it.
+#[tactic(auto, using(crate::proofs::Rows::quiet_more))]
+pub(crate) fn first_open(rows: &[Row]) -> Option<usize>
+    ensures some { IfSome result (λ at. (at < length rows.now) × AreQuiet (take at rows.now)) }
+    ensures none { IfNone result (AreQuiet rows.now) }
+{
+    for (at, row) in rows.iter().enumerate() {
+        if row.stage.is_open() {
+            return Some(at);
+        }
+    }
+    None
+}
+
+/// Whether no step counts.
+pub(crate) fn have_no_count(rows: &[Row]) -> bool
+    ensures { result ≡ list_all (λ row. not (is_count row.stage)) rows.now }
+{
+    rows.iter().all(|row| !row.stage.is_count())
+}
+
+/// Gives items to the row at this place, or to the end of the run where there is none.
+pub(crate) fn put(rows: &mut [Row], ready: &mut Waiting, at: usize, outs: Waiting)
+    requires idle { AreIdle (drop at rows.old) }
+    requires none { ready.old ≡ [] }
+    ensures stages { stages_of rows.new ≡ stages_of rows.old }
+    ensures passed { at < length rows.old → ready.new ≡ [] }
+    ensures given { length rows.old ≤ at → ready.new ≡ outs }
+    ensures earlier { take at rows.new ≡ take at rows.old }
+    ensures later { (graph : Graph) (coming : Stream)
+        → with_first ready.new (through graph (drop at rows.new) coming)
+        ≡ through graph (drop at rows.old) (with_first outs coming) }
+{
+    if at < rows.len() {
+        rows[at].waiting = outs;
+    } else {
+        *ready = outs;
+    }
+}

@@ -1,0 +1,325 @@
+ghost use Rattle.std.specs.Prelude.{◌≡◌, ◌≢◌, ◌↔◌, ℕ, Bool, IsTrue, [], ◌∷◌, ◌+◌, ◌<◌, ◌≤◌};
+ghost use Rattle.std.specs.Prelude.{length, take, drop, true, vec_len, None, Some, Err, IfErr};
+ghost use Rattle.std.specs.Prelude.{IfOk, OnOk};
+ghost use Rattle.plain_graph.specs.Forms.{IsShown};
+ghost use Rattle.plain_graph.specs.Graph.{Graph};
+ghost use Rattle.store_rules.specs.Graph.{graph_of};
+ghost use Rattle.traversal_run.specs.Reading.{IsNamedStore, IsRead};
+ghost use Rattle.traversal_run.specs.Row.{AreIdle, AreQuiet, Stream, stages_of, stream};
+ghost use Rattle.traversal_run.specs.Row.{through, with_first};
+ghost use Rattle.rec_bytes.specs.declared.damage.Damage.{Damage};
+ghost use Rattle.fault_count.specs.Cause.{Rose};
+ghost use Rattle.traversal_run.specs.Run.{
+  IfItem,
+  IsStopOf,
+  allowed_by,
+  answer_of,
+  meant,
+  still_allowed,
+  stop_in,
+  stopped_by,
+  to_come,
+};
+ghost use Rattle.traversal_run.specs.Stage.{with_more};
+ghost use Rattle.traversal_run.specs.Starting.{limit_of};
+ghost use Rattle.traversal_run.specs.Stop.{HasStopCause, MayStop};
+
+use crate::row::{Row, first_open, have_no_count, last_waiting, put};
+use crate::source::Source;
+use crate::starting::rows_of;
+use crate::stop::Stop;
+use crate::waiting::Waiting;
+use name_store::Names;
+use plain_graph::{Item, Query};
+use rec_bytes::{Damage, Reads};
+use std::alloc::{AllocError, Global};
+
+/// What a run gives next.
+#[derive(Drop)]
+pub enum Next {
+    /// A result.
+    Item(Item),
+    /// Nothing: all results were given.
+    End,
+    /// There was no memory for a result.
+    Memory,
+    /// The disk failed.
+    Disk,
+    /// A record breaks a rule of the store.
+    Damaged(Damage),
+    /// A count would pass the greatest number of a value.
+    PastCount,
+}
+
+/// A run of a query.
+#[derive(Drop)]
+pub struct Run {
+    alloc: Global,
+    source: Source,
+    rows: Vec<Row>,
+    ready: Waiting,
+    stopped: Option<Stop>,
+}
+
+/// Gives what the row at this place makes of the first item that waits for it to the next row.
+fn advance_row<R: Reads>(
+    alloc: Global,
+    space: &mut R,
+    names: &Names,
+    rows: &mut [Row],
+    ready: &mut Waiting,
+    at: usize,
+) -> Result<(), Stop>
+    requires within { at < length rows.old }
+    requires idle { AreIdle (drop (at + 1) rows.old) }
+    requires none { ready.old ≡ [] }
+    ensures same { R.tells
+        → IsNamedStore (R.state space.old).records (R.state space.old).shape names.now.names
+        → OnOk result ((coming : Stream)
+        → with_first ready.new (through (graph_of (R.state space.old).records) rows.new coming)
+        ≡ through (graph_of (R.state space.old).records) rows.old coming) }
+    ensures stops { R.tells
+        → IsNamedStore (R.state space.old).records (R.state space.old).shape names.now.names
+        → IfErr result (MayStop ⊥ ((coming : Stream)
+        → (through (graph_of (R.state space.old).records) rows.old coming).past ≡ true)) }
+    ensures allowed { OnOk result ((over : Bool)
+        → allowed_by over (stages_of rows.new) (length ready.new)
+        ≡ allowed_by over (stages_of rows.old) 0) }
+    ensures read { IsRead R.Reads space.old space.new }
+    ensures cause { HasStopCause (R.faults space.old) (R.faults space.new) result }
+{
+    let outs = rows[at].advance(alloc, space, names)?;
+    put(rows, ready, at + 1, outs);
+    Ok(())
+}
+
+/// Gives what the first open row has at the end of what comes to it to the next row.
+#[tactic(auto, using(crate::proofs::Rows::idle_behind))]
+fn finish_row(
+    alloc: Global,
+    rows: &mut [Row],
+    ready: &mut Waiting,
+    at: usize,
+) -> Result<(), AllocError>
+    requires within { at < length rows.old }
+    requires idle { AreIdle rows.old }
+    requires quiet { AreQuiet (take at rows.old) }
+    requires none { ready.old ≡ [] }
+    ensures same { OnOk result ((graph : Graph)
+        → with_first ready.new (through graph rows.new (stream []))
+        ≡ through graph rows.old (stream [])) }
+    ensures allowed { OnOk result ((over : Bool)
+        → allowed_by over (stages_of rows.new) (length ready.new)
+        ≡ allowed_by over (stages_of rows.old) 0) }
+{
+    let outs = rows[at].stage.finish(alloc)?;
+    put(rows, ready, at + 1, outs);
+    Ok(())
+}
+
+/// Leaves out so many of the first rows.
+fn drop_rows(rows: &mut Vec<Row>, count: usize)
+    requires { count ≤ vec_len rows.old }
+    ensures { rows.new.items ≡ drop count rows.old.items }
+{
+    rows.drain(..count);
+}
+
+impl Run {
+    /// A run of a query. It reads nothing.
+    pub fn new(alloc: Global, query: &Query) -> Result<Run, AllocError>
+        // What is to come is what the query means, over any graph.
+        ensures begins { IfOk result (λ run. (graph : Graph)
+            → to_come graph run ≡ meant graph query.now) }
+        ensures allowed { IfOk result (λ run. (most : ℕ)
+            → limit_of query.now.steps ≡ Some most → still_allowed run ≡ Some most) }
+        ensures stopped { IfOk result (λ run. stopped_by run ≡ None) }
+    {
+        let source = Source::new(alloc, query.edges, query.ids.as_slice())?;
+        let rows = rows_of(alloc, query.steps.as_slice())?;
+        Ok(Run {
+            alloc,
+            source,
+            rows,
+            ready: Waiting::new(alloc),
+            stopped: None,
+        })
+    }
+
+    /// Whether no result is left, since the last step is a limit that has let all of its items
+    /// through and none counts, or since that is how the last steps were left.
+    fn is_spent(&self) -> bool
+        ensures { IsTrue result ↔ (still_allowed self.now ≡ Some 0) }
+    {
+        if !self.ready.is_empty() {
+            return false;
+        }
+        match self.rows.last() {
+            Some(row) => row.stage.is_spent() && have_no_count(&self.rows),
+            None => self.source.is_over(),
+        }
+    }
+
+    /// Leaves out a limit that lets nothing more through, and what is before it, unless a step
+    /// there counts.
+    fn cut(&mut self, at: usize)
+        requires { at < vec_len self.old.rows }
+        ensures same { (graph : Graph) → to_come graph self.new ≡ to_come graph self.old }
+        ensures allowed { still_allowed self.new ≡ still_allowed self.old }
+        ensures stopped { self.new.stopped ≡ self.old.stopped }
+    {
+        if self.rows[at].stage.is_spent() && have_no_count(&self.rows[..at]) {
+            drop_rows(&mut self.rows, at + 1);
+            self.source.end();
+        }
+    }
+
+    /// Goes on by one item of one step, where no result is ready.
+    fn turn<R: Reads>(&mut self, space: &mut R, names: &Names) -> Result<(), Stop>
+        requires { self.old.ready ≡ [] }
+        ensures same { R.tells
+            → IsNamedStore (R.state space.old).records (R.state space.old).shape names.now.names
+            → OnOk result (to_come (graph_of (R.state space.old).records) self.new
+            ≡ to_come (graph_of (R.state space.old).records) self.old) }
+        ensures stops { R.tells
+            → IsNamedStore (R.state space.old).records (R.state space.old).shape names.now.names
+            → IfErr result (IsStopOf (to_come (graph_of (R.state space.old).records) self.old)) }
+        ensures allowed { OnOk result (still_allowed self.new ≡ still_allowed self.old) }
+        ensures stopped { self.new.stopped ≡ self.old.stopped }
+        ensures read { IsRead R.Reads space.old space.new }
+        ensures cause { HasStopCause (R.faults space.old) (R.faults space.new) result }
+    {
+        if let Some(at) = last_waiting(&self.rows) {
+            advance_row(
+                self.alloc,
+                space,
+                names,
+                &mut self.rows,
+                &mut self.ready,
+                at,
+            )?;
+            self.cut(at);
+            return Ok(());
+        }
+        if let Some(item) = self.source.next(self.alloc, space, names)? {
+            let outs = Waiting::one(self.alloc, item)?;
+            put(&mut self.rows, &mut self.ready, 0, outs);
+            return Ok(());
+        }
+        if let Some(at) = first_open(&self.rows) {
+            finish_row(self.alloc, &mut self.rows, &mut self.ready, at)?;
+            return Ok(());
+        }
+        Err(Stop::End)
+    }
+}
+
+impl From<Stop> for Next {
+    ghost use Rattle.std.specs.Prelude.{◌≡◌};
+    ghost use Rattle.traversal_run.specs.Run.{answer_of};
+
+    ghost from_gives = { λ stop result. result ≡ answer_of stop };
+
+    fn from(stop: Stop) -> Next {
+        match stop {
+            Stop::End => Next::End,
+            Stop::Memory => Next::Memory,
+            Stop::Disk => Next::Disk,
+            Stop::Damaged(damage) => Next::Damaged(damage),
+            Stop::PastCount => Next::PastCount,
+        }
+    }
+}
+
+impl Run {
+    /// Goes on to the next result.
+    fn go_on<R: Reads>(&mut self, space: &mut R, names: &Names) -> Result<Item, Stop>
+        ensures item { R.tells
+            → IsNamedStore (R.state space.old).records (R.state space.old).shape names.now.names
+            → IfOk result (λ item. to_come (graph_of (R.state space.old).records) self.old
+            ≡ with_first (item ∷ []) (to_come (graph_of (R.state space.old).records) self.new)) }
+        ensures stops { R.tells
+            → IsNamedStore (R.state space.old).records (R.state space.old).shape names.now.names
+            → IfErr result (IsStopOf (to_come (graph_of (R.state space.old).records) self.old)) }
+        ensures shown { IfOk result IsShown }
+        ensures allowed { OnOk result (still_allowed self.old
+            ≡ with_more (still_allowed self.new) 1) }
+        ensures no_read { still_allowed self.old ≡ Some 0
+            → (result ≡ Err Stop.End) × (space.new ≡ space.old) }
+        ensures stopped { self.new.stopped ≡ self.old.stopped }
+        ensures read { IsRead R.Reads space.old space.new }
+        ensures cause { HasStopCause (R.faults space.old) (R.faults space.new) result }
+    {
+        if self.is_spent() {
+            return Err(Stop::End);
+        }
+        for _ in 0..u64::MAX {
+            if let Some(item) = self.ready.take_first() {
+                return Ok(item.into_item());
+            }
+            self.turn(space, names)?;
+        }
+        Err(Stop::Memory)
+    }
+
+    /// Leaves nothing to come, and gives this answer from now on.
+    fn stop(&mut self, stop: Stop) -> Next
+        ensures answer { result ≡ answer_of stop }
+        ensures stopped { self.new.stopped ≡ Some stop }
+        ensures nothing { (graph : Graph) → to_come graph self.new ≡ stream [] }
+    {
+        self.source.end();
+        self.rows.clear();
+        self.ready = Waiting::new(self.alloc);
+        self.stopped = Some(stop);
+        Next::from(stop)
+    }
+
+    /// The next result. After any other answer the run gives that answer again, with no read.
+    pub fn next<R: Reads>(&mut self, space: &mut R, names: &Names) -> Next
+        // A result is the first of those to come, and the others are still to come.
+        ensures item { R.tells
+            → IsNamedStore (R.state space.old).records (R.state space.old).shape names.now.names
+            → IfItem result (λ item. to_come (graph_of (R.state space.old).records) self.old
+            ≡ with_first (item ∷ []) (to_come (graph_of (R.state space.old).records) self.new)) }
+        // It has a line.
+        ensures shown { IfItem result IsShown }
+
+        // The end comes where nothing is to come, and no count passes.
+        ensures end { R.tells
+            → IsNamedStore (R.state space.old).records (R.state space.old).shape names.now.names
+            → stopped_by self.old ≡ None → result ≡ Next.End
+            → to_come (graph_of (R.state space.old).records) self.old ≡ stream [] }
+        ensures past { R.tells
+            → IsNamedStore (R.state space.old).records (R.state space.old).shape names.now.names
+            → stopped_by self.old ≡ None → result ≡ Next.PastCount
+            → (to_come (graph_of (R.state space.old).records) self.old).past ≡ true }
+        ensures sound { R.tells
+            → IsNamedStore (R.state space.old).records (R.state space.old).shape names.now.names
+            → stopped_by self.old ≡ None → (damage : Damage) → result ≢ Next.Damaged damage }
+        ensures cause { stopped_by self.old ≡ None → result ≡ Next.Disk
+            → Rose (R.faults space.old) (R.faults space.new) }
+
+        // Each answer but a result is given for good, with no read.
+        ensures stops { stopped_by self.new ≡ stop_in result }
+        ensures again { (answer : Next) → stopped_by self.old ≡ Some answer
+            → (result ≡ answer) × (self.new ≡ self.old) × (space.new ≡ space.old) }
+
+        // Where a limit is the last step and none counts, each result is one of those that it lets
+        // through, and after them the end needs no read.
+        ensures allowed { IfItem result (λ _.
+            still_allowed self.old ≡ with_more (still_allowed self.new) 1) }
+        ensures no_read { stopped_by self.old ≡ None → still_allowed self.old ≡ Some 0
+            → (result ≡ Next.End) × (space.new ≡ space.old) }
+
+        ensures read { IsRead R.Reads space.old space.new }
+    {
+        if let Some(stop) = self.stopped {
+            return Next::from(stop);
+        }
+        match self.go_on(space, names) {
+            Ok(item) => Next::Item(item),
+            Err(stop) => self.stop(stop),
+        }
+    }
+}

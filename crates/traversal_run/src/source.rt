@@ -1,0 +1,125 @@
+ghost use Rattle.std.specs.Prelude.{◌≡◌, ◌<◌, IfNone, IfOk, IfSome, None, false, true};
+ghost use Rattle.plain_graph.specs.Graph.{Graph};
+ghost use Rattle.plain_graph.specs.Meaning.{source_of};
+ghost use Rattle.store_rules.specs.Graph.{graph_of};
+ghost use Rattle.traversal_run.specs.Fault.{HasFaultCause, NotDamaged};
+ghost use Rattle.traversal_run.specs.Reading.{IsNamedStore, IsRead};
+ghost use Rattle.traversal_run.specs.Source.{
+  GivesFirst,
+  HasNoneBelow,
+  TakesId,
+  is_over,
+  left_count,
+  left_of,
+};
+
+use crate::asked_ids::AskedIds;
+use crate::fault::Fault;
+use crate::finding::{element_at, mark_of};
+use crate::shown::Shown;
+use name_store::Names;
+use rec_bytes::Reads;
+use std::alloc::{AllocError, Global};
+
+/// The identifiers that are still to come.
+#[derive(Drop)]
+pub(crate) enum Left {
+    /// All from this one on.
+    From(u32),
+    /// These.
+    Among(AskedIds),
+    /// None.
+    Nothing,
+}
+
+impl Left {
+    /// Takes the first, where one may be below the mark.
+    fn take_first(&mut self, mark: u32) -> Option<u32>
+        ensures some { IfSome result (λ id. TakesId self.old id self.new) }
+        ensures none { IfNone result (HasNoneBelow mark self.old × (self.new ≡ self.old)) }
+        ensures over { is_over self.new ≡ is_over self.old }
+        ensures nothing { is_over self.old ≡ true → result ≡ None }
+        ensures fewer { IfSome result (λ id. left_count mark self.new < left_count mark self.old) }
+    {
+        match self {
+            Left::From(from) => {
+                let id = *from;
+                if id < mark {
+                    *from = id + 1;
+                    Some(id)
+                } else {
+                    None
+                }
+            }
+            Left::Among(ids) => ids.take_first(),
+            Left::Nothing => None,
+        }
+    }
+}
+
+/// The vertices or the edges that a query begins with, as far as they are still to come.
+#[derive(Drop)]
+pub(crate) struct Source {
+    pub(crate) edges: bool,
+    pub(crate) left: Left,
+}
+
+impl Source {
+    /// All vertices or all edges, or those of these identifiers where some are written.
+    pub(crate) fn new(alloc: Global, edges: bool, ids: &[u32]) -> Result<Source, AllocError>
+        ensures all { IfOk result (λ source. (graph : Graph)
+            → left_of graph source ≡ source_of graph edges ids.now) }
+        ensures over { IfOk result (λ source. is_over source.left ≡ false) }
+    {
+        let left = if ids.is_empty() {
+            Left::From(0)
+        } else {
+            Left::Among(AskedIds::new(alloc, ids)?)
+        };
+        Ok(Source { edges, left })
+    }
+
+    /// The first element in use that is still to come. It costs a read for each identifier up to
+    /// that of the element, and no more than one for each that was given out.
+    pub(crate) fn next<R: Reads>(
+        &mut self,
+        alloc: Global,
+        space: &mut R,
+        names: &Names,
+    ) -> Result<Option<Shown>, Fault>
+        ensures first { R.tells
+            → IsNamedStore (R.state space.old).records (R.state space.old).shape names.now.names
+            → IfOk result (λ item.
+            GivesFirst (graph_of (R.state space.old).records) self.old item self.new) }
+        ensures sound { R.tells
+            → IsNamedStore (R.state space.old).records (R.state space.old).shape names.now.names
+            → NotDamaged result }
+        ensures over { is_over self.new.left ≡ is_over self.old.left }
+        ensures none { is_over self.old.left ≡ true → IfOk result (λ item. item ≡ None) }
+        ensures read { IsRead R.Reads space.old space.new }
+        ensures cause { HasFaultCause (R.faults space.old) (R.faults space.new) result }
+    {
+        let mark = mark_of(space, self.edges);
+        while let Some(id) = self.left.take_first(mark) {
+            let item = element_at(alloc, space, names, self.edges, id)?;
+            if item.is_some() {
+                return Ok(item);
+            }
+        }
+        Ok(None)
+    }
+
+    /// Whether nothing is left to come, as is known with no read.
+    pub(crate) fn is_over(&self) -> bool
+        ensures { result ≡ is_over self.now.left }
+    {
+        matches!(self.left, Left::Nothing)
+    }
+
+    /// Leaves nothing to come.
+    pub(crate) fn end(&mut self)
+        ensures { self.new ≡ record self.old { left = Left.Nothing } }
+    {
+        self.left = Left::Nothing;
+    }
+}

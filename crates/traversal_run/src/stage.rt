@@ -1,0 +1,270 @@
+ghost use Rattle.std.specs.Prelude.{◌≡◌, [], ◌++◌, IfErr, IfOk, OnOk, length};
+ghost use Rattle.plain_graph.specs.Graph.{Graph};
+ghost use Rattle.plain_graph.specs.Meaning.{identifier, in_vertex, out_vertex, ranked};
+ghost use Rattle.plain_graph.specs.declared.item.Item.TheVariants as items;
+ghost use Rattle.std.specs.List.{cons_option};
+ghost use Rattle.store_rules.specs.Graph.{graph_of};
+ghost use Rattle.traversal_run.specs.Fault.{HasFaultCause, NotDamaged};
+ghost use Rattle.traversal_run.specs.Reading.{IsNamedStore, IsRead};
+ghost use Rattle.traversal_run.specs.Stage.{
+  Finishes,
+  PassesWith,
+  Takes,
+  is_count,
+  is_open,
+  is_spent,
+  limit_left,
+  with_more,
+};
+ghost use Rattle.traversal_run.specs.Stop.{HasStopCause, MayStop};
+
+use crate::counter::Counter;
+use crate::fault::Fault;
+use crate::hopping::{incident, neighbours};
+use crate::kept::{Kept, Ranked};
+use crate::lookups::{distinct_values, label_value, passes, rank};
+use crate::seen::Seen;
+use crate::shown::Shown;
+use crate::stop::Stop;
+use crate::waiting::Waiting;
+use name_store::Names;
+use plain_graph::{Filter, Hop, Item, Text, Texts};
+use rec_bytes::Reads;
+use std::alloc::{AllocError, Global};
+
+/// A step under way.
+#[derive(Drop)]
+pub(crate) enum Stage {
+    Neighbours(Hop),
+    Incident(Hop),
+    OutV,
+    InV,
+    Filter(Filter),
+    /// Each key once.
+    Values(Texts),
+    Id,
+    Label,
+    Dedup {
+        seen: Seen,
+    },
+    /// How many items came, and whether that was given.
+    Count {
+        so_far: Counter,
+        told: bool,
+    },
+    /// How many items it still lets through.
+    Limit {
+        left: u32,
+    },
+    /// The items that came, and whether they were given.
+    Order {
+        key: Option<Text>,
+        descending: bool,
+        kept: Kept,
+        told: bool,
+    },
+}
+
+impl Stage {
+    /// What the step gives for one more item.
+    pub(crate) fn take<R: Reads>(
+        &mut self,
+        alloc: Global,
+        space: &mut R,
+        names: &Names,
+        item: Shown,
+    ) -> Result<Waiting, Stop>
+        ensures takes { R.tells
+            → IsNamedStore (R.state space.old).records (R.state space.old).shape names.now.names
+            → IfOk result
+            (λ outs. Takes (graph_of (R.state space.old).records) self.old item outs self.new) }
+        ensures stops { R.tells
+            → IsNamedStore (R.state space.old).records (R.state space.old).shape names.now.names
+            → IfErr result (MayStop ⊥ (PassesWith self.old item)) }
+        ensures limits { IfOk result (λ outs.
+            with_more (limit_left self.new) (length outs) ≡ limit_left self.old) }
+        ensures counts { is_count self.new ≡ is_count self.old }
+        ensures read { IsRead R.Reads space.old space.new }
+        ensures cause { HasStopCause (R.faults space.old) (R.faults space.new) result }
+    {
+        match self {
+            Stage::Neighbours(hop) => {
+                let outs = neighbours(alloc, space, names, hop, item.as_item())?;
+                Ok(outs)
+            }
+            Stage::Incident(hop) => {
+                let outs = incident(alloc, space, names, hop, item.as_item())?;
+                Ok(outs)
+            }
+            Stage::Filter(filter) => {
+                if passes(alloc, space, names, filter, item.as_item())? {
+                    let outs = Waiting::one(alloc, item)?;
+                    Ok(outs)
+                } else {
+                    Ok(Waiting::new(alloc))
+                }
+            }
+            Stage::Values(keys) => {
+                let outs = distinct_values(alloc, space, names, keys, item.as_item())?;
+                Ok(outs)
+            }
+            Stage::Label => {
+                let label = label_value(alloc, space, names, &item)?;
+                let outs = Waiting::one(alloc, label)?;
+                Ok(outs)
+            }
+            Stage::Order { key, kept, .. } => {
+                keep(alloc, space, names, key, kept, item)?;
+                Ok(Waiting::new(alloc))
+            }
+            Stage::Id => {
+                let outs = identifier(alloc, item.as_item())?;
+                Ok(outs)
+            }
+            Stage::OutV => {
+                let outs = out_vertex(alloc, item.as_item())?;
+                Ok(outs)
+            }
+            Stage::InV => {
+                let outs = in_vertex(alloc, item.as_item())?;
+                Ok(outs)
+            }
+            Stage::Dedup { seen } => {
+                if seen.add(alloc, item.as_item())? {
+                    let outs = Waiting::one(alloc, item)?;
+                    Ok(outs)
+                } else {
+                    Ok(Waiting::new(alloc))
+                }
+            }
+            Stage::Limit { left } => {
+                if *left == 0 {
+                    return Ok(Waiting::new(alloc));
+                }
+                *left -= 1;
+                let outs = Waiting::one(alloc, item)?;
+                Ok(outs)
+            }
+            Stage::Count { so_far, told } => {
+                if *told || so_far.add_one() {
+                    Ok(Waiting::new(alloc))
+                } else {
+                    Err(Stop::PastCount)
+                }
+            }
+        }
+    }
+}
+
+/// Keeps an item that has a place in the order.
+fn keep<R: Reads>(
+    alloc: Global,
+    space: &mut R,
+    names: &Names,
+    key: &Option<Text>,
+    kept: &mut Kept,
+    item: Shown,
+) -> Result<(), Fault>
+    ensures kept { R.tells
+        → IsNamedStore (R.state space.old).records (R.state space.old).shape names.now.names
+        → OnOk result (kept.new ≡ kept.old
+        ++ cons_option (ranked (graph_of (R.state space.old).records) key.now item) []) }
+    ensures sound { R.tells
+        → IsNamedStore (R.state space.old).records (R.state space.old).shape names.now.names
+        → NotDamaged result }
+    ensures read { IsRead R.Reads space.old space.new }
+    ensures cause { HasFaultCause (R.faults space.old) (R.faults space.new) result }
+{
+    match rank(alloc, space, names, key, item.as_item())? {
+        Some(rank) => {
+            kept.push(Ranked { rank, item })?;
+            Ok(())
+        }
+        None => Ok(()),
+    }
+}
+
+/// The identifier of an item.
+fn identifier(alloc: Global, item: &Item) -> Result<Waiting, AllocError>
+    ensures { IfOk result (λ items. items ≡ identifier item.now) }
+{
+    match item {
+        Item::Vertex(id) => Waiting::one(alloc, Shown::number(i64::from(*id))),
+        Item::Edge { id, .. } => Waiting::one(alloc, Shown::number(i64::from(*id))),
+        Item::Value(_) => Ok(Waiting::new(alloc)),
+    }
+}
+
+/// The vertex that an edge leaves.
+fn out_vertex(alloc: Global, item: &Item) -> Result<Waiting, AllocError>
+    ensures { IfOk result (λ items. items ≡ out_vertex item.now) }
+{
+    match item {
+        Item::Edge { from, .. } => Waiting::one(alloc, Shown::vertex(*from)),
+        _ => Ok(Waiting::new(alloc)),
+    }
+}
+
+/// The vertex that an edge enters.
+fn in_vertex(alloc: Global, item: &Item) -> Result<Waiting, AllocError>
+    ensures { IfOk result (λ items. items ≡ in_vertex item.now) }
+{
+    match item {
+        Item::Edge { to, .. } => Waiting::one(alloc, Shown::vertex(*to)),
+        _ => Ok(Waiting::new(alloc)),
+    }
+}
+
+impl Stage {
+    /// Whether it gives more once nothing more comes to it.
+    pub(crate) fn is_open(&self) -> bool
+        ensures { result ≡ is_open self.now }
+    {
+        match self {
+            Stage::Count { told, .. } | Stage::Order { told, .. } => !*told,
+            _ => false,
+        }
+    }
+
+    /// Whether it is a limit that lets nothing more through.
+    pub(crate) fn is_spent(&self) -> bool
+        ensures { result ≡ is_spent self.now }
+    {
+        matches!(self, Stage::Limit { left: 0 })
+    }
+
+    /// Whether it counts.
+    pub(crate) fn is_count(&self) -> bool
+        ensures { result ≡ is_count self.now }
+    {
+        matches!(self, Stage::Count { .. })
+    }
+
+    /// What it gives at the end of what comes to it.
+    pub(crate) fn finish(&mut self, alloc: Global) -> Result<Waiting, AllocError>
+        ensures finishes { IfOk result (λ outs. (graph : Graph)
+            → Finishes graph self.old outs self.new) }
+        ensures limits { IfOk result (λ outs.
+            with_more (limit_left self.new) (length outs) ≡ limit_left self.old) }
+        ensures counts { is_count self.new ≡ is_count self.old }
+    {
+        match self {
+            Stage::Count { so_far, told } if !*told => {
+                *told = true;
+                let number = so_far.number();
+                Waiting::one(alloc, Shown::number(number))
+            }
+            Stage::Order {
+                descending,
+                kept,
+                told,
+                ..
+            } if !*told => {
+                *told = true;
+                let outs = kept.take_ordered(alloc, *descending)?;
+                Ok(outs)
+            }
+            _ => Ok(Waiting::new(alloc)),
+        }
+    }
+}
