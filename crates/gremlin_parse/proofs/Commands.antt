@@ -6,12 +6,15 @@ use Rattle.plain_graph.specs.declared.command.Command.{Command}
 use Rattle.plain_graph.specs.declared.command.Command.TheVariants as commands
 use Rattle.plain_graph.specs.declared.command.Target.{Target}
 use Rattle.plain_graph.specs.declared.command.Target.TheVariants as targets
+use Rattle.plain_graph.specs.declared.direction.Direction.{Direction}
+use Rattle.plain_graph.specs.declared.direction.Direction.TheVariants as directions
 use Rattle.plain_graph.specs.declared.pairs.Pair.{Pair}
-use Rattle.plain_graph.specs.declared.query.Step.{Step}
-use Rattle.gremlin_parse.specs.Grammar.{Part, Blanks, Gap, Exactly, Name, Number, Written, IsMadeOf, target_parts, IsBounded, parts_of, IsCommand, KeepsBounds, NeedsNoMemory}
+use Rattle.plain_graph.specs.declared.query.Query.{Query}
+use Rattle.gremlin_parse.specs.Grammar.{most_id, Part, Blanks, Gap, Exactly, Name, Number, Written, target_parts, direction_name, IsBounded, parts_of, IsCommand, KeepsBounds, NeedsNoMemory}
+use Rattle.gremlin_parse.specs.Queries.{IsKeptQuery}
 use Rattle.gremlin_parse.specs.Keywords.{Entry, InTable, plain, TakesWord}
 use Rattle.gremlin_parse.specs.Symbols.{Contents, ReadsAll}
-use Rattle.gremlin_parse.specs.Commands.{IsLastOf, head_words, element_of, target_name, target_id, target_names, production, LastContent, last_parts, command_of, IsLast, IsAfter, SpellsAfter, IsTail, LacksMemory}
+use Rattle.gremlin_parse.specs.Commands.{IsLastOf, head_words, element_of, target_name, target_id, target_names, direction_named, direction_names, production, LastContent, LastOf, IsPlain, KeepsTail, last_parts, command_of, IsLast, IsAfter, SpellsAfter, IsTail, LacksMemory}
 use Rattle.gremlin_parse.specs.declared.head.Head.{Head}
 use Rattle.gremlin_parse.specs.declared.head.Head.TheVariants as heads
 use Rattle.gremlin_parse.specs.declared.word.Word.TheVariants as words
@@ -21,8 +24,8 @@ use Rattle.gremlin_parse.proofs.Symbols.{NameByte}
 use Rattle.gremlin_parse.proofs.Productions.{HaltsAt, follows_halts, read_follows}
 use Rattle.gremlin_parse.proofs.Spelling.{AllowsAll, parts_with, ThenParts, then_parts_map, then_parts_choice, follows_of_parts, parts_of_follows, follows_agree, read_allowed, read_bounded}
 use Rattle.gremlin_parse.proofs.Pairs.{pairs_agree}
-use Rattle.gremlin_parse.proofs.Steps.{steps_agree}
-use Rattle.gremlin_parse.proofs.Heads.{word_of, head_table, enders, production_is, production_halts, last_closes, no_word_in_nothing}
+use Rattle.gremlin_parse.proofs.QueryLaws.{queries_agree}
+use Rattle.gremlin_parse.proofs.Heads.{word_of, entry_word, head_table, enders, production_is, production_halts, last_closes, no_word_in_nothing}
 
 -- ---- the command that is spelled
 
@@ -38,17 +41,17 @@ pub record Spelled (command : Command) (head : Head) (bytes : List ℕ) : Type 0
   pub allowed : AllowsAll (production head) contents
   pub last : LastContent head
   pub is : command ≡ command_of head contents last
-  pub made : ThenParts (parts_with (production head) contents) (IsMadeOf (last_parts head last)) bytes
+  pub made : ThenParts (parts_with (production head) contents) (LastOf head last) bytes
 
 pub spelled_of_contents : (command : Command) (head : Head) (bytes : List ℕ) → Spelled command head bytes → SpellsAfter command head bytes
 spelled_of_contents command head bytes spelled =
-    follows_of_parts (production head) spelled.contents (IsLastOf command head) spelled.allowed bytes (then_parts_map (IsMadeOf (last_parts head spelled.last)) (IsLastOf command head spelled.contents) (λ rest made. (spelled.last, spelled.is, made)) (parts_with (production head) spelled.contents) bytes spelled.made)
+    follows_of_parts (production head) spelled.contents (IsLastOf command head) spelled.allowed bytes (then_parts_map (LastOf head spelled.last) (IsLastOf command head spelled.contents) (λ rest made. (spelled.last, spelled.is, made)) (parts_with (production head) spelled.contents) bytes spelled.made)
 
 pub contents_of_spelled : (command : Command) (head : Head) (bytes : List ℕ) → SpellsAfter command head bytes → Spelled command head bytes
 contents_of_spelled command head bytes spells =
     let found = parts_of_follows (production head) (IsLastOf command head) bytes spells in
     let One : Type 0 = (last : LastContent head) × (command ≡ command_of head found.contents last) in
-    let Made : One → List ℕ → Type 0 = λ one rest. IsMadeOf (last_parts head one.0) rest in
+    let Made : One → List ℕ → Type 0 = λ one rest. LastOf head one.0 rest in
     let Both : List ℕ → Type 0 = λ rest. (one : One) × Made one rest in
     let chosen = then_parts_choice One Made (parts_with (production head) found.contents) bytes (then_parts_map (IsLastOf command head found.contents) Both (λ rest (last, is, made). ((last, is), made)) (parts_with (production head) found.contents) bytes found.is) in
     record { contents = found.contents; allowed = found.allowed; last = chosen.0.0; is = chosen.0.1; made = chosen.1 }
@@ -57,7 +60,7 @@ contents_of_spelled command head bytes spells =
 pub some_spelled : (head : Head) (bytes : List ℕ) → IsAfter head bytes → (command : Command) × SpellsAfter command head bytes
 some_spelled head bytes is =
     let found = parts_of_follows (production head) (λ _. IsLast head) bytes is in
-    let chosen = then_parts_choice (LastContent head) (λ last rest. IsMadeOf (last_parts head last) rest) (parts_with (production head) found.contents) bytes found.is in
+    let chosen = then_parts_choice (LastContent head) (λ last rest. LastOf head last rest) (parts_with (production head) found.contents) bytes found.is in
     let command : Command = command_of head found.contents chosen.0 in
     let spelled : Spelled command head bytes = record { contents = found.contents; allowed = found.allowed; last = chosen.0; is = refl; made = chosen.1 } in
     (command, spelled_of_contents command head bytes spelled)
@@ -65,7 +68,7 @@ some_spelled head bytes is =
 pub spelled_is_some : (command : Command) (head : Head) (bytes : List ℕ) → SpellsAfter command head bytes → IsAfter head bytes
 spelled_is_some command head bytes spells =
     let spelled = contents_of_spelled command head bytes spells in
-    follows_of_parts (production head) spelled.contents (λ _. IsLast head) spelled.allowed bytes (then_parts_map (IsMadeOf (last_parts head spelled.last)) (IsLast head) (λ rest made. (spelled.last, made)) (parts_with (production head) spelled.contents) bytes spelled.made)
+    follows_of_parts (production head) spelled.contents (λ _. IsLast head) spelled.allowed bytes (then_parts_map (LastOf head spelled.last) (IsLast head) (λ rest made. (spelled.last, made)) (parts_with (production head) spelled.contents) bytes spelled.made)
 
 -- the command of the word that stands there
 pub tail_of_word : (command : Command) (head : Head) (bytes rest : List ℕ) → TakesWord head_words bytes head rest → SpellsAfter command head rest → IsTail command bytes
@@ -74,16 +77,15 @@ tail_of_word command head bytes rest (run, cut, is) spells = inr ((run, head), l
 -- ---- one command
 
 -- the same last bytes are of the same command
-last_agrees : (head : Head) (contents : Contents (production head)) (one two : LastContent head) (rest : List ℕ) → IsMadeOf (last_parts head one) rest → IsMadeOf (last_parts head two) rest → command_of head contents two ≡ command_of head contents one
+last_agrees : (head : Head) (contents : Contents (production head)) (one two : LastContent head) (rest : List ℕ) → LastOf head one rest → LastOf head two rest → command_of head contents two ≡ command_of head contents one
 last_agrees (heads.Alone word) contents one two rest made other = refl
 last_agrees heads.Node contents one two rest made other = ap (λ (pairs : List Pair). commands.Node contents.1.0 pairs) (pairs_agree one two rest made other)
 last_agrees heads.Edge contents one two rest made other = ap (λ (pairs : List Pair). commands.Edge contents.1.0 contents.1.1.1.0 contents.1.1.1.1.1.0 pairs) (pairs_agree one two rest made other)
 last_agrees heads.Set contents one two rest made other = refl
 last_agrees heads.Unset contents one two rest made other = refl
 last_agrees heads.Delete contents one two rest made other = refl
-last_agrees heads.Query contents one two rest made other =
-    let make : List Step → Command = λ list. commands.Query (record { steps = list }) in
-    ap make (steps_agree one.0 two.0 one.1 two.1 rest made other)
+last_agrees heads.Expand contents one two rest made other = refl
+last_agrees heads.Query contents one two rest made other = ap (λ (query : Query). commands.Query query) (queries_agree one two rest made other)
 
 same_command : (command other : Command) (head : Head) (contents : Contents (production head)) (rest : List ℕ) → IsLastOf command head contents rest → IsLastOf other head contents rest → other ≡ command
 same_command command other head contents rest (last, is, made) (second, is_other, others) = is_other ∙ last_agrees head contents last second rest made others ∙ sym is
@@ -115,44 +117,54 @@ abbrev pub tail_parts : (head : Head) → Contents (production head) → LastCon
 tail_parts head contents last = parts_with (production head) contents ++ last_parts head last
 
 -- the parts of an element between others
-element_parts : (word name : List ℕ) (id : ℕ) (more : List Part) → InTable (name, tt) (plain target_names) → ((Blanks ∷ Exactly word ∷ Gap ∷ []) ++ target_parts (element_of name id)) ++ more ≡ Blanks ∷ Exactly word ∷ Gap ∷ Exactly name ∷ Gap ∷ Number id ∷ more
+element_parts : (word name : List ℕ) (id : ℕ) (more : List Part) → InTable (name, tt) (plain target_names) → ((Blanks ∷ Exactly word ∷ Gap ∷ []) ++ target_parts (element_of name id)) ++ more ≡ Blanks ∷ Exactly word ∷ Gap ∷ Exactly name ∷ Gap ∷ Number most_id id ∷ more
 element_parts word name id more allowed =
-    let Made : Entry (Unit {0}) → Type 0 = λ entry. ((Blanks ∷ Exactly word ∷ Gap ∷ []) ++ target_parts (element_of entry.0 id)) ++ more ≡ Blanks ∷ Exactly word ∷ Gap ∷ Exactly entry.0 ∷ Gap ∷ Number id ∷ more in
+    let Made : Entry (Unit {0}) → Type 0 = λ entry. ((Blanks ∷ Exactly word ∷ Gap ∷ []) ++ target_parts (element_of entry.0 id)) ++ more ≡ Blanks ∷ Exactly word ∷ Gap ∷ Exactly entry.0 ∷ Gap ∷ Number most_id id ∷ more in
     let Here : Entry (Unit {0}) → Type 0 = λ entry. (name, tt) ≡ entry in
     ⊎_elim
     (λ (node : Here (codes "node", tt)). subst Made (sym node) refl)
     (λ (later : Here (codes "edge", tt) ⊎ ⊥). ⊎_elim (λ (edge : Here (codes "edge", tt)). subst Made (sym edge) refl) (λ (none : ⊥). absurd none) later)
     allowed
 
-pub command_parts : (head : Head) (contents : Contents (production head)) (last : LastContent head) → AllowsAll (production head) contents → parts_of (command_of head contents last) ≡ Blanks ∷ Exactly (word_of head) ∷ tail_parts head contents last
-command_parts (heads.Alone words.Begin) contents last allows = refl
-command_parts (heads.Alone words.Commit) contents last allows = refl
-command_parts (heads.Alone words.Rollback) contents last allows = refl
-command_parts (heads.Alone words.Checkpoint) contents last allows = refl
-command_parts (heads.Alone words.Stats) contents last allows = refl
-command_parts (heads.Alone words.Reopen) contents last allows = refl
-command_parts (heads.Alone words.Quit) contents last allows = refl
-command_parts heads.Node contents last allows = refl
-command_parts heads.Edge contents last allows = refl
-command_parts heads.Set contents last allows = element_parts (codes "set") contents.1.0 contents.1.1.1.0 (Gap ∷ Name contents.1.1.1.1.1.0 ∷ Gap ∷ Written contents.1.1.1.1.1.1.1.0 ∷ Blanks ∷ []) allows.1.0
-command_parts heads.Unset contents last allows = element_parts (codes "unset") contents.1.0 contents.1.1.1.0 (Gap ∷ Name contents.1.1.1.1.1.0 ∷ Blanks ∷ []) allows.1.0
-command_parts heads.Delete contents last allows = element_parts (codes "delete") contents.1.0 contents.1.1.1.0 (Blanks ∷ []) allows.1.0
-command_parts heads.Query contents last allows = refl
+-- a name of a direction is that of the direction it stands for
+named_direction : (name : List ℕ) → InTable (name, tt) (plain direction_names) → direction_name (direction_named name) ≡ name
+named_direction name (inl out) = let same : name ≡ codes "out" = ap (λ (e : Entry (Unit {0})). e.0) out in subst (λ n. direction_name (direction_named n) ≡ n) (sym same) refl
+named_direction name (inr (inl enters)) = let same : name ≡ codes "in" = ap (λ (e : Entry (Unit {0})). e.0) enters in subst (λ n. direction_name (direction_named n) ≡ n) (sym same) refl
+named_direction name (inr (inr (inl both))) = let same : name ≡ codes "both" = ap (λ (e : Entry (Unit {0})). e.0) both in subst (λ n. direction_name (direction_named n) ≡ n) (sym same) refl
+named_direction name (inr (inr (inr none))) = absurd none
 
-pub is_command : (head : Head) (contents : Contents (production head)) (last : LastContent head) → IsCommand (command_of head contents last)
-is_command (heads.Alone words.Begin) contents last = tt
-is_command (heads.Alone words.Commit) contents last = tt
-is_command (heads.Alone words.Rollback) contents last = tt
-is_command (heads.Alone words.Checkpoint) contents last = tt
-is_command (heads.Alone words.Stats) contents last = tt
-is_command (heads.Alone words.Reopen) contents last = tt
-is_command (heads.Alone words.Quit) contents last = tt
-is_command heads.Node contents last = tt
-is_command heads.Edge contents last = tt
-is_command heads.Set contents last = tt
-is_command heads.Unset contents last = tt
-is_command heads.Delete contents last = tt
-is_command heads.Query contents last = last.1
+pub command_parts : (head : Head) (contents : Contents (production head)) (last : LastContent head) → IsPlain head → AllowsAll (production head) contents → parts_of (command_of head contents last) ≡ Blanks ∷ Exactly (word_of head) ∷ tail_parts head contents last
+command_parts (heads.Alone words.Begin) contents last plain allows = refl
+command_parts (heads.Alone words.Commit) contents last plain allows = refl
+command_parts (heads.Alone words.Rollback) contents last plain allows = refl
+command_parts (heads.Alone words.Checkpoint) contents last plain allows = refl
+command_parts (heads.Alone words.Stats) contents last plain allows = refl
+command_parts (heads.Alone words.Reopen) contents last plain allows = refl
+command_parts (heads.Alone words.Quit) contents last plain allows = refl
+command_parts heads.Node contents last plain allows = refl
+command_parts heads.Edge contents last plain allows = refl
+command_parts heads.Set contents last plain allows = element_parts (codes "set") contents.1.0 contents.1.1.1.0 (Gap ∷ Name contents.1.1.1.1.1.0 ∷ Gap ∷ Written contents.1.1.1.1.1.1.1.0 ∷ Blanks ∷ []) allows.1.0
+command_parts heads.Unset contents last plain allows = element_parts (codes "unset") contents.1.0 contents.1.1.1.0 (Gap ∷ Name contents.1.1.1.1.1.0 ∷ Blanks ∷ []) allows.1.0
+command_parts heads.Delete contents last plain allows = element_parts (codes "delete") contents.1.0 contents.1.1.1.0 (Blanks ∷ []) allows.1.0
+command_parts heads.Expand contents last plain allows =
+    ap (λ (name : List ℕ). Blanks ∷ Exactly (codes "expand") ∷ Gap ∷ Number most_id contents.1.0 ∷ Gap ∷ Exactly name ∷ Gap ∷ Name contents.1.1.1.1.1.0 ∷ Blanks ∷ []) (named_direction contents.1.1.1.0 allows.1.1.1.0)
+command_parts heads.Query contents last plain allows = absurd plain
+
+pub is_command : (head : Head) (contents : Contents (production head)) (last : LastContent head) → IsPlain head → IsCommand (command_of head contents last)
+is_command (heads.Alone words.Begin) contents last plain = tt
+is_command (heads.Alone words.Commit) contents last plain = tt
+is_command (heads.Alone words.Rollback) contents last plain = tt
+is_command (heads.Alone words.Checkpoint) contents last plain = tt
+is_command (heads.Alone words.Stats) contents last plain = tt
+is_command (heads.Alone words.Reopen) contents last plain = tt
+is_command (heads.Alone words.Quit) contents last plain = tt
+is_command heads.Node contents last plain = tt
+is_command heads.Edge contents last plain = tt
+is_command heads.Set contents last plain = tt
+is_command heads.Unset contents last plain = tt
+is_command heads.Delete contents last plain = tt
+is_command heads.Expand contents last plain = tt
+is_command heads.Query contents last plain = absurd plain
 
 -- the element of its name and its identifier
 pub element_is : (target : Target) → element_of (target_name target) (target_id target) ≡ target
@@ -163,9 +175,20 @@ pub name_allowed : (target : Target) → InTable (target_name target, tt) (plain
 name_allowed (targets.Node id) = inl refl
 name_allowed (targets.Edge id) = inr (inl refl)
 
+pub direction_is : (direction : Direction) → direction_named (direction_name direction) ≡ direction
+direction_is directions.Outgoing = refl
+direction_is directions.Incoming = refl
+direction_is directions.Both = refl
+
+pub direction_allowed : (direction : Direction) → InTable (direction_name direction, tt) (plain direction_names)
+direction_allowed directions.Outgoing = inl refl
+direction_allowed directions.Incoming = inr (inl refl)
+direction_allowed directions.Both = inr (inr (inl refl))
+
 -- the contents of which a command is
 pub record Sentence (command : Command) : Type 0 where
   pub head : Head
+  pub plain : IsPlain head
   pub contents : Contents (production head)
   pub allowed : AllowsAll (production head) contents
   pub last : LastContent head
@@ -173,16 +196,17 @@ pub record Sentence (command : Command) : Type 0 where
 
 pub sentence_of : (command : Command) → IsCommand command → (command ≡ commands.Blank) ⊎ Sentence command
 sentence_of commands.Blank is = inl refl
-sentence_of commands.Begin is = inr (record { head = heads.Alone words.Begin; contents = (tt, tt); allowed = (tt, tt); last = tt; is = refl })
-sentence_of commands.Commit is = inr (record { head = heads.Alone words.Commit; contents = (tt, tt); allowed = (tt, tt); last = tt; is = refl })
-sentence_of commands.Rollback is = inr (record { head = heads.Alone words.Rollback; contents = (tt, tt); allowed = (tt, tt); last = tt; is = refl })
-sentence_of commands.Checkpoint is = inr (record { head = heads.Alone words.Checkpoint; contents = (tt, tt); allowed = (tt, tt); last = tt; is = refl })
-sentence_of commands.Stats is = inr (record { head = heads.Alone words.Stats; contents = (tt, tt); allowed = (tt, tt); last = tt; is = refl })
-sentence_of commands.Reopen is = inr (record { head = heads.Alone words.Reopen; contents = (tt, tt); allowed = (tt, tt); last = tt; is = refl })
-sentence_of commands.Quit is = inr (record { head = heads.Alone words.Quit; contents = (tt, tt); allowed = (tt, tt); last = tt; is = refl })
-sentence_of (commands.Node label pairs) is = inr (record { head = heads.Node; contents = (tt, (label, tt)); allowed = (tt, (tt, tt)); last = pairs; is = refl })
+sentence_of commands.Begin is = inr (record { head = heads.Alone words.Begin; plain = tt; contents = (tt, tt); allowed = (tt, tt); last = tt; is = refl })
+sentence_of commands.Commit is = inr (record { head = heads.Alone words.Commit; plain = tt; contents = (tt, tt); allowed = (tt, tt); last = tt; is = refl })
+sentence_of commands.Rollback is = inr (record { head = heads.Alone words.Rollback; plain = tt; contents = (tt, tt); allowed = (tt, tt); last = tt; is = refl })
+sentence_of commands.Checkpoint is = inr (record { head = heads.Alone words.Checkpoint; plain = tt; contents = (tt, tt); allowed = (tt, tt); last = tt; is = refl })
+sentence_of commands.Stats is = inr (record { head = heads.Alone words.Stats; plain = tt; contents = (tt, tt); allowed = (tt, tt); last = tt; is = refl })
+sentence_of commands.Reopen is = inr (record { head = heads.Alone words.Reopen; plain = tt; contents = (tt, tt); allowed = (tt, tt); last = tt; is = refl })
+sentence_of commands.Quit is = inr (record { head = heads.Alone words.Quit; plain = tt; contents = (tt, tt); allowed = (tt, tt); last = tt; is = refl })
+sentence_of (commands.Node label pairs) is = inr (record { head = heads.Node; plain = tt; contents = (tt, (label, tt)); allowed = (tt, (tt, tt)); last = pairs; is = refl })
 sentence_of (commands.Edge from label to pairs) is = inr (record {
   head = heads.Edge;
+  plain = tt;
   contents = (tt, (from, (tt, (label, (tt, (to, tt))))));
   allowed = (tt, (tt, (tt, (tt, (tt, (tt, tt))))));
   last = pairs;
@@ -190,6 +214,7 @@ sentence_of (commands.Edge from label to pairs) is = inr (record {
 })
 sentence_of (commands.Set target key value) is = inr (record {
   head = heads.Set;
+  plain = tt;
   contents = (tt, (target_name target, (tt, (target_id target, (tt, (key, (tt, (value, (tt, tt)))))))));
   allowed = (tt, (name_allowed target, (tt, (tt, (tt, (tt, (tt, (tt, (tt, tt)))))))));
   last = tt;
@@ -197,6 +222,7 @@ sentence_of (commands.Set target key value) is = inr (record {
 })
 sentence_of (commands.Unset target key) is = inr (record {
   head = heads.Unset;
+  plain = tt;
   contents = (tt, (target_name target, (tt, (target_id target, (tt, (key, (tt, tt)))))));
   allowed = (tt, (name_allowed target, (tt, (tt, (tt, (tt, (tt, tt)))))));
   last = tt;
@@ -204,30 +230,59 @@ sentence_of (commands.Unset target key) is = inr (record {
 })
 sentence_of (commands.Delete target) is = inr (record {
   head = heads.Delete;
+  plain = tt;
   contents = (tt, (target_name target, (tt, (target_id target, (tt, tt)))));
   allowed = (tt, (name_allowed target, (tt, (tt, (tt, tt)))));
   last = tt;
   is = ap (λ (t : Target). commands.Delete t) (sym (element_is target));
 })
-sentence_of (commands.Query query) is = inr (record {
-  head = heads.Query;
-  contents = (tt, (tt, (tt, (tt, (tt, (tt, (tt, (tt, (tt, tt)))))))));
-  allowed = (tt, (tt, (tt, (tt, (tt, (tt, (tt, (tt, (tt, tt)))))))));
-  last = (query.steps, is);
-  is = refl;
+sentence_of (commands.Expand id direction label) is = inr (record {
+  head = heads.Expand;
+  plain = tt;
+  contents = (tt, (id, (tt, (direction_name direction, (tt, (label, (tt, tt)))))));
+  allowed = (tt, (tt, (tt, (direction_allowed direction, (tt, (tt, (tt, tt)))))));
+  last = tt;
+  is = ap (λ (d : Direction). commands.Expand id d label) (sym (direction_is direction));
 })
+sentence_of (commands.Query query) is = absurd is
 
 pub sentence_parts : (command : Command) → (sentence : Sentence command) → parts_of command ≡ Blanks ∷ Exactly (word_of sentence.head) ∷ tail_parts sentence.head sentence.contents sentence.last
-sentence_parts command sentence = ap parts_of sentence.is ∙ command_parts sentence.head sentence.contents sentence.last sentence.allowed
+sentence_parts command sentence = ap parts_of sentence.is ∙ command_parts sentence.head sentence.contents sentence.last sentence.plain sentence.allowed
 
 -- ---- what readers have read
 
 -- the command whose symbols were read, and what stands last
-pub spells_read : (head : Head) (contents : Contents (production head)) (last : LastContent head) (bytes rest : List ℕ) → ReadsAll (production head) contents bytes rest → IsMadeOf (last_parts head last) rest → SpellsAfter (command_of head contents last) head bytes
+pub spells_read : (head : Head) (contents : Contents (production head)) (last : LastContent head) (bytes rest : List ℕ) → ReadsAll (production head) contents bytes rest → LastOf head last rest → SpellsAfter (command_of head contents last) head bytes
 spells_read head contents last bytes rest reads made =
     read_follows (production head) contents (IsLastOf (command_of head contents last) head) bytes rest reads (last, refl, made)
 
 -- Its parts are within their bounds.
-pub read_keeps : (head : Head) (contents : Contents (production head)) (last : LastContent head) (bytes rest : List ℕ) → ReadsAll (production head) contents bytes rest → AllByRecursion IsBounded (last_parts head last) → KeepsBounds (command_of head contents last)
-read_keeps head contents last bytes rest reads within =
-    subst (AllByRecursion IsBounded) (sym (command_parts head contents last (read_allowed (production head) contents bytes rest reads))) (tt, (tt, read_bounded (production head) contents bytes rest reads (last_parts head last) within))
+pub read_keeps : (head : Head) → IsPlain head → (contents : Contents (production head)) (last : LastContent head) (bytes rest : List ℕ) → ReadsAll (production head) contents bytes rest → AllByRecursion IsBounded (last_parts head last) → KeepsBounds (command_of head contents last)
+read_keeps head plain contents last bytes rest reads within =
+    subst (AllByRecursion IsBounded) (sym (command_parts head contents last plain (read_allowed (production head) contents bytes rest reads))) (tt, (tt, read_bounded (production head) contents bytes rest reads (last_parts head last) within))
+
+-- A command but a query keeps its bounds, whatever bytes spell it.
+pub plain_keeps : (head : Head) → IsPlain head → (command : Command) (rest bytes : List ℕ) → SpellsAfter command head rest → KeepsBounds command → KeepsTail command bytes
+plain_keeps head plain command rest bytes spells keeps =
+    let spelled = contents_of_spelled command head rest spells in
+    subst (λ c. KeepsTail c bytes) (sym spelled.is) (of_head head plain spelled.contents spelled.last (subst KeepsBounds spelled.is keeps))
+  where
+    of_head : (head : Head) → IsPlain head → (contents : Contents (production head)) (last : LastContent head) → KeepsBounds (command_of head contents last) → KeepsTail (command_of head contents last) bytes
+    of_head (heads.Alone words.Begin) plain contents last keeps = keeps
+    of_head (heads.Alone words.Commit) plain contents last keeps = keeps
+    of_head (heads.Alone words.Rollback) plain contents last keeps = keeps
+    of_head (heads.Alone words.Checkpoint) plain contents last keeps = keeps
+    of_head (heads.Alone words.Stats) plain contents last keeps = keeps
+    of_head (heads.Alone words.Reopen) plain contents last keeps = keeps
+    of_head (heads.Alone words.Quit) plain contents last keeps = keeps
+    of_head heads.Node plain contents last keeps = keeps
+    of_head heads.Edge plain contents last keeps = keeps
+    of_head heads.Set plain contents last keeps = keeps
+    of_head heads.Unset plain contents last keeps = keeps
+    of_head heads.Delete plain contents last keeps = keeps
+    of_head heads.Expand plain contents last keeps = keeps
+    of_head heads.Query plain contents last keeps = absurd plain
+
+-- a query after its word
+pub query_spelled : (query : Query) (bytes rest : List ℕ) → TakesWord head_words bytes heads.Query rest → IsKeptQuery query rest → KeepsTail (commands.Query query) bytes
+query_spelled query bytes rest (run, cut, is) kept = (run, rest, cut.bytes_are, entry_word (run, heads.Query) (lookup_in head_words run heads.Query is), kept)

@@ -3,6 +3,7 @@ use Rattle.std.proofs.Common.{◌≡◌, ◌≢◌, ◌≤◌, ◌<◌, ◌+◌,
 use Rattle.std.specs.List.{prefix_len}
 use Rattle.std.proofs.lemmas.Bool.{cond-true, cases_Bool}
 use borrow.Author.Tests.{eqb-true}
+use Rattle.gremlin_parse.specs.Grammar.{most_id}
 use Rattle.gremlin_parse.specs.Numbers.{is_digit, are_digits, is_number, value_after, CountsNumber}
 use Rattle.gremlin_parse.specs.Faults.{EndsRun}
 use Rattle.gremlin_parse.specs.Reading.{first_byte, Passes, StartsNumber}
@@ -33,7 +34,7 @@ zero_alone (b ∷ c ∷ prefix) rest more is whole =
     cc
 
 -- The number that stands whole at the head is the only one.
-pub one_number : (n m : ℕ) (bytes rest more : List ℕ) → Takes AnyNumber n bytes rest → Takes AnyNumber m bytes more → (n ≡ m) × (rest ≡ more)
+pub one_number : (n m : ℕ) (bytes rest more : List ℕ) → Takes (AnyNumber most_id) n bytes rest → Takes (AnyNumber most_id) m bytes more → (n ≡ m) × (rest ≡ more)
 one_number n m bytes rest more one two =
     let whole : one.prefix ++ rest ≡ two.prefix ++ more = sym one.bytes_are ∙ two.bytes_are in
     let same : (one.prefix ≡ two.prefix) × (rest ≡ more) =
@@ -89,7 +90,7 @@ run_is_number b [] other passes = passes.0
 run_is_number b (c ∷ run) other passes = ap (λ (t : Bool). t && (not (nat_eq b 48) && are_digits (c ∷ run))) passes.0 ∙ ap (λ (t : Bool). not t && are_digits (c ∷ run)) (not_same b 48 other) ∙ digits_are (c ∷ run) passes.1
 
 abbrev NumberOf : List ℕ → ℕ → Type 0
-NumberOf bytes len = Takes AnyNumber (value_after 0 (take len bytes)) bytes (drop len bytes)
+NumberOf bytes len = Takes (AnyNumber most_id) (value_after 0 (take len bytes)) bytes (drop len bytes)
 
 number_of : (bytes : List ℕ) (len : ℕ) → CountsNumber bytes len → len ≢ 0 → NumberOf bytes len
 number_of [] len counts some = absurd (some counts)
@@ -136,8 +137,8 @@ no_number [] len counts none = λ is. is
 no_number (b ∷ bytes) len counts none = λ is. ⊎_elim (λ ((zero_is, one) : (b ≡ 48) × (len ≡ 1)). absurd (omega (arith, one, none))) (λ ((other, count) : (b ≢ 48) × (len ≡ prefix_len is_digit (b ∷ bytes))). no_count b bytes (sym count ∙ none) is) counts
 
 -- the number of so many bytes
-pub takes_number : (bytes digits rest : List ℕ) (n len : ℕ) → CountsNumber bytes len → len ≢ 0 → digits ≡ take len bytes → rest ≡ drop len bytes → n ≡ value_after 0 digits → Takes AnyNumber n bytes rest
+pub takes_number : (bytes digits rest : List ℕ) (n len : ℕ) → CountsNumber bytes len → len ≢ 0 → digits ≡ take len bytes → rest ≡ drop len bytes → n ≡ value_after 0 digits → Takes (AnyNumber most_id) n bytes rest
 takes_number bytes digits rest n len counts some digits_are_these rest_is value =
     let takes = number_of bytes len counts some in
     let value_is : n ≡ value_after 0 (take len bytes) = value ∙ ap (value_after 0) digits_are_these in
-    subst (λ k. Takes AnyNumber k bytes rest) (sym value_is) (subst (Takes AnyNumber (value_after 0 (take len bytes)) bytes) (sym rest_is) takes)
+    subst (λ k. Takes (AnyNumber most_id) k bytes rest) (sym value_is) (subst (Takes (AnyNumber most_id) (value_after 0 (take len bytes)) bytes) (sym rest_is) takes)

@@ -17,11 +17,13 @@ use Rattle.gremlin_parse.specs.declared.stop.Stop.TheVariants as stops
 use Rattle.gremlin_parse.proofs.Runs.{Halts}
 use Rattle.gremlin_parse.proofs.Stops.{stops_of_same}
 use Rattle.gremlin_parse.proofs.Tables.{IsWordTable, lookup_in, ThenWord-after, continues_table, stops_in_table, no_word}
+use Rattle.gremlin_parse.proofs.Words.{entry_named}
 use Rattle.gremlin_parse.proofs.Symbols.{NameByte, no_blanks, halts, first_fails, first_ends}
 use Rattle.gremlin_parse.proofs.Productions.{Enders, is_production, Closes, Goes, follows_halts, bad_follows_halts, some_line, stop_after, stop_among, stop_after_all}
 use Rattle.gremlin_parse.proofs.Repeats.{stop_of_second}
 use Rattle.gremlin_parse.proofs.Pairs.{pairs_close}
-use Rattle.gremlin_parse.proofs.Steps.{every, end_halts, AtEnd, stop_at_end, steps_close}
+use Rattle.gremlin_parse.proofs.Ends.{every, end_halts, AtEnd, stop_at_end}
+use Rattle.gremlin_parse.proofs.QueryLaws.{queries_close}
 
 -- ---- the table
 
@@ -38,6 +40,7 @@ word_of heads.Edge = codes "edge"
 word_of heads.Set = codes "set"
 word_of heads.Unset = codes "unset"
 word_of heads.Delete = codes "delete"
+word_of heads.Expand = codes "expand"
 word_of heads.Query = codes "g"
 
 pub named : (head : Head) → lookup head_words (word_of head) ≡ Some head
@@ -53,24 +56,21 @@ named heads.Edge = refl
 named heads.Set = refl
 named heads.Unset = refl
 named heads.Delete = refl
+named heads.Expand = refl
 named heads.Query = refl
 
-all_words : (table : List (Entry Head)) → AllByRecursion (λ (e : Entry Head). e.0 ≡ word_of e.1) table → (entry : Entry Head) → InTable entry table → entry.0 ≡ word_of entry.1
-all_words [] all entry within = absurd within
-all_words (first ∷ table) all entry within = ⊎_elim (λ (same : entry ≡ first). ap (λ (e : Entry Head). e.0) same ∙ all.0 ∙ ap (λ (e : Entry Head). word_of e.1) (sym same)) (λ (later : InTable entry table). all_words table all.1 entry later) within
-
 pub entry_word : (entry : Entry Head) → InTable entry head_words → entry.0 ≡ word_of entry.1
-entry_word = all_words head_words (refl, (refl, (refl, (refl, (refl, (refl, (refl, (refl, (refl, (refl, (refl, (refl, (refl, tt)))))))))))))
+entry_word = entry_named word_of head_words (refl, (refl, (refl, (refl, (refl, (refl, (refl, (refl, (refl, (refl, (refl, (refl, (refl, (refl, tt))))))))))))))
 
 pub head_table : IsWordTable head_words
 head_table = record {
-  words = (refl, (refl, (refl, (refl, (refl, (refl, (refl, (refl, (refl, (refl, (refl, (refl, (refl, tt)))))))))))));
-  named = (refl, (refl, (refl, (refl, (refl, (refl, (refl, (refl, (refl, (refl, (refl, (refl, (refl, tt)))))))))))));
+  words = (refl, (refl, (refl, (refl, (refl, (refl, (refl, (refl, (refl, (refl, (refl, (refl, (refl, (refl, tt))))))))))))));
+  named = (refl, (refl, (refl, (refl, (refl, (refl, (refl, (refl, (refl, (refl, (refl, (refl, (refl, (refl, tt))))))))))))));
 }
 
 -- Each word begins with a byte that is no blank.
 head_starts : AllByRecursion (λ (e : Entry Head). first_fails is_blank e.0 ≡ true) head_words
-head_starts = (refl, (refl, (refl, (refl, (refl, (refl, (refl, (refl, (refl, (refl, (refl, (refl, (refl, tt)))))))))))))
+head_starts = (refl, (refl, (refl, (refl, (refl, (refl, (refl, (refl, (refl, (refl, (refl, (refl, (refl, (refl, tt))))))))))))))
 
 starts_of : (table : List (Entry Head)) → AllByRecursion (λ (e : Entry Head). first_fails is_blank e.0 ≡ true) table → (entry : Entry Head) → InTable entry table → first_fails is_blank entry.0 ≡ true
 starts_of [] all entry within = absurd within
@@ -86,6 +86,7 @@ word_halts After = λ bytes (entry, within, (prefix, rest, whole, word_is, after
 abbrev pub enders : Head → Enders
 enders heads.Node = no_blanks
 enders heads.Edge = no_blanks
+enders heads.Query = no_blanks
 enders _ = every
 
 pub production_is : (head : Head) → is_production (enders head) (production head) ≡ true
@@ -95,6 +96,7 @@ production_is heads.Edge = refl
 production_is heads.Set = refl
 production_is heads.Unset = refl
 production_is heads.Delete = refl
+production_is heads.Expand = refl
 production_is heads.Query = refl
 
 pub production_halts : (head : Head) → halts NameByte (enders head NameByte) (production head) ≡ true
@@ -104,6 +106,7 @@ production_halts heads.Edge = refl
 production_halts heads.Set = refl
 production_halts heads.Unset = refl
 production_halts heads.Delete = refl
+production_halts heads.Expand = refl
 production_halts heads.Query = refl
 
 -- nothing after a production's symbols
@@ -138,7 +141,8 @@ last_closes heads.Edge = pairs_close
 last_closes heads.Set = nothing_closes
 last_closes heads.Unset = nothing_closes
 last_closes heads.Delete = nothing_closes
-last_closes heads.Query = steps_close
+last_closes heads.Expand = nothing_closes
+last_closes heads.Query = queries_close
 
 after_halts : (head : Head) → Halts is_name_byte (IsAfter head)
 after_halts head = follows_halts NameByte (enders head NameByte) (production head) (production_halts head) (λ _. IsLast head) (λ _. (last_closes head).ends NameByte)

@@ -3,6 +3,7 @@ use Rattle.std.proofs.Common.{◌≡◌, ◌≤◌, ◌<◌, ◌⊎◌, inl, inr
 use Rattle.std.specs.Int.RustNames.{FitsSigned}
 use mir.Syntax.{w64}
 use Rattle.plain_graph.specs.declared.value.Value.TheVariants as values
+use Rattle.gremlin_parse.specs.Grammar.{most_id}
 use Rattle.gremlin_parse.specs.Numbers.{is_digit, is_number, value_after}
 use Rattle.gremlin_parse.specs.Values.{IsInteger}
 use Rattle.gremlin_parse.specs.Faults.{EndsRun}
@@ -12,7 +13,7 @@ use Rattle.gremlin_parse.specs.declared.bad_token.BadToken.TheVariants.{WideNumb
 use Rattle.gremlin_parse.proofs.Decimals.{number_starts, one_number}
 
 -- digits without a minus
-pub plain_integer : (size : ℕ) (bytes rest : List ℕ) → Takes AnyNumber size bytes rest → Takes AnyValue (values.Int (pos size)) bytes rest
+pub plain_integer : (size : ℕ) (bytes rest : List ℕ) → Takes (AnyNumber most_id) size bytes rest → Takes AnyValue (values.Int (pos size)) bytes rest
 plain_integer size bytes rest takes = record { prefix = takes.prefix; bytes_are = takes.bytes_are; is = inl (size, refl, takes.is); ends = plain_ends takes.ends }
   where
     plain_ends : (takes.prefix ≡ codes "0") ⊎ EndsRun is_digit rest → (takes.prefix ≡ codes "0") ⊎ (takes.prefix ≡ codes "-0") ⊎ EndsRun is_digit rest
@@ -20,7 +21,7 @@ plain_integer size bytes rest takes = record { prefix = takes.prefix; bytes_are 
     plain_ends (inr stops) = inr (inr stops)
 
 -- a minus and digits
-pub negative_integer : (size : ℕ) (digits rest : List ℕ) → Takes AnyNumber size digits rest → Takes AnyValue (values.Int (neg_ℤ (pos size))) (45 ∷ digits) rest
+pub negative_integer : (size : ℕ) (digits rest : List ℕ) → Takes (AnyNumber most_id) size digits rest → Takes AnyValue (values.Int (neg_ℤ (pos size))) (45 ∷ digits) rest
 negative_integer size digits rest takes = record { prefix = 45 ∷ takes.prefix; bytes_are = ap (λ d. 45 ∷ d) takes.bytes_are; is = inr (size, takes.prefix, refl, refl, takes.is); ends = negative_ends takes.ends }
   where
     negative_ends : (takes.prefix ≡ codes "0") ⊎ EndsRun is_digit rest → (45 ∷ takes.prefix ≡ codes "0") ⊎ (45 ∷ takes.prefix ≡ codes "-0") ⊎ EndsRun is_digit rest
@@ -32,8 +33,8 @@ negative_integer size digits rest takes = record { prefix = 45 ∷ takes.prefix;
 -- The number that stands there is the digits at the head, or a minus and the digits after it.
 abbrev pub IntegerView : ℤ → List ℕ → List ℕ → Type 0
 IntegerView number bytes rest =
-    ((size : ℕ) × (number ≡ pos size) × Takes AnyNumber size bytes rest)
-    ⊎ ((size : ℕ) × (digits : List ℕ) × (number ≡ neg_ℤ (pos size)) × (bytes ≡ 45 ∷ digits) × Takes AnyNumber size digits rest)
+    ((size : ℕ) × (number ≡ pos size) × Takes (AnyNumber most_id) size bytes rest)
+    ⊎ ((size : ℕ) × (digits : List ℕ) × (number ≡ neg_ℤ (pos size)) × (bytes ≡ 45 ∷ digits) × Takes (AnyNumber most_id) size digits rest)
 
 pub integer_view : (number : ℤ) (bytes rest : List ℕ) → Takes AnyValue (values.Int number) bytes rest → IntegerView number bytes rest
 integer_view number bytes rest takes = view takes.is takes.ends
@@ -50,7 +51,7 @@ integer_view number bytes rest takes = view takes.is takes.ends
         inr (size, digits ++ rest, is, takes.bytes_are ∙ ap (λ p. p ++ rest) prefix_is, record { prefix = digits; bytes_are = refl; is = number_is; ends = inr stops })
 
 -- No digits begin with a minus.
-pub minus_no_digit : (size : ℕ) (bytes digits rest : List ℕ) → Takes AnyNumber size bytes rest → bytes ≡ 45 ∷ digits → ⊥
+pub minus_no_digit : (size : ℕ) (bytes digits rest : List ℕ) → Takes (AnyNumber most_id) size bytes rest → bytes ≡ 45 ∷ digits → ⊥
 minus_no_digit size bytes digits rest takes minus =
     let starts : StartsNumber (45 ∷ digits) = subst StartsNumber (sym takes.bytes_are ∙ minus) (number_starts takes.prefix rest takes.is.0) in
     let clash : false ≡ true = starts in cc
@@ -68,7 +69,7 @@ one_integer number other bytes rest more one two = both (integer_view number byt
     both (inr (size, digits, is, minus, takes)) (inr (second, others, is_other, minus_other, taken)) =
         let heads : 45 ∷ digits ≡ 45 ∷ others = sym minus ∙ minus_other in
         let tails : others ≡ digits = cc in
-        let same = one_number size second digits rest more takes (subst (λ d. Takes AnyNumber second d more) tails taken) in
+        let same = one_number size second digits rest more takes (subst (λ d. Takes (AnyNumber most_id) second d more) tails taken) in
         (is ∙ ap (λ n. neg_ℤ (pos n)) same.0 ∙ sym is_other, same.1)
 
 -- ---- the range
@@ -99,13 +100,17 @@ wide_negative (suc size) above = λ fits. let less = fits.sfits in absurd (omega
 
 -- ---- what the readers have read
 
-pub reads_negative : (number : ℤ) (size value : ℕ) (digits rest : List ℕ) → number ≡ neg_ℤ (pos size) → size ≡ value → size ≤ 9223372036854775808 → Takes AnyNumber value digits rest → Reads AnyValue (values.Int number) (45 ∷ digits) rest
+pub reads_negative : (number : ℤ) (size value : ℕ) (digits rest : List ℕ) → number ≡ neg_ℤ (pos size) → size ≡ value → size ≤ 9223372036854775808 → Takes (AnyNumber most_id) value digits rest → Reads AnyValue (values.Int number) (45 ∷ digits) rest
 reads_negative number size value digits rest is same within takes =
-    let here : Takes AnyNumber size digits rest = subst (λ n. Takes AnyNumber n digits rest) (sym same) takes in
+    let here : Takes (AnyNumber most_id) size digits rest = subst (λ n. Takes (AnyNumber most_id) n digits rest) (sym same) takes in
     subst (λ (z : ℤ). Reads AnyValue (values.Int z) (45 ∷ digits) rest) (sym is) (record { takes = negative_integer size digits rest here; allowed = tt; bounded = fits_negative size within })
 
-pub bad_plain : (size left : ℕ) (bytes rest : List ℕ) → Takes AnyNumber size bytes rest → 9223372036854775807 < size → left ≡ length bytes → IsBad AnyValue WideNumber left bytes
+pub bad_plain : (size left : ℕ) (bytes rest : List ℕ) → Takes (AnyNumber most_id) size bytes rest → 9223372036854775807 < size → left ≡ length bytes → IsBad AnyValue WideNumber left bytes
 bad_plain size left bytes rest takes above left_is = (values.Int (pos size), wide_plain size above, rest, plain_integer size bytes rest takes, left_is)
 
-pub bad_negative : (size left : ℕ) (digits rest : List ℕ) → Takes AnyNumber size digits rest → 9223372036854775808 < size → left ≡ length (45 ∷ digits) → IsBad AnyValue WideNumber left (45 ∷ digits)
+pub bad_negative : (size left : ℕ) (digits rest : List ℕ) → Takes (AnyNumber most_id) size digits rest → 9223372036854775808 < size → left ≡ length (45 ∷ digits) → IsBad AnyValue WideNumber left (45 ∷ digits)
 bad_negative size left digits rest takes above left_is = (values.Int (neg_ℤ (pos size)), wide_negative size above, rest, negative_integer size digits rest takes, left_is)
+
+-- a number above the greatest one
+pub bad_number : (most size left : ℕ) (bytes rest : List ℕ) → Takes (AnyNumber most_id) size bytes rest → most < size → left ≡ length bytes → IsBad (AnyNumber most) WideNumber left bytes
+bad_number most size left bytes rest takes above left_is = (size, above, rest, record { prefix = takes.prefix; bytes_are = takes.bytes_are; is = takes.is; ends = takes.ends }, left_is)

@@ -1,14 +1,15 @@
 -- What a reader's stop says of the line: its leftmost fault, and that it spells no command.
-use Rattle.std.proofs.Common.{◌≡◌, ◌≢◌, ◌≤◌, ◌<◌, ◌+◌, ◌-◌, ℕ, List, ◌++◌, length, take, refl, sym, ap, ◌∙◌, subst, ⊎_elim, add-zero, length-append, arith}
+use Rattle.std.proofs.Common.{◌≡◌, ◌≢◌, ◌≤◌, ◌<◌, ◌+◌, ◌-◌, inl, inr, ℕ, List, ◌++◌, length, take, refl, sym, ap, ◌∙◌, subst, ⊎_elim, add-zero, length-append, arith}
 use Rattle.std.proofs.lemmas.List.{append-nil}
 use Rattle.std.proofs.lemmas.Bool.{cases_lt}
 use Rattle.plain_graph.specs.declared.command.Command.{Command}
-use Rattle.gremlin_parse.specs.Grammar.{Spells, KeepsBounds, IsLine, NeedsNoMemory}
-use Rattle.gremlin_parse.specs.Faults.{IsViable, StopsAt, HasBadToken, HasFault, IsLeftmostFault, place_of}
+use Rattle.gremlin_parse.specs.Grammar.{NeedsNoMemory}
+use Rattle.gremlin_parse.specs.Lines.{Spells, IsLine, HasBad, HasFault, IsLeftmostFault, place_of}
+use Rattle.gremlin_parse.specs.Faults.{IsViable, StopsAt}
 use Rattle.gremlin_parse.specs.Reading.{StopsBefore}
 use Rattle.gremlin_parse.specs.Symbols.{AnyBlanks, Takes}
 use Rattle.gremlin_parse.specs.Stopping.{BadStop, IsStop, left_of, fault_of, bad_fault}
-use Rattle.gremlin_parse.specs.Commands.{BadTail, IsSomeTail, IsTail, LacksMemory}
+use Rattle.gremlin_parse.specs.Commands.{BadTail, IsSomeTail, IsTail, KeepsTail, LacksMemory}
 use Rattle.gremlin_parse.specs.declared.bad_token.BadToken.{BadToken}
 use Rattle.gremlin_parse.specs.declared.bad_token.BadToken.TheVariants.{LongName, LongText, WideNumber}
 use Rattle.gremlin_parse.specs.declared.line_fault.LineFault.{LineFault}
@@ -17,7 +18,7 @@ use Rattle.gremlin_parse.specs.declared.stop.Stop.{Stop}
 use Rattle.gremlin_parse.specs.declared.stop.Stop.TheVariants as stops
 use Rattle.gremlin_parse.proofs.Stops.{StopsBefore-refuses, StopsBefore-StopsAt, take-append-add}
 use Rattle.gremlin_parse.proofs.Commands.{commands_agree}
-use Rattle.gremlin_parse.proofs.Lines.{BadLine, tail_after, spelled_after, bad_tail_after, no_bad_tail}
+use Rattle.gremlin_parse.proofs.Lines.{BadLine, tail_after, spelled_after, bad_tail_after, no_bad_tail, spelled_loosely, spelled_keeps}
 
 -- ---- places
 
@@ -31,12 +32,13 @@ viable_is_before Language line read unread left at stop line_is left_is viable =
     (λ (below : length read ≤ at). omega arith)
     (cases_lt at (length read))
 
-bad_within : (kind : BadToken) (line : List ℕ) (at : ℕ) → HasBadToken kind line at → at ≤ length line
-bad_within kind line at has =
+bad_within : (kind : BadToken) (line : List ℕ) (at : ℕ) → HasBad kind line at → at ≤ length line
+bad_within kind line at (inl has) =
     let len : length line ≡ length has.prefix + length (has.token ++ has.rest) = ap length has.line_is ∙ length-append has.prefix (has.token ++ has.rest) in
     omega (arith, has.place, len)
+bad_within kind line at (inr (left, place, found)) = omega (arith, place)
 
-bad_line_at : (kind : BadToken) (line : List ℕ) (at : ℕ) → HasBadToken kind line at → BadLine kind (length line - at) line
+bad_line_at : (kind : BadToken) (line : List ℕ) (at : ℕ) → HasBad kind line at → BadLine kind (length line - at) line
 bad_line_at kind line at has = let within = bad_within kind line at has in (at, omega arith, has)
 
 -- ---- the leftmost fault
@@ -64,8 +66,8 @@ bad_before kind line left stop (faults.NumberRange place) has =
     let le = stop.first WideNumber (length line - place) (bad_line_at WideNumber line place has) in
     omega arith
 
-has_bad : (kind : BadToken) (line : List ℕ) (left : ℕ) → BadLine kind left line → HasBadToken kind line (length line - left)
-has_bad kind line left (at, place, has) = let at_is : at ≡ length line - left = omega arith in subst (HasBadToken kind line) at_is has
+has_bad : (kind : BadToken) (line : List ℕ) (left : ℕ) → BadLine kind left line → HasBad kind line (length line - left)
+has_bad kind line left (at, place, has) = let at_is : at ≡ length line - left = omega arith in subst (HasBad kind line) at_is has
 
 bad_leftmost : (kind : BadToken) (line : List ℕ) (left : ℕ) → BadStop IsLine BadLine kind line left → IsLeftmostFault line (bad_fault kind (length line - left))
 bad_leftmost LongName line left stop = record { has = has_bad LongName line left stop.has; leftmost = bad_before LongName line left stop }
@@ -92,7 +94,7 @@ stop_within Lack line (stops.Bad kind left) at =
 
 -- ---- commands
 
-pub no_fault_of : (line bytes : List ℕ) (command : Command) → Takes AnyBlanks tt line bytes → IsTail command bytes → KeepsBounds command → (fault : LineFault) → ¬ HasFault line fault
+pub no_fault_of : (line bytes : List ℕ) (command : Command) → Takes AnyBlanks tt line bytes → IsTail command bytes → KeepsTail command bytes → (fault : LineFault) → ¬ HasFault line fault
 no_fault_of line bytes command takes tail keeps faults.Memory = λ has. has
 no_fault_of line bytes command takes tail keeps (faults.Syntax place) = λ has. has.0 (command, spelled_after command line bytes takes tail)
 no_fault_of line bytes command takes tail keeps (faults.NameLength place) = λ has.
@@ -103,18 +105,18 @@ no_fault_of line bytes command takes tail keeps (faults.NumberRange place) = λ 
     no_bad_tail command bytes tail keeps WideNumber (length line - place) (bad_tail_after WideNumber (length line - place) line bytes takes (bad_line_at WideNumber line place has))
 
 pub only_command : (line bytes : List ℕ) (command : Command) → Takes AnyBlanks tt line bytes → IsTail command bytes → (other : Command) → Spells line other → other ≡ command
-only_command line bytes command takes tail other spelled = commands_agree command other bytes tail (tail_after other line bytes takes spelled.0)
+only_command line bytes command takes tail other spelled = commands_agree command other bytes tail (tail_after other line bytes takes (spelled_loosely line other spelled))
 
 no_command_at_bad : (kind : BadToken) (line bytes : List ℕ) (left : ℕ) → Takes AnyBlanks tt line bytes → BadLine kind left line → (command : Command) → ¬ Spells line command
-no_command_at_bad kind line bytes left takes bad command = λ spelled. no_bad_tail command bytes (tail_after command line bytes takes spelled.0) spelled.1 kind left (bad_tail_after kind left line bytes takes bad)
+no_command_at_bad kind line bytes left takes bad command = λ spelled. no_bad_tail command bytes (tail_after command line bytes takes (spelled_loosely line command spelled)) (spelled_keeps line bytes command takes spelled) kind left (bad_tail_after kind left line bytes takes bad)
 
 pub no_command_at : (Lack : Type 0) (line bytes : List ℕ) (stop : Stop) → Takes AnyBlanks tt line bytes → IsStop IsLine BadLine Lack line stop → fault_of stop (length line) ≢ faults.Memory → (command : Command) → ¬ Spells line command
 no_command_at Lack line bytes stops.Memory takes at some = absurd (some refl)
-no_command_at Lack line bytes (stops.Syntax left) takes at some = λ command spelled. StopsBefore-refuses IsLine line left at.0 (command, spelled.0)
+no_command_at Lack line bytes (stops.Syntax left) takes at some = λ command spelled. StopsBefore-refuses IsLine line left at.0 (command, spelled_loosely line command spelled)
 no_command_at Lack line bytes (stops.Bad kind left) takes at some = no_command_at_bad kind line bytes left takes at.has
 
 pub no_such_command : (line bytes : List ℕ) (stop : Stop) → Takes AnyBlanks tt line bytes → IsStop IsSomeTail BadTail (LacksMemory bytes) bytes stop → fault_of stop (length line) ≡ faults.Memory → (command : Command) → NeedsNoMemory command → ¬ Spells line command
-no_such_command line bytes stops.Memory takes lacks same = λ command none spelled. lacks command none (tail_after command line bytes takes spelled.0)
+no_such_command line bytes stops.Memory takes lacks same = λ command none spelled. lacks command none (tail_after command line bytes takes (spelled_loosely line command spelled))
 no_such_command line bytes (stops.Syntax left) takes at same = cc
 no_such_command line bytes (stops.Bad LongName left) takes at same = cc
 no_such_command line bytes (stops.Bad LongText left) takes at same = cc

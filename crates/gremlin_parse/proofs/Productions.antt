@@ -161,8 +161,8 @@ no_gap After bytes ends = λ (prefix, rest, whole, part_is, after). no_blank pre
 pub Then-name-starts : (After : List ℕ → Type 0) (name bytes : List ℕ) → Then (Name name) After bytes → StartsName bytes
 Then-name-starts After name bytes (prefix, rest, whole, part_is, after) = subst StartsName (sym whole) (name_starts prefix rest (subst IsName (sym part_is.0) part_is.1))
 
-Then-number-starts : (After : List ℕ → Type 0) (number : ℕ) (bytes : List ℕ) → Then (Number number) After bytes → StartsNumber bytes
-Then-number-starts After number bytes (prefix, rest, whole, part_is, after) = subst StartsNumber (sym whole) (number_starts prefix rest part_is.0)
+Then-number-starts : (After : List ℕ → Type 0) (most number : ℕ) (bytes : List ℕ) → Then (Number most number) After bytes → StartsNumber bytes
+Then-number-starts After most number bytes (prefix, rest, whole, part_is, after) = subst StartsNumber (sym whole) (number_starts prefix rest part_is.0)
 
 pointwise_same : (word : List ℕ) → pointwise nat_eq word word ≡ true
 pointwise_same word = ⊎_elim (λ (same : pointwise nat_eq word word ≡ true). same) (λ (other : pointwise nat_eq word word ≡ false). absurd (other_text word word (sym other) refl)) (cases_Bool (pointwise nat_eq word word))
@@ -196,14 +196,14 @@ plain_table : (words : List (List ℕ)) → are_keywords words ≡ true → IsWo
 plain_table words are = record { words = keywords_are_words words are; named = all_of (λ entry. lookup (plain words) entry.0 ≡ Some entry.1) (plain words) (listed words) }
 
 -- Where no part of the symbol goes on so, no line of it and no bad token stands there.
-record Refuses (symbol : Symbol) (After : List ℕ → Type 0) (bytes : List ℕ) (left : ℕ) : Type 0 where
+pub record Refuses (symbol : Symbol) (After : List ℕ → Type 0) (bytes : List ℕ) (left : ℕ) : Type 0 where
   pub stop : StopsBefore (One symbol After) bytes left
   pub no_bad : (kind : BadToken) (place : ℕ) → ¬ IsBad symbol kind place bytes
 
-abbrev Ended : Symbol → (List ℕ → Type 0) → Type 0
+abbrev pub Ended : Symbol → (List ℕ → Type 0) → Type 0
 Ended symbol After = Halts (passes (class_of symbol)) After
 
-refuses_at : (symbol : Symbol) (After : List ℕ → Type 0) → is_symbol symbol ≡ true → Ended symbol After → (line : List ℕ) → After line → (bytes : List ℕ) (left : ℕ) → LeavesAt symbol bytes left → Refuses symbol After bytes left
+pub refuses_at : (symbol : Symbol) (After : List ℕ → Type 0) → is_symbol symbol ≡ true → Ended symbol After → (line : List ℕ) → After line → (bytes : List ℕ) (left : ℕ) → LeavesAt symbol bytes left → Refuses symbol After bytes left
 refuses_at AnyBlanks After is ends line some bytes left leaves = absurd leaves
 refuses_at AnyGap After is ends line some bytes left (left_is, blankless) = record {
   stop = subst (StopsBefore (One AnyGap After) bytes) (sym left_is) (stops_here (One AnyGap After) bytes (codes " " ++ line) (tt, tt, (codes " ", line, refl, ((refl, tt), λ none. cc), some)) (λ more same (content, allows, then). no_gap After more (EndsRun-first_byte is_blank bytes more same blankless) then));
@@ -225,21 +225,21 @@ refuses_at AnyName After is ends line some bytes left (left_is, nameless) = reco
   stop = subst (StopsBefore (One AnyName After) bytes) (sym left_is) (stops_here (One AnyName After) bytes (codes "a" ++ line) (codes "a", tt, (codes "a", line, refl, (refl, (refl, tt)), some)) (λ more same (name, allows, then). nameless (StartsName-first_byte more bytes same (Then-name-starts After name more then))));
   no_bad = λ kind place (name, bad, rest, takes, at). nameless (subst StartsName (sym takes.bytes_are) (name_starts takes.prefix rest (subst IsName (sym takes.is.0) takes.is.1)));
 }
-refuses_at AnyNumber After is ends line some bytes left (left_is, numberless) = record {
-  stop = subst (StopsBefore (One AnyNumber After) bytes) (sym left_is) (stops_here (One AnyNumber After) bytes (codes "0" ++ line) (0, tt, (codes "0", line, refl, (refl, refl), some)) (λ more same (number, allows, then). numberless (StartsNumber-first_byte more bytes same (Then-number-starts After number more then))));
+refuses_at (AnyNumber most) After is ends line some bytes left (left_is, numberless) = record {
+  stop = subst (StopsBefore (One (AnyNumber most) After) bytes) (sym left_is) (stops_here (One (AnyNumber most) After) bytes (codes "0" ++ line) (0, tt, (codes "0", line, refl, (refl, refl), some)) (λ more same (number, allows, then). numberless (StartsNumber-first_byte more bytes same (Then-number-starts After most number more then))));
   no_bad = λ kind place (number, bad, rest, takes, at). numberless (subst StartsNumber (sym takes.bytes_are) (number_starts takes.prefix rest takes.is.0));
 }
 refuses_at AnyValue After is ends line some bytes left leaves = record { stop = value_stops After ends line bytes left some leaves; no_bad = no_bad_value bytes left leaves }
 
 -- No line of the symbol stands where reading stops in it.
-no_one : (symbol : Symbol) (After : List ℕ → Type 0) → is_symbol symbol ≡ true → Ended symbol After → (bytes : List ℕ) (left : ℕ) → LeavesAt symbol bytes left → ¬ One symbol After bytes
+pub no_one : (symbol : Symbol) (After : List ℕ → Type 0) → is_symbol symbol ≡ true → Ended symbol After → (bytes : List ℕ) (left : ℕ) → LeavesAt symbol bytes left → ¬ One symbol After bytes
 no_one AnyBlanks After is ends bytes left leaves = λ one. leaves
 no_one AnyGap After is ends bytes left leaves = λ (content, allows, then). no_gap After bytes leaves.1 then
 no_one (Sign sign) After is ends bytes left leaves = λ (content, allows, (prefix, rest, whole, part_is, after)). LeavesWord-refuses sign bytes rest left leaves (whole ∙ ap (λ w. w ++ rest) part_is)
 no_one (OneWord []) After is ends bytes left leaves = cc
 no_one (OneWord (word ∷ words)) After is ends bytes left leaves = λ (this, within, then). no_word (plain (word ∷ words)) (plain_table (word ∷ words) is) (λ _. After) (λ _. ends) bytes left leaves ((this, tt), within, then)
 no_one AnyName After is ends bytes left leaves = λ (name, allows, then). leaves.1 (Then-name-starts After name bytes then)
-no_one AnyNumber After is ends bytes left leaves = λ (number, allows, then). leaves.1 (Then-number-starts After number bytes then)
+no_one (AnyNumber most) After is ends bytes left leaves = λ (number, allows, then). leaves.1 (Then-number-starts After most number bytes then)
 no_one AnyValue After is ends bytes left leaves = value_refuses After ends bytes left leaves
 
 module _ (enders : Enders) (symbol : Symbol) (symbols : List Symbol) (is : is_production enders (symbol ∷ symbols) ≡ true) (Last : List ℕ → Type 0) (Bad : Bads) (closes : Closes enders Last Bad) where

@@ -2,7 +2,7 @@
 use Rattle.std.proofs.Common.{ap, ◌∙◌, ℕ, arith, codes, ◌≡◌, ◌⊎◌, inl, inr, true, List, [], ◌∷◌, ◌++◌, sym, subst, ⊎_elim}
 use Rattle.std.specs.List.{AllByRecursion}
 use Rattle.gremlin_parse.specs.Numbers.{is_digit, value_after}
-use Rattle.gremlin_parse.specs.Grammar.{Number, Part, Blanks, Exactly, IsMadeOf, IsBounded, loosely}
+use Rattle.gremlin_parse.specs.Grammar.{Number, Part, IsMadeOf, IsBounded}
 use Rattle.gremlin_parse.specs.Faults.{EndsRun, IsOutOfBounds}
 use Rattle.gremlin_parse.specs.Reading.{Then, IsBadPart, BadThen, BadParts}
 use Rattle.gremlin_parse.specs.Symbols.{Symbol, AnyBlanks, AnyGap, Sign, OneWord, AnyName, AnyNumber, AnyValue, Content, Contents, part, Allows, IsBad, ReadsAll, Follows, BadFollows}
@@ -119,10 +119,10 @@ bad_parts_choice X more some (this ∷ parts) kind left bytes (inr (prefix, rest
     (x, inr (prefix, rest, whole, part_is, found))
 
 -- A number out of its bounds is not 0.
-wide_ends : (kind : BadToken) (number : ℕ) (prefix rest : List ℕ) → IsOutOfBounds (Number number) kind → number ≡ value_after 0 prefix → (prefix ≡ codes "0") ⊎ EndsRun is_digit rest → EndsRun is_digit rest
-wide_ends LongName number prefix rest bad is ends = absurd bad
-wide_ends LongText number prefix rest bad is ends = absurd bad
-wide_ends WideNumber number prefix rest bad is ends =
+wide_ends : (kind : BadToken) (most number : ℕ) (prefix rest : List ℕ) → IsOutOfBounds (Number most number) kind → number ≡ value_after 0 prefix → (prefix ≡ codes "0") ⊎ EndsRun is_digit rest → EndsRun is_digit rest
+wide_ends LongName most number prefix rest bad is ends = absurd bad
+wide_ends LongText most number prefix rest bad is ends = absurd bad
+wide_ends WideNumber most number prefix rest bad is ends =
     ⊎_elim (λ (zero : prefix ≡ codes "0"). let none : number ≡ 0 = is ∙ ap (value_after 0) zero in absurd (omega arith)) (λ (stops : EndsRun is_digit rest). stops) ends
 
 bad_part : (symbol : Symbol) (kind : BadToken) (left : ℕ) (bytes : List ℕ) → (bad : IsBad symbol kind left bytes) → IsBadPart (part symbol bad.0) kind left bytes
@@ -131,7 +131,7 @@ bad_part AnyGap kind left bytes bad = absurd bad.1
 bad_part (Sign sign) kind left bytes bad = absurd bad.1
 bad_part (OneWord words) kind left bytes bad = absurd bad.1
 bad_part AnyName kind left bytes (name, bad, rest, takes, place) = (takes.prefix, rest, takes.bytes_are, takes.is, takes.ends, bad, place)
-bad_part AnyNumber kind left bytes (number, bad, rest, takes, place) = (takes.prefix, rest, takes.bytes_are, takes.is, wide_ends kind number takes.prefix rest bad takes.is.1 takes.ends, bad, place)
+bad_part (AnyNumber most) kind left bytes (number, bad, rest, takes, place) = (takes.prefix, rest, takes.bytes_are, takes.is, wide_ends kind most number takes.prefix rest bad takes.is.1 takes.ends, bad, place)
 bad_part AnyValue kind left bytes (value, bad, rest, takes, place) = (takes.prefix, rest, takes.bytes_are, takes.is, bad_value_ends value kind takes.prefix rest takes.is bad takes.ends, bad, place)
 
 part_bad : (symbol : Symbol) (content : Content symbol) (kind : BadToken) (left : ℕ) (bytes : List ℕ) → IsBadPart (part symbol content) kind left bytes → IsBad symbol kind left bytes
@@ -140,23 +140,11 @@ part_bad AnyGap content kind left bytes bad = absurd bad.5
 part_bad (Sign sign) content kind left bytes bad = absurd bad.5
 part_bad (OneWord words) content kind left bytes bad = absurd bad.5
 part_bad AnyName name kind left bytes (token, rest, whole, part_is, ends, bad, place) = (name, bad, rest, record { prefix = token; bytes_are = whole; is = part_is; ends = ends }, place)
-part_bad AnyNumber number kind left bytes (token, rest, whole, part_is, ends, bad, place) = (number, bad, rest, record { prefix = token; bytes_are = whole; is = part_is; ends = inr ends }, place)
+part_bad (AnyNumber most) number kind left bytes (token, rest, whole, part_is, ends, bad, place) = (number, bad, rest, record { prefix = token; bytes_are = whole; is = part_is; ends = inr ends }, place)
 part_bad AnyValue value kind left bytes (token, rest, whole, part_is, ends, bad, place) = (value, bad, rest, record { prefix = token; bytes_are = whole; is = part_is; ends = value_ends_token value token rest ends }, place)
 
 abbrev pub HasNoBad : List Part → Type 0
 HasNoBad parts = (kind : BadToken) (left : ℕ) (bytes : List ℕ) → ¬ BadParts parts kind left bytes
-
-pub loosely_no_bad : (tokens : List (List ℕ)) → HasNoBad (loosely tokens)
-loosely_no_bad [] kind left bytes = λ bad. bad
-loosely_no_bad (token ∷ tokens) kind left bytes = λ bad.
-    ⊎_elim
-    (λ (here : IsBadPart (Exactly token) kind left bytes). absurd here.5)
-    (λ ((prefix, rest, whole, part_is, later) : Then (Exactly token) (BadParts (Blanks ∷ loosely tokens) kind left) bytes).
-    ⊎_elim
-    (λ (here : IsBadPart Blanks kind left rest). absurd here.5)
-    (λ ((blanks, more, rest_is, are, last) : Then Blanks (BadParts (loosely tokens) kind left) rest). loosely_no_bad tokens kind left more last)
-    later)
-    bad
 
 -- a bad token among the parts of a production, or after them
 pub bad_follows_of_then : (symbols : List Symbol) (contents : Contents symbols) → AllowsAll symbols contents → (Bad : Bads) (kind : BadToken) (left : ℕ) (bytes : List ℕ) → BadThen (parts_with symbols contents) Bad kind left bytes → BadFollows symbols Bad kind left bytes
@@ -200,7 +188,7 @@ then_of_bad_follows enders (symbol ∷ symbols) is Bad kind left bytes bad =
     allowed (Sign sign) here = tt
     allowed (OneWord words) here = absurd here.1
     allowed AnyName here = tt
-    allowed AnyNumber here = tt
+    allowed (AnyNumber most) here = tt
     allowed AnyValue here = tt
 
 -- Parts within their bounds leave no bad token, where none is left after them.

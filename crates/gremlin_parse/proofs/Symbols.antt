@@ -40,7 +40,8 @@ takes_unique AnyName name other bytes rest more one two =
     let others : Passes is_name_byte two.prefix = IsName-passes two.prefix (subst IsName (sym two.is.0) two.is.1) in
     let same = run_is_unique is_name_byte one.prefix two.prefix rest more passes others one.ends two.ends (sym one.bytes_are ∙ two.bytes_are) in
     (sym one.is.0 ∙ same.0 ∙ two.is.0, same.1)
-takes_unique AnyNumber number other bytes rest more one two = one_number number other bytes rest more one two
+takes_unique (AnyNumber most) number other bytes rest more one two =
+    one_number number other bytes rest more (record { prefix = one.prefix; bytes_are = one.bytes_are; is = one.is; ends = one.ends }) (record { prefix = two.prefix; bytes_are = two.bytes_are; is = two.is; ends = two.ends })
 takes_unique AnyValue value other bytes rest more one two = one_value value other bytes rest more one two
 
 -- what ends a symbol depends on the first byte only
@@ -50,7 +51,7 @@ Ends-first_byte AnyGap content prefix rest more same ends = EndsRun-first_byte i
 Ends-first_byte (Sign sign) content prefix rest more same ends = tt
 Ends-first_byte (OneWord words) word prefix rest more same ends = (ends.0, EndsRun-first_byte is_name_byte rest more same ends.1)
 Ends-first_byte AnyName name prefix rest more same ends = EndsRun-first_byte is_name_byte rest more same ends
-Ends-first_byte AnyNumber number prefix rest more same ends =
+Ends-first_byte (AnyNumber most) number prefix rest more same ends =
     ⊎_elim (λ (zero : prefix ≡ codes "0"). inl zero) (λ (stops : EndsRun is_digit rest). inr (EndsRun-first_byte is_digit rest more same stops)) ends
 Ends-first_byte AnyValue value prefix rest more same ends = EndsWritten-first_byte value prefix rest more same ends
 
@@ -79,7 +80,7 @@ class_of AnyGap = Blank
 class_of (Sign sign) = NoByte
 class_of (OneWord words) = NameByte
 class_of AnyName = NameByte
-class_of AnyNumber = Digit
+class_of (AnyNumber most) = Digit
 class_of AnyValue = NameByte
 
 -- the word is one of name bytes and has some
@@ -99,7 +100,7 @@ is_symbol (Sign sign) = true
 is_symbol (OneWord []) = false
 is_symbol (OneWord (word ∷ words)) = are_keywords (word ∷ words)
 is_symbol AnyName = true
-is_symbol AnyNumber = true
+is_symbol (AnyNumber most) = true
 is_symbol AnyValue = true
 
 keyword_passes : (words : List (List ℕ)) → are_keywords words ≡ true → (word : List ℕ) → InTable (word, tt) (plain words) → Passes is_name_byte word
@@ -117,14 +118,14 @@ some_keywords [] is = cc
 some_keywords (word ∷ words) is = is
 
 -- What begins with no byte with which the symbol can go on ends it.
-ends_symbol : (symbol : Symbol) → is_symbol symbol ≡ true → (content : Content symbol) → Allows symbol content → (prefix : List ℕ) → IsPart (part symbol content) prefix → (rest : List ℕ) → EndsRun (passes (class_of symbol)) rest → Ends symbol content prefix rest
+pub ends_symbol : (symbol : Symbol) → is_symbol symbol ≡ true → (content : Content symbol) → Allows symbol content → (prefix : List ℕ) → IsPart (part symbol content) prefix → (rest : List ℕ) → EndsRun (passes (class_of symbol)) rest → Ends symbol content prefix rest
 ends_symbol AnyBlanks is content allows prefix part_is rest ends = ends
 ends_symbol AnyGap is content allows prefix part_is rest ends = ends
 ends_symbol (Sign sign) is content allows prefix part_is rest ends = tt
 ends_symbol (OneWord words) is word allows prefix part_is rest ends =
     (subst (Passes is_name_byte) (sym part_is) (keyword_passes words (some_keywords words is) word allows), ends)
 ends_symbol AnyName is content allows prefix part_is rest ends = ends
-ends_symbol AnyNumber is number allows prefix part_is rest ends = inr ends
+ends_symbol (AnyNumber most) is number allows prefix part_is rest ends = inr ends
 ends_symbol AnyValue is value allows prefix part_is rest ends = ends_value value prefix rest ends
 
 -- a symbol that stands whole, and bytes of the language after it
@@ -187,7 +188,7 @@ no_values Blank = true
 no_values NameByte = false
 no_values Digit = false
 
-blank_fails : (class : Class) → no_blanks class ≡ true → (b : ℕ) → is_blank b ≡ true → passes class b ≡ false
+pub blank_fails : (class : Class) → no_blanks class ≡ true → (b : ℕ) → is_blank b ≡ true → passes class b ≡ false
 blank_fails NoByte none b is = refl
 blank_fails Blank none b is = cc
 blank_fails NameByte none b is = blank_is_no_name_byte b is
@@ -226,7 +227,7 @@ word_ends p (first ∷ words) fail word rest within =
     (λ (later : InTable (word, tt) (plain words)). word_ends p words two.1 word rest later)
     within
 
-blanks_end : (p : ℕ → Bool) → ((b : ℕ) → is_blank b ≡ true → p b ≡ false) → (blanks rest : List ℕ) → AreBlanks blanks → EndsRun p rest → EndsRun p (blanks ++ rest)
+pub blanks_end : (p : ℕ → Bool) → ((b : ℕ) → is_blank b ≡ true → p b ≡ false) → (blanks rest : List ℕ) → AreBlanks blanks → EndsRun p rest → EndsRun p (blanks ++ rest)
 blanks_end p fails [] rest are ends = ends
 blanks_end p fails (b ∷ blanks) rest are ends = fails b are.0
 
@@ -254,7 +255,7 @@ halts class end (AnyGap ∷ symbols) = no_blanks class
 halts class end (Sign sign ∷ symbols) = first_fails (passes class) sign
 halts class end (OneWord words ∷ symbols) = all_fail (passes class) words
 halts class end (AnyName ∷ symbols) = no_names class
-halts class end (AnyNumber ∷ symbols) = no_digits class
+halts class end (AnyNumber most ∷ symbols) = no_digits class
 halts class end (AnyValue ∷ symbols) = no_values class
 
 -- the first byte of a symbol and of what follows it
@@ -266,7 +267,7 @@ part_halts class end AnyGap symbols is content allows prefix rest part_is later 
 part_halts class end (Sign sign) symbols is content allows prefix rest part_is later = subst (λ w. EndsRun (passes class) (w ++ rest)) (sym part_is) (first_ends (passes class) sign rest is)
 part_halts class end (OneWord words) symbols is word allows prefix rest part_is later = subst (λ w. EndsRun (passes class) (w ++ rest)) (sym part_is) (word_ends (passes class) words is word rest allows)
 part_halts class end AnyName symbols is name allows prefix rest part_is later = name_ends (passes class) (name_fails class is) (prefix ++ rest) (name_starts prefix rest (subst IsName (sym part_is.0) part_is.1))
-part_halts class end AnyNumber symbols is number allows prefix rest part_is later = number_ends (passes class) (digit_fails class is) (prefix ++ rest) (number_starts prefix rest part_is.0)
+part_halts class end (AnyNumber most) symbols is number allows prefix rest part_is later = number_ends (passes class) (digit_fails class is) (prefix ++ rest) (number_starts prefix rest part_is.0)
 part_halts class end AnyValue symbols is value allows prefix rest part_is later = value_ends class is value (prefix ++ rest) (value_starts value prefix rest part_is)
 
 -- A bad token begins with no byte of the class.
@@ -277,7 +278,7 @@ bad_halts class end (Sign sign) symbols is kind left bytes (content, bad, rest, 
 bad_halts class end (OneWord words) symbols is kind left bytes (content, bad, rest, takes, place) = absurd bad
 bad_halts class end AnyName symbols is kind left bytes (name, bad, rest, takes, place) =
     subst (EndsRun (passes class)) (sym takes.bytes_are) (name_ends (passes class) (name_fails class is) (takes.prefix ++ rest) (name_starts takes.prefix rest (subst IsName (sym takes.is.0) takes.is.1)))
-bad_halts class end AnyNumber symbols is kind left bytes (number, bad, rest, takes, place) =
+bad_halts class end (AnyNumber most) symbols is kind left bytes (number, bad, rest, takes, place) =
     subst (EndsRun (passes class)) (sym takes.bytes_are) (number_ends (passes class) (digit_fails class is) (takes.prefix ++ rest) (number_starts takes.prefix rest takes.is.0))
 bad_halts class end AnyValue symbols is kind left bytes (value, bad, rest, takes, place) =
     subst (EndsRun (passes class)) (sym takes.bytes_are) (value_ends class is value (takes.prefix ++ rest) (value_starts value takes.prefix rest takes.is))
@@ -292,9 +293,9 @@ not_bad kind (Exactly word) within = λ bad. bad
 not_bad LongName (Name name) within = λ bad. absurd (omega arith)
 not_bad LongText (Name name) within = λ bad. bad
 not_bad WideNumber (Name name) within = λ bad. bad
-not_bad LongName (Number number) within = λ bad. bad
-not_bad LongText (Number number) within = λ bad. bad
-not_bad WideNumber (Number number) within = λ bad. absurd (omega arith)
+not_bad LongName (Number most number) within = λ bad. bad
+not_bad LongText (Number most number) within = λ bad. bad
+not_bad WideNumber (Number most number) within = λ bad. absurd (omega arith)
 not_bad LongName (Written (values.Int number)) within = λ bad. bad
 not_bad LongText (Written (values.Int number)) within = λ bad. bad
 not_bad WideNumber (Written (values.Int number)) within = λ bad. bad within
@@ -317,5 +318,5 @@ example (Sign sign) is = record { content = tt; allowed = tt; prefix = sign; is 
 example (OneWord []) is = cc
 example (OneWord (word ∷ words)) is = record { content = word; allowed = inl refl; prefix = word; is = refl }
 example AnyName is = record { content = codes "a"; allowed = tt; prefix = codes "a"; is = (refl, (refl, tt)) }
-example AnyNumber is = record { content = 0; allowed = tt; prefix = codes "0"; is = (refl, refl) }
+example (AnyNumber most) is = record { content = 0; allowed = tt; prefix = codes "0"; is = (refl, refl) }
 example AnyValue is = record { content = values.Int (pos 0); allowed = tt; prefix = codes "0"; is = inl (0, refl, (refl, refl)) }

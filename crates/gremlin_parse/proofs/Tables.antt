@@ -90,7 +90,7 @@ module _ {K : Type 0} where
     pub words : AllByRecursion (λ (entry : Entry K). is_word entry.0 ≡ true) table
     pub named : AllByRecursion (λ (entry : Entry K). lookup table entry.0 ≡ Some entry.1) table
 
-  all_in : (P : Entry K → Type 0) (table : List (Entry K)) (entry : Entry K) → AllByRecursion P table → InTable entry table → P entry
+  pub all_in : (P : Entry K → Type 0) (table : List (Entry K)) (entry : Entry K) → AllByRecursion P table → InTable entry table → P entry
   all_in P [] entry all within = absurd within
   all_in P (first ∷ table) entry all within = ⊎_elim (λ (same : entry ≡ first). subst P (sym same) all.0) (λ (later : InTable entry table). all_in P table entry all.1 later) within
 

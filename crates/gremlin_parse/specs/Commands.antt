@@ -1,19 +1,23 @@
 -- Commands and queries by their first word: the table of words, and the production after each.
-use Rattle.std.specs.Prelude.{◌≡◌, ◌⊎◌, ℕ, ◌≤◌, nat_eq, cond, List, [], ◌∷◌, length, codes, flat_map}
+use Rattle.std.specs.Prelude.{◌≡◌, ◌⊎◌, ℕ, nat_eq, cond, List, [], ◌∷◌, codes}
 use Rattle.std.specs.Cmp.Lexicographic.{pointwise}
 use Rattle.plain_graph.specs.declared.command.Command.{Command}
 use Rattle.plain_graph.specs.declared.command.Command.TheVariants as commands
 use Rattle.plain_graph.specs.declared.command.Target.{Target}
 use Rattle.plain_graph.specs.declared.command.Target.TheVariants as targets
+use Rattle.plain_graph.specs.declared.direction.Direction.{Direction}
+use Rattle.plain_graph.specs.declared.direction.Direction.TheVariants as directions
 use Rattle.plain_graph.specs.declared.pairs.Pair.{Pair}
-use Rattle.plain_graph.specs.declared.query.Step.{Step}
-use Rattle.gremlin_parse.specs.Grammar.{Part, IsMadeOf, loosely, step_tokens, pairs_to_end}
+use Rattle.plain_graph.specs.declared.query.Query.{Query}
+use Rattle.gremlin_parse.specs.Grammar.{Part, Exactly, IsMadeOf, KeepsBounds, pairs_to_end, most_id}
 use Rattle.gremlin_parse.specs.Grammar.{NeedsNoMemory}
 use Rattle.gremlin_parse.specs.Keywords.{Entry, ThenWord}
-use Rattle.gremlin_parse.specs.Symbols.{Symbol, AnyBlanks, AnyGap, Sign, OneWord, AnyName}
-use Rattle.gremlin_parse.specs.Symbols.{AnyNumber, AnyValue, Contents, ReadsAll, Follows}
+use Rattle.gremlin_parse.specs.Symbols.{Symbol, AnyBlanks, AnyGap, OneWord, AnyName}
+use Rattle.gremlin_parse.specs.Symbols.{AnyNumber, AnyValue, Contents, Follows}
 use Rattle.gremlin_parse.specs.Symbols.{BadFollows}
-use Rattle.gremlin_parse.specs.Stopping.{Bads, IsStop, IsOneOf, BadInOne}
+use Rattle.gremlin_parse.specs.Stopping.{Bads, IsStop, BadInOne}
+use Rattle.gremlin_parse.specs.Reading.{Then}
+use Rattle.gremlin_parse.specs.Queries.{QueryTo, IsKeptQuery, BadQuery}
 use Rattle.gremlin_parse.specs.declared.word.Word.{Word}
 use Rattle.gremlin_parse.specs.declared.word.Word.TheVariants as words
 use Rattle.gremlin_parse.specs.declared.head.Head.{Head}
@@ -31,7 +35,8 @@ head_words =
     ∷ (codes "reopen", heads.Alone words.Reopen) ∷ (codes "quit", heads.Alone words.Quit)
     ∷ (codes "node", heads.Node) ∷ (codes "edge", heads.Edge)
     ∷ (codes "set", heads.Set) ∷ (codes "unset", heads.Unset)
-    ∷ (codes "delete", heads.Delete) ∷ (codes "g", heads.Query) ∷ []
+    ∷ (codes "delete", heads.Delete) ∷ (codes "expand", heads.Expand)
+    ∷ (codes "g", heads.Query) ∷ []
 
 -- the words for what a command changes
 abbrev pub target_words : List (Entry TargetWord)
@@ -49,25 +54,28 @@ target_of target_kinds.Edge id = targets.Edge id
 abbrev pub kind_named : List ℕ → TargetWord
 kind_named name = cond (pointwise nat_eq (codes "node") name) target_kinds.Node target_kinds.Edge
 
+-- the words for a direction
+abbrev pub direction_words : List (Entry Direction)
+direction_words =
+    (codes "out", directions.Outgoing) ∷ (codes "in", directions.Incoming)
+    ∷ (codes "both", directions.Both) ∷ []
+
+abbrev pub direction_names : List (List ℕ)
+direction_names = codes "out" ∷ codes "in" ∷ codes "both" ∷ []
+
+-- the direction that one of the three names stands for
+abbrev pub direction_named : List ℕ → Direction
+direction_named name =
+    cond (pointwise nat_eq (codes "out") name) directions.Outgoing
+    (cond (pointwise nat_eq (codes "in") name) directions.Incoming directions.Both)
+
 -- blanks to the line's end
 abbrev pub to_end : List Symbol
 to_end = AnyBlanks ∷ []
 
--- .name(), with any blanks after each token
-abbrev pub call : List ℕ → List Symbol
-call name =
-    Sign (codes ".") ∷ AnyBlanks ∷ Sign name ∷ AnyBlanks ∷ Sign (codes "(") ∷ AnyBlanks
-    ∷ Sign (codes ")") ∷ AnyBlanks ∷ []
-
-abbrev pub call_contents : (name : List ℕ) → Contents (call name)
-call_contents name = (tt, (tt, (tt, (tt, (tt, (tt, (tt, (tt, tt))))))))
-
-abbrev pub ReadsCall : List ℕ → List ℕ → List ℕ → Type 0
-ReadsCall name bytes rest = ReadsAll (call name) (call_contents name) bytes rest
-
 -- an element, after one blank or more
 abbrev pub element_symbols : List Symbol
-element_symbols = AnyGap ∷ OneWord target_names ∷ AnyGap ∷ AnyNumber ∷ []
+element_symbols = AnyGap ∷ OneWord target_names ∷ AnyGap ∷ AnyNumber most_id ∷ []
 
 abbrev pub target_name : Target → List ℕ
 target_name (targets.Node id) = codes "node"
@@ -88,24 +96,24 @@ element_of name id = target_of (kind_named name) id
 abbrev pub production : Head → List Symbol
 production (heads.Alone word) = to_end
 production heads.Node = AnyGap ∷ AnyName ∷ []
-production heads.Edge = AnyGap ∷ AnyNumber ∷ AnyGap ∷ AnyName ∷ AnyGap ∷ AnyNumber ∷ []
+production heads.Edge =
+    AnyGap ∷ AnyNumber most_id ∷ AnyGap ∷ AnyName ∷ AnyGap ∷ AnyNumber most_id ∷ []
 production heads.Set =
-    AnyGap ∷ OneWord target_names ∷ AnyGap ∷ AnyNumber ∷ AnyGap ∷ AnyName ∷ AnyGap ∷ AnyValue
+    AnyGap ∷ OneWord target_names ∷ AnyGap ∷ AnyNumber most_id ∷ AnyGap ∷ AnyName ∷ AnyGap
+    ∷ AnyValue
     ∷ to_end
 production heads.Unset =
-    AnyGap ∷ OneWord target_names ∷ AnyGap ∷ AnyNumber ∷ AnyGap ∷ AnyName ∷ to_end
-production heads.Delete = AnyGap ∷ OneWord target_names ∷ AnyGap ∷ AnyNumber ∷ to_end
-production heads.Query = AnyBlanks ∷ call (codes "V")
+    AnyGap ∷ OneWord target_names ∷ AnyGap ∷ AnyNumber most_id ∷ AnyGap ∷ AnyName ∷ to_end
+production heads.Delete = AnyGap ∷ OneWord target_names ∷ AnyGap ∷ AnyNumber most_id ∷ to_end
+production heads.Expand =
+    AnyGap ∷ AnyNumber most_id ∷ AnyGap ∷ OneWord direction_names ∷ AnyGap ∷ AnyName ∷ to_end
+production heads.Query = []
 
--- the steps of a query of the grammar
-abbrev pub FewSteps : Type 0
-FewSteps = (list : List Step) × (length list ≤ 1)
-
--- what stands after the production's symbols: pairs, the steps of a query, and else nothing
+-- what stands after the production's symbols: pairs, a query, and else nothing
 abbrev pub LastContent : Head → Type 0
 LastContent heads.Node = List Pair
 LastContent heads.Edge = List Pair
-LastContent heads.Query = FewSteps
+LastContent heads.Query = Query
 LastContent _ = Unit {0}
 
 abbrev pub last_parts : (head : Head) → LastContent head → List Part
@@ -115,7 +123,8 @@ last_parts heads.Edge pairs = pairs_to_end pairs
 last_parts heads.Set last = []
 last_parts heads.Unset last = []
 last_parts heads.Delete last = []
-last_parts heads.Query few = loosely (flat_map step_tokens few.0)
+last_parts heads.Expand last = []
+last_parts heads.Query query = []
 
 abbrev pub plain_command : Word → Command
 plain_command words.Begin = commands.Begin
@@ -139,13 +148,25 @@ command_of heads.Unset contents last =
     commands.Unset (element_of contents.1.0 contents.1.1.1.0) contents.1.1.1.1.1.0
 command_of heads.Delete contents last =
     commands.Delete (element_of contents.1.0 contents.1.1.1.0)
-command_of heads.Query contents few = commands.Query (record { steps = few.0 })
+command_of heads.Expand contents last =
+    commands.Expand contents.1.0 (direction_named contents.1.1.1.0) contents.1.1.1.1.1.0
+command_of heads.Query contents query = commands.Query query
 
--- what stands after the production's symbols
+-- all but a query is spelled by parts
+abbrev pub IsPlain : Head → Type 0
+IsPlain heads.Query = ⊥
+IsPlain _ = Unit {0}
+
+-- what stands after the production's symbols, of this content
+abbrev pub LastOf : (head : Head) → LastContent head → List ℕ → Type 0
+LastOf heads.Query query rest = QueryTo query rest
+LastOf head last rest = IsMadeOf (last_parts head last) rest
+
 abbrev pub IsLast : Head → List ℕ → Type 0
-IsLast head rest = IsOneOf (last_parts head) rest
+IsLast head rest = (last : LastContent head) × LastOf head last rest
 
 abbrev pub BadLast : Head → Bads
+BadLast heads.Query kind left rest = BadQuery kind left rest
 BadLast head kind left rest = BadInOne (last_parts head) kind left rest
 
 -- after the first word, some command or query
@@ -159,7 +180,7 @@ BadAfter head kind left bytes = BadFollows (production head) (BadLast head) kind
 abbrev pub IsLastOf : Command → (head : Head) → Contents (production head) → List ℕ → Type 0
 IsLastOf command head contents rest =
     (last : LastContent head) × (command ≡ command_of head contents last)
-    × IsMadeOf (last_parts head last) rest
+    × LastOf head last rest
 
 -- Reading stops after the first word.
 abbrev pub StopsAfter : Head → Type 0 → List ℕ → Stop → Type 0
@@ -180,6 +201,11 @@ BadTail kind left bytes = ThenWord head_words (λ head. BadAfter head kind left)
 abbrev pub IsTail : Command → List ℕ → Type 0
 IsTail command bytes =
     ((command ≡ commands.Blank) × (bytes ≡ [])) ⊎ ThenWord head_words (SpellsAfter command) bytes
+
+-- What was read of the command is within its bounds.
+abbrev pub KeepsTail : Command → List ℕ → Type 0
+KeepsTail (commands.Query query) bytes = Then (Exactly (codes "g")) (IsKeptQuery query) bytes
+KeepsTail command bytes = KeepsBounds command
 
 -- no command that needs no memory
 abbrev pub LacksMemory : List ℕ → Type 0

@@ -8,15 +8,11 @@ use Rattle.plain_graph.specs.declared.value.Value.TheVariants as values
 use Rattle.plain_graph.specs.Names.{is_name_byte}
 use Rattle.gremlin_parse.specs.Numbers.{is_digit}
 use Rattle.gremlin_parse.specs.Grammar.{Part, Name, Number, Written, IsPart, IsMadeOf}
-use Rattle.gremlin_parse.specs.Grammar.{parts_of, IsCommand, IsLine, most_name_bytes, most_id}
+use Rattle.gremlin_parse.specs.Grammar.{parts_of, IsCommand, most_name_bytes}
 use Rattle.gremlin_parse.specs.Grammar.{most_text_bytes}
 use Rattle.gremlin_parse.specs.declared.bad_token.BadToken.{BadToken}
 use Rattle.gremlin_parse.specs.declared.bad_token.BadToken.TheVariants.{LongName, LongText}
 use Rattle.gremlin_parse.specs.declared.bad_token.BadToken.TheVariants.{WideNumber}
-use Rattle.gremlin_parse.specs.declared.line_fault.LineFault.{LineFault}
-use Rattle.gremlin_parse.specs.declared.line_fault.LineFault.TheVariants.{Memory, Syntax}
-use Rattle.gremlin_parse.specs.declared.line_fault.LineFault.TheVariants.{NameLength, TextLength}
-use Rattle.gremlin_parse.specs.declared.line_fault.LineFault.TheVariants.{NumberRange}
 
 -- some line of the language begins with these bytes
 abbrev pub IsViable : (List ℕ → Type 0) → List ℕ → Type 0
@@ -43,7 +39,7 @@ EndsValue (values.Text text) rest = Unit {0}
 -- what stands after a name, a number or a value ends it
 abbrev pub EndsToken : Part → List ℕ → Type 0
 EndsToken (Name name) rest = EndsRun is_name_byte rest
-EndsToken (Number number) rest = EndsRun is_digit rest
+EndsToken (Number most number) rest = EndsRun is_digit rest
 EndsToken (Written value) rest = EndsValue value rest
 EndsToken _ rest = ⊥
 
@@ -56,7 +52,7 @@ IsBadValue _ _ = ⊥
 -- The part is a token out of its bounds.
 abbrev pub IsOutOfBounds : Part → BadToken → Type 0
 IsOutOfBounds (Name name) LongName = most_name_bytes < length name
-IsOutOfBounds (Number number) WideNumber = most_id < number
+IsOutOfBounds (Number most number) WideNumber = most < number
 IsOutOfBounds (Written value) kind = IsBadValue value kind
 IsOutOfBounds _ _ = ⊥
 
@@ -77,24 +73,3 @@ pub record HasBadToken (kind : BadToken) (line : List ℕ) (at : ℕ) : Type 0 w
   pub ends : EndsToken part rest
   pub bad : IsOutOfBounds part kind
   pub place : at ≡ length prefix
-
--- The line has the fault at its place.
-abbrev pub HasFault : List ℕ → LineFault → Type 0
-HasFault line (Syntax at) = (¬ IsLine line) × StopsAt IsLine line at
-HasFault line (NameLength at) = HasBadToken LongName line at
-HasFault line (TextLength at) = HasBadToken LongText line at
-HasFault line (NumberRange at) = HasBadToken WideNumber line at
-HasFault line Memory = ⊥
-
--- the place of a fault
-abbrev pub place_of : LineFault → ℕ
-place_of (Syntax at) = at
-place_of (NameLength at) = at
-place_of (TextLength at) = at
-place_of (NumberRange at) = at
-place_of Memory = 0
-
--- the leftmost of the faults that the line has
-pub record IsLeftmostFault (line : List ℕ) (fault : LineFault) : Type 0 where
-  pub has : HasFault line fault
-  pub leftmost : (other : LineFault) → HasFault line other → place_of fault ≤ place_of other

@@ -8,10 +8,9 @@ use Rattle.plain_graph.specs.declared.command.Command.{Command}
 use Rattle.plain_graph.specs.declared.command.Command.TheVariants as commands
 use Rattle.plain_graph.specs.declared.command.Target.{Target}
 use Rattle.plain_graph.specs.declared.command.Target.TheVariants as targets
+use Rattle.plain_graph.specs.declared.direction.Direction.{Direction}
+use Rattle.plain_graph.specs.declared.direction.Direction.TheVariants as directions
 use Rattle.plain_graph.specs.declared.pairs.Pair.{Pair}
-use Rattle.plain_graph.specs.declared.query.Query.{Query}
-use Rattle.plain_graph.specs.declared.query.Step.{Step}
-use Rattle.plain_graph.specs.declared.query.Step.TheVariants as steps
 use Rattle.plain_graph.specs.declared.value.Value.{Value}
 use Rattle.gremlin_parse.specs.Numbers.{IsNumber}
 use Rattle.gremlin_parse.specs.Values.{IsWritten}
@@ -28,6 +27,10 @@ most_text_bytes = 1024
 abbrev pub most_id : ℕ
 most_id = 4294967294
 
+-- the greatest number of results to which a query is cut
+abbrev pub most_limit : ℕ
+most_limit = 4294967295
+
 -- a space or a tab
 abbrev pub is_blank : ℕ → Bool
 is_blank b = b == 32 || b == 9
@@ -36,13 +39,13 @@ abbrev pub AreBlanks : List ℕ → Type 0
 AreBlanks bytes = AllByRecursion (λ b. is_blank b ≡ true) bytes
 
 -- A part of a spelled command: any blanks, one blank or more, a word or a sign of the grammar,
--- a name, an identifier's number, or a value.
+-- a name, a number of at most so much, or a value.
 pub data Part : Type 0 where
   Blanks : Part
   Gap : Part
   Exactly : (word : List ℕ) → Part
   Name : (name : List ℕ) → Part
-  Number : (number : ℕ) → Part
+  Number : (most : ℕ) → (number : ℕ) → Part
   Written : (value : Value) → Part
 
 abbrev pub IsPart : Part → List ℕ → Type 0
@@ -50,7 +53,7 @@ IsPart Blanks bytes = AreBlanks bytes
 IsPart Gap bytes = AreBlanks bytes × (bytes ≢ [])
 IsPart (Exactly word) bytes = bytes ≡ word
 IsPart (Name name) bytes = (bytes ≡ name) × IsName name
-IsPart (Number number) bytes = IsNumber number bytes
+IsPart (Number most number) bytes = IsNumber number bytes
 IsPart (Written value) bytes = IsWritten value bytes
 
 -- the bytes are these parts, one after the other
@@ -60,27 +63,19 @@ IsMadeOf (part ∷ parts) bytes =
     (prefix : List ℕ) × (rest : List ℕ) × (bytes ≡ prefix ++ rest) × IsPart part prefix
     × IsMadeOf parts rest
 
-abbrev pub step_tokens : Step → List (List ℕ)
-step_tokens steps.Count = codes "." ∷ codes "count" ∷ codes "(" ∷ codes ")" ∷ []
-
--- g.V() and a dot before each step
-abbrev pub query_tokens : Query → List (List ℕ)
-query_tokens query =
-    (codes "g" ∷ codes "." ∷ codes "V" ∷ codes "(" ∷ codes ")" ∷ [])
-    ++ flat_map step_tokens query.steps
-
--- tokens with any blanks after each
-abbrev pub loosely : List (List ℕ) → List Part
-loosely [] = []
-loosely (token ∷ tokens) = Exactly token ∷ Blanks ∷ loosely tokens
-
 -- a word and nothing else
 abbrev pub alone : List ℕ → List Part
 alone word = Blanks ∷ Exactly word ∷ Blanks ∷ []
 
 abbrev pub target_parts : Target → List Part
-target_parts (targets.Node id) = Exactly (codes "node") ∷ Gap ∷ Number id ∷ []
-target_parts (targets.Edge id) = Exactly (codes "edge") ∷ Gap ∷ Number id ∷ []
+target_parts (targets.Node id) = Exactly (codes "node") ∷ Gap ∷ Number most_id id ∷ []
+target_parts (targets.Edge id) = Exactly (codes "edge") ∷ Gap ∷ Number most_id id ∷ []
+
+-- the word for a direction
+abbrev pub direction_name : Direction → List ℕ
+direction_name directions.Outgoing = codes "out"
+direction_name directions.Incoming = codes "in"
+direction_name directions.Both = codes "both"
 
 -- a key and its value, after one blank or more
 abbrev pub pair_parts : Pair → List Part
@@ -103,7 +98,8 @@ parts_of commands.Quit = alone (codes "quit")
 parts_of (commands.Node label pairs) =
     Blanks ∷ Exactly (codes "node") ∷ Gap ∷ Name label ∷ pairs_to_end pairs
 parts_of (commands.Edge from label to pairs) =
-    Blanks ∷ Exactly (codes "edge") ∷ Gap ∷ Number from ∷ Gap ∷ Name label ∷ Gap ∷ Number to
+    Blanks ∷ Exactly (codes "edge") ∷ Gap ∷ Number most_id from ∷ Gap ∷ Name label ∷ Gap
+    ∷ Number most_id to
     ∷ pairs_to_end pairs
 parts_of (commands.Set target key value) =
     (Blanks ∷ Exactly (codes "set") ∷ Gap ∷ []) ++ target_parts target
@@ -113,11 +109,15 @@ parts_of (commands.Unset target key) =
     ++ Gap ∷ Name key ∷ Blanks ∷ []
 parts_of (commands.Delete target) =
     (Blanks ∷ Exactly (codes "delete") ∷ Gap ∷ []) ++ target_parts target ++ Blanks ∷ []
-parts_of (commands.Query query) = Blanks ∷ loosely (query_tokens query)
+parts_of (commands.Expand id direction label) =
+    Blanks ∷ Exactly (codes "expand") ∷ Gap ∷ Number most_id id ∷ Gap
+    ∷ Exactly (direction_name direction)
+    ∷ Gap ∷ Name label ∷ Blanks ∷ []
+parts_of (commands.Query query) = []
 
--- a command of the grammar: a query has one step at most
+-- The command is spelled by its parts; a query is spelled from place to place.
 abbrev pub IsCommand : Command → Type 0
-IsCommand (commands.Query query) = length query.steps ≤ 1
+IsCommand (commands.Query query) = ⊥
 IsCommand _ = Unit {0}
 
 -- The part is within the bounds that are no part of the loose grammar.
@@ -126,23 +126,11 @@ IsBounded Blanks = Unit {0}
 IsBounded Gap = Unit {0}
 IsBounded (Exactly word) = Unit {0}
 IsBounded (Name name) = length name ≤ most_name_bytes
-IsBounded (Number number) = number ≤ most_id
+IsBounded (Number most number) = number ≤ most
 IsBounded (Written value) = IsKept value
 
 abbrev pub KeepsBounds : Command → Type 0
 KeepsBounds command = AllByRecursion IsBounded (parts_of command)
-
--- the line spells the command but for the bounds
-abbrev pub SpellsLoosely : List ℕ → Command → Type 0
-SpellsLoosely line command = IsCommand command × IsMadeOf (parts_of command) line
-
--- the line spells the command
-abbrev pub Spells : List ℕ → Command → Type 0
-Spells line command = SpellsLoosely line command × KeepsBounds command
-
--- a line of the loose grammar
-abbrev pub IsLine : List ℕ → Type 0
-IsLine line = (command : Command) × SpellsLoosely line command
 
 -- The command is read without asking for memory.
 abbrev pub NeedsNoMemory : Command → Type 0
@@ -150,5 +138,6 @@ NeedsNoMemory (commands.Node label pairs) = ⊥
 NeedsNoMemory (commands.Edge from label to pairs) = ⊥
 NeedsNoMemory (commands.Set target key value) = ⊥
 NeedsNoMemory (commands.Unset target key) = ⊥
+NeedsNoMemory (commands.Expand id direction label) = ⊥
 NeedsNoMemory (commands.Query query) = ⊥
 NeedsNoMemory _ = Unit {0}

@@ -7,5 +7,8 @@ pub mod Keywords
 pub mod Texts
 pub mod Symbols
 pub mod Stopping
-pub mod Commands
+pub mod Turns
 pub mod Pairs
+pub mod Queries
+pub mod Commands
+pub mod Lines

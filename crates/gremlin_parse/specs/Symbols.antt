@@ -1,5 +1,6 @@
 -- Productions: symbols of the grammar, one after the other, and what readers of symbols promise.
-use Rattle.std.specs.Prelude.{◌≡◌, ◌⊎◌, ℕ, ◌==◌, ◌||◌, Bool, true, false, List, [], ◌∷◌, ◌++◌, length, codes}
+use Rattle.std.specs.Prelude.{◌≡◌, ◌⊎◌, ℕ, ◌==◌, ◌||◌, Bool, true, false, List, [], ◌∷◌, ◌++◌}
+use Rattle.std.specs.Prelude.{length, codes}
 use Rattle.plain_graph.specs.declared.value.Value.{Value}
 use Rattle.plain_graph.specs.declared.value.Value.TheVariants as values
 use Rattle.plain_graph.specs.Names.{is_name_byte}
@@ -7,7 +8,7 @@ use Rattle.gremlin_parse.specs.Numbers.{is_digit}
 use Rattle.gremlin_parse.specs.Values.{is_quote}
 use Rattle.gremlin_parse.specs.Texts.{LeavesQuoted}
 use Rattle.gremlin_parse.specs.Grammar.{Part, Blanks, Gap, Exactly, Name, Number, Written}
-use Rattle.gremlin_parse.specs.Grammar.{IsPart, IsBounded, is_blank}
+use Rattle.gremlin_parse.specs.Grammar.{IsPart, IsBounded, is_blank, most_id}
 use Rattle.gremlin_parse.specs.Faults.{EndsRun, IsOutOfBounds}
 use Rattle.gremlin_parse.specs.Reading.{Passes, LeavesWord, Then, StartsName, StartsNumber}
 use Rattle.gremlin_parse.specs.Keywords.{Entry, InTable, LeavesTable, plain}
@@ -16,14 +17,14 @@ use Rattle.gremlin_parse.specs.declared.stop.Stop.{Stop}
 use Rattle.gremlin_parse.specs.declared.stop.Stop.TheVariants as stops
 
 -- A symbol stands for parts: any blanks, one blank or more, a sign, one of several words, a name,
--- an identifier's number, or a value.
+-- a number of at most so much, or a value.
 pub data Symbol : Type 0 where
   AnyBlanks : Symbol
   AnyGap : Symbol
   Sign : (sign : List ℕ) → Symbol
   OneWord : (words : List (List ℕ)) → Symbol
   AnyName : Symbol
-  AnyNumber : Symbol
+  AnyNumber : (most : ℕ) → Symbol
   AnyValue : Symbol
 
 -- what tells the parts of a symbol apart
@@ -33,7 +34,7 @@ Content AnyGap = Unit {0}
 Content (Sign sign) = Unit {0}
 Content (OneWord words) = List ℕ
 Content AnyName = List ℕ
-Content AnyNumber = ℕ
+Content (AnyNumber most) = ℕ
 Content AnyValue = Value
 
 abbrev pub part : (symbol : Symbol) → Content symbol → Part
@@ -42,7 +43,7 @@ part AnyGap content = Gap
 part (Sign sign) content = Exactly sign
 part (OneWord words) word = Exactly word
 part AnyName name = Name name
-part AnyNumber number = Number number
+part (AnyNumber most) number = Number most number
 part AnyValue value = Written value
 
 -- The symbol has a part of this content.
@@ -52,7 +53,7 @@ Allows AnyGap content = Unit {0}
 Allows (Sign sign) content = Unit {0}
 Allows (OneWord words) word = InTable (word, tt) (plain words)
 Allows AnyName name = Unit {0}
-Allows AnyNumber number = Unit {0}
+Allows (AnyNumber most) number = Unit {0}
 Allows AnyValue value = Unit {0}
 
 -- what stands after the bytes of a value ends it
@@ -69,7 +70,7 @@ Ends AnyGap content prefix rest = EndsRun is_blank rest
 Ends (Sign sign) content prefix rest = Unit {0}
 Ends (OneWord words) word prefix rest = Passes is_name_byte prefix × EndsRun is_name_byte rest
 Ends AnyName name prefix rest = EndsRun is_name_byte rest
-Ends AnyNumber number prefix rest = (prefix ≡ codes "0") ⊎ EndsRun is_digit rest
+Ends (AnyNumber most) number prefix rest = (prefix ≡ codes "0") ⊎ EndsRun is_digit rest
 Ends AnyValue value prefix rest = EndsWritten value prefix rest
 
 -- The symbol stands whole at the head, with this content, before the rest.
@@ -121,7 +122,7 @@ LeavesAt AnyGap bytes left = (left ≡ length bytes) × EndsRun is_blank bytes
 LeavesAt (Sign sign) bytes left = LeavesWord sign bytes left
 LeavesAt (OneWord words) bytes left = LeavesTable (plain words) bytes left
 LeavesAt AnyName bytes left = (left ≡ length bytes) × (¬ StartsName bytes)
-LeavesAt AnyNumber bytes left = (left ≡ length bytes) × (¬ StartsNumber bytes)
+LeavesAt (AnyNumber most) bytes left = (left ≡ length bytes) × (¬ StartsNumber bytes)
 LeavesAt AnyValue bytes left =
     LeavesNegative bytes left ⊎ LeavesText bytes left ⊎ LeavesTruth bytes left
 
@@ -149,6 +150,11 @@ abbrev pub ReadsToken : List ℕ → List ℕ → List ℕ → Type 0
 ReadsToken sign bytes rest =
     (middle : List ℕ) × Reads (Sign sign) tt bytes middle × Reads AnyBlanks tt middle rest
 
+-- an identifier and any blanks
+abbrev pub ReadsId : ℕ → List ℕ → List ℕ → Type 0
+ReadsId id bytes rest =
+    (middle : List ℕ) × Reads (AnyNumber most_id) id bytes middle × Reads AnyBlanks tt middle rest
+
 abbrev pub Contents : List Symbol → Type 0
 Contents [] = Unit {0}
 Contents (symbol ∷ symbols) = Content symbol × Contents symbols
@@ -157,7 +163,8 @@ Contents (symbol ∷ symbols) = Content symbol × Contents symbols
 abbrev pub ReadsAll : (symbols : List Symbol) → Contents symbols → List ℕ → List ℕ → Type 0
 ReadsAll [] contents bytes rest = bytes ≡ rest
 ReadsAll (symbol ∷ symbols) contents bytes rest =
-    (middle : List ℕ) × Reads symbol contents.0 bytes middle × ReadsAll symbols contents.1 middle rest
+    (middle : List ℕ) × Reads symbol contents.0 bytes middle
+    × ReadsAll symbols contents.1 middle rest
 
 -- some of the symbols stand there, and the next one doesn't
 abbrev pub LeavesOne : List Symbol → List ℕ → Stop → Type 0
@@ -168,7 +175,8 @@ LeavesOne (symbol ∷ symbols) bytes stop =
     × LeavesOne symbols middle stop)
 
 -- parts of the symbols, and after them bytes of the language that their contents have
-abbrev pub Follows : (symbols : List Symbol) → (Contents symbols → List ℕ → Type 0) → List ℕ → Type 0
+abbrev pub Follows : (symbols : List Symbol) → (Contents symbols → List ℕ → Type 0) → List ℕ
+    → Type 0
 Follows [] Last bytes = Last tt bytes
 Follows (symbol ∷ symbols) Last bytes =
     (content : Content symbol) × Allows symbol content

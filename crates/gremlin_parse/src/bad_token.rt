@@ -5,6 +5,7 @@ pub(crate) enum BadToken {
     LongName,
     /// A text of more than 1,024 bytes.
     LongText,
-    /// An identifier above 4,294,967,294, or a number that 64 bits with a sign don't hold.
+    /// An identifier above 4,294,967,294, a limit above 4,294,967,295, or a number that 64 bits
+    /// with a sign don't hold.
     WideNumber,
 }

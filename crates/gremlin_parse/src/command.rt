@@ -1,16 +1,17 @@
 ghost use Rattle.std.specs.Prelude.{IfOk, IfErr};
 ghost use Rattle.gremlin_parse.specs.Grammar.{KeepsBounds};
-ghost use Rattle.gremlin_parse.specs.Commands.{IsTail, IsSomeTail, BadTail, LacksMemory};
+ghost use Rattle.gremlin_parse.specs.Commands.{IsTail, IsSomeTail, BadTail, KeepsTail, LacksMemory};
 ghost use Rattle.gremlin_parse.specs.Commands.{SpellsAfter, StopsAfter};
 ghost use Rattle.gremlin_parse.specs.Stopping.{IsStop};
 ghost use Rattle.gremlin_parse.specs.declared.head.Head.TheVariants as heads;
 ghost use Rattle.plain_graph.specs.declared.command.Command.TheVariants as commands;
 
+use crate::direction::read_direction;
 use crate::head::{Head, read_head};
 use crate::number::read_number;
 use crate::pair::read_pairs;
 use crate::parts::{copy_name, read_end, read_gap, read_name, skip_blanks};
-use crate::query::parse_query;
+use crate::query::read_query;
 use crate::stop::Stop;
 use crate::target::read_element;
 use crate::value::{read_value, value_of};
@@ -24,7 +25,7 @@ use std::alloc::Global;
 /// The leftmost fault, or `Memory`.
 pub(crate) fn parse_tail(alloc: Global, bytes: &[u8]) -> Result<Command, Stop>
     ensures ok { IfOk result (λ command. IsTail command bytes.now) }
-    ensures bounds { IfOk result KeepsBounds }
+    ensures bounds { IfOk result (λ command. KeepsTail command bytes.now) }
     ensures err { IfErr result (IsStop IsSomeTail BadTail (LacksMemory bytes.now) bytes.now) }
 {
     if bytes.is_empty() {
@@ -56,8 +57,12 @@ pub(crate) fn parse_tail(alloc: Global, bytes: &[u8]) -> Result<Command, Stop>
             let target = parse_delete(rest)?;
             Ok(Command::Delete(target))
         }
+        Head::Expand => {
+            let command = parse_expand(alloc, rest)?;
+            Ok(command)
+        }
         Head::Query => {
-            let query = parse_query(alloc, rest)?;
+            let query = read_query(alloc, rest)?;
             Ok(Command::Query(query))
         }
     }
@@ -149,4 +154,25 @@ fn parse_delete(bytes: &[u8]) -> Result<Target, Stop>
     let (target, rest) = read_element(bytes)?;
     read_end(skip_blanks(rest))?;
     Ok(target)
+}
+
+/// The edges of a type at a node, after `expand`.
+fn parse_expand(alloc: Global, bytes: &[u8]) -> Result<Command, Stop>
+    ensures ok { IfOk result (λ command. SpellsAfter command heads.Expand bytes.now) }
+    ensures bounds { IfOk result KeepsBounds }
+    ensures err { IfErr result (StopsAfter heads.Expand (Unit {0}) bytes.now) }
+{
+    let at_id = read_gap(bytes)?;
+    let (id, after_id) = read_number(at_id)?;
+    let at_direction = read_gap(after_id)?;
+    let (direction, after_direction) = read_direction(at_direction)?;
+    let at_name = read_gap(after_direction)?;
+    let (name, after_name) = read_name(at_name)?;
+    read_end(skip_blanks(after_name))?;
+    let label = copy_name(alloc, name)?;
+    Ok(Command::Expand {
+        id,
+        direction,
+        label,
+    })
 }

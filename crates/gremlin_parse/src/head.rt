@@ -16,10 +16,11 @@ pub(crate) enum Head {
     Set,
     Unset,
     Delete,
+    Expand,
     Query,
 }
 
-const HEADS: [(&[u8], Head); 13] = [
+const HEADS: [(&[u8], Head); 14] = [
     (b"begin", Head::Alone(Word::Begin)),
     (b"commit", Head::Alone(Word::Commit)),
     (b"rollback", Head::Alone(Word::Rollback)),
@@ -32,6 +33,7 @@ const HEADS: [(&[u8], Head); 13] = [
     (b"set", Head::Set),
     (b"unset", Head::Unset),
     (b"delete", Head::Delete),
+    (b"expand", Head::Expand),
     (b"g", Head::Query),
 ];
 

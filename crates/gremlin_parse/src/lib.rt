@@ -4,6 +4,7 @@
 
 mod bad_token;
 mod command;
+mod direction;
 mod head;
 mod keyword;
 mod line_fault;
@@ -11,7 +12,11 @@ mod number;
 mod pair;
 mod parts;
 mod query;
+mod quoted_name;
 mod reader;
+mod source;
+mod step;
+mod step_word;
 mod stop;
 mod target;
 mod text;

@@ -15,8 +15,8 @@ pub enum LineFault {
     /// The text whose opening quote is at `at` has more than 1,024 bytes.
     #[error("a text of more than 1,024 bytes at byte {at}")]
     TextLength { at: usize },
-    /// The number at `at` is above 4,294,967,294 where an identifier stands, and else outside of
-    /// -9,223,372,036,854,775,808 to 9,223,372,036,854,775,807.
+    /// The number at `at` is above 4,294,967,294 where an identifier stands, above 4,294,967,295
+    /// in `limit`, and else outside of -9,223,372,036,854,775,808 to 9,223,372,036,854,775,807.
     #[error("a number out of range at byte {at}")]
     NumberRange { at: usize },
 }

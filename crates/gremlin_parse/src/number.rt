@@ -3,6 +3,7 @@ ghost use Rattle.std.specs.Prelude.{IfOk, IfErr, IfSome, IfNone};
 ghost use Rattle.std.specs.List.{prefix_len};
 ghost use Rattle.plain_graph.specs.declared.value.Value.TheVariants as values;
 ghost use Rattle.gremlin_parse.specs.Numbers.{is_digit, value_after, CountsNumber};
+ghost use Rattle.gremlin_parse.specs.Grammar.{most_id, most_limit};
 ghost use Rattle.gremlin_parse.specs.Reading.{StartsNumber};
 ghost use Rattle.gremlin_parse.specs.Symbols.{AnyNumber, AnyValue, Takes, Reads, Leaves};
 ghost use Rattle.gremlin_parse.specs.Symbols.{is_integer_start, LeavesInteger, LeavesPositive};
@@ -12,6 +13,9 @@ use crate::stop::Stop;
 
 /// The greatest identifier.
 const MOST_ID: u64 = 4_294_967_294;
+
+/// The greatest number of results to which a query is cut.
+const MOST_LIMIT: u64 = 4_294_967_295;
 
 /// The greatest number of a value.
 const MOST_POSITIVE: u64 = 9_223_372_036_854_775_807;
@@ -25,14 +29,34 @@ const MOST_NEGATIVE: u64 = 9_223_372_036_854_775_808;
 /// A fault of syntax if no number begins here, and `WideNumber` if it is above the greatest
 /// identifier.
 pub(crate) fn read_number(bytes: &[u8]) -> Result<(u32, &[u8]), Stop>
-    ensures ok { IfOk result (λ r. Reads AnyNumber r.0 bytes.now r.1.now) }
-    ensures err { IfErr result (Leaves AnyNumber bytes.now) }
+    ensures ok { IfOk result (λ r. Reads (AnyNumber most_id) r.0 bytes.now r.1.now) }
+    ensures err { IfErr result (Leaves (AnyNumber most_id) bytes.now) }
+{
+    read_at_most(bytes, MOST_ID)
+}
+
+/// The greatest number of results at the head, and the bytes after it.
+///
+/// # Errors
+/// A fault of syntax if no number begins here, and `WideNumber` if 32 bits don't hold it.
+pub(crate) fn read_limit(bytes: &[u8]) -> Result<(u32, &[u8]), Stop>
+    ensures ok { IfOk result (λ r. Reads (AnyNumber most_limit) r.0 bytes.now r.1.now) }
+    ensures err { IfErr result (Leaves (AnyNumber most_limit) bytes.now) }
+{
+    read_at_most(bytes, MOST_LIMIT)
+}
+
+/// The number at the head, of at most so much, and the bytes after it.
+fn read_at_most(bytes: &[u8], most: u64) -> Result<(u32, &[u8]), Stop>
+    requires { most ≤ 4294967295 }
+    ensures ok { IfOk result (λ r. Reads (AnyNumber most) r.0 bytes.now r.1.now) }
+    ensures err { IfErr result (Leaves (AnyNumber most) bytes.now) }
 {
     let left = bytes.len();
     let Some((digits, rest)) = cut_number(bytes) else {
         return Err(Stop::Syntax { left });
     };
-    match value_of(digits, MOST_ID) {
+    match value_of(digits, most) {
         Some(number) => Ok((number as u32, rest)),
         None => Err(wide_number(left)),
     }
@@ -106,7 +130,7 @@ fn negated(size: u64) -> i64
 /// The digits of the number at the head and the bytes after them, if a number begins here.
 fn cut_number(bytes: &[u8]) -> Option<(&[u8], &[u8])>
     ensures some { IfSome result (λ cut.
-        Takes AnyNumber (value_after 0 cut.0.now) bytes.now cut.1.now) }
+        Takes (AnyNumber most_id) (value_after 0 cut.0.now) bytes.now cut.1.now) }
     ensures none { IfNone result (¬ StartsNumber bytes.now) }
 {
     let len = number_len(bytes);

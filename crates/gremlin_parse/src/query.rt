@@ -1,10 +1,12 @@
-ghost use Rattle.std.specs.Prelude.{IfOk, IfErr};
-ghost use Rattle.gremlin_parse.specs.Commands.{SpellsAfter, StopsAfter, call, ReadsCall};
-ghost use Rattle.gremlin_parse.specs.Symbols.{LeavesOne};
-ghost use Rattle.gremlin_parse.specs.declared.head.Head.TheVariants as heads;
-ghost use Rattle.plain_graph.specs.declared.command.Command.TheVariants as commands;
+ghost use Rattle.std.specs.Prelude.{◌≡◌, ◌++◌, ◌∷◌, [], List, ℕ, Bool, IfOk, IfErr, OnOk};
+ghost use Rattle.gremlin_parse.specs.Turns.{KeptFrom};
+ghost use Rattle.gremlin_parse.specs.Queries.{Steps, StopsFrom, query_from, query_of};
+ghost use Rattle.gremlin_parse.specs.Queries.{turn, is_loose};
+ghost use Rattle.gremlin_parse.specs.Queries.{IsKeptQuery, StopsInQuery};
 
-use crate::parts::{read_end, read_token, skip_blanks};
+use crate::parts::skip_blanks;
+use crate::source::{read_ids, read_source};
+use crate::step::read_step;
 use crate::stop::Stop;
 use plain_graph::{Query, Step, StepList};
 use std::alloc::Global;
@@ -12,36 +14,40 @@ use std::alloc::Global;
 /// The query after its `g`.
 ///
 /// # Errors
-/// A fault of syntax, or `Memory`.
-pub(crate) fn parse_query(alloc: Global, bytes: &[u8]) -> Result<Query, Stop>
-    ensures ok { IfOk result (λ query. SpellsAfter (commands.Query query) heads.Query bytes.now) }
-    ensures err { IfErr result (StopsAfter heads.Query (Unit {0}) bytes.now) }
+/// The leftmost fault, or `Memory`.
+pub(crate) fn read_query(alloc: Global, bytes: &[u8]) -> Result<Query, Stop>
+    ensures ok { IfOk result (λ query. IsKeptQuery query bytes.now) }
+    ensures err { IfErr result (StopsInQuery bytes.now) }
 {
-    let after_source = skip_blanks(bytes);
-    let after_vertices = read_call(after_source, b"V")?;
-    if after_vertices.is_empty() {
-        let steps = StepList::new(Vec::new(alloc));
-        return Ok(Query { steps });
-    }
-    let after_count = read_call(after_vertices, b"count")?;
-    read_end(after_count)?;
-    let steps = Vec::from_slice(alloc, &[Step::Count]).map_err(|_| Stop::Memory)?;
-    Ok(Query {
-        steps: StepList::new(steps),
-    })
+    let at_source = skip_blanks(bytes);
+    let (edges, at_ids) = read_source(at_source)?;
+    let (ids, at_steps) = read_ids(alloc, at_ids)?;
+    let steps = read_steps(alloc, at_steps)?;
+    Ok(Query { edges, ids, steps })
 }
 
-/// The bytes after `.name()`, with any blanks after each token.
-///
-/// # Errors
-/// A fault of syntax where the bytes differ from that.
-fn read_call<'a>(bytes: &'a [u8], name: &[u8]) -> Result<&'a [u8], Stop>
-    ensures ok { IfOk result (λ rest. ReadsCall name.now bytes.now rest.now) }
-    ensures err { IfErr result (LeavesOne (call name.now) bytes.now) }
+/// The steps to the line's end.
+fn read_steps(alloc: Global, bytes: &[u8]) -> Result<StepList, Stop>
+    ensures ok { IfOk result (λ list. (edges : Bool) (ids : List ℕ) →
+        KeptFrom turn is_loose (Steps (query_of edges ids list)) (Steps (query_from edges ids))
+        bytes.now) }
+    ensures err { IfErr result (λ stop. (edges : Bool) (ids : List ℕ) →
+        StopsFrom (Steps (query_from edges ids)) bytes.now stop) }
 {
-    let after_dot = read_token(bytes, b".")?;
-    let after_name = read_token(after_dot, name)?;
-    let after_open = read_token(after_name, b"(")?;
-    let rest = read_token(after_open, b")")?;
-    Ok(rest)
+    let mut steps = Vec::new(alloc);
+    let mut rest = bytes;
+    while !rest.is_empty() {
+        let (step, after) = read_step(alloc, rest)?;
+        push_step(&mut steps, step)?;
+        rest = after;
+    }
+    Ok(StepList::new(steps))
+}
+
+/// Adds the step after the others.
+fn push_step(steps: &mut Vec<Step>, step: Step) -> Result<(), Stop>
+    ensures ok { OnOk result (steps.new.items ≡ steps.old.items ++ step ∷ []) }
+    ensures err { IfErr result (λ stop. stop ≡ Stop.Memory) }
+{
+    steps.push(step).map_err(|_| Stop::Memory)
 }

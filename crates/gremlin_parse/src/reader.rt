@@ -1,8 +1,8 @@
 ghost use Rattle.std.specs.Prelude.{◌≡◌, ◌≢◌, ◌≤◌, length, IfOk, IfErr};
 ghost use Rattle.plain_graph.specs.declared.command.Command.{Command};
 ghost use Rattle.plain_graph.specs.Forms.{HasForm};
-ghost use Rattle.gremlin_parse.specs.Grammar.{Spells, NeedsNoMemory};
-ghost use Rattle.gremlin_parse.specs.Faults.{HasFault, IsLeftmostFault};
+ghost use Rattle.gremlin_parse.specs.Grammar.{NeedsNoMemory};
+ghost use Rattle.gremlin_parse.specs.Lines.{Spells, HasFault, IsLeftmostFault};
 ghost use Rattle.gremlin_parse.specs.Stopping.{left_of, fault_of};
 ghost use Rattle.gremlin_parse.specs.declared.line_fault.LineFault.{LineFault};
 
@@ -22,7 +22,8 @@ pub fn parse_line(alloc: Global, line: &[u8]) -> Result<Command, LineFault>
     ensures only { IfOk result (λ command.
         (other : Command) → Spells line.now other → other ≡ command) }
     ensures no_fault { IfOk result (λ command. (fault : LineFault) → ¬ HasFault line.now fault) }
-    // Its labels and keys are names of at most 48 bytes, and its values are ones that a store keeps.
+    // Its labels and keys are names of at most 48 bytes, and its values are ones that a store
+    // keeps.
     ensures form { IfOk result HasForm }
 
     // The line spells no command, and this is its leftmost fault.

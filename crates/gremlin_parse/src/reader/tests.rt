@@ -1,6 +1,5 @@
 use super::*;
-use plain_graph::{Pairs, Step, Target, Value};
-use std::alloc::AllocError;
+use plain_graph::{Direction, Pairs, Query, Step, Target, Value};
 use std::process::Abort;
 use std::test::Fail;
 
@@ -34,7 +33,9 @@ enum Wanted<'a> {
     Unset(Target, &'a [u8]),
     Delete(u32),
     DeleteEdge(u32),
-    Query(&'a [Step]),
+    Expand(u32, Direction, &'a [u8]),
+    /// Of all vertices, with so many counts.
+    Query(usize),
     Syntax(usize),
     NameLength(usize),
     TextLength(usize),
@@ -64,6 +65,14 @@ fn are_pairs(given: &Pairs, wanted: &[KeptPair]) -> bool {
         }
     }
     true
+}
+
+fn counts_vertices(query: &Query, counts: usize) -> bool {
+    let steps = query.steps.as_slice();
+    !query.edges
+        && query.ids.as_slice().is_empty()
+        && steps.len() == counts
+        && steps.iter().all(|step| matches!(step, Step::Count))
 }
 
 fn is_wanted(given: &Result<Command, LineFault>, wanted: Wanted) -> bool {
@@ -119,7 +128,17 @@ fn is_wanted(given: &Result<Command, LineFault>, wanted: Wanted) -> bool {
         }
         (Ok(Command::Delete(Target::Node(id))), Wanted::Delete(number))
         | (Ok(Command::Delete(Target::Edge(id))), Wanted::DeleteEdge(number)) => *id == number,
-        (Ok(Command::Query(query)), Wanted::Query(steps)) => query.steps.as_slice() == steps,
+        (
+            Ok(
+                Command::Expand {
+                    id,
+                    direction,
+                    label,
+                },
+            ),
+            Wanted::Expand(number, way, bytes),
+        ) => *id == number && *direction == way && label.as_bytes() == bytes,
+        (Ok(Command::Query(query)), Wanted::Query(counts)) => counts_vertices(query, counts),
         (Err(LineFault::Syntax { at }), Wanted::Syntax(place)) => *at == place,
         (Err(LineFault::NameLength { at }), Wanted::NameLength(place)) => *at == place,
         (Err(LineFault::TextLength { at }), Wanted::TextLength(place)) => *at == place,
@@ -136,7 +155,7 @@ fn all_wanted(rt: &impl Abort, alloc: Global, rows: &[(&[u8], Wanted)]) {
     }
 }
 
-const LINE_ROWS: [(&[u8], Wanted); 60] = [
+const LINE_ROWS: [(&[u8], Wanted); 59] = [
     (b"", Wanted::Blank),
     (b" \t  ", Wanted::Blank),
     (b"quit", Wanted::Quit),
@@ -187,21 +206,17 @@ const LINE_ROWS: [(&[u8], Wanted); 60] = [
     (b"node a.b", Wanted::Syntax(6)),
     (b"node a\x00", Wanted::Syntax(6)),
     (b"Node a", Wanted::Syntax(0)),
-    (b"g.V()", Wanted::Query(&[])),
-    (b"g . V ( )", Wanted::Query(&[])),
-    (b"g.V().count()", Wanted::Query(&[Step::Count])),
-    (b" g.V( ) . count ( ) ", Wanted::Query(&[Step::Count])),
-    (
-        b"\tg\t.\tV\t(\t)\t.\tcount\t(\t)\t",
-        Wanted::Query(&[Step::Count]),
-    ),
+    (b"g.V()", Wanted::Query(0)),
+    (b"g . V ( )", Wanted::Query(0)),
+    (b"g.V().count()", Wanted::Query(1)),
+    (b" g.V( ) . count ( ) ", Wanted::Query(1)),
+    (b"\tg\t.\tV\t(\t)\t.\tcount\t(\t)\t", Wanted::Query(1)),
     (b"g", Wanted::Syntax(1)),
     (b"gx", Wanted::Syntax(1)),
     (b"g x", Wanted::Syntax(2)),
     (b"g V()", Wanted::Syntax(2)),
     (b"g.V", Wanted::Syntax(3)),
     (b"g.V(", Wanted::Syntax(4)),
-    (b"g.E()", Wanted::Syntax(2)),
     (b"g.v()", Wanted::Syntax(2)),
     (b"g.V()x", Wanted::Syntax(5)),
     (b"g.V() x", Wanted::Syntax(6)),
@@ -209,7 +224,7 @@ const LINE_ROWS: [(&[u8], Wanted); 60] = [
     (b"g.V().foo()", Wanted::Syntax(6)),
     (b"g.V().count", Wanted::Syntax(11)),
     (b"g.V().count()x", Wanted::Syntax(13)),
-    (b"g.V().count().count()", Wanted::Syntax(13)),
+    (b"g.V().count().count()", Wanted::Query(2)),
     (b"g . V ( ) . co unt()", Wanted::Syntax(14)),
     (b"g . V ( ) . count ( ", Wanted::Syntax(20)),
     (b"node begin", Wanted::Node(b"begin")),
@@ -493,175 +508,6 @@ fn pairs(rt: HostRuntime) {
     all_wanted(&rt, rt.alloc(), &PAIR_ROWS);
 }
 
-/// The value of a set key.
-const VALUE_ROWS: [(&[u8], Kept); 35] = [
-    (b"0", Kept::Int(0)),
-    (b"-0", Kept::Int(0)),
-    (b"7", Kept::Int(7)),
-    (b"-7", Kept::Int(-7)),
-    (b"10\t", Kept::Int(10)),
-    (b"4294967296", Kept::Int(4_294_967_296)),
-    (b"9223372036854775807", Kept::Int(9_223_372_036_854_775_807)),
-    (
-        b"-9223372036854775808",
-        Kept::Int(-9_223_372_036_854_775_808),
-    ),
-    (
-        b"-9223372036854775807",
-        Kept::Int(-9_223_372_036_854_775_807),
-    ),
-    (b"true", Kept::Bool(true)),
-    (b"false ", Kept::Bool(false)),
-    (b"''", Kept::Text(b"")),
-    (b"\"\"", Kept::Text(b"")),
-    (b"'a'", Kept::Text(b"a")),
-    (b"\"a\" \t", Kept::Text(b"a")),
-    (b"'\"'", Kept::Text(b"\"")),
-    (b"\"'\"", Kept::Text(b"'")),
-    (b"'\\''", Kept::Text(b"'")),
-    (b"'\\\"'", Kept::Text(b"\"")),
-    (b"\"\\'\"", Kept::Text(b"'")),
-    (b"\"\\\"\"", Kept::Text(b"\"")),
-    (b"'\\\\'", Kept::Text(b"\\")),
-    (b"'\\\\\\''", Kept::Text(b"\\'")),
-    (b"'\\n\\r\\t'", Kept::Text(b"\n\r\t")),
-    (b"\"\\n\\r\\t\"", Kept::Text(b"\n\r\t")),
-    (b"'nrt'", Kept::Text(b"nrt")),
-    (b"'\\nn'", Kept::Text(b"\nn")),
-    (b"'a b=c d'", Kept::Text(b"a b=c d")),
-    (b"' '", Kept::Text(b" ")),
-    (b"'true'", Kept::Text(b"true")),
-    (b"'1'", Kept::Text(b"1")),
-    (b"'\x00\xff\x01'", Kept::Text(b"\x00\xff\x01")),
-    (b"'\xc3\xa4'", Kept::Text(b"\xc3\xa4")),
-    (b"'--'", Kept::Text(b"--")),
-    (b"'\\t\t'", Kept::Text(b"\t\t")),
-];
-
-#[test]
-fn values(rt: HostRuntime) -> Result<(), Fail> {
-    let alloc = rt.alloc();
-    for (bytes, kept) in VALUE_ROWS {
-        let mut line = Vec::from_slice(alloc, b"set node 3 k ")?;
-        line.extend_from_slice(bytes)?;
-        let given = parse_line(alloc, &line);
-        let wanted = Wanted::Set(Target::Node(3), b"k", kept);
-        assert!(rt; is_wanted(&given, wanted), "{line:?}");
-    }
-    Ok(())
-}
-
-/// The fault of bytes where a value is wanted, counted from the value's place.
-const VALUE_FAULT_ROWS: [(&[u8], Wanted); 45] = [
-    (b"", Wanted::Syntax(0)),
-    (b" ", Wanted::Syntax(1)),
-    (b"x", Wanted::Syntax(0)),
-    (b"!", Wanted::Syntax(0)),
-    (b"=1", Wanted::Syntax(0)),
-    (b"t", Wanted::Syntax(1)),
-    (b"tru", Wanted::Syntax(3)),
-    (b"truex", Wanted::Syntax(4)),
-    (b"true1", Wanted::Syntax(4)),
-    (b"true'", Wanted::Syntax(4)),
-    (b"fals", Wanted::Syntax(4)),
-    (b"falsee", Wanted::Syntax(5)),
-    (b"True", Wanted::Syntax(0)),
-    (b"tfalse", Wanted::Syntax(1)),
-    (b"012", Wanted::Syntax(1)),
-    (b"-012", Wanted::Syntax(2)),
-    (b"00", Wanted::Syntax(1)),
-    (b"-", Wanted::Syntax(1)),
-    (b"--1", Wanted::Syntax(1)),
-    (b"- 1", Wanted::Syntax(1)),
-    (b"-x", Wanted::Syntax(1)),
-    (b"+1", Wanted::Syntax(0)),
-    (b"1.5", Wanted::Syntax(1)),
-    (b"1e3", Wanted::Syntax(1)),
-    (b"1x", Wanted::Syntax(1)),
-    (b"1 2", Wanted::Syntax(2)),
-    (b"1'", Wanted::Syntax(1)),
-    (b"9223372036854775808", Wanted::NumberRange(0)),
-    (b"-9223372036854775809", Wanted::NumberRange(0)),
-    (b"18446744073709551616", Wanted::NumberRange(0)),
-    (b"-99999999999999999999", Wanted::NumberRange(0)),
-    (b"99999999999999999999x", Wanted::NumberRange(0)),
-    (b"9223372036854775808 !", Wanted::NumberRange(0)),
-    (b"'", Wanted::Syntax(1)),
-    (b"'a", Wanted::Syntax(2)),
-    (b"'a\"", Wanted::Syntax(3)),
-    (b"\"a'", Wanted::Syntax(3)),
-    (b"'a\\", Wanted::Syntax(3)),
-    (b"'a\\'", Wanted::Syntax(4)),
-    (b"'a\\x'", Wanted::Syntax(3)),
-    (b"'\\N'", Wanted::Syntax(2)),
-    (b"'\\0'", Wanted::Syntax(2)),
-    (b"'a'b", Wanted::Syntax(3)),
-    (b"''''", Wanted::Syntax(2)),
-    (b"'a' 'b'", Wanted::Syntax(4)),
-];
-
-#[test]
-fn faults_of_values(rt: HostRuntime) -> Result<(), Fail> {
-    let alloc = rt.alloc();
-    for (bytes, wanted) in VALUE_FAULT_ROWS {
-        let mut line = Vec::from_slice(alloc, b"set edge 7 some_key ")?;
-        line.extend_from_slice(bytes)?;
-        let given = parse_line(alloc, &line);
-        let wanted = match wanted {
-            Wanted::Syntax(at) => Wanted::Syntax(at.saturating_add(20)),
-            Wanted::NumberRange(at) => Wanted::NumberRange(at.saturating_add(20)),
-            other => other,
-        };
-        assert!(rt; is_wanted(&given, wanted), "{line:?}");
-    }
-    Ok(())
-}
-
-/// `set node 0 t`, a blank and a text of so many pieces.
-fn text_line(alloc: Global, count: usize, piece: &[u8]) -> Result<Vec<u8>, AllocError> {
-    let mut line = Vec::from_slice(alloc, b"set node 0 t '")?;
-    for _ in 0..count {
-        line.extend_from_slice(piece)?;
-    }
-    line.push(b'\'')?;
-    Ok(line)
-}
-
-/// A text may have 1,024 bytes, an escape counted as one.
-#[test]
-fn long_texts(rt: HostRuntime) -> Result<(), Fail> {
-    let alloc = rt.alloc();
-    let pieces: [(&[u8], u8); 3] = [(b"a", b'a'), (b"\\n", b'\n'), (b"\\'", b'\'')];
-    for (piece, byte) in pieces {
-        for count in [0, 1, 2, 1_023, 1_024] {
-            let line = text_line(alloc, count, piece)?;
-            let text = vec![in alloc; byte; count]?;
-            let given = parse_line(alloc, &line);
-            let wanted = Wanted::Set(Target::Node(0), b"t", Kept::Text(&text));
-            assert!(rt; is_wanted(&given, wanted), "{piece:?} {count}");
-        }
-        for count in [1_025, 1_026, 4_000] {
-            let mut line = text_line(alloc, count, piece)?;
-            let given = parse_line(alloc, &line);
-            assert!(rt;
-                is_wanted(&given, Wanted::TextLength(13)),
-                "{piece:?} {count}"
-            );
-            line.extend_from_slice(b"x")?;
-            let given = parse_line(alloc, &line);
-            assert!(rt;
-                is_wanted(&given, Wanted::TextLength(13)),
-                "{piece:?} {count}"
-            );
-            line.truncate(line.len().saturating_sub(2));
-            let given = parse_line(alloc, &line);
-            let end = line.len();
-            assert!(rt; is_wanted(&given, Wanted::Syntax(end)), "{piece:?} {count}");
-        }
-    }
-    Ok(())
-}
-
 const SET_ROWS: [(&[u8], Wanted); 42] = [
     (
         b"set node 0 k 1",
@@ -737,8 +583,70 @@ fn set_and_unset(rt: HostRuntime) {
     all_wanted(&rt, rt.alloc(), &SET_ROWS);
 }
 
+const EXPAND_ROWS: [(&[u8], Wanted); 36] = [
+    (
+        b"expand 0 out knows",
+        Wanted::Expand(0, Direction::Outgoing, b"knows"),
+    ),
+    (
+        b" expand\t12  in \t_Z9a\t",
+        Wanted::Expand(12, Direction::Incoming, b"_Z9a"),
+    ),
+    (
+        b"expand 4294967294 both both",
+        Wanted::Expand(4_294_967_294, Direction::Both, b"both"),
+    ),
+    (
+        b"expand 0 in abcdefghijklmnopqrstuvwxyz_0123456789ABCDEFGHIJK",
+        Wanted::Expand(0, Direction::Incoming, LONGEST),
+    ),
+    (b"e", Wanted::Syntax(1)),
+    (b"ex", Wanted::Syntax(2)),
+    (b"expnd 0 out T", Wanted::Syntax(3)),
+    (b"expand", Wanted::Syntax(6)),
+    (b"expand ", Wanted::Syntax(7)),
+    (b"expands 0 out T", Wanted::Syntax(6)),
+    (b"Expand 0 out T", Wanted::Syntax(0)),
+    (b"expand0 out T", Wanted::Syntax(6)),
+    (b"expand node 0 out T", Wanted::Syntax(7)),
+    (b"expand -1 out T", Wanted::Syntax(7)),
+    (b"expand 00 out T", Wanted::Syntax(8)),
+    (b"expand 0out T", Wanted::Syntax(8)),
+    (b"expand 0", Wanted::Syntax(8)),
+    (b"expand 0 ", Wanted::Syntax(9)),
+    (b"expand 0 T", Wanted::Syntax(9)),
+    (b"expand 0 o", Wanted::Syntax(10)),
+    (b"expand 0 on T", Wanted::Syntax(10)),
+    (b"expand 0 bot T", Wanted::Syntax(12)),
+    (b"expand 0 inn T", Wanted::Syntax(11)),
+    (b"expand 0 outE T", Wanted::Syntax(12)),
+    (b"expand 0 out", Wanted::Syntax(12)),
+    (b"expand 0 out ", Wanted::Syntax(13)),
+    (b"expand 0 out 1", Wanted::Syntax(13)),
+    (b"expand 0 out 'T'", Wanted::Syntax(13)),
+    (b"expand 0 out T in", Wanted::Syntax(15)),
+    (b"expand 0 out T k=1", Wanted::Syntax(15)),
+    (b"expand 0 out T!", Wanted::Syntax(14)),
+    (b"expand 4294967295", Wanted::NumberRange(7)),
+    (b"expand 4294967295 out T", Wanted::NumberRange(7)),
+    (b" expand 99999999999999999999x", Wanted::NumberRange(8)),
+    (
+        b"expand 0 out abcdefghijklmnopqrstuvwxyz_0123456789ABCDEFGHIJKL",
+        Wanted::NameLength(13),
+    ),
+    (
+        b"expand 4294967295 out abcdefghijklmnopqrstuvwxyz_0123456789ABCDEFGHIJKL",
+        Wanted::NumberRange(7),
+    ),
+];
+
+#[test]
+fn expansions(rt: HostRuntime) {
+    all_wanted(&rt, rt.alloc(), &EXPAND_ROWS);
+}
+
 /// Lines of the grammar, without a text.
-const LINES: [&[u8]; 19] = [
+const LINES: [&[u8]; 26] = [
     b"rollback",
     b" commit ",
     b"\tcheckpoint",
@@ -758,6 +666,13 @@ const LINES: [&[u8]; 19] = [
     b"\tset\tedge  4294967294 k\ttrue ",
     b"unset edge 0 k",
     b" unset  node 70\tkey ",
+    b"\texpand 7  both\tlikes ",
+    b"g.E(3,0 , 4294967294)",
+    b" g\t.\tE ( ) . outV( ) . inV ( )\t. dedup () . id()",
+    b"g.V(7).out('knows' , \"likes\").in().bothE( 'a' ).label()",
+    b"g.V().hasLabel('person', 'x').values ( )",
+    b"g . V() . has ( 'name' ) . values('name',\"age\") ",
+    b"g.V().has('age', -20 ).has(\"k\",true).both()",
 ];
 
 /// Lines of the grammar with texts.
@@ -800,3 +715,6 @@ fn changed_bytes(rt: HostRuntime) -> Result<(), Fail> {
     }
     Ok(())
 }
+
+mod queries;
+mod values;

@@ -25,4 +25,4 @@ returns-clause-ok c =
 pub returns-clause-bounds : goal.returns-clause-bounds
 returns-clause-bounds c =
     let rest = c.skip_blanks.result.now in
-    subst KeepsBounds (sym c.plain_command.ensures) (read_keeps (heads.Alone c.args.word) (tt, tt) tt c.args.bytes.now rest (rest, c.skip_blanks.ensures, refl) tt)
+    subst KeepsBounds (sym c.plain_command.ensures) (read_keeps (heads.Alone c.args.word) tt (tt, tt) tt c.args.bytes.now rest (rest, c.skip_blanks.ensures, refl) tt)

@@ -42,5 +42,5 @@ returns-clause-bounds c =
     let contents = element_contents c.in_ok-target.target in
     let rest = c.skip_blanks.result.now in
     let reads = reads_after element_symbols to_end contents (tt, tt) bytes c.in_ok-target.rest.now rest c.in_ok-target.ensures.ok (rest, c.skip_blanks.ensures, refl) in
-    let keeps = read_keeps heads.Delete (joined element_symbols to_end contents (tt, tt)) tt bytes rest reads tt in
+    let keeps = read_keeps heads.Delete tt (joined element_symbols to_end contents (tt, tt)) tt bytes rest reads tt in
     subst (λ (t : Target). KeepsBounds (commands.Delete t)) (element_is c.in_ok-target.target) keeps

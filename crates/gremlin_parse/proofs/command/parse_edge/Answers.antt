@@ -60,5 +60,5 @@ pub returns-clause-bounds : goal.returns-clause-bounds
 returns-clause-bounds c =
     let name = c.in_ok-name.name.now in
     let rest = c.in_ok-to.after_to.now in
-    let keeps = read_keeps heads.Edge (tt, (c.in_ok-from.from, (tt, (name, (tt, (c.in_ok-to.to, tt)))))) c.in_ok-pairs.pairs c.args.bytes.now rest (c.in_ok-at_from.at_from.now, c.in_ok-at_from.ensures.ok, (c.in_ok-from.after_from.now, c.in_ok-from.ensures.ok, (c.in_ok-at_name.at_name.now, c.in_ok-at_name.ensures.ok, (c.in_ok-name.after_name.now, c.in_ok-name.ensures.ok, (c.in_ok-at_to.at_to.now, c.in_ok-at_to.ensures.ok, (rest, c.in_ok-to.ensures.ok, refl)))))) c.in_ok-pairs.ensures.bounds in
+    let keeps = read_keeps heads.Edge tt (tt, (c.in_ok-from.from, (tt, (name, (tt, (c.in_ok-to.to, tt)))))) c.in_ok-pairs.pairs c.args.bytes.now rest (c.in_ok-at_from.at_from.now, c.in_ok-at_from.ensures.ok, (c.in_ok-from.after_from.now, c.in_ok-from.ensures.ok, (c.in_ok-at_name.at_name.now, c.in_ok-at_name.ensures.ok, (c.in_ok-name.after_name.now, c.in_ok-name.ensures.ok, (c.in_ok-at_to.at_to.now, c.in_ok-at_to.ensures.ok, (rest, c.in_ok-to.ensures.ok, refl)))))) c.in_ok-pairs.ensures.bounds in
     subst (λ (text : List ℕ). KeepsBounds (commands.Edge c.in_ok-from.from text c.in_ok-to.to c.in_ok-pairs.pairs)) (sym c.in_ok-label.ensures.ok) keeps

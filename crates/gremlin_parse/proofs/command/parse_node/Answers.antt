@@ -40,5 +40,5 @@ pub returns-clause-bounds : goal.returns-clause-bounds
 returns-clause-bounds c =
     let name = c.in_ok-name.name.now in
     let rest = c.in_ok-name.after_name.now in
-    let keeps = read_keeps heads.Node (tt, (name, tt)) c.in_ok-pairs.pairs c.args.bytes.now rest (c.in_ok-at_name.at_name.now, c.in_ok-at_name.ensures.ok, (rest, c.in_ok-name.ensures.ok, refl)) c.in_ok-pairs.ensures.bounds in
+    let keeps = read_keeps heads.Node tt (tt, (name, tt)) c.in_ok-pairs.pairs c.args.bytes.now rest (c.in_ok-at_name.at_name.now, c.in_ok-at_name.ensures.ok, (rest, c.in_ok-name.ensures.ok, refl)) c.in_ok-pairs.ensures.bounds in
     subst (λ (text : List ℕ). KeepsBounds (commands.Node text c.in_ok-pairs.pairs)) (sym c.in_ok-label.ensures.ok) keeps

@@ -91,7 +91,7 @@ returns-clause-bounds c =
     let name = c.in_ok-name.name.now in
     let rest = c.skip_blanks.result.now in
     let reads = reads_after element_symbols key_value (element_contents target) (tt, (c.in_ok-name.name.now, (tt, (value_of c.in_ok-written.written, (tt, tt))))) bytes c.in_ok-target.after_target.now rest c.in_ok-target.ensures.ok (c.in_ok-at_name.at_name.now, c.in_ok-at_name.ensures.ok, (c.in_ok-name.after_name.now, c.in_ok-name.ensures.ok, (c.in_ok-at_value.at_value.now, c.in_ok-at_value.ensures.ok, (c.in_ok-written.after_value.now, c.in_ok-written.ensures.ok, (rest, c.skip_blanks.ensures, refl))))) in
-    let keeps = read_keeps heads.Set (joined element_symbols key_value (element_contents target) (tt, (c.in_ok-name.name.now, (tt, (value_of c.in_ok-written.written, (tt, tt)))))) tt bytes rest reads tt in
+    let keeps = read_keeps heads.Set tt (joined element_symbols key_value (element_contents target) (tt, (c.in_ok-name.name.now, (tt, (value_of c.in_ok-written.written, (tt, tt)))))) tt bytes rest reads tt in
     let of_target = subst (λ (t : Target). KeepsBounds (commands.Set t name (value_of c.in_ok-written.written))) (element_is target) keeps in
     let of_key = subst (λ (text : List ℕ). KeepsBounds (commands.Set target text (value_of c.in_ok-written.written))) (sym c.in_ok-key.ensures.ok) of_target in
     subst (λ (v : Value). KeepsBounds (commands.Set target c.in_ok-key.key v)) (sym c.in_ok-value.ensures.ok) of_key

@@ -69,6 +69,6 @@ returns-clause-bounds c =
     let name = c.in_ok-name.name.now in
     let rest = c.skip_blanks.result.now in
     let reads = reads_after element_symbols key (element_contents target) (tt, (name, (tt, tt))) bytes c.in_ok-target.after_target.now rest c.in_ok-target.ensures.ok (c.in_ok-at_name.at_name.now, c.in_ok-at_name.ensures.ok, (c.in_ok-name.after_name.now, c.in_ok-name.ensures.ok, (rest, c.skip_blanks.ensures, refl))) in
-    let keeps = read_keeps heads.Unset (joined element_symbols key (element_contents target) (tt, (name, (tt, tt)))) tt bytes rest reads tt in
+    let keeps = read_keeps heads.Unset tt (joined element_symbols key (element_contents target) (tt, (name, (tt, tt)))) tt bytes rest reads tt in
     let of_target = subst (λ (t : Target). KeepsBounds (commands.Unset t name)) (element_is target) keeps in
     subst (λ (text : List ℕ). KeepsBounds (commands.Unset target text)) (sym c.in_ok-key.ensures.ok) of_target

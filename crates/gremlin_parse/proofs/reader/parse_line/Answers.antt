@@ -1,13 +1,13 @@
 use Rattle.std.proofs.Common.{◌≡◌, sym, ◌∙◌}
 use Rattle.gremlin_parse.specs.Commands.{LacksMemory}
 use Rattle.gremlin_parse.specs.declared.line_fault.LineFault.TheVariants as faults
-use Rattle.gremlin_parse.proofs.Lines.{spelled_after, stop_of_line}
+use Rattle.gremlin_parse.proofs.Lines.{spells_of_tail, stop_of_line}
 use Rattle.gremlin_parse.proofs.Leftmost.{fault_is_leftmost, stop_within, no_fault_of, only_command, no_command_at, no_such_command}
 use Rattle.gremlin_parse.proofs.Forms.{spelled_form}
 use Rattle.gremlin_parse.proofs.reader.parse_line.Goals as goal
 
 pub returns-in-Ok-clause-spelled : goal.returns-in-Ok-clause-spelled
-returns-in-Ok-clause-spelled c = (spelled_after c.in-Ok.command c.args.line.now c.skip_blanks-bytes.result.now c.skip_blanks-bytes.ensures.takes c.in-Ok.ensures.ok, c.in-Ok.ensures.bounds)
+returns-in-Ok-clause-spelled c = (spells_of_tail c.args.line.now c.skip_blanks-bytes.result.now c.in-Ok.command c.skip_blanks-bytes.ensures.takes c.in-Ok.ensures.ok c.in-Ok.ensures.bounds)
 
 pub returns-in-Ok-clause-only : goal.returns-in-Ok-clause-only
 returns-in-Ok-clause-only c = only_command c.args.line.now c.skip_blanks-bytes.result.now c.in-Ok.command c.skip_blanks-bytes.ensures.takes c.in-Ok.ensures.ok
@@ -16,7 +16,7 @@ pub returns-in-Ok-clause-no_fault : goal.returns-in-Ok-clause-no_fault
 returns-in-Ok-clause-no_fault c = no_fault_of c.args.line.now c.skip_blanks-bytes.result.now c.in-Ok.command c.skip_blanks-bytes.ensures.takes c.in-Ok.ensures.ok c.in-Ok.ensures.bounds
 
 pub returns-in-Ok-clause-form : goal.returns-in-Ok-clause-form
-returns-in-Ok-clause-form c = spelled_form c.args.line.now c.in-Ok.command (spelled_after c.in-Ok.command c.args.line.now c.skip_blanks-bytes.result.now c.skip_blanks-bytes.ensures.takes c.in-Ok.ensures.ok, c.in-Ok.ensures.bounds)
+returns-in-Ok-clause-form c = spelled_form c.args.line.now c.in-Ok.command (spells_of_tail c.args.line.now c.skip_blanks-bytes.result.now c.in-Ok.command c.skip_blanks-bytes.ensures.takes c.in-Ok.ensures.ok c.in-Ok.ensures.bounds)
 
 pub fault_of-requires : goal.fault_of-requires
 fault_of-requires c =

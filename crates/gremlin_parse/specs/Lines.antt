@@ -1,0 +1,60 @@
+-- Which lines spell which commands, and the faults of a line that spells none.
+use Rattle.std.specs.Prelude.{◌≡◌, ◌⊎◌, ℕ, ◌+◌, ◌≤◌, List, length, codes}
+use Rattle.plain_graph.specs.declared.command.Command.{Command}
+use Rattle.plain_graph.specs.declared.command.Command.TheVariants as commands
+use Rattle.gremlin_parse.specs.Grammar.{Blanks, Exactly, IsMadeOf, parts_of, KeepsBounds}
+use Rattle.gremlin_parse.specs.Faults.{StopsAt, HasBadToken}
+use Rattle.gremlin_parse.specs.Reading.{Then}
+use Rattle.gremlin_parse.specs.Queries.{QueryTo, IsKeptQuery, BadQuery}
+use Rattle.gremlin_parse.specs.declared.bad_token.BadToken.{BadToken}
+use Rattle.gremlin_parse.specs.declared.bad_token.BadToken.TheVariants.{LongName, LongText}
+use Rattle.gremlin_parse.specs.declared.bad_token.BadToken.TheVariants.{WideNumber}
+use Rattle.gremlin_parse.specs.declared.line_fault.LineFault.{LineFault}
+use Rattle.gremlin_parse.specs.declared.line_fault.LineFault.TheVariants.{Memory, Syntax}
+use Rattle.gremlin_parse.specs.declared.line_fault.LineFault.TheVariants.{NameLength, TextLength}
+use Rattle.gremlin_parse.specs.declared.line_fault.LineFault.TheVariants.{NumberRange}
+
+-- g, any blanks before it, and bytes of the language after it
+abbrev pub AfterG : (List ℕ → Type 0) → List ℕ → Type 0
+AfterG Language line = Then Blanks (Then (Exactly (codes "g")) Language) line
+
+-- the line spells the command but for the bounds
+abbrev pub SpellsLoosely : List ℕ → Command → Type 0
+SpellsLoosely line (commands.Query query) = AfterG (QueryTo query) line
+SpellsLoosely line command = IsMadeOf (parts_of command) line
+
+-- the line spells the command
+abbrev pub Spells : List ℕ → Command → Type 0
+Spells line (commands.Query query) = AfterG (IsKeptQuery query) line
+Spells line command = IsMadeOf (parts_of command) line × KeepsBounds command
+
+-- a line of the loose grammar
+abbrev pub IsLine : List ℕ → Type 0
+IsLine line = (command : Command) × SpellsLoosely line command
+
+-- A token out of its bounds stands whole in the line at this place, where the grammar has it.
+abbrev pub HasBad : BadToken → List ℕ → ℕ → Type 0
+HasBad kind line at =
+    HasBadToken kind line at
+    ⊎ ((left : ℕ) × (at + left ≡ length line) × AfterG (BadQuery kind left) line)
+
+-- The line has the fault at its place.
+abbrev pub HasFault : List ℕ → LineFault → Type 0
+HasFault line (Syntax at) = (¬ IsLine line) × StopsAt IsLine line at
+HasFault line (NameLength at) = HasBad LongName line at
+HasFault line (TextLength at) = HasBad LongText line at
+HasFault line (NumberRange at) = HasBad WideNumber line at
+HasFault line Memory = ⊥
+
+-- the place of a fault
+abbrev pub place_of : LineFault → ℕ
+place_of (Syntax at) = at
+place_of (NameLength at) = at
+place_of (TextLength at) = at
+place_of (NumberRange at) = at
+place_of Memory = 0
+
+-- the leftmost of the faults that the line has
+pub record IsLeftmostFault (line : List ℕ) (fault : LineFault) : Type 0 where
+  pub has : HasFault line fault
+  pub leftmost : (other : LineFault) → HasFault line other → place_of fault ≤ place_of other
