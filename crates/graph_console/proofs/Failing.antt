@@ -39,9 +39,11 @@ module _ (old new : State) (live : old.standing ≡ Live) where
   carried_live (commands.Set target key value) reply done = changed_live (commands.Set target key value) reply done
   carried_live (commands.Unset target key) reply done = changed_live (commands.Unset target key) reply done
   carried_live (commands.Delete target) reply done = changed_live (commands.Delete target) reply done
-  carried_live (commands.Query query) reply done = stays_live done.1
+  carried_live (commands.Expand id direction label) reply done = stays_live done.1
+  carried_live (commands.Query query) reply done = stays_live done.2
 
   stopped_live : (x : Exchange) (results : List Item) (fault : Fault) → Stops old x.line x.disk_failed results fault new → (told_in fault ≡ 1) ⊎ (new.standing ≡ Live)
+  stopped_live x results replies.PastCount stops = inr (stays_live stops.5)
   stopped_live x results replies.NoMemory stops = inr (stays_live stops.1)
   stopped_live x results replies.DiskFailed stops = inl refl
   stopped_live x results (replies.DamagedRecord file id) never = absurd never

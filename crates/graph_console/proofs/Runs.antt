@@ -49,6 +49,7 @@ told_once (replies.NodeMade id) = inl refl
 told_once (replies.EdgeMade id) = inl refl
 told_once (replies.Results results) = inl refl
 told_once (replies.Counted counts) = inl refl
+told_once (replies.Faulted results replies.PastCount) = inl refl
 told_once (replies.Faulted results replies.NoMemory) = inl refl
 told_once (replies.Faulted results replies.DiskFailed) = inr refl
 told_once (replies.Faulted results (replies.DamagedRecord file id)) = inl refl

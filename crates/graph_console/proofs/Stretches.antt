@@ -1,5 +1,5 @@
 -- What a stretch of a run leaves of the count of faults.
-use Rattle.std.proofs.Common.{ℕ, ◌≤◌, arith}
+use Rattle.std.proofs.Common.{arith}
 use Rattle.disk_model.specs.declared.disk.Disk.{Ghosts}
 use Rattle.graph_session.specs.Console.{Onward, SessionView}
 

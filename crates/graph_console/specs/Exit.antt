@@ -1,7 +1,10 @@
 -- The exit statuses.
 use Rattle.std.specs.Prelude.{ℕ}
 use Rattle.graph_console.specs.declared.exit.Exit.{Exit}
-use Rattle.graph_console.specs.declared.exit.Exit.TheVariants.{Done, StoreFailed, Usage, InputFault, OutputFault, NoMemory, BadFiles, ConfigDiffers, DiskFault, InputTooLong}
+use Rattle.graph_console.specs.declared.exit.Exit.TheVariants.{Done, StoreFailed, Usage, InputFault}
+use Rattle.graph_console.specs.declared.exit.Exit.TheVariants.{OutputFault, NoMemory, BadFiles}
+use Rattle.graph_console.specs.declared.exit.Exit.TheVariants.{ConfigDiffers, DiskFault}
+use Rattle.graph_console.specs.declared.exit.Exit.TheVariants.{InputTooLong}
 
 abbrev pub status : Exit → ℕ
 status Done = 0

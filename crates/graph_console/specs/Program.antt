@@ -20,9 +20,13 @@ use Rattle.graph_session.specs.State.{State, health_at}
 use Rattle.graph_session.specs.declared.health.Health.{Health}
 use Rattle.graph_session.specs.declared.health.Health.TheVariants.{Live, Failed}
 use Rattle.graph_console.specs.Unopened.{EndsUnopened, FailsUnopened}
-use Rattle.graph_console.specs.Run.{CountsRises, IsAdmittedInRun, Run, run_lines, run_text, NoQuit, AreUpToQuit, AreFirstOf, LacksEnd}
+use Rattle.graph_console.specs.Run.{CountsRises, IsAdmittedInRun, Run, run_lines, run_text, NoQuit}
+use Rattle.graph_console.specs.Run.{AreUpToQuit, AreFirstOf, LacksEnd}
 use Rattle.graph_console.specs.declared.exit.Exit.{Exit}
-use Rattle.graph_console.specs.declared.exit.Exit.TheVariants.{Done, StoreFailed, Usage, InputFault, OutputFault, NoMemory, BadFiles, ConfigDiffers, DiskFault, InputTooLong}
+use Rattle.graph_console.specs.declared.exit.Exit.TheVariants.{Done, StoreFailed, Usage, InputFault}
+use Rattle.graph_console.specs.declared.exit.Exit.TheVariants.{OutputFault, NoMemory, BadFiles}
+use Rattle.graph_console.specs.declared.exit.Exit.TheVariants.{ConfigDiffers, DiskFault}
+use Rattle.graph_console.specs.declared.exit.Exit.TheVariants.{InputTooLong}
 
 -- the words ask for nothing that the program does
 abbrev pub AskForNothing : List (List ℕ) → Type 0
@@ -54,7 +58,8 @@ pub record Terms (tells : Type 0) : Type 1 where
   pub unopened : OpenFault → Type 0
 
 -- A run on these terms, with more that holds of it.
-pub record RunTo {tells : Type 0} (terms : Terms tells) (P : List Exchange → State → Type 0) : Type 0 where
+pub record RunTo {tells : Type 0} (terms : Terms tells)
+    (P : List Exchange → State → Type 0) : Type 0 where
   pub first : State
   pub begins : terms.starts first
   pub run : List Exchange

@@ -19,7 +19,10 @@ use Rattle.graph_session.specs.declared.turn.Turn.TheVariants.{Go, Quit, SinkFau
 use Rattle.graph_console.specs.Program.{Streams, streams}
 use Rattle.graph_console.specs.Unopened.{IsUnopenedExit}
 use Rattle.graph_console.specs.declared.exit.Exit.{Exit}
-use Rattle.graph_console.specs.declared.exit.Exit.TheVariants.{Done, StoreFailed, Usage, InputFault, OutputFault, NoMemory, BadFiles, ConfigDiffers, DiskFault, InputTooLong}
+use Rattle.graph_console.specs.declared.exit.Exit.TheVariants.{Done, StoreFailed, Usage, InputFault}
+use Rattle.graph_console.specs.declared.exit.Exit.TheVariants.{OutputFault, NoMemory, BadFiles}
+use Rattle.graph_console.specs.declared.exit.Exit.TheVariants.{ConfigDiffers, DiskFault}
+use Rattle.graph_console.specs.declared.exit.Exit.TheVariants.{InputTooLong}
 
 -- how the program ends where the run has come to its end
 abbrev pub exit_at_end : Health → Exit

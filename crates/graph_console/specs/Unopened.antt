@@ -1,7 +1,8 @@
 -- How the program ends where its store is not opened.
 use Rattle.std.specs.Prelude.{◌≡◌, ◌⊎◌, ℕ, List, [], codes}
 use Rattle.stream_io.specs.Streams.{TakesFront}
-use Rattle.plain_graph.specs.Reply.{DamagedRecord, DiskFailed, NoMemory, configuration_text, fault_line, text_line}
+use Rattle.plain_graph.specs.Reply.{DamagedRecord, DiskFailed, NoMemory, configuration_text}
+use Rattle.plain_graph.specs.Reply.{fault_line, text_line}
 use Rattle.txn_core.specs.declared.open_fault.OpenFault.{OpenFault}
 use Rattle.txn_core.specs.declared.open_fault.OpenFault.TheVariants as faults
 use Rattle.graph_console.specs.declared.exit.Exit.{Exit}

@@ -7,7 +7,9 @@ ghost use Rattle.rec_bytes.specs.declared.shape.Shape.{Shape};
 ghost use Rattle.txn_core.specs.Config.{Suits};
 ghost use Rattle.graph_session.specs.Opening.{IsUnopened, StandsForOne};
 ghost use Rattle.graph_session.specs.Stands.{Stands};
-ghost use Rattle.graph_console.specs.Program.{AskForNothing, EndsWithLine, HasStreamCause, HoldsGraph, Refuses, ServesOn, Writes, config_for, memory_line, streams, terms_for};
+ghost use Rattle.graph_console.specs.Program.{AskForNothing, EndsWithLine, HasStreamCause};
+ghost use Rattle.graph_console.specs.Program.{HoldsGraph, Refuses, ServesOn, Writes, config_for};
+ghost use Rattle.graph_console.specs.Program.{memory_line, streams, terms_for};
 ghost use Rattle.graph_console.specs.Unopened.{EndsUnopened, IsUnopenedExit, exit_of, line_of};
 
 use crate::Exit;

@@ -3,6 +3,7 @@ mod edges;
 mod generated;
 mod lists;
 mod properties;
+mod queries;
 mod rows;
 mod stops;
 mod stored;
@@ -147,11 +148,11 @@ fn lines_get_their_replies(rt: HostRuntime) -> Result<(), Fail> {
         ),
         (
             b"g.V\ng.V()x\ng.E()\ng.V().count\n",
-            b"error syntax 3\nerror syntax 5\nerror syntax 2\nerror syntax 11\n",
+            b"error syntax 3\nerror syntax 5\nend\nerror syntax 11\n",
         ),
         (
             b"g.V().count().count()\ng.V().foo()\n",
-            b"error syntax 13\nerror syntax 6\n",
+            b"==>1\nend\nerror syntax 6\n",
         ),
         (b"node a\0\n\xff\n", b"error syntax 6\nerror syntax 0\n"),
         (

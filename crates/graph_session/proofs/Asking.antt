@@ -1,6 +1,7 @@
--- A session after a query.
-use Rattle.std.proofs.Common.{◌≡◌, ℕ, List, [], refl}
+-- A session after a line that reads.
+use Rattle.std.proofs.Common.{◌≡◌, ℕ, List, [], refl, ap}
 use Rattle.disk_model.specs.declared.disk.Disk.{Ghosts}
+use Rattle.rec_bytes.specs.Space as spaces
 use Rattle.txn_core.specs.Base.{OnlyReadsBase}
 use Rattle.txn_core.specs.Store as store
 use Rattle.txn_core.specs.declared.store.Store.{Store}
@@ -11,14 +12,14 @@ use Rattle.graph_session.proofs.Staying.{Stays}
 
 module _ {D : Type 0} {g : Ghosts D} where
   -- calls that only read leave the session as it was
-  pub stays-read : (s t : Store D g) → OnlyReadsBase s.base t.base → (store.state_of t).written ≡ (store.state_of s).written → s.draft.pairs ≡ []
+  pub stays-read : (s t : Store D g) → OnlyReadsBase s.base t.base → spaces.SameButReads (store.state_of s) (store.state_of t) → s.draft.pairs ≡ []
       → (health : Health) (weight : ℕ) (names : List (List ℕ)) → Stays g (seen_as s health weight names) (seen_as t health weight names)
-  stays-read s t reads written none health weight names = record {
+  stays-read s t reads same none health weight names = record {
     beneath = record {
       shape = reads.shape;
       is_live = reads.live;
       committed = λ told. committed-read s.base t.base reads;
-      no_draft = draft-kept s t written none;
+      no_draft = draft-kept s t (ap (λ (x : spaces.State). x.written) same) none;
       disk = reads.disk;
     };
     health = refl;

@@ -59,6 +59,7 @@ carries-change old new (commands.Edge from label to pairs) reply change makes = 
 carries-change old new (commands.Set target key value) reply change makes = makes
 carries-change old new (commands.Unset target key) reply change makes = makes
 carries-change old new (commands.Delete target) reply change makes = makes
+carries-change old new (commands.Expand id direction label) reply change makes = absurd change
 carries-change old new (commands.Query query) reply change makes = absurd change
 
 leaves-change : (old new : State) (line : List ℕ) (command : Command) → IsChange command → LeavesChange old (Whole line) command new → LeavesOpen old (Whole line) command new
@@ -75,6 +76,7 @@ leaves-change old new line (commands.Edge from label to pairs) change leaves = l
 leaves-change old new line (commands.Set target key value) change leaves = leaves
 leaves-change old new line (commands.Unset target key) change leaves = leaves
 leaves-change old new line (commands.Delete target) change leaves = leaves
+leaves-change old new line (commands.Expand id direction label) change leaves = absurd change
 leaves-change old new line (commands.Query query) change leaves = absurd change
 
 shows-none : (state : State) (command : Command) → IsChange command → ShowsSome state command []
@@ -91,6 +93,7 @@ shows-none state (commands.Edge from label to pairs) change = refl
 shows-none state (commands.Set target key value) change = refl
 shows-none state (commands.Unset target key) change = refl
 shows-none state (commands.Delete target) change = refl
+shows-none state (commands.Expand id direction label) change = absurd change
 shows-none state (commands.Query query) change = absurd change
 
 -- The change is in the open transaction, which weighs so much more. The names grew.

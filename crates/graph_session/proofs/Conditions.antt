@@ -1,14 +1,14 @@
 -- Which of the conditions of a refusal hold.
-use Rattle.std.proofs.Common.{◌≡◌, ◌≢◌, ◌⊎◌, ◌+◌, ◌<◌, ◌≤◌, ◌∙◌, ℕ, Some, None, List, [], ◌∷◌, ◌++◌, inl, inr, refl, sym, subst, arith}
+use Rattle.std.proofs.Common.{◌≡◌, ◌≢◌, ◌⊎◌, ◌+◌, ◌<◌, ◌≤◌, ◌∙◌, ℕ, true, true≢false, Some, None, List, [], ◌∷◌, ◌++◌, inl, inr, refl, sym, subst, arith}
 use Rattle.stream_io.specs.Lines.{Long, Whole}
 use Rattle.plain_graph.specs.Changes.{IsChange, Weighs, most_weight}
-use Rattle.plain_graph.specs.Graph.{Graph, empty_graph}
+use Rattle.plain_graph.specs.Graph.{Graph, empty_graph, has_node}
 use Rattle.plain_graph.specs.Refusals.{FirstReason, NoReason, Reason, change_reasons}
 use Rattle.plain_graph.specs.declared.command.Command.{Command}
 use Rattle.plain_graph.specs.declared.command.Command.TheVariants as commands
 use Rattle.plain_graph.specs.declared.refusal.Refusal.{Refusal}
 use Rattle.plain_graph.specs.declared.refusal.Refusal.TheVariants as refusals
-use Rattle.gremlin_parse.specs.Faults.{IsLeftmostFault}
+use Rattle.gremlin_parse.specs.Lines.{IsLeftmostFault}
 use Rattle.gremlin_parse.specs.declared.line_fault.LineFault.{LineFault}
 use Rattle.graph_session.specs.Refusals.{Condition, FirstHolds, IsAccepted, IsReached, IsRefused, NoneHolds, SpellsOnly, conditions_of, early_order, grammar_fault, late_order, line_too_long, no_transaction, refusal_of, store_failed, transaction_full, transaction_open}
 use Rattle.graph_session.specs.State.{IsFailed, IsOpen, SpellsLine, State, Transaction, seen}
@@ -69,22 +69,29 @@ IsLight state command =
 idle_reasons : NoReason change_reasons 0 empty_graph commands.Blank
 idle_reasons = (λ _ h. h, (λ _ h. h, (λ _ h. h, (λ _ h. h, (λ _ h. h, (λ _ h. h, (λ _ h. h, (λ _ h. h, (λ _ h. h, (λ _ h. h, (λ _ h. h, tt)))))))))))
 
+-- the node that the command expands is there
+abbrev pub FindsNode : Graph → Command → Type 0
+FindsNode graph (commands.Expand id direction label) = has_node graph id ≡ true
+FindsNode graph _ = Unit {0}
+
 -- nor of another command that is no change
-no_reason : (limit : ℕ) (graph : Graph) (command : Command) → ¬ IsChange command → NoReason change_reasons limit graph command
-no_reason limit graph commands.Blank idle = idle_reasons
-no_reason limit graph commands.Begin idle = idle_reasons
-no_reason limit graph commands.Commit idle = idle_reasons
-no_reason limit graph commands.Rollback idle = idle_reasons
-no_reason limit graph commands.Checkpoint idle = idle_reasons
-no_reason limit graph commands.Stats idle = idle_reasons
-no_reason limit graph commands.Reopen idle = idle_reasons
-no_reason limit graph commands.Quit idle = idle_reasons
-no_reason limit graph (commands.Node label pairs) idle = absurd (idle tt)
-no_reason limit graph (commands.Edge from label to pairs) idle = absurd (idle tt)
-no_reason limit graph (commands.Set target key value) idle = absurd (idle tt)
-no_reason limit graph (commands.Unset target key) idle = absurd (idle tt)
-no_reason limit graph (commands.Delete target) idle = absurd (idle tt)
-no_reason limit graph (commands.Query query) idle = idle_reasons
+no_reason : (limit : ℕ) (graph : Graph) (command : Command) → ¬ IsChange command → FindsNode graph command → NoReason change_reasons limit graph command
+no_reason limit graph commands.Blank idle found = idle_reasons
+no_reason limit graph commands.Begin idle found = idle_reasons
+no_reason limit graph commands.Commit idle found = idle_reasons
+no_reason limit graph commands.Rollback idle found = idle_reasons
+no_reason limit graph commands.Checkpoint idle found = idle_reasons
+no_reason limit graph commands.Stats idle found = idle_reasons
+no_reason limit graph commands.Reopen idle found = idle_reasons
+no_reason limit graph commands.Quit idle found = idle_reasons
+no_reason limit graph (commands.Node label pairs) idle found = absurd (idle tt)
+no_reason limit graph (commands.Edge from label to pairs) idle found = absurd (idle tt)
+no_reason limit graph (commands.Set target key value) idle found = absurd (idle tt)
+no_reason limit graph (commands.Unset target key) idle found = absurd (idle tt)
+no_reason limit graph (commands.Delete target) idle found = absurd (idle tt)
+no_reason limit graph (commands.Expand id direction label) idle found =
+    (λ _ h. h, (λ _ h. h, (λ _ h. h, (λ _ h. h, (λ _ h. true≢false (sym found ∙ h.0), idle_reasons.1.1.1.1.1)))))
+no_reason limit graph (commands.Query query) idle found = idle_reasons
 
 module _ (state : State) {line : List ℕ} {command : Command} (only : SpellsOnly line command) where
   -- a line that spells a command has no fault of the grammar
@@ -176,9 +183,9 @@ module _ (state : State) {line : List ℕ} {command : Command} (only : SpellsOnl
       (inl (command, only.spelled, transaction, is, weight, weighs, more, refl)))
 
   -- a command that is no change is accepted where the graph is looked at
-  pub idle-accepted : ¬ IsChange command → IsReached state (Whole line) → IsAccepted state (Whole line)
-  idle-accepted idle reach =
-      accepted reach (no_reason state.shape.limit (seen state) command idle)
+  pub idle-accepted : ¬ IsChange command → FindsNode (seen state) command → IsReached state (Whole line) → IsAccepted state (Whole line)
+  idle-accepted idle found reach =
+      accepted reach (no_reason state.shape.limit (seen state) command idle found)
       (λ transaction is weight weighs. absurd (idle (Weighs-change state.shape.threshold transaction.graph command weight weighs)))
 
 -- the open transaction, by what the change weighs

@@ -79,7 +79,7 @@ module _ {D : Type 0} {g : Ghosts D} {old new : SessionView D} {state : State} (
   settles-stats {line = line} only stays same counts is =
       settles-done {line = Whole line} {before = state} (Counted counts) state tt (comes-stays at stays)
       (λ told. (
-        idle-accepted state only (λ change. change) (reached state only (inl (not_failed at live)) (λ needs. absurd (stats-none needs)) (λ needs. absurd (stats-one needs))),
+        idle-accepted state only (λ change. change) tt (reached state only (inl (not_failed at live)) (λ needs. absurd (stats-none needs)) (λ needs. absurd (stats-one needs))),
         commands.Stats,
         only.spelled,
         (ap Counted (is ∙ counts-seen old.console state (held at live told)), refl),

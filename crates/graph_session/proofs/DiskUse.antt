@@ -35,6 +35,7 @@ NeedsDisk (commands.Edge from label to pairs) = Unit {0}
 NeedsDisk (commands.Set target key value) = Unit {0}
 NeedsDisk (commands.Unset target key) = Unit {0}
 NeedsDisk (commands.Delete target) = Unit {0}
+NeedsDisk (commands.Expand id direction label) = Unit {0}
 NeedsDisk (commands.Query query) = Unit {0}
 
 pub change-needs : (command : Command) → IsChange command → NeedsDisk command
@@ -51,6 +52,7 @@ change-needs (commands.Edge from label to pairs) change = tt
 change-needs (commands.Set target key value) change = tt
 change-needs (commands.Unset target key) change = tt
 change-needs (commands.Delete target) change = tt
+change-needs (commands.Expand id direction label) change = tt
 change-needs (commands.Query query) change = tt
 
 module _ {D : Type 0} {g : Ghosts D} {line : InputLine} {before : State} {reply : Reply} where

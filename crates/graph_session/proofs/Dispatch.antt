@@ -1,5 +1,5 @@
 -- A line is answered by its command, or by its fault.
-use Rattle.std.proofs.Common.{◌≡◌, ◌≢◌, ℕ, Some, List, [], inl, inr, refl, subst}
+use Rattle.std.proofs.Common.{◌≡◌, ◌≢◌, ◌∙◌, ℕ, Option, None, Some, List, [], inl, inr, refl, sym, ap, subst}
 use Rattle.disk_model.specs.declared.disk.Disk.{Ghosts as DiskGhosts}
 use Rattle.disk_model.proofs.Spans.{OnlyNow}
 use Rattle.stream_io.specs.Lines.{Long, Whole}
@@ -9,15 +9,15 @@ use Rattle.plain_graph.specs.declared.command.Command.{Command}
 use Rattle.plain_graph.specs.declared.command.Command.TheVariants as commands
 use Rattle.plain_graph.specs.declared.refusal.Refusal.{Refusal}
 use Rattle.plain_graph.specs.declared.refusal.Refusal.TheVariants as refusals
-use Rattle.gremlin_parse.specs.Faults.{IsLeftmostFault}
-use Rattle.gremlin_parse.specs.Grammar.{NeedsNoMemory, Spells}
+use Rattle.gremlin_parse.specs.Grammar.{NeedsNoMemory}
+use Rattle.gremlin_parse.specs.Lines.{IsLeftmostFault, Spells}
 use Rattle.gremlin_parse.specs.declared.line_fault.LineFault.{LineFault}
 use Rattle.gremlin_parse.specs.declared.line_fault.LineFault.TheVariants as faults
 use Rattle.graph_session.specs.Answer.{AnswersLine, Gives, Terminal}
 use Rattle.graph_session.specs.Answering.{reply_of}
 use Rattle.graph_session.specs.Console.{SessionView}
 use Rattle.graph_session.specs.Refusals.{SpellsOnly, refusal_of}
-use Rattle.graph_session.specs.Settling.{IsLoud, IsServed, SettlesCommand, told_of}
+use Rattle.graph_session.specs.Settling.{IsLoud, IsServed, SettlesCommand, told_by, told_of}
 use Rattle.graph_session.specs.declared.health.Health.TheVariants as healths
 use Rattle.graph_session.specs.declared.turn.Turn.{Turn}
 use Rattle.graph_session.specs.declared.turn.Turn.TheVariants as turns
@@ -25,6 +25,17 @@ use Rattle.graph_session.proofs.Answering.{answers-given, answers-silent, onward
 use Rattle.graph_session.proofs.Conditions.{failed-refused, fault-refused, long-refused}
 use Rattle.graph_session.proofs.Spelling.{IsMute, lacks-memory, quit-only}
 use Rattle.graph_session.proofs.States.{is_failed}
+
+-- only want of memory is no refusal
+memory-only : (fault : LineFault) → refusal_of fault ≡ None → fault ≡ faults.Memory
+memory-only faults.Memory is = refl
+memory-only _ is = cc
+
+refused-other : (fault : LineFault) (why : Refusal) → refusal_of fault ≡ Some why → fault ≢ faults.Memory
+refused-other fault why is e = absurd (clash (sym (ap refusal_of e) ∙ is))
+  where
+    clash : None ≡ Some why → ⊥
+    clash same = cc
 
 module _ {D K : Type 0} {g : DiskGhosts D} {sink : SinkGhosts K} {line : List ℕ} {command : Command} (only : SpellsOnly line command) {old new : Terminal D K} {turn : Turn} where
   -- a command that was settled, and whose reply was given
@@ -74,13 +85,15 @@ module _ {D K : Type 0} (g : DiskGhosts D) (only_now : OnlyNow g) (sink : SinkGh
         → (fault ≡ faults.Memory → (command : Command) → NeedsNoMemory command → ¬ Spells line command)
         → Gives sink (reply_text (reply_of (told_of fault))) before after turn
         → AnswersLine g sink (Whole line) (record { session = session; output = before }) (record { session = session; output = after }) turn
-    answers-fault faults.Memory leftmost none memory gives =
-        answers-given {line = Whole line} (Faulted [] NoMemory) gives (memory refl commands.Quit tt) (onward-none {g = g} only_now)
-        (λ state at. settles-memory_at_once {g = g} only_now {line = Whole line} at (lacks-memory line (memory refl)))
-    answers-fault (faults.Syntax at) leftmost none memory gives = answers-refused (faults.Syntax at) (refusals.Syntax at) (leftmost (λ e. cc)) refl (none (λ e. cc) commands.Quit) gives
-    answers-fault (faults.NameLength at) leftmost none memory gives = answers-refused (faults.NameLength at) (refusals.NameLength at) (leftmost (λ e. cc)) refl (none (λ e. cc) commands.Quit) gives
-    answers-fault (faults.TextLength at) leftmost none memory gives = answers-refused (faults.TextLength at) (refusals.TextLength at) (leftmost (λ e. cc)) refl (none (λ e. cc) commands.Quit) gives
-    answers-fault (faults.NumberRange at) leftmost none memory gives = answers-refused (faults.NumberRange at) (refusals.NumberRange at) (leftmost (λ e. cc)) refl (none (λ e. cc) commands.Quit) gives
+    answers-fault fault leftmost none memory gives = by (refusal_of fault) refl gives
+      where
+        by : (told : Option Refusal) → refusal_of fault ≡ told → Gives sink (reply_text (reply_of (told_by told))) before after turn
+            → AnswersLine g sink (Whole line) (record { session = session; output = before }) (record { session = session; output = after }) turn
+        by None is given =
+            let lacks = memory (memory-only fault is) in
+            answers-given {line = Whole line} (Faulted [] NoMemory) given (lacks commands.Quit tt) (onward-none {g = g} only_now)
+            (λ state at. settles-memory_at_once {g = g} only_now {line = Whole line} at (lacks-memory line lacks))
+        by (Some why) is given = answers-refused fault why (leftmost (refused-other fault why is)) is (none (refused-other fault why is) commands.Quit) given
 
 pub loud-not_mute : (command : Command) → IsLoud command → ¬ IsMute command
 loud-not_mute command loud (inl e) = subst IsLoud e loud

@@ -7,6 +7,8 @@ pub mod Counts
 pub mod DiskUse
 pub mod Dispatch
 pub mod Drafts
+pub mod EdgeLines
+pub mod Expansion
 pub mod Finishing
 pub mod FinishingAlone
 pub mod Held
@@ -16,7 +18,7 @@ pub mod Moves
 pub mod Openings
 pub mod Queries
 pub mod Reopening
-pub mod ShortLines
+pub mod Running
 pub mod Spelling
 pub mod Stands
 pub mod States
@@ -25,5 +27,4 @@ pub mod Storage
 pub mod StoreRecords
 pub mod Streams
 pub mod Transactions
-pub mod Walks
 pub mod Weights

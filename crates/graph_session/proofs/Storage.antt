@@ -106,7 +106,7 @@ module _ {D : Type 0} {g : Ghosts D} {old new : SessionView D} {state : State} (
   pub settles-checkpoint : {line : List ℕ} → SpellsOnly line commands.Checkpoint → LeavesCommitted g old new.disk → IsBrought g old new → Settles g (Whole line) old new state Done
   settles-checkpoint {line = line} only leaves brought =
       settles-done {line = Whole line} {before = state} Done state tt (record { is_at = brought-at brought; crash = checkpoint-crash at live state new.disk leaves })
-      (λ told. (idle-accepted state only (λ change. change) (checkpoint-reached at live only closed), commands.Checkpoint, only.spelled, (refl, refl)))
+      (λ told. (idle-accepted state only (λ change. change) tt (checkpoint-reached at live only closed), commands.Checkpoint, only.spelled, (refl, refl)))
       (uses-writes state only tt (checkpoint-reached at live only closed) (inr (inr (inl only.spelled))) (λ none. none))
 
   stopped-at : IsStopped g old new → IsAt g new (stopped state)
@@ -269,7 +269,7 @@ module _ {D : Type 0} {g : Ghosts D} {old new : SessionView D} {state : State} (
   settles-reopen {line = line} only leaves =
       settles-done {line = Whole line} {before = state} Done after_found tt (record { is_at = found-at; crash = again-either at closed after_found new.disk leaves })
       (λ told. (
-        idle-accepted state only (λ change. change) (reopen-reached at closed only),
+        idle-accepted state only (λ change. change) tt (reopen-reached at closed only),
         commands.Reopen,
         only.spelled,
         (refl, graph_of new.console.committed, subst (λ (space : Key → Rec). Admits state (graph_of space)) (sym (found-same told)) (read-one at closed told).admits, refl),

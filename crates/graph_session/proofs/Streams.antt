@@ -1,7 +1,7 @@
 -- What a sink took, piece after piece.
-use Rattle.std.proofs.Common.{◌≡◌, ◌∙◌, ◌+◌, ◌≤◌, ℕ, List, ◌++◌, length, take, append_assoc, sym, ap, subst, arith}
+use Rattle.std.proofs.Common.{◌≡◌, ◌≢◌, ◌∙◌, ◌+◌, ◌≤◌, ℕ, List, [], ◌++◌, length, take, append_assoc, refl, sym, ap, subst, arith}
 use Rattle.std.proofs.Math.Seq.{take-append-add}
-use Rattle.std.proofs.lemmas.List.{length-append, take-append-le}
+use Rattle.std.proofs.lemmas.List.{append-nil, length-append, take-append-le}
 use Rattle.fault_count.specs.Cause.{Rose}
 use Rattle.stream_io.specs.Streams.{TakesFront}
 use Rattle.stream_io.specs.declared.streams.Sink.{Ghosts}
@@ -33,6 +33,39 @@ pub delivers-after : (turn : Turn) (old mid new given bytes : List ℕ) → mid 
 delivers-after Go old mid new given bytes at is = is ∙ ap (λ (xs : List ℕ). xs ++ bytes) at ∙ append_assoc old given bytes
 delivers-after Quit old mid new given bytes at is = is ∙ ap (λ (xs : List ℕ). xs ++ bytes) at ∙ append_assoc old given bytes
 delivers-after SinkFault old mid new given bytes at is = takes-after old mid new given bytes at is
+
+module _ {K : Type 0} {sink : Ghosts K} {line old new : List ℕ} {before after : K} where
+  -- what was held was not given whole
+  pub adds-stop : (turn : Turn) → Gives sink old before after turn → turn ≢ Go → Adds sink line old new before after turn
+  adds-stop Go gives stops = absurd (stops refl)
+  adds-stop Quit gives stops = absurd (gives.goes refl)
+  adds-stop SinkFault gives stops = record {
+    gathers = λ told. takes-more (sink.taken before) (sink.taken after) old line (gives.delivers told);
+    runs = λ e. cc;
+    cause = gives.cause;
+    later = gives.later;
+  }
+
+module _ {K : Type 0} {sink : Ghosts K} {line old : List ℕ} {before mid after : K} where
+  -- what was held was given, and then the line alone
+  pub adds-alone : Gives sink old before mid Go → (turn : Turn) → Gives sink line mid after turn → Adds sink line old [] before after turn
+  adds-alone first Go gives = record {
+    gathers = λ told. (
+      old ++ line,
+      gives.delivers told ∙ ap (λ (xs : List ℕ). xs ++ line) (first.delivers told) ∙ append_assoc (sink.taken before) old line,
+      append-nil (old ++ line),
+    );
+    runs = λ e. cc;
+    cause = λ e. cc;
+    later = let early = first.later in let late = gives.later in omega (arith, early, late);
+  }
+  adds-alone first Quit gives = absurd (gives.goes refl)
+  adds-alone first SinkFault gives = record {
+    gathers = λ told. takes-after (sink.taken before) (sink.taken mid) (sink.taken after) old line (first.delivers told) (gives.delivers told);
+    runs = λ e. cc;
+    cause = λ is. Rose-from (sink.faults before) (sink.faults mid) (sink.faults after) first.later (gives.cause is);
+    later = let early = first.later in let late = gives.later in omega (arith, early, late);
+  }
 
 module _ {K : Type 0} {sink : Ghosts K} {line old new : List ℕ} {before mid after : K} where
   -- a line was gathered, and then all was given

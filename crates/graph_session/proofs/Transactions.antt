@@ -104,17 +104,17 @@ in_doubt state graph = failing state (state.committed ∷ graph ∷ [])
 module _ {D : Type 0} {g : Ghosts D} {old : SessionView D} {state : State} (at : IsAt g old state) (live : old.console.health ≡ healths.Live) where
   begin-accepted : {line : List ℕ} → SpellsOnly line commands.Begin → old.console.is_open ≡ false → IsAccepted state (Whole line)
   begin-accepted only closed =
-      idle-accepted state only (λ change. change) (reached state only (inl (not_failed at live)) (λ needs. not_open at closed) (λ needs. absurd (begin-closed needs)))
+      idle-accepted state only (λ change. change) tt (reached state only (inl (not_failed at live)) (λ needs. not_open at closed) (λ needs. absurd (begin-closed needs)))
 
   rollback-accepted : {line : List ℕ} → SpellsOnly line commands.Rollback → old.console.is_open ≡ true → IsAccepted state (Whole line)
   rollback-accepted only opened =
-      idle-accepted state only (λ change. change) (reached state only (inl (not_failed at live)) (λ needs. absurd (rollback-open needs)) (λ needs. is_open at opened))
+      idle-accepted state only (λ change. change) tt (reached state only (inl (not_failed at live)) (λ needs. absurd (rollback-open needs)) (λ needs. is_open at opened))
 
   commit-reached : {line : List ℕ} → SpellsOnly line commands.Commit → old.console.is_open ≡ true → IsReached state (Whole line)
   commit-reached only opened = reached state only (inl (not_failed at live)) (λ needs. absurd (commit-open needs)) (λ needs. is_open at opened)
 
   commit-accepted : {line : List ℕ} → SpellsOnly line commands.Commit → old.console.is_open ≡ true → IsAccepted state (Whole line)
-  commit-accepted only opened = idle-accepted state only (λ change. change) (commit-reached only opened)
+  commit-accepted only opened = idle-accepted state only (λ change. change) tt (commit-reached only opened)
 
   -- after a commit the records of the transaction are the committed ones
   written-one : g.tells_reads → (transaction : Transaction) → state.open_one ≡ Some transaction → IsOneOf (with_commit state transaction) old.console.working

@@ -50,6 +50,7 @@ Weighs-only threshold graph (commands.Set target key value) a b h k = weight-onl
 Weighs-only threshold graph (commands.Unset target key) a b h k = h ∙ sym k
 Weighs-only threshold graph (commands.Delete (targets.Node id)) a b h k = h ∙ sym k
 Weighs-only threshold graph (commands.Delete (targets.Edge id)) a b h k = h ∙ sym k
+Weighs-only threshold graph (commands.Expand id direction label) a b h k = absurd h
 Weighs-only threshold graph (commands.Query query) a b h k = absurd h
 
 -- only changes weigh
@@ -68,4 +69,5 @@ Weighs-change threshold graph (commands.Set target key value) weight h = tt
 Weighs-change threshold graph (commands.Unset target key) weight h = tt
 Weighs-change threshold graph (commands.Delete (targets.Node id)) weight h = tt
 Weighs-change threshold graph (commands.Delete (targets.Edge id)) weight h = tt
+Weighs-change threshold graph (commands.Expand id direction label) weight h = h
 Weighs-change threshold graph (commands.Query query) weight h = h

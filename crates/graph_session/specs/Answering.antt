@@ -1,6 +1,7 @@
 -- The reply of an answer.
 use Rattle.std.specs.Prelude.{[]}
-use Rattle.plain_graph.specs.Reply.{Counted, DamagedRecord, DiskFailed, Done, Faulted, NoMemory, EdgeMade, NodeMade, Refused, Reply}
+use Rattle.plain_graph.specs.Reply.{Counted, DamagedRecord, DiskFailed, Done, Faulted, NoMemory}
+use Rattle.plain_graph.specs.Reply.{EdgeMade, NodeMade, Refused, Reply}
 use Rattle.graph_session.specs.declared.answer.Answer.{Answer}
 use Rattle.graph_session.specs.declared.answer.Answer.TheVariants as answers
 

@@ -4,7 +4,9 @@ use Rattle.disk_model.specs.Spans.{OnlyReads}
 use Rattle.disk_model.specs.declared.disk.Disk.{Ghosts}
 use Rattle.stream_io.specs.Lines.{InputLine}
 use Rattle.plain_graph.specs.Changes.{IsChange}
-use Rattle.plain_graph.specs.Reply.{Counted, DamagedRecord, DiskFailed, Done, EdgeMade, Fault, Faulted, NoMemory, NodeMade, Refused, Reply, Results, Silent}
+use Rattle.plain_graph.specs.Reply.{Counted, DamagedRecord, DiskFailed, Done, EdgeMade, Fault}
+use Rattle.plain_graph.specs.Reply.{Faulted, NoMemory, NodeMade, PastCount, Refused, Reply, Results}
+use Rattle.plain_graph.specs.Reply.{Silent}
 use Rattle.plain_graph.specs.declared.command.Command.{Command}
 use Rattle.plain_graph.specs.declared.command.Command.TheVariants as commands
 use Rattle.plain_graph.specs.declared.refusal.Refusal.{Refusal}
@@ -19,8 +21,10 @@ MayWrite state line =
     ⊎ SpellsLine line commands.Checkpoint
     ⊎ SpellsLine line commands.Reopen
 
--- want of memory is told before anything is written
+-- Want of memory is told before anything is written, and a count that passes by a line that writes
+-- nothing.
 abbrev pub IsUnwritten : Fault → Type 0
+IsUnwritten PastCount = Unit {0}
 IsUnwritten NoMemory = Unit {0}
 IsUnwritten DiskFailed = ⊥
 IsUnwritten (DamagedRecord file id) = ⊥

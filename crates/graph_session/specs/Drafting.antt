@@ -1,5 +1,6 @@
 -- What the steps of a change say: its draft, and what becomes of that.
-use Rattle.std.specs.Prelude.{◌≡◌, ◌⊎◌, ℕ, ◌+◌, ◌<◌, ◌≤◌, IsTrue, false, Result, Ok, Err, List, [], ◌++◌, take}
+use Rattle.std.specs.Prelude.{◌≡◌, ◌⊎◌, ℕ, ◌+◌, ◌<◌, ◌≤◌, IsTrue, false, Result, Ok, Err, List, []}
+use Rattle.std.specs.Prelude.{◌++◌, take}
 use Rattle.fault_count.specs.Cause.{Rose}
 use Rattle.disk_model.specs.Spans.{AtEachMoment}
 use Rattle.disk_model.specs.declared.disk.Disk.{Ghosts}
@@ -51,7 +52,8 @@ TellsChange (answers.Damaged damage) = ⊥
 
 -- the command is refused so by the graph of the space
 abbrev pub Refuses : Command → Space → Refusal → Type 0
-Refuses command space why = FirstReason change_reasons space.shape.limit (graph_in space) command why
+Refuses command space why =
+    FirstReason change_reasons space.shape.limit (graph_in space) command why
 
 module _ {D : Type 0} {g : Ghosts D} where
   -- the records with the draft are a well-formed store, whose names are those in memory

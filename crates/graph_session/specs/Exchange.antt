@@ -1,16 +1,22 @@
 -- The step of the console: from a state, a line may get this reply and lead to that state.
-use Rattle.std.specs.Prelude.{◌≡◌, ◌≢◌, ◌⊎◌, ℕ, ◌+◌, Bool, true, Option, Some, None, List, [], ◌∷◌, ◌++◌}
+use Rattle.std.specs.Prelude.{◌≡◌, ◌≢◌, ◌⊎◌, ℕ, ◌+◌, Bool, true, false, Option, Some, None, List}
+use Rattle.std.specs.Prelude.{[], ◌∷◌, ◌++◌, map}
 use Rattle.stream_io.specs.Lines.{InputLine}
 use Rattle.plain_graph.specs.Changes.{Changes, Weighs, least_weight}
 use Rattle.plain_graph.specs.Counts.{counts_of}
 use Rattle.plain_graph.specs.Graph.{Graph}
-use Rattle.plain_graph.specs.Meaning.{meaning}
-use Rattle.plain_graph.specs.Reply.{Counted, DamagedRecord, DiskFailed, Done, EdgeMade, Fault, Faulted, NoMemory, NodeMade, Refused, Reply, Results, Silent}
+use Rattle.plain_graph.specs.Meaning.{edge_item, edges_at, has_past_count, meaning}
+use Rattle.plain_graph.specs.Reply.{Counted, DamagedRecord, DiskFailed, Done, EdgeMade, Fault}
+use Rattle.plain_graph.specs.Reply.{Faulted, NoMemory, NodeMade, PastCount, Refused, Reply, Results}
+use Rattle.plain_graph.specs.Reply.{Silent}
 use Rattle.plain_graph.specs.declared.command.Command.{Command}
 use Rattle.plain_graph.specs.declared.command.Command.TheVariants as commands
+use Rattle.plain_graph.specs.declared.direction.Direction.{Direction}
 use Rattle.plain_graph.specs.declared.item.Item.{Item}
+use Rattle.plain_graph.specs.declared.query.Query.{Query}
 use Rattle.graph_session.specs.Refusals.{IsAccepted, IsReached, IsRefused}
-use Rattle.graph_session.specs.State.{Admits, Failed, IsSilent, Live, NeverLacksMemory, SpellsLine, State, Transaction, admitted, seen}
+use Rattle.graph_session.specs.State.{Admits, Failed, IsSilent, Live, NeverLacksMemory, SpellsLine}
+use Rattle.graph_session.specs.State.{State, Transaction, admitted, seen}
 
 -- the state with another open transaction, or with none
 abbrev pub opening : State → Option Transaction → State
@@ -32,6 +38,10 @@ MakesChange old command reply new =
     ⊎ ((old.open_one ≡ None) × (graph : Graph)
     × Changes old.shape.limit old.committed command reply graph
     × (new ≡ record old { committed = graph }))
+
+-- the edges of this type at a node, as results
+abbrev pub expansion : Graph → ℕ → Direction → List ℕ → List Item
+expansion graph id direction label = map edge_item (edges_at graph direction (label ∷ []) id)
 
 -- The command is carried out, with this reply.
 abbrev pub CarriesOut : State → Command → Reply → State → Type 0
@@ -59,13 +69,21 @@ CarriesOut old (commands.Unset target key) reply new =
     MakesChange old (commands.Unset target key) reply new
 CarriesOut old (commands.Delete target) reply new =
     MakesChange old (commands.Delete target) reply new
+CarriesOut old (commands.Expand id direction label) reply new =
+    (reply ≡ Results (expansion (seen old) id direction label)) × (new ≡ old)
 CarriesOut old (commands.Query query) reply new =
-    (reply ≡ Results (meaning (seen old) query)) × (new ≡ old)
+    (reply ≡ Results (meaning (seen old) query)) × (has_past_count (seen old) query ≡ false)
+    × (new ≡ old)
 
--- the results shown are the first of those that the query has; other commands show none
+-- the results shown are the first of these
+abbrev pub AreFirst : List Item → List Item → Type 0
+AreFirst results all = (more : List Item) × (results ++ more ≡ all)
+
+-- the results shown are the first of those that the command has; most commands show none
 abbrev pub ShowsSome : State → Command → List Item → Type 0
-ShowsSome state (commands.Query query) results =
-    (more : List Item) × (results ++ more ≡ meaning (seen state) query)
+ShowsSome state (commands.Query query) results = AreFirst results (meaning (seen state) query)
+ShowsSome state (commands.Expand id direction label) results =
+    AreFirst results (expansion (seen state) id direction label)
 ShowsSome state commands.Blank results = results ≡ []
 ShowsSome state commands.Begin results = results ≡ []
 ShowsSome state commands.Commit results = results ≡ []
@@ -112,11 +130,17 @@ LeavesOpen old line (commands.Unset target key) new =
     LeavesChange old line (commands.Unset target key) new
 LeavesOpen old line (commands.Delete target) new =
     LeavesChange old line (commands.Delete target) new
+LeavesOpen old line (commands.Expand id direction label) new = new ≡ old
 LeavesOpen old line (commands.Query query) new = new ≡ old
 
--- Want of memory is free for each line that may lack it, and changes nothing. The disk is blamed
--- only where it failed. A record of a store that stands for a graph is never damaged.
+-- A count that passes is told where it does. Want of memory is free for each line that may lack it,
+-- and changes nothing. The disk is blamed only where it failed. A record of a store that stands for
+-- a graph is never damaged.
 abbrev pub Stops : State → InputLine → Bool → List Item → Fault → State → Type 0
+Stops old line disk_failed results PastCount new =
+    IsReached old line × (query : Query) × SpellsLine line (commands.Query query)
+    × (has_past_count (seen old) query ≡ true) × ShowsSome old (commands.Query query) results
+    × (new ≡ old)
 Stops old line disk_failed results NoMemory new =
     (¬ NeverLacksMemory line) × (new ≡ old)
     × ((results ≡ [])
@@ -154,6 +178,7 @@ ConsoleStep old x new = elim x.reply [
 
 -- one where the reply says that the disk failed
 abbrev pub told_in : Fault → ℕ
+told_in PastCount = 0
 told_in NoMemory = 0
 told_in DiskFailed = 1
 told_in (DamagedRecord file id) = 0

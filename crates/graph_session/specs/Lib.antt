@@ -3,6 +3,7 @@ pub mod Answering
 pub mod Console
 pub mod DiskUse
 pub mod Drafting
+pub mod EdgeResults
 pub mod Exchange
 pub mod LineBuffer
 pub mod Moments

@@ -7,11 +7,11 @@ use Rattle.plain_graph.specs.declared.command.Command.{Command}
 use Rattle.plain_graph.specs.declared.command.Command.TheVariants as commands
 use Rattle.plain_graph.specs.declared.refusal.Refusal.{Refusal}
 use Rattle.plain_graph.specs.declared.refusal.Refusal.TheVariants as refusals
-use Rattle.gremlin_parse.specs.Faults.{HasFault, IsLeftmostFault}
-use Rattle.gremlin_parse.specs.Grammar.{Spells}
+use Rattle.gremlin_parse.specs.Lines.{HasFault, IsLeftmostFault, Spells}
 use Rattle.gremlin_parse.specs.declared.line_fault.LineFault.{LineFault}
 use Rattle.gremlin_parse.specs.declared.line_fault.LineFault.TheVariants as faults
-use Rattle.graph_session.specs.State.{IsFailed, IsOpen, IsSilent, SpellsLine, State, Transaction, seen}
+use Rattle.graph_session.specs.State.{IsFailed, IsOpen, IsSilent, SpellsLine, State, Transaction}
+use Rattle.graph_session.specs.State.{seen}
 
 -- in this state the line is refused so
 abbrev pub Condition : Type 1
@@ -78,7 +78,7 @@ conditions_of (reason ∷ later) = refused_by reason ∷ conditions_of later
 abbrev pub early_order : List Condition
 early_order = line_too_long ∷ grammar_fault ∷ store_failed ∷ transaction_open ∷ no_transaction ∷ []
 
--- those of changes, and of the transaction's weight
+-- those of changes and of a node whose edges are asked for, and of the transaction's weight
 abbrev pub late_order : List Condition
 late_order = conditions_of change_reasons ++ transaction_full ∷ []
 

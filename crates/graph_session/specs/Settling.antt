@@ -1,19 +1,18 @@
 -- What a call says that settles a line of a command.
-use Rattle.std.specs.Prelude.{◌≡◌, ◌⊎◌, ◌≤◌, ℕ, List}
+use Rattle.std.specs.Prelude.{◌≡◌, ◌⊎◌, ◌≤◌, ℕ, Option, None, Some, List}
 use Rattle.disk_model.specs.declared.disk.Disk.{Ghosts}
 use Rattle.stream_io.specs.declared.streams.Sink.{Ghosts as SinkGhosts}
 use Rattle.stream_io.specs.Lines.{Whole}
 use Rattle.plain_graph.specs.Reply.{Reply}
 use Rattle.plain_graph.specs.declared.command.Command.{Command}
 use Rattle.plain_graph.specs.declared.command.Command.TheVariants as commands
-use Rattle.plain_graph.specs.declared.refusal.Refusal.TheVariants as refusals
+use Rattle.plain_graph.specs.declared.refusal.Refusal.{Refusal}
 use Rattle.gremlin_parse.specs.declared.line_fault.LineFault.{LineFault}
-use Rattle.gremlin_parse.specs.declared.line_fault.LineFault.TheVariants as faults
 use Rattle.graph_session.specs.declared.answer.Answer.{Answer}
 use Rattle.graph_session.specs.declared.answer.Answer.TheVariants as answers
 use Rattle.graph_session.specs.Answer.{Answers, Settles, Terminal}
 use Rattle.graph_session.specs.Console.{ConsoleView, IsAt, Onward, SessionView}
-use Rattle.graph_session.specs.Refusals.{SpellsOnly}
+use Rattle.graph_session.specs.Refusals.{SpellsOnly, refusal_of}
 use Rattle.graph_session.specs.State.{State}
 use Rattle.graph_session.specs.declared.health.Health.TheVariants as healths
 use Rattle.graph_session.specs.declared.turn.Turn.{Turn}
@@ -24,13 +23,13 @@ use Rattle.fault_count.specs.Cause.{Rose}
 abbrev pub IsServed : ConsoleView → Command → Type 0
 IsServed console command = (console.health ≡ healths.Live) ⊎ (command ≡ commands.Reopen)
 
--- the answer of a line that spells no command
+-- the answer of a line that spells no command: want of memory, or a refusal
+abbrev pub told_by : Option Refusal → Answer
+told_by None = answers.NoMemory
+told_by (Some why) = answers.Refused why
+
 abbrev pub told_of : LineFault → Answer
-told_of faults.Memory = answers.NoMemory
-told_of (faults.Syntax at) = answers.Refused (refusals.Syntax at)
-told_of (faults.NameLength at) = answers.Refused (refusals.NameLength at)
-told_of (faults.TextLength at) = answers.Refused (refusals.TextLength at)
-told_of (faults.NumberRange at) = answers.Refused (refusals.NumberRange at)
+told_of fault = told_by (refusal_of fault)
 
 -- a command that gets a reply, and only of a live session another than a refusal
 abbrev pub IsLoud : Command → Type 0
@@ -44,6 +43,7 @@ abbrev pub IsPlain : Command → Type 0
 IsPlain commands.Blank = ⊥
 IsPlain commands.Quit = ⊥
 IsPlain commands.Reopen = ⊥
+IsPlain (commands.Expand id direction label) = ⊥
 IsPlain (commands.Query query) = ⊥
 IsPlain _ = Unit {0}
 

@@ -4,7 +4,7 @@ use Rattle.stream_io.specs.Lines.{InputLine, Whole, Long}
 use Rattle.plain_graph.specs.Graph.{Graph}
 use Rattle.plain_graph.specs.declared.command.Command.{Command}
 use Rattle.plain_graph.specs.declared.command.Command.TheVariants as commands
-use Rattle.gremlin_parse.specs.Grammar.{Spells}
+use Rattle.gremlin_parse.specs.Lines.{Spells}
 use Rattle.rec_bytes.specs.declared.shape.Shape.{Shape}
 use Rattle.graph_session.specs.declared.health.Health.{Health}
 use Rattle.graph_session.specs.declared.health.Health.TheVariants as healths

@@ -88,6 +88,7 @@ impl<'d, D: Disk> Session<'d, D> {
             | Command::Stats
             | Command::Reopen
             | Command::Quit
+            | Command::Expand { .. }
             | Command::Query(_) => unreachable!(),
         }
     }

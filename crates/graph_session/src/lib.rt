@@ -6,11 +6,11 @@
 mod answer;
 mod changing;
 mod counting;
+mod edge_results;
+mod expanding;
 mod giving;
 mod health;
 mod line_buffer;
-mod listing;
-mod node_count;
 mod opening;
 mod query_results;
 mod querying;

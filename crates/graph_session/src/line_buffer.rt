@@ -1,10 +1,12 @@
-ghost use Rattle.std.specs.Prelude.{◌≡◌, ◌+◌, ◌++◌, ◌≤◌, [], length};
+ghost use Rattle.std.specs.Prelude.{◌≡◌, ◌++◌, []};
+ghost use Rattle.plain_graph.specs.Forms.{IsShown};
+ghost use Rattle.plain_graph.specs.Reply.{result_text};
 ghost use Rattle.graph_session.specs.Answer.{Gives};
 ghost use Rattle.graph_session.specs.LineBuffer.{Adds};
 
 use crate::Turn;
 use crate::giving::give;
-use plain_graph::ByteBuffer;
+use plain_graph::{ByteBuffer, Item, ResultLine, result_line};
 use std::marker::Model;
 use stream_io::Sink;
 
@@ -35,17 +37,20 @@ impl LineBuffer {
         }
     }
 
-    /// Puts the bytes at the end.
-    pub(crate) fn push(&mut self, bytes: &[u8])
-        requires { length self.old + length bytes.now ≤ BUFFER_BYTES }
-        ensures { self.new ≡ self.old ++ bytes.now }
+    /// Puts the line of a result at the end, as `add` does.
+    pub(crate) fn add_result<K: Sink>(&mut self, output: &mut K, item: &Item) -> Turn
+        requires { IsShown item.now }
+        ensures { Adds K.Sink (result_text item.now)
+            self.old self.new output.old output.new result }
     {
-        self.bytes.push(bytes);
+        let mut line = ResultLine::new();
+        result_line(item, &mut line);
+        self.add(output, line.as_bytes())
     }
 
-    /// Puts a line at the end. Where it has no room, what was gathered goes to the sink first.
+    /// Puts a line at the end. Where it has no room, what was gathered goes to the sink first; a
+    /// line that is longer than the buffer then follows it.
     pub(crate) fn add<K: Sink>(&mut self, output: &mut K, line: &[u8]) -> Turn
-        requires { length line.now ≤ BUFFER_BYTES }
         ensures { Adds K.Sink line.now self.old self.new output.old output.new result }
     {
         if !self.bytes.has_room(line.len()) {
@@ -53,14 +58,16 @@ impl LineBuffer {
                 Turn::Go => {}
                 turn => return turn,
             }
+            if line.len() > BUFFER_BYTES {
+                return give(output, line);
+            }
         }
-        self.push(line);
+        self.bytes.push(line);
         Turn::Go
     }
 
     /// Puts the last line at the end, and gives all to the sink.
     pub(crate) fn finish<K: Sink>(&mut self, output: &mut K, line: &[u8]) -> Turn
-        requires { length line.now ≤ BUFFER_BYTES }
         ensures { Gives K.Sink (self.old ++ line.now) output.old output.new result }
     {
         match self.add(output, line) {

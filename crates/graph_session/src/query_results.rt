@@ -1,41 +1,46 @@
-ghost use Rattle.std.specs.Prelude.{◌≡◌, ◌++◌, pos, ◌∷◌, []};
-ghost use Rattle.plain_graph.specs.Reply.{Results, reply_text};
-ghost use Rattle.graph_session.specs.Answer.{Gives};
 ghost use Rattle.graph_session.specs.QueryResults.{GivesQuery};
 
 use crate::Turn;
 use crate::line_buffer::LineBuffer;
-use crate::listing::{give_fault, give_vertices};
-use crate::node_count::count_nodes;
-use plain_graph::{Item, Query, ResultLine, Step, Value, end_of_results, result_line};
+use name_store::Names;
+use plain_graph::{Query, damaged, disk_fault, end_of_results, no_memory, past_count};
 use rec_bytes::Reads;
+use std::alloc::Global;
 use stream_io::Sink;
+use traversal_run::{Next, Run};
 
-/// Gives the results of a query, read as it goes. Nothing of the graph is kept.
-pub(crate) fn give_query<R: Reads, K: Sink>(space: &mut R, query: &Query, output: &mut K) -> Turn
-    ensures { GivesQuery R.Reads K.Sink query.now space.old space.new output.old output.new result }
+/// Gives the results of a query, a line for each before the next is asked for, and the end. After a
+/// fault the lines so far stand before that of the fault. Nothing of the graph is kept.
+pub(crate) fn give_query<R: Reads, K: Sink>(
+    alloc: Global,
+    space: &mut R,
+    names: &Names,
+    query: &Query,
+    output: &mut K,
+) -> Turn
+    ensures { GivesQuery R.Reads K.Sink names.now.names query.now
+        space.old space.new output.old output.new result }
 {
-    match query.steps.as_slice() {
-        [] => give_vertices(space, output),
-        [Step::Count] => match count_nodes(space) {
-            Ok(count) => give_count(output, count),
-            Err(fault) => give_fault(&mut LineBuffer::new(), output, fault),
-        },
-        // The first count gives one result, which the others count.
-        [Step::Count, ..] => give_count(output, 1),
-    }
-}
-
-/// Gives a count as the one result.
-fn give_count<K: Sink>(output: &mut K, count: u32) -> Turn
-    ensures { Gives K.Sink (reply_text (Results (Item.Value (Value.Int (pos count)) ∷ [])))
-        output.old output.new result }
-{
-    let mut line = ResultLine::new();
-    result_line(&Item::Value(Value::Int(i64::from(count))), &mut line);
     let mut lines = LineBuffer::new();
-    lines.push(line.as_bytes());
-    lines.finish(output, end_of_results())
+    let Ok(mut run) = Run::new(alloc, query) else {
+        return lines.finish(output, no_memory());
+    };
+    for _ in 0..u64::MAX {
+        match run.next(space, names) {
+            Next::Item(item) => match lines.add_result(output, &item) {
+                Turn::Go => {}
+                turn => return turn,
+            },
+            Next::End => return lines.finish(output, end_of_results()),
+            Next::Memory => return lines.finish(output, no_memory()),
+            Next::Disk => return lines.finish(output, disk_fault()),
+            Next::Damaged(damage) => {
+                return lines.finish(output, damaged(damage.file, damage.id).as_bytes());
+            }
+            Next::PastCount => return lines.finish(output, past_count()),
+        }
+    }
+    lines.finish(output, no_memory())
 }
 
 #[cfg(test)]

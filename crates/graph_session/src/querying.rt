@@ -19,6 +19,6 @@ impl<'d, D: Disk> Session<'d, D> {
             (with_sink self.old output.old) (with_sink self.new output.new) result }
         ensures same_disk { HaveSameDisk self.old self.new }
     {
-        give_query(&mut self.store, query, output)
+        give_query(self.alloc, &mut self.store, &self.names, query, output)
     }
 }

@@ -1,4 +1,4 @@
-ghost use Rattle.std.specs.Prelude.{◌≡◌, ◌≢◌, ◌≤◌, IsTrue, List, ℕ};
+ghost use Rattle.std.specs.Prelude.{◌≡◌, ◌≤◌, IsTrue, List, ℕ};
 ghost use Rattle.stream_io.specs.Lines.{Long, Whole};
 ghost use Rattle.graph_session.specs.Answer.{AnswersLine};
 ghost use Rattle.graph_session.specs.Answering.{reply_of};
@@ -106,6 +106,11 @@ impl<'d, D: Disk> Session<'d, D> {
             Health::Failed => give_answer(output, Answer::Refused(Refusal::Failed)),
             Health::Live => match command {
                 Command::Query(query) => self.answer_query(query, output),
+                Command::Expand {
+                    id,
+                    direction,
+                    label,
+                } => self.answer_expand(*id, *direction, label, output),
                 other => {
                     let answer = self.settle(other);
                     give_answer(output, answer)
@@ -135,7 +140,11 @@ impl<'d, D: Disk> Session<'d, D> {
             | Command::Set { .. }
             | Command::Unset { .. }
             | Command::Delete(_) => self.change(command),
-            Command::Blank | Command::Quit | Command::Reopen | Command::Query(_) => unreachable!(),
+            Command::Blank
+            | Command::Quit
+            | Command::Reopen
+            | Command::Expand { .. }
+            | Command::Query(_) => unreachable!(),
         }
     }
 }

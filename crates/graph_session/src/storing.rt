@@ -62,7 +62,8 @@ impl<'d, D: Disk> Session<'d, D> {
             self.old.names.names self.new.names.names self.new.health result }
         ensures reads { OnlyReadsBase self.old.store.base self.new.store.base }
         ensures draft { self.new.store.draft.pairs ≡ [] }
-        ensures later { D.faults self.old.store.base.disk.now ≤ D.faults self.new.store.base.disk.now }
+        ensures later { D.faults self.old.store.base.disk.now
+            ≤ D.faults self.new.store.base.disk.now }
     {
         match self.names.again(&mut self.store) {
             Ok(()) => {

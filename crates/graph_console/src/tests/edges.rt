@@ -6,7 +6,7 @@ use std::test::Fail;
 
 #[test]
 fn rows_of_edges(rt: HostRuntime) -> Result<(), Fail> {
-    let cases: [&[Row]; 8] = [
+    let cases: [&[Row]; 10] = [
         // A loop is at its node once, and a node with a relationship stays.
         &[
             (b"node a", b"node 0"),
@@ -112,6 +112,50 @@ fn rows_of_edges(rt: HostRuntime) -> Result<(), Fail> {
             (b"node b", b"node 0"),
             (b"edge 1 t 0", b"edge 0"),
             (b"g.V().count()", b"==>2\nend"),
+        ],
+        // The edges of a type at a node: those that leave it come first, each way by ascending
+        // identifier, and a loop is met twice in both.
+        &[
+            (b"expand 7 out t", b"error no node 7"),
+            (b"node a", b"node 0"),
+            (b"node b", b"node 1"),
+            (b"expand 0 both t", b"end"),
+            (b"edge 1 t 0", b"edge 0"),
+            (b"edge 0 t 1", b"edge 1"),
+            (b"edge 0 u 1", b"edge 2"),
+            (b"edge 0 t 0", b"edge 3"),
+            (b"expand 0 out t", b"==>e[1][0-t->1]\n==>e[3][0-t->0]\nend"),
+            (b"expand 0 in t", b"==>e[0][1-t->0]\n==>e[3][0-t->0]\nend"),
+            (
+                b"expand 0 both t",
+                b"==>e[1][0-t->1]\n==>e[3][0-t->0]\n==>e[0][1-t->0]\n==>e[3][0-t->0]\nend",
+            ),
+            (b"expand 1 in u", b"==>e[2][0-u->1]\nend"),
+            (b"expand 1 out u", b"end"),
+            (b"expand 0 out a", b"end"),
+            (b"expand 0 both w", b"end"),
+            (b"expand 7 both w", b"error no node 7"),
+            (b"stats", b"nodes 2 edges 4 properties 0 blocks 0 names 4"),
+        ],
+        // They are those that a transaction sees, and then those that are stored.
+        &[
+            (b"node a", b"node 0"),
+            (b"edge 0 t 0", b"edge 0"),
+            (b"begin", b"ok"),
+            (b"edge 0 t 0", b"edge 1"),
+            (b"edge 0 new 0", b"edge 2"),
+            (b"delete edge 0", b"ok"),
+            (b"expand 0 out t", b"==>e[1][0-t->0]\nend"),
+            (b"expand 0 in new", b"==>e[2][0-new->0]\nend"),
+            (b"rollback", b"ok"),
+            (b"expand 0 out t", b"==>e[0][0-t->0]\nend"),
+            (b"expand 0 in new", b"end"),
+            (b"reopen", b"ok"),
+            (b"expand 0 in t", b"==>e[0][0-t->0]\nend"),
+            (b"delete edge 0", b"ok"),
+            (b"expand 0 in t", b"end"),
+            (b"delete node 0", b"ok"),
+            (b"expand 0 in t", b"error no node 0"),
         ],
         // Faults of the grammar have their places.
         &[

@@ -1,7 +1,7 @@
 //! Scripts that are drawn: nodes, edges and their properties come and go, loops and edges side by side
 //! among them.
 //! Each reply is the one that plain lists foretell.
-use super::lists::{Console, Element, Given, Line, Pair, Pairs};
+use super::lists::{Console, Element, Given, Line, Pair, Pairs, Way};
 use super::{PLAIN, run_on};
 use crate::Exit;
 use disk_model::PlainDisk;
@@ -56,6 +56,16 @@ impl Draws {
             4 | 5 => Line::Checkpoint,
             _ => Line::Reopen,
         }
+    }
+
+    fn expansion(&mut self) -> Line {
+        let way = match self.draw() % 4 {
+            0 => Way::Out,
+            1 => Way::In,
+            _ => Way::Both,
+        };
+        let (node, label) = (self.node(), self.name());
+        Line::Expand { node, way, label }
     }
 
     fn element(&mut self) -> Element {
@@ -146,6 +156,7 @@ fn draw_line(draws: &mut Draws, console: &Console, sparse: u64) -> Line {
             }
         }
         2 => Line::Vertices,
+        3 | 4 => draws.expansion(),
         _ => draws.change(console),
     }
 }

@@ -80,6 +80,24 @@ fn pairs_text(alloc: Global, pairs: Pairs) -> Result<String, AllocError> {
     Ok(text)
 }
 
+/// Which edges at a node a line asks for: those that leave it, those that enter it, or both.
+#[derive(Clone, Copy, Debug, Drop)]
+pub(crate) enum Way {
+    Out,
+    In,
+    Both,
+}
+
+impl Way {
+    fn word(self) -> &'static str {
+        match self {
+            Way::Out => "out",
+            Way::In => "in",
+            Way::Both => "both",
+        }
+    }
+}
+
 /// A line of a script. Labels and types are letters.
 #[derive(Clone, Copy, Debug, Drop)]
 pub(crate) enum Line {
@@ -102,6 +120,11 @@ pub(crate) enum Line {
         key: char,
     },
     Delete(Element),
+    Expand {
+        node: u32,
+        way: Way,
+        label: char,
+    },
     Begin,
     Commit,
     Rollback,
@@ -140,6 +163,10 @@ impl Line {
             Line::Delete(element) => {
                 let element = element.text(alloc)?;
                 format!(in alloc; "delete {element}\n")
+            }
+            Line::Expand { node, way, label } => {
+                let way = way.word();
+                format!(in alloc; "expand {node} {way} {label}\n")
             }
             Line::Begin => String::from_str(alloc, "begin\n"),
             Line::Commit => String::from_str(alloc, "commit\n"),
@@ -197,11 +224,12 @@ impl Ids {
     }
 }
 
-/// The ends of an edge.
+/// The ends of an edge, and its type.
 #[derive(Clone, Copy, Drop)]
 struct Ends {
     id: u32,
     from: u32,
+    label: char,
     to: u32,
 }
 
@@ -380,6 +408,7 @@ impl Console {
             Line::Set { element, pair } => self.set(element, pair),
             Line::Unset { element, key } => self.unset(element, key),
             Line::Delete(element) => self.delete(element),
+            Line::Expand { node, way, label } => self.expand(node, way, label),
             Line::Begin => self.begin(),
             Line::Commit => self.commit(),
             Line::Rollback => self.rollback(),
@@ -447,7 +476,12 @@ impl Console {
         let ends_weight = self.ends_weight(from, to);
         let mut next = self.seen.copy()?;
         let id = next.edges.take()?;
-        next.ends.push(Ends { id, from, to })?;
+        next.ends.push(Ends {
+            id,
+            from,
+            label,
+            to,
+        })?;
         let weight = next.dress(Element::Edge(id), label, pairs)?;
         let reply = format!(in self.alloc; "edge {id}\n")?;
         self.take(
@@ -563,6 +597,40 @@ impl Console {
         format!(in self.alloc;
             "nodes {nodes} edges {edges} properties {properties} blocks {blocks} names {names}\n"
         )
+    }
+
+    /// The edges of a type at a node: those that leave it before those that enter it.
+    fn expand(&self, node: u32, way: Way, label: char) -> Result<String, AllocError> {
+        if !self.seen.has(Element::Node(node)) {
+            return self.lacks(Element::Node(node));
+        }
+        let mut said = String::new(self.alloc);
+        if matches!(way, Way::Out | Way::Both) {
+            self.list(&mut said, label, Way::Out, node)?;
+        }
+        if matches!(way, Way::In | Way::Both) {
+            self.list(&mut said, label, Way::In, node)?;
+        }
+        said.push_str("end\n")?;
+        Ok(said)
+    }
+
+    /// Those of one way, by ascending identifier.
+    fn list(&self, said: &mut String, label: char, way: Way, node: u32) -> Result<(), AllocError> {
+        for id in 0..self.seen.edges.next {
+            for ends in &self.seen.ends {
+                let end = if matches!(way, Way::In) {
+                    ends.to
+                } else {
+                    ends.from
+                };
+                if ends.id == id && ends.label == label && end == node {
+                    let (from, to) = (ends.from, ends.to);
+                    write!(said, "==>e[{id}][{from}-{label}->{to}]\n")?;
+                }
+            }
+        }
+        Ok(())
     }
 
     fn vertices(&self) -> Result<String, AllocError> {

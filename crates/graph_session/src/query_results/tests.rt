@@ -1,8 +1,9 @@
 ghost use Rattle.std.specs.Prelude.{◌<◌, ◌≤◌};
 
 use super::*;
+use name_store::load;
 use node_store::{NodeRow, save};
-use plain_graph::StepList;
+use plain_graph::{Ids, Step, StepList};
 use rec_bytes::{MapSpace, Meta, NIL, NODES, Shape, SpaceFault, change_meta};
 use std::alloc::Global;
 use std::test::Fail;
@@ -47,25 +48,32 @@ fn even_nodes(alloc: Global, high: u32) -> Result<MapSpace, Fail>
     Ok(space)
 }
 
-// The query of these steps.
-fn query_of(alloc: Global, steps: &[Step]) -> Result<Query, Fail> {
-    Ok(Query {
-        steps: StepList::new(Vec::from_slice(alloc, steps)?),
-    })
+// The query of all vertices, and these steps.
+fn query_of(alloc: Global, steps: Vec<Step>) -> Query {
+    Query {
+        edges: false,
+        ids: Ids::new(Vec::new(alloc)),
+        steps: StepList::new(steps),
+    }
 }
 
 #[test]
 fn a_query_gives_its_results(rt: HostRuntime) -> Result<(), Fail> {
-    let cases: [(&[Step], &[u8]); 3] = [
-        (&[], b"==>v[0]\n==>v[2]\n==>v[4]\nend\n"),
-        (&[Step::Count], b"==>3\nend\n"),
-        (&[Step::Count, Step::Count], b"==>1\nend\n"),
+    let alloc = rt.alloc();
+    let cases: [(Vec<Step>, &[u8]); 3] = [
+        (vec![in alloc;]?, b"==>v[0]\n==>v[2]\n==>v[4]\nend\n"),
+        (vec![in alloc; Step::Count]?, b"==>3\nend\n"),
+        (vec![in alloc; Step::Count, Step::Count]?, b"==>1\nend\n"),
     ];
-    let mut space = even_nodes(rt.alloc(), 6)?;
+    let mut space = even_nodes(alloc, 6)?;
+    let names = load(alloc, &mut space)?;
     for (steps, want) in cases {
-        let query = query_of(rt.alloc(), steps)?;
-        let mut page = Page::new(rt.alloc(), 100, Vec::new(rt.alloc()))?;
-        assert_eq!(rt; give_query(&mut space, &query, &mut page), Turn::Go);
+        let query = query_of(alloc, steps);
+        let mut page = Page::new(alloc, 100, Vec::new(alloc))?;
+        assert_eq!(rt;
+            give_query(alloc, &mut space, &names, &query, &mut page),
+            Turn::Go
+        );
         assert_eq!(rt; page.taken(), want);
     }
     Ok(())
@@ -73,15 +81,20 @@ fn a_query_gives_its_results(rt: HostRuntime) -> Result<(), Fail> {
 
 #[test]
 fn many_lines_go_out_in_pieces(rt: HostRuntime) -> Result<(), Fail> {
+    let alloc = rt.alloc();
     // The put that fails, and what is taken: 500 lines of 8 to 10 bytes and the end, or those that
     // had room.
     let cases = [(0, Turn::Go, 4_949), (2, Turn::SinkFault, 4_095)];
-    let mut space = even_nodes(rt.alloc(), 1_000)?;
-    let query = query_of(rt.alloc(), &[])?;
+    let mut space = even_nodes(alloc, 1_000)?;
+    let names = load(alloc, &mut space)?;
+    let query = query_of(alloc, Vec::new(alloc));
     for (failing, turn, taken) in cases {
-        let fails = Vec::from_slice(rt.alloc(), &[failing])?;
-        let mut page = Page::new(rt.alloc(), 10_000, fails)?;
-        assert_eq!(rt; give_query(&mut space, &query, &mut page), turn);
+        let fails = Vec::from_slice(alloc, &[failing])?;
+        let mut page = Page::new(alloc, 10_000, fails)?;
+        assert_eq!(rt;
+            give_query(alloc, &mut space, &names, &query, &mut page),
+            turn
+        );
         assert_eq!(rt; page.taken().len(), taken);
     }
     Ok(())

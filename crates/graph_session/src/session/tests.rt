@@ -67,7 +67,7 @@ fn calls_of_a_node(alloc: Global) -> Result<u64, AllocError> {
 
 #[test]
 fn each_line_gets_its_reply(rt: HostRuntime) -> Result<(), Fail> {
-    let cases: [(&[u8], &[u8]); 18] = [
+    let cases: [(&[u8], &[u8]); 24] = [
         (b"begin", b"ok\n"),
         (b"node a", b"node 0\n"),
         (b"stats", b"nodes 1 edges 0 properties 0 blocks 0 names 1\n"),
@@ -80,10 +80,16 @@ fn each_line_gets_its_reply(rt: HostRuntime) -> Result<(), Fail> {
         (b"checkpoint", b"ok\n"),
         (b"reopen", b"ok\n"),
         (b"node c", b"node 1\n"),
+        (b"edge 0 t 1", b"edge 0\n"),
+        (b"expand 1 in t", b"==>e[0][0-t->1]\nend\n"),
+        (b"expand 1 out t", b"end\n"),
+        (b"expand 1 both c", b"end\n"),
+        (b"expand 2 in t", b"error no node 2\n"),
+        (b"delete edge 0", b"ok\n"),
         (b"delete node 0", b"ok\n"),
         (b"delete node 0", b"error no node 0\n"),
         (b"g.V().count()", b"==>1\nend\n"),
-        (b"stats", b"nodes 1 edges 0 properties 0 blocks 0 names 2\n"),
+        (b"stats", b"nodes 1 edges 0 properties 0 blocks 0 names 3\n"),
         (b" \t", b""),
         (b"node c d", b"error syntax 8\n"),
     ];

@@ -2,7 +2,6 @@ use Rattle.std.proofs.Common.{◌≡◌, ◌∙◌, sym, ap, subst, rules, Err}
 use Rattle.fault_count.specs.Cause.{Rose}
 use Rattle.txn_core.specs.Config.{Suits}
 use Rattle.txn_core.specs.declared.config.Config.{Config}
-use Rattle.txn_core.specs.declared.open_fault.OpenFault.{OpenFault}
 use Rattle.txn_core.specs.declared.open_fault.OpenFault.TheVariants.{Memory}
 use Rattle.graph_session.specs.Opening.{IsUnopened, Opens}
 use Rattle.graph_session.specs.Session.{view}

@@ -1,4 +1,4 @@
-use Rattle.std.proofs.Common.{◌≡◌, ◌∙◌, ◌++◌, ap, inl, Some, refl, arith}
+use Rattle.std.proofs.Common.{◌≡◌, ◌∙◌, ◌++◌, inl, refl, arith}
 use Rattle.plain_graph.specs.Reply.{reply_text}
 use Rattle.graph_session.specs.State.{IsQuit}
 use Rattle.disk_model.proofs.Spans.{at_each_moment_none}

@@ -13,7 +13,7 @@ returns-clause-answers g c =
       answers = λ line state only served at. record {
         reply = given.reply;
         settles =
-            settles-given_query at c.requires only (stays-read s.store c.give_query.new.space given.read.onward given.read.written at.no_draft s.health s.weight s.names.names) given (λ told. told)
+            settles-given_query at c.requires (stays-read s.store c.give_query.new.space given.read.onward given.read.same at.no_draft s.health s.weight s.names.names) only given (λ told. told)
             (drafted-none s.store at.no_draft) refl (λ rose. rose);
         text = given.gives.delivers;
         quit = (λ e. absurd (given.gives.goes e), λ h. absurd (quit-only only (λ e. cc) h));

@@ -1,0 +1,179 @@
+-- A query's results, taken from its run one by one.
+use Rattle.std.proofs.Common.{◌≡◌, ◌≢◌, ◌∙◌, ℕ, true, None, List, [], ◌∷◌, ◌++◌, append_assoc, codes, refl, sym, ap, subst, arith}
+use Rattle.std.proofs.lemmas.List.{append-nil}
+use Rattle.fault_count.specs.Cause.{Rose}
+use Rattle.stream_io.specs.declared.streams.Sink.{Ghosts as SinkGhosts}
+use Rattle.plain_graph.specs.Graph.{Graph}
+use Rattle.plain_graph.specs.Meaning.{has_past_count, meaning}
+use Rattle.plain_graph.specs.Reply.{Fault, Faulted, NoMemory, Results, fault_line, result_text, text_line}
+use Rattle.plain_graph.specs.declared.item.Item.{Item}
+use Rattle.plain_graph.specs.declared.query.Query.{Query}
+use Rattle.rec_bytes.specs.Space.{SameButReads, State}
+use Rattle.rec_bytes.specs.declared.shape.Shape.{Shape}
+use Rattle.rec_bytes.specs.declared.space.Reads.{Ghosts as SpaceGhosts}
+use Rattle.store_rules.specs.Graph.{graph_of}
+use Rattle.store_rules.specs.Views.{Records}
+use Rattle.traversal_run.specs.Reading.{IsNamedStore, IsRead}
+use Rattle.traversal_run.specs.Row.{Stream, stream, with_first}
+use Rattle.traversal_run.specs.Run.{meant, stopped_by, to_come}
+use Rattle.traversal_run.specs.declared.run.Run.{Run}
+use Rattle.graph_session.specs.Answer.{Gives}
+use Rattle.graph_session.specs.Exchange.{AreFirst, told_in}
+use Rattle.graph_session.specs.LineBuffer.{Adds}
+use Rattle.graph_session.specs.QueryResults.{GivesQuery, Means}
+use Rattle.graph_session.specs.declared.turn.Turn.{Turn}
+use Rattle.graph_session.specs.declared.turn.Turn.TheVariants.{Go}
+use Rattle.graph_session.proofs.ListedLines.{Shows, rest_of, shows-add, shows-last, shows-none, shows-stop, whole-form, whole-means, whole-text, whole-told, whole_of}
+use Rattle.graph_session.proofs.Streams.{Rose-from}
+
+-- ---- spaces that were only read
+
+records-same : (s t : State) → SameButReads s t → t.records ≡ s.records
+records-same s t same = ap (λ (x : State). x.records) same
+
+-- what holds of the records and the shape holds of them still
+pub named-same : (s t : State) (names : List (List ℕ)) → SameButReads s t → IsNamedStore s.records s.shape names → IsNamedStore t.records t.shape names
+named-same s t names same store =
+    subst (λ (shape : Shape). IsNamedStore t.records shape names) (sym (ap (λ (x : State). x.shape) same))
+    (subst (λ (records : Records). IsNamedStore records s.shape names) (sym (records-same s t same)) store)
+
+same-on : (s t u : State) → SameButReads s t → SameButReads t u → SameButReads s u
+same-on s t u first more = more ∙ ap (λ (x : State). record x { reads = u.reads }) first
+
+module _ {R : Type 0} (space : SpaceGhosts R) where
+  -- nothing was read
+  pub is_read-none : ((a : R) → space.onward a a) → (r : R) → IsRead space r r
+  is_read-none stays r = record { same = refl; onward = stays r; later = omega arith }
+
+  -- more was read
+  pub is_read-on : ((a b c : R) → space.onward a b → space.onward b c → space.onward a c) → (a b c : R) → IsRead space a b → IsRead space b c → IsRead space a c
+  is_read-on further a b c first more = record {
+    same = same-on (space.state a) (space.state b) (space.state c) first.same more.same;
+    onward = further a b c first.onward more.onward;
+    later = let early = first.later in let late = more.later in omega (arith, early, late);
+  }
+
+-- ---- results that come
+
+first-first : (found : List Item) (item : Item) (coming : Stream) → with_first found (with_first (item ∷ []) coming) ≡ with_first (found ++ item ∷ []) coming
+first-first found item coming = λ i. record { items = sym (append_assoc found (item ∷ []) coming.items) i; past = coming.past }
+
+-- Some results of a query were found, and the run has the others.
+pub record IsRunning {R K : Type 0} (space : SpaceGhosts R) (sink : SinkGhosts K) (names : List (List ℕ)) (query : Query) (old now : R) (before after : K) (held : List ℕ) (run : Run) : Type 0 where
+  pub found : List Item
+  pub coming : space.tells → IsNamedStore (space.state old).records (space.state old).shape names
+      → meant (graph_of (space.state old).records) query ≡ with_first found (to_come (graph_of (space.state old).records) run)
+  pub goes : stopped_by run ≡ None
+  pub read : IsRead space old now
+  pub shows : Shows sink before after held found
+
+-- nothing was found yet
+pub running-first : {R K : Type 0} {space : SpaceGhosts R} {sink : SinkGhosts K} (names : List (List ℕ)) (query : Query) → ((a : R) → space.onward a a) → (r : R) (k : K) (run : Run)
+    → ((graph : Graph) → to_come graph run ≡ meant graph query) → stopped_by run ≡ None → IsRunning space sink names query r r k k [] run
+running-first {space = space} names query stays r k run begins goes = record {
+  found = [];
+  coming = λ told store. sym (begins (graph_of (space.state r).records));
+  goes = goes;
+  read = is_read-none space stays r;
+  shows = shows-none k;
+}
+
+-- there was no memory for a run
+pub running-none : {R K : Type 0} {space : SpaceGhosts R} {sink : SinkGhosts K} (names : List (List ℕ)) (query : Query) → ((a : R) → space.onward a a) → (r : R) (k then : K) (turn : Turn)
+    → Gives sink (fault_line NoMemory) k then turn → GivesQuery space sink names query r r k then turn
+running-none {space = space} names query stays r k then turn gives = record {
+  reply = Faulted [] NoMemory;
+  form = tt;
+  gives = gives;
+  means = λ told store. (meaning (graph_of (space.state r).records) query, refl);
+  told = λ blames. absurd (blames refl);
+  read = is_read-none space stays r;
+}
+
+module _ {R K : Type 0} {space : SpaceGhosts R} {sink : SinkGhosts K} {names : List (List ℕ)} {query : Query} (further : (a b c : R) → space.onward a b → space.onward b c → space.onward a c) {old now : R} {before after : K}
+    {held : List ℕ} {run : Run} (running : IsRunning space sink names query old now before after held run) where
+  abbrev graph : Graph
+  graph = graph_of (space.state old).records
+
+  abbrev graph_now : Graph
+  graph_now = graph_of (space.state now).records
+
+  -- what the run says of the records as they are now, it says of those at the start
+  pub at_start : (P : Graph → Type 0) → (space.tells → IsNamedStore (space.state now).records (space.state now).shape names → P graph_now) → space.tells → IsNamedStore (space.state old).records (space.state old).shape names → P graph
+  at_start P says told store =
+      subst (λ (records : Records). P (graph_of records)) (records-same (space.state old) (space.state now) running.read.same)
+      (says told (named-same (space.state old) (space.state now) names running.read.same store))
+
+  -- the results so far, with what is still to come
+  first-found : (coming : Stream) → to_come graph run ≡ coming → space.tells → IsNamedStore (space.state old).records (space.state old).shape names → meant graph query ≡ with_first running.found coming
+  first-found coming is told store = running.coming told store ∙ ap (with_first running.found) is
+
+  pub are-first : space.tells → IsNamedStore (space.state old).records (space.state old).shape names → AreFirst running.found (meaning graph query)
+  are-first told store = ((to_come graph run).items, sym (ap (λ (s : Stream). s.items) (running.coming told store)))
+
+  module _ {next : R} (reads : IsRead space now next) where
+    read-on : IsRead space old next
+    read-on = is_read-on space further old now next running.read reads
+
+    module _ (later : Run) (item : Item)
+        (comes : space.tells → IsNamedStore (space.state now).records (space.state now).shape names → to_come graph_now run ≡ with_first (item ∷ []) (to_come graph_now later)) where
+      found_more : space.tells → IsNamedStore (space.state old).records (space.state old).shape names → meant graph query ≡ with_first (running.found ++ item ∷ []) (to_come graph later)
+      found_more told store =
+          first-found (with_first (item ∷ []) (to_come graph later)) (at_start (λ g. to_come g run ≡ with_first (item ∷ []) (to_come g later)) comes told store) told store
+          ∙ first-first running.found item (to_come graph later)
+
+      -- a result was found, and its line gathered
+      pub running-on : stopped_by later ≡ None → (new : List ℕ) (then : K) → Adds sink (result_text item) held new after then Go → IsRunning space sink names query old next before then new later
+      running-on goes new then adds = record {
+        found = running.found ++ item ∷ [];
+        coming = found_more;
+        goes = goes;
+        read = read-on;
+        shows = shows-add running.shows item new then adds;
+      }
+
+      -- the sink failed
+      pub running-stop : (new : List ℕ) (then : K) (turn : Turn) → Adds sink (result_text item) held new after then turn → turn ≢ Go → GivesQuery space sink names query old next before then turn
+      running-stop new then turn adds stops =
+          let first = running.found ++ item ∷ [] in
+          let all = meaning graph query in
+          let past = has_past_count graph query in
+          record {
+            reply = whole_of past first all;
+            form = whole-form past first all;
+            gives = subst (λ (text : List ℕ). Gives sink text before then turn) (whole-text past first all) (shows-stop running.shows item new then turn adds stops (rest_of past first all));
+            means = λ told store. whole-means past first all ((to_come graph later).items, sym (ap (λ (s : Stream). s.items) (found_more told store)));
+            told = λ blames. absurd (blames (whole-told past first all));
+            read = read-on;
+          }
+
+    -- all results were found
+    pub running-end : (space.tells → IsNamedStore (space.state now).records (space.state now).shape names → to_come graph_now run ≡ stream []) → (then : K) (turn : Turn)
+        → Gives sink (held ++ text_line (codes "end")) after then turn → GivesQuery space sink names query old next before then turn
+    running-end ends then turn gives = record {
+      reply = Results running.found;
+      form = tt;
+      gives = shows-last running.shows (text_line (codes "end")) then turn gives;
+      means = λ told store.
+          let all = first-found (stream []) (at_start (λ g. to_come g run ≡ stream []) ends told store) told store in
+          (sym (ap (λ (s : Stream). s.items) all ∙ append-nil running.found), ap (λ (s : Stream). s.past) all);
+      told = λ blames. absurd (blames refl);
+      read = read-on;
+    }
+
+    -- the run stopped with a fault
+    pub running-fault : (fault : Fault) → (space.tells → IsNamedStore (space.state old).records (space.state old).shape names → Means (meaning graph query) (has_past_count graph query) (Faulted running.found fault))
+        → (told_in fault ≢ 0 → Rose (space.faults now) (space.faults next)) → (then : K) (turn : Turn) → Gives sink (held ++ fault_line fault) after then turn → GivesQuery space sink names query old next before then turn
+    running-fault fault means rose then turn gives = record {
+      reply = Faulted running.found fault;
+      form = tt;
+      gives = shows-last running.shows (fault_line fault) then turn gives;
+      means = means;
+      told = λ blames. Rose-from (space.faults old) (space.faults now) (space.faults next) running.read.later (rose blames);
+      read = read-on;
+    }
+
+  -- where a count passes of what is to come, the query's passes
+  pub past-found : (space.tells → IsNamedStore (space.state now).records (space.state now).shape names → (to_come graph_now run).past ≡ true) → space.tells → IsNamedStore (space.state old).records (space.state old).shape names
+      → has_past_count graph query ≡ true
+  past-found passes told store = ap (λ (s : Stream). s.past) (running.coming told store) ∙ at_start (λ g. (to_come g run).past ≡ true) passes told store
