@@ -1,0 +1,126 @@
+"""Runs the program on a folder, and speaks with it by its lines alone: lines in, replies out."""
+
+import os
+import pathlib
+import select
+import subprocess
+
+NIPAKEEL = pathlib.Path(__file__).resolve().parent.parent / "nipakeel"
+CHUNK = 65_536
+# How each status of the program reads to a person. Negative ones are signals.
+STATUSES = {
+    0: "it read its input to the end",
+    1: "the disk has failed, and what is stored the next run tells",
+    2: "it doesn't take these words",
+    3: "reading its input failed",
+    4: "writing its output failed",
+    5: "there was no memory to begin with",
+    6: "the files of the folder hold no store, or a damaged one",
+    7: "the store has another shape than the options ask for",
+    8: "the disk failed while the store was opened",
+    9: "it has taken all the input that a run may take",
+    70: "it could not be built",
+}
+
+
+class Ended(Exception):
+    """The program ended before it had answered, with this status, and said this last."""
+
+    def __init__(self, status, said=b""):
+        self.status, self.said = status, said
+        super().__init__(ending(status, said))
+
+
+def ending(status, said=b""):
+    """How the program ended, in a line."""
+    lines = said.decode(errors="replace").split("\n")
+    told = next((it for it in reversed(lines) if it), "")
+    last = f", and said: {told[:200]}" if told else ""
+    if status < 0:
+        return f"the program was stopped by signal {-status}{last}"
+    return f"the program ended with status {status} ({STATUSES.get(status, 'none of its own')}){last}"
+
+
+class Program:
+    """A run of the program. What is sent is written while replies are read, so neither side waits for the other."""
+
+    def __init__(self, folder, words=(), program=NIPAKEEL, keep=()):
+        """Starts it. The descriptors of `keep` stay open in it."""
+        # A group of its own, so that Ctrl-C at a terminal is for the tool alone.
+        self.started = subprocess.Popen(
+            [program, "run", *words],
+            cwd=folder,
+            stdin=subprocess.PIPE,
+            stdout=subprocess.PIPE,
+            bufsize=0,
+            start_new_session=True,
+            pass_fds=keep,
+        )
+        self.input, self.output = self.started.stdin.fileno(), self.started.stdout.fileno()
+        os.set_blocking(self.input, False)
+        self.to_write, self.held, self.held_lines = b"", b"", 0
+        self.sent = 0
+
+    def send(self, lines):
+        """Gives the program these whole lines, as far as it takes them now. The rest goes with later calls."""
+        self.sent += len(lines)
+        self.to_write += lines
+        self.write()
+
+    def write(self):
+        try:
+            while self.to_write:
+                self.to_write = self.to_write[os.write(self.input, self.to_write) :]
+        except BlockingIOError:
+            pass
+        except BrokenPipeError:
+            # It has ended, which the end of its output tells with all that it said.
+            self.to_write = b""
+
+    def read(self):
+        """Waits for output and takes it. Raises `Ended` where there is no more."""
+        while self.to_write:
+            readable, writable, _ = select.select([self.output], [self.input], [])
+            if writable:
+                self.write()
+            if readable:
+                break
+        chunk = os.read(self.output, CHUNK)
+        if not chunk:
+            raise Ended(self.started.wait(), self.held)
+        self.held += chunk
+        self.held_lines += chunk.count(b"\n")
+
+    def replies(self, count):
+        """The next so many lines of output, without their newlines."""
+        while self.held_lines < count:
+            self.read()
+        *lines, self.held = self.held.split(b"\n", count)
+        self.held_lines -= count
+        return lines
+
+    def ask(self, line):
+        """Sends a line whose reply is one line, and returns that."""
+        self.send(line + b"\n")
+        return self.replies(1)[0]
+
+    def counts(self):
+        """How many nodes and edges `stats` tells."""
+        reply = self.ask(b"stats")
+        words = reply.split()
+        if words[::2] != [b"nodes", b"edges", b"properties", b"blocks", b"names"]:
+            raise self.refuses(reply)
+        return int(words[1]), int(words[3])
+
+    def refuses(self, reply):
+        """The fault for a reply that tells why the program serves no line, or that it never gives."""
+        return Ended(self.end(), reply)
+
+    def end(self):
+        """Ends the input, waits for the program, and returns its status. An open transaction is dropped."""
+        self.to_write = b""
+        self.started.stdin.close()
+        while os.read(self.output, CHUNK):
+            pass
+        self.started.stdout.close()
+        return self.started.wait()

@@ -1,0 +1,207 @@
+"""Packs rows into transactions, and keeps the journal that says which of them were brought in."""
+
+import dataclasses
+import fcntl
+import functools
+import hashlib
+import json
+import os
+import zlib
+
+from rows import to_bytes
+
+MOST_WEIGHT, LEAST_WEIGHT = 2_048, 6
+FORM = 1
+# How a journal begins.
+BEGINNING = b'{"form":'
+
+
+class BadJournal(Exception):
+    """The journal doesn't go with the files or with the store."""
+
+
+@dataclasses.dataclass
+class Transaction:
+    """Some rows of a table in order, and the number of its entry, once the journal has one."""
+
+    table: object
+    rows: list
+    entry: int = None
+
+    @functools.cached_property
+    def lines(self):
+        return to_bytes("".join(row.text + "\n" for row in self.rows))
+
+    def part(self, *bounds):
+        return Transaction(self.table, self.rows[slice(*bounds)])
+
+    @property
+    def is_nodes(self):
+        return self.table.kind == "nodes"
+
+    @property
+    def identifiers(self):
+        """The identifiers of nodes, as pairs of the first and the last of runs."""
+        runs = []
+        for row in self.rows if self.is_nodes else []:
+            it = row.node.identifier
+            if runs and runs[-1][1] == it - 1:
+                runs[-1][1] = it
+            else:
+                runs.append([it, it])
+        return runs
+
+    def digest(self):
+        """A sum over the lines, and over the outer ids of nodes."""
+        made = hashlib.blake2b(self.lines, digest_size=16)
+        for row in self.rows if self.is_nodes else []:
+            made.update(to_bytes(row.outer) + b"\n")
+        return made.hexdigest()
+
+
+def packed(table, rows, most=MOST_WEIGHT):
+    """The rows in transactions, each as full as it may be. One that a refused row would be in is dropped."""
+    held, weight = [], LEAST_WEIGHT
+    for row in rows:
+        if held and weight + row.weight > most:
+            yield Transaction(table, held)
+            held, weight = [], LEAST_WEIGHT
+        held.append(row)
+        weight += row.weight
+    if held:
+        yield Transaction(table, held)
+
+
+@dataclasses.dataclass
+class Entry:
+    """What the journal says of a transaction: the table, how many rows, their sum, and the identifiers of its nodes."""
+
+    kind: str
+    table: int
+    rows: int
+    digest: str
+    identifiers: list
+
+    def numbers(self):
+        return [it for first, last in self.identifiers for it in range(first, last + 1)]
+
+
+class Journal:
+    """A file of entries, each written and synced before its transaction is committed.
+
+    Its first line has the store's counts before the import. Each line ends with a sum, so a line that was cut is seen.
+    The file is locked, and the program holds the lock too until it has ended: no second import begins before.
+    """
+
+    def __init__(self, path, anew=False):
+        self.path = path
+        new = not path.exists()
+        self.file = open(path, "a+b", buffering=0)
+        try:
+            fcntl.flock(self.file, fcntl.LOCK_EX | fcntl.LOCK_NB)
+        except BlockingIOError:
+            raise BadJournal(f"{path}: another import is at work, or its program hasn't ended yet") from None
+        if new:
+            sync_folder(path.parent)
+        self.base, self.entries = None, []
+        self.load(anew)
+
+    def load(self, anew):
+        self.file.seek(0)
+        held = self.file.read()
+        if not held.startswith(BEGINNING[: len(held)]):
+            raise BadJournal(f"{self.path}: it is no journal of an import")
+        if anew:
+            held = b""
+        self.whole = 0
+        for line in held.splitlines(keepends=True):
+            said, _, sum = line.rpartition(b" ")
+            if not line.endswith(b"\n") or sum.strip() != b"%08x" % zlib.crc32(said):
+                break
+            self.whole += len(line)
+            self.take(json.loads(said))
+        rest = held[self.whole :]
+        # The first line is synced before a second one is written.
+        if self.base is None and rest.count(b"\n") > 1:
+            raise BadJournal(f"{self.path}: its first line is damaged; --anew forgets the journal")
+        self.is_cut = bool(rest)
+
+    def take(self, it):
+        if "form" in it:
+            if it["form"] != FORM:
+                raise BadJournal(f"{self.path}: of another version of this tool")
+            self.base = tuple(it["base"])
+        elif "keep" in it:
+            del self.entries[it["keep"] :]
+        else:
+            self.entries.append(Entry(**it))
+
+    def write(self, *lines):
+        """Writes and syncs lines. What a stop has left after the last whole line goes first."""
+        if self.whole is not None:
+            self.file.truncate(self.whole)
+            self.whole = None
+        said = [json.dumps(it, separators=(",", ":")).encode() for it in lines]
+        left = b"".join(b"%s %08x\n" % (it, zlib.crc32(it)) for it in said)
+        while left:
+            left = left[self.file.write(left) :]
+        os.fdatasync(self.file.fileno())
+
+    def begin(self, base):
+        """Takes note of the store's counts before the import, unless something of one may be there."""
+        is_new = self.base is None or not self.entries and not self.is_cut
+        if is_new and self.base != base:
+            self.base = base
+            self.write({"form": FORM, "base": base})
+
+    def add(self, entries):
+        """Writes and syncs entries of transactions that come in this order."""
+        self.entries += entries
+        self.write(*map(dataclasses.asdict, entries))
+
+    def keep(self, count):
+        """Says that only the first so many of its transactions are in the store."""
+        if count < len(self.entries):
+            del self.entries[count:]
+            self.write({"keep": count})
+
+    def stored(self, counts):
+        """How many of its transactions are in a store of these counts of nodes and edges: each adds some."""
+        nodes, edges = self.base
+        at = [(nodes, edges)]
+        for it in self.entries:
+            nodes, edges = (nodes + it.rows, edges) if it.kind == "nodes" else (nodes, edges + it.rows)
+            at.append((nodes, edges))
+        if counts not in at:
+            raise BadJournal(
+                f"{self.path}: the store has {counts[0]} nodes and {counts[1]} edges, which it had after no transaction"
+                " of the journal; something else has changed it, and --anew forgets the journal"
+            )
+        return at.index(counts)
+
+
+def sync_folder(path):
+    folder = os.open(path, os.O_RDONLY | os.O_DIRECTORY)
+    try:
+        os.fsync(folder)
+    finally:
+        os.close(folder)
+
+
+def again(table, rows, entries):
+    """Takes the rows that these entries of the table have, and gives nodes the identifiers that they got."""
+    for entry in entries:
+        got = Transaction(table, [])
+        for _ in range(entry.rows):
+            row = next(rows, None)
+            if row is None:
+                raise BadJournal(f"{table.path}: it has fewer rows than are in; --anew forgets the journal")
+            got.rows.append(row)
+        for row, it in zip(got.rows, entry.numbers()):
+            row.node.identifier = it
+        if got.digest() != entry.digest:
+            first, last = got.rows[0].at, got.rows[-1].at
+            raise BadJournal(
+                f"{table.path}:{first} to {last}: these rows were brought in with other contents; --anew forgets the"
+                " journal, and brings in all rows besides"
+            )
