@@ -53,14 +53,19 @@ def linked(id):
     return b"error node %d has relationships\n" % id
 
 
+def answer(*results):
+    """The reply to a query, or to `expand`, with these results."""
+    return b"".join(b"==>%s\n" % it for it in results) + b"end\n"
+
+
 def listed(*ids):
     """The reply to `g.V()` where these are the nodes."""
-    return b"".join(b"==>v[%d]\n" % id for id in ids) + b"end\n"
+    return answer(*(b"v[%d]" % id for id in ids))
 
 
 def count(number):
     """The reply to `g.V().count()`."""
-    return b"==>%d\nend\n" % number
+    return answer(b"%d" % number)
 
 
 def stats(nodes, names, edges=0, properties=0, blocks=0):
