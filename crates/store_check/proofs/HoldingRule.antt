@@ -1,0 +1,214 @@
+-- The fifth rule of the store, and its sentences.
+use Rattle.std.proofs.Common.{◌≡◌, ℕ, ◌<◌, Bool, true, false, cond, ◌&&◌, Option, Some, None, List, [], nat_eq, sym, ◌∙◌, subst, refl}
+use Rattle.std.proofs.lemmas.Bool.{eqb-true}
+use Rattle.rec_bytes.specs.Format as format
+use Rattle.store_rules.specs.Chains.{In, IsWalk}
+use Rattle.store_rules.specs.Rules as rules
+use Rattle.store_rules.specs.Views.{NodeRow, Records, RelRow, high, is_live, kind_at, node_at, node_in, rec_at, rel_at, rel_in}
+use Rattle.store_rules.proofs.NumberLaws.{eq_true}
+use Rattle.store_rules.proofs.ViewLaws.{live_true, some_row}
+use Rattle.store_check.specs.Breaking.{AreProperties, HasBlock, HasProperty, IsBlockHeldOnce, IsBlockList, IsHeldOnce, IsLong, IsPropertyList, Owns, TextKeeps, first_block, next_block, next_property}
+use Rattle.store_check.specs.Holding.{AreElementsRight, AreTextsRight}
+use Rattle.store_check.proofs.BlockLaws.{long_low}
+use Rattle.store_check.proofs.ElementLaws.{owns_is}
+use Rattle.store_check.proofs.LiveLaws.{live_below}
+use Rattle.store_check.proofs.PropertyLaws.{properties_one, walk_one}
+use Rattle.store_check.proofs.TextLaws.{blocks_one}
+
+-- lists of owners, from what each has
+module _ (owner : ℕ → ℕ → Option ℕ) (Is : ℕ → ℕ → ℕ → List ℕ → Type 0) (keeps : (file x first : ℕ) → owner file x ≡ Some first → (xs : List ℕ) × Is file x first xs) where
+  abbrev pub list_at : (file x : ℕ) (o : Option ℕ) → owner file x ≡ o → List ℕ
+  list_at file x None e = []
+  list_at file x (Some first) e = (keeps file x first e).0
+
+  abbrev pub lists_of : ℕ → ℕ → List ℕ
+  lists_of file x = list_at file x (owner file x) refl
+
+  pub list_is : (file x first : ℕ) → owner file x ≡ Some first → Is file x first (lists_of file x)
+  list_is file x first own = by (owner file x) refl own
+    where
+      by : (o : Option ℕ) (e : owner file x ≡ o) → o ≡ Some first → Is file x first (list_at file x o e)
+      by None e k = absurd cc
+      by (Some f) e k = let same : f ≡ first = cc in subst (λ z. Is file x z (keeps file x f e).0) same (keeps file x f e).1
+
+module _ (records : Records) where
+  -- ---- properties of elements
+
+  abbrev pub owner : ℕ → ℕ → Option ℕ
+  owner = rules.property_owner (node_at records) (rel_at records)
+
+  abbrev pub IsIts : ℕ → ℕ → ℕ → List ℕ → Type 0
+  IsIts file x first xs = IsPropertyList records first xs
+
+  module _ (right : AreElementsRight records) where
+    pub its_list : (file x first : ℕ) → owner file x ≡ Some first → (xs : List ℕ) × IsPropertyList records first xs
+    its_list file x first own =
+        let o = owns_is records x file first own in
+        (right.keeps file x o.known (live_below records file x o.live)).list first own
+
+    abbrev pub lists : ℕ → ℕ → List ℕ
+    lists = lists_of owner IsIts its_list
+
+    list : (file x first : ℕ) → owner file x ≡ Some first → IsPropertyList records first (lists file x)
+    list = list_is owner IsIts its_list
+
+    has : (file x first p : ℕ) → owner file x ≡ Some first → In p (lists file x) → HasProperty records file x p
+    has file x first p own i = record { first = first; owns = own; among = record { members = lists file x; list = list file x first own; member = i } }
+
+    pub are_held : rules.AreHeld owner (next_property records) (is_live records format.properties_file)
+    are_held = record {
+      lists = lists;
+      walk = λ file x first own. (list file x first own).walk;
+      only = λ file x first p own i. (list file x first own).live p i;
+      held = λ p live.
+          let h = (right.held p).held live in
+          let a = h.2 in
+          let one = properties_one records a.first a.among.members (lists h.0 h.1) a.among.list (list h.0 h.1 a.first a.owns) in
+          (h.0, h.1, a.first, (a.owns, subst (In p) one a.among.member));
+      once = λ file x first other y second p own own2 i j. (right.held p).once file x other y (has file x first p own i) (has other y second p own2 j);
+    }
+
+    pub have_keys : rules.HaveKeys owner lists (rec_at records format.properties_file) (high records format.names_file)
+    have_keys = record {
+      few = λ file x first own. (list file x first own).few;
+      named = λ file x first p own i. (list file x first own).named p i;
+      distinct = λ file x first p q own i j e. (list file x first own).distinct p q i j e;
+    }
+
+    pub are_named : rules.AreNamed (node_at records) (rel_at records) (high records format.names_file)
+    are_named = record {
+      nodes_named = λ x row live.
+          let r = some_row (kind_at records 1 x) (node_in (rec_at records 1 x) x) row live in
+          let l = live_true (kind_at records 1 x) r.0 in
+          subst (λ (o : NodeRow). o.label < high records format.names_file) r.1 ((right.keeps 1 x refl (live_below records 1 x l)).named l);
+      rels_named = λ x row live.
+          let r = some_row (kind_at records 2 x) (rel_in (rec_at records 2 x) x) row live in
+          let l = live_true (kind_at records 2 x) r.0 in
+          subst (λ (o : RelRow). o.label < high records format.names_file) r.1 ((right.keeps 2 x refl (live_below records 2 x l)).named l);
+    }
+
+  -- ---- blocks of texts
+
+  abbrev pub text_owner : ℕ → ℕ → Option ℕ
+  text_owner = rules.block_owner (kind_at records format.properties_file) (rec_at records format.properties_file)
+
+  -- a text that has its blocks
+  pub record IsText (file p first : ℕ) (xs : List ℕ) : Type 0 where
+    pub file_is : file ≡ format.properties_file
+    pub long : IsLong records p
+    pub first_is : first_block records p ≡ first
+    pub list : IsBlockList records p xs
+
+  owner_by : (a b : Bool) (f first : ℕ) → cond (a && b) (Some f) None ≡ Some first → (a ≡ true) × (b ≡ true) × (f ≡ first)
+  owner_by true true f first h = (refl, refl, cc)
+  owner_by true false f first h = absurd cc
+  owner_by false b f first h = absurd cc
+
+  text_of : (file p first : ℕ) → text_owner file p ≡ Some first → (file ≡ format.properties_file) × IsLong records p × (first_block records p ≡ first)
+  text_of file p first own =
+      let r = owner_by (nat_eq file format.properties_file) (nat_eq (kind_at records format.properties_file p) format.text_in_blocks) (first_block records p) first own in
+      (eqb-true file format.properties_file r.0, eqb-true (kind_at records format.properties_file p) format.text_in_blocks r.1, r.2)
+
+  pub owns_text : (p : ℕ) → IsLong records p → text_owner format.properties_file p ≡ Some (first_block records p)
+  owns_text p long = rw (eq_true (kind_at records format.properties_file p) format.text_in_blocks long) refl
+
+  module _ (right : AreTextsRight records) where
+    pub its_blocks : (file p first : ℕ) → text_owner file p ≡ Some first → (xs : List ℕ) × IsText file p first xs
+    its_blocks file p first own =
+        let t = text_of file p first own in
+        let l = (right.keeps p (long_low records p t.1)).text t.1 in
+        (l.0, record { file_is = t.0; long = t.1; first_is = t.2; list = l.1 })
+
+    abbrev pub texts : ℕ → ℕ → List ℕ
+    texts = lists_of text_owner IsText its_blocks
+
+    text : (file p first : ℕ) → text_owner file p ≡ Some first → IsText file p first (texts file p)
+    text = list_is text_owner IsText its_blocks
+
+    has_block : (file p first b : ℕ) → text_owner file p ≡ Some first → In b (texts file p) → HasBlock records p b
+    has_block file p first b own i = let t = text file p first own in record { long = t.long; members = texts file p; list = t.list; member = i }
+
+    pub blocks_held : rules.AreHeld text_owner (next_block records) (is_live records format.strings_file)
+    blocks_held = record {
+      lists = texts;
+      walk = λ file p first own. let t = text file p first own in subst (λ f. IsWalk (next_block records) f (texts file p)) t.first_is t.list.walk;
+      only = λ file p first b own i. let t = text file p first own in t.list.live b i;
+      held = λ b live.
+          let h = (right.held b).held live in
+          let own = owns_text h.0 h.1.long in
+          let t = text format.properties_file h.0 (first_block records h.0) own in
+          let one = blocks_one records h.0 h.1.members (texts format.properties_file h.0) h.1.list t.list in
+          (format.properties_file, h.0, first_block records h.0, (own, subst (In b) one h.1.member));
+      once = λ file p first other q second b own own2 i j.
+          let t = text file p first own in
+          let u = text other q second own2 in
+          (t.file_is ∙ sym u.file_is, (right.held b).once p q (has_block file p first b own i) (has_block other q second b own2 j));
+    }
+
+    pub have_texts : rules.HaveTexts text_owner texts (rec_at records format.properties_file) (rec_at records format.strings_file)
+    have_texts = record { pieces = λ file p first own. let t = text file p first own in t.list.pieces }
+
+  -- where each record keeps it, the store does
+  pub are_properties : AreElementsRight records → AreTextsRight records → AreProperties records
+  unfolding are_held blocks_held
+  are_properties elements blocks = record {
+    properties = record {
+      held = are_held elements;
+      keys = have_keys elements;
+      blocks = blocks_held blocks;
+      texts = have_texts blocks;
+    };
+    named = are_named elements;
+  }
+
+  -- ---- where the store keeps it, each record does
+
+  module _ (h : AreProperties records) where
+    kept_list : (file x first : ℕ) → Owns records file x first → IsPropertyList records first (h.properties.held.lists file x)
+    kept_list file x first own = record {
+      walk = h.properties.held.walk file x first own;
+      live = λ p i. h.properties.held.only file x first p own i;
+      few = h.properties.keys.few file x first own;
+      named = λ p i. h.properties.keys.named file x first p own i;
+      distinct = λ p q i j e. h.properties.keys.distinct file x first p q own i j e;
+    }
+
+    pub element_list : (file x first : ℕ) → Owns records file x first → (members : List ℕ) × IsPropertyList records first members
+    element_list file x first own = (h.properties.held.lists file x, kept_list file x first own)
+
+    kept_in : (file x p : ℕ) (k : HasProperty records file x p) → In p (h.properties.held.lists file x)
+    kept_in file x p k =
+        let a = k.among in
+        subst (In p) (walk_one (next_property records) k.first a.members (h.properties.held.lists file x) a.list.walk (h.properties.held.walk file x k.first k.owns)) a.member
+
+    pub held_kept : (p : ℕ) → IsHeldOnce records p
+    held_kept p = record {
+      held = λ live. let k = h.properties.held.held p live in (k.0, k.1, record { first = k.2; owns = k.3.0; among = record { members = h.properties.held.lists k.0 k.1; list = kept_list k.0 k.1 k.2 k.3.0; member = k.3.1 } });
+      once = λ file x other y a b. h.properties.held.once file x a.first other y b.first p a.owns b.owns (kept_in file x p a) (kept_in other y p b);
+    }
+
+    kept_text : (p : ℕ) → IsLong records p → IsBlockList records p (h.properties.blocks.lists format.properties_file p)
+    kept_text p long =
+        let own = owns_text p long in
+        record {
+          walk = h.properties.blocks.walk format.properties_file p (first_block records p) own;
+          live = λ b i. h.properties.blocks.only format.properties_file p (first_block records p) b own i;
+          pieces = h.properties.texts.pieces format.properties_file p (first_block records p) own;
+        }
+
+    pub text_kept : (p : ℕ) → TextKeeps records p
+    text_kept p = record { text = λ long. (h.properties.blocks.lists format.properties_file p, kept_text p long) }
+
+    kept_block : (p b : ℕ) → HasBlock records p b → In b (h.properties.blocks.lists format.properties_file p)
+    kept_block p b k = subst (In b) (blocks_one records p k.members (h.properties.blocks.lists format.properties_file p) k.list (kept_text p k.long)) k.member
+
+    pub block_kept : (b : ℕ) → IsBlockHeldOnce records b
+    block_kept b = record {
+      held = λ live.
+          let k = h.properties.blocks.held b live in
+          let t = text_of k.0 k.1 k.2 k.3.0 in
+          let i = subst (λ f. In b (h.properties.blocks.lists f k.1)) t.0 k.3.1 in
+          (k.1, record { long = t.1; members = h.properties.blocks.lists format.properties_file k.1; list = kept_text k.1 t.1; member = i });
+      once = λ p q a c.
+          (h.properties.blocks.once format.properties_file p (first_block records p) format.properties_file q (first_block records q) b (owns_text p a.long) (owns_text q c.long) (kept_block p b a) (kept_block q b c)).1;
+    }

@@ -1,0 +1,50 @@
+-- Laws of layouts.
+use Rattle.std.proofs.Common.{◌≡◌, ◌≢◌, ℕ, Bool, true, false, ◌||◌, ◌&&◌, map, Option, None, Some, List, [], ◌∷◌, sym, ap, ◌∙◌, subst, refl}
+use Rattle.std.specs.Bool.{Decides}
+use Rattle.std.specs.List.{list_all, list_any}
+use Rattle.std.proofs.lemmas.Bool.{true≢false}
+use Rattle.rec_bytes.specs.declared.record.Rec.{Rec}
+use Rattle.rec_bytes.specs.Format as format
+use Rattle.rec_bytes.specs.Record.{field}
+use Rattle.rec_bytes.specs.RecordFiles.{is_meta_file}
+use Rattle.store_rules.specs.Ranges as ranges
+use Rattle.store_rules.proofs.NumberLaws.{eq_false}
+use Rattle.store_check.specs.declared.layout.Pointer.{Pointer}
+use Rattle.store_check.specs.declared.layout.Range.{Range}
+use Rattle.store_check.specs.Layouts.{HasLayoutOf, IsBlankBut, has_place, is_right_in, pointer_of, range_of}
+
+pub all_point-list : (marks : ℕ → ℕ) (r : Rec) (ps : List Pointer) → list_all (is_right_in marks r) ps ≡ ranges.all_point marks r (map pointer_of ps)
+all_point-list marks r [] = refl
+all_point-list marks r (p ∷ ps) = ap (λ b. ranges.points marks r (pointer_of p) && b) (all_point-list marks r ps)
+
+pub any-map : (i : ℕ) (rs : List Range) → list_any (has_place i) rs ≡ list_any (ranges.is_in i) (map range_of rs)
+any-map i [] = refl
+any-map i (r ∷ rs) = ap (λ b. ranges.is_in i (range_of r) || b) (any-map i rs)
+
+-- a record has a layout exactly where its numbers are right and its other bytes are zero
+pub laid_by : (marks : ℕ → ℕ) (r : Rec) (ps : List Pointer) (rs : List Range) (b : Bool) → list_all (is_right_in marks r) ps ≡ true → Decides b (IsBlankBut rs r) → Decides b (HasLayoutOf marks r (ranges.laid (map pointer_of ps) (map range_of rs)))
+laid_by marks r ps rs b e d = (
+  (λ t. record { point = sym (all_point-list marks r ps) ∙ e; blank = λ i lt out. d.0 t i lt (any-map i rs ∙ out) }),
+  (λ h. d.1 (λ i lt out. h.blank i lt (sym (any-map i rs) ∙ out))),
+)
+
+pub not_laid : (marks : ℕ → ℕ) (r : Rec) (ps : List Pointer) (rs : List Range) (b : Bool) → b ≡ list_all (is_right_in marks r) ps → b ≡ false → Decides b (HasLayoutOf marks r (ranges.laid (map pointer_of ps) (map range_of rs)))
+not_laid marks r ps rs b e f = ((λ t. absurd (true≢false (sym t ∙ f))), (λ h. e ∙ all_point-list marks r ps ∙ h.point))
+
+-- a record fits exactly where it has the layout of its kind
+pub fits_of : (marks : ℕ → ℕ) (file : ℕ) (r : Rec) (l : Option ranges.Layout) → ranges.layout_of file r ≡ l → HasLayoutOf marks r l → ranges.Fits marks file r
+fits_of marks file r None e h = absurd h
+fits_of marks file r (Some l) e h = record { layout = l; is = e; point = h.point; blank = h.blank }
+
+pub layout_fits : (marks : ℕ → ℕ) (file : ℕ) (r : Rec) → ranges.Fits marks file r → HasLayoutOf marks r (ranges.layout_of file r)
+layout_fits marks file r f = subst (HasLayoutOf marks r) (sym f.is) (record { point = f.point; blank = f.blank })
+
+-- so a test of the layout is a test of whether the record fits
+pub fits_by : (marks : ℕ → ℕ) (file : ℕ) (r : Rec) (l : Option ranges.Layout) (b : Bool) → ranges.layout_of file r ≡ l → Decides b (HasLayoutOf marks r l) → Decides b (ranges.Fits marks file r)
+fits_by marks file r l b e d = ((λ t. fits_of marks file r l e (d.0 t)), (λ f. d.1 (subst (HasLayoutOf marks r) e (layout_fits marks file r f))))
+
+pub free_is : (file : ℕ) (r : Rec) → is_meta_file file ≡ true → file ≢ format.names_file → field 1 r format.kind ≡ 0 → ranges.layout_of file r ≡ ranges.free_layout file
+free_is file r meta other e = rw (e, meta, eq_false file format.names_file other) refl
+
+pub used_is : (file : ℕ) (r : Rec) → field 1 r format.kind ≢ 0 → ranges.layout_of file r ≡ ranges.used_layout file r (field 1 r format.kind)
+used_is file r ne = rw (eq_false (field 1 r format.kind) 0 ne) refl

@@ -1,0 +1,41 @@
+-- Names that a load finds wrong.
+use Rattle.std.proofs.Common.{◌≡◌, ℕ, zero, suc, ◌<◌, Some, None, sym, ◌∙◌, arith, refl}
+use Rattle.rec_bytes.specs.declared.damage.Damage.{Damage}
+use Rattle.rec_bytes.specs.declared.shape.Shape.{Shape}
+use Rattle.rec_bytes.specs.Format as format
+use Rattle.rec_bytes.specs.Space.{State, after_gets}
+use Rattle.store_rules.specs.Ranges as ranges
+use Rattle.store_rules.specs.Rules as rules
+use Rattle.store_rules.specs.Views.{Records, high, rec_at}
+use Rattle.name_store.specs.Loading.{IsNameDamage}
+use Rattle.name_store.specs.Loading.IsNameDamage.{HighMark, SameText, WrongForm, WrongText}
+use Rattle.store_check.specs.Breaking.{NameKeeps}
+use Rattle.store_check.specs.Breaking.Breaks.{WrongName}
+use Rattle.store_check.specs.Verdicts.{BreaksRule}
+
+pub name_breaks : (records : Records) (shape : Shape) (d : Damage) → ranges.AreInRange records shape → IsNameDamage records d → BreaksRule records shape 6 d
+name_breaks records shape d keeps (HighMark past) = let meta = keeps.metas format.names_file refl in let low = meta.high in absurd (omega arith)
+name_breaks records shape d keeps (WrongForm x lt bad) =
+    let f = keeps.fit format.names_file x refl lt in
+    absurd (none_some f.layout (sym bad ∙ f.is))
+  where
+    none_some : (l : ranges.Layout) → None ≡ Some l → ⊥
+    none_some l e = absurd cc
+name_breaks records shape d keeps (WrongText x lt form bad) = record { rule_is = refl; breaks = WrongName x lt (λ (k : NameKeeps records x). bad k.form) }
+name_breaks records shape d keeps (SameText x earlier lt form below same) =
+    record { rule_is = refl; breaks = WrongName x lt (λ (k : NameKeeps records x). let e = k.alone earlier (omega arith) same in absurd (omega arith)) }
+
+-- where the store keeps the rule each name does
+pub name_keeps : (records : Records) → rules.AreNames (rec_at records format.names_file) (high records format.names_file) → (x : ℕ) → x < high records format.names_file → NameKeeps records x
+name_keeps records h x lt = record { form = h.form x lt; alone = λ y low e. h.distinct y x low lt e }
+
+-- reads leave the shape and what was written
+pub shape-after_gets : (n : ℕ) (s : State) → (after_gets n s).shape ≡ s.shape
+unfolding after_gets
+shape-after_gets zero s = refl
+shape-after_gets (suc n) s = shape-after_gets n s
+
+pub written-after_gets : (n : ℕ) (s : State) → (after_gets n s).written ≡ s.written
+unfolding after_gets
+written-after_gets zero s = refl
+written-after_gets (suc n) s = written-after_gets n s

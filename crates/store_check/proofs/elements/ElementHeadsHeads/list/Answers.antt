@@ -1,0 +1,46 @@
+use Rattle.std.proofs.Common.{rules, arith, ◌≡◌, ◌<◌, ◌∙◌, ℕ, List, true, ap, sym, subst}
+use Rattle.rec_bytes.specs.Format.{properties_file}
+use Rattle.rec_bytes.specs.Record.{field}
+use Rattle.store_rules.specs.Views.{Records, high, is_live}
+use Rattle.store_check.specs.Breaking.{IsPropertyList}
+use Rattle.store_check.specs.Elements.{first_of}
+use Rattle.store_check.proofs.PropertyLaws.{properties_one}
+use Rattle.store_check.proofs.RecordLaws.{free_read, live_read}
+use Rattle.store_check.proofs.elements.ElementHeadsHeads.list.Goals as goal
+
+pub property_list-requires-clause-mark : goal.property_list-requires-clause-mark
+property_list-requires-clause-mark g c =
+    c.requires.suits.properties ∙ ap (λ (r : Records). high r properties_file) (sym (ap (λ s. s.records) c.in_ok-rec.ensures.state))
+
+pub returns-then-byte-eq-FREE-clause-told : goal.returns-then-byte-eq-FREE-clause-told
+returns-then-byte-eq-FREE-clause-told g c = λ tells live.
+    let records = (g.R.Reads.state c.args.space.now).records in
+    let file = c.args.self.now.file in
+    let lt : c.args.id < high records file = omega (arith, c.requires.id, c.requires.suits.elements) in
+    free_read records file c.args.id c.in_ok-rec.rec lt (c.in_ok-rec.ensures.got tells) (sym c.byte.ensures ∙ c.if-byte-eq-FREE.true) live
+
+pub returns-in-Some-clause-told : goal.returns-in-Some-clause-told
+returns-in-Some-clause-told g c = λ tells.
+    let records = (g.R.Reads.state c.args.space.now).records in
+    let file = c.args.self.now.file in
+    let ids = c.in-Some.ids.items in
+    let lt : c.args.id < high records file = omega (arith, c.requires.id, c.requires.suits.elements) in
+    let got = c.in_ok-rec.ensures.got tells in
+    let live : is_live records file c.args.id ≡ true = live_read records file c.args.id c.in_ok-rec.rec lt got (λ z. c.if-byte-eq-FREE.false (c.byte.ensures ∙ z)) in
+    let first : c.number-first.result ≡ first_of records file c.args.id = c.number-first.ensures ∙ ap (λ r. field 4 r c.first_place.result) got ∙ ap (field 4 (records (record { file = file; id = c.args.id }))) c.first_place.ensures.is in
+    let read = ap (λ s. s.records) c.in_ok-rec.ensures.state in
+    let found : IsPropertyList (g.R.Reads.state c.get.new.self).records c.number-first.result ids = search (rules, c.in_ok-ids.ensures.found tells) in
+    let list : IsPropertyList records (first_of records file c.args.id) ids = subst (λ f. IsPropertyList records f ids) first (subst (λ (r : Records). IsPropertyList r c.number-first.result ids) read found) in
+    (live, list, (λ xs h. properties_one records (first_of records file c.args.id) xs ids h list))
+
+pub returns-in-None-clause-told : goal.returns-in-None-clause-told
+returns-in-None-clause-told g c = λ tells.
+    let records = (g.R.Reads.state c.args.space.now).records in
+    let file = c.args.self.now.file in
+    let lt : c.args.id < high records file = omega (arith, c.requires.id, c.requires.suits.elements) in
+    let got = c.in_ok-rec.ensures.got tells in
+    let live : is_live records file c.args.id ≡ true = live_read records file c.args.id c.in_ok-rec.rec lt got (λ z. c.if-byte-eq-FREE.false (c.byte.ensures ∙ z)) in
+    let first : c.number-first.result ≡ first_of records file c.args.id = c.number-first.ensures ∙ ap (λ r. field 4 r c.first_place.result) got ∙ ap (field 4 (records (record { file = file; id = c.args.id }))) c.first_place.ensures.is in
+    let read = ap (λ s. s.records) c.in_ok-rec.ensures.state in
+    let none : (xs : List ℕ) → ¬ IsPropertyList (g.R.Reads.state c.get.new.self).records c.number-first.result xs = search (rules, c.in_ok-ids.ensures.none tells) in
+    (live, subst (λ f. (xs : List ℕ) → ¬ IsPropertyList records f xs) first (subst (λ (r : Records). (xs : List ℕ) → ¬ IsPropertyList r c.number-first.result xs) read none))

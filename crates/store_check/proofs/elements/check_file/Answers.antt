@@ -1,0 +1,45 @@
+use Rattle.std.proofs.Common.{rules, arith, ◌≡◌, ◌<◌, ◌⊎◌, ℕ, true, false, IfNone, ap, subst, inl, inr}
+use Rattle.std.specs.Bool.{Decides}
+use Rattle.rec_bytes.specs.declared.meta.Meta.{Meta}
+use Rattle.store_rules.specs.Views.{Records, high}
+use Rattle.store_check.specs.declared.elements.ElementHeads.{ElementHeads}
+use Rattle.store_check.specs.declared.elements.Named.{Named}
+use Rattle.store_check.specs.declared.heads.Broke.TheVariants.{Head, Item}
+use Rattle.store_check.specs.Elements.{AreItsProperties, HasName, IsInUse}
+use Rattle.store_check.specs.Heads.{AmongHeads, AtHead, BrokeIs, HeadKeeps, IsOnce}
+use Rattle.store_check.specs.Marks.{marked}
+use Rattle.store_check.proofs.ElementLaws.{are_listed, element_head, had_twice}
+use Rattle.store_check.proofs.elements.check_file.Goals as goal
+
+pub returns-in-Some-Head-clause-found : goal.returns-in-Some-Head-clause-found
+returns-in-Some-Head-clause-found g c = λ tells.
+    let records = (g.R.Reads.state c.args.space.now).records in
+    let heads : ElementHeads = record { file = c.args.file; elements = c.meta-elements.result.high; properties = c.meta-properties.result.high } in
+    let mark : c.meta-elements.result.high ≡ high records c.args.file = ap (λ (m : Meta). m.high) c.meta-elements.ensures in
+    let b : BrokeIs (IsInUse heads records) (AreItsProperties heads records) c.meta-elements.result.high c.args.marks.now (Head c.in-Some-Head.id) = search (rules, c.in_ok-id.ensures.broken tells) in
+    inl (c.in-Some-Head.id, c.broken.ensures, omega (arith, b.0), (λ k. b.1 (element_head records heads c.requires.file c.in-Some-Head.id k)))
+
+pub returns-in-Some-Item-clause-found : goal.returns-in-Some-Item-clause-found
+returns-in-Some-Item-clause-found g c = λ tells.
+    let records = (g.R.Reads.state c.args.space.now).records in
+    let heads : ElementHeads = record { file = c.args.file; elements = c.meta-elements.result.high; properties = c.meta-properties.result.high } in
+    let b : BrokeIs (IsInUse heads records) (AreItsProperties heads records) c.meta-elements.result.high c.args.marks.now (Item c.in-Some-Item.id) = search (rules, c.in_ok-id.ensures.broken tells) in
+    inr (c.in-Some-Item.id, c.broken-in-Some-Item.ensures, had_twice records heads c.requires.file c.meta-elements.result.high c.args.marks.now c.in-Some-Item.id b)
+
+pub returns-in-None-2-clause-none : goal.returns-in-None-2-clause-none
+returns-in-None-2-clause-none g c = λ tells.
+    let records = (g.R.Reads.state c.args.space.now).records in
+    let heads : ElementHeads = record { file = c.args.file; elements = c.meta-elements.result.high; properties = c.meta-properties.result.high } in
+    let named : Named = record { file = c.args.file; elements = c.meta-elements.result.high } in
+    let n = c.meta-elements.result.high in
+    let old = c.args.marks.now in
+    let new = c.list_heads.new.marks in
+    let mark : n ≡ high records c.args.file = ap (λ (m : Meta). m.high) c.meta-elements.ensures in
+    let keeps : (x : ℕ) → x < n → HeadKeeps (IsInUse heads records) (AreItsProperties heads records) x = search (rules, c.in_ok-id.ensures.keeps tells) in
+    let told : (p : ℕ) → Decides (marked new p) ((marked old p ≡ true) ⊎ AmongHeads (IsInUse heads records) (AreItsProperties heads records) n p) = search (rules, c.in_ok-id.ensures.marks tells) in
+    let once : (p : ℕ) → IsOnce (IsInUse heads records) (AreItsProperties heads records) n p = search (rules, c.in_ok-id.ensures.once tells) in
+    let fresh : (k : ℕ) → k < n → (p : ℕ) → AtHead (IsInUse heads records) (AreItsProperties heads records) k p → marked old p ≡ false = search (rules, c.in_ok-id.ensures.fresh tells) in
+    let names : IfNone c.in_ok-id-2.field-0 ((x : ℕ) → x < n → HasName named records x)
+    = subst (λ (r : Records). IfNone c.in_ok-id-2.field-0 ((x : ℕ) → x < n → HasName named r x)) c.in_ok-id.ensures.same (c.in_ok-id-2.ensures.none tells) in
+    let each : (x : ℕ) → x < n → HasName named records x = search (rules, names) in
+    are_listed records heads c.requires.file n old new mark keeps told once fresh each

@@ -1,0 +1,57 @@
+use Rattle.std.proofs.Common.{rules, arith, ◌≡◌, ◌≤◌, ◌∙◌, ℕ, List, map, length, true, false, ap, sym, subst}
+use Rattle.std.proofs.lemmas.Bool.{true≢false}
+use Rattle.rec_bytes.specs.declared.meta.Meta.{Meta}
+use Rattle.rec_bytes.specs.Format.{names_file, properties_file}
+use Rattle.store_rules.specs.Views.{Records, high}
+use Rattle.store_check.specs.Breaking.{key_of}
+use Rattle.store_check.specs.Elements.{AreKeys, property_line}
+use Rattle.store_check.specs.Lines.{IsLineIn}
+use Rattle.store_check.proofs.PropertyLaws.{IsIt, keys_from, no_properties, properties_of}
+use Rattle.store_check.proofs.elements.property_list.Goals as goal
+
+pub returns-in_default-clause-none : goal.returns-in_default-clause-none
+returns-in_default-clause-none g c = λ tells.
+    let records = (g.R.Reads.state c.args.space.now).records in
+    let none : (xs : List ℕ) → ¬ IsLineIn property_line records c.args.mark c.args.first xs = search (rules, c.in_ok-ids.ensures.none tells) in
+    no_properties records c.args.first (subst (λ m. (xs : List ℕ) → ¬ IsLineIn property_line records m c.args.first xs) c.requires.mark none)
+
+pub returns-then-len-gt-MOST_PROPERTIES-clause-none : goal.returns-then-len-gt-MOST_PROPERTIES-clause-none
+returns-then-len-gt-MOST_PROPERTIES-clause-none g c = λ tells xs h.
+    let records = (g.R.Reads.state c.args.space.now).records in
+    let ids = c.in-Some.ids.items in
+    let found : IsLineIn property_line records c.args.mark c.args.first ids = search (rules, c.in_ok-ids.ensures.found tells) in
+    let it : IsIt records c.args.first ids = subst (λ m. IsLineIn property_line records m c.args.first ids) c.requires.mark found in
+    let room : high records properties_file ≤ 33554432 = omega (arith, c.requires.mark, c.requires.low) in
+    let few = (keys_from records c.args.first room ids it xs h).0 in
+    let len : c.len.result ≡ length ids = search rules in
+    omega (arith, c.if-len-gt-MOST_PROPERTIES.true)
+
+pub returns-then-not-are_keys-clause-none : goal.returns-then-not-are_keys-clause-none
+returns-then-not-are_keys-clause-none g c = λ tells xs h.
+    let records = (g.R.Reads.state c.args.space.now).records in
+    let ids = c.in-Some.ids.items in
+    let found : IsLineIn property_line records c.args.mark c.args.first ids = search (rules, c.in_ok-ids.ensures.found tells) in
+    let it : IsIt records c.args.first ids = subst (λ m. IsLineIn property_line records m c.args.first ids) c.requires.mark found in
+    let room : high records properties_file ≤ 33554432 = omega (arith, c.requires.mark, c.requires.low) in
+    let same = c.in_ok-keys.ensures.same ∙ c.in_ok-ids.ensures.same in
+    let names : c.meta.result.high ≡ high records names_file = ap (λ (m : Meta). m.high) c.meta.ensures ∙ ap (λ (r : Records). high r names_file) same in
+    let keys : c.deref_mut.result.now ≡ map (key_of records) ids = c.deref_mut.ensures.value ∙ c.in_ok-keys.ensures.keys tells ∙ ap (λ (r : Records). map (key_of r) c.deref.result.now) c.in_ok-ids.ensures.same ∙ ap (map (key_of records)) c.deref.ensures.value in
+    let k = (keys_from records c.args.first room ids it xs h).1 in
+    let no : c.are_keys.result ≡ false = search rules in
+    let yes = c.are_keys.ensures.1 (subst (λ ks. AreKeys c.meta.result.high ks) (sym keys) (subst (λ n. AreKeys n (map (key_of records) ids)) (sym names) k)) in
+    true≢false (sym yes ∙ no)
+
+pub returns-clause-found : goal.returns-clause-found
+returns-clause-found g c = λ tells.
+    let records = (g.R.Reads.state c.args.space.now).records in
+    let ids = c.in-Some.ids.items in
+    let found : IsLineIn property_line records c.args.mark c.args.first ids = search (rules, c.in_ok-ids.ensures.found tells) in
+    let it : IsIt records c.args.first ids = subst (λ m. IsLineIn property_line records m c.args.first ids) c.requires.mark found in
+    let room : high records properties_file ≤ 33554432 = omega (arith, c.requires.mark, c.requires.low) in
+    let same = c.in_ok-keys.ensures.same ∙ c.in_ok-ids.ensures.same in
+    let names : c.meta.result.high ≡ high records names_file = ap (λ (m : Meta). m.high) c.meta.ensures ∙ ap (λ (r : Records). high r names_file) same in
+    let keys : c.deref_mut.result.now ≡ map (key_of records) ids = c.deref_mut.ensures.value ∙ c.in_ok-keys.ensures.keys tells ∙ ap (λ (r : Records). map (key_of r) c.deref.result.now) c.in_ok-ids.ensures.same ∙ ap (map (key_of records)) c.deref.ensures.value in
+    let yes : c.are_keys.result ≡ true = search rules in
+    let len : c.len.result ≡ length ids = search rules in
+    let few : length ids ≤ 32 = omega (arith, c.if-len-gt-MOST_PROPERTIES.false) in
+    properties_of records c.args.first room ids it few (subst (λ n. AreKeys n (map (key_of records) ids)) names (subst (λ ks. AreKeys c.meta.result.high ks) keys (c.are_keys.ensures.0 yes)))

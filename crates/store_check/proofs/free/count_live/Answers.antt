@@ -1,0 +1,55 @@
+use Rattle.std.proofs.Common.{rules, arith, ◌≡◌, ◌≢◌, ◌<◌, ◌+◌, ◌∙◌, true, false, ap, sym, refl}
+use Rattle.rec_bytes.specs.declared.meta.Meta.{Meta}
+use Rattle.rec_bytes.specs.Record.{field}
+use Rattle.store_rules.specs.Views.{high, is_live, rec_at}
+use Rattle.store_check.specs.Marks.{marked}
+use Rattle.store_check.proofs.FreeLaws.{count_more, count_same, free_by, live_by}
+use Rattle.store_check.proofs.HeadLaws.{one_more}
+use Rattle.store_check.proofs.free.count_live.Goals.{then-byte-ne-FREE, else-byte-ne-FREE+else-not-marks-id}
+use Rattle.std.proofs.lemmas.Bool.{true≢false}
+use Rattle.store_check.proofs.free.count_live.Goals as goal
+
+pub returns-then-not-marks-id-clause-counted : goal.returns-then-not-marks-id-clause-counted
+returns-then-not-marks-id-clause-counted g c = λ tells.
+    let records = (g.R.Reads.state c.args.space.now).records in
+    let mark : c.meta-id-end.result.high ≡ high records c.args.file = ap (λ (m : Meta). m.high) c.meta-id-end.ensures in
+    let lt : c.loop-id.id < high records c.args.file = omega (arith, c.loop-id-test.true) in
+    let got : c.in_ok-rec.rec ≡ rec_at records c.args.file c.loop-id.id = c.in_ok-rec.ensures.got tells ∙ ap (λ rs. rec_at rs c.args.file c.loop-id.id) c.loop-id.invariant.same in
+    let free : field 1 c.in_ok-rec.rec 0 ≡ 0 = sym c.byte.ensures ∙ search rules in
+    (lt, free_by records c.args.file c.loop-id.id c.in_ok-rec.rec lt got free, search rules)
+
+pub loop-id-preserved : goal.loop-id-preserved
+loop-id-preserved g c =
+    let records = (g.R.Reads.state c.args.space.now).records in
+    let inv = c.loop-id.invariant in
+    let id = c.loop-id.id in
+    let mark : c.meta-id-end.result.high ≡ high records c.args.file = ap (λ (m : Meta). m.high) c.meta-id-end.ensures in
+    let lt : id < high records c.args.file = omega (arith, c.loop-id-test.true) in
+    let got = λ (t : g.R.Reads.tells). c.in_ok-rec.ensures.got t ∙ ap (λ rs. rec_at rs c.args.file id) inv.same in
+    record {
+      same = ap (λ s. s.records) c.in_ok-rec.ensures.state ∙ inv.same;
+      shape = ap (λ s. s.shape) c.in_ok-rec.ensures.state ∙ inv.shape;
+      written = ap (λ s. s.written) c.in_ok-rec.ensures.state ∙ inv.written;
+      low = elim c.if-byte-ne-FREE.branch [
+        | then-byte-ne-FREE w ↦ let e = w.live-is in omega (arith, inv.low)
+        | else-byte-ne-FREE+else-not-marks-id w ↦ let e = w.live-is in omega (arith, inv.low)
+      ];
+      live = λ t. elim c.if-byte-ne-FREE.branch [
+        | then-byte-ne-FREE w ↦
+            let some : field 1 c.in_ok-rec.rec 0 ≢ 0 = λ z. w.if-byte-ne-FREE.true (c.byte.ensures ∙ z) in
+            let more = count_more (is_live records c.args.file) id (id + 1) refl (live_by records c.args.file id c.in_ok-rec.rec lt (got t) some) in
+            let e = w.live-is in let was = inv.live t in omega arith
+        | else-byte-ne-FREE+else-not-marks-id w ↦
+            let none : field 1 c.in_ok-rec.rec 0 ≡ 0 = sym c.byte.ensures ∙ w.if-byte-ne-FREE.false in
+            let same = count_same (is_live records c.args.file) id (id + 1) refl (free_by records c.args.file id c.in_ok-rec.rec lt (got t) none) in
+            let e = w.live-is in let was = inv.live t in omega arith
+      ];
+      on_list = λ t. one_more (λ x. is_live records c.args.file x ≡ false → marked c.args.marks.now x ≡ true) id (inv.on_list t) (elim c.if-byte-ne-FREE.branch [
+        | then-byte-ne-FREE w ↦ λ f.
+            let some : field 1 c.in_ok-rec.rec 0 ≢ 0 = λ z. w.if-byte-ne-FREE.true (c.byte.ensures ∙ z) in
+            absurd (true≢false (sym (live_by records c.args.file id c.in_ok-rec.rec lt (got t) some) ∙ f))
+        | else-byte-ne-FREE+else-not-marks-id w ↦ λ f. search rules
+      ]);
+      onward = g.met.R.Reads.further_onward c.args.space.now c.loop-id.space c.get.new.self inv.onward c.in_ok-rec.ensures.onward;
+      faults = let cause = c.in_ok-rec.ensures.cause in omega (arith, inv.faults, cause.later);
+    }

@@ -1,0 +1,15 @@
+use Rattle.std.proofs.Common.{◌≡◌, ◌≤◌, take, map}
+use Rattle.store_check.specs.Breaking.{block_size}
+use Rattle.store_check.proofs.texts.lengths_of.Given as goal
+
+abbrev pub invariant-loop-id : goal.invariant-loop-id
+invariant-loop-id g l =
+    let records = (g.R.Reads.state l.fn.space).records in
+    record {
+      same : (g.R.Reads.state l.space).records ≡ records;
+      shape : (g.R.Reads.state l.space).shape ≡ (g.R.Reads.state l.fn.space).shape;
+      written : (g.R.Reads.state l.space).written ≡ (g.R.Reads.state l.fn.space).written;
+      lengths : g.R.Reads.tells → l.lengths.items ≡ map (block_size records) (take l.id-index l.ids);
+      onward : g.R.Reads.onward l.fn.space l.space;
+      faults : g.R.Reads.faults l.fn.space ≤ g.R.Reads.faults l.space;
+    }

@@ -1,0 +1,298 @@
+//! The fifth rule of nodes and relationships: their properties, and their labels.
+
+ghost use Rattle.std.specs.Prelude.{◌≡◌, ◌<◌, ◌≤◌, IfNone, IfOk, IfSome, List, false, length, map};
+ghost use Rattle.std.specs.Prelude.{true, ℕ};
+ghost use Rattle.std.specs.Bool.{Decides};
+ghost use Rattle.std.specs.List.{All, list_all};
+ghost use Rattle.rec_bytes.specs.Format.{most_ids, names_file, properties_file};
+ghost use Rattle.rec_bytes.specs.Space.{HasCause};
+ghost use Rattle.store_rules.specs.Views.{high};
+ghost use Rattle.store_check.specs.Breaking.{IsPropertyList, damage, is_element_file, key_of};
+ghost use Rattle.store_check.specs.Holding.{AreElementsRight};
+ghost use Rattle.store_check.specs.Listing.{AreListed, IsUnlisted};
+ghost use Rattle.store_check.specs.Marks.{marked};
+ghost use Rattle.store_check.specs.Verdicts.{AreMarksLow, BreaksRule};
+ghost use Rattle.store_check.specs.Elements.{
+  AreElements,
+  AreItsProperties,
+  AreKeys,
+  HasName,
+  IsInUse,
+  IsOnElements,
+  first_place,
+  is_below,
+  property_line,
+};
+
+use crate::distinct::are_distinct;
+use crate::heads::{Broke, Found, Heads, list_heads};
+use crate::holding::find_unmarked;
+use crate::line::follow;
+use crate::live_line::LiveLine;
+use crate::marks::no_marks;
+use crate::sentence::{Sentence, find_false};
+use rec_bytes::{
+    Damage, FREE, KIND, Key, NAMES, NODE_FIRST_PROPERTY, NODE_LABEL, NODES, PROPERTIES,
+    PROPERTY_KEY, PROPERTY_NEXT, RELATIONSHIP_FIRST_PROPERTY, RELATIONSHIPS, Reads, Rec,
+    SpaceFault,
+};
+use std::alloc::Global;
+
+/// How many properties an element has at most.
+const MOST_PROPERTIES: usize = 32;
+
+/// The keys of these properties.
+fn keys_of<R: Reads>(alloc: Global, space: &mut R, ids: &[u32]) -> Result<Vec<u32>, SpaceFault>
+    requires { All (λ x. x < most_ids) ids.now }
+    ensures keys { R.tells → IfOk result
+        (λ keys. keys.items ≡ map (key_of (R.state space.old).records) ids.now) }
+    ensures same { (R.state space.new).records ≡ (R.state space.old).records }
+    ensures shape { (R.state space.new).shape ≡ (R.state space.old).shape }
+    ensures written { (R.state space.new).written ≡ (R.state space.old).written }
+    ensures onward { R.onward space.old space.new }
+    ensures cause { HasCause (R.faults space.old) (R.faults space.new) result }
+{
+    let mut keys = Vec::new(alloc);
+    for id in ids {
+        let rec = space.get(Key {
+            file: PROPERTIES,
+            id: *id,
+        })?;
+        let Ok(()) = keys.push(rec.number(PROPERTY_KEY)) else {
+            return Err(SpaceFault::Memory);
+        };
+    }
+    Ok(keys)
+}
+
+/// Whether these are all below a mark.
+fn are_below(numbers: &[u32], mark: u32) -> bool
+    ensures { result ≡ list_all (is_below mark) numbers.now }
+{
+    for number in numbers {
+        if *number >= mark {
+            return false;
+        }
+    }
+    true
+}
+
+/// Whether these are numbers of so many names, none of them twice. It sorts them.
+fn are_keys(keys: &mut [u32], names: u32) -> bool
+    ensures { Decides result (AreKeys names keys.old) }
+{
+    are_below(keys, names) && are_distinct(keys)
+}
+
+/// The properties from one on, or none where they are not as an element may have them.
+fn property_list<R: Reads>(
+    alloc: Global,
+    space: &mut R,
+    first: u32,
+    mark: u32,
+) -> Result<Option<Vec<u32>>, SpaceFault>
+    requires mark { mark ≡ high (R.state space.old).records properties_file }
+    requires low { mark ≤ most_ids }
+    ensures found { R.tells → IfOk result (λ found. IfSome found
+        (λ ids. IsPropertyList (R.state space.old).records first ids.items)) }
+    ensures none { R.tells → IfOk result (λ found. IfNone found ((xs : List ℕ)
+        → ¬ IsPropertyList (R.state space.old).records first xs)) }
+    ensures low { IfOk result (λ found. IfSome found (λ ids. All (λ x. x < mark) ids.items)) }
+    ensures same { (R.state space.new).records ≡ (R.state space.old).records }
+    ensures shape { (R.state space.new).shape ≡ (R.state space.old).shape }
+    ensures written { (R.state space.new).written ≡ (R.state space.old).written }
+    ensures onward { R.onward space.old space.new }
+    ensures cause { HasCause (R.faults space.old) (R.faults space.new) result }
+{
+    let line = LiveLine {
+        number: PROPERTIES,
+        place: PROPERTY_NEXT,
+    };
+    let Some(ids) = follow(alloc, space, &line, first, mark)? else {
+        return Ok(None);
+    };
+    if ids.len() > MOST_PROPERTIES {
+        return Ok(None);
+    }
+    let mut keys = keys_of(alloc, space, &ids)?;
+    if !are_keys(&mut keys, space.meta(NAMES).high) {
+        return Ok(None);
+    }
+    Ok(Some(ids))
+}
+
+/// The nodes, or the relationships, at which lists of properties start.
+#[derive(Drop)]
+pub struct ElementHeads {
+    pub(crate) file: u8,
+    pub(crate) elements: u32,
+    pub(crate) properties: u32,
+}
+
+impl Heads for ElementHeads {
+    ghost has = { IsInUse };
+
+    ghost lists = { AreItsProperties };
+
+    ghost suits = { AreElements };
+
+    ghost mark = { λ heads. heads.elements };
+
+    ghost bound = { λ heads. heads.properties };
+
+    fn list<R: Reads>(&self, alloc: Global, space: &mut R, id: u32) -> Result<Found, SpaceFault> {
+        let rec = space.get(Key {
+            file: self.file,
+            id,
+        })?;
+        if rec.byte(KIND) == FREE {
+            return Ok(Found::Nothing);
+        }
+        let first = rec.number(first_place(self.file));
+        match property_list(alloc, space, first, self.properties)? {
+            Some(ids) => Ok(Found::Items(ids)),
+            None => Ok(Found::Missing),
+        }
+    }
+}
+
+fn first_place(file: u8) -> u8
+    ensures is { result ≡ first_place file }
+    ensures low { result ≤ 32 }
+{
+    if file == NODES {
+        NODE_FIRST_PROPERTY
+    } else {
+        RELATIONSHIP_FIRST_PROPERTY
+    }
+}
+
+/// The label of an element in use is a name.
+#[derive(Drop)]
+pub struct Named {
+    pub(crate) file: u8,
+    pub(crate) elements: u32,
+}
+
+impl Sentence for Named {
+    ghost suits = { IsOnElements };
+
+    ghost mark = { λ sentence. sentence.elements };
+
+    ghost says = { HasName };
+
+    fn holds<R: Reads>(&self, space: &mut R, id: u32) -> Result<bool, SpaceFault> {
+        let rec = space.get(Key {
+            file: self.file,
+            id,
+        })?;
+        Ok(rec.byte(KIND) == FREE || rec.number(NODE_LABEL) < space.meta(NAMES).high)
+    }
+}
+
+/// The number of the rule.
+const PROPERTY_RULE: u8 = 5;
+
+/// Finds a node or a relationship whose properties or whose label are wrong, or a property that two
+/// of them have. Where there is none, just the properties of elements are marked.
+fn check_file<R: Reads>(
+    alloc: Global,
+    space: &mut R,
+    file: u8,
+    marks: &mut [bool],
+) -> Result<Option<Damage>, SpaceFault>
+    requires file { is_element_file file ≡ true }
+    requires low { AreMarksLow (R.state space.old).records }
+    requires marks { length marks.old ≡ high (R.state space.old).records properties_file }
+    ensures none { R.tells → IfOk result (λ found. IfNone found
+        (AreListed (R.state space.old).records file marks.old marks.new)) }
+    ensures found { R.tells → IfOk result (λ found. IfSome found
+        (IsUnlisted (R.state space.old).records file marks.old)) }
+    ensures len { length marks.new ≡ length marks.old }
+    ensures same { (R.state space.new).records ≡ (R.state space.old).records }
+    ensures shape { (R.state space.new).shape ≡ (R.state space.old).shape }
+    ensures written { (R.state space.new).written ≡ (R.state space.old).written }
+    ensures onward { R.onward space.old space.new }
+    ensures cause { HasCause (R.faults space.old) (R.faults space.new) result }
+{
+    let elements = space.meta(file).high;
+    let properties = space.meta(PROPERTIES).high;
+    let heads = ElementHeads {
+        file,
+        elements,
+        properties,
+    };
+    match list_heads(alloc, space, &heads, elements, marks)? {
+        Some(Broke::Head(id)) => return Ok(Some(broken(file, id))),
+        Some(Broke::Item(id)) => return Ok(Some(broken(PROPERTIES, id))),
+        None => {}
+    }
+    match find_false(space, &Named { file, elements }, elements)? {
+        Some(id) => Ok(Some(broken(file, id))),
+        None => Ok(None),
+    }
+}
+
+fn broken(file: u8, id: u32) -> Damage
+    ensures { result ≡ damage file id 5 }
+{
+    Damage {
+        file,
+        id,
+        rule: PROPERTY_RULE,
+    }
+}
+
+/// Finds what breaks the fifth rule of elements and of properties, with marks for all properties,
+/// none of them set.
+fn check_marked<R: Reads>(
+    alloc: Global,
+    space: &mut R,
+    marks: &mut [bool],
+) -> Result<Option<Damage>, SpaceFault>
+    requires low { AreMarksLow (R.state space.old).records }
+    requires marks { length marks.old ≡ high (R.state space.old).records properties_file }
+    requires clear { (p : ℕ) → marked marks.old p ≡ false }
+    ensures none { R.tells → IfOk result (λ found. IfNone found
+        (AreElementsRight (R.state space.old).records)) }
+    ensures found { R.tells → IfOk result (λ found. IfSome found
+        (BreaksRule (R.state space.old).records (R.state space.old).shape 5)) }
+    ensures same { (R.state space.new).records ≡ (R.state space.old).records }
+    ensures shape { (R.state space.new).shape ≡ (R.state space.old).shape }
+    ensures written { (R.state space.new).written ≡ (R.state space.old).written }
+    ensures onward { R.onward space.old space.new }
+    ensures cause { HasCause (R.faults space.old) (R.faults space.new) result }
+{
+    if let Some(damage) = check_file(alloc, space, NODES, marks)? {
+        return Ok(Some(damage));
+    }
+    if let Some(damage) = check_file(alloc, space, RELATIONSHIPS, marks)? {
+        return Ok(Some(damage));
+    }
+    match find_unmarked(space, PROPERTIES, marks)? {
+        Some(id) => Ok(Some(broken(PROPERTIES, id))),
+        None => Ok(None),
+    }
+}
+
+/// Finds what breaks the fifth rule of elements and of properties.
+pub(crate) fn check_elements<R: Reads>(
+    alloc: Global,
+    space: &mut R,
+) -> Result<Option<Damage>, SpaceFault>
+    requires { AreMarksLow (R.state space.old).records }
+    ensures none { R.tells → IfOk result (λ found. IfNone found
+        (AreElementsRight (R.state space.old).records)) }
+    ensures found { R.tells → IfOk result (λ found. IfSome found
+        (BreaksRule (R.state space.old).records (R.state space.old).shape 5)) }
+    ensures same { (R.state space.new).records ≡ (R.state space.old).records }
+    ensures shape { (R.state space.new).shape ≡ (R.state space.old).shape }
+    ensures written { (R.state space.new).written ≡ (R.state space.old).written }
+    ensures onward { R.onward space.old space.new }
+    ensures cause { HasCause (R.faults space.old) (R.faults space.new) result }
+{
+    let Ok(mut marks) = no_marks(alloc, space.meta(PROPERTIES).high as usize) else {
+        return Err(SpaceFault::Memory);
+    };
+    check_marked(alloc, space, &mut marks)
+}

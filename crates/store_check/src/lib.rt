@@ -1,0 +1,29 @@
+//! Whether the records of a space are those of a well-formed store. A check reads the records below
+//! the marks, each a few times, and keeps a few bytes for each.
+#![tactic(auto)]
+
+mod chains;
+mod check_fault;
+mod checking;
+mod degrees;
+mod distinct;
+mod elements;
+mod free;
+mod groups;
+mod heads;
+mod holding;
+mod layout;
+mod line;
+mod live_line;
+mod marks;
+mod names;
+mod pieces;
+mod properties;
+mod ranges;
+mod sentence;
+mod texts;
+mod verdict;
+
+pub use check_fault::CheckFault;
+pub use checking::check;
+pub use verdict::Verdict;

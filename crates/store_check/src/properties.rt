@@ -1,0 +1,33 @@
+//! The fifth rule: properties and blocks are held, and keys, labels and types are names.
+
+ghost use Rattle.std.specs.Prelude.{◌≡◌, IfOk};
+ghost use Rattle.rec_bytes.specs.Space.{HasCause};
+ghost use Rattle.store_check.specs.Verdicts.{AreMarksLow, DecidesRule};
+
+use crate::elements::check_elements;
+use crate::texts::check_texts;
+use rec_bytes::{Damage, Reads, SpaceFault};
+use std::alloc::Global;
+
+/// Decides the fifth rule.
+pub(crate) fn check_properties<R: Reads>(
+    alloc: Global,
+    space: &mut R,
+) -> Result<Option<Damage>, SpaceFault>
+    requires { AreMarksLow (R.state space.old).records }
+    ensures decided { R.tells → IfOk result
+        (DecidesRule (R.state space.old).records (R.state space.old).shape 5) }
+    ensures same { (R.state space.new).records ≡ (R.state space.old).records }
+    ensures shape { (R.state space.new).shape ≡ (R.state space.old).shape }
+    ensures written { (R.state space.new).written ≡ (R.state space.old).written }
+    ensures onward { R.onward space.old space.new }
+    ensures cause { HasCause (R.faults space.old) (R.faults space.new) result }
+{
+    if let Some(damage) = check_elements(alloc, space)? {
+        return Ok(Some(damage));
+    }
+    match check_texts(alloc, space)? {
+        Some(damage) => Ok(Some(damage)),
+        None => Ok(None),
+    }
+}

@@ -1,0 +1,159 @@
+//! The fifth rule of texts: the blocks of each, and which property has a block.
+
+ghost use Rattle.std.specs.Prelude.{◌≡◌, ◌≤◌, ◌<◌, IfNone, IfOk, IfSome, false, length, map, ℕ};
+ghost use Rattle.std.specs.List.{All};
+ghost use Rattle.rec_bytes.specs.Format.{most_ids, strings_file};
+ghost use Rattle.rec_bytes.specs.Space.{HasCause};
+ghost use Rattle.store_check.specs.Breaking.{IsBlockList, IsLong, block_size, damage};
+ghost use Rattle.store_check.specs.Holding.{AreTextsRight};
+ghost use Rattle.store_check.specs.Marks.{marked};
+ghost use Rattle.store_check.specs.Texts.{AreTexts, block_line};
+ghost use Rattle.store_check.specs.Verdicts.{AreMarksLow, BreaksRule};
+ghost use Rattle.store_rules.specs.Views.{high};
+
+use crate::heads::{Broke, Found, Heads, list_heads};
+use crate::holding::find_unmarked;
+use crate::line::follow;
+use crate::live_line::LiveLine;
+use crate::marks::no_marks;
+use crate::pieces::are_pieces;
+use rec_bytes::{
+    BLOCK_LENGTH, BLOCK_NEXT, Damage, FREE, KIND, Key, PROPERTIES, PROPERTY_FIRST_BLOCK,
+    PROPERTY_LENGTH, Reads, Rec, STRINGS, SpaceFault, TEXT_IN_BLOCKS,
+};
+use std::alloc::Global;
+
+/// The lengths of these blocks.
+fn lengths_of<R: Reads>(alloc: Global, space: &mut R, ids: &[u32]) -> Result<Vec<u8>, SpaceFault>
+    requires { All (λ x. x < most_ids) ids.now }
+    ensures lengths { R.tells → IfOk result
+        (λ lengths. lengths.items ≡ map (block_size (R.state space.old).records) ids.now) }
+    ensures same { (R.state space.new).records ≡ (R.state space.old).records }
+    ensures shape { (R.state space.new).shape ≡ (R.state space.old).shape }
+    ensures written { (R.state space.new).written ≡ (R.state space.old).written }
+    ensures onward { R.onward space.old space.new }
+    ensures cause { HasCause (R.faults space.old) (R.faults space.new) result }
+{
+    let mut lengths = Vec::new(alloc);
+    for id in ids {
+        let rec = space.get(Key {
+            file: STRINGS,
+            id: *id,
+        })?;
+        let Ok(()) = lengths.push(rec.byte(BLOCK_LENGTH)) else {
+            return Err(SpaceFault::Memory);
+        };
+    }
+    Ok(lengths)
+}
+
+/// The properties, at which texts in blocks start.
+#[derive(Drop)]
+pub struct TextHeads {
+    properties: u32,
+    blocks: u32,
+}
+
+impl Heads for TextHeads {
+    ghost has = { λ _. IsLong };
+
+    ghost lists = { λ _. IsBlockList };
+
+    ghost suits = { AreTexts };
+
+    ghost mark = { λ heads. heads.properties };
+
+    ghost bound = { λ heads. heads.blocks };
+
+    fn list<R: Reads>(&self, alloc: Global, space: &mut R, id: u32) -> Result<Found, SpaceFault> {
+        let rec = space.get(Key {
+            file: PROPERTIES,
+            id,
+        })?;
+        if rec.byte(KIND) != TEXT_IN_BLOCKS {
+            return Ok(Found::Nothing);
+        }
+        let first = rec.number(PROPERTY_FIRST_BLOCK);
+        let line = LiveLine {
+            number: STRINGS,
+            place: BLOCK_NEXT,
+        };
+        let Some(ids) = follow(alloc, space, &line, first, self.blocks)? else {
+            return Ok(Found::Missing);
+        };
+        let lengths = lengths_of(alloc, space, &ids)?;
+        if !are_pieces(&lengths, rec.short(PROPERTY_LENGTH)) {
+            return Ok(Found::Missing);
+        }
+        Ok(Found::Items(ids))
+    }
+}
+
+/// The number of the rule.
+const TEXT_RULE: u8 = 5;
+
+fn broken(file: u8, id: u32) -> Damage
+    ensures { result ≡ damage file id 5 }
+{
+    Damage {
+        file,
+        id,
+        rule: TEXT_RULE,
+    }
+}
+
+/// Finds what breaks the fifth rule of texts and of blocks, with marks for all blocks, none of them
+/// set.
+fn check_marked<R: Reads>(
+    alloc: Global,
+    space: &mut R,
+    marks: &mut [bool],
+) -> Result<Option<Damage>, SpaceFault>
+    requires low { AreMarksLow (R.state space.old).records }
+    requires marks { length marks.old ≡ high (R.state space.old).records strings_file }
+    requires clear { (b : ℕ) → marked marks.old b ≡ false }
+    ensures none { R.tells → IfOk result (λ found. IfNone found
+        (AreTextsRight (R.state space.old).records)) }
+    ensures found { R.tells → IfOk result (λ found. IfSome found
+        (BreaksRule (R.state space.old).records (R.state space.old).shape 5)) }
+    ensures same { (R.state space.new).records ≡ (R.state space.old).records }
+    ensures shape { (R.state space.new).shape ≡ (R.state space.old).shape }
+    ensures written { (R.state space.new).written ≡ (R.state space.old).written }
+    ensures onward { R.onward space.old space.new }
+    ensures cause { HasCause (R.faults space.old) (R.faults space.new) result }
+{
+    let properties = space.meta(PROPERTIES).high;
+    let blocks = space.meta(STRINGS).high;
+    let heads = TextHeads { properties, blocks };
+    match list_heads(alloc, space, &heads, properties, marks)? {
+        Some(Broke::Head(id)) => return Ok(Some(broken(PROPERTIES, id))),
+        Some(Broke::Item(id)) => return Ok(Some(broken(STRINGS, id))),
+        None => {}
+    }
+    match find_unmarked(space, STRINGS, marks)? {
+        Some(id) => Ok(Some(broken(STRINGS, id))),
+        None => Ok(None),
+    }
+}
+
+/// Finds what breaks the fifth rule of texts and of blocks.
+pub(crate) fn check_texts<R: Reads>(
+    alloc: Global,
+    space: &mut R,
+) -> Result<Option<Damage>, SpaceFault>
+    requires { AreMarksLow (R.state space.old).records }
+    ensures none { R.tells → IfOk result (λ found. IfNone found
+        (AreTextsRight (R.state space.old).records)) }
+    ensures found { R.tells → IfOk result (λ found. IfSome found
+        (BreaksRule (R.state space.old).records (R.state space.old).shape 5)) }
+    ensures same { (R.state space.new).records ≡ (R.state space.old).records }
+    ensures shape { (R.state space.new).shape ≡ (R.state space.old).shape }
+    ensures written { (R.state space.new).written ≡ (R.state space.old).written }
+    ensures onward { R.onward space.old space.new }
+    ensures cause { HasCause (R.faults space.old) (R.faults space.new) result }
+{
+    let Ok(mut marks) = no_marks(alloc, space.meta(STRINGS).high as usize) else {
+        return Err(SpaceFault::Memory);
+    };
+    check_marked(alloc, space, &mut marks)
+}
