@@ -138,6 +138,7 @@ command_parts (heads.Alone words.Begin) contents last plain allows = refl
 command_parts (heads.Alone words.Commit) contents last plain allows = refl
 command_parts (heads.Alone words.Rollback) contents last plain allows = refl
 command_parts (heads.Alone words.Checkpoint) contents last plain allows = refl
+command_parts (heads.Alone words.Check) contents last plain allows = refl
 command_parts (heads.Alone words.Stats) contents last plain allows = refl
 command_parts (heads.Alone words.Reopen) contents last plain allows = refl
 command_parts (heads.Alone words.Quit) contents last plain allows = refl
@@ -155,6 +156,7 @@ is_command (heads.Alone words.Begin) contents last plain = tt
 is_command (heads.Alone words.Commit) contents last plain = tt
 is_command (heads.Alone words.Rollback) contents last plain = tt
 is_command (heads.Alone words.Checkpoint) contents last plain = tt
+is_command (heads.Alone words.Check) contents last plain = tt
 is_command (heads.Alone words.Stats) contents last plain = tt
 is_command (heads.Alone words.Reopen) contents last plain = tt
 is_command (heads.Alone words.Quit) contents last plain = tt
@@ -200,6 +202,7 @@ sentence_of commands.Begin is = inr (record { head = heads.Alone words.Begin; pl
 sentence_of commands.Commit is = inr (record { head = heads.Alone words.Commit; plain = tt; contents = (tt, tt); allowed = (tt, tt); last = tt; is = refl })
 sentence_of commands.Rollback is = inr (record { head = heads.Alone words.Rollback; plain = tt; contents = (tt, tt); allowed = (tt, tt); last = tt; is = refl })
 sentence_of commands.Checkpoint is = inr (record { head = heads.Alone words.Checkpoint; plain = tt; contents = (tt, tt); allowed = (tt, tt); last = tt; is = refl })
+sentence_of commands.Check is = inr (record { head = heads.Alone words.Check; plain = tt; contents = (tt, tt); allowed = (tt, tt); last = tt; is = refl })
 sentence_of commands.Stats is = inr (record { head = heads.Alone words.Stats; plain = tt; contents = (tt, tt); allowed = (tt, tt); last = tt; is = refl })
 sentence_of commands.Reopen is = inr (record { head = heads.Alone words.Reopen; plain = tt; contents = (tt, tt); allowed = (tt, tt); last = tt; is = refl })
 sentence_of commands.Quit is = inr (record { head = heads.Alone words.Quit; plain = tt; contents = (tt, tt); allowed = (tt, tt); last = tt; is = refl })
@@ -272,6 +275,7 @@ plain_keeps head plain command rest bytes spells keeps =
     of_head (heads.Alone words.Commit) plain contents last keeps = keeps
     of_head (heads.Alone words.Rollback) plain contents last keeps = keeps
     of_head (heads.Alone words.Checkpoint) plain contents last keeps = keeps
+    of_head (heads.Alone words.Check) plain contents last keeps = keeps
     of_head (heads.Alone words.Stats) plain contents last keeps = keeps
     of_head (heads.Alone words.Reopen) plain contents last keeps = keeps
     of_head (heads.Alone words.Quit) plain contents last keeps = keeps

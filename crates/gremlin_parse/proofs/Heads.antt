@@ -32,6 +32,7 @@ word_of (heads.Alone words.Begin) = codes "begin"
 word_of (heads.Alone words.Commit) = codes "commit"
 word_of (heads.Alone words.Rollback) = codes "rollback"
 word_of (heads.Alone words.Checkpoint) = codes "checkpoint"
+word_of (heads.Alone words.Check) = codes "check"
 word_of (heads.Alone words.Stats) = codes "stats"
 word_of (heads.Alone words.Reopen) = codes "reopen"
 word_of (heads.Alone words.Quit) = codes "quit"
@@ -48,6 +49,7 @@ named (heads.Alone words.Begin) = refl
 named (heads.Alone words.Commit) = refl
 named (heads.Alone words.Rollback) = refl
 named (heads.Alone words.Checkpoint) = refl
+named (heads.Alone words.Check) = refl
 named (heads.Alone words.Stats) = refl
 named (heads.Alone words.Reopen) = refl
 named (heads.Alone words.Quit) = refl
@@ -60,17 +62,17 @@ named heads.Expand = refl
 named heads.Query = refl
 
 pub entry_word : (entry : Entry Head) → InTable entry head_words → entry.0 ≡ word_of entry.1
-entry_word = entry_named word_of head_words (refl, (refl, (refl, (refl, (refl, (refl, (refl, (refl, (refl, (refl, (refl, (refl, (refl, (refl, tt))))))))))))))
+entry_word = entry_named word_of head_words (refl, (refl, (refl, (refl, (refl, (refl, (refl, (refl, (refl, (refl, (refl, (refl, (refl, (refl, (refl, tt)))))))))))))))
 
 pub head_table : IsWordTable head_words
 head_table = record {
-  words = (refl, (refl, (refl, (refl, (refl, (refl, (refl, (refl, (refl, (refl, (refl, (refl, (refl, (refl, tt))))))))))))));
-  named = (refl, (refl, (refl, (refl, (refl, (refl, (refl, (refl, (refl, (refl, (refl, (refl, (refl, (refl, tt))))))))))))));
+  words = (refl, (refl, (refl, (refl, (refl, (refl, (refl, (refl, (refl, (refl, (refl, (refl, (refl, (refl, (refl, tt)))))))))))))));
+  named = (refl, (refl, (refl, (refl, (refl, (refl, (refl, (refl, (refl, (refl, (refl, (refl, (refl, (refl, (refl, tt)))))))))))))));
 }
 
 -- Each word begins with a byte that is no blank.
 head_starts : AllByRecursion (λ (e : Entry Head). first_fails is_blank e.0 ≡ true) head_words
-head_starts = (refl, (refl, (refl, (refl, (refl, (refl, (refl, (refl, (refl, (refl, (refl, (refl, (refl, (refl, tt))))))))))))))
+head_starts = (refl, (refl, (refl, (refl, (refl, (refl, (refl, (refl, (refl, (refl, (refl, (refl, (refl, (refl, (refl, tt)))))))))))))))
 
 starts_of : (table : List (Entry Head)) → AllByRecursion (λ (e : Entry Head). first_fails is_blank e.0 ≡ true) table → (entry : Entry Head) → InTable entry table → first_fails is_blank entry.0 ≡ true
 starts_of [] all entry within = absurd within

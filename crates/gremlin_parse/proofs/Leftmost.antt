@@ -11,7 +11,7 @@ use Rattle.gremlin_parse.specs.Symbols.{AnyBlanks, Takes}
 use Rattle.gremlin_parse.specs.Stopping.{BadStop, IsStop, left_of, fault_of, bad_fault}
 use Rattle.gremlin_parse.specs.Commands.{BadTail, IsSomeTail, IsTail, KeepsTail, LacksMemory}
 use Rattle.gremlin_parse.specs.declared.bad_token.BadToken.{BadToken}
-use Rattle.gremlin_parse.specs.declared.bad_token.BadToken.TheVariants.{LongName, LongText, WideNumber}
+use Rattle.gremlin_parse.specs.declared.bad_token.BadToken.TheVariants.{LongName, LongText, WideNumber, WrongTimes, UnfitStep, LateStep}
 use Rattle.gremlin_parse.specs.declared.line_fault.LineFault.{LineFault}
 use Rattle.gremlin_parse.specs.declared.line_fault.LineFault.TheVariants as faults
 use Rattle.gremlin_parse.specs.declared.stop.Stop.{Stop}
@@ -49,6 +49,9 @@ syntax_before line left stop none (faults.Syntax place) has = viable_is_before I
 syntax_before line left stop none (faults.NameLength place) has = absurd (none LongName (length line - place) (bad_line_at LongName line place has))
 syntax_before line left stop none (faults.TextLength place) has = absurd (none LongText (length line - place) (bad_line_at LongText line place has))
 syntax_before line left stop none (faults.NumberRange place) has = absurd (none WideNumber (length line - place) (bad_line_at WideNumber line place has))
+syntax_before line left stop none (faults.TimesRange place) has = absurd (none WrongTimes (length line - place) (bad_line_at WrongTimes line place has))
+syntax_before line left stop none (faults.StepKind place) has = absurd (none UnfitStep (length line - place) (bad_line_at UnfitStep line place has))
+syntax_before line left stop none (faults.TooManySteps place) has = absurd (none LateStep (length line - place) (bad_line_at LateStep line place has))
 
 bad_before : (kind : BadToken) (line : List ℕ) (left : ℕ) → BadStop IsLine BadLine kind line left → (other : LineFault) → HasFault line other → length line - left ≤ place_of other
 bad_before kind line left stop faults.Memory has = absurd has
@@ -65,6 +68,18 @@ bad_before kind line left stop (faults.NumberRange place) has =
     let within = bad_within WideNumber line place has in
     let le = stop.first WideNumber (length line - place) (bad_line_at WideNumber line place has) in
     omega arith
+bad_before kind line left stop (faults.TimesRange place) has =
+    let within = bad_within WrongTimes line place has in
+    let le = stop.first WrongTimes (length line - place) (bad_line_at WrongTimes line place has) in
+    omega arith
+bad_before kind line left stop (faults.StepKind place) has =
+    let within = bad_within UnfitStep line place has in
+    let le = stop.first UnfitStep (length line - place) (bad_line_at UnfitStep line place has) in
+    omega arith
+bad_before kind line left stop (faults.TooManySteps place) has =
+    let within = bad_within LateStep line place has in
+    let le = stop.first LateStep (length line - place) (bad_line_at LateStep line place has) in
+    omega arith
 
 has_bad : (kind : BadToken) (line : List ℕ) (left : ℕ) → BadLine kind left line → HasBad kind line (length line - left)
 has_bad kind line left (at, place, has) = let at_is : at ≡ length line - left = omega arith in subst (HasBad kind line) at_is has
@@ -73,6 +88,9 @@ bad_leftmost : (kind : BadToken) (line : List ℕ) (left : ℕ) → BadStop IsLi
 bad_leftmost LongName line left stop = record { has = has_bad LongName line left stop.has; leftmost = bad_before LongName line left stop }
 bad_leftmost LongText line left stop = record { has = has_bad LongText line left stop.has; leftmost = bad_before LongText line left stop }
 bad_leftmost WideNumber line left stop = record { has = has_bad WideNumber line left stop.has; leftmost = bad_before WideNumber line left stop }
+bad_leftmost WrongTimes line left stop = record { has = has_bad WrongTimes line left stop.has; leftmost = bad_before WrongTimes line left stop }
+bad_leftmost UnfitStep line left stop = record { has = has_bad UnfitStep line left stop.has; leftmost = bad_before UnfitStep line left stop }
+bad_leftmost LateStep line left stop = record { has = has_bad LateStep line left stop.has; leftmost = bad_before LateStep line left stop }
 
 pub fault_is_leftmost : (Lack : Type 0) (line : List ℕ) (stop : Stop) → IsStop IsLine BadLine Lack line stop → fault_of stop (length line) ≢ faults.Memory → IsLeftmostFault line (fault_of stop (length line))
 fault_is_leftmost Lack line stops.Memory at some = absurd (some refl)
@@ -103,6 +121,12 @@ no_fault_of line bytes command takes tail keeps (faults.TextLength place) = λ h
     no_bad_tail command bytes tail keeps LongText (length line - place) (bad_tail_after LongText (length line - place) line bytes takes (bad_line_at LongText line place has))
 no_fault_of line bytes command takes tail keeps (faults.NumberRange place) = λ has.
     no_bad_tail command bytes tail keeps WideNumber (length line - place) (bad_tail_after WideNumber (length line - place) line bytes takes (bad_line_at WideNumber line place has))
+no_fault_of line bytes command takes tail keeps (faults.TimesRange place) = λ has.
+    no_bad_tail command bytes tail keeps WrongTimes (length line - place) (bad_tail_after WrongTimes (length line - place) line bytes takes (bad_line_at WrongTimes line place has))
+no_fault_of line bytes command takes tail keeps (faults.StepKind place) = λ has.
+    no_bad_tail command bytes tail keeps UnfitStep (length line - place) (bad_tail_after UnfitStep (length line - place) line bytes takes (bad_line_at UnfitStep line place has))
+no_fault_of line bytes command takes tail keeps (faults.TooManySteps place) = λ has.
+    no_bad_tail command bytes tail keeps LateStep (length line - place) (bad_tail_after LateStep (length line - place) line bytes takes (bad_line_at LateStep line place has))
 
 pub only_command : (line bytes : List ℕ) (command : Command) → Takes AnyBlanks tt line bytes → IsTail command bytes → (other : Command) → Spells line other → other ≡ command
 only_command line bytes command takes tail other spelled = commands_agree command other bytes tail (tail_after other line bytes takes (spelled_loosely line other spelled))
@@ -121,3 +145,6 @@ no_such_command line bytes (stops.Syntax left) takes at same = cc
 no_such_command line bytes (stops.Bad LongName left) takes at same = cc
 no_such_command line bytes (stops.Bad LongText left) takes at same = cc
 no_such_command line bytes (stops.Bad WideNumber left) takes at same = cc
+no_such_command line bytes (stops.Bad WrongTimes left) takes at same = cc
+no_such_command line bytes (stops.Bad UnfitStep left) takes at same = cc
+no_such_command line bytes (stops.Bad LateStep left) takes at same = cc

@@ -3,6 +3,7 @@ pub mod Stops
 pub mod Differing
 pub mod Names
 pub mod Decimals
+pub mod TimesLaws
 pub mod Texts
 pub mod Integers
 pub mod Tables
@@ -18,7 +19,12 @@ pub mod Turns
 pub mod Moves
 pub mod Walks
 pub mod QueryPlaces
+pub mod OrderLaws
+pub mod Later
 pub mod QueryReads
+pub mod OrderReads
+pub mod OrderTokens
+pub mod RepeatReads
 pub mod QueryLaws
 pub mod Words
 pub mod Elements

@@ -83,6 +83,7 @@ loosely_plain (heads.Alone words.Begin) plain contents last line made = made
 loosely_plain (heads.Alone words.Commit) plain contents last line made = made
 loosely_plain (heads.Alone words.Rollback) plain contents last line made = made
 loosely_plain (heads.Alone words.Checkpoint) plain contents last line made = made
+loosely_plain (heads.Alone words.Check) plain contents last line made = made
 loosely_plain (heads.Alone words.Stats) plain contents last line made = made
 loosely_plain (heads.Alone words.Reopen) plain contents last line made = made
 loosely_plain (heads.Alone words.Quit) plain contents last line made = made

@@ -4,11 +4,11 @@ use Rattle.std.specs.List.{AllByRecursion}
 use Rattle.std.specs.Cmp.Lexicographic.{pointwise, other_text}
 use Rattle.std.proofs.lemmas.Bool.{cases_Bool}
 use Rattle.plain_graph.specs.Names.{IsName}
-use Rattle.gremlin_parse.specs.Grammar.{Gap, Exactly, Name, Number, AreBlanks, is_blank}
+use Rattle.gremlin_parse.specs.Grammar.{Gap, Exactly, Name, Number, Times, AreBlanks, is_blank}
 use Rattle.gremlin_parse.specs.Faults.{EndsRun, IsOutOfBounds}
 use Rattle.gremlin_parse.specs.Reading.{StopsBefore, Then, StartsName, StartsNumber}
 use Rattle.gremlin_parse.specs.Keywords.{Entry, InTable, lookup, ThenWord, plain}
-use Rattle.gremlin_parse.specs.Symbols.{Symbol, AnyBlanks, AnyGap, Sign, OneWord, AnyName, AnyNumber, AnyValue, Content, Contents, part, Takes, Reads, ReadsAll, IsBad, LeavesAt, Leaves, LeavesOne, Follows, BadFollows}
+use Rattle.gremlin_parse.specs.Symbols.{Symbol, AnyBlanks, AnyGap, Sign, OneWord, AnyName, AnyNumber, AnyTimes, AnyValue, Content, Contents, part, Takes, Reads, ReadsAll, IsBad, LeavesAt, Leaves, LeavesOne, Follows, BadFollows}
 use Rattle.gremlin_parse.specs.Stopping.{Bads, IsStop}
 use Rattle.gremlin_parse.specs.declared.bad_token.BadToken.{BadToken}
 use Rattle.gremlin_parse.specs.declared.stop.Stop.{Stop}
@@ -164,6 +164,9 @@ Then-name-starts After name bytes (prefix, rest, whole, part_is, after) = subst 
 Then-number-starts : (After : List ℕ → Type 0) (most number : ℕ) (bytes : List ℕ) → Then (Number most number) After bytes → StartsNumber bytes
 Then-number-starts After most number bytes (prefix, rest, whole, part_is, after) = subst StartsNumber (sym whole) (number_starts prefix rest part_is.0)
 
+Then-times-starts : (After : List ℕ → Type 0) (number : ℕ) (bytes : List ℕ) → Then (Times number) After bytes → StartsNumber bytes
+Then-times-starts After number bytes (prefix, rest, whole, part_is, after) = subst StartsNumber (sym whole) (number_starts prefix rest part_is.0)
+
 pointwise_same : (word : List ℕ) → pointwise nat_eq word word ≡ true
 pointwise_same word = ⊎_elim (λ (same : pointwise nat_eq word word ≡ true). same) (λ (other : pointwise nat_eq word word ≡ false). absurd (other_text word word (sym other) refl)) (cases_Bool (pointwise nat_eq word word))
 
@@ -229,6 +232,10 @@ refuses_at (AnyNumber most) After is ends line some bytes left (left_is, numberl
   stop = subst (StopsBefore (One (AnyNumber most) After) bytes) (sym left_is) (stops_here (One (AnyNumber most) After) bytes (codes "0" ++ line) (0, tt, (codes "0", line, refl, (refl, refl), some)) (λ more same (number, allows, then). numberless (StartsNumber-first_byte more bytes same (Then-number-starts After most number more then))));
   no_bad = λ kind place (number, bad, rest, takes, at). numberless (subst StartsNumber (sym takes.bytes_are) (number_starts takes.prefix rest takes.is.0));
 }
+refuses_at AnyTimes After is ends line some bytes left (left_is, numberless) = record {
+  stop = subst (StopsBefore (One AnyTimes After) bytes) (sym left_is) (stops_here (One AnyTimes After) bytes (codes "0" ++ line) (0, tt, (codes "0", line, refl, (refl, refl), some)) (λ more same (number, allows, then). numberless (StartsNumber-first_byte more bytes same (Then-times-starts After number more then))));
+  no_bad = λ kind place (number, bad, rest, takes, at). numberless (subst StartsNumber (sym takes.bytes_are) (number_starts takes.prefix rest takes.is.0));
+}
 refuses_at AnyValue After is ends line some bytes left leaves = record { stop = value_stops After ends line bytes left some leaves; no_bad = no_bad_value bytes left leaves }
 
 -- No line of the symbol stands where reading stops in it.
@@ -240,6 +247,7 @@ no_one (OneWord []) After is ends bytes left leaves = cc
 no_one (OneWord (word ∷ words)) After is ends bytes left leaves = λ (this, within, then). no_word (plain (word ∷ words)) (plain_table (word ∷ words) is) (λ _. After) (λ _. ends) bytes left leaves ((this, tt), within, then)
 no_one AnyName After is ends bytes left leaves = λ (name, allows, then). leaves.1 (Then-name-starts After name bytes then)
 no_one (AnyNumber most) After is ends bytes left leaves = λ (number, allows, then). leaves.1 (Then-number-starts After most number bytes then)
+no_one AnyTimes After is ends bytes left leaves = λ (number, allows, then). leaves.1 (Then-times-starts After number bytes then)
 no_one AnyValue After is ends bytes left leaves = value_refuses After ends bytes left leaves
 
 module _ (enders : Enders) (symbol : Symbol) (symbols : List Symbol) (is : is_production enders (symbol ∷ symbols) ≡ true) (Last : List ℕ → Type 0) (Bad : Bads) (closes : Closes enders Last Bad) where

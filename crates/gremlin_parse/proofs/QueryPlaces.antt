@@ -1,24 +1,36 @@
 -- The places of queries: what may follow each ends it, and each has a line.
-use Rattle.std.proofs.Common.{◌≡◌, inl, inr, ℕ, zero, nat_eq, cond, Bool, true, false, Some, None, List, [], ◌∷◌, ◌++◌, codes, pos, refl, ap}
+use Rattle.std.proofs.Common.{◌≡◌, inl, inr, ℕ, zero, nat_eq, cond, Bool, true, false, ◌||◌, Option, Some, None, List, [], ◌∷◌, ◌++◌, map, codes, pos, refl, sym, ap, ◌∙◌, subst, ⊎_elim}
 use Rattle.std.proofs.lemmas.Bool.Decides.{nat_tests}
 use Rattle.std.proofs.Common.{arith}
+use Rattle.plain_graph.specs.declared.direction.Direction.TheVariants as directions
+use Rattle.plain_graph.specs.declared.query.BodyStep.{BodyStep}
+use Rattle.plain_graph.specs.declared.query.BodyStep.TheVariants as bodies
 use Rattle.plain_graph.specs.declared.query.Query.{Query}
 use Rattle.plain_graph.specs.declared.query.Step.{Step}
+use Rattle.plain_graph.specs.declared.filter.Filter.{Filter}
 use Rattle.plain_graph.specs.declared.filter.Filter.TheVariants as filters
 use Rattle.plain_graph.specs.declared.query.Step.TheVariants as steps
 use Rattle.gremlin_parse.specs.Numbers.{is_digit}
+use Rattle.gremlin_parse.specs.Grammar.{most_id}
+use Rattle.gremlin_parse.specs.Keywords.{Entry, InTable, plain}
+use Rattle.gremlin_parse.specs.Symbols.{Sign, OneWord, AnyNumber, AnyValue, is_integer_start}
+use Rattle.gremlin_parse.specs.Values.{is_quote, IsWritten}
+use Rattle.plain_graph.specs.declared.value.Value.{Value}
+use Rattle.plain_graph.specs.declared.filter.Relation.{Relation}
 use Rattle.gremlin_parse.specs.Reading.{StartsNumber}
-use Rattle.gremlin_parse.specs.Turns.{WithBlanks, Loosely, LineFrom, sign_at}
-use Rattle.gremlin_parse.specs.Queries.{step_words, bare_step, Quoted, OneName, Key, Place, Start, Source, Opening, FirstId, AfterId, NextId, Steps, StepName, Opens, Closing, FirstName, AfterName, AfterKey, ValueOf, Most, Quote, InQuotes, Unquote, query_from, with_step, with_names, opened, after_quoted, value_step, quote_byte, turn, is_loose}
+use Rattle.gremlin_parse.specs.Turns.{Token, ThenOther, WithBlanks, Loosely, LineFrom, sign_at}
+use Rattle.gremlin_parse.specs.Queries.{step_words, body_words, as_step_word, bare_step, Into, OfQuery, OfBody, NamesFor, OfStep, OfHop, OfLabels, Quoted, OneName, Key, OrderKey, Place, Start, Source, Opening, FirstId, AfterId, NextId, Steps, StepName, Opens, Closing, FirstName, AfterName, AfterKey, ValueOf, AfterP, RelationName, OpensValue, Compared, ClosesValue, ClosesFilter, relation_names, relation_of, relation_filter, Most, OrderCloses, Ordered, OrderedName, ByFirst, AfterOrderKey, OrderDirection, AfterOrderWord, DirectionName, ByCloses, ordered_words, sort_names, is_descending, direction_of, plain_order, reordered, Quote, InQuotes, Unquote, BodyFirst, Underscore, AfterAnonymous, BodyName, OpensBody, InBody, AfterBody, TimesWord, OpensTimes, TimesOf, body_name, query_from, with_step, opened, opened_names, opened_body, after_step, after_filter, after_names, after_quoted, value_filter, quote_byte, turn, is_loose}
 use Rattle.plain_graph.specs.declared.value.Value.TheVariants as values
 use Rattle.gremlin_parse.specs.declared.step_word.BareStep.TheVariants as bare
-use Rattle.gremlin_parse.specs.declared.step_word.NamesStep.TheVariants as of_names
+use Rattle.gremlin_parse.specs.declared.step_word.BodyWord.{BodyWord}
+use Rattle.gremlin_parse.specs.declared.step_word.BodyWord.TheVariants as of_body
 use Rattle.gremlin_parse.specs.declared.step_word.StepWord.{StepWord}
 use Rattle.gremlin_parse.specs.declared.step_word.StepWord.TheVariants as words
 use Rattle.gremlin_parse.proofs.Decimals.{number_starts}
-use Rattle.gremlin_parse.proofs.Tables.{IsWordTable}
+use Rattle.gremlin_parse.proofs.Tables.{IsWordTable, StandsWhole, all_in}
+use Rattle.gremlin_parse.proofs.Values.{StartsKind, value_starts}
 use Rattle.gremlin_parse.proofs.Symbols.{NameByte}
-use Rattle.gremlin_parse.proofs.Turns.{Language, NoSign, IsPlace, place_halts}
+use Rattle.gremlin_parse.proofs.Turns.{Language, Begins, NoSign, IsEnded, IsPlace, place_halts}
 use Rattle.gremlin_parse.proofs.Moves.{line_join}
 
 -- ---- a line of each place
@@ -38,7 +50,10 @@ by_sign : (place : Place) (b : ℕ) (next : Place) (line : List ℕ) → sign_at
 by_sign place b next line is later = line_join turn is_loose place (b ∷ line) (inl (b, next, is, (b ∷ [], line, refl, refl, loose_line next line later)))
 
 steps_line : (query : Query) → Line (Steps query) []
-steps_line query = (zero, Steps query, (refl, refl, refl))
+steps_line query = (zero, query, (refl, refl))
+
+ordered_line : (query : Query) → Line (Ordered query) []
+ordered_line query = (zero, query, (refl, refl))
 
 closes_line : (query : Query) (step : Step) → Line (Closing query step) (41 ∷ [])
 closes_line query step = by_sign (Closing query step) 41 (Steps (with_step query step)) [] refl (steps_line (with_step query step))
@@ -46,16 +61,68 @@ closes_line query step = by_sign (Closing query step) 41 (Steps (with_step query
 after_id_line : (edges : Bool) (ids : List ℕ) → Line (AfterId edges ids) (41 ∷ [])
 after_id_line edges ids = by_sign (AfterId edges ids) 41 (Steps (query_from edges ids)) [] refl (steps_line (query_from edges ids))
 
-after_quoted_line : (quoted : Quoted) (name : List ℕ) → Line (after_quoted quoted name) (41 ∷ [])
-after_quoted_line (OneName query step names) name = by_sign (AfterName query step (names ++ name ∷ [])) 41 (Steps (with_names query step (names ++ name ∷ []))) [] refl (steps_line (with_names query step (names ++ name ∷ [])))
-after_quoted_line (Key query) name = by_sign (AfterKey query name) 41 (Steps (with_step query (steps.Filter (filters.Has name)))) [] refl (steps_line (with_step query (steps.Filter (filters.Has name))))
+-- the rest of a repeat after the dot that follows its body
+abbrev times_rest : List ℕ
+times_rest = codes "times" ++ 40 ∷ 49 ∷ 41 ∷ []
+
+times_of_line : (query : Query) (body : List BodyStep) → Line (TimesOf query body) (49 ∷ 41 ∷ [])
+times_of_line query body = line_join turn is_loose (TimesOf query body) (49 ∷ 41 ∷ []) (inr (1, tt, tt, (codes "1", 41 ∷ [], refl, (refl, refl), loose_line (Closing query (steps.Repeat body 1)) (41 ∷ []) (closes_line query (steps.Repeat body 1)))))
+
+opens_times_line : (query : Query) (body : List BodyStep) → Line (OpensTimes query body) (40 ∷ 49 ∷ 41 ∷ [])
+opens_times_line query body = by_sign (OpensTimes query body) 40 (TimesOf query body) (49 ∷ 41 ∷ []) refl (times_of_line query body)
+
+times_word_line : (query : Query) (body : List BodyStep) → Line (TimesWord query body) times_rest
+times_word_line query body = line_join turn is_loose (TimesWord query body) times_rest (inr (tt, tt, tt, (codes "times", 40 ∷ 49 ∷ 41 ∷ [], refl, refl, loose_line (OpensTimes query body) (40 ∷ 49 ∷ 41 ∷ []) (opens_times_line query body))))
+
+after_body_line : (query : Query) (body : List BodyStep) → Line (AfterBody query body) (46 ∷ times_rest)
+after_body_line query body = by_sign (AfterBody query body) 46 (TimesWord query body) times_rest refl (times_word_line query body)
+
+in_body_line : (query : Query) (body : List BodyStep) → Line (InBody query body) (41 ∷ 46 ∷ times_rest)
+in_body_line query body = by_sign (InBody query body) 41 (AfterBody query body) (46 ∷ times_rest) refl (after_body_line query body)
+
+-- a rest after a step of a query, or of a body
+abbrev rest_after : Into → List ℕ
+rest_after (OfQuery query) = []
+rest_after (OfBody query body) = 41 ∷ 46 ∷ times_rest
+
+after_step_line : (into : Into) (step : BodyStep) → Line (after_step into step) (rest_after into)
+after_step_line (OfQuery query) step = steps_line _
+after_step_line (OfBody query body) step = in_body_line query (body ++ step ∷ [])
+
+after_filter_line : (into : Into) (filter : Filter) → Line (after_filter into filter) (rest_after into)
+after_filter_line into filter = after_step_line into (bodies.Filter filter)
+
+closes_filter_line : (into : Into) (filter : Filter) → Line (ClosesFilter into filter) (41 ∷ rest_after into)
+closes_filter_line into filter = by_sign (ClosesFilter into filter) 41 (after_filter into filter) (rest_after into) refl (after_filter_line into filter)
+
+-- a rest after the names of a step
+abbrev rest_of_names : NamesFor → List ℕ
+rest_of_names (OfStep query step) = []
+rest_of_names (OfHop into direction) = rest_after into
+rest_of_names (OfLabels into) = rest_after into
+
+after_names_line : (purpose : NamesFor) (names : List (List ℕ)) → Line (after_names purpose names) (rest_of_names purpose)
+after_names_line (OfStep query step) names = steps_line _
+after_names_line (OfHop into direction) names = after_step_line into _
+after_names_line (OfLabels into) names = after_filter_line into _
+
+-- a rest after a name between quotes and the parenthesis
+abbrev rest_of_quoted : Quoted → List ℕ
+rest_of_quoted (OneName purpose names) = rest_of_names purpose
+rest_of_quoted (Key into) = rest_after into
+rest_of_quoted (OrderKey query) = []
+
+after_quoted_line : (quoted : Quoted) (name : List ℕ) → Line (after_quoted quoted name) (41 ∷ rest_of_quoted quoted)
+after_quoted_line (OneName purpose names) name = by_sign (AfterName purpose (names ++ name ∷ [])) 41 (after_names purpose (names ++ name ∷ [])) (rest_of_names purpose) refl (after_names_line purpose (names ++ name ∷ []))
+after_quoted_line (Key into) name = by_sign (AfterKey into name) 41 (after_filter into (filters.Has name)) (rest_after into) refl (after_filter_line into (filters.Has name))
+after_quoted_line (OrderKey query) name = by_sign (AfterOrderKey query name) 41 (Steps (reordered query (Some name) false)) [] refl (steps_line (reordered query (Some name) false))
 
 pub quote_is : (quoted : Quoted) (name : List ℕ) (double : Bool) → sign_at (turn (Unquote quoted name double)).signs (quote_byte double) ≡ Some (after_quoted quoted name)
 quote_is quoted name true = refl
 quote_is quoted name false = refl
 
-unquote_line : (quoted : Quoted) (name : List ℕ) (double : Bool) → Line (Unquote quoted name double) (quote_byte double ∷ 41 ∷ [])
-unquote_line quoted name double = by_sign (Unquote quoted name double) (quote_byte double) (after_quoted quoted name) (41 ∷ []) (quote_is quoted name double) (after_quoted_line quoted name)
+unquote_line : (quoted : Quoted) (name : List ℕ) (double : Bool) → Line (Unquote quoted name double) (quote_byte double ∷ 41 ∷ rest_of_quoted quoted)
+unquote_line quoted name double = by_sign (Unquote quoted name double) (quote_byte double) (after_quoted quoted name) (41 ∷ rest_of_quoted quoted) (quote_is quoted name double) (after_quoted_line quoted name)
 
 -- ---- what has to hold of each
 
@@ -70,86 +137,373 @@ number_apart : (next : Place) (bytes : List ℕ) → StartsNumber bytes → NoSi
 number_apart next [] starts = tt
 number_apart next (b ∷ bytes) starts = ap (λ (t : Bool). cond t (Some next) None) (not_close b starts)
 
-step_table : IsWordTable step_words
+pub step_table : IsWordTable step_words
 step_table = record {
-  words = (refl, (refl, (refl, (refl, (refl, (refl, (refl, (refl, (refl, (refl, (refl, (refl, (refl, (refl, (refl, (refl, tt))))))))))))))));
-  named = (refl, (refl, (refl, (refl, (refl, (refl, (refl, (refl, (refl, (refl, (refl, (refl, (refl, (refl, (refl, (refl, tt))))))))))))))));
+  words = (refl, (refl, (refl, (refl, (refl, (refl, (refl, (refl, (refl, (refl, (refl, (refl, (refl, (refl, (refl, (refl, (refl, (refl, tt))))))))))))))))));
+  named = (refl, (refl, (refl, (refl, (refl, (refl, (refl, (refl, (refl, (refl, (refl, (refl, (refl, (refl, (refl, (refl, (refl, (refl, tt))))))))))))))))));
 }
+
+pub ordered_table : IsWordTable ordered_words
+ordered_table = record {
+  words = (refl, (refl, (refl, (refl, (refl, (refl, (refl, (refl, (refl, (refl, (refl, (refl, (refl, (refl, (refl, (refl, (refl, (refl, (refl, tt)))))))))))))))))));
+  named = (refl, (refl, (refl, (refl, (refl, (refl, (refl, (refl, (refl, (refl, (refl, (refl, (refl, (refl, (refl, (refl, (refl, (refl, (refl, tt)))))))))))))))))));
+}
+
+-- the words of a body among those of steps
+pub body_table : IsWordTable (map as_step_word body_words)
+body_table = record {
+  words = (refl, (refl, (refl, (refl, (refl, tt)))));
+  named = (refl, (refl, (refl, (refl, (refl, tt)))));
+}
+
+body_apart : (next : Place) (bytes : List ℕ) → StandsWhole (map as_step_word body_words) bytes → NoSign ((95, next) ∷ []) bytes
+body_apart next bytes stands = subst (NoSign ((95, next) ∷ [])) (sym stands.bytes_are) (all_in (λ (e : Entry StepWord). NoSign ((95, next) ∷ []) (e.0 ++ stands.rest)) (map as_step_word body_words) stands.entry (refl, (refl, (refl, (refl, (refl, tt))))) stands.within)
 
 unquote_halts_names : (quoted : Quoted) (name : List ℕ) (double : Bool) → place_halts turn is_loose NameByte (Unquote quoted name double) ≡ true
 unquote_halts_names quoted name true = refl
 unquote_halts_names quoted name false = refl
 
+-- ---- what an argument of has begins with
+
+-- a letter with which a word for a relation begins
+abbrev starts_relation : ℕ → Bool
+starts_relation b = nat_eq b 101 || (nat_eq b 110 || (nat_eq b 103 || nat_eq b 108))
+
+-- a byte with which a value begins
+abbrev starts_value : ℕ → Bool
+starts_value b = is_integer_start b || (is_quote b || (nat_eq b 116 || nat_eq b 102))
+
+abbrev Starts : (ℕ → Bool) → List ℕ → Type 0
+Starts p [] = ⊥
+Starts p (b ∷ bytes) = p b ≡ true
+
+abbrev BeginsRelation : Into → List ℕ → List ℕ → Type 0
+BeginsRelation into key bytes = Begins {Word = StepWord} (Token (OneWord relation_names) (λ word. OpensValue into key (relation_of word))) bytes
+
+abbrev BeginsValue : Into → List ℕ → List ℕ → Type 0
+BeginsValue into key bytes = Begins {Word = StepWord} (Token AnyValue (λ value. ClosesFilter into (value_filter key value))) bytes
+
+relation_starts : (word rest : List ℕ) → InTable (word, tt) (plain relation_names) → Starts starts_relation (word ++ rest)
+relation_starts word rest within = all_in (λ (e : Entry (Unit {0})). Starts starts_relation (e.0 ++ rest)) (plain relation_names) (word, tt) (refl, (refl, (refl, (refl, (refl, (refl, tt)))))) within
+
+begins_relation : (into : Into) (key bytes : List ℕ) → BeginsRelation into key bytes → Starts starts_relation bytes
+begins_relation into key bytes (inl (word, within, (prefix, rest, whole, is, after))) = subst (Starts starts_relation) (sym (whole ∙ ap (λ p. p ++ rest) is)) (relation_starts word rest within)
+begins_relation into key bytes (inr (kind, left, (word, bad, rest, takes, at))) = absurd bad
+
+integer_starts : (b : ℕ) → is_integer_start b ≡ true → starts_value b ≡ true
+integer_starts b is = ap (λ (t : Bool). t || (is_quote b || (nat_eq b 116 || nat_eq b 102))) is
+
+quote_starts : (b : ℕ) → is_quote b ≡ true → starts_value b ≡ true
+quote_starts b is = grind (arith, nat_tests)
+
+written_starts : (value : Value) (prefix rest : List ℕ) → IsWritten value prefix → Starts starts_value (prefix ++ rest)
+written_starts (values.Int number) prefix rest is = by_kind (prefix ++ rest) (value_starts (values.Int number) prefix rest is)
+  where
+    by_kind : (bytes : List ℕ) → StartsKind (values.Int number) bytes → Starts starts_value bytes
+    by_kind [] starts = starts
+    by_kind (b ∷ bytes) starts = integer_starts b starts
+written_starts (values.Bool true) prefix rest is = subst (λ p. Starts starts_value (p ++ rest)) (sym is) refl
+written_starts (values.Bool false) prefix rest is = subst (λ p. Starts starts_value (p ++ rest)) (sym is) refl
+written_starts (values.Text text) prefix rest is = by_kind (prefix ++ rest) (value_starts (values.Text text) prefix rest is)
+  where
+    by_kind : (bytes : List ℕ) → StartsKind (values.Text text) bytes → Starts starts_value bytes
+    by_kind [] starts = starts
+    by_kind (b ∷ bytes) starts = quote_starts b starts
+
+begins_value : (into : Into) (key bytes : List ℕ) → BeginsValue into key bytes → Starts starts_value bytes
+begins_value into key bytes (inl (value, allows, (prefix, rest, whole, is, after))) = subst (Starts starts_value) (sym whole) (written_starts value prefix rest is)
+begins_value into key bytes (inr (kind, left, (value, bad, rest, takes, at))) = subst (Starts starts_value) (sym takes.bytes_are) (written_starts value takes.prefix rest takes.is)
+
+relation_no_p : (b : ℕ) → starts_relation b ≡ true → nat_eq 80 b ≡ false
+relation_no_p b is = grind (arith, nat_tests)
+
+value_no_p : (b : ℕ) → starts_value b ≡ true → nat_eq 80 b ≡ false
+value_no_p b is = grind (arith, nat_tests)
+
+no_relation_value : (bytes : List ℕ) → Starts starts_relation bytes → Starts starts_value bytes → ⊥
+no_relation_value [] word value = word
+no_relation_value (b ∷ bytes) word value = grind (arith, nat_tests)
+
+relation_apart : (next : Place) (bytes : List ℕ) → Starts starts_relation bytes → NoSign ((80, next) ∷ []) bytes
+relation_apart next [] starts = tt
+relation_apart next (b ∷ bytes) starts = ap (λ (t : Bool). cond t (Some next) None) (relation_no_p b starts)
+
+value_apart : (next : Place) (bytes : List ℕ) → Starts starts_value bytes → NoSign ((80, next) ∷ []) bytes
+value_apart next [] starts = tt
+value_apart next (b ∷ bytes) starts = ap (λ (t : Bool). cond t (Some next) None) (value_no_p b starts)
+
+closes_value_line : (into : Into) (filter : Filter) → Line (ClosesValue into filter) (41 ∷ 41 ∷ rest_after into)
+closes_value_line into filter = by_sign (ClosesValue into filter) 41 (ClosesFilter into filter) (41 ∷ rest_after into) refl (closes_filter_line into filter)
+
+compared_line : (into : Into) (key : List ℕ) (relation : Relation) → Line (Compared into key relation) (48 ∷ 41 ∷ 41 ∷ rest_after into)
+compared_line into key relation =
+    let filter = relation_filter key relation (values.Int (pos 0)) in
+    line_join turn is_loose (Compared into key relation) (48 ∷ 41 ∷ 41 ∷ rest_after into) (inr (values.Int (pos 0), tt, tt, (codes "0", 41 ∷ 41 ∷ rest_after into, refl, inl (0, refl, (refl, refl)), loose_line (ClosesValue into filter) (41 ∷ 41 ∷ rest_after into) (closes_value_line into filter))))
+
+opens_value_line : (into : Into) (key : List ℕ) (relation : Relation) → Line (OpensValue into key relation) (40 ∷ 48 ∷ 41 ∷ 41 ∷ rest_after into)
+opens_value_line into key relation = by_sign (OpensValue into key relation) 40 (Compared into key relation) (48 ∷ 41 ∷ 41 ∷ rest_after into) refl (compared_line into key relation)
+
+relation_line : (into : Into) (key : List ℕ) → Line (RelationName into key) (codes "eq" ++ 40 ∷ 48 ∷ 41 ∷ 41 ∷ rest_after into)
+relation_line into key = line_join turn is_loose (RelationName into key) (codes "eq" ++ 40 ∷ 48 ∷ 41 ∷ 41 ∷ rest_after into) (inr (codes "eq", inl refl, tt, (codes "eq", 40 ∷ 48 ∷ 41 ∷ 41 ∷ rest_after into, refl, refl, loose_line (OpensValue into key (relation_of (codes "eq"))) (40 ∷ 48 ∷ 41 ∷ 41 ∷ rest_after into) (opens_value_line into key (relation_of (codes "eq"))))))
+
+-- ---- what a direction of an order begins with
+
+-- a letter with which a word for a direction begins
+abbrev starts_sort : ℕ → Bool
+starts_sort b = nat_eq b 97 || nat_eq b 100
+
+abbrev BeginsSort : Query → Option (List ℕ) → List ℕ → Type 0
+BeginsSort query key bytes = Begins {Word = StepWord} (Token (OneWord sort_names) (λ word. ByCloses query key (is_descending word))) bytes
+
+abbrev BeginsOrder : Query → Option (List ℕ) → List ℕ → Type 0
+BeginsOrder query key bytes = Begins {Word = StepWord} (Token (Sign (codes "Order")) (λ _. AfterOrderWord query key)) bytes
+
+begins_sort : (query : Query) (key : Option (List ℕ)) (bytes : List ℕ) → BeginsSort query key bytes → Starts starts_sort bytes
+begins_sort query key bytes (inl (word, within, (prefix, rest, whole, is, after))) = subst (Starts starts_sort) (sym (whole ∙ ap (λ p. p ++ rest) is)) (all_in (λ (e : Entry (Unit {0})). Starts starts_sort (e.0 ++ rest)) (plain sort_names) (word, tt) (refl, (refl, tt)) within)
+begins_sort query key bytes (inr (kind, left, (word, bad, rest, takes, at))) = absurd bad
+
+begins_order : (query : Query) (key : Option (List ℕ)) (bytes : List ℕ) → BeginsOrder query key bytes → Starts (λ b. nat_eq b 79) bytes
+begins_order query key bytes (inl (content, allows, (prefix, rest, whole, is, after))) = subst (Starts (λ b. nat_eq b 79)) (sym (whole ∙ ap (λ p. p ++ rest) is)) refl
+begins_order query key bytes (inr (kind, left, (content, bad, rest, takes, at))) = absurd bad
+
+no_sort_order : (bytes : List ℕ) → Starts starts_sort bytes → Starts (λ b. nat_eq b 79) bytes → ⊥
+no_sort_order [] sort order = sort
+no_sort_order (b ∷ bytes) sort order = grind (arith, nat_tests)
+
+abbrev by_signs : Query → List (ℕ × Place)
+by_signs query = (turn (ByFirst query)).signs
+
+sort_no_sign : (query : Query) (b : ℕ) → starts_sort b ≡ true → sign_at (by_signs query) b ≡ None
+sort_no_sign query b is =
+    let close : nat_eq 41 b ≡ false = grind (arith, nat_tests) in
+    let single : nat_eq 39 b ≡ false = grind (arith, nat_tests) in
+    let double : nat_eq 34 b ≡ false = grind (arith, nat_tests) in
+    rw (close, single, double)
+
+order_no_sign : (query : Query) (b : ℕ) → nat_eq b 79 ≡ true → sign_at (by_signs query) b ≡ None
+order_no_sign query b is =
+    let close : nat_eq 41 b ≡ false = grind (arith, nat_tests) in
+    let single : nat_eq 39 b ≡ false = grind (arith, nat_tests) in
+    let double : nat_eq 34 b ≡ false = grind (arith, nat_tests) in
+    rw (close, single, double)
+
+direction_apart : (query : Query) (bytes : List ℕ) → Begins (direction_of query None) bytes → NoSign (by_signs query) bytes
+direction_apart query [] begins = tt
+direction_apart query (b ∷ bytes) (inl sort) = sort_no_sign query b (begins_sort query None (b ∷ bytes) sort)
+direction_apart query (b ∷ bytes) (inr order) = order_no_sign query b (begins_order query None (b ∷ bytes) order)
+
+by_closes_line : (query : Query) (key : Option (List ℕ)) (descending : Bool) → Line (ByCloses query key descending) (41 ∷ [])
+by_closes_line query key descending = by_sign (ByCloses query key descending) 41 (Steps (reordered query key descending)) [] refl (steps_line (reordered query key descending))
+
+sort_line : (query : Query) (key : Option (List ℕ)) → Line (DirectionName query key) (codes "asc" ++ 41 ∷ [])
+sort_line query key = line_join turn is_loose (DirectionName query key) (codes "asc" ++ 41 ∷ []) (inr (codes "asc", inl refl, tt, (codes "asc", 41 ∷ [], refl, refl, loose_line (ByCloses query key false) (41 ∷ []) (by_closes_line query key false))))
+
+after_order_word_line : (query : Query) (key : Option (List ℕ)) → Line (AfterOrderWord query key) (46 ∷ (codes "asc" ++ 41 ∷ []))
+after_order_word_line query key = by_sign (AfterOrderWord query key) 46 (DirectionName query key) (codes "asc" ++ 41 ∷ []) refl (sort_line query key)
+
+abbrev SortEnded : Query → Option (List ℕ) → Type 0
+SortEnded query key = IsEnded {Word = StepWord} turn is_loose (Token (OneWord sort_names) (λ word. ByCloses query key (is_descending word)))
+
+sort_ended : (query : Query) (key : Option (List ℕ)) → SortEnded query key
+sort_ended query key = (refl, λ word. refl, (41 ∷ [], λ word. loose_line (ByCloses query key (is_descending word)) (41 ∷ []) (by_closes_line query key (is_descending word))))
+
+direction_ended : (query : Query) (key : Option (List ℕ)) → IsEnded turn is_loose (direction_of query key)
+direction_ended query key = (
+  sort_ended query key,
+  (refl, λ content. refl, (46 ∷ (codes "asc" ++ 41 ∷ []), λ content. loose_line (AfterOrderWord query key) (46 ∷ (codes "asc" ++ 41 ∷ [])) (after_order_word_line query key))),
+  λ bytes sort order. no_sort_order bytes (begins_sort query key bytes sort) (begins_order query key bytes order),
+  tt,
+  tt,
+)
+
+begins_number : (bytes : List ℕ) → Begins {Word = StepWord} {Place = Place} (Token (AnyNumber most_id) (λ id. Start)) bytes → StartsNumber bytes
+begins_number bytes (inl (number, allows, (prefix, rest, whole, is, after))) = subst StartsNumber (sym whole) (number_starts prefix rest is.0)
+begins_number bytes (inr (kind, left, (number, bad, rest, takes, at))) = subst StartsNumber (sym takes.bytes_are) (number_starts takes.prefix rest takes.is.0)
+
 pub are : (place : Place) → IsPlace turn is_loose place
-are Start = record { no_blank = refl; apart = tt; ended = tt; alone = λ ends. refl }
-are Source = record { no_blank = refl; apart = tt; ended = tt; alone = λ ends. refl }
-are (Opening edges) = record { no_blank = refl; apart = tt; ended = tt; alone = λ ends. refl }
+are Start = record { no_blank = refl; apart = λ bytes none. absurd none; ended = tt; alone = λ end ends. refl }
+are Source = record { no_blank = refl; apart = λ bytes none. absurd none; ended = tt; alone = λ end ends. refl }
+are (Opening edges) = record { no_blank = refl; apart = λ bytes none. absurd none; ended = tt; alone = λ end ends. refl }
 are (FirstId edges) = record {
   no_blank = refl;
-  apart = λ id prefix rest is. number_apart (Steps (query_from edges [])) (prefix ++ rest) (number_starts prefix rest is.0);
+  apart = λ bytes begins. number_apart (Steps (query_from edges [])) bytes (begins_number bytes begins);
   ended = (refl, λ id. refl, (41 ∷ [], λ id. loose_line (AfterId edges (id ∷ [])) (41 ∷ []) (after_id_line edges (id ∷ []))));
-  alone = λ ends. cc;
+  alone = λ end ends. cc;
 }
-are (AfterId edges ids) = record { no_blank = refl; apart = tt; ended = tt; alone = λ ends. refl }
+are (AfterId edges ids) = record { no_blank = refl; apart = λ bytes none. absurd none; ended = tt; alone = λ end ends. refl }
 are (NextId edges ids) = record {
   no_blank = refl;
-  apart = λ id prefix rest is. no_signs (prefix ++ rest);
+  apart = λ bytes begins. no_signs bytes;
   ended = (refl, λ id. refl, (41 ∷ [], λ id. loose_line (AfterId edges (ids ++ id ∷ [])) (41 ∷ []) (after_id_line edges (ids ++ id ∷ []))));
-  alone = λ ends. cc;
+  alone = λ end ends. cc;
 }
-are (Steps query) = record { no_blank = refl; apart = tt; ended = tt; alone = λ ends. refl }
+are (Steps query) = record { no_blank = refl; apart = λ bytes none. absurd none; ended = tt; alone = λ end ends. refl }
 are (StepName query) = record {
   no_blank = refl;
-  apart = λ entry within rest. no_signs (entry.0 ++ rest);
+  apart = λ bytes begins. no_signs bytes;
   ended = (step_table, λ word. refl);
-  alone = λ ends. cc;
+  alone = λ end ends. cc;
 }
-are (Opens query word) = record { no_blank = refl; apart = tt; ended = tt; alone = λ ends. refl }
-are (Closing query step) = record { no_blank = refl; apart = tt; ended = tt; alone = λ ends. refl }
-are (FirstName query step) = record { no_blank = refl; apart = tt; ended = tt; alone = λ ends. refl }
-are (AfterName query step names) = record { no_blank = refl; apart = tt; ended = tt; alone = λ ends. refl }
-are (AfterKey query key) = record { no_blank = refl; apart = tt; ended = tt; alone = λ ends. refl }
-are (ValueOf query key) = record {
+are (Opens query word) = record { no_blank = refl; apart = λ bytes none. absurd none; ended = tt; alone = λ end ends. refl }
+are (Closing query step) = record { no_blank = refl; apart = λ bytes none. absurd none; ended = tt; alone = λ end ends. refl }
+are (FirstName purpose) = record { no_blank = refl; apart = λ bytes none. absurd none; ended = tt; alone = λ end ends. refl }
+are (AfterName purpose names) = record { no_blank = refl; apart = λ bytes none. absurd none; ended = tt; alone = λ end ends. refl }
+are (AfterKey into key) = record { no_blank = refl; apart = λ bytes none. absurd none; ended = tt; alone = λ end ends. refl }
+are (ValueOf into key) = record {
   no_blank = refl;
-  apart = λ value prefix rest is. no_signs (prefix ++ rest);
-  ended = (refl, λ value. refl, (41 ∷ [], λ value. loose_line (Closing query (value_step key value)) (41 ∷ []) (closes_line query (value_step key value))));
-  alone = λ ends. cc;
+  apart = λ bytes begins. ⊎_elim
+      (λ (word : BeginsRelation into key bytes). relation_apart (AfterP into key) bytes (begins_relation into key bytes word))
+      (λ (value : BeginsValue into key bytes). value_apart (AfterP into key) bytes (begins_value into key bytes value))
+      begins;
+  ended = (
+    (refl, λ word. refl, (40 ∷ 48 ∷ 41 ∷ 41 ∷ rest_after into, λ word. loose_line (OpensValue into key (relation_of word)) (40 ∷ 48 ∷ 41 ∷ 41 ∷ rest_after into) (opens_value_line into key (relation_of word)))),
+    (refl, λ value. refl, (41 ∷ rest_after into, λ value. loose_line (ClosesFilter into (value_filter key value)) (41 ∷ rest_after into) (closes_filter_line into (value_filter key value)))),
+    λ bytes word value. no_relation_value bytes (begins_relation into key bytes word) (begins_value into key bytes value),
+    tt,
+    tt,
+  );
+  alone = λ end ends. cc;
 }
+are (AfterP into key) = record { no_blank = refl; apart = λ bytes none. absurd none; ended = tt; alone = λ end ends. refl }
+are (RelationName into key) = record {
+  no_blank = refl;
+  apart = λ bytes begins. no_signs bytes;
+  ended = (refl, λ word. refl, (40 ∷ 48 ∷ 41 ∷ 41 ∷ rest_after into, λ word. loose_line (OpensValue into key (relation_of word)) (40 ∷ 48 ∷ 41 ∷ 41 ∷ rest_after into) (opens_value_line into key (relation_of word))));
+  alone = λ end ends. cc;
+}
+are (OpensValue into key relation) = record { no_blank = refl; apart = λ bytes none. absurd none; ended = tt; alone = λ end ends. refl }
+are (Compared into key relation) = record {
+  no_blank = refl;
+  apart = λ bytes begins. no_signs bytes;
+  ended = (refl, λ value. refl, (41 ∷ 41 ∷ rest_after into, λ value. loose_line (ClosesValue into (relation_filter key relation value)) (41 ∷ 41 ∷ rest_after into) (closes_value_line into (relation_filter key relation value))));
+  alone = λ end ends. cc;
+}
+are (ClosesValue into filter) = record { no_blank = refl; apart = λ bytes none. absurd none; ended = tt; alone = λ end ends. refl }
+are (ClosesFilter into filter) = record { no_blank = refl; apart = λ bytes none. absurd none; ended = tt; alone = λ end ends. refl }
 are (Most query) = record {
   no_blank = refl;
-  apart = λ most prefix rest is. no_signs (prefix ++ rest);
+  apart = λ bytes begins. no_signs bytes;
   ended = (refl, λ most. refl, (41 ∷ [], λ most. loose_line (Closing query (steps.Limit most)) (41 ∷ []) (closes_line query (steps.Limit most))));
-  alone = λ ends. cc;
+  alone = λ end ends. cc;
 }
-are (Quote quoted) = record { no_blank = refl; apart = tt; ended = tt; alone = λ ends. refl }
+are (OrderCloses query) = record { no_blank = refl; apart = λ bytes none. absurd none; ended = tt; alone = λ end ends. refl }
+are (Ordered query) = record { no_blank = refl; apart = λ bytes none. absurd none; ended = tt; alone = λ end ends. refl }
+are (OrderedName query) = record {
+  no_blank = refl;
+  apart = λ bytes begins. no_signs bytes;
+  ended = (ordered_table, λ word. refl);
+  alone = λ end ends. cc;
+}
+are (ByFirst query) = record {
+  no_blank = refl;
+  apart = λ bytes begins. direction_apart query bytes begins;
+  ended = direction_ended query None;
+  alone = λ end ends. cc;
+}
+are (AfterOrderKey query key) = record { no_blank = refl; apart = λ bytes none. absurd none; ended = tt; alone = λ end ends. refl }
+are (OrderDirection query key) = record {
+  no_blank = refl;
+  apart = λ bytes begins. no_signs bytes;
+  ended = direction_ended query key;
+  alone = λ end ends. cc;
+}
+are (AfterOrderWord query key) = record { no_blank = refl; apart = λ bytes none. absurd none; ended = tt; alone = λ end ends. refl }
+are (DirectionName query key) = record {
+  no_blank = refl;
+  apart = λ bytes begins. no_signs bytes;
+  ended = sort_ended query key;
+  alone = λ end ends. cc;
+}
+are (ByCloses query key descending) = record { no_blank = refl; apart = λ bytes none. absurd none; ended = tt; alone = λ end ends. refl }
+are (Quote quoted) = record { no_blank = refl; apart = λ bytes none. absurd none; ended = tt; alone = λ end ends. refl }
 are (InQuotes quoted double) = record {
   no_blank = refl;
-  apart = λ name prefix rest is. no_signs (prefix ++ rest);
-  ended = (refl, λ name. unquote_halts_names quoted name double, (quote_byte double ∷ 41 ∷ [], λ name. unquote_line quoted name double));
-  alone = λ ends. cc;
+  apart = λ bytes begins. no_signs bytes;
+  ended = (refl, λ name. unquote_halts_names quoted name double, (quote_byte double ∷ 41 ∷ rest_of_quoted quoted, λ name. unquote_line quoted name double));
+  alone = λ end ends. cc;
 }
-are (Unquote quoted name true) = record { no_blank = refl; apart = tt; ended = tt; alone = λ ends. refl }
-are (Unquote quoted name false) = record { no_blank = refl; apart = tt; ended = tt; alone = λ ends. refl }
+are (Unquote quoted name true) = record { no_blank = refl; apart = λ bytes none. absurd none; ended = tt; alone = λ end ends. refl }
+are (Unquote quoted name false) = record { no_blank = refl; apart = λ bytes none. absurd none; ended = tt; alone = λ end ends. refl }
+are (BodyFirst query) = record {
+  no_blank = refl;
+  apart = λ bytes begins. body_apart (Underscore query) bytes begins;
+  ended = (body_table, λ word. refl);
+  alone = λ end ends. cc;
+}
+are (Underscore query) = record { no_blank = refl; apart = λ bytes none. absurd none; ended = tt; alone = λ end ends. refl }
+are (AfterAnonymous query) = record { no_blank = refl; apart = λ bytes none. absurd none; ended = tt; alone = λ end ends. refl }
+are (BodyName query body) = record {
+  no_blank = refl;
+  apart = λ bytes begins. no_signs bytes;
+  ended = (body_table, λ word. refl);
+  alone = λ end ends. cc;
+}
+are (OpensBody query body word) = record { no_blank = refl; apart = λ bytes none. absurd none; ended = tt; alone = λ end ends. refl }
+are (InBody query body) = record { no_blank = refl; apart = λ bytes none. absurd none; ended = tt; alone = λ end ends. refl }
+are (AfterBody query body) = record { no_blank = refl; apart = λ bytes none. absurd none; ended = tt; alone = λ end ends. refl }
+are (TimesWord query body) = record {
+  no_blank = refl;
+  apart = λ bytes begins. no_signs bytes;
+  ended = (refl, λ word. refl, (40 ∷ 49 ∷ 41 ∷ [], λ word. loose_line (OpensTimes query body) (40 ∷ 49 ∷ 41 ∷ []) (opens_times_line query body)));
+  alone = λ end ends. cc;
+}
+are (OpensTimes query body) = record { no_blank = refl; apart = λ bytes none. absurd none; ended = tt; alone = λ end ends. refl }
+are (TimesOf query body) = record {
+  no_blank = refl;
+  apart = λ bytes begins. no_signs bytes;
+  ended = (refl, λ times. refl, (41 ∷ [], λ times. loose_line (Closing query (steps.Repeat body times)) (41 ∷ []) (closes_line query (steps.Repeat body times))));
+  alone = λ end ends. cc;
+}
 
 -- ---- a line of each of the other places
 
 most_line : (query : Query) → Line (Most query) (48 ∷ 41 ∷ [])
 most_line query = line_join turn is_loose (Most query) (48 ∷ 41 ∷ []) (inr (0, tt, tt, (codes "0", 41 ∷ [], refl, (refl, refl), loose_line (Closing query (steps.Limit 0)) (41 ∷ []) (closes_line query (steps.Limit 0)))))
 
-in_quotes_line : (quoted : Quoted) (double : Bool) → Line (InQuotes quoted double) (97 ∷ quote_byte double ∷ 41 ∷ [])
-in_quotes_line quoted double = line_join turn is_loose (InQuotes quoted double) (97 ∷ quote_byte double ∷ 41 ∷ []) (inr (codes "a", tt, tt, (codes "a", quote_byte double ∷ 41 ∷ [], refl, (refl, (refl, tt)), unquote_line quoted (codes "a") double)))
+in_quotes_line : (quoted : Quoted) (double : Bool) → Line (InQuotes quoted double) (97 ∷ quote_byte double ∷ 41 ∷ rest_of_quoted quoted)
+in_quotes_line quoted double = line_join turn is_loose (InQuotes quoted double) (97 ∷ quote_byte double ∷ 41 ∷ rest_of_quoted quoted) (inr (codes "a", tt, tt, (codes "a", quote_byte double ∷ 41 ∷ rest_of_quoted quoted, refl, (refl, (refl, tt)), unquote_line quoted (codes "a") double)))
 
-quote_line : (quoted : Quoted) → Line (Quote quoted) (39 ∷ 97 ∷ 39 ∷ 41 ∷ [])
-quote_line quoted = by_sign (Quote quoted) 39 (InQuotes quoted false) (97 ∷ 39 ∷ 41 ∷ []) refl (in_quotes_line quoted false)
+quote_line : (quoted : Quoted) → Line (Quote quoted) (39 ∷ 97 ∷ 39 ∷ 41 ∷ rest_of_quoted quoted)
+quote_line quoted = by_sign (Quote quoted) 39 (InQuotes quoted false) (97 ∷ 39 ∷ 41 ∷ rest_of_quoted quoted) refl (in_quotes_line quoted false)
+
+first_name_line : (purpose : NamesFor) → Line (FirstName purpose) (41 ∷ rest_of_names purpose)
+first_name_line purpose = by_sign (FirstName purpose) 41 (after_names purpose []) (rest_of_names purpose) refl (after_names_line purpose [])
+
+opened_names_some : (purpose : NamesFor) → (line : List ℕ) × Line (opened_names purpose) line
+opened_names_some (OfStep query step) = (_, first_name_line (OfStep query step))
+opened_names_some (OfHop into direction) = (_, first_name_line (OfHop into direction))
+opened_names_some (OfLabels into) = (_, quote_line (OneName (OfLabels into) []))
+
+opened_body_some : (into : Into) (word : BodyWord) → (line : List ℕ) × Line (opened_body into word) line
+opened_body_some into (of_body.Neighbours direction) = opened_names_some (OfHop into direction)
+opened_body_some into of_body.HasLabel = opened_names_some (OfLabels into)
+opened_body_some into of_body.Has = (_, quote_line (Key into))
+
+opens_body_some : (query : Query) (body : List BodyStep) (word : BodyWord) → (line : List ℕ) × Line (OpensBody query body word) line
+opens_body_some query body word = let later = opened_body_some (OfBody query body) word in (40 ∷ later.0, by_sign (OpensBody query body word) 40 (opened_body (OfBody query body) word) later.0 refl later.1)
+
+-- a line from a place where the first word of a body may stand
+body_some : (place : Place) (query : Query) (body : List BodyStep) → (turn place).other ≡ body_name query body → (line : List ℕ) × Line place line
+body_some place query body is =
+    let out = of_body.Neighbours directions.Outgoing in
+    let later = opens_body_some query body out in
+    let other : ThenOther (λ _. Unit {0}) (body_name query body) (Loosely turn is_loose (LineFrom turn is_loose)) (codes "out" ++ later.0) = (as_step_word (codes "out", out), inl refl, tt, (codes "out", later.0, refl, refl, loose_line (OpensBody query body out) later.0 later.1)) in
+    (codes "out" ++ later.0, line_join turn is_loose place (codes "out" ++ later.0) (inr (subst (λ o. ThenOther (λ _. Unit {0}) o (Loosely turn is_loose (LineFrom turn is_loose)) (codes "out" ++ later.0)) (sym is) other)))
+
+order_closes_line : (query : Query) → Line (OrderCloses query) (41 ∷ [])
+order_closes_line query = by_sign (OrderCloses query) 41 (Ordered (with_step query plain_order)) [] refl (ordered_line (with_step query plain_order))
+
+by_first_line : (query : Query) → Line (ByFirst query) (41 ∷ [])
+by_first_line query = by_sign (ByFirst query) 41 (Steps (reordered query None false)) [] refl (steps_line (reordered query None false))
 
 opened_some : (query : Query) (word : StepWord) → (line : List ℕ) × Line (opened query word) line
 opened_some query (words.Bare bare) = (41 ∷ [], closes_line query (bare_step bare))
-opened_some query (words.Names of_names.HasLabel) = (_, quote_line (OneName query of_names.HasLabel []))
-opened_some query (words.Names of_names.Values) = (_, by_sign (FirstName query of_names.Values) 41 (Steps (with_names query of_names.Values [])) [] refl (steps_line _))
-opened_some query (words.Names (of_names.Neighbours direction)) = (_, by_sign (FirstName query (of_names.Neighbours direction)) 41 (Steps (with_names query (of_names.Neighbours direction) [])) [] refl (steps_line _))
-opened_some query (words.Names (of_names.Incident direction)) = (_, by_sign (FirstName query (of_names.Incident direction)) 41 (Steps (with_names query (of_names.Incident direction) [])) [] refl (steps_line _))
-opened_some query words.Has = (_, quote_line (Key query))
+opened_some query (words.Names step) = opened_names_some (OfStep query step)
+opened_some query (words.Body word) = opened_body_some (OfQuery query) word
 opened_some query words.Limit = (_, most_line query)
+opened_some query words.Order = (_, order_closes_line query)
+opened_some query words.By = (_, by_first_line query)
+opened_some query words.Repeat = body_some (BodyFirst query) query [] refl
 
 opens_some : (query : Query) (word : StepWord) → (line : List ℕ) × Line (Opens query word) line
 opens_some query word = let later = opened_some query word in (40 ∷ later.0, by_sign (Opens query word) 40 (opened query word) later.0 refl later.1)
@@ -173,14 +527,41 @@ some (NextId edges ids) = (48 ∷ 41 ∷ [], line_join turn is_loose (NextId edg
 some (Steps query) = (_, steps_line query)
 some (StepName query) =
     let later = opens_some query (words.Bare bare.Count) in
-    (codes "count" ++ later.0, line_join turn is_loose (StepName query) (codes "count" ++ later.0) (inr ((codes "count", words.Bare bare.Count), inr (inr (inr (inr (inr (inr (inr (inr (inr (inr (inr (inr (inr (inr (inl refl)))))))))))))), (codes "count", later.0, refl, refl, loose_line (Opens query (words.Bare bare.Count)) later.0 later.1))))
+    (codes "count" ++ later.0, line_join turn is_loose (StepName query) (codes "count" ++ later.0) (inr ((codes "count", words.Bare bare.Count), inr (inr (inr (inr (inr (inr (inr (inr (inr (inr (inr (inr (inr (inr (inl refl)))))))))))))), tt, (codes "count", later.0, refl, refl, loose_line (Opens query (words.Bare bare.Count)) later.0 later.1))))
 some (Opens query word) = opens_some query word
 some (Closing query step) = (_, closes_line query step)
-some (FirstName query step) = (_, by_sign (FirstName query step) 41 (Steps (with_names query step [])) [] refl (steps_line _))
-some (AfterName query step names) = (_, by_sign (AfterName query step names) 41 (Steps (with_names query step names)) [] refl (steps_line _))
-some (AfterKey query key) = (_, by_sign (AfterKey query key) 41 (Steps (with_step query (steps.Filter (filters.Has key)))) [] refl (steps_line _))
-some (ValueOf query key) = (48 ∷ 41 ∷ [], line_join turn is_loose (ValueOf query key) (48 ∷ 41 ∷ []) (inr (values.Int (pos 0), tt, tt, (codes "0", 41 ∷ [], refl, inl (0, refl, (refl, refl)), loose_line (Closing query (value_step key (values.Int (pos 0)))) (41 ∷ []) (closes_line query (value_step key (values.Int (pos 0))))))))
+some (FirstName purpose) = (_, first_name_line purpose)
+some (AfterName purpose names) = (_, by_sign (AfterName purpose names) 41 (after_names purpose names) (rest_of_names purpose) refl (after_names_line purpose names))
+some (AfterKey into key) = (_, by_sign (AfterKey into key) 41 (after_filter into (filters.Has key)) (rest_after into) refl (after_filter_line into (filters.Has key)))
+some (ValueOf into key) = (48 ∷ 41 ∷ rest_after into, line_join turn is_loose (ValueOf into key) (48 ∷ 41 ∷ rest_after into) (inr (inr (values.Int (pos 0), tt, tt, (codes "0", 41 ∷ rest_after into, refl, inl (0, refl, (refl, refl)), loose_line (ClosesFilter into (value_filter key (values.Int (pos 0)))) (41 ∷ rest_after into) (closes_filter_line into (value_filter key (values.Int (pos 0)))))))))
+some (AfterP into key) = (_, by_sign (AfterP into key) 46 (RelationName into key) (codes "eq" ++ 40 ∷ 48 ∷ 41 ∷ 41 ∷ rest_after into) refl (relation_line into key))
+some (RelationName into key) = (_, relation_line into key)
+some (OpensValue into key relation) = (_, opens_value_line into key relation)
+some (Compared into key relation) = (_, compared_line into key relation)
+some (ClosesValue into filter) = (_, closes_value_line into filter)
+some (ClosesFilter into filter) = (_, closes_filter_line into filter)
 some (Most query) = (_, most_line query)
+some (OrderCloses query) = (_, order_closes_line query)
+some (Ordered query) = (_, ordered_line query)
+some (OrderedName query) =
+    let later = opens_some query words.By in
+    (codes "by" ++ later.0, line_join turn is_loose (OrderedName query) (codes "by" ++ later.0) (inr ((codes "by", words.By), inl refl, tt, (codes "by", later.0, refl, refl, loose_line (Opens query words.By) later.0 later.1))))
+some (ByFirst query) = (_, by_first_line query)
+some (AfterOrderKey query key) = (_, by_sign (AfterOrderKey query key) 41 (Steps (reordered query (Some key) false)) [] refl (steps_line (reordered query (Some key) false)))
+some (OrderDirection query key) = (codes "asc" ++ 41 ∷ [], line_join turn is_loose (OrderDirection query key) (codes "asc" ++ 41 ∷ []) (inr (inl (codes "asc", inl refl, tt, (codes "asc", 41 ∷ [], refl, refl, loose_line (ByCloses query key false) (41 ∷ []) (by_closes_line query key false))))))
+some (AfterOrderWord query key) = (_, after_order_word_line query key)
+some (DirectionName query key) = (_, sort_line query key)
+some (ByCloses query key descending) = (_, by_closes_line query key descending)
 some (Quote quoted) = (_, quote_line quoted)
 some (InQuotes quoted double) = (_, in_quotes_line quoted double)
 some (Unquote quoted name double) = (_, unquote_line quoted name double)
+some (BodyFirst query) = body_some (BodyFirst query) query [] refl
+some (Underscore query) = let later = body_some (BodyName query []) query [] refl in (95 ∷ 46 ∷ later.0, by_sign (Underscore query) 95 (AfterAnonymous query) (46 ∷ later.0) refl (by_sign (AfterAnonymous query) 46 (BodyName query []) later.0 refl later.1))
+some (AfterAnonymous query) = let later = body_some (BodyName query []) query [] refl in (46 ∷ later.0, by_sign (AfterAnonymous query) 46 (BodyName query []) later.0 refl later.1)
+some (BodyName query body) = body_some (BodyName query body) query body refl
+some (OpensBody query body word) = opens_body_some query body word
+some (InBody query body) = (_, in_body_line query body)
+some (AfterBody query body) = (_, after_body_line query body)
+some (TimesWord query body) = (_, times_word_line query body)
+some (OpensTimes query body) = (_, opens_times_line query body)
+some (TimesOf query body) = (_, times_of_line query body)

@@ -1,29 +1,41 @@
 -- What the readers of queries have read, from place to place.
-use Rattle.std.proofs.Common.{◌≡◌, ◌≢◌, ◌≤◌, ◌<◌, ◌+◌, inl, inr, ℕ, nat_eq, cond, Bool, true, false, Some, None, List, [], ◌∷◌, ◌++◌, length, refl, sym, ap, ◌∙◌, subst, ⊎_elim, length-append, arith}
+use Rattle.std.proofs.Common.{◌≡◌, ◌≢◌, ◌≤◌, ◌<◌, ◌+◌, ◌⊎◌, inl, inr, ℕ, zero, suc, min, nat_eq, cond, Bool, true, false, Option, Some, None, IfSome, IfNone, List, [], ◌∷◌, ◌++◌, length, refl, sym, ap, ◌∙◌, subst, ⊎_elim, length-append, arith}
 use Rattle.std.proofs.lemmas.Bool.{cases_Bool}
 use borrow.Author.Tests.{eqb-true}
 use Rattle.gremlin_parse.specs.Grammar.{most_id, most_limit}
 use Rattle.gremlin_parse.specs.Reading.{first_byte}
-use Rattle.gremlin_parse.specs.Symbols.{AnyName, AnyNumber, AnyValue, AnyBlanks, Sign, Reads, ReadsToken, ReadsId, Leaves}
-use Rattle.gremlin_parse.specs.Keywords.{TakesWord, LeavesTable}
+use Rattle.gremlin_parse.specs.Symbols.{OneWord, AnyName, AnyNumber, AnyValue, AnyBlanks, Sign, Reads, ReadsToken, ReadsId, Leaves}
+use Rattle.gremlin_parse.specs.Keywords.{Entry, whole_word, TakesWord}
 use Rattle.gremlin_parse.specs.Stopping.{StopsWith}
+use Rattle.plain_graph.specs.declared.query.BodyStep.{BodyStep}
+use Rattle.plain_graph.specs.declared.query.BodyStep.TheVariants as bodies
 use Rattle.plain_graph.specs.declared.query.Query.{Query}
 use Rattle.plain_graph.specs.declared.query.Step.{Step}
 use Rattle.plain_graph.specs.declared.query.Step.TheVariants as steps
+use Rattle.plain_graph.specs.declared.filter.Filter.{Filter}
 use Rattle.plain_graph.specs.declared.filter.Filter.TheVariants as filters
+use Rattle.plain_graph.specs.declared.filter.Relation.{Relation}
+use Rattle.plain_graph.specs.declared.filter.Relation.TheVariants as relations
 use Rattle.plain_graph.specs.declared.value.Value.{Value}
+use Rattle.gremlin_parse.specs.Comparisons.{ReadsRelation, later}
+use Rattle.gremlin_parse.specs.declared.bad_token.BadToken.{BadToken}
 use Rattle.gremlin_parse.specs.declared.step_word.BareStep.{BareStep}
-use Rattle.gremlin_parse.specs.declared.step_word.NamesStep.{NamesStep}
-use Rattle.gremlin_parse.specs.declared.step_word.NamesStep.TheVariants as of_names
+use Rattle.gremlin_parse.specs.declared.step_word.BodyWord.{BodyWord}
+use Rattle.gremlin_parse.specs.declared.step_word.BodyWord.TheVariants as of_body
 use Rattle.gremlin_parse.specs.declared.step_word.StepWord.TheVariants as words
-use Rattle.gremlin_parse.specs.Turns.{Turn, sign_at, KeptFrom}
-use Rattle.gremlin_parse.specs.Queries.{Quoted, OneName, Key, Place, Start, Source, Opening, FirstId, AfterId, NextId, Steps, query_from, query_of, StepName, Opens, Closing, FirstName, AfterName, AfterKey, ValueOf, Most, opened, step_words, with_step, with_names, bare_step, needs_name, value_step, Quote, InQuotes, Unquote, one_of, QuotesAt, LeavesBoth, NeitherFirst, LeadsTo, StopsFrom, after_quoted, quote_byte, IsKeptQuery, StopsInQuery, turn, is_loose}
+use Rattle.gremlin_parse.specs.Stages.{first_items, is_by, added_count, items_after, items_from, stage_of, step_fault, steps_in}
+use Rattle.gremlin_parse.specs.Turns.{Turn, LeavesWords, IsBadWord, sign_at, KeptFrom}
+use Rattle.gremlin_parse.specs.Queries.{Into, OfQuery, OfBody, NamesFor, OfStep, OfHop, OfLabels, Quoted, OneName, Key, OrderKey, Place, Start, Source, Opening, FirstId, AfterId, NextId, Steps, query_from, query_of, StepName, Opens, Closing, FirstName, AfterName, AfterKey, ValueOf, AfterP, RelationName, OpensValue, Compared, ClosesValue, ClosesFilter, relation_names, relation_name, relation_of, relation_filter, Most, Ordered, OrderedName, opened, opened_names, opened_body, after_step, after_filter, after_names, words_after, step_words, steps_place, plain_order, is_order, put_step, after_word, IsOrderStep, with_step, bare_step, needs_name, value_filter, Quote, InQuotes, Unquote, one_of, QuotesAt, LeavesBoth, NeitherFirst, LeadsTo, StopsFrom, after_quoted, quote_byte, IsKeptQuery, StopsInQuery, turn, is_loose}
 use Rattle.gremlin_parse.specs.declared.step_word.StepWord.{StepWord}
+use Rattle.gremlin_parse.specs.declared.stage.Items.{Items}
+use Rattle.gremlin_parse.specs.declared.stage.Stage.{Stage}
 use Rattle.gremlin_parse.specs.declared.stop.Stop.{Stop}
 use Rattle.gremlin_parse.specs.declared.stop.Stop.TheVariants as stops
 use Rattle.gremlin_parse.proofs.Turns.{NoSign}
 use Rattle.gremlin_parse.proofs.Walks.{kept_end, reaches_here, stop_after_blanks, Skips, LeavesOther, LeavesPlace, reaches_next, reaches_on, stop_at_place}
-use Rattle.gremlin_parse.proofs.QueryPlaces.{are, some, quote_is, no_signs}
+use Rattle.gremlin_parse.proofs.OrderLaws.{items_from-put_step, steps_in-put_step, order_is_last}
+use Rattle.gremlin_parse.proofs.Tables.{IsWordTable, all_in, lookup_in, whole_word_of}
+use Rattle.gremlin_parse.proofs.QueryPlaces.{are, some, step_table, ordered_table, quote_is, no_signs}
 
 pub on : (place : Place) (bytes : List ℕ) (middle : Place) (left : List ℕ) (next : Place) (rest : List ℕ) → LeadsTo place bytes middle left → LeadsTo middle left next rest → LeadsTo place bytes next rest
 on place bytes middle left next rest one two = reaches_on turn is_loose are some place bytes middle left next rest one two
@@ -47,10 +59,10 @@ sign_leads place b next bytes rest is tight reads =
     (record { prefix = reads.takes.prefix; bytes_are = reads.takes.bytes_are; how = inl (b, is, reads.takes.is) })
     (subst (λ t. Skips t rest rest) (sym tight) refl)
 
-other_byte : (b c : ℕ) → c ≢ b → nat_eq b c ≡ false
+pub other_byte : (b c : ℕ) → c ≢ b → nat_eq b c ≡ false
 other_byte b c differs = ⊎_elim (λ (same : nat_eq b c ≡ true). absurd (differs (sym (eqb-true b c same)))) (λ (other : nat_eq b c ≡ false). other) (cases_Bool (nat_eq b c))
 
-no_one_sign : (b : ℕ) (next : Place) (bytes : List ℕ) → first_byte bytes ≢ Some b → NoSign ((b, next) ∷ []) bytes
+pub no_one_sign : (b : ℕ) (next : Place) (bytes : List ℕ) → first_byte bytes ≢ Some b → NoSign ((b, next) ∷ []) bytes
 no_one_sign b next [] differs = tt
 no_one_sign b next (c ∷ bytes) differs = ap (λ (t : Bool). cond t (Some next) None) (other_byte b c (λ same. differs (ap (λ (n : ℕ). Some n) same)))
 
@@ -88,8 +100,9 @@ token_shorter b bytes rest (middle, reads, blanks) =
 -- ---- a name between quotes
 
 after_is_loose : (quoted : Quoted) (name : List ℕ) → is_loose (after_quoted quoted name) ≡ true
-after_is_loose (OneName query step names) name = refl
-after_is_loose (Key query) name = refl
+after_is_loose (OneName purpose names) name = refl
+after_is_loose (Key into) name = refl
+after_is_loose (OrderKey query) name = refl
 
 quote_at : (place : Place) (quoted : Quoted) (bytes : List ℕ) (double : Bool) → QuotesAt place quoted bytes → sign_at (turn place).signs (quote_byte double) ≡ Some (InQuotes quoted double)
 quote_at place quoted bytes true quotes = quotes.double
@@ -111,13 +124,13 @@ quoted_name_read bytes at_name at_quote rest name double sign reads token place 
 
 pub stop_in_name : (bytes at_name : List ℕ) (double : Bool) (stop : Stop) → Reads (Sign (quote_byte double ∷ [])) tt bytes at_name → Leaves AnyName at_name stop → (place : Place) (quoted : Quoted) → QuotesAt place quoted bytes → StopsFrom place bytes stop
 stop_in_name bytes at_name double stop sign leaves place quoted quotes =
-    (quote_leads place quoted double bytes at_name quotes sign).stops stop (stop_at (InQuotes quoted double) at_name stop (record { no_end = λ ends. cc; no_sign = no_signs at_name; other = leaves }))
+    (quote_leads place quoted double bytes at_name quotes sign).stops stop (stop_at (InQuotes quoted double) at_name stop (record { no_end = λ end ends. cc; no_sign = no_signs at_name; other = leaves }))
 
 pub stop_at_quote : (bytes at_name at_quote name : List ℕ) (double : Bool) (stop : Stop) → Reads (Sign (quote_byte double ∷ [])) tt bytes at_name → Reads AnyName name at_name at_quote → Leaves (Sign (quote_byte double ∷ [])) at_quote stop → (place : Place) (quoted : Quoted) → QuotesAt place quoted bytes → StopsFrom place bytes stop
 stop_at_quote bytes at_name at_quote name double stop sign reads leaves place quoted quotes =
     let one = on place bytes (InQuotes quoted double) at_name (Unquote quoted name double) at_quote (quote_leads place quoted double bytes at_name quotes sign) (name_leads quoted name double at_name at_quote reads) in
     let left = leaves_sign (quote_byte double) (after_quoted quoted name) at_quote stop leaves in
-    one.stops stop (stop_at (Unquote quoted name double) at_quote stop (record { no_end = λ ends. cc; no_sign = left.0; other = left.1 }))
+    one.stops stop (stop_at (Unquote quoted name double) at_quote stop (record { no_end = λ end ends. cc; no_sign = left.0; other = left.1 }))
 
 pub quoted_within : (bytes at_name at_quote rest name : List ℕ) (double : Bool) → Reads (Sign (quote_byte double ∷ [])) tt bytes at_name → Reads AnyName name at_name at_quote → ReadsToken (quote_byte double ∷ []) at_quote rest → length rest ≤ length bytes
 quoted_within bytes at_name at_quote rest name double sign reads token =
@@ -140,7 +153,7 @@ source_leads bytes rest false token = token_leads Source 86 (Opening false) byte
 pub stop_at_source : (bytes : List ℕ) (stop : Stop) → LeavesBoth 69 86 bytes stop → StopsFrom Source bytes stop
 stop_at_source bytes stop leaves =
     let left = leaves_both 86 69 (Opening false) (Opening true) bytes stop (turned stop leaves) in
-    stop_at Source bytes stop (record { no_end = λ ends. cc; no_sign = left.0; other = left.1 })
+    stop_at Source bytes stop (record { no_end = λ end ends. cc; no_sign = left.0; other = left.1 })
   where
     swapped : (these : List ℕ) → NeitherFirst 69 86 these → NeitherFirst 86 69 these
     swapped [] neither = tt
@@ -156,9 +169,9 @@ pub stop_at_sign : (place : Place) (b : ℕ) (next : Place) (bytes : List ℕ) (
 stop_at_sign place b next bytes stop is leaves =
     let left = leaves_sign b next bytes stop leaves in
     stop_at place bytes stop (record {
-      no_end = λ ends. let clash : false ≡ true = ap (λ (t : Turn StepWord Place). t.ends) (sym is) ∙ ends in cc;
-      no_sign = subst (λ (t : Turn StepWord Place). NoSign t.signs bytes) (sym is) left.0;
-      other = subst (λ (t : Turn StepWord Place). LeavesOther turn is_loose are some t.other bytes stop) (sym is) left.1;
+      no_end = λ end ends. let clash : None ≡ Some end = ap (λ (t : Turn StepWord Place Query). t.ends) (sym is) ∙ ends in cc;
+      no_sign = subst (λ (t : Turn StepWord Place Query). NoSign t.signs bytes) (sym is) left.0;
+      other = subst (λ (t : Turn StepWord Place Query). LeavesOther turn is_loose are some t.other bytes stop) (sym is) left.1;
     })
 
 -- a comma and a closing parenthesis, where neither stands
@@ -166,9 +179,9 @@ pub stop_at_comma : (place : Place) (on_comma on_close : Place) (bytes : List �
 stop_at_comma place on_comma on_close bytes stop is leaves =
     let left = leaves_both 44 41 on_comma on_close bytes stop leaves in
     stop_at place bytes stop (record {
-      no_end = λ ends. let clash : false ≡ true = ap (λ (t : Turn StepWord Place). t.ends) (sym is) ∙ ends in cc;
-      no_sign = subst (λ (t : Turn StepWord Place). NoSign t.signs bytes) (sym is) left.0;
-      other = subst (λ (t : Turn StepWord Place). LeavesOther turn is_loose are some t.other bytes stop) (sym is) left.1;
+      no_end = λ end ends. let clash : None ≡ Some end = ap (λ (t : Turn StepWord Place Query). t.ends) (sym is) ∙ ends in cc;
+      no_sign = subst (λ (t : Turn StepWord Place Query). NoSign t.signs bytes) (sym is) left.0;
+      other = subst (λ (t : Turn StepWord Place Query). LeavesOther turn is_loose are some t.other bytes stop) (sym is) left.1;
     })
 
 -- Quotes alone may stand at the place of a name.
@@ -178,7 +191,7 @@ quotes_at quoted bytes = record {
   double = refl;
   stops = λ stop leaves.
       let left = leaves_both 39 34 (InQuotes quoted false) (InQuotes quoted true) bytes stop (turned stop leaves) in
-      stop_at (Quote quoted) bytes stop (record { no_end = λ ends. cc; no_sign = left.0; other = left.1 });
+      stop_at (Quote quoted) bytes stop (record { no_end = λ end ends. cc; no_sign = left.0; other = left.1 });
 }
   where
     swapped : (these : List ℕ) → NeitherFirst 34 39 these → NeitherFirst 39 34 these
@@ -207,10 +220,10 @@ next_id_leads edges ids id bytes middle rest reads blanks =
 
 -- where an identifier doesn't stand, and no parenthesis closes
 pub stop_at_first_id : (edges : Bool) (bytes : List ℕ) (stop : Stop) → first_byte bytes ≢ Some 41 → Leaves (AnyNumber most_id) bytes stop → StopsFrom (FirstId edges) bytes stop
-stop_at_first_id edges bytes stop unclosed leaves = stop_at (FirstId edges) bytes stop (record { no_end = λ ends. cc; no_sign = no_one_sign 41 (Steps (query_from edges [])) bytes unclosed; other = leaves })
+stop_at_first_id edges bytes stop unclosed leaves = stop_at (FirstId edges) bytes stop (record { no_end = λ end ends. cc; no_sign = no_one_sign 41 (Steps (query_from edges [])) bytes unclosed; other = leaves })
 
 pub stop_at_next_id : (edges : Bool) (ids : List ℕ) (bytes : List ℕ) (stop : Stop) → Leaves (AnyNumber most_id) bytes stop → StopsFrom (NextId edges ids) bytes stop
-stop_at_next_id edges ids bytes stop leaves = stop_at (NextId edges ids) bytes stop (record { no_end = λ ends. cc; no_sign = no_signs bytes; other = leaves })
+stop_at_next_id edges ids bytes stop leaves = stop_at (NextId edges ids) bytes stop (record { no_end = λ end ends. cc; no_sign = no_signs bytes; other = leaves })
 
 -- ---- the whole source
 
@@ -277,45 +290,124 @@ stop_of_memory place bytes stop memory = subst (StopsFrom place bytes) (sym memo
 
 -- ---- the name of a step
 
-word_leads : (query : Query) (word : StepWord) (bytes middle rest : List ℕ) → TakesWord step_words bytes word middle → Reads AnyBlanks tt middle rest → LeadsTo (StepName query) bytes (Opens query word) rest
-word_leads query word bytes middle rest (run, cut, is) blanks =
-    reaches_next turn is_loose are some (StepName query) bytes (Opens query word) middle rest
-    (record { prefix = run; bytes_are = cut.bytes_are; how = inr (word, refl, is, cut.passes, cut.ends) })
+-- A word of the table that stands whole, with its fault.
+pub whole_word_fault : (stage : Stage) (is_ordered : Bool) (bytes : List ℕ) (word : StepWord) → whole_word (words_after is_ordered) bytes ≡ Some word → (kind : BadToken) → step_fault stage word bytes ≡ Some kind → IsBadWord (words_after is_ordered) (step_fault stage) kind (length bytes) bytes
+whole_word_fault stage is_ordered bytes word is kind bad = (word, is, bad, refl)
+
+pub no_word_fault : (stage : Stage) (is_ordered : Bool) (bytes : List ℕ) (word : StepWord) → whole_word (words_after is_ordered) bytes ≡ Some word → step_fault stage word bytes ≡ None → (kind : BadToken) (place : ℕ) → ¬ IsBadWord (words_after is_ordered) (step_fault stage) kind place bytes
+no_word_fault stage is_ordered bytes word is none kind place = λ (other, stands, bad, at).
+    let same : Some other ≡ Some word = sym stands ∙ is in
+    let one : other ≡ word = cc in
+    let clash : None ≡ Some kind = sym none ∙ ap (λ w. step_fault stage w bytes) (sym one) ∙ bad in
+    cc
+
+-- the fault that was found
+pub fault_is_some : (stage : Stage) (is_ordered : Bool) (bytes : List ℕ) (word : StepWord) (found : Option BadToken) → whole_word (words_after is_ordered) bytes ≡ Some word → found ≡ step_fault stage word bytes → IfSome found (λ kind. IsBadWord (words_after is_ordered) (step_fault stage) kind (length bytes) bytes)
+fault_is_some stage is_ordered bytes word None is same = tt
+fault_is_some stage is_ordered bytes word (Some kind) is same = whole_word_fault stage is_ordered bytes word is kind (sym same)
+
+pub fault_is_none : (stage : Stage) (is_ordered : Bool) (bytes : List ℕ) (word : StepWord) (found : Option BadToken) → whole_word (words_after is_ordered) bytes ≡ Some word → found ≡ step_fault stage word bytes → IfNone found ((kind : BadToken) (place : ℕ) → ¬ IsBadWord (words_after is_ordered) (step_fault stage) kind place bytes)
+fault_is_none stage is_ordered bytes word None is same = no_word_fault stage is_ordered bytes word is (sym same)
+fault_is_none stage is_ordered bytes word (Some kind) is same = tt
+
+table_after : (is_ordered : Bool) → IsWordTable (words_after is_ordered)
+table_after true = ordered_table
+table_after false = step_table
+
+-- A name that was read without a fault has none.
+pub read_faultless : (stage : Stage) (is_ordered : Bool) (bytes rest : List ℕ) (word : StepWord) → ((kind : BadToken) (place : ℕ) → ¬ IsBadWord (words_after is_ordered) (step_fault stage) kind place bytes) → TakesWord (words_after is_ordered) bytes word rest → step_fault stage word bytes ≡ None
+read_faultless stage is_ordered bytes rest word no_bad takes = by_fault (step_fault stage word bytes) refl
+  where
+    by_fault : (found : Option BadToken) → step_fault stage word bytes ≡ found → step_fault stage word bytes ≡ None
+    by_fault None is = is
+    by_fault (Some kind) is = absurd (no_bad kind (length bytes) (whole_word_fault stage is_ordered bytes word (whole_word_of (words_after is_ordered) (table_after is_ordered) bytes rest word takes) kind is))
+
+-- No step has the name `by`.
+pub by_is_ordered : (is_ordered : Bool) (bytes rest : List ℕ) (word : StepWord) → TakesWord (words_after is_ordered) bytes word rest → word ≡ words.By → is_ordered ≡ true
+by_is_ordered true bytes rest word takes by = refl
+by_is_ordered false bytes rest word (run, cut, is) by =
+    let other : is_by word ≡ false = all_in (λ (e : Entry StepWord). is_by e.1 ≡ false) step_words (run, word) (refl, (refl, (refl, (refl, (refl, (refl, (refl, (refl, (refl, (refl, (refl, (refl, (refl, (refl, (refl, (refl, (refl, (refl, tt)))))))))))))))))) (lookup_in step_words run word is) in
+    let clash : true ≡ false = ap is_by (sym by) ∙ other in
+    cc
+
+-- the place of a name after its dot
+abbrev names_place : Bool → Query → Place
+names_place is_ordered query = cond is_ordered (OrderedName query) (StepName query)
+
+word_leads : (is_ordered : Bool) (query : Query) (word : StepWord) (bytes middle rest : List ℕ) → step_fault (stage_of query) word bytes ≡ None → TakesWord (words_after is_ordered) bytes word middle → Reads AnyBlanks tt middle rest → LeadsTo (names_place is_ordered query) bytes (Opens query word) rest
+word_leads true query word bytes middle rest no_fault (run, cut, is) blanks =
+    reaches_next turn is_loose are some (OrderedName query) bytes (Opens query word) middle rest
+    (record { prefix = run; bytes_are = cut.bytes_are; how = inr (word, refl, subst (λ b. step_fault (stage_of query) word b ≡ None) cut.bytes_are no_fault, is, cut.passes, cut.ends) })
     blanks
+word_leads false query word bytes middle rest no_fault (run, cut, is) blanks =
+    reaches_next turn is_loose are some (StepName query) bytes (Opens query word) middle rest
+    (record { prefix = run; bytes_are = cut.bytes_are; how = inr (word, refl, subst (λ b. step_fault (stage_of query) word b ≡ None) cut.bytes_are no_fault, is, cut.passes, cut.ends) })
+    blanks
+
+pub after_step_loose : (into : Into) (step : BodyStep) → is_loose (after_step into step) ≡ true
+after_step_loose (OfQuery query) step = refl
+after_step_loose (OfBody query body) step = refl
+
+after_filter_loose : (into : Into) (filter : Filter) → is_loose (after_filter into filter) ≡ true
+after_filter_loose into filter = after_step_loose into (bodies.Filter filter)
+
+after_names_loose : (purpose : NamesFor) (names : List (List ℕ)) → is_loose (after_names purpose names) ≡ true
+after_names_loose (OfStep query step) names = refl
+after_names_loose (OfHop into direction) names = after_step_loose into _
+after_names_loose (OfLabels into) names = after_filter_loose into _
+
+pub opened_body_loose : (into : Into) (word : BodyWord) → is_loose (opened_body into word) ≡ true
+opened_body_loose into (of_body.Neighbours direction) = refl
+opened_body_loose into of_body.HasLabel = refl
+opened_body_loose into of_body.Has = refl
 
 opened_is_loose : (query : Query) (word : StepWord) → is_loose (opened query word) ≡ true
 opened_is_loose query (words.Bare bare) = refl
-opened_is_loose query (words.Names of_names.HasLabel) = refl
-opened_is_loose query (words.Names of_names.Values) = refl
-opened_is_loose query (words.Names (of_names.Neighbours direction)) = refl
-opened_is_loose query (words.Names (of_names.Incident direction)) = refl
-opened_is_loose query words.Has = refl
+opened_is_loose query (words.Names step) = refl
+opened_is_loose query (words.Body word) = opened_body_loose (OfQuery query) word
 opened_is_loose query words.Limit = refl
+opened_is_loose query words.Order = refl
+opened_is_loose query words.By = refl
+opened_is_loose query words.Repeat = refl
 
-pub stop_at_dot : (query : Query) (bytes : List ℕ) (stop : Stop) → bytes ≢ [] → Leaves (Sign (46 ∷ [])) bytes stop → StopsFrom (Steps query) bytes stop
-stop_at_dot query bytes stop some_bytes leaves =
+pub stop_at_dot : (is_ordered : Bool) (query : Query) (bytes : List ℕ) (stop : Stop) → bytes ≢ [] → Leaves (Sign (46 ∷ [])) bytes stop → StopsFrom (steps_place is_ordered query) bytes stop
+stop_at_dot true query bytes stop some_bytes leaves =
+    let left = leaves_sign 46 (OrderedName query) bytes stop leaves in
+    stop_at (Ordered query) bytes stop (record { no_end = λ end ends. some_bytes; no_sign = left.0; other = left.1 })
+stop_at_dot false query bytes stop some_bytes leaves =
     let left = leaves_sign 46 (StepName query) bytes stop leaves in
-    stop_at (Steps query) bytes stop (record { no_end = λ ends. some_bytes; no_sign = left.0; other = left.1 })
+    stop_at (Steps query) bytes stop (record { no_end = λ end ends. some_bytes; no_sign = left.0; other = left.1 })
 
-dot_leads : (query : Query) (bytes at_name : List ℕ) → ReadsToken (46 ∷ []) bytes at_name → LeadsTo (Steps query) bytes (StepName query) at_name
-dot_leads query bytes at_name token = token_leads (Steps query) 46 (StepName query) bytes at_name refl refl token
+dot_leads : (is_ordered : Bool) (query : Query) (bytes at_name : List ℕ) → ReadsToken (46 ∷ []) bytes at_name → LeadsTo (steps_place is_ordered query) bytes (names_place is_ordered query) at_name
+dot_leads true query bytes at_name token = token_leads (Ordered query) 46 (OrderedName query) bytes at_name refl refl token
+dot_leads false query bytes at_name token = token_leads (Steps query) 46 (StepName query) bytes at_name refl refl token
 
-pub stop_at_step_name : (bytes at_name : List ℕ) (stop : Stop) → ReadsToken (46 ∷ []) bytes at_name → StopsWith (LeavesTable step_words at_name) stop → (query : Query) → StopsFrom (Steps query) bytes stop
-stop_at_step_name bytes at_name stop token leaves query =
-    (dot_leads query bytes at_name token).stops stop (stop_at (StepName query) at_name stop (record { no_end = λ ends. cc; no_sign = no_signs at_name; other = leaves }))
+stop_at_name : (is_ordered : Bool) (query : Query) (at_name : List ℕ) (stop : Stop) → LeavesWords (words_after is_ordered) (step_fault (stage_of query)) at_name stop → StopsFrom (names_place is_ordered query) at_name stop
+stop_at_name true query at_name stop leaves = stop_at (OrderedName query) at_name stop (record { no_end = λ end ends. cc; no_sign = no_signs at_name; other = leaves })
+stop_at_name false query at_name stop leaves = stop_at (StepName query) at_name stop (record { no_end = λ end ends. cc; no_sign = no_signs at_name; other = leaves })
 
-pub stop_at_opening : (bytes at_name after_name at_open : List ℕ) (word : StepWord) (stop : Stop) → ReadsToken (46 ∷ []) bytes at_name → TakesWord step_words at_name word after_name → Reads AnyBlanks tt after_name at_open → Leaves (Sign (40 ∷ [])) at_open stop → (query : Query) → StopsFrom (Steps query) bytes stop
-stop_at_opening bytes at_name after_name at_open word stop token takes blanks leaves query =
-    let one = on (Steps query) bytes (StepName query) at_name (Opens query word) at_open (dot_leads query bytes at_name token) (word_leads query word at_name after_name at_open takes blanks) in
-    one.stops stop (stop_at_sign (Opens query word) 40 (opened query word) at_open stop refl leaves)
+pub stop_at_step_name : (stage : Stage) (is_ordered : Bool) (bytes at_name : List ℕ) (stop : Stop) → ReadsToken (46 ∷ []) bytes at_name → LeavesWords (words_after is_ordered) (step_fault stage) at_name stop → (query : Query) → stage_of query ≡ stage → StopsFrom (steps_place is_ordered query) bytes stop
+stop_at_step_name stage is_ordered bytes at_name stop token leaves query same =
+    (dot_leads is_ordered query bytes at_name token).stops stop (stop_at_name is_ordered query at_name stop (subst (λ (s : Stage). LeavesWords (words_after is_ordered) (step_fault s) at_name stop) (sym same) leaves))
 
-pub opening_read : (bytes at_name after_name at_open rest : List ℕ) (word : StepWord) → ReadsToken (46 ∷ []) bytes at_name → TakesWord step_words at_name word after_name → Reads AnyBlanks tt after_name at_open → ReadsToken (40 ∷ []) at_open rest → (query : Query) → LeadsTo (Steps query) bytes (opened query word) rest
-opening_read bytes at_name after_name at_open rest word token takes blanks opening query =
-    let one = on (Steps query) bytes (StepName query) at_name (Opens query word) at_open (dot_leads query bytes at_name token) (word_leads query word at_name after_name at_open takes blanks) in
-    on (Steps query) bytes (Opens query word) at_open (opened query word) rest one (token_leads (Opens query word) 40 (opened query word) at_open rest refl (opened_is_loose query word) opening)
+-- The name has no fault after the query so far.
+faultless : (stage : Stage) (word : StepWord) (bytes : List ℕ) (query : Query) → step_fault stage word bytes ≡ None → stage_of query ≡ stage → step_fault (stage_of query) word bytes ≡ None
+faultless stage word bytes query no_fault same = ap (λ (s : Stage). step_fault s word bytes) same ∙ no_fault
 
-pub opening_shorter : (bytes at_name after_name at_open rest : List ℕ) (word : StepWord) → ReadsToken (46 ∷ []) bytes at_name → TakesWord step_words at_name word after_name → Reads AnyBlanks tt after_name at_open → ReadsToken (40 ∷ []) at_open rest → length rest < length bytes
-opening_shorter bytes at_name after_name at_open rest word token (run, cut, is) blanks opening =
+opens_read : (stage : Stage) (is_ordered : Bool) (bytes at_name after_name at_open : List ℕ) (word : StepWord) → ReadsToken (46 ∷ []) bytes at_name → step_fault stage word at_name ≡ None → TakesWord (words_after is_ordered) at_name word after_name → Reads AnyBlanks tt after_name at_open → (query : Query) → stage_of query ≡ stage → LeadsTo (steps_place is_ordered query) bytes (Opens query word) at_open
+opens_read stage is_ordered bytes at_name after_name at_open word token no_fault takes blanks query same =
+    on (steps_place is_ordered query) bytes (names_place is_ordered query) at_name (Opens query word) at_open (dot_leads is_ordered query bytes at_name token) (word_leads is_ordered query word at_name after_name at_open (faultless stage word at_name query no_fault same) takes blanks)
+
+pub stop_at_opening : (stage : Stage) (is_ordered : Bool) (bytes at_name after_name at_open : List ℕ) (word : StepWord) (stop : Stop) → ReadsToken (46 ∷ []) bytes at_name → step_fault stage word at_name ≡ None → TakesWord (words_after is_ordered) at_name word after_name → Reads AnyBlanks tt after_name at_open → Leaves (Sign (40 ∷ [])) at_open stop → (query : Query) → stage_of query ≡ stage → StopsFrom (steps_place is_ordered query) bytes stop
+stop_at_opening stage is_ordered bytes at_name after_name at_open word stop token no_fault takes blanks leaves query same =
+    (opens_read stage is_ordered bytes at_name after_name at_open word token no_fault takes blanks query same).stops stop (stop_at_sign (Opens query word) 40 (opened query word) at_open stop refl leaves)
+
+pub opening_read : (stage : Stage) (is_ordered : Bool) (bytes at_name after_name at_open rest : List ℕ) (word : StepWord) → ReadsToken (46 ∷ []) bytes at_name → step_fault stage word at_name ≡ None → TakesWord (words_after is_ordered) at_name word after_name → Reads AnyBlanks tt after_name at_open → ReadsToken (40 ∷ []) at_open rest → (query : Query) → stage_of query ≡ stage → LeadsTo (steps_place is_ordered query) bytes (opened query word) rest
+opening_read stage is_ordered bytes at_name after_name at_open rest word token no_fault takes blanks opening query same =
+    on (steps_place is_ordered query) bytes (Opens query word) at_open (opened query word) rest (opens_read stage is_ordered bytes at_name after_name at_open word token no_fault takes blanks query same) (token_leads (Opens query word) 40 (opened query word) at_open rest refl (opened_is_loose query word) opening)
+
+pub opening_shorter : (is_ordered : Bool) (bytes at_name after_name at_open rest : List ℕ) (word : StepWord) → ReadsToken (46 ∷ []) bytes at_name → TakesWord (words_after is_ordered) at_name word after_name → Reads AnyBlanks tt after_name at_open → ReadsToken (40 ∷ []) at_open rest → length rest < length bytes
+opening_shorter is_ordered bytes at_name after_name at_open rest word token (run, cut, is) blanks opening =
     let first = token_shorter 46 bytes at_name token in
     let second : length at_name ≡ length run + length after_name = ap length cut.bytes_are ∙ length-append run after_name in
     let third : length after_name ≡ length blanks.takes.prefix + length at_open = ap length blanks.takes.bytes_are ∙ length-append blanks.takes.prefix at_open in
@@ -325,11 +417,11 @@ opening_shorter bytes at_name after_name at_open rest word token (run, cut, is) 
 -- ---- names of a step
 
 -- what a comma, or a parenthesis, after a name leads to
-abbrev pub after_name : Query → NamesStep → List (List ℕ) → Bool → Place
-after_name query step names more = cond more (Quote (OneName query step names)) (Steps (with_names query step names))
+abbrev pub after_name : NamesFor → List (List ℕ) → Bool → Place
+after_name purpose names more = cond more (Quote (OneName purpose names)) (after_names purpose names)
 
-names_on : (query : Query) (step : NamesStep) (names : List (List ℕ)) (bytes rest : List ℕ) (more : Bool) → ReadsToken (cond more 44 41 ∷ []) bytes rest → LeadsTo (AfterName query step names) bytes (after_name query step names more) rest
-names_on query step names bytes rest more token = comma_leads (AfterName query step names) (Quote (OneName query step names)) (Steps (with_names query step names)) bytes rest more refl refl refl refl token
+names_on : (purpose : NamesFor) (names : List (List ℕ)) (bytes rest : List ℕ) (more : Bool) → ReadsToken (cond more 44 41 ∷ []) bytes rest → LeadsTo (AfterName purpose names) bytes (after_name purpose names more) rest
+names_on purpose names bytes rest more token = comma_leads (AfterName purpose names) (Quote (OneName purpose names)) (after_names purpose names) bytes rest more refl refl refl (after_names_loose purpose names) token
 
 -- What a quoted name promises: from each place of it, to what follows.
 abbrev pub NameReads : List ℕ → List ℕ → List ℕ → Type 0
@@ -339,78 +431,75 @@ abbrev pub NameStops : List ℕ → Stop → Type 0
 NameStops bytes stop = (place : Place) (quoted : Quoted) → QuotesAt place quoted bytes → StopsFrom place bytes stop
 
 -- What is kept while names are read.
-abbrev pub NamesSoFar : NamesStep → List ℕ → Bool → List (List ℕ) → List ℕ → Type 0
-NamesSoFar step bytes more names rest = (query : Query) (place : Place) → QuotesAt place (OneName query step []) bytes → LeadsTo place bytes (after_name query step names more) rest
+abbrev pub NamesSoFar : List ℕ → Bool → List (List ℕ) → List ℕ → Type 0
+NamesSoFar bytes more names rest = (purpose : NamesFor) (place : Place) → QuotesAt place (OneName purpose []) bytes → LeadsTo place bytes (after_name purpose names more) rest
 
-pub first_names : (step : NamesStep) (bytes after rest name : List ℕ) (more : Bool) → NameReads name bytes after → ReadsToken (cond more 44 41 ∷ []) after rest → NamesSoFar step bytes more (name ∷ []) rest
-first_names step bytes after rest name more reads token = λ query place quotes.
-    on place bytes (AfterName query step (name ∷ [])) after (after_name query step (name ∷ []) more) rest (reads place (OneName query step []) quotes) (names_on query step (name ∷ []) after rest more token)
+pub first_names : (bytes after rest name : List ℕ) (more : Bool) → NameReads name bytes after → ReadsToken (cond more 44 41 ∷ []) after rest → NamesSoFar bytes more (name ∷ []) rest
+first_names bytes after rest name more reads token = λ purpose place quotes.
+    on place bytes (AfterName purpose (name ∷ [])) after (after_name purpose (name ∷ []) more) rest (reads place (OneName purpose []) quotes) (names_on purpose (name ∷ []) after rest more token)
 
-pub stop_after_first_name : (step : NamesStep) (bytes after name : List ℕ) (stop : Stop) → NameReads name bytes after → LeavesBoth 44 41 after stop → (query : Query) (place : Place) → QuotesAt place (OneName query step []) bytes → StopsFrom place bytes stop
-stop_after_first_name step bytes after name stop reads leaves query place quotes =
-    (reads place (OneName query step []) quotes).stops stop (stop_at_comma (AfterName query step (name ∷ [])) (Quote (OneName query step (name ∷ []))) (Steps (with_names query step (name ∷ []))) after stop refl leaves)
+pub stop_after_first_name : (bytes after name : List ℕ) (stop : Stop) → NameReads name bytes after → LeavesBoth 44 41 after stop → (purpose : NamesFor) (place : Place) → QuotesAt place (OneName purpose []) bytes → StopsFrom place bytes stop
+stop_after_first_name bytes after name stop reads leaves purpose place quotes =
+    (reads place (OneName purpose []) quotes).stops stop (stop_at_comma (AfterName purpose (name ∷ [])) (Quote (OneName purpose (name ∷ []))) (after_names purpose (name ∷ [])) after stop refl leaves)
 
-to_next_name : (step : NamesStep) (bytes rest : List ℕ) (names : List (List ℕ)) (more : Bool) → more ≡ true → NamesSoFar step bytes more names rest → (query : Query) (place : Place) → QuotesAt place (OneName query step []) bytes → LeadsTo place bytes (Quote (OneName query step names)) rest
-to_next_name step bytes rest names more goes so_far query place quotes = subst (λ (t : Bool). LeadsTo place bytes (after_name query step names t) rest) goes (so_far query place quotes)
+to_next_name : (bytes rest : List ℕ) (names : List (List ℕ)) (more : Bool) → more ≡ true → NamesSoFar bytes more names rest → (purpose : NamesFor) (place : Place) → QuotesAt place (OneName purpose []) bytes → LeadsTo place bytes (Quote (OneName purpose names)) rest
+to_next_name bytes rest names more goes so_far purpose place quotes = subst (λ (t : Bool). LeadsTo place bytes (after_name purpose names t) rest) goes (so_far purpose place quotes)
 
-pub names_more : (step : NamesStep) (bytes rest after later name : List ℕ) (names : List (List ℕ)) (more again : Bool) → more ≡ true → NamesSoFar step bytes more names rest → NameReads name rest after → ReadsToken (cond again 44 41 ∷ []) after later → NamesSoFar step bytes again (names ++ name ∷ []) later
-names_more step bytes rest after later name names more again goes so_far reads token = λ query place quotes.
-    let quoted : Quoted = OneName query step names in
-    let one = on place bytes (Quote quoted) rest (AfterName query step (names ++ name ∷ [])) after (to_next_name step bytes rest names more goes so_far query place quotes) (reads (Quote quoted) quoted (quotes_at quoted rest)) in
-    on place bytes (AfterName query step (names ++ name ∷ [])) after (after_name query step (names ++ name ∷ []) again) later one (names_on query step (names ++ name ∷ []) after later again token)
+pub names_more : (bytes rest after later name : List ℕ) (names : List (List ℕ)) (more again : Bool) → more ≡ true → NamesSoFar bytes more names rest → NameReads name rest after → ReadsToken (cond again 44 41 ∷ []) after later → NamesSoFar bytes again (names ++ name ∷ []) later
+names_more bytes rest after later name names more again goes so_far reads token = λ purpose place quotes.
+    let quoted : Quoted = OneName purpose names in
+    let one = on place bytes (Quote quoted) rest (AfterName purpose (names ++ name ∷ [])) after (to_next_name bytes rest names more goes so_far purpose place quotes) (reads (Quote quoted) quoted (quotes_at quoted rest)) in
+    on place bytes (AfterName purpose (names ++ name ∷ [])) after (after_name purpose (names ++ name ∷ []) again) later one (names_on purpose (names ++ name ∷ []) after later again token)
 
-pub stop_in_names : (step : NamesStep) (bytes rest : List ℕ) (names : List (List ℕ)) (more : Bool) (stop : Stop) → more ≡ true → NamesSoFar step bytes more names rest → NameStops rest stop → (query : Query) (place : Place) → QuotesAt place (OneName query step []) bytes → StopsFrom place bytes stop
-stop_in_names step bytes rest names more stop goes so_far at query place quotes =
-    let quoted : Quoted = OneName query step names in
-    (to_next_name step bytes rest names more goes so_far query place quotes).stops stop (at (Quote quoted) quoted (quotes_at quoted rest))
+pub stop_in_names : (bytes rest : List ℕ) (names : List (List ℕ)) (more : Bool) (stop : Stop) → more ≡ true → NamesSoFar bytes more names rest → NameStops rest stop → (purpose : NamesFor) (place : Place) → QuotesAt place (OneName purpose []) bytes → StopsFrom place bytes stop
+stop_in_names bytes rest names more stop goes so_far at purpose place quotes =
+    let quoted : Quoted = OneName purpose names in
+    (to_next_name bytes rest names more goes so_far purpose place quotes).stops stop (at (Quote quoted) quoted (quotes_at quoted rest))
 
-pub stop_after_name : (step : NamesStep) (bytes rest after name : List ℕ) (names : List (List ℕ)) (more : Bool) (stop : Stop) → more ≡ true → NamesSoFar step bytes more names rest → NameReads name rest after → LeavesBoth 44 41 after stop → (query : Query) (place : Place) → QuotesAt place (OneName query step []) bytes → StopsFrom place bytes stop
-stop_after_name step bytes rest after name names more stop goes so_far reads leaves query place quotes =
-    let quoted : Quoted = OneName query step names in
-    let one = on place bytes (Quote quoted) rest (AfterName query step (names ++ name ∷ [])) after (to_next_name step bytes rest names more goes so_far query place quotes) (reads (Quote quoted) quoted (quotes_at quoted rest)) in
-    one.stops stop (stop_at_comma (AfterName query step (names ++ name ∷ [])) (Quote (OneName query step (names ++ name ∷ []))) (Steps (with_names query step (names ++ name ∷ []))) after stop refl leaves)
+pub stop_after_name : (bytes rest after name : List ℕ) (names : List (List ℕ)) (more : Bool) (stop : Stop) → more ≡ true → NamesSoFar bytes more names rest → NameReads name rest after → LeavesBoth 44 41 after stop → (purpose : NamesFor) (place : Place) → QuotesAt place (OneName purpose []) bytes → StopsFrom place bytes stop
+stop_after_name bytes rest after name names more stop goes so_far reads leaves purpose place quotes =
+    let quoted : Quoted = OneName purpose names in
+    let one = on place bytes (Quote quoted) rest (AfterName purpose (names ++ name ∷ [])) after (to_next_name bytes rest names more goes so_far purpose place quotes) (reads (Quote quoted) quoted (quotes_at quoted rest)) in
+    one.stops stop (stop_at_comma (AfterName purpose (names ++ name ∷ [])) (Quote (OneName purpose (names ++ name ∷ []))) (after_names purpose (names ++ name ∷ [])) after stop refl leaves)
 
-pub names_done : (step : NamesStep) (bytes rest : List ℕ) (names : List (List ℕ)) (more : Bool) → more ≡ false → NamesSoFar step bytes more names rest → (query : Query) (place : Place) → QuotesAt place (OneName query step []) bytes → LeadsTo place bytes (Steps (with_names query step names)) rest
-names_done step bytes rest names more stops so_far query place quotes = subst (λ (t : Bool). LeadsTo place bytes (after_name query step names t) rest) stops (so_far query place quotes)
+pub names_done : (bytes rest : List ℕ) (names : List (List ℕ)) (more : Bool) → more ≡ false → NamesSoFar bytes more names rest → (purpose : NamesFor) (place : Place) → QuotesAt place (OneName purpose []) bytes → LeadsTo place bytes (after_names purpose names) rest
+names_done bytes rest names more stops so_far purpose place quotes = subst (λ (t : Bool). LeadsTo place bytes (after_name purpose names t) rest) stops (so_far purpose place quotes)
 
 -- Where no parenthesis closes, quotes alone may stand at the place of a first name.
-quotes_first : (query : Query) (step : NamesStep) (bytes : List ℕ) → first_byte bytes ≢ Some 41 → QuotesAt (FirstName query step) (OneName query step []) bytes
-quotes_first query step bytes unclosed = record {
+quotes_first : (purpose : NamesFor) (bytes : List ℕ) → first_byte bytes ≢ Some 41 → QuotesAt (FirstName purpose) (OneName purpose []) bytes
+quotes_first purpose bytes unclosed = record {
   single = refl;
   double = refl;
   stops = λ stop leaves. stop_first stop leaves;
 }
   where
-    none : (these : List ℕ) → first_byte these ≢ Some 41 → NeitherFirst 34 39 these → NoSign ((41, Steps (with_names query step [])) ∷ (39, InQuotes (OneName query step []) false) ∷ (34, InQuotes (OneName query step []) true) ∷ []) these
+    none : (these : List ℕ) → first_byte these ≢ Some 41 → NeitherFirst 34 39 these → NoSign ((41, after_names purpose []) ∷ (39, InQuotes (OneName purpose []) false) ∷ (34, InQuotes (OneName purpose []) true) ∷ []) these
     none [] unclosed neither = tt
     none (c ∷ these) unclosed neither =
-        ap (λ (t : Bool). cond t (Some (Steps (with_names query step []))) (sign_at ((39, InQuotes (OneName query step []) false) ∷ (34, InQuotes (OneName query step []) true) ∷ []) c)) (other_byte 41 c (λ same. unclosed (ap (λ (n : ℕ). Some n) same)))
-        ∙ no_two_signs 39 34 (InQuotes (OneName query step []) false) (InQuotes (OneName query step []) true) (c ∷ these) (neither.1, neither.0)
+        ap (λ (t : Bool). cond t (Some (after_names purpose [])) (sign_at ((39, InQuotes (OneName purpose []) false) ∷ (34, InQuotes (OneName purpose []) true) ∷ []) c)) (other_byte 41 c (λ same. unclosed (ap (λ (n : ℕ). Some n) same)))
+        ∙ no_two_signs 39 34 (InQuotes (OneName purpose []) false) (InQuotes (OneName purpose []) true) (c ∷ these) (neither.1, neither.0)
 
-    stop_first : (stop : Stop) → LeavesBoth 34 39 bytes stop → StopsFrom (FirstName query step) bytes stop
+    stop_first : (stop : Stop) → LeavesBoth 34 39 bytes stop → StopsFrom (FirstName purpose) bytes stop
     stop_first stops.Memory leaves = absurd leaves
-    stop_first (stops.Syntax left) leaves = stop_at (FirstName query step) bytes (stops.Syntax left) (record { no_end = λ ends. cc; no_sign = none bytes unclosed leaves.1; other = leaves.0 })
+    stop_first (stops.Syntax left) leaves = stop_at (FirstName purpose) bytes (stops.Syntax left) (record { no_end = λ end ends. cc; no_sign = none bytes unclosed leaves.1; other = leaves.0 })
     stop_first (stops.Bad kind left) leaves = absurd leaves
 
 -- the place of a first name
-pub quotes_needed : (query : Query) (step : NamesStep) (bytes : List ℕ) → needs_name step ≡ true → QuotesAt (opened query (words.Names step)) (OneName query step []) bytes
-quotes_needed query of_names.HasLabel bytes needs = quotes_at (OneName query of_names.HasLabel []) bytes
-quotes_needed query of_names.Values bytes needs = cc
-quotes_needed query (of_names.Neighbours direction) bytes needs = cc
-quotes_needed query (of_names.Incident direction) bytes needs = cc
+pub quotes_needed : (purpose : NamesFor) (bytes : List ℕ) → needs_name purpose ≡ true → QuotesAt (opened_names purpose) (OneName purpose []) bytes
+quotes_needed (OfStep query step) bytes needs = cc
+quotes_needed (OfHop into direction) bytes needs = cc
+quotes_needed (OfLabels into) bytes needs = quotes_at (OneName (OfLabels into) []) bytes
 
-pub quotes_unclosed : (query : Query) (step : NamesStep) (bytes : List ℕ) → needs_name step ≡ false → first_byte bytes ≢ Some 41 → QuotesAt (opened query (words.Names step)) (OneName query step []) bytes
-quotes_unclosed query of_names.HasLabel bytes free unclosed = cc
-quotes_unclosed query of_names.Values bytes free unclosed = quotes_first query of_names.Values bytes unclosed
-quotes_unclosed query (of_names.Neighbours direction) bytes free unclosed = quotes_first query (of_names.Neighbours direction) bytes unclosed
-quotes_unclosed query (of_names.Incident direction) bytes free unclosed = quotes_first query (of_names.Incident direction) bytes unclosed
+pub quotes_unclosed : (purpose : NamesFor) (bytes : List ℕ) → needs_name purpose ≡ false → first_byte bytes ≢ Some 41 → QuotesAt (opened_names purpose) (OneName purpose []) bytes
+quotes_unclosed (OfStep query step) bytes free unclosed = quotes_first (OfStep query step) bytes unclosed
+quotes_unclosed (OfHop into direction) bytes free unclosed = quotes_first (OfHop into direction) bytes unclosed
+quotes_unclosed (OfLabels into) bytes free unclosed = cc
 
 -- no names
-pub no_names : (query : Query) (step : NamesStep) (bytes rest : List ℕ) → needs_name step ≡ false → ReadsToken (41 ∷ []) bytes rest → LeadsTo (opened query (words.Names step)) bytes (Steps (with_names query step [])) rest
-no_names query of_names.HasLabel bytes rest free token = cc
-no_names query of_names.Values bytes rest free token = token_leads (FirstName query of_names.Values) 41 (Steps (with_names query of_names.Values [])) bytes rest refl refl token
-no_names query (of_names.Neighbours direction) bytes rest free token = token_leads (FirstName query (of_names.Neighbours direction)) 41 (Steps (with_names query (of_names.Neighbours direction) [])) bytes rest refl refl token
-no_names query (of_names.Incident direction) bytes rest free token = token_leads (FirstName query (of_names.Incident direction)) 41 (Steps (with_names query (of_names.Incident direction) [])) bytes rest refl refl token
+pub no_names : (purpose : NamesFor) (bytes rest : List ℕ) → needs_name purpose ≡ false → ReadsToken (41 ∷ []) bytes rest → LeadsTo (opened_names purpose) bytes (after_names purpose []) rest
+no_names (OfStep query step) bytes rest free token = token_leads (FirstName (OfStep query step)) 41 (after_names (OfStep query step) []) bytes rest refl refl token
+no_names (OfHop into direction) bytes rest free token = token_leads (FirstName (OfHop into direction)) 41 (after_names (OfHop into direction) []) bytes rest refl (after_names_loose (OfHop into direction) []) token
+no_names (OfLabels into) bytes rest free token = cc
 
 -- ---- the step without an argument
 
@@ -429,7 +518,7 @@ most_leads query most bytes middle rest reads blanks =
     blanks
 
 pub stop_in_most : (bytes : List ℕ) (stop : Stop) → Leaves (AnyNumber most_limit) bytes stop → (query : Query) → StopsFrom (Most query) bytes stop
-stop_in_most bytes stop leaves query = stop_at (Most query) bytes stop (record { no_end = λ ends. cc; no_sign = no_signs bytes; other = leaves })
+stop_in_most bytes stop leaves query = stop_at (Most query) bytes stop (record { no_end = λ end ends. cc; no_sign = no_signs bytes; other = leaves })
 
 pub stop_after_most : (bytes middle at_close : List ℕ) (most : ℕ) (stop : Stop) → Reads (AnyNumber most_limit) most bytes middle → Reads AnyBlanks tt middle at_close → Leaves (Sign (41 ∷ [])) at_close stop → (query : Query) → StopsFrom (Most query) bytes stop
 stop_after_most bytes middle at_close most stop reads blanks leaves query =
@@ -441,75 +530,195 @@ most_read bytes middle at_close rest most reads blanks close query =
 
 -- ---- has
 
-key_leads : (query : Query) (name bytes after : List ℕ) → NameReads name bytes after → LeadsTo (Quote (Key query)) bytes (AfterKey query name) after
-key_leads query name bytes after reads = reads (Quote (Key query)) (Key query) (quotes_at (Key query) bytes)
+key_leads : (into : Into) (name bytes after : List ℕ) → NameReads name bytes after → LeadsTo (Quote (Key into)) bytes (AfterKey into name) after
+key_leads into name bytes after reads = reads (Quote (Key into)) (Key into) (quotes_at (Key into) bytes)
 
-pub stop_in_key : (bytes : List ℕ) (stop : Stop) → NameStops bytes stop → (query : Query) → StopsFrom (Quote (Key query)) bytes stop
-stop_in_key bytes stop at query = at (Quote (Key query)) (Key query) (quotes_at (Key query) bytes)
+pub stop_in_key : (bytes : List ℕ) (stop : Stop) → NameStops bytes stop → (into : Into) → StopsFrom (Quote (Key into)) bytes stop
+stop_in_key bytes stop at into = at (Quote (Key into)) (Key into) (quotes_at (Key into) bytes)
 
-pub stop_after_key : (name bytes after : List ℕ) (stop : Stop) → NameReads name bytes after → LeavesBoth 44 41 after stop → (query : Query) → StopsFrom (Quote (Key query)) bytes stop
-stop_after_key name bytes after stop reads leaves query =
-    (key_leads query name bytes after reads).stops stop (stop_at_comma (AfterKey query name) (ValueOf query name) (Steps (with_step query (steps.Filter (filters.Has name)))) after stop refl leaves)
+pub stop_after_key : (name bytes after : List ℕ) (stop : Stop) → NameReads name bytes after → LeavesBoth 44 41 after stop → (into : Into) → StopsFrom (Quote (Key into)) bytes stop
+stop_after_key name bytes after stop reads leaves into =
+    (key_leads into name bytes after reads).stops stop (stop_at_comma (AfterKey into name) (ValueOf into name) (after_filter into (filters.Has name)) after stop refl leaves)
 
-comma_after_key : (query : Query) (name bytes after rest : List ℕ) (more : Bool) → NameReads name bytes after → ReadsToken (cond more 44 41 ∷ []) after rest → LeadsTo (Quote (Key query)) bytes (cond more (ValueOf query name) (Steps (with_step query (steps.Filter (filters.Has name))))) rest
-comma_after_key query name bytes after rest more reads token =
-    on (Quote (Key query)) bytes (AfterKey query name) after (cond more (ValueOf query name) (Steps (with_step query (steps.Filter (filters.Has name))))) rest (key_leads query name bytes after reads)
-    (comma_leads (AfterKey query name) (ValueOf query name) (Steps (with_step query (steps.Filter (filters.Has name)))) after rest more refl refl refl refl token)
+comma_after_key : (into : Into) (name bytes after rest : List ℕ) (more : Bool) → NameReads name bytes after → ReadsToken (cond more 44 41 ∷ []) after rest → LeadsTo (Quote (Key into)) bytes (cond more (ValueOf into name) (after_filter into (filters.Has name))) rest
+comma_after_key into name bytes after rest more reads token =
+    on (Quote (Key into)) bytes (AfterKey into name) after (cond more (ValueOf into name) (after_filter into (filters.Has name))) rest (key_leads into name bytes after reads)
+    (comma_leads (AfterKey into name) (ValueOf into name) (after_filter into (filters.Has name)) after rest more refl refl refl (after_filter_loose into (filters.Has name)) token)
 
-pub has_read : (name bytes after rest : List ℕ) (more : Bool) → more ≡ false → NameReads name bytes after → ReadsToken (cond more 44 41 ∷ []) after rest → (query : Query) → LeadsTo (Quote (Key query)) bytes (Steps (with_step query (steps.Filter (filters.Has name)))) rest
-has_read name bytes after rest more ends reads token query =
-    subst (λ (t : Bool). LeadsTo (Quote (Key query)) bytes (cond t (ValueOf query name) (Steps (with_step query (steps.Filter (filters.Has name))))) rest) ends (comma_after_key query name bytes after rest more reads token)
+pub has_read : (name bytes after rest : List ℕ) (more : Bool) → more ≡ false → NameReads name bytes after → ReadsToken (cond more 44 41 ∷ []) after rest → (into : Into) → LeadsTo (Quote (Key into)) bytes (after_filter into (filters.Has name)) rest
+has_read name bytes after rest more ends reads token into =
+    subst (λ (t : Bool). LeadsTo (Quote (Key into)) bytes (cond t (ValueOf into name) (after_filter into (filters.Has name))) rest) ends (comma_after_key into name bytes after rest more reads token)
 
-at_value_leads : (query : Query) (name bytes after at_value : List ℕ) (more : Bool) → more ≡ true → NameReads name bytes after → ReadsToken (cond more 44 41 ∷ []) after at_value → LeadsTo (Quote (Key query)) bytes (ValueOf query name) at_value
-at_value_leads query name bytes after at_value more goes reads token =
-    subst (λ (t : Bool). LeadsTo (Quote (Key query)) bytes (cond t (ValueOf query name) (Steps (with_step query (steps.Filter (filters.Has name))))) at_value) goes (comma_after_key query name bytes after at_value more reads token)
+at_value_leads : (into : Into) (name bytes after at_value : List ℕ) (more : Bool) → more ≡ true → NameReads name bytes after → ReadsToken (cond more 44 41 ∷ []) after at_value → LeadsTo (Quote (Key into)) bytes (ValueOf into name) at_value
+at_value_leads into name bytes after at_value more goes reads token =
+    subst (λ (t : Bool). LeadsTo (Quote (Key into)) bytes (cond t (ValueOf into name) (after_filter into (filters.Has name))) at_value) goes (comma_after_key into name bytes after at_value more reads token)
 
-pub stop_in_value : (name bytes after at_value : List ℕ) (more : Bool) (stop : Stop) → more ≡ true → NameReads name bytes after → ReadsToken (cond more 44 41 ∷ []) after at_value → Leaves AnyValue at_value stop → (query : Query) → StopsFrom (Quote (Key query)) bytes stop
-stop_in_value name bytes after at_value more stop goes reads token leaves query =
-    (at_value_leads query name bytes after at_value more goes reads token).stops stop (stop_at (ValueOf query name) at_value stop (record { no_end = λ ends. cc; no_sign = no_signs at_value; other = leaves }))
+-- the argument after the key
+pub stop_in_comparison : (name bytes after at_value : List ℕ) (more : Bool) (stop : Stop) → more ≡ true → NameReads name bytes after → ReadsToken (cond more 44 41 ∷ []) after at_value → ((into : Into) (key : List ℕ) → StopsFrom (ValueOf into key) at_value stop) → (into : Into) → StopsFrom (Quote (Key into)) bytes stop
+stop_in_comparison name bytes after at_value more stop goes reads token at into = (at_value_leads into name bytes after at_value more goes reads token).stops stop (at into name)
 
-value_leads : (query : Query) (name : List ℕ) (value : Value) (bytes middle rest : List ℕ) → Reads AnyValue value bytes middle → Reads AnyBlanks tt middle rest → LeadsTo (ValueOf query name) bytes (Closing query (value_step name value)) rest
-value_leads query name value bytes middle rest reads blanks =
-    reaches_next turn is_loose are some (ValueOf query name) bytes (Closing query (value_step name value)) middle rest
-    (record { prefix = reads.takes.prefix; bytes_are = reads.takes.bytes_are; how = inr (value, refl, tt, reads.bounded, reads.takes.is, reads.takes.ends) })
+pub comparison_read : (name bytes after at_value rest : List ℕ) (relation : Relation) (value : Value) (more : Bool) → more ≡ true → NameReads name bytes after → ReadsToken (cond more 44 41 ∷ []) after at_value → ((into : Into) (key : List ℕ) → LeadsTo (ValueOf into key) at_value (after_filter into (relation_filter key relation value)) rest) → (into : Into) → LeadsTo (Quote (Key into)) bytes (after_filter into (relation_filter name relation value)) rest
+comparison_read name bytes after at_value rest relation value more goes reads token argument into =
+    on (Quote (Key into)) bytes (ValueOf into name) at_value (after_filter into (relation_filter name relation value)) rest (at_value_leads into name bytes after at_value more goes reads token) (argument into name)
+
+-- ---- a value without a predicate
+
+plain_value_leads : (into : Into) (key : List ℕ) (value : Value) (bytes middle rest : List ℕ) → Reads AnyValue value bytes middle → Reads AnyBlanks tt middle rest → LeadsTo (ValueOf into key) bytes (ClosesFilter into (value_filter key value)) rest
+plain_value_leads into key value bytes middle rest reads blanks =
+    reaches_next turn is_loose are some (ValueOf into key) bytes (ClosesFilter into (value_filter key value)) middle rest
+    (record { prefix = reads.takes.prefix; bytes_are = reads.takes.bytes_are; how = inr (inr (value, refl, tt, reads.bounded, reads.takes.is, reads.takes.ends)) })
     blanks
 
-pub stop_after_value : (name bytes after at_value middle at_close : List ℕ) (value : Value) (more : Bool) (stop : Stop) → more ≡ true → NameReads name bytes after → ReadsToken (cond more 44 41 ∷ []) after at_value → Reads AnyValue value at_value middle → Reads AnyBlanks tt middle at_close → Leaves (Sign (41 ∷ [])) at_close stop → (query : Query) → StopsFrom (Quote (Key query)) bytes stop
-stop_after_value name bytes after at_value middle at_close value more stop goes reads token is blanks leaves query =
-    let one = on (Quote (Key query)) bytes (ValueOf query name) at_value (Closing query (value_step name value)) at_close (at_value_leads query name bytes after at_value more goes reads token) (value_leads query name value at_value middle at_close is blanks) in
-    one.stops stop (stop_at_sign (Closing query (value_step name value)) 41 (Steps (with_step query (value_step name value))) at_close stop refl leaves)
+pub stop_after_plain : (bytes middle at_close : List ℕ) (value : Value) (stop : Stop) → Reads AnyValue value bytes middle → Reads AnyBlanks tt middle at_close → Leaves (Sign (41 ∷ [])) at_close stop → (into : Into) (key : List ℕ) → StopsFrom (ValueOf into key) bytes stop
+stop_after_plain bytes middle at_close value stop reads blanks leaves into key =
+    (plain_value_leads into key value bytes middle at_close reads blanks).stops stop (stop_at_sign (ClosesFilter into (value_filter key value)) 41 (after_filter into (value_filter key value)) at_close stop refl leaves)
 
-pub value_read : (name bytes after at_value middle at_close rest : List ℕ) (value : Value) (more : Bool) → more ≡ true → NameReads name bytes after → ReadsToken (cond more 44 41 ∷ []) after at_value → Reads AnyValue value at_value middle → Reads AnyBlanks tt middle at_close → ReadsToken (41 ∷ []) at_close rest → (query : Query) → LeadsTo (Quote (Key query)) bytes (Steps (with_step query (value_step name value))) rest
-value_read name bytes after at_value middle at_close rest value more goes reads token is blanks close query =
-    let one = on (Quote (Key query)) bytes (ValueOf query name) at_value (Closing query (value_step name value)) at_close (at_value_leads query name bytes after at_value more goes reads token) (value_leads query name value at_value middle at_close is blanks) in
-    on (Quote (Key query)) bytes (Closing query (value_step name value)) at_close (Steps (with_step query (value_step name value))) rest one (token_leads (Closing query (value_step name value)) 41 (Steps (with_step query (value_step name value))) at_close rest refl refl close)
+pub plain_read : (bytes middle at_close rest : List ℕ) (value : Value) → Reads AnyValue value bytes middle → Reads AnyBlanks tt middle at_close → ReadsToken (41 ∷ []) at_close rest → (into : Into) (key : List ℕ) → LeadsTo (ValueOf into key) bytes (after_filter into (value_filter key value)) rest
+plain_read bytes middle at_close rest value reads blanks close into key =
+    on (ValueOf into key) bytes (ClosesFilter into (value_filter key value)) at_close (after_filter into (value_filter key value)) rest (plain_value_leads into key value bytes middle at_close reads blanks) (token_leads (ClosesFilter into (value_filter key value)) 41 (after_filter into (value_filter key value)) at_close rest refl (after_filter_loose into (value_filter key value)) close)
+
+-- Where neither a word for a relation nor a value stands, reading stops at the later place.
+pub stop_at_argument : (bytes : List ℕ) (one two : Stop) → first_byte bytes ≢ Some 80 → Leaves (OneWord relation_names) bytes one → Leaves AnyValue bytes two → (into : Into) (key : List ℕ) → StopsFrom (ValueOf into key) bytes (later one two)
+stop_at_argument bytes one two no_p first second into key =
+    stop_at (ValueOf into key) bytes (later one two) (record { no_end = λ end ends. cc; no_sign = no_one_sign 80 (AfterP into key) bytes no_p; other = both one two first second })
+  where
+    either_left : (left other : ℕ) → (left ≤ other) ⊎ (other ≤ left)
+    either_left zero other = inl (omega arith)
+    either_left (suc left) zero = inr (omega arith)
+    either_left (suc left) (suc other) = ⊎_elim (λ (le : left ≤ other). inl (omega arith)) (λ (ge : other ≤ left). inr (omega arith)) (either_left left other)
+
+    both : (one two : Stop) → Leaves (OneWord relation_names) bytes one → Leaves AnyValue bytes two → LeavesOther turn is_loose are some (turn (ValueOf into key)).other bytes (later one two)
+    both stops.Memory two first second = absurd first
+    both (stops.Bad kind left) two first second = absurd first.1
+    both (stops.Syntax left) stops.Memory first second = absurd second
+    both (stops.Syntax left) (stops.Bad kind other) first second = inr second
+    both (stops.Syntax left) (stops.Syntax other) first second = ⊎_elim
+        (λ (le : left ≤ other).
+        let least : min left other ≡ left = omega arith in
+        let found : LeavesOther turn is_loose are some (turn (ValueOf into key)).other bytes (stops.Syntax left) = (other, le, inl (first, second)) in
+        subst (λ (n : ℕ). LeavesOther turn is_loose are some (turn (ValueOf into key)).other bytes (stops.Syntax n)) (sym least) found)
+        (λ (ge : other ≤ left).
+        let least : min left other ≡ other = omega arith in
+        let found : LeavesOther turn is_loose are some (turn (ValueOf into key)).other bytes (stops.Syntax other) = (left, ge, inr (first, second)) in
+        subst (λ (n : ℕ). LeavesOther turn is_loose are some (turn (ValueOf into key)).other bytes (stops.Syntax n)) (sym least) found)
+        (either_left left other)
+
+-- ---- a predicate
+
+named_relation : (relation : Relation) → relation_of (relation_name relation) ≡ relation
+named_relation relations.Eq = refl
+named_relation relations.Neq = refl
+named_relation relations.Gt = refl
+named_relation relations.Gte = refl
+named_relation relations.Lt = refl
+named_relation relations.Lte = refl
+
+pub relation_leads : (into : Into) (key : List ℕ) (relation : Relation) (bytes rest : List ℕ) → ReadsRelation relation bytes rest → LeadsTo (ValueOf into key) bytes (OpensValue into key relation) rest
+relation_leads into key relation bytes rest (middle, reads, blanks) =
+    reaches_next turn is_loose are some (ValueOf into key) bytes (OpensValue into key relation) middle rest
+    (record { prefix = reads.takes.prefix; bytes_are = reads.takes.bytes_are; how = inr (inl (relation_name relation, ap (OpensValue into key) (sym (named_relation relation)), reads.allowed, tt, reads.takes.is, reads.takes.ends)) })
+    blanks
+
+p_leads : (into : Into) (key bytes at_dot at_relation : List ℕ) → ReadsToken (80 ∷ []) bytes at_dot → ReadsToken (46 ∷ []) at_dot at_relation → LeadsTo (ValueOf into key) bytes (RelationName into key) at_relation
+p_leads into key bytes at_dot at_relation p dot =
+    on (ValueOf into key) bytes (AfterP into key) at_dot (RelationName into key) at_relation (token_leads (ValueOf into key) 80 (AfterP into key) bytes at_dot refl refl p) (token_leads (AfterP into key) 46 (RelationName into key) at_dot at_relation refl refl dot)
+
+pub stop_after_p : (bytes at_dot : List ℕ) (stop : Stop) → ReadsToken (80 ∷ []) bytes at_dot → Leaves (Sign (46 ∷ [])) at_dot stop → (into : Into) (key : List ℕ) → StopsFrom (ValueOf into key) bytes stop
+stop_after_p bytes at_dot stop p leaves into key = (token_leads (ValueOf into key) 80 (AfterP into key) bytes at_dot refl refl p).stops stop (stop_at_sign (AfterP into key) 46 (RelationName into key) at_dot stop refl leaves)
+
+pub stop_at_relation : (bytes at_dot at_relation : List ℕ) (stop : Stop) → ReadsToken (80 ∷ []) bytes at_dot → ReadsToken (46 ∷ []) at_dot at_relation → Leaves (OneWord relation_names) at_relation stop → (into : Into) (key : List ℕ) → StopsFrom (ValueOf into key) bytes stop
+stop_at_relation bytes at_dot at_relation stop p dot leaves into key =
+    (p_leads into key bytes at_dot at_relation p dot).stops stop (stop_at (RelationName into key) at_relation stop (record { no_end = λ end ends. cc; no_sign = no_signs at_relation; other = leaves }))
+
+pub p_relation_leads : (bytes at_dot at_relation rest : List ℕ) (relation : Relation) → ReadsToken (80 ∷ []) bytes at_dot → ReadsToken (46 ∷ []) at_dot at_relation → ReadsRelation relation at_relation rest → (into : Into) (key : List ℕ) → LeadsTo (ValueOf into key) bytes (OpensValue into key relation) rest
+p_relation_leads bytes at_dot at_relation rest relation p dot (middle, reads, blanks) into key =
+    on (ValueOf into key) bytes (RelationName into key) at_relation (OpensValue into key relation) rest (p_leads into key bytes at_dot at_relation p dot)
+    (reaches_next turn is_loose are some (RelationName into key) at_relation (OpensValue into key relation) middle rest
+    (record { prefix = reads.takes.prefix; bytes_are = reads.takes.bytes_are; how = inr (relation_name relation, ap (OpensValue into key) (sym (named_relation relation)), reads.allowed, tt, reads.takes.is, reads.takes.ends) })
+    blanks)
+
+opens_leads : (into : Into) (key : List ℕ) (relation : Relation) (bytes at_value : List ℕ) → ReadsToken (40 ∷ []) bytes at_value → LeadsTo (OpensValue into key relation) bytes (Compared into key relation) at_value
+opens_leads into key relation bytes at_value token = token_leads (OpensValue into key relation) 40 (Compared into key relation) bytes at_value refl refl token
+
+compared_leads : (into : Into) (key : List ℕ) (relation : Relation) (value : Value) (bytes at_value middle at_close : List ℕ) → ReadsToken (40 ∷ []) bytes at_value → Reads AnyValue value at_value middle → Reads AnyBlanks tt middle at_close → LeadsTo (OpensValue into key relation) bytes (ClosesValue into (relation_filter key relation value)) at_close
+compared_leads into key relation value bytes at_value middle at_close token reads blanks =
+    on (OpensValue into key relation) bytes (Compared into key relation) at_value (ClosesValue into (relation_filter key relation value)) at_close (opens_leads into key relation bytes at_value token)
+    (reaches_next turn is_loose are some (Compared into key relation) at_value (ClosesValue into (relation_filter key relation value)) middle at_close
+    (record { prefix = reads.takes.prefix; bytes_are = reads.takes.bytes_are; how = inr (value, refl, tt, reads.bounded, reads.takes.is, reads.takes.ends) })
+    blanks)
+
+inner_closed : (into : Into) (key : List ℕ) (relation : Relation) (value : Value) (bytes at_value middle at_close at_end : List ℕ) → ReadsToken (40 ∷ []) bytes at_value → Reads AnyValue value at_value middle → Reads AnyBlanks tt middle at_close → ReadsToken (41 ∷ []) at_close at_end → LeadsTo (OpensValue into key relation) bytes (ClosesFilter into (relation_filter key relation value)) at_end
+inner_closed into key relation value bytes at_value middle at_close at_end token reads blanks close =
+    let filter = relation_filter key relation value in
+    on (OpensValue into key relation) bytes (ClosesValue into filter) at_close (ClosesFilter into filter) at_end (compared_leads into key relation value bytes at_value middle at_close token reads blanks) (token_leads (ClosesValue into filter) 41 (ClosesFilter into filter) at_close at_end refl refl close)
+
+pub stop_at_open : (bytes : List ℕ) (stop : Stop) → Leaves (Sign (40 ∷ [])) bytes stop → (into : Into) (key : List ℕ) (relation : Relation) → StopsFrom (OpensValue into key relation) bytes stop
+stop_at_open bytes stop leaves into key relation = stop_at_sign (OpensValue into key relation) 40 (Compared into key relation) bytes stop refl leaves
+
+pub stop_in_compared : (bytes at_value : List ℕ) (stop : Stop) → ReadsToken (40 ∷ []) bytes at_value → Leaves AnyValue at_value stop → (into : Into) (key : List ℕ) (relation : Relation) → StopsFrom (OpensValue into key relation) bytes stop
+stop_in_compared bytes at_value stop token leaves into key relation =
+    (opens_leads into key relation bytes at_value token).stops stop (stop_at (Compared into key relation) at_value stop (record { no_end = λ end ends. cc; no_sign = no_signs at_value; other = leaves }))
+
+pub stop_at_inner : (bytes at_value middle at_close : List ℕ) (value : Value) (stop : Stop) → ReadsToken (40 ∷ []) bytes at_value → Reads AnyValue value at_value middle → Reads AnyBlanks tt middle at_close → Leaves (Sign (41 ∷ [])) at_close stop → (into : Into) (key : List ℕ) (relation : Relation) → StopsFrom (OpensValue into key relation) bytes stop
+stop_at_inner bytes at_value middle at_close value stop token reads blanks leaves into key relation =
+    let filter = relation_filter key relation value in
+    (compared_leads into key relation value bytes at_value middle at_close token reads blanks).stops stop (stop_at_sign (ClosesValue into filter) 41 (ClosesFilter into filter) at_close stop refl leaves)
+
+pub stop_at_outer : (bytes at_value middle at_close at_end : List ℕ) (value : Value) (stop : Stop) → ReadsToken (40 ∷ []) bytes at_value → Reads AnyValue value at_value middle → Reads AnyBlanks tt middle at_close → ReadsToken (41 ∷ []) at_close at_end → Leaves (Sign (41 ∷ [])) at_end stop → (into : Into) (key : List ℕ) (relation : Relation) → StopsFrom (OpensValue into key relation) bytes stop
+stop_at_outer bytes at_value middle at_close at_end value stop token reads blanks close leaves into key relation =
+    let filter = relation_filter key relation value in
+    (inner_closed into key relation value bytes at_value middle at_close at_end token reads blanks close).stops stop (stop_at_sign (ClosesFilter into filter) 41 (after_filter into filter) at_end stop refl leaves)
+
+pub compared_read : (bytes at_value middle at_close at_end rest : List ℕ) (value : Value) → ReadsToken (40 ∷ []) bytes at_value → Reads AnyValue value at_value middle → Reads AnyBlanks tt middle at_close → ReadsToken (41 ∷ []) at_close at_end → ReadsToken (41 ∷ []) at_end rest → (into : Into) (key : List ℕ) (relation : Relation) → LeadsTo (OpensValue into key relation) bytes (after_filter into (relation_filter key relation value)) rest
+compared_read bytes at_value middle at_close at_end rest value token reads blanks close end into key relation =
+    let filter = relation_filter key relation value in
+    on (OpensValue into key relation) bytes (ClosesFilter into filter) at_end (after_filter into filter) rest (inner_closed into key relation value bytes at_value middle at_close at_end token reads blanks close) (token_leads (ClosesFilter into filter) 41 (after_filter into filter) at_end rest refl (after_filter_loose into filter) end)
 
 -- ---- the steps
 
 -- What is kept while steps are read.
-abbrev pub StepsSoFar : List ℕ → List Step → List ℕ → Type 0
-StepsSoFar bytes list rest = (edges : Bool) (ids : List ℕ) → LeadsTo (Steps (query_from edges ids)) bytes (Steps (query_of edges ids list)) rest
+pub record StepsSoFar (edges : Bool) (bytes : List ℕ) (is_ordered : Bool) (list : List Step) (items : Items) (count : ℕ) (rest : List ℕ) : Type 0 where
+  pub items_are : items ≡ items_from (first_items edges) list
+  pub counted : count ≡ steps_in list
+  pub early : count ≤ 32
+  pub order_last : is_ordered ≡ true → (before : List Step) × (list ≡ before ++ plain_order ∷ [])
+  pub leads : (ids : List ℕ) → LeadsTo (Steps (query_from edges ids)) bytes (steps_place is_ordered (query_of edges ids list)) rest
 
-pub no_steps : (bytes : List ℕ) → StepsSoFar bytes [] bytes
-no_steps bytes = λ edges ids. reaches_here turn is_loose are some (Steps (query_from edges ids)) bytes
+pub no_steps : (edges : Bool) (bytes : List ℕ) (items : Items) → items ≡ first_items edges → StepsSoFar edges bytes false [] items 0 bytes
+no_steps edges bytes items are_first = record { items_are = are_first; counted = refl; early = omega arith; order_last = λ ordered. cc; leads = λ ids. reaches_here turn is_loose are some (Steps (query_from edges ids)) bytes }
 
-pub steps_more : (bytes rest after : List ℕ) (list : List Step) (step : Step) → StepsSoFar bytes list rest → ((query : Query) → LeadsTo (Steps query) rest (Steps (with_step query step)) after) → StepsSoFar bytes (list ++ step ∷ []) after
-steps_more bytes rest after list step so_far reads = λ edges ids.
-    on (Steps (query_from edges ids)) bytes (Steps (query_of edges ids list)) rest (Steps (query_of edges ids (list ++ step ∷ []))) after (so_far edges ids) (reads (query_of edges ids list))
+-- the stage of the query so far
+pub stage_is : (edges : Bool) (bytes : List ℕ) (is_ordered : Bool) (list : List Step) (items : Items) (count : ℕ) (rest : List ℕ) → StepsSoFar edges bytes is_ordered list items count rest → (ids : List ℕ) → stage_of (query_of edges ids list) ≡ record { items = items; steps = count }
+stage_is edges bytes is_ordered list items count rest so_far ids = λ i. record { items = sym so_far.items_are i; steps = sym so_far.counted i }
 
-pub stop_in_steps : (bytes rest : List ℕ) (list : List Step) (stop : Stop) → StepsSoFar bytes list rest → ((query : Query) → StopsFrom (Steps query) rest stop) → (edges : Bool) (ids : List ℕ) → StopsFrom (Steps (query_from edges ids)) bytes stop
-stop_in_steps bytes rest list stop so_far at edges ids = (so_far edges ids).stops stop (at (query_of edges ids list))
+pub steps_more : (edges : Bool) (bytes rest after : List ℕ) (is_ordered : Bool) (list : List Step) (items later : Items) (count more : ℕ) (word : StepWord) (step : Step) → StepsSoFar edges bytes is_ordered list items count rest → later ≡ items_after items step → more ≡ count + added_count word step → more ≤ 32 → (word ≡ words.By → is_ordered ≡ true) → IsOrderStep word step → ((query : Query) → stage_of query ≡ record { items = items; steps = count } → LeadsTo (steps_place is_ordered query) rest (after_word word query step) after) → StepsSoFar edges bytes (is_order word) (put_step word list step) later more after
+steps_more edges bytes rest after is_ordered list items later count more word step so_far later_is more_is few by order reads = record {
+  items_are = later_is ∙ ap (λ (these : Items). items_after these step) so_far.items_are ∙ sym (items_from-put_step (first_items edges) list word step (λ same. so_far.order_last (by same)) order);
+  counted = more_is ∙ ap (λ (n : ℕ). n + added_count word step) so_far.counted ∙ sym (steps_in-put_step list word step (λ same. so_far.order_last (by same)) order);
+  early = few;
+  order_last = order_is_last list word step order;
+  leads = λ ids.
+      let query : Query = query_of edges ids list in
+      on (Steps (query_from edges ids)) bytes (steps_place is_ordered query) rest (after_word word query step) after (so_far.leads ids) (reads query (stage_is edges bytes is_ordered list items count rest so_far ids));
+}
 
-pub steps_kept : (bytes rest : List ℕ) (list : List Step) → StepsSoFar bytes list rest → rest ≡ [] → (edges : Bool) (ids : List ℕ) → KeptFrom turn is_loose (Steps (query_of edges ids list)) (Steps (query_from edges ids)) bytes
-steps_kept bytes rest list so_far none edges ids =
-    let place : Place = Steps (query_of edges ids list) in
-    (so_far edges ids).kept place (kept_end turn is_loose are some place rest refl none)
+pub stop_in_steps : (edges : Bool) (bytes rest : List ℕ) (is_ordered : Bool) (list : List Step) (items : Items) (count : ℕ) (stop : Stop) → StepsSoFar edges bytes is_ordered list items count rest → ((query : Query) → stage_of query ≡ record { items = items; steps = count } → StopsFrom (steps_place is_ordered query) rest stop) → (ids : List ℕ) → StopsFrom (Steps (query_from edges ids)) bytes stop
+stop_in_steps edges bytes rest is_ordered list items count stop so_far at ids = (so_far.leads ids).stops stop (at (query_of edges ids list) (stage_is edges bytes is_ordered list items count rest so_far ids))
+
+steps_end : (is_ordered : Bool) (query : Query) → (turn (steps_place is_ordered query)).ends ≡ Some query
+steps_end true query = refl
+steps_end false query = refl
+
+pub steps_kept : (edges : Bool) (bytes rest : List ℕ) (is_ordered : Bool) (list : List Step) (items : Items) (count : ℕ) → StepsSoFar edges bytes is_ordered list items count rest → rest ≡ [] → (ids : List ℕ) → KeptFrom turn is_loose (query_of edges ids list) (Steps (query_from edges ids)) bytes
+steps_kept edges bytes rest is_ordered list items count so_far none ids =
+    let query : Query = query_of edges ids list in
+    (so_far.leads ids).kept query (kept_end turn is_loose are some (steps_place is_ordered query) query rest (steps_end is_ordered query) none)
 
 -- the whole query
-pub query_is_kept : (edges : Bool) (ids : List ℕ) (bytes at_source at_ids at_steps : List ℕ) (list : List Step) → Reads AnyBlanks tt bytes at_source → LeadsTo Start at_source (FirstId edges) at_ids → LeadsTo (FirstId edges) at_ids (Steps (query_from edges ids)) at_steps → KeptFrom turn is_loose (Steps (query_of edges ids list)) (Steps (query_from edges ids)) at_steps → IsKeptQuery (query_of edges ids list) bytes
+pub query_is_kept : (edges : Bool) (ids : List ℕ) (bytes at_source at_ids at_steps : List ℕ) (list : List Step) → Reads AnyBlanks tt bytes at_source → LeadsTo Start at_source (FirstId edges) at_ids → LeadsTo (FirstId edges) at_ids (Steps (query_from edges ids)) at_steps → KeptFrom turn is_loose (query_of edges ids list) (Steps (query_from edges ids)) at_steps → IsKeptQuery (query_of edges ids list) bytes
 query_is_kept edges ids bytes at_source at_ids at_steps list blanks source these kept =
-    let end : Place = Steps (query_of edges ids list) in
-    (blanks.takes.prefix, at_source, blanks.takes.bytes_are, blanks.takes.is, source.kept end (these.kept end kept))
+    let query : Query = query_of edges ids list in
+    (blanks.takes.prefix, at_source, blanks.takes.bytes_are, blanks.takes.is, source.kept query (these.kept query kept))
 
 -- a stop after the blanks
 pub query_stops : (bytes at_source : List ℕ) (stop : Stop) → Reads AnyBlanks tt bytes at_source → StopsFrom Start at_source stop → StopsInQuery bytes stop

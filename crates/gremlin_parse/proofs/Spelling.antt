@@ -1,14 +1,15 @@
 -- Spelled by parts, and spelled by the symbols of a production, is one.
 use Rattle.std.proofs.Common.{ap, ◌∙◌, ℕ, arith, codes, ◌≡◌, ◌⊎◌, inl, inr, true, List, [], ◌∷◌, ◌++◌, sym, subst, ⊎_elim}
 use Rattle.std.specs.List.{AllByRecursion}
-use Rattle.gremlin_parse.specs.Numbers.{is_digit, value_after}
+use Rattle.gremlin_parse.specs.Numbers.{is_digit, value_after, IsNumber}
 use Rattle.gremlin_parse.specs.Grammar.{Number, Part, IsMadeOf, IsBounded}
 use Rattle.gremlin_parse.specs.Faults.{EndsRun, IsOutOfBounds}
 use Rattle.gremlin_parse.specs.Reading.{Then, IsBadPart, BadThen, BadParts}
-use Rattle.gremlin_parse.specs.Symbols.{Symbol, AnyBlanks, AnyGap, Sign, OneWord, AnyName, AnyNumber, AnyValue, Content, Contents, part, Allows, IsBad, ReadsAll, Follows, BadFollows}
+use Rattle.gremlin_parse.specs.Symbols.{Symbol, AnyBlanks, AnyGap, Sign, OneWord, AnyName, AnyNumber, AnyTimes, AnyValue, Content, Contents, part, Allows, IsBad, ReadsAll, Follows, BadFollows}
 use Rattle.gremlin_parse.specs.Stopping.{Bads, BadInOne}
 use Rattle.gremlin_parse.specs.declared.bad_token.BadToken.{BadToken}
-use Rattle.gremlin_parse.specs.declared.bad_token.BadToken.TheVariants.{LongName, LongText, WideNumber}
+use Rattle.gremlin_parse.specs.declared.bad_token.BadToken.TheVariants.{LongName, LongText, WideNumber, WrongTimes, UnfitStep, LateStep}
+use Rattle.gremlin_parse.proofs.TimesLaws.{zero_number}
 use Rattle.gremlin_parse.proofs.Values.{bad_value_ends, value_ends_token}
 use Rattle.gremlin_parse.proofs.Symbols.{One, class_of, whole, after_symbol, takes_unique, not_bad, example}
 use Rattle.gremlin_parse.proofs.Productions.{Enders, is_production, split, HaltsAt, follows_halts, bad_follows_halts}
@@ -122,8 +123,20 @@ bad_parts_choice X more some (this ∷ parts) kind left bytes (inr (prefix, rest
 wide_ends : (kind : BadToken) (most number : ℕ) (prefix rest : List ℕ) → IsOutOfBounds (Number most number) kind → number ≡ value_after 0 prefix → (prefix ≡ codes "0") ⊎ EndsRun is_digit rest → EndsRun is_digit rest
 wide_ends LongName most number prefix rest bad is ends = absurd bad
 wide_ends LongText most number prefix rest bad is ends = absurd bad
+wide_ends WrongTimes most number prefix rest bad is ends = absurd bad
+wide_ends UnfitStep most number prefix rest bad is ends = absurd bad
+wide_ends LateStep most number prefix rest bad is ends = absurd bad
 wide_ends WideNumber most number prefix rest bad is ends =
     ⊎_elim (λ (zero : prefix ≡ codes "0"). let none : number ≡ 0 = is ∙ ap (value_after 0) zero in absurd (omega arith)) (λ (stops : EndsRun is_digit rest). stops) ends
+
+-- what stands after a number of times ends it
+times_end : (number : ℕ) (prefix rest : List ℕ) → number ≡ value_after 0 prefix → (prefix ≡ codes "0") ⊎ EndsRun is_digit rest → (number ≡ 0) ⊎ EndsRun is_digit rest
+times_end number prefix rest is (inl zero) = inl (is ∙ ap (value_after 0) zero)
+times_end number prefix rest is (inr stops) = inr stops
+
+end_times : (number : ℕ) (prefix rest : List ℕ) → IsNumber number prefix → (number ≡ 0) ⊎ EndsRun is_digit rest → (prefix ≡ codes "0") ⊎ EndsRun is_digit rest
+end_times number prefix rest is (inl zero) = inl (zero_number number prefix is zero)
+end_times number prefix rest is (inr stops) = inr stops
 
 bad_part : (symbol : Symbol) (kind : BadToken) (left : ℕ) (bytes : List ℕ) → (bad : IsBad symbol kind left bytes) → IsBadPart (part symbol bad.0) kind left bytes
 bad_part AnyBlanks kind left bytes bad = absurd bad.1
@@ -132,6 +145,7 @@ bad_part (Sign sign) kind left bytes bad = absurd bad.1
 bad_part (OneWord words) kind left bytes bad = absurd bad.1
 bad_part AnyName kind left bytes (name, bad, rest, takes, place) = (takes.prefix, rest, takes.bytes_are, takes.is, takes.ends, bad, place)
 bad_part (AnyNumber most) kind left bytes (number, bad, rest, takes, place) = (takes.prefix, rest, takes.bytes_are, takes.is, wide_ends kind most number takes.prefix rest bad takes.is.1 takes.ends, bad, place)
+bad_part AnyTimes kind left bytes (number, bad, rest, takes, place) = (takes.prefix, rest, takes.bytes_are, takes.is, times_end number takes.prefix rest takes.is.1 takes.ends, bad, place)
 bad_part AnyValue kind left bytes (value, bad, rest, takes, place) = (takes.prefix, rest, takes.bytes_are, takes.is, bad_value_ends value kind takes.prefix rest takes.is bad takes.ends, bad, place)
 
 part_bad : (symbol : Symbol) (content : Content symbol) (kind : BadToken) (left : ℕ) (bytes : List ℕ) → IsBadPart (part symbol content) kind left bytes → IsBad symbol kind left bytes
@@ -141,6 +155,7 @@ part_bad (Sign sign) content kind left bytes bad = absurd bad.5
 part_bad (OneWord words) content kind left bytes bad = absurd bad.5
 part_bad AnyName name kind left bytes (token, rest, whole, part_is, ends, bad, place) = (name, bad, rest, record { prefix = token; bytes_are = whole; is = part_is; ends = ends }, place)
 part_bad (AnyNumber most) number kind left bytes (token, rest, whole, part_is, ends, bad, place) = (number, bad, rest, record { prefix = token; bytes_are = whole; is = part_is; ends = inr ends }, place)
+part_bad AnyTimes number kind left bytes (token, rest, whole, part_is, ends, bad, place) = (number, bad, rest, record { prefix = token; bytes_are = whole; is = part_is; ends = end_times number token rest part_is ends }, place)
 part_bad AnyValue value kind left bytes (token, rest, whole, part_is, ends, bad, place) = (value, bad, rest, record { prefix = token; bytes_are = whole; is = part_is; ends = value_ends_token value token rest ends }, place)
 
 abbrev pub HasNoBad : List Part → Type 0
@@ -189,6 +204,7 @@ then_of_bad_follows enders (symbol ∷ symbols) is Bad kind left bytes bad =
     allowed (OneWord words) here = absurd here.1
     allowed AnyName here = tt
     allowed (AnyNumber most) here = tt
+    allowed AnyTimes here = tt
     allowed AnyValue here = tt
 
 -- Parts within their bounds leave no bad token, where none is left after them.

@@ -1,5 +1,5 @@
 -- Where reading stops: from what is left to say of a line to the whole line.
-use Rattle.std.proofs.Common.{◌≡◌, ℕ, ◌+◌, ◌-◌, ◌≤◌, ◌<◌, List, [], ◌∷◌, ◌++◌, length, take, refl, sym, ap, ◌∙◌, subst, append_assoc, length-append, zero-add, add-zero, suc, zero, arith}
+use Rattle.std.proofs.Common.{◌≡◌, ◌⊎◌, inl, ℕ, ◌+◌, ◌-◌, ◌≤◌, ◌<◌, List, [], ◌∷◌, ◌++◌, length, take, refl, sym, ap, ◌∙◌, subst, ⊎_elim, append_assoc, length-append, zero-add, add-zero, suc, zero, arith}
 use Rattle.std.proofs.lemmas.List.{append_cancel_left, append-nil}
 use Rattle.gremlin_parse.specs.Grammar.{Exactly}
 use Rattle.gremlin_parse.specs.Faults.{IsViable, StopsAt}
@@ -49,6 +49,36 @@ stops_in_word After word bytes line left some leaves = record {
 -- the same lines
 pub stops_of_same : (Whole Left : List ℕ → Type 0) (bytes : List ℕ) (left : ℕ) → ((more : List ℕ) → Left more → Whole more) → ((more : List ℕ) → first_byte more ≡ first_byte bytes → Whole more → Left more) → StopsBefore Left bytes left → StopsBefore Whole bytes left
 stops_of_same Whole Left bytes left onto back stop = stops_after Whole Left bytes [] bytes left refl (record { onto = onto; back = back }) stop
+
+-- the rest of the longer one of two prefixes
+longer_cut : (one two more rest : List ℕ) → one ++ more ≡ two ++ rest → length more ≤ length rest → (between : List ℕ) × (one ≡ two ++ between) × (rest ≡ between ++ more)
+longer_cut one [] more rest same le = (one, refl, sym same)
+longer_cut [] (b ∷ two) more rest same le =
+    let len : length more ≡ suc (length two + length rest) = ap length same ∙ ap suc (length-append two rest) in
+    absurd (omega (arith, le, len))
+longer_cut (b ∷ one) (c ∷ two) more rest same le =
+    let heads : b ≡ c = cc in
+    let tails : one ++ more ≡ two ++ rest = cc in
+    let (between, one_is, rest_is) = longer_cut one two more rest tails le in
+    (between, (λ i. heads i ∷ one_is i), rest_is)
+
+-- Where reading stops in two languages, it stops in both together at the later place.
+pub stops_in_both : (One Two : List ℕ → Type 0) (bytes : List ℕ) (left more_left : ℕ) → left ≤ more_left → StopsBefore One bytes left → StopsBefore Two bytes more_left → StopsBefore (λ these. One these ⊎ Two these) bytes left
+stops_in_both One Two bytes left more_left le one two =
+    let lens : length one.unread ≤ length two.unread = omega (arith, le, one.left_is, two.left_is) in
+    let (between, read_is, unread_is) = longer_cut one.read two.read one.unread two.unread (sym one.bytes_are ∙ two.bytes_are) lens in
+    record {
+      read = one.read;
+      unread = one.unread;
+      bytes_are = one.bytes_are;
+      left_is = one.left_is;
+      viable = (one.viable.0, inl one.viable.1);
+      none = λ more same is. ⊎_elim
+          (λ (first : One (one.read ++ more)). one.none more same first)
+          (λ (second : Two (one.read ++ more)).
+          two.none (between ++ more) (first_byte-append between more one.unread same ∙ ap first_byte (sym unread_is)) (subst Two (ap (λ r. r ++ more) read_is ∙ append_assoc two.read between more) second))
+          is;
+    }
 
 pub StopsBefore-refuses : (Language : List ℕ → Type 0) (bytes : List ℕ) (left : ℕ) → StopsBefore Language bytes left → ¬ Language bytes
 StopsBefore-refuses Language bytes left stop is = stop.none stop.unread refl (subst Language stop.bytes_are is)

@@ -1,18 +1,18 @@
 -- Each symbol of a production: it stands whole in one way, and what may follow it is told by a byte.
-use Rattle.std.proofs.Common.{◌≡◌, ◌≢◌, inl, inr, ℕ, Bool, true, false, not, ◌&&◌, List, [], ◌∷◌, ◌++◌, codes, pos, refl, sym, ap, ◌∙◌, subst, ⊎_elim, arith}
+use Rattle.std.proofs.Common.{◌≡◌, ◌≢◌, ◌<◌, inl, inr, ℕ, Bool, true, false, not, ◌&&◌, Some, None, List, [], ◌∷◌, ◌++◌, codes, pos, refl, sym, ap, ◌∙◌, subst, ⊎_elim, arith}
 use Rattle.std.proofs.lemmas.List.{append_cancel_left}
 use Rattle.std.proofs.lemmas.Bool.Decides.{nat_tests}
 use Rattle.plain_graph.specs.Names.{IsName, is_name_byte, is_name_start}
 use Rattle.gremlin_parse.specs.Numbers.{is_digit}
 use Rattle.plain_graph.specs.declared.value.Value.{Value}
 use Rattle.plain_graph.specs.declared.value.Value.TheVariants as values
-use Rattle.gremlin_parse.specs.Grammar.{Part, Blanks, Gap, Exactly, Name, Number, Written, IsPart, IsBounded, AreBlanks, is_blank}
+use Rattle.gremlin_parse.specs.Grammar.{Part, Blanks, Gap, Exactly, Name, Number, Times, Written, Called, IsPart, IsBounded, AreBlanks, is_blank}
 use Rattle.gremlin_parse.specs.Faults.{EndsRun, IsOutOfBounds}
 use Rattle.gremlin_parse.specs.Reading.{first_byte, Passes, Then, StartsName, StartsNumber}
 use Rattle.gremlin_parse.specs.Keywords.{Entry, InTable, plain}
-use Rattle.gremlin_parse.specs.Symbols.{Symbol, AnyBlanks, AnyGap, Sign, OneWord, AnyName, AnyNumber, AnyValue, Content, part, Allows, Ends, Takes, IsBad}
+use Rattle.gremlin_parse.specs.Symbols.{Symbol, AnyBlanks, AnyGap, Sign, OneWord, AnyName, AnyNumber, AnyTimes, AnyValue, Content, part, Allows, Ends, Takes, IsBad}
 use Rattle.gremlin_parse.specs.declared.bad_token.BadToken.{BadToken}
-use Rattle.gremlin_parse.specs.declared.bad_token.BadToken.TheVariants.{LongName, LongText, WideNumber}
+use Rattle.gremlin_parse.specs.declared.bad_token.BadToken.TheVariants.{LongName, LongText, WideNumber, WrongTimes, UnfitStep, LateStep}
 use Rattle.gremlin_parse.proofs.Runs.{both, turned, Halts, run_is_unique, EndsRun-first_byte}
 use Rattle.gremlin_parse.proofs.Names.{name_start_is_no_blank, blank_is_no_name_byte, IsName-passes, name_starts}
 use Rattle.gremlin_parse.proofs.Decimals.{one_number, number_starts}
@@ -42,6 +42,8 @@ takes_unique AnyName name other bytes rest more one two =
     (sym one.is.0 ∙ same.0 ∙ two.is.0, same.1)
 takes_unique (AnyNumber most) number other bytes rest more one two =
     one_number number other bytes rest more (record { prefix = one.prefix; bytes_are = one.bytes_are; is = one.is; ends = one.ends }) (record { prefix = two.prefix; bytes_are = two.bytes_are; is = two.is; ends = two.ends })
+takes_unique AnyTimes number other bytes rest more one two =
+    one_number number other bytes rest more (record { prefix = one.prefix; bytes_are = one.bytes_are; is = one.is; ends = one.ends }) (record { prefix = two.prefix; bytes_are = two.bytes_are; is = two.is; ends = two.ends })
 takes_unique AnyValue value other bytes rest more one two = one_value value other bytes rest more one two
 
 -- what ends a symbol depends on the first byte only
@@ -52,6 +54,8 @@ Ends-first_byte (Sign sign) content prefix rest more same ends = tt
 Ends-first_byte (OneWord words) word prefix rest more same ends = (ends.0, EndsRun-first_byte is_name_byte rest more same ends.1)
 Ends-first_byte AnyName name prefix rest more same ends = EndsRun-first_byte is_name_byte rest more same ends
 Ends-first_byte (AnyNumber most) number prefix rest more same ends =
+    ⊎_elim (λ (zero : prefix ≡ codes "0"). inl zero) (λ (stops : EndsRun is_digit rest). inr (EndsRun-first_byte is_digit rest more same stops)) ends
+Ends-first_byte AnyTimes number prefix rest more same ends =
     ⊎_elim (λ (zero : prefix ≡ codes "0"). inl zero) (λ (stops : EndsRun is_digit rest). inr (EndsRun-first_byte is_digit rest more same stops)) ends
 Ends-first_byte AnyValue value prefix rest more same ends = EndsWritten-first_byte value prefix rest more same ends
 
@@ -81,6 +85,7 @@ class_of (Sign sign) = NoByte
 class_of (OneWord words) = NameByte
 class_of AnyName = NameByte
 class_of (AnyNumber most) = Digit
+class_of AnyTimes = Digit
 class_of AnyValue = NameByte
 
 -- the word is one of name bytes and has some
@@ -101,6 +106,7 @@ is_symbol (OneWord []) = false
 is_symbol (OneWord (word ∷ words)) = are_keywords (word ∷ words)
 is_symbol AnyName = true
 is_symbol (AnyNumber most) = true
+is_symbol AnyTimes = true
 is_symbol AnyValue = true
 
 keyword_passes : (words : List (List ℕ)) → are_keywords words ≡ true → (word : List ℕ) → InTable (word, tt) (plain words) → Passes is_name_byte word
@@ -126,6 +132,7 @@ ends_symbol (OneWord words) is word allows prefix part_is rest ends =
     (subst (Passes is_name_byte) (sym part_is) (keyword_passes words (some_keywords words is) word allows), ends)
 ends_symbol AnyName is content allows prefix part_is rest ends = ends
 ends_symbol (AnyNumber most) is number allows prefix part_is rest ends = inr ends
+ends_symbol AnyTimes is number allows prefix part_is rest ends = inr ends
 ends_symbol AnyValue is value allows prefix part_is rest ends = ends_value value prefix rest ends
 
 -- a symbol that stands whole, and bytes of the language after it
@@ -256,6 +263,7 @@ halts class end (Sign sign ∷ symbols) = first_fails (passes class) sign
 halts class end (OneWord words ∷ symbols) = all_fail (passes class) words
 halts class end (AnyName ∷ symbols) = no_names class
 halts class end (AnyNumber most ∷ symbols) = no_digits class
+halts class end (AnyTimes ∷ symbols) = no_digits class
 halts class end (AnyValue ∷ symbols) = no_values class
 
 -- the first byte of a symbol and of what follows it
@@ -268,6 +276,7 @@ part_halts class end (Sign sign) symbols is content allows prefix rest part_is l
 part_halts class end (OneWord words) symbols is word allows prefix rest part_is later = subst (λ w. EndsRun (passes class) (w ++ rest)) (sym part_is) (word_ends (passes class) words is word rest allows)
 part_halts class end AnyName symbols is name allows prefix rest part_is later = name_ends (passes class) (name_fails class is) (prefix ++ rest) (name_starts prefix rest (subst IsName (sym part_is.0) part_is.1))
 part_halts class end (AnyNumber most) symbols is number allows prefix rest part_is later = number_ends (passes class) (digit_fails class is) (prefix ++ rest) (number_starts prefix rest part_is.0)
+part_halts class end AnyTimes symbols is number allows prefix rest part_is later = number_ends (passes class) (digit_fails class is) (prefix ++ rest) (number_starts prefix rest part_is.0)
 part_halts class end AnyValue symbols is value allows prefix rest part_is later = value_ends class is value (prefix ++ rest) (value_starts value prefix rest part_is)
 
 -- A bad token begins with no byte of the class.
@@ -279,6 +288,8 @@ bad_halts class end (OneWord words) symbols is kind left bytes (content, bad, re
 bad_halts class end AnyName symbols is kind left bytes (name, bad, rest, takes, place) =
     subst (EndsRun (passes class)) (sym takes.bytes_are) (name_ends (passes class) (name_fails class is) (takes.prefix ++ rest) (name_starts takes.prefix rest (subst IsName (sym takes.is.0) takes.is.1)))
 bad_halts class end (AnyNumber most) symbols is kind left bytes (number, bad, rest, takes, place) =
+    subst (EndsRun (passes class)) (sym takes.bytes_are) (number_ends (passes class) (digit_fails class is) (takes.prefix ++ rest) (number_starts takes.prefix rest takes.is.0))
+bad_halts class end AnyTimes symbols is kind left bytes (number, bad, rest, takes, place) =
     subst (EndsRun (passes class)) (sym takes.bytes_are) (number_ends (passes class) (digit_fails class is) (takes.prefix ++ rest) (number_starts takes.prefix rest takes.is.0))
 bad_halts class end AnyValue symbols is kind left bytes (value, bad, rest, takes, place) =
     subst (EndsRun (passes class)) (sym takes.bytes_are) (value_ends class is value (takes.prefix ++ rest) (value_starts value takes.prefix rest takes.is))
@@ -293,16 +304,35 @@ not_bad kind (Exactly word) within = λ bad. bad
 not_bad LongName (Name name) within = λ bad. absurd (omega arith)
 not_bad LongText (Name name) within = λ bad. bad
 not_bad WideNumber (Name name) within = λ bad. bad
+not_bad WrongTimes (Name name) within = λ bad. bad
+not_bad UnfitStep (Name name) within = λ bad. bad
+not_bad LateStep (Name name) within = λ bad. bad
 not_bad LongName (Number most number) within = λ bad. bad
 not_bad LongText (Number most number) within = λ bad. bad
 not_bad WideNumber (Number most number) within = λ bad. absurd (omega arith)
+not_bad WrongTimes (Number most number) within = λ bad. bad
+not_bad UnfitStep (Number most number) within = λ bad. bad
+not_bad LateStep (Number most number) within = λ bad. bad
+not_bad LongName (Times number) within = λ bad. bad
+not_bad LongText (Times number) within = λ bad. bad
+not_bad WideNumber (Times number) within = λ bad. bad
+not_bad WrongTimes (Times number) within = λ bad. ⊎_elim (λ (below : number < 1). absurd (omega (arith, within.0))) (λ (above : 16 < number). absurd (omega (arith, within.1))) bad
+not_bad UnfitStep (Times number) within = λ bad. bad
+not_bad LateStep (Times number) within = λ bad. bad
 not_bad LongName (Written (values.Int number)) within = λ bad. bad
 not_bad LongText (Written (values.Int number)) within = λ bad. bad
 not_bad WideNumber (Written (values.Int number)) within = λ bad. bad within
+not_bad WrongTimes (Written (values.Int number)) within = λ bad. bad
+not_bad UnfitStep (Written (values.Int number)) within = λ bad. bad
+not_bad LateStep (Written (values.Int number)) within = λ bad. bad
 not_bad kind (Written (values.Bool truth)) within = λ bad. bad
 not_bad LongName (Written (values.Text text)) within = λ bad. bad
 not_bad LongText (Written (values.Text text)) within = λ bad. absurd (omega arith)
 not_bad WideNumber (Written (values.Text text)) within = λ bad. bad
+not_bad WrongTimes (Written (values.Text text)) within = λ bad. bad
+not_bad UnfitStep (Written (values.Text text)) within = λ bad. bad
+not_bad LateStep (Written (values.Text text)) within = λ bad. bad
+not_bad kind (Called word fault) within = λ bad. let clash : None ≡ Some kind = sym within ∙ bad in cc
 
 -- some part of the symbol
 pub record Example (symbol : Symbol) : Type 0 where
@@ -318,5 +348,6 @@ example (Sign sign) is = record { content = tt; allowed = tt; prefix = sign; is 
 example (OneWord []) is = cc
 example (OneWord (word ∷ words)) is = record { content = word; allowed = inl refl; prefix = word; is = refl }
 example AnyName is = record { content = codes "a"; allowed = tt; prefix = codes "a"; is = (refl, (refl, tt)) }
+example AnyTimes is = record { content = 1; allowed = tt; prefix = codes "1"; is = (refl, refl) }
 example (AnyNumber most) is = record { content = 0; allowed = tt; prefix = codes "0"; is = (refl, refl) }
 example AnyValue is = record { content = values.Int (pos 0); allowed = tt; prefix = codes "0"; is = inl (0, refl, (refl, refl)) }

@@ -7,7 +7,7 @@ use borrow.Author.Tests.{eqb-true}
 use Rattle.plain_graph.specs.Names.{is_name_byte}
 use Rattle.gremlin_parse.specs.Faults.{EndsRun}
 use Rattle.gremlin_parse.specs.Reading.{first_byte, Passes, CutsRun, StopsBefore}
-use Rattle.gremlin_parse.specs.Keywords.{Entry, lookup, InTable, common, reach, TakesWord, LeavesTable, ThenWord}
+use Rattle.gremlin_parse.specs.Keywords.{Entry, lookup, InTable, common, reach, whole_word, TakesWord, LeavesTable, ThenWord}
 use Rattle.gremlin_parse.proofs.Runs.{both, Halts, run_is_unique, EndsRun-first_byte}
 use Rattle.gremlin_parse.proofs.Stops.{Continues}
 
@@ -85,6 +85,26 @@ take_length zero (x ∷ list) within = refl
 take_length (suc n) [] within = absurd (omega arith)
 take_length (suc n) (x ∷ list) within = let after = take_length n list (omega arith) in omega (arith, after)
 
+take_whole : (run rest : List ℕ) → take (length run) (run ++ rest) ≡ run
+take_whole [] [] = refl
+take_whole [] (x ∷ rest) = refl
+take_whole (b ∷ run) rest = ap (λ list. b ∷ list) (take_whole run rest)
+
+common_same : (word : List ℕ) → common word word ≡ length word
+common_same [] = refl
+common_same (b ∷ word) = let after = common_same word in let here = common_more b b word word refl in omega (arith, after, here)
+
+-- What ends a run is no part of what a word has in common with it.
+common_run : (word run rest : List ℕ) → Passes is_name_byte word → EndsRun is_name_byte rest → common word (run ++ rest) ≡ common word run
+common_run [] run rest passes ends = refl
+common_run (b ∷ word) [] [] passes ends = refl
+common_run (b ∷ word) [] (c ∷ rest) passes ends = other (nat_eq c b) refl
+  where
+    other : (t : Bool) → nat_eq c b ≡ t → cond t (1 + common word rest) 0 ≡ 0
+    other true same = let clash : false ≡ true = sym ends ∙ ap is_name_byte (eqb-true c b same) ∙ passes.0 in cc
+    other false differs = refl
+common_run (b ∷ word) (c ∷ run) rest passes ends = ap (λ n. cond (nat_eq c b) (1 + n) 0) (common_run word run rest passes.1 ends)
+
 module _ {K : Type 0} where
   pub record IsWordTable (table : List (Entry K)) : Type 0 where
     pub words : AllByRecursion (λ (entry : Entry K). is_word entry.0 ≡ true) table
@@ -156,6 +176,39 @@ module _ {K : Type 0} where
   reach_within : (table : List (Entry K)) (run : List ℕ) → reach table run ≤ length run
   reach_within [] run = omega arith
   reach_within (first ∷ table) run = let one = common_within first.0 run in let two = reach_within table run in omega (arith, one, two)
+
+  reach_run : (table : List (Entry K)) → AllByRecursion (λ (entry : Entry K). is_word entry.0 ≡ true) table → (run rest : List ℕ) → EndsRun is_name_byte rest → reach table (run ++ rest) ≡ reach table run
+  reach_run [] words run rest ends = refl
+  reach_run (first ∷ table) words run rest ends =
+      let one = common_run first.0 run rest (word_passes first.0 words.0) ends in
+      let two = reach_run table words.1 run rest ends in
+      (λ i. max (one i) (two i))
+
+  -- A word that is the run at the head stands whole there.
+  pub whole_word_of : (table : List (Entry K)) → IsWordTable table → (bytes rest : List ℕ) (kind : K) → TakesWord table bytes kind rest → whole_word table bytes ≡ Some kind
+  whole_word_of table words bytes rest kind (run, cut, is) =
+      let most = reach_most table run (run, kind) (lookup_in table run kind is) in
+      let all = common_same run in
+      let within = reach_within table run in
+      let n : reach table run ≡ length run = omega (arith, most, all, within) in
+      let reached : reach table bytes ≡ length run = ap (reach table) cut.bytes_are ∙ reach_run table words.words run rest cut.ends ∙ n in
+      let token : take (reach table bytes) bytes ≡ run = ap (λ k. take k bytes) reached ∙ ap (take (length run)) cut.bytes_are ∙ take_whole run rest in
+      ap (lookup table) token ∙ is
+
+  -- a word that stands whole at the head, and what is after it
+  pub record StandsWhole (table : List (Entry K)) (bytes : List ℕ) : Type 0 where
+    pub entry : Entry K
+    pub within : InTable entry table
+    pub rest : List ℕ
+    pub bytes_are : bytes ≡ entry.0 ++ rest
+
+  pub stands_whole : (table : List (Entry K)) (bytes : List ℕ) (kind : K) → whole_word table bytes ≡ Some kind → StandsWhole table bytes
+  stands_whole table bytes kind is = record {
+    entry = (take (reach table bytes) bytes, kind);
+    within = lookup_in table (take (reach table bytes) bytes) kind is;
+    rest = drop (reach table bytes) bytes;
+    bytes_are = sym (take_drop (reach table bytes) bytes);
+  }
 
   -- where reading stops at no word of the table
   pub stops_in_table : (first : Entry K) (later : List (Entry K)) → IsWordTable (first ∷ later) → (After : K → List ℕ → Type 0) → ((kind : K) → Halts is_name_byte (After kind)) → ((kind : K) → (line : List ℕ) × After kind line) → (bytes : List ℕ) (left : ℕ) → LeavesTable (first ∷ later) bytes left → StopsBefore (ThenWord (first ∷ later) After) bytes left

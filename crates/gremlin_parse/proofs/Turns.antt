@@ -1,15 +1,15 @@
 -- Grammars by places: where reading stops at a place, and that bytes lead to one end.
-use Rattle.std.proofs.Common.{◌≡◌, inl, inr, ℕ, zero, suc, nat_eq, cond, Bool, true, false, not, ◌&&◌, Some, None, List, [], ◌∷◌, ◌++◌, length, refl, sym, ap, ◌∙◌, subst, ⊎_elim, length-append, arith}
-use Rattle.gremlin_parse.specs.Grammar.{Part, IsPart}
+use Rattle.std.proofs.Common.{◌≡◌, ◌⊎◌, inl, inr, ℕ, zero, suc, nat_eq, cond, Bool, true, false, not, ◌&&◌, Some, None, List, [], ◌∷◌, ◌++◌, length, refl, sym, ap, ◌∙◌, subst, ⊎_elim, length-append, arith}
+use Rattle.gremlin_parse.specs.Grammar.{Part, Called}
 use Rattle.gremlin_parse.specs.Faults.{EndsRun}
 use Rattle.gremlin_parse.specs.Reading.{first_byte, StopsBefore, Then}
-use Rattle.gremlin_parse.specs.Keywords.{Entry, InTable}
+use Rattle.gremlin_parse.specs.Keywords.{Entry, InTable, ThenWord}
 use Rattle.gremlin_parse.specs.Symbols.{Symbol, Content, part, Allows, Takes, IsBad, LeavesAt}
-use Rattle.gremlin_parse.specs.Turns.{Other, Nothing, Words, Token, Turn, sign_at, ThenSign, ThenOther, BadOther, AtTurn, BadTurn, WithBlanks, Loosely, Leads, BadLeads, LineFrom}
+use Rattle.gremlin_parse.specs.Turns.{Other, Nothing, Words, Token, Either, Turn, IsBadWord, sign_at, ThenSign, ThenOther, BadOther, AtTurn, BadTurn, WithBlanks, Loosely, Leads, BadLeads, LineFrom}
 use Rattle.gremlin_parse.specs.declared.bad_token.BadToken.{BadToken}
 use borrow.Author.Tests.{eqb-true}
 use Rattle.gremlin_parse.proofs.Runs.{both, turned, Halts}
-use Rattle.gremlin_parse.proofs.Tables.{IsWordTable}
+use Rattle.gremlin_parse.proofs.Tables.{IsWordTable, StandsWhole, stands_whole}
 use Rattle.gremlin_parse.proofs.Symbols.{One, Class, NameByte, Blank, passes, class_of, no_blanks, blank_fails, blanks_end, first_fails, first_ends, is_symbol, halts, part_halts, bad_halts, after_symbol, example}
 use Rattle.gremlin_parse.proofs.Productions.{refuses_at}
 
@@ -126,35 +126,47 @@ module _ {Word : Type 0} where
 module _ {Word Place : Type 0} where
   abbrev pub other_halts : Class → Other Word Place → Bool
   other_halts class Nothing = true
-  other_halts class (Words table to) = words_halt class table
+  other_halts class (Words table fault to) = words_halt class table
   other_halts class (Token symbol to) = halts class false (symbol ∷ [])
+  other_halts class (Either one two) = other_halts class one && other_halts class two
 
-  abbrev pub turn_halts : Class → Turn Word Place → Bool
+  abbrev pub turn_halts : {End : Type 0} → Class → Turn Word Place End → Bool
   turn_halts class this = signs_halt class this.signs && other_halts class this.other
 
   other_ends : (Bound : Part → Type 0) (class : Class) (other : Other Word Place) → other_halts class other ≡ true → (After : Place → Language) → Halts (passes class) (ThenOther Bound other After)
   other_ends Bound class Nothing fail After = λ bytes none. absurd none
-  other_ends Bound class (Words table to) fail After = λ bytes (entry, within, (prefix, rest, whole, same, after)).
+  other_ends Bound class (Words table fault to) fail After = λ bytes (entry, within, bound, (prefix, rest, whole, same, after)).
       subst (EndsRun (passes class)) (sym (whole ∙ ap (λ p. p ++ rest) same)) (word_fails class table fail entry within rest)
   other_ends Bound class (Token symbol to) fail After = λ bytes (content, allows, bound, (prefix, rest, whole, part_is, after)).
       subst (EndsRun (passes class)) (sym whole) (part_halts class false symbol [] fail content allows prefix rest part_is (λ none. cc))
+  other_ends Bound class (Either one two) fail After = λ bytes then.
+      let fails = both (other_halts class one) (other_halts class two) fail in
+      ⊎_elim (other_ends Bound class one fails.0 After bytes) (other_ends Bound class two fails.1 After bytes) then
 
   bad_other_ends : (class : Class) (other : Other Word Place) → other_halts class other ≡ true → (kind : BadToken) (left : ℕ) (After : Place → Language) → Halts (passes class) (BadOther other kind left After)
   bad_other_ends class Nothing fail kind left After = λ bytes none. absurd none
-  bad_other_ends class (Words table to) fail kind left After = λ bytes (entry, within, (prefix, rest, whole, same, after)).
-      subst (EndsRun (passes class)) (sym (whole ∙ ap (λ p. p ++ rest) same)) (word_fails class table fail entry within rest)
+  bad_other_ends class (Words table fault to) fail kind left After = λ bytes bad. ⊎_elim
+      (λ ((word, is, out, at) : IsBadWord table fault kind left bytes).
+      let stands = stands_whole table bytes word is in
+      subst (EndsRun (passes class)) (sym stands.bytes_are) (word_fails class table fail stands.entry stands.within stands.rest))
+      (λ ((entry, within, (prefix, rest, whole, same, after)) : ThenWord table (λ word. After (to word)) bytes).
+      subst (EndsRun (passes class)) (sym (whole ∙ ap (λ p. p ++ rest) same)) (word_fails class table fail entry within rest))
+      bad
   bad_other_ends class (Token symbol to) fail kind left After = λ bytes bad. ⊎_elim
       (λ (here : IsBad symbol kind left bytes). bad_halts class false symbol [] fail kind left bytes here)
       (λ ((content, allows, (prefix, rest, bytes_are, part_is, after)) : (content : Content symbol) × Allows symbol content × Then (part symbol content) (After (to content)) bytes).
       subst (EndsRun (passes class)) (sym bytes_are) (part_halts class false symbol [] fail content allows prefix rest part_is (λ none. cc)))
       bad
+  bad_other_ends class (Either one two) fail kind left After = λ bytes bad.
+      let fails = both (other_halts class one) (other_halts class two) fail in
+      ⊎_elim (bad_other_ends class one fails.0 kind left After bytes) (bad_other_ends class two fails.1 kind left After bytes) bad
 
-  pub at_turn_ends : (Bound : Part → Type 0) (class : Class) (this : Turn Word Place) → turn_halts class this ≡ true → (After : Place → Language) → Halts (passes class) (AtTurn Bound this After)
+  pub at_turn_ends : {End : Type 0} (Bound : Part → Type 0) (class : Class) (this : Turn Word Place End) → turn_halts class this ≡ true → (After : Place → Language) → Halts (passes class) (AtTurn Bound this After)
   at_turn_ends Bound class this fail After = λ bytes at.
       let two = both (signs_halt class this.signs) (other_halts class this.other) fail in
       ⊎_elim (signs_end class this.signs two.0 After bytes) (other_ends Bound class this.other two.1 After bytes) at
 
-  pub bad_turn_ends : (class : Class) (this : Turn Word Place) → turn_halts class this ≡ true → (kind : BadToken) (left : ℕ) (After : Place → Language) → Halts (passes class) (BadTurn this kind left After)
+  pub bad_turn_ends : {End : Type 0} (class : Class) (this : Turn Word Place End) → turn_halts class this ≡ true → (kind : BadToken) (left : ℕ) (After : Place → Language) → Halts (passes class) (BadTurn this kind left After)
   bad_turn_ends class this fail kind left After = λ bytes at.
       let two = both (signs_halt class this.signs) (other_halts class this.other) fail in
       ⊎_elim (signs_end class this.signs two.0 After bytes) (bad_other_ends class this.other two.1 kind left After bytes) at
@@ -163,25 +175,58 @@ module _ {Word Place : Type 0} where
 
   pub other_map : (Bound Looser : Part → Type 0) → ((this : Part) → Bound this → Looser this) → (From To : Place → Language) → ((place : Place) (bytes : List ℕ) → From place bytes → To place bytes) → (other : Other Word Place) (bytes : List ℕ) → ThenOther Bound other From bytes → ThenOther Looser other To bytes
   other_map Bound Looser loosen From To step Nothing bytes none = none
-  other_map Bound Looser loosen From To step (Words table to) bytes (entry, within, (prefix, rest, whole, same, after)) = (entry, within, (prefix, rest, whole, same, step (to entry.1) rest after))
+  other_map Bound Looser loosen From To step (Words table fault to) bytes (entry, within, bound, (prefix, rest, whole, same, after)) = (entry, within, loosen (Called entry.0 (fault entry.1 bytes)) bound, (prefix, rest, whole, same, step (to entry.1) rest after))
   other_map Bound Looser loosen From To step (Token symbol to) bytes (content, allows, bound, (prefix, rest, whole, part_is, after)) = (content, allows, loosen (part symbol content) bound, (prefix, rest, whole, part_is, step (to content) rest after))
+  other_map Bound Looser loosen From To step (Either one two) bytes (inl then) = inl (other_map Bound Looser loosen From To step one bytes then)
+  other_map Bound Looser loosen From To step (Either one two) bytes (inr then) = inr (other_map Bound Looser loosen From To step two bytes then)
 
   pub bad_other_map : (kind : BadToken) (left : ℕ) (From To : Place → Language) → ((place : Place) (bytes : List ℕ) → From place bytes → To place bytes) → (other : Other Word Place) (bytes : List ℕ) → BadOther other kind left From bytes → BadOther other kind left To bytes
   bad_other_map kind left From To step Nothing bytes none = none
-  bad_other_map kind left From To step (Words table to) bytes (entry, within, (prefix, rest, whole, same, after)) = (entry, within, (prefix, rest, whole, same, step (to entry.1) rest after))
+  bad_other_map kind left From To step (Words table fault to) bytes (inl here) = inl here
+  bad_other_map kind left From To step (Words table fault to) bytes (inr (entry, within, (prefix, rest, whole, same, after))) = inr (entry, within, (prefix, rest, whole, same, step (to entry.1) rest after))
   bad_other_map kind left From To step (Token symbol to) bytes (inl here) = inl here
   bad_other_map kind left From To step (Token symbol to) bytes (inr (content, allows, (prefix, rest, whole, part_is, after))) = inr (content, allows, (prefix, rest, whole, part_is, step (to content) rest after))
+  bad_other_map kind left From To step (Either one two) bytes (inl bad) = inl (bad_other_map kind left From To step one bytes bad)
+  bad_other_map kind left From To step (Either one two) bytes (inr bad) = inr (bad_other_map kind left From To step two bytes bad)
 
   pub other_choice : (Bound : Part → Type 0) (X : Type 0) (Family : X → Place → Language) (other : Other Word Place) (bytes : List ℕ) → ThenOther Bound other (λ place rest. (x : X) × Family x place rest) bytes → (x : X) × ThenOther Bound other (Family x) bytes
   other_choice Bound X Family Nothing bytes none = absurd none
-  other_choice Bound X Family (Words table to) bytes (entry, within, (prefix, rest, whole, same, (x, after))) = (x, (entry, within, (prefix, rest, whole, same, after)))
+  other_choice Bound X Family (Words table fault to) bytes (entry, within, bound, (prefix, rest, whole, same, (x, after))) = (x, (entry, within, bound, (prefix, rest, whole, same, after)))
   other_choice Bound X Family (Token symbol to) bytes (content, allows, bound, (prefix, rest, whole, part_is, (x, after))) = (x, (content, allows, bound, (prefix, rest, whole, part_is, after)))
+  other_choice Bound X Family (Either one two) bytes (inl then) = let (x, found) = other_choice Bound X Family one bytes then in (x, inl found)
+  other_choice Bound X Family (Either one two) bytes (inr then) = let (x, found) = other_choice Bound X Family two bytes then in (x, inr found)
 
   pub bad_other_choice : (kind : BadToken) (left : ℕ) (X : Type 0) → X → (Family : X → Place → Language) (other : Other Word Place) (bytes : List ℕ) → BadOther other kind left (λ place rest. (x : X) × Family x place rest) bytes → (x : X) × BadOther other kind left (Family x) bytes
   bad_other_choice kind left X some Family Nothing bytes none = absurd none
-  bad_other_choice kind left X some Family (Words table to) bytes (entry, within, (prefix, rest, whole, same, (x, after))) = (x, (entry, within, (prefix, rest, whole, same, after)))
+  bad_other_choice kind left X some Family (Words table fault to) bytes (inl here) = (some, inl here)
+  bad_other_choice kind left X some Family (Words table fault to) bytes (inr (entry, within, (prefix, rest, whole, same, (x, after)))) = (x, inr (entry, within, (prefix, rest, whole, same, after)))
   bad_other_choice kind left X some Family (Token symbol to) bytes (inl here) = (some, inl here)
   bad_other_choice kind left X some Family (Token symbol to) bytes (inr (content, allows, (prefix, rest, whole, part_is, (x, after)))) = (x, inr (content, allows, (prefix, rest, whole, part_is, after)))
+  bad_other_choice kind left X some Family (Either one two) bytes (inl bad) = let (x, found) = bad_other_choice kind left X some Family one bytes bad in (x, inl found)
+  bad_other_choice kind left X some Family (Either one two) bytes (inr bad) = let (x, found) = bad_other_choice kind left X some Family two bytes bad in (x, inr found)
+
+  -- The bytes begin with one of the other parts, within its bounds or not.
+  abbrev pub Begins : Other Word Place → List ℕ → Type 0
+  Begins Nothing bytes = ⊥
+  Begins (Words table fault to) bytes = StandsWhole table bytes
+  Begins (Token symbol to) bytes = One symbol (λ rest. Unit {0}) bytes ⊎ ((kind : BadToken) × (left : ℕ) × IsBad symbol kind left bytes)
+  Begins (Either one two) bytes = Begins one bytes ⊎ Begins two bytes
+
+  pub begins_then : (Bound : Part → Type 0) (other : Other Word Place) (After : Place → Language) (bytes : List ℕ) → ThenOther Bound other After bytes → Begins other bytes
+  begins_then Bound Nothing After bytes none = none
+  begins_then Bound (Words table fault to) After bytes (entry, within, bound, (prefix, rest, whole, same, after)) = record { entry = entry; within = within; rest = rest; bytes_are = whole ∙ ap (λ p. p ++ rest) same }
+  begins_then Bound (Token symbol to) After bytes (content, allows, bound, (prefix, rest, whole, part_is, after)) = inl (content, allows, (prefix, rest, whole, part_is, tt))
+  begins_then Bound (Either one two) After bytes (inl then) = inl (begins_then Bound one After bytes then)
+  begins_then Bound (Either one two) After bytes (inr then) = inr (begins_then Bound two After bytes then)
+
+  pub begins_bad : (other : Other Word Place) (kind : BadToken) (left : ℕ) (After : Place → Language) (bytes : List ℕ) → BadOther other kind left After bytes → Begins other bytes
+  begins_bad Nothing kind left After bytes none = none
+  begins_bad (Words table fault to) kind left After bytes (inl (word, is, out, at)) = stands_whole table bytes word is
+  begins_bad (Words table fault to) kind left After bytes (inr (entry, within, (prefix, rest, whole, same, after))) = record { entry = entry; within = within; rest = rest; bytes_are = whole ∙ ap (λ p. p ++ rest) same }
+  begins_bad (Token symbol to) kind left After bytes (inl here) = inr (kind, left, here)
+  begins_bad (Token symbol to) kind left After bytes (inr (content, allows, (prefix, rest, whole, part_is, after))) = inl (content, allows, (prefix, rest, whole, part_is, tt))
+  begins_bad (Either one two) kind left After bytes (inl bad) = inl (begins_bad one kind left After bytes bad)
+  begins_bad (Either one two) kind left After bytes (inr bad) = inr (begins_bad two kind left After bytes bad)
 
 pub blanks_map : (t : Bool) (From To : Language) → ((bytes : List ℕ) → From bytes → To bytes) → (bytes : List ℕ) → WithBlanks t From bytes → WithBlanks t To bytes
 blanks_map true From To step bytes (prefix, rest, whole, are, after) = (prefix, rest, whole, are, step rest after)
@@ -200,28 +245,34 @@ blanks_halt false class turn_is is At ends = ends is
 
 -- ---- what has to hold of each place
 
-module _ {Word Place : Type 0} (turn : Place → Turn Word Place) (is_loose : Place → Bool) where
+module _ {Word Place End : Type 0} (turn : Place → Turn Word Place End) (is_loose : Place → Bool) where
   abbrev pub place_halts : Class → Place → Bool
   place_halts class place = cond (is_loose place) (no_blanks class && turn_halts class (turn place)) (turn_halts class (turn place))
 
   -- What is no sign of the place begins with none of its signs.
   abbrev pub StartsApart : List (ℕ × Place) → Other Word Place → Type 0
-  StartsApart signs Nothing = Unit {0}
-  StartsApart signs (Words table to) = (entry : Entry Word) → InTable entry table → (rest : List ℕ) → NoSign signs (entry.0 ++ rest)
-  StartsApart signs (Token symbol to) = (content : Content symbol) (prefix rest : List ℕ) → IsPart (part symbol content) prefix → NoSign signs (prefix ++ rest)
+  StartsApart signs other = (bytes : List ℕ) → Begins other bytes → NoSign signs bytes
+
+  -- Something may stand there.
+  abbrev pub IsThere : Other Word Place → Type 0
+  IsThere Nothing = ⊥
+  IsThere (Words table fault to) = Unit {0}
+  IsThere (Token symbol to) = Unit {0}
+  IsThere (Either one two) = IsThere one × IsThere two
 
   -- What stands there is ended by what may follow it.
   abbrev pub IsEnded : Other Word Place → Type 0
   IsEnded Nothing = Unit {0}
-  IsEnded (Words [] to) = ⊥
-  IsEnded (Words (first ∷ table) to) = IsWordTable (first ∷ table) × ((word : Word) → place_halts NameByte (to word) ≡ true)
+  IsEnded (Words [] fault to) = ⊥
+  IsEnded (Words (first ∷ table) fault to) = IsWordTable (first ∷ table) × ((word : Word) → place_halts NameByte (to word) ≡ true)
   IsEnded (Token symbol to) = (is_symbol symbol ≡ true) × ((content : Content symbol) → place_halts (class_of symbol) (to content) ≡ true) × ((line : List ℕ) × ((content : Content symbol) → Loosely turn is_loose (LineFrom turn is_loose) (to content) line))
+  IsEnded (Either one two) = IsEnded one × IsEnded two × ((bytes : List ℕ) → Begins one bytes → ¬ Begins two bytes) × IsThere one × IsThere two
 
   pub record IsPlace (place : Place) : Type 0 where
     pub no_blank : turn_halts Blank (turn place) ≡ true
     pub apart : StartsApart (turn place).signs (turn place).other
     pub ended : IsEnded (turn place).other
-    pub alone : (turn place).ends ≡ true → (turn place).other ≡ Nothing
+    pub alone : (end : End) → (turn place).ends ≡ Some end → (turn place).other ≡ Nothing
 
   -- A family of languages of places begins with no byte that its places don't begin with.
   abbrev pub Ending : (Place → Language) → Type 0
@@ -233,8 +284,8 @@ module _ {Word Place : Type 0} (turn : Place → Turn Word Place) (is_loose : Pl
   pub loose_ending : (At : Place → Language) → Bare At → Ending (Loosely turn is_loose At)
   loose_ending At ends class place is = blanks_halt (is_loose place) class (turn_halts class (turn place)) is (At place) (ends class place)
 
-  pub leads_bare : (Bound : Part → Type 0) (end : Place) (n : ℕ) → Bare (Leads turn is_loose Bound end n)
-  leads_bare Bound end zero class place is = λ bytes (same, ends, none). subst (EndsRun (passes class)) (sym none) tt
+  pub leads_bare : (Bound : Part → Type 0) (end : End) (n : ℕ) → Bare (Leads turn is_loose Bound end n)
+  leads_bare Bound end zero class place is = λ bytes (ends, none). subst (EndsRun (passes class)) (sym none) tt
   leads_bare Bound end (suc n) class place is = λ bytes at. at_turn_ends Bound class (turn place) is (Loosely turn is_loose (λ next rest. Leads turn is_loose Bound end n next rest)) bytes at
 
   pub bad_bare : (kind : BadToken) (left n : ℕ) → Bare (BadLeads turn is_loose kind left n)

@@ -14,7 +14,7 @@ use Rattle.gremlin_parse.specs.Keywords.{LeavesTable}
 use Rattle.gremlin_parse.specs.Symbols.{AnyValue, Takes, Leaves, LeavesInteger, EndsWritten, is_integer_start, truth_words}
 use Rattle.gremlin_parse.specs.Stopping.{StopsWith}
 use Rattle.gremlin_parse.specs.declared.bad_token.BadToken.{BadToken}
-use Rattle.gremlin_parse.specs.declared.bad_token.BadToken.TheVariants.{LongName, LongText, WideNumber}
+use Rattle.gremlin_parse.specs.declared.bad_token.BadToken.TheVariants.{LongName, LongText, WideNumber, WrongTimes, UnfitStep, LateStep}
 use Rattle.gremlin_parse.specs.declared.stop.Stop.{Stop}
 use Rattle.gremlin_parse.specs.declared.stop.Stop.TheVariants as stops
 use Rattle.gremlin_parse.proofs.Runs.{run_is_unique, EndsRun-first_byte}
@@ -176,6 +176,9 @@ ends_value (values.Text text) prefix rest ends = tt
 pub bad_value_ends : (value : Value) (kind : BadToken) (prefix rest : List ℕ) → IsWritten value prefix → IsBadValue value kind → EndsWritten value prefix rest → EndsValue value rest
 bad_value_ends (values.Int number) LongName prefix rest written bad ends = absurd bad
 bad_value_ends (values.Int number) LongText prefix rest written bad ends = absurd bad
+bad_value_ends (values.Int number) WrongTimes prefix rest written bad ends = absurd bad
+bad_value_ends (values.Int number) UnfitStep prefix rest written bad ends = absurd bad
+bad_value_ends (values.Int number) LateStep prefix rest written bad ends = absurd bad
 bad_value_ends (values.Int number) WideNumber prefix rest written bad (inl zero_is) = absurd (bad (zero_fits number prefix written (inl zero_is)))
 bad_value_ends (values.Int number) WideNumber prefix rest written bad (inr (inl minus)) = absurd (bad (zero_fits number prefix written (inr minus)))
 bad_value_ends (values.Int number) WideNumber prefix rest written bad (inr (inr stops)) = stops

@@ -1,20 +1,20 @@
--- Where reading stops in a grammar by places, and that bytes lead to one place without a bad token.
-use Rattle.std.proofs.Common.{◌≡◌, ◌≢◌, ◌≤◌, ◌+◌, ◌⊎◌, inl, inr, ℕ, zero, suc, Bool, true, false, List, [], ◌∷◌, ◌++◌, length, refl, sym, ap, ◌∙◌, subst, ⊎_elim, length-append, arith}
+-- Where reading stops in a grammar by places, and that bytes lead to one end without a bad token.
+use Rattle.std.proofs.Common.{◌≡◌, ◌≢◌, ◌≤◌, ◌+◌, ◌⊎◌, inl, inr, ℕ, zero, suc, Bool, true, false, Option, Some, List, [], ◌∷◌, ◌++◌, length, refl, sym, ap, ◌∙◌, subst, ⊎_elim, length-append, arith}
 use Rattle.gremlin_parse.specs.Grammar.{Part, Blanks, Exactly, IsBounded, is_blank}
 use Rattle.gremlin_parse.specs.Reading.{first_byte, StopsBefore, Then}
-use Rattle.gremlin_parse.specs.Keywords.{Entry, LeavesTable}
+use Rattle.gremlin_parse.specs.Keywords.{Entry, ThenWord}
 use Rattle.gremlin_parse.specs.Symbols.{Symbol, AnyBlanks, Content, part, Allows, Takes, Reads, IsBad, Leaves}
 use Rattle.gremlin_parse.specs.Stopping.{Bads, IsStop, StopsWith}
-use Rattle.gremlin_parse.specs.Turns.{Other, Nothing, Words, Token, Turn, ThenSign, ThenOther, BadOther, AtTurn, BadTurn, WithBlanks, Loosely, Leads, BadLeads, LineFrom, KeptFrom, BadFrom, BadLoosely, Reaches}
+use Rattle.gremlin_parse.specs.Turns.{Other, Nothing, Words, Token, Either, Turn, IsBadWord, LeavesWords, ThenSign, ThenOther, BadOther, AtTurn, BadTurn, WithBlanks, Loosely, Leads, BadLeads, LineFrom, KeptFrom, BadFrom, BadLoosely, Reaches}
 use Rattle.gremlin_parse.specs.declared.bad_token.BadToken.{BadToken}
 use Rattle.gremlin_parse.specs.declared.stop.Stop.{Stop}
 use Rattle.gremlin_parse.specs.declared.stop.Stop.TheVariants as stops
 use Rattle.gremlin_parse.proofs.Runs.{Halts}
-use Rattle.gremlin_parse.proofs.Stops.{first_byte-append, stops_here, stops_of_same}
+use Rattle.gremlin_parse.proofs.Stops.{first_byte-append, stops_here, stops_in_both, stops_of_same}
 use Rattle.gremlin_parse.proofs.Tables.{stops_in_table, no_word}
 use Rattle.gremlin_parse.proofs.Symbols.{NameByte, Blank, class_of, takes_again, after_symbol, whole, example}
 use Rattle.gremlin_parse.proofs.Productions.{AreWithin, Goes, stop_after, refuses_at, no_one}
-use Rattle.gremlin_parse.proofs.Turns.{Language, each_stops, NoSign, NoSign-first_byte, sign_refuses, IsPlace, IsEnded, Ending, leads_bare, bad_bare, loose_ending}
+use Rattle.gremlin_parse.proofs.Turns.{Language, each_stops, NoSign, NoSign-first_byte, sign_refuses, IsThere, IsPlace, IsEnded, Ending, leads_bare, bad_bare, loose_ending}
 use Rattle.gremlin_parse.proofs.Moves.{HowOther, How, Took, took_again, took_join, took_bad_join, after_took, after_took_bad, found_of, Line, LooseLine, LooseBad, AtEnd, Any, line_split, line_join, bad_split, bad_join, line_ending, bad_ending}
 
 -- ---- blanks
@@ -60,14 +60,17 @@ within_blanks : (t : Bool) (left : ℕ) (After : Language) → ((rest : List ℕ
 within_blanks true left After after bytes then = within_then Blanks left After after bytes then
 within_blanks false left After after bytes later = after bytes later
 
-module _ {Word Place : Type 0} (turn : Place → Turn Word Place) (is_loose : Place → Bool) (are : (place : Place) → IsPlace turn is_loose place) (some : (place : Place) → (line : List ℕ) × LineFrom turn is_loose place line) where
+module _ {Word Place End : Type 0} (turn : Place → Turn Word Place End) (is_loose : Place → Bool) (are : (place : Place) → IsPlace turn is_loose place) (some : (place : Place) → (line : List ℕ) × LineFrom turn is_loose place line) where
   -- ---- places in the line
 
   within_other : (other : Other Word Place) (kind : BadToken) (left : ℕ) (After : Place → Language) → ((place : Place) (rest : List ℕ) → After place rest → left ≤ length rest) → (bytes : List ℕ) → BadOther other kind left After bytes → left ≤ length bytes
   within_other Nothing kind left After after bytes none = absurd none
-  within_other (Words table to) kind left After after bytes (entry, within, then) = within_then (Exactly entry.0) left (After (to entry.1)) (after (to entry.1)) bytes then
+  within_other (Words table fault to) kind left After after bytes (inl (word, stands, bad, at)) = omega (arith, at)
+  within_other (Words table fault to) kind left After after bytes (inr (entry, within, then)) = within_then (Exactly entry.0) left (After (to entry.1)) (after (to entry.1)) bytes then
   within_other (Token symbol to) kind left After after bytes (inl (content, bad, rest, takes, at)) = omega (arith, at)
   within_other (Token symbol to) kind left After after bytes (inr (content, allows, then)) = within_then (part symbol content) left (After (to content)) (after (to content)) bytes then
+  within_other (Either one two) kind left After after bytes (inl bad) = within_other one kind left After after bytes bad
+  within_other (Either one two) kind left After after bytes (inr bad) = within_other two kind left After after bytes bad
 
   bad_within : (kind : BadToken) (left n : ℕ) (place : Place) (bytes : List ℕ) → BadLeads turn is_loose kind left n place bytes → left ≤ length bytes
   bad_within kind left zero place bytes none = absurd none
@@ -90,23 +93,23 @@ module _ {Word Place : Type 0} (turn : Place → Turn Word Place) (is_loose : Pl
 
   -- Where the line ends, nothing else but a sign may stand.
   end_alone : (place : Place) (prefix : List ℕ) (next : Place) (rest more : List ℕ) → How IsBounded (turn place) prefix next rest → ¬ AtEnd turn is_loose place (prefix ++ more)
-  end_alone place prefix next rest more how = λ (ends, none). refuse ends none how
+  end_alone place prefix next rest more how = λ (end, ends, none). refuse end ends none how
     where
-      refuse : (turn place).ends ≡ true → prefix ++ more ≡ [] → How IsBounded (turn place) prefix next rest → ⊥
-      refuse ends none (inl (b, is, same)) = let clash : b ∷ more ≡ [] = ap (λ p. p ++ more) (sym same) ∙ none in cc
-      refuse ends none (inr other) = subst (λ o. HowOther IsBounded o prefix next rest) ((are place).alone ends) other
+      refuse : (end : End) → (turn place).ends ≡ Some end → prefix ++ more ≡ [] → How IsBounded (turn place) prefix next rest → ⊥
+      refuse end ends none (inl (b, is, same)) = let clash : b ∷ more ≡ [] = ap (λ p. p ++ more) (sym same) ∙ none in cc
+      refuse end ends none (inr other) = subst (λ o. HowOther IsBounded o prefix next rest) ((are place).alone end ends) other
 
   goes_took : (place : Place) (bytes : List ℕ) (next : Place) (rest : List ℕ) → (took : Took IsBounded (turn place) bytes next rest) → Goes (LineFrom turn is_loose place) (BadFrom turn is_loose place) took.prefix (LooseLine turn is_loose next) (BadLoosely turn is_loose next) rest
   goes_took place bytes next rest took = record {
     line = record {
-      onto = λ more line. line_join turn is_loose place (took.prefix ++ more) (took_join IsBounded (Any turn is_loose) (λ this bound. tt) (LooseLine turn is_loose) (turn place) bytes next rest more took line);
+      onto = λ more line. line_join turn is_loose place (took.prefix ++ more) (took_join IsBounded (Any turn is_loose) (λ this bound. tt) (LooseLine turn is_loose) (turn place) bytes next rest more (λ word fault bound. tt) took line);
       back = λ more same line. ⊎_elim
           (λ (end : AtEnd turn is_loose place (took.prefix ++ more)). absurd (end_alone place took.prefix next rest more took.how end))
-          (λ (at : AtTurn (Any turn is_loose) (turn place) (LooseLine turn is_loose) (took.prefix ++ more)). after_took turn is_loose IsBounded (Any turn is_loose) (turn place) (are place).apart (are place).ended (LooseLine turn is_loose) lines_end (took.prefix ++ more) next more (took_again IsBounded (turn place) bytes next rest more took same) at)
+          (λ (at : AtTurn (Any turn is_loose) (turn place) (LooseLine turn is_loose) (took.prefix ++ more)). after_took turn is_loose (Any turn is_loose) (Any turn is_loose) (turn place) (are place).apart (are place).ended (LooseLine turn is_loose) lines_end (took.prefix ++ more) next more (took_again IsBounded (Any turn is_loose) (λ this bound. tt) (turn place) bytes next rest more (λ word fault bound. tt) took same) at)
           (line_split turn is_loose place (took.prefix ++ more) line);
     };
     onto = λ kind left bad. bad_join turn is_loose place kind left (took.prefix ++ rest) (took_bad_join IsBounded kind left (LooseBad turn is_loose kind left) (turn place) bytes next rest rest took bad);
-    back = λ kind left bad. after_took_bad turn is_loose (turn place) (are place).apart (are place).ended kind left (LooseBad turn is_loose kind left) (bads_end kind left) (took.prefix ++ rest) next rest (took_again IsBounded (turn place) bytes next rest rest took refl) (bad_split turn is_loose place kind left (took.prefix ++ rest) bad);
+    back = λ kind left bad. after_took_bad turn is_loose (turn place) (are place).apart (are place).ended kind left (LooseBad turn is_loose kind left) (bads_end kind left) (took.prefix ++ rest) next rest (took_again IsBounded IsBounded (λ this bound. bound) (turn place) bytes next rest rest (λ word fault bound. bound) took refl) (bad_split turn is_loose place kind left (took.prefix ++ rest) bad);
   }
 
   -- A token leads from its place to the next one.
@@ -116,7 +119,7 @@ module _ {Word Place : Type 0} (turn : Place → Turn Word Place) (is_loose : Pl
         stop_after (LineFrom turn is_loose place) (BadFrom turn is_loose place) (Unit {0}) (LooseLine turn is_loose next) (BadLoosely turn is_loose next) (Unit {0}) bytes took.prefix middle stop took.bytes_are (λ lack. lack) (goes_took place bytes next middle took)
         (stop_skips (is_loose next) (Line turn is_loose next) (BadFrom turn is_loose next) (line_ending turn is_loose Blank next (are next).no_blank) (λ kind left. bad_ending turn is_loose kind left Blank next (are next).no_blank) middle rest stop skips at);
     kept = λ end (n, leads).
-        (suc n, subst (λ b. AtTurn IsBounded (turn place) (Loosely turn is_loose (λ next rest. Leads turn is_loose IsBounded end n next rest)) b) (sym took.bytes_are) (took_join IsBounded IsBounded (λ this bound. bound) (Loosely turn is_loose (λ next rest. Leads turn is_loose IsBounded end n next rest)) (turn place) bytes next middle middle took (skip_blanks (is_loose next) (Leads turn is_loose IsBounded end n next) middle rest skips leads)));
+        (suc n, subst (λ b. AtTurn IsBounded (turn place) (Loosely turn is_loose (λ next rest. Leads turn is_loose IsBounded end n next rest)) b) (sym took.bytes_are) (took_join IsBounded IsBounded (λ this bound. bound) (Loosely turn is_loose (λ next rest. Leads turn is_loose IsBounded end n next rest)) (turn place) bytes next middle middle (λ word fault bound. bound) took (skip_blanks (is_loose next) (Leads turn is_loose IsBounded end n next) middle rest skips leads)));
   }
 
   -- a stop after the blanks before a place
@@ -132,20 +135,29 @@ module _ {Word Place : Type 0} (turn : Place → Turn Word Place) (is_loose : Pl
     kept = λ end kept. one.kept end (two.kept end kept);
   }
 
-  pub kept_end : (place : Place) (bytes : List ℕ) → (turn place).ends ≡ true → bytes ≡ [] → KeptFrom turn is_loose place place bytes
-  kept_end place bytes ends none = (zero, (refl, ends, none))
+  pub kept_end : (place : Place) (end : End) (bytes : List ℕ) → (turn place).ends ≡ Some end → bytes ≡ [] → KeptFrom turn is_loose end place bytes
+  kept_end place end bytes ends none = (zero, (ends, none))
 
   -- ---- a stop at a place
+
+  -- Neither of two goes on so, and reading stops at the later place of the two.
+  abbrev pub LeavesEither : (Stop → Type 0) → (Stop → Type 0) → Stop → Type 0
+  LeavesEither One Two stops.Memory = ⊥
+  LeavesEither One Two (stops.Syntax left) =
+      (other : ℕ) × (left ≤ other)
+      × ((One (stops.Syntax left) × Two (stops.Syntax other)) ⊎ (One (stops.Syntax other) × Two (stops.Syntax left)))
+  LeavesEither One Two (stops.Bad kind left) = One (stops.Bad kind left) ⊎ Two (stops.Bad kind left)
 
   -- Nothing that may stand beside signs stands there.
   abbrev pub LeavesOther : Other Word Place → List ℕ → Stop → Type 0
   LeavesOther Nothing bytes stop = StopsWith (λ left. left ≡ length bytes) stop
-  LeavesOther (Words table to) bytes stop = StopsWith (LeavesTable table bytes) stop
+  LeavesOther (Words table fault to) bytes stop = LeavesWords table fault bytes stop
   LeavesOther (Token symbol to) bytes stop = Leaves symbol bytes stop
+  LeavesOther (Either one two) bytes stop = LeavesEither (LeavesOther one bytes) (LeavesOther two bytes) stop
 
   -- Nothing that may stand at the place stands there.
   pub record LeavesPlace (place : Place) (bytes : List ℕ) (stop : Stop) : Type 0 where
-    pub no_end : (turn place).ends ≡ true → bytes ≢ []
+    pub no_end : (end : End) → (turn place).ends ≡ Some end → bytes ≢ []
     pub no_sign : NoSign (turn place).signs bytes
     pub other : LeavesOther (turn place).other bytes stop
 
@@ -156,11 +168,11 @@ module _ {Word Place : Type 0} (turn : Place → Turn Word Place) (is_loose : Pl
   BadBeside place kind left bytes = BadOther (turn place).other kind left (LooseBad turn is_loose kind left) bytes
 
   -- What begins with no sign and is not the end is one of the other parts.
-  only_other : (place : Place) (bytes more : List ℕ) → ((turn place).ends ≡ true → bytes ≢ []) → NoSign (turn place).signs bytes → first_byte more ≡ first_byte bytes → LineFrom turn is_loose place more → Beside place more
+  only_other : (place : Place) (bytes more : List ℕ) → ((end : End) → (turn place).ends ≡ Some end → bytes ≢ []) → NoSign (turn place).signs bytes → first_byte more ≡ first_byte bytes → LineFrom turn is_loose place more → Beside place more
   only_other place bytes more no_end no_sign same line = pick (line_split turn is_loose place more line)
     where
       pick : AtEnd turn is_loose place more ⊎ AtTurn (Any turn is_loose) (turn place) (LooseLine turn is_loose) more → Beside place more
-      pick (inl (ends, none)) = absurd (no_end ends (nothing bytes (ap first_byte (sym none) ∙ same)))
+      pick (inl (end, ends, none)) = absurd (no_end end ends (nothing bytes (ap first_byte (sym none) ∙ same)))
         where
           nothing : (these : List ℕ) → first_byte [] ≡ first_byte these → these ≡ []
           nothing [] same = refl
@@ -175,7 +187,7 @@ module _ {Word Place : Type 0} (turn : Place → Turn Word Place) (is_loose : Pl
       (bad_split turn is_loose place kind left bytes bad)
 
   -- a stop in the other parts is a stop at the place
-  stop_beside : (place : Place) (bytes : List ℕ) (stop : Stop) → ((turn place).ends ≡ true → bytes ≢ []) → NoSign (turn place).signs bytes → IsStop (Beside place) (BadBeside place) (Unit {0}) bytes stop → IsStop (LineFrom turn is_loose place) (BadFrom turn is_loose place) (Unit {0}) bytes stop
+  stop_beside : (place : Place) (bytes : List ℕ) (stop : Stop) → ((end : End) → (turn place).ends ≡ Some end → bytes ≢ []) → NoSign (turn place).signs bytes → IsStop (Beside place) (BadBeside place) (Unit {0}) bytes stop → IsStop (LineFrom turn is_loose place) (BadFrom turn is_loose place) (Unit {0}) bytes stop
   stop_beside place bytes stops.Memory no_end no_sign at = tt
   stop_beside place bytes (stops.Syntax left) no_end no_sign (stop, none) = (
     record {
@@ -235,14 +247,90 @@ module _ {Word Place : Type 0} (turn : Place → Turn Word Place) (is_loose : Pl
         viable = (one.prefix ++ line.0, (one.content, one.allowed, tt, (one.prefix, line.0, refl, one.is, line.1 one.content)));
       }
 
-  stop_in_words : (table : List (Entry Word)) (to : Word → Place) → IsEnded turn is_loose (Words table to) → (bytes : List ℕ) (stop : Stop) → StopsWith (LeavesTable table bytes) stop → IsStop (ThenOther (Any turn is_loose) (Words table to) (LooseLine turn is_loose)) (λ kind left. BadOther (Words table to) kind left (LooseBad turn is_loose kind left)) (Unit {0}) bytes stop
-  stop_in_words table to ended bytes stops.Memory leaves = tt
-  stop_in_words [] to ended bytes (stops.Syntax left) leaves = absurd ended
-  stop_in_words (first ∷ table) to ended bytes (stops.Syntax left) leaves = (
-    stops_in_table first table ended.0 (λ w. LooseLine turn is_loose (to w)) (λ w. lines_end NameByte (to w) (ended.1 w)) (λ w. loose_some (to w)) bytes left leaves,
-    λ kind place bad. no_word (first ∷ table) ended.0 (λ w. LooseBad turn is_loose kind place (to w)) (λ w. bads_end kind place NameByte (to w) (ended.1 w)) bytes left leaves bad,
+  stop_in_words : (table : List (Entry Word)) (fault : Word → List ℕ → Option BadToken) (to : Word → Place) → IsEnded turn is_loose (Words table fault to) → (bytes : List ℕ) (stop : Stop) → LeavesWords table fault bytes stop → IsStop (ThenOther (Any turn is_loose) (Words table fault to) (LooseLine turn is_loose)) (λ kind left. BadOther (Words table fault to) kind left (LooseBad turn is_loose kind left)) (Unit {0}) bytes stop
+  stop_in_words table fault to ended bytes stops.Memory leaves = tt
+  stop_in_words [] fault to ended bytes (stops.Syntax left) leaves = absurd ended
+  stop_in_words (first ∷ table) fault to ended bytes (stops.Syntax left) (leaves, no_bad) = (
+    stops_of_same (ThenOther (Any turn is_loose) (Words (first ∷ table) fault to) (LooseLine turn is_loose)) _ bytes left
+        (λ more (entry, within, then). (entry, within, tt, then))
+        (λ more same (entry, within, any, then). (entry, within, then))
+        (stops_in_table first table ended.0 (λ w. LooseLine turn is_loose (to w)) (λ w. lines_end NameByte (to w) (ended.1 w)) (λ w. loose_some (to w)) bytes left leaves),
+    λ kind place bad. ⊎_elim
+        (λ (here : IsBadWord (first ∷ table) fault kind place bytes). no_bad kind place here)
+        (λ (then : ThenWord (first ∷ table) (λ w. LooseBad turn is_loose kind place (to w)) bytes).
+        no_word (first ∷ table) ended.0 (λ w. LooseBad turn is_loose kind place (to w)) (λ w. bads_end kind place NameByte (to w) (ended.1 w)) bytes left leaves then)
+        bad,
   )
-  stop_in_words table to ended bytes (stops.Bad kind left) leaves = absurd leaves
+  stop_in_words [] fault to ended bytes (stops.Bad kind left) leaves = absurd ended
+  stop_in_words (first ∷ table) fault to ended bytes (stops.Bad kind left) leaves =
+      let line = loose_some (to first.1) in
+      record {
+        has = inl leaves;
+        first = λ other place bad. let le = within_other (Words (first ∷ table) fault to) other place (LooseBad turn is_loose other place) (λ next rest later. loose_within next other place rest later) bytes bad in omega (arith, le, leaves.3);
+        read = [];
+        unread = bytes;
+        bytes_are = refl;
+        left_is = leaves.3;
+        viable = (first.0 ++ line.0, (first, inl refl, tt, (first.0, line.0, refl, refl, line.1)));
+      }
+
+  bad_left : (other : Other Word Place) (bytes : List ℕ) (kind : BadToken) (left : ℕ) → LeavesOther other bytes (stops.Bad kind left) → left ≡ length bytes
+  bad_left Nothing bytes kind left leaves = absurd leaves
+  bad_left (Words table fault to) bytes kind left leaves = leaves.3
+  bad_left (Token symbol to) bytes kind left leaves = leaves.4
+  bad_left (Either one two) bytes kind left (inl leaves) = bad_left one bytes kind left leaves
+  bad_left (Either one two) bytes kind left (inr leaves) = bad_left two bytes kind left leaves
+
+  abbrev Lines : Other Word Place → Language
+  Lines other = ThenOther (Any turn is_loose) other (LooseLine turn is_loose)
+
+  abbrev Bad : Other Word Place → Bads
+  Bad other kind left bytes = BadOther other kind left (LooseBad turn is_loose kind left) bytes
+
+  bad_is_first : (other : Other Word Place) (bytes : List ℕ) (left : ℕ) → left ≡ length bytes → (kind : BadToken) (place : ℕ) → Bad other kind place bytes → place ≤ left
+  bad_is_first other bytes left left_is kind place bad = let le = within_other other kind place (LooseBad turn is_loose kind place) (λ next rest later. loose_within next kind place rest later) bytes bad in omega (arith, le, left_is)
+
+  -- a stop in one of the other parts
+  stop_in_other : (other : Other Word Place) → IsThere turn is_loose other → IsEnded turn is_loose other → (bytes : List ℕ) (stop : Stop) → LeavesOther other bytes stop → IsStop (Lines other) (Bad other) (Unit {0}) bytes stop
+  stop_in_other Nothing there ended bytes stop leaves = absurd there
+  stop_in_other (Words table fault to) there ended bytes stop leaves = stop_in_words table fault to ended bytes stop leaves
+  stop_in_other (Token symbol to) there ended bytes stop leaves = stop_in_token symbol to ended bytes stop leaves
+  stop_in_other (Either one two) there ended bytes stops.Memory leaves = tt
+  stop_in_other (Either one two) there ended bytes (stops.Syntax left) (other, le, inl (first, second)) =
+      let a = stop_in_other one there.0 ended.0 bytes (stops.Syntax left) first in
+      let b = stop_in_other two there.1 ended.1 bytes (stops.Syntax other) second in
+      (stops_in_both (Lines one) (Lines two) bytes left other le a.0 b.0, λ kind place bad. ⊎_elim (a.1 kind place) (b.1 kind place) bad)
+  stop_in_other (Either one two) there ended bytes (stops.Syntax left) (other, le, inr (first, second)) =
+      let a = stop_in_other one there.0 ended.0 bytes (stops.Syntax other) first in
+      let b = stop_in_other two there.1 ended.1 bytes (stops.Syntax left) second in (
+        stops_of_same (Lines (Either one two)) (λ these. Lines two these ⊎ Lines one these) bytes left
+            (λ more is. ⊎_elim (λ (line : Lines two more). inr line) (λ (line : Lines one more). inl line) is)
+            (λ more same is. ⊎_elim (λ (line : Lines one more). inr line) (λ (line : Lines two more). inl line) is)
+            (stops_in_both (Lines two) (Lines one) bytes left other le b.0 a.0),
+        λ kind place bad. ⊎_elim (a.1 kind place) (b.1 kind place) bad,
+      )
+  stop_in_other (Either one two) there ended bytes (stops.Bad kind left) (inl leaves) =
+      let at = stop_in_other one there.0 ended.0 bytes (stops.Bad kind left) leaves in
+      record {
+        has = inl at.has;
+        first = bad_is_first (Either one two) bytes left (bad_left one bytes kind left leaves);
+        read = at.read;
+        unread = at.unread;
+        bytes_are = at.bytes_are;
+        left_is = at.left_is;
+        viable = (at.viable.0, inl at.viable.1);
+      }
+  stop_in_other (Either one two) there ended bytes (stops.Bad kind left) (inr leaves) =
+      let at = stop_in_other two there.1 ended.1 bytes (stops.Bad kind left) leaves in
+      record {
+        has = inr at.has;
+        first = bad_is_first (Either one two) bytes left (bad_left two bytes kind left leaves);
+        read = at.read;
+        unread = at.unread;
+        bytes_are = at.bytes_are;
+        left_is = at.left_is;
+        viable = (at.viable.0, inr at.viable.1);
+      }
 
   -- Where nothing that may stand at a place stands there, reading stops.
   pub stop_at_place : (place : Place) (bytes : List ℕ) (stop : Stop) → LeavesPlace place bytes stop → IsStop (LineFrom turn is_loose place) (BadFrom turn is_loose place) (Unit {0}) bytes stop
@@ -259,37 +347,41 @@ module _ {Word Place : Type 0} (turn : Place → Turn Word Place) (is_loose : Pl
       )
       no_other (stops.Bad kind left) is at = absurd at
 
+      beside : (other : Other Word Place) → (turn place).other ≡ other → IsThere turn is_loose other → IsEnded turn is_loose other → LeavesOther other bytes stop → Stops
+      beside other is there ended at = stop_beside place bytes stop leaves.no_end leaves.no_sign (subst (λ o. IsStop (Lines o) (Bad o) (Unit {0}) bytes stop) (sym is) (stop_in_other other there ended bytes stop at))
+
       by_other : (other : Other Word Place) → (turn place).other ≡ other → IsEnded turn is_loose other → LeavesOther other bytes stop → Stops
       by_other Nothing is ended at = no_other stop is at
-      by_other (Words table to) is ended at = stop_beside place bytes stop leaves.no_end leaves.no_sign (subst (λ o. IsStop (ThenOther (Any turn is_loose) o (LooseLine turn is_loose)) (λ kind left. BadOther o kind left (LooseBad turn is_loose kind left)) (Unit {0}) bytes stop) (sym is) (stop_in_words table to ended bytes stop at))
-      by_other (Token symbol to) is ended at = stop_beside place bytes stop leaves.no_end leaves.no_sign (subst (λ o. IsStop (ThenOther (Any turn is_loose) o (LooseLine turn is_loose)) (λ kind left. BadOther o kind left (LooseBad turn is_loose kind left)) (Unit {0}) bytes stop) (sym is) (stop_in_token symbol to ended bytes stop at))
+      by_other (Words table fault to) is ended at = beside (Words table fault to) is tt ended at
+      by_other (Token symbol to) is ended at = beside (Token symbol to) is tt ended at
+      by_other (Either one two) is ended at = beside (Either one two) is (ended.3, ended.4) ended at
 
   -- ---- one way
 
   -- Nothing is taken where the line ends.
   nothing_taken : (Bound : Part → Type 0) (place : Place) (After : Place → Language) (bytes : List ℕ) → AtEnd turn is_loose place bytes → ¬ AtTurn Bound (turn place) After bytes
-  nothing_taken Bound place After bytes (ends, none) = λ at. ⊎_elim
+  nothing_taken Bound place After bytes (end, ends, none) = λ at. ⊎_elim
       (λ ((b, next, is, (prefix, rest, bytes_are, same, after)) : ThenSign (turn place).signs After bytes). let clash : [] ≡ b ∷ rest = sym none ∙ bytes_are ∙ ap (λ p. p ++ rest) same in cc)
-      (λ (other : ThenOther Bound (turn place).other After bytes). subst (λ o. ThenOther Bound o After bytes) ((are place).alone ends) other)
+      (λ (other : ThenOther Bound (turn place).other After bytes). subst (λ o. ThenOther Bound o After bytes) ((are place).alone end ends) other)
       at
 
   nothing_bad : (place : Place) (kind : BadToken) (left : ℕ) (After : Place → Language) (bytes : List ℕ) → AtEnd turn is_loose place bytes → ¬ BadTurn (turn place) kind left After bytes
-  nothing_bad place kind left After bytes (ends, none) = λ at. ⊎_elim
+  nothing_bad place kind left After bytes (end, ends, none) = λ at. ⊎_elim
       (λ ((b, next, is, (prefix, rest, bytes_are, same, after)) : ThenSign (turn place).signs After bytes). let clash : [] ≡ b ∷ rest = sym none ∙ bytes_are ∙ ap (λ p. p ++ rest) same in cc)
-      (λ (other : BadOther (turn place).other kind left After bytes). subst (λ o. BadOther o kind left After bytes) ((are place).alone ends) other)
+      (λ (other : BadOther (turn place).other kind left After bytes). subst (λ o. BadOther o kind left After bytes) ((are place).alone end ends) other)
       at
 
-  abbrev LooseLeads : (Part → Type 0) → Place → ℕ → Place → Language
+  abbrev LooseLeads : (Part → Type 0) → End → ℕ → Place → Language
   LooseLeads Bound end n = Loosely turn is_loose (λ next rest. Leads turn is_loose Bound end n next rest)
 
-  leads_end : (Bound : Part → Type 0) (end : Place) (n : ℕ) → Ending turn is_loose (LooseLeads Bound end n)
+  leads_end : (Bound : Part → Type 0) (end : End) (n : ℕ) → Ending turn is_loose (LooseLeads Bound end n)
   leads_end Bound end n = loose_ending turn is_loose (Leads turn is_loose Bound end n) (leads_bare turn is_loose Bound end n)
 
-  -- The same bytes lead to one place.
-  pub leads_agree : (Bound Looser : Part → Type 0) (end other : Place) (n m : ℕ) (place : Place) (bytes : List ℕ) → Leads turn is_loose Bound end n place bytes → Leads turn is_loose Looser other m place bytes → end ≡ other
-  leads_agree Bound Looser end other zero zero place bytes (same, ends, none) (again, more, nothing) = sym same ∙ again
-  leads_agree Bound Looser end other zero (suc m) place bytes (same, ends, none) two = absurd (nothing_taken Looser place (LooseLeads Looser other m) bytes (ends, none) two)
-  leads_agree Bound Looser end other (suc n) zero place bytes one (same, ends, none) = absurd (nothing_taken Bound place (LooseLeads Bound end n) bytes (ends, none) one)
+  -- The same bytes lead to one end.
+  pub leads_agree : (Bound Looser : Part → Type 0) (end other : End) (n m : ℕ) (place : Place) (bytes : List ℕ) → Leads turn is_loose Bound end n place bytes → Leads turn is_loose Looser other m place bytes → end ≡ other
+  leads_agree Bound Looser end other zero zero place bytes (ends, none) (more, nothing) = let both : Some end ≡ Some other = sym ends ∙ more in cc
+  leads_agree Bound Looser end other zero (suc m) place bytes (ends, none) two = absurd (nothing_taken Looser place (LooseLeads Looser other m) bytes (end, ends, none) two)
+  leads_agree Bound Looser end other (suc n) zero place bytes one (ends, none) = absurd (nothing_taken Bound place (LooseLeads Bound end n) bytes (other, ends, none) one)
   leads_agree Bound Looser end other (suc n) (suc m) place bytes one two =
       let found = found_of turn is_loose Bound (turn place) (are place).ended (LooseLeads Bound end n) (leads_end Bound end n) bytes one in
       let next = found.next in
@@ -298,9 +390,9 @@ module _ {Word Place : Type 0} (turn : Place → Turn Word Place) (is_loose : Pl
       leads_agree Bound Looser end other n m next rest first_leads second_leads
 
   -- What is within its bounds has no bad token.
-  pub kept_no_bad : (end : Place) (kind : BadToken) (left n m : ℕ) (place : Place) (bytes : List ℕ) → Leads turn is_loose IsBounded end n place bytes → ¬ BadLeads turn is_loose kind left m place bytes
+  pub kept_no_bad : (end : End) (kind : BadToken) (left n m : ℕ) (place : Place) (bytes : List ℕ) → Leads turn is_loose IsBounded end n place bytes → ¬ BadLeads turn is_loose kind left m place bytes
   kept_no_bad end kind left n zero place bytes one = λ none. none
-  kept_no_bad end kind left zero (suc m) place bytes (same, ends, none) = nothing_bad place kind left (Loosely turn is_loose (λ next rest. BadLeads turn is_loose kind left m next rest)) bytes (ends, none)
+  kept_no_bad end kind left zero (suc m) place bytes (ends, none) = nothing_bad place kind left (Loosely turn is_loose (λ next rest. BadLeads turn is_loose kind left m next rest)) bytes (end, ends, none)
   kept_no_bad end kind left (suc n) (suc m) place bytes one = λ bad.
       let found = found_of turn is_loose IsBounded (turn place) (are place).ended (LooseLeads IsBounded end n) (leads_end IsBounded end n) bytes one in
       let next = found.next in

@@ -31,7 +31,8 @@ abbrev pub head_words : List (Entry Head)
 head_words =
     (codes "begin", heads.Alone words.Begin) ∷ (codes "commit", heads.Alone words.Commit)
     ∷ (codes "rollback", heads.Alone words.Rollback)
-    ∷ (codes "checkpoint", heads.Alone words.Checkpoint) ∷ (codes "stats", heads.Alone words.Stats)
+    ∷ (codes "checkpoint", heads.Alone words.Checkpoint) ∷ (codes "check", heads.Alone words.Check)
+    ∷ (codes "stats", heads.Alone words.Stats)
     ∷ (codes "reopen", heads.Alone words.Reopen) ∷ (codes "quit", heads.Alone words.Quit)
     ∷ (codes "node", heads.Node) ∷ (codes "edge", heads.Edge)
     ∷ (codes "set", heads.Set) ∷ (codes "unset", heads.Unset)
@@ -131,6 +132,7 @@ plain_command words.Begin = commands.Begin
 plain_command words.Commit = commands.Commit
 plain_command words.Rollback = commands.Rollback
 plain_command words.Checkpoint = commands.Checkpoint
+plain_command words.Check = commands.Check
 plain_command words.Stats = commands.Stats
 plain_command words.Reopen = commands.Reopen
 plain_command words.Quit = commands.Quit

@@ -1,5 +1,6 @@
 -- The faults of a line that spells no command, with their places.
-use Rattle.std.specs.Prelude.{◌≡◌, ℕ, ◌≤◌, ◌<◌, Bool, false, List, [], ◌∷◌, ◌++◌, length, take}
+use Rattle.std.specs.Prelude.{◌≡◌, ◌⊎◌, ℕ, ◌≤◌, ◌<◌, Bool, false, Some, List, [], ◌∷◌, ◌++◌, length}
+use Rattle.std.specs.Prelude.{take}
 use Rattle.std.specs.Int.RustNames.{FitsSigned}
 use mir.Syntax.{w64}
 use Rattle.plain_graph.specs.declared.command.Command.{Command}
@@ -7,12 +8,13 @@ use Rattle.plain_graph.specs.declared.value.Value.{Value}
 use Rattle.plain_graph.specs.declared.value.Value.TheVariants as values
 use Rattle.plain_graph.specs.Names.{is_name_byte}
 use Rattle.gremlin_parse.specs.Numbers.{is_digit}
-use Rattle.gremlin_parse.specs.Grammar.{Part, Name, Number, Written, IsPart, IsMadeOf}
+use Rattle.gremlin_parse.specs.Grammar.{Part, Name, Number, Times, Written, Called, IsPart}
+use Rattle.gremlin_parse.specs.Grammar.{IsMadeOf}
 use Rattle.gremlin_parse.specs.Grammar.{parts_of, IsCommand, most_name_bytes}
 use Rattle.gremlin_parse.specs.Grammar.{most_text_bytes}
 use Rattle.gremlin_parse.specs.declared.bad_token.BadToken.{BadToken}
 use Rattle.gremlin_parse.specs.declared.bad_token.BadToken.TheVariants.{LongName, LongText}
-use Rattle.gremlin_parse.specs.declared.bad_token.BadToken.TheVariants.{WideNumber}
+use Rattle.gremlin_parse.specs.declared.bad_token.BadToken.TheVariants.{WideNumber, WrongTimes}
 
 -- some line of the language begins with these bytes
 abbrev pub IsViable : (List ℕ → Type 0) → List ℕ → Type 0
@@ -36,10 +38,11 @@ EndsValue (values.Int number) rest = EndsRun is_digit rest
 EndsValue (values.Bool truth) rest = ⊥
 EndsValue (values.Text text) rest = Unit {0}
 
--- what stands after a name, a number or a value ends it
+-- What stands after a name, a number or a value ends it; the number 0 is ended by anything.
 abbrev pub EndsToken : Part → List ℕ → Type 0
 EndsToken (Name name) rest = EndsRun is_name_byte rest
 EndsToken (Number most number) rest = EndsRun is_digit rest
+EndsToken (Times number) rest = (number ≡ 0) ⊎ EndsRun is_digit rest
 EndsToken (Written value) rest = EndsValue value rest
 EndsToken _ rest = ⊥
 
@@ -53,7 +56,9 @@ IsBadValue _ _ = ⊥
 abbrev pub IsOutOfBounds : Part → BadToken → Type 0
 IsOutOfBounds (Name name) LongName = most_name_bytes < length name
 IsOutOfBounds (Number most number) WideNumber = most < number
+IsOutOfBounds (Times number) WrongTimes = (number < 1) ⊎ (16 < number)
 IsOutOfBounds (Written value) kind = IsBadValue value kind
+IsOutOfBounds (Called word fault) kind = fault ≡ Some kind
 IsOutOfBounds _ _ = ⊥
 
 -- Such a token stands whole in the line at this place, where the grammar has it.

@@ -1,5 +1,5 @@
 -- Which lines spell which commands. A command is spelled by parts, one after the other.
-use Rattle.std.specs.Prelude.{◌≡◌, ◌≢◌, ℕ, ◌≤◌, Bool, true, ◌==◌, ◌||◌}
+use Rattle.std.specs.Prelude.{◌≡◌, ◌≢◌, ℕ, ◌≤◌, Bool, true, ◌==◌, ◌||◌, Option, None}
 use Rattle.std.specs.Prelude.{List, [], ◌∷◌, ◌++◌, length, codes, flat_map}
 use Rattle.std.specs.List.{AllByRecursion}
 use Rattle.plain_graph.specs.Names.{IsName}
@@ -14,6 +14,7 @@ use Rattle.plain_graph.specs.declared.pairs.Pair.{Pair}
 use Rattle.plain_graph.specs.declared.value.Value.{Value}
 use Rattle.gremlin_parse.specs.Numbers.{IsNumber}
 use Rattle.gremlin_parse.specs.Values.{IsWritten}
+use Rattle.gremlin_parse.specs.declared.bad_token.BadToken.{BadToken}
 
 -- how many bytes a name has at most
 abbrev pub most_name_bytes : ℕ
@@ -39,14 +40,17 @@ abbrev pub AreBlanks : List ℕ → Type 0
 AreBlanks bytes = AllByRecursion (λ b. is_blank b ≡ true) bytes
 
 -- A part of a spelled command: any blanks, one blank or more, a word or a sign of the grammar,
--- a name, a number of at most so much, or a value.
+-- a name, a number of at most so much, a number of times, a value, or a word with the fault that it
+-- has there, if any.
 pub data Part : Type 0 where
   Blanks : Part
   Gap : Part
   Exactly : (word : List ℕ) → Part
   Name : (name : List ℕ) → Part
   Number : (most : ℕ) → (number : ℕ) → Part
+  Times : (number : ℕ) → Part
   Written : (value : Value) → Part
+  Called : (word : List ℕ) → (fault : Option BadToken) → Part
 
 abbrev pub IsPart : Part → List ℕ → Type 0
 IsPart Blanks bytes = AreBlanks bytes
@@ -54,7 +58,9 @@ IsPart Gap bytes = AreBlanks bytes × (bytes ≢ [])
 IsPart (Exactly word) bytes = bytes ≡ word
 IsPart (Name name) bytes = (bytes ≡ name) × IsName name
 IsPart (Number most number) bytes = IsNumber number bytes
+IsPart (Times number) bytes = IsNumber number bytes
 IsPart (Written value) bytes = IsWritten value bytes
+IsPart (Called word fault) bytes = bytes ≡ word
 
 -- the bytes are these parts, one after the other
 abbrev pub IsMadeOf : List Part → List ℕ → Type 0
@@ -92,6 +98,7 @@ parts_of commands.Begin = alone (codes "begin")
 parts_of commands.Commit = alone (codes "commit")
 parts_of commands.Rollback = alone (codes "rollback")
 parts_of commands.Checkpoint = alone (codes "checkpoint")
+parts_of commands.Check = alone (codes "check")
 parts_of commands.Stats = alone (codes "stats")
 parts_of commands.Reopen = alone (codes "reopen")
 parts_of commands.Quit = alone (codes "quit")
@@ -127,7 +134,9 @@ IsBounded Gap = Unit {0}
 IsBounded (Exactly word) = Unit {0}
 IsBounded (Name name) = length name ≤ most_name_bytes
 IsBounded (Number most number) = number ≤ most
+IsBounded (Times number) = (1 ≤ number) × (number ≤ 16)
 IsBounded (Written value) = IsKept value
+IsBounded (Called word fault) = fault ≡ None
 
 abbrev pub KeepsBounds : Command → Type 0
 KeepsBounds command = AllByRecursion IsBounded (parts_of command)

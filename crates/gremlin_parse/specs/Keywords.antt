@@ -1,6 +1,6 @@
 -- Words in tables, each with what it stands for.
 use Rattle.std.specs.Prelude.{◌≡◌, ◌⊎◌, ℕ, ◌+◌, ◌-◌, max, nat_eq, cond, Option, Some, None}
-use Rattle.std.specs.Prelude.{List, [], ◌∷◌, length, map}
+use Rattle.std.specs.Prelude.{List, [], ◌∷◌, length, map, take}
 use Rattle.std.specs.Borrow.{Bor}
 use Rattle.std.specs.Cmp.Lexicographic.{pointwise}
 use Rattle.plain_graph.specs.Names.{is_name_byte}
@@ -34,6 +34,11 @@ module _ {K : Type 0} where
   abbrev pub reach : List (Entry K) → List ℕ → ℕ
   reach [] run = 0
   reach (entry ∷ table) run = max (common entry.0 run) (reach table run)
+
+  -- the longest prefix of the bytes that begins a word of the table, where it is a word: no word
+  -- goes on with the byte after it
+  abbrev pub whole_word : List (Entry K) → List ℕ → Option K
+  whole_word table bytes = lookup table (take (reach table bytes) bytes)
 
   -- The bytes begin with a word of the table, which ends there.
   abbrev pub TakesWord : List (Entry K) → List ℕ → K → List ℕ → Type 0

@@ -9,6 +9,10 @@ pub mod Symbols
 pub mod Stopping
 pub mod Turns
 pub mod Pairs
+pub mod OrderKeys
+pub mod Stages
 pub mod Queries
+pub mod Comparisons
+pub mod Orders
 pub mod Commands
 pub mod Lines

@@ -8,11 +8,13 @@ use Rattle.gremlin_parse.specs.Reading.{Then}
 use Rattle.gremlin_parse.specs.Queries.{QueryTo, IsKeptQuery, BadQuery}
 use Rattle.gremlin_parse.specs.declared.bad_token.BadToken.{BadToken}
 use Rattle.gremlin_parse.specs.declared.bad_token.BadToken.TheVariants.{LongName, LongText}
-use Rattle.gremlin_parse.specs.declared.bad_token.BadToken.TheVariants.{WideNumber}
+use Rattle.gremlin_parse.specs.declared.bad_token.BadToken.TheVariants.{WideNumber, UnfitStep}
+use Rattle.gremlin_parse.specs.declared.bad_token.BadToken.TheVariants.{LateStep, WrongTimes}
 use Rattle.gremlin_parse.specs.declared.line_fault.LineFault.{LineFault}
 use Rattle.gremlin_parse.specs.declared.line_fault.LineFault.TheVariants.{Memory, Syntax}
 use Rattle.gremlin_parse.specs.declared.line_fault.LineFault.TheVariants.{NameLength, TextLength}
-use Rattle.gremlin_parse.specs.declared.line_fault.LineFault.TheVariants.{NumberRange}
+use Rattle.gremlin_parse.specs.declared.line_fault.LineFault.TheVariants.{NumberRange, StepKind}
+use Rattle.gremlin_parse.specs.declared.line_fault.LineFault.TheVariants.{TooManySteps, TimesRange}
 
 -- g, any blanks before it, and bytes of the language after it
 abbrev pub AfterG : (List ℕ → Type 0) → List ℕ → Type 0
@@ -32,7 +34,7 @@ Spells line command = IsMadeOf (parts_of command) line × KeepsBounds command
 abbrev pub IsLine : List ℕ → Type 0
 IsLine line = (command : Command) × SpellsLoosely line command
 
--- A token out of its bounds stands whole in the line at this place, where the grammar has it.
+-- A token with such a fault stands whole in the line at this place, where the grammar has it.
 abbrev pub HasBad : BadToken → List ℕ → ℕ → Type 0
 HasBad kind line at =
     HasBadToken kind line at
@@ -44,6 +46,9 @@ HasFault line (Syntax at) = (¬ IsLine line) × StopsAt IsLine line at
 HasFault line (NameLength at) = HasBad LongName line at
 HasFault line (TextLength at) = HasBad LongText line at
 HasFault line (NumberRange at) = HasBad WideNumber line at
+HasFault line (TimesRange at) = HasBad WrongTimes line at
+HasFault line (StepKind at) = HasBad UnfitStep line at
+HasFault line (TooManySteps at) = HasBad LateStep line at
 HasFault line Memory = ⊥
 
 -- the place of a fault
@@ -52,6 +57,9 @@ place_of (Syntax at) = at
 place_of (NameLength at) = at
 place_of (TextLength at) = at
 place_of (NumberRange at) = at
+place_of (TimesRange at) = at
+place_of (StepKind at) = at
+place_of (TooManySteps at) = at
 place_of Memory = 0
 
 -- the leftmost of the faults that the line has

@@ -1,22 +1,30 @@
 -- Queries: what may stand at each place, and the query that what stands before it makes.
-use Rattle.std.specs.Prelude.{◌≡◌, ◌≢◌, ℕ, Bool, true, false, cond, Some}
-use Rattle.std.specs.Prelude.{List, [], ◌∷◌, ◌++◌, length, codes}
+use Rattle.std.specs.Prelude.{◌≡◌, ◌≢◌, ℕ, ◌+◌, ◌-◌, Bool, true, false, cond, Option, Some, None}
+use Rattle.std.specs.Prelude.{unwrap_or, List, [], ◌∷◌, ◌++◌, length, take, map, codes}
+use Rattle.plain_graph.specs.declared.direction.Direction.{Direction}
 use Rattle.plain_graph.specs.declared.direction.Direction.TheVariants as directions
+use Rattle.plain_graph.specs.declared.filter.Filter.{Filter}
 use Rattle.plain_graph.specs.declared.filter.Filter.TheVariants as filters
+use Rattle.plain_graph.specs.declared.filter.Relation.{Relation}
 use Rattle.plain_graph.specs.declared.filter.Relation.TheVariants as relations
+use Rattle.plain_graph.specs.declared.query.BodyStep.{BodyStep}
+use Rattle.plain_graph.specs.declared.query.BodyStep.TheVariants as bodies
 use Rattle.plain_graph.specs.declared.query.Query.{Query}
 use Rattle.plain_graph.specs.declared.query.Step.{Step}
 use Rattle.plain_graph.specs.declared.query.Step.TheVariants as steps
 use Rattle.plain_graph.specs.declared.value.Value.{Value}
 use Rattle.gremlin_parse.specs.Grammar.{most_id, most_limit}
-use Rattle.gremlin_parse.specs.Keywords.{Entry}
-use Rattle.gremlin_parse.specs.Symbols.{AnyName, AnyNumber, AnyValue}
+use Rattle.gremlin_parse.specs.Keywords.{Entry, lookup}
+use Rattle.gremlin_parse.specs.Symbols.{Sign, OneWord, AnyName, AnyNumber, AnyTimes, AnyValue}
+use Rattle.gremlin_parse.specs.Stages.{is_by, stage_of, step_fault, steps_in, late_fault}
 use Rattle.gremlin_parse.specs.Stopping.{Bads, IsStop, StopsWith}
-use Rattle.gremlin_parse.specs.Turns.{Nothing, Words, Token, Turn, LineFrom}
+use Rattle.gremlin_parse.specs.Turns.{Other, Nothing, Words, Token, Either, Turn, LineFrom}
 use Rattle.gremlin_parse.specs.Turns.{BadFrom, BadLoosely, KeptFrom, Leads, Loosely, Reaches}
 use Rattle.gremlin_parse.specs.Turns.{sign_at}
 use Rattle.gremlin_parse.specs.declared.step_word.BareStep.{BareStep}
 use Rattle.gremlin_parse.specs.declared.step_word.BareStep.TheVariants as bare
+use Rattle.gremlin_parse.specs.declared.step_word.BodyWord.{BodyWord}
+use Rattle.gremlin_parse.specs.declared.step_word.BodyWord.TheVariants as of_body
 use Rattle.gremlin_parse.specs.declared.step_word.NamesStep.{NamesStep}
 use Rattle.gremlin_parse.specs.declared.step_word.NamesStep.TheVariants as of_names
 use Rattle.gremlin_parse.specs.declared.step_word.StepWord.{StepWord}
@@ -26,18 +34,82 @@ use Rattle.gremlin_parse.specs.declared.stop.Stop.{Stop}
 -- the names of steps
 abbrev pub step_words : List (Entry StepWord)
 step_words =
-    (codes "out", words.Names (of_names.Neighbours directions.Outgoing))
-    ∷ (codes "in", words.Names (of_names.Neighbours directions.Incoming))
-    ∷ (codes "both", words.Names (of_names.Neighbours directions.Both))
+    (codes "out", words.Body (of_body.Neighbours directions.Outgoing))
+    ∷ (codes "in", words.Body (of_body.Neighbours directions.Incoming))
+    ∷ (codes "both", words.Body (of_body.Neighbours directions.Both))
     ∷ (codes "outE", words.Names (of_names.Incident directions.Outgoing))
     ∷ (codes "inE", words.Names (of_names.Incident directions.Incoming))
     ∷ (codes "bothE", words.Names (of_names.Incident directions.Both))
     ∷ (codes "values", words.Names of_names.Values)
-    ∷ (codes "hasLabel", words.Names of_names.HasLabel) ∷ (codes "has", words.Has)
+    ∷ (codes "hasLabel", words.Body of_body.HasLabel) ∷ (codes "has", words.Body of_body.Has)
     ∷ (codes "outV", words.Bare bare.OutV) ∷ (codes "inV", words.Bare bare.InV)
     ∷ (codes "id", words.Bare bare.Id) ∷ (codes "label", words.Bare bare.Label)
     ∷ (codes "dedup", words.Bare bare.Dedup) ∷ (codes "count", words.Bare bare.Count)
-    ∷ (codes "limit", words.Limit) ∷ []
+    ∷ (codes "limit", words.Limit) ∷ (codes "order", words.Order)
+    ∷ (codes "repeat", words.Repeat) ∷ []
+
+-- what may stand after the dot after an order without a `by`
+abbrev pub ordered_words : List (Entry StepWord)
+ordered_words = (codes "by", words.By) ∷ step_words
+
+-- the names that may stand after the dot, after such an order or not
+abbrev pub words_after : Bool → List (Entry StepWord)
+words_after is_ordered = cond is_ordered ordered_words step_words
+
+-- whether the order is descending, by the words for it
+abbrev pub sort_words : List (Entry Bool)
+sort_words = (codes "asc", false) ∷ (codes "desc", true) ∷ []
+
+-- the words for the direction of an order
+abbrev pub sort_names : List (List ℕ)
+sort_names = codes "asc" ∷ codes "desc" ∷ []
+
+-- the word for a direction
+abbrev pub sort_name : Bool → List ℕ
+sort_name descending = cond descending (codes "desc") (codes "asc")
+
+-- what one of the words stands for
+abbrev pub is_descending : List ℕ → Bool
+is_descending word = unwrap_or (lookup sort_words word) false
+
+-- the names of the steps of a body
+abbrev pub body_words : List (Entry BodyWord)
+body_words =
+    (codes "out", of_body.Neighbours directions.Outgoing)
+    ∷ (codes "in", of_body.Neighbours directions.Incoming)
+    ∷ (codes "both", of_body.Neighbours directions.Both)
+    ∷ (codes "hasLabel", of_body.HasLabel) ∷ (codes "has", of_body.Has) ∷ []
+
+-- a word of a body among the words of steps
+abbrev pub as_step_word : Entry BodyWord → Entry StepWord
+as_step_word entry = (entry.0, words.Body entry.1)
+
+-- what one of the words of a body stands for
+abbrev pub body_word_of : StepWord → BodyWord
+body_word_of (words.Body word) = word
+body_word_of _ = of_body.Has
+
+-- how a value compares, by the words for it
+abbrev pub relation_words : List (Entry Relation)
+relation_words =
+    (codes "eq", relations.Eq) ∷ (codes "neq", relations.Neq) ∷ (codes "gt", relations.Gt)
+    ∷ (codes "gte", relations.Gte) ∷ (codes "lt", relations.Lt) ∷ (codes "lte", relations.Lte) ∷ []
+
+abbrev pub relation_names : List (List ℕ)
+relation_names =
+    codes "eq" ∷ codes "neq" ∷ codes "gt" ∷ codes "gte" ∷ codes "lt" ∷ codes "lte" ∷ []
+
+abbrev pub relation_name : Relation → List ℕ
+relation_name relations.Eq = codes "eq"
+relation_name relations.Neq = codes "neq"
+relation_name relations.Gt = codes "gt"
+relation_name relations.Gte = codes "gte"
+relation_name relations.Lt = codes "lt"
+relation_name relations.Lte = codes "lte"
+
+-- what one of the words stands for
+abbrev pub relation_of : List ℕ → Relation
+relation_of word = unwrap_or (lookup relation_words word) relations.Eq
 
 abbrev pub bare_step : BareStep → Step
 bare_step bare.OutV = steps.OutV
@@ -49,22 +121,39 @@ bare_step bare.Count = steps.Count
 
 -- the step with these names
 abbrev pub names_step : NamesStep → List (List ℕ) → Step
-names_step (of_names.Neighbours direction) names =
-    steps.Neighbours (record { direction = direction; labels = names })
 names_step (of_names.Incident direction) names =
     steps.Incident (record { direction = direction; labels = names })
 names_step of_names.Values names = steps.Values names
-names_step of_names.HasLabel names = steps.Filter (filters.HasLabel names)
+
+-- a step of a body as one of a query
+abbrev pub step_of : BodyStep → Step
+step_of (bodies.Neighbours hop) = steps.Neighbours hop
+step_of (bodies.Filter filter) = steps.Filter filter
+
+-- What the arguments of a step are read for: a query, or the body of a repeat in it, each with the
+-- steps before this one.
+pub data Into : Type 0 where
+  OfQuery : (query : Query) → Into
+  OfBody : (query : Query) → (body : List BodyStep) → Into
+
+-- What names are read for: a step of a query alone, a hop, or labels.
+pub data NamesFor : Type 0 where
+  OfStep : (query : Query) → (step : NamesStep) → NamesFor
+  OfHop : (into : Into) → (direction : Direction) → NamesFor
+  OfLabels : (into : Into) → NamesFor
 
 -- A label is written after hasLabel; the others may have no name.
-abbrev pub needs_name : NamesStep → Bool
-needs_name of_names.HasLabel = true
-needs_name _ = false
+abbrev pub needs_name : NamesFor → Bool
+needs_name (OfStep query step) = false
+needs_name (OfHop into direction) = false
+needs_name (OfLabels into) = true
 
--- What a name between quotes is read for: one of the names of a step, or the key of `has`.
+-- What a name between quotes is read for: one of the names of a step, or the key of `has` or of an
+-- order.
 pub data Quoted : Type 0 where
-  OneName : (query : Query) → (step : NamesStep) → (names : List (List ℕ)) → Quoted
-  Key : (query : Query) → Quoted
+  OneName : (purpose : NamesFor) → (names : List (List ℕ)) → Quoted
+  Key : (into : Into) → Quoted
+  OrderKey : (query : Query) → Quoted
 
 -- A place of a query, with what was read before it.
 pub data Place : Type 0 where
@@ -78,14 +167,39 @@ pub data Place : Type 0 where
   StepName : (query : Query) → Place
   Opens : (query : Query) → (word : StepWord) → Place
   Closing : (query : Query) → (step : Step) → Place
-  FirstName : (query : Query) → (step : NamesStep) → Place
-  AfterName : (query : Query) → (step : NamesStep) → (names : List (List ℕ)) → Place
-  AfterKey : (query : Query) → (key : List ℕ) → Place
-  ValueOf : (query : Query) → (key : List ℕ) → Place
+  FirstName : (purpose : NamesFor) → Place
+  AfterName : (purpose : NamesFor) → (names : List (List ℕ)) → Place
+  AfterKey : (into : Into) → (key : List ℕ) → Place
+  ValueOf : (into : Into) → (key : List ℕ) → Place
+  AfterP : (into : Into) → (key : List ℕ) → Place
+  RelationName : (into : Into) → (key : List ℕ) → Place
+  OpensValue : (into : Into) → (key : List ℕ) → (relation : Relation) → Place
+  Compared : (into : Into) → (key : List ℕ) → (relation : Relation) → Place
+  ClosesValue : (into : Into) → (filter : Filter) → Place
+  ClosesFilter : (into : Into) → (filter : Filter) → Place
   Most : (query : Query) → Place
+  OrderCloses : (query : Query) → Place
+  Ordered : (query : Query) → Place
+  OrderedName : (query : Query) → Place
+  ByFirst : (query : Query) → Place
+  AfterOrderKey : (query : Query) → (key : List ℕ) → Place
+  OrderDirection : (query : Query) → (key : Option (List ℕ)) → Place
+  AfterOrderWord : (query : Query) → (key : Option (List ℕ)) → Place
+  DirectionName : (query : Query) → (key : Option (List ℕ)) → Place
+  ByCloses : (query : Query) → (key : Option (List ℕ)) → (descending : Bool) → Place
   Quote : (quoted : Quoted) → Place
   InQuotes : (quoted : Quoted) → (double : Bool) → Place
   Unquote : (quoted : Quoted) → (name : List ℕ) → (double : Bool) → Place
+  BodyFirst : (query : Query) → Place
+  Underscore : (query : Query) → Place
+  AfterAnonymous : (query : Query) → Place
+  BodyName : (query : Query) → (body : List BodyStep) → Place
+  OpensBody : (query : Query) → (body : List BodyStep) → (word : BodyWord) → Place
+  InBody : (query : Query) → (body : List BodyStep) → Place
+  AfterBody : (query : Query) → (body : List BodyStep) → Place
+  TimesWord : (query : Query) → (body : List BodyStep) → Place
+  OpensTimes : (query : Query) → (body : List BodyStep) → Place
+  TimesOf : (query : Query) → (body : List BodyStep) → Place
 
 abbrev pub query_from : Bool → List ℕ → Query
 query_from edges ids = record { edges = edges; ids = ids; steps = [] }
@@ -98,41 +212,104 @@ abbrev pub with_step : Query → Step → Query
 with_step query step =
     record { edges = query.edges; ids = query.ids; steps = query.steps ++ step ∷ [] }
 
-abbrev pub with_names : Query → NamesStep → List (List ℕ) → Query
-with_names query step names = with_step query (names_step step names)
+-- after a step of a query or of a body
+abbrev pub after_step : Into → BodyStep → Place
+after_step (OfQuery query) step = Steps (with_step query (step_of step))
+after_step (OfBody query body) step = InBody query (body ++ step ∷ [])
 
--- after the parenthesis of a step
+-- after a filter
+abbrev pub after_filter : Into → Filter → Place
+after_filter into filter = after_step into (bodies.Filter filter)
+
+-- after the names of a step and the parenthesis
+abbrev pub after_names : NamesFor → List (List ℕ) → Place
+after_names (OfStep query step) names = Steps (with_step query (names_step step names))
+after_names (OfHop into direction) names =
+    after_step into (bodies.Neighbours (record { direction = direction; labels = names }))
+after_names (OfLabels into) names = after_filter into (filters.HasLabel names)
+
+-- after the parenthesis of a step with names
+abbrev pub opened_names : NamesFor → Place
+opened_names purpose = cond (needs_name purpose) (Quote (OneName purpose [])) (FirstName purpose)
+
+-- after the parenthesis of a step of a query or of a body
+abbrev pub opened_body : Into → BodyWord → Place
+opened_body into (of_body.Neighbours direction) = opened_names (OfHop into direction)
+opened_body into of_body.HasLabel = opened_names (OfLabels into)
+opened_body into of_body.Has = Quote (Key into)
+
+-- the list with this step in place of its last one
+abbrev pub replace_last : List Step → Step → List Step
+replace_last list step = take (length list - 1) list ++ step ∷ []
+
+-- an order without a `by`
+abbrev pub plain_order : Step
+plain_order = steps.Order None false
+
+-- the query with this order in place of its last step
+abbrev pub reordered : Query → Option (List ℕ) → Bool → Query
+reordered query key descending = record {
+  edges = query.edges;
+  ids = query.ids;
+  steps = replace_last query.steps (steps.Order key descending);
+}
+
+-- after the parenthesis of a step, or of the `by` of an order
 abbrev pub opened : Query → StepWord → Place
 opened query (words.Bare bare) = Closing query (bare_step bare)
-opened query (words.Names of_names.HasLabel) = Quote (OneName query of_names.HasLabel [])
-opened query (words.Names step) = FirstName query step
-opened query words.Has = Quote (Key query)
+opened query (words.Names step) = opened_names (OfStep query step)
+opened query (words.Body word) = opened_body (OfQuery query) word
 opened query words.Limit = Most query
+opened query words.Order = OrderCloses query
+opened query words.By = ByFirst query
+opened query words.Repeat = BodyFirst query
+
+-- how many steps are before the next one of a body: those of the query, the repeat and the body's
+abbrev pub count_before : Query → List BodyStep → ℕ
+count_before query body = steps_in query.steps + 1 + length body
 
 -- after a name and its closing quote
 abbrev pub after_quoted : Quoted → List ℕ → Place
-after_quoted (OneName query step names) name = AfterName query step (names ++ name ∷ [])
-after_quoted (Key query) name = AfterKey query name
+after_quoted (OneName purpose names) name = AfterName purpose (names ++ name ∷ [])
+after_quoted (Key into) name = AfterKey into name
+after_quoted (OrderKey query) name = AfterOrderKey query name
 
-abbrev pub value_step : List ℕ → Value → Step
-value_step key value = steps.Filter (filters.HasValue key relations.Eq value)
+abbrev pub value_filter : List ℕ → Value → Filter
+value_filter key value = filters.HasValue key relations.Eq value
+
+-- the elements whose value of the key compares so with this one
+abbrev pub relation_filter : List ℕ → Relation → Value → Filter
+relation_filter key relation value = filters.HasValue key relation value
 
 abbrev pub quote_byte : Bool → ℕ
 quote_byte double = cond double 34 39
 
 -- one of these signs alone
-abbrev pub one_of : List (ℕ × Place) → Turn StepWord Place
-one_of signs = record { ends = false; signs = signs; other = Nothing }
+abbrev pub one_of : List (ℕ × Place) → Turn StepWord Place Query
+one_of signs = record { ends = None; signs = signs; other = Nothing }
 
--- What may stand at each place. The signs are . (46), V (86), E (69), ( (40), ) (41), , (44) and
--- the two quotes (39 and 34).
-abbrev pub turn : Place → Turn StepWord Place
+-- a direction of an order: one of its two words, alone or after Order and a dot
+abbrev pub direction_of : Query → Option (List ℕ) → Other StepWord Place
+direction_of query key =
+    Either
+    (Token (OneWord sort_names) (λ word. ByCloses query key (is_descending word)))
+    (Token (Sign (codes "Order")) (λ _. AfterOrderWord query key))
+
+-- What may stand in a body with these steps before: the name of a step, and nothing else.
+abbrev pub body_name : Query → List BodyStep → Other StepWord Place
+body_name query body =
+    Words (map as_step_word body_words) (λ _ _. late_fault (count_before query body))
+    (λ word. OpensBody query body (body_word_of word))
+
+-- What may stand at each place. The signs are . (46), V (86), E (69), P (80), ( (40), ) (41),
+-- , (44), _ (95) and the two quotes (39 and 34).
+abbrev pub turn : Place → Turn StepWord Place Query
 turn Start = one_of ((46, Source) ∷ [])
 turn Source = one_of ((86, Opening false) ∷ (69, Opening true) ∷ [])
 turn (Opening edges) = one_of ((40, FirstId edges) ∷ [])
 turn (FirstId edges) =
     record {
-      ends = false;
+      ends = None;
       signs = (41, Steps (query_from edges [])) ∷ [];
       other = Token (AnyNumber most_id) (λ id. AfterId edges (id ∷ []));
     }
@@ -140,45 +317,123 @@ turn (AfterId edges ids) =
     one_of ((44, NextId edges ids) ∷ (41, Steps (query_from edges ids)) ∷ [])
 turn (NextId edges ids) =
     record {
-      ends = false;
+      ends = None;
       signs = [];
       other = Token (AnyNumber most_id) (λ id. AfterId edges (ids ++ id ∷ []));
     }
-turn (Steps query) = record { ends = true; signs = (46, StepName query) ∷ []; other = Nothing }
-turn (StepName query) = record { ends = false; signs = []; other = Words step_words (Opens query) }
+turn (Steps query) =
+    record { ends = Some query; signs = (46, StepName query) ∷ []; other = Nothing }
+turn (StepName query) =
+    record {
+      ends = None;
+      signs = [];
+      other = Words step_words (step_fault (stage_of query)) (Opens query);
+    }
 turn (Opens query word) = one_of ((40, opened query word) ∷ [])
 turn (Closing query step) = one_of ((41, Steps (with_step query step)) ∷ [])
-turn (FirstName query step) =
+turn (FirstName purpose) =
     one_of
-    ((41, Steps (with_names query step [])) ∷ (39, InQuotes (OneName query step []) false)
-    ∷ (34, InQuotes (OneName query step []) true) ∷ [])
-turn (AfterName query step names) =
-    one_of ((44, Quote (OneName query step names)) ∷ (41, Steps (with_names query step names)) ∷ [])
-turn (AfterKey query key) =
-    one_of
-    ((44, ValueOf query key)
-    ∷ (41, Steps (with_step query (steps.Filter (filters.Has key)))) ∷ [])
-turn (ValueOf query key) =
+    ((41, after_names purpose []) ∷ (39, InQuotes (OneName purpose []) false)
+    ∷ (34, InQuotes (OneName purpose []) true) ∷ [])
+turn (AfterName purpose names) =
+    one_of ((44, Quote (OneName purpose names)) ∷ (41, after_names purpose names) ∷ [])
+turn (AfterKey into key) =
+    one_of ((44, ValueOf into key) ∷ (41, after_filter into (filters.Has key)) ∷ [])
+turn (ValueOf into key) =
     record {
-      ends = false;
-      signs = [];
-      other = Token AnyValue (λ value. Closing query (value_step key value));
+      ends = None;
+      signs = (80, AfterP into key) ∷ [];
+      other =
+          Either
+          (Token (OneWord relation_names) (λ word. OpensValue into key (relation_of word)))
+          (Token AnyValue (λ value. ClosesFilter into (value_filter key value)));
     }
+turn (AfterP into key) = one_of ((46, RelationName into key) ∷ [])
+turn (RelationName into key) =
+    record {
+      ends = None;
+      signs = [];
+      other = Token (OneWord relation_names) (λ word. OpensValue into key (relation_of word));
+    }
+turn (OpensValue into key relation) = one_of ((40, Compared into key relation) ∷ [])
+turn (Compared into key relation) =
+    record {
+      ends = None;
+      signs = [];
+      other = Token AnyValue (λ value. ClosesValue into (relation_filter key relation value));
+    }
+turn (ClosesValue into filter) = one_of ((41, ClosesFilter into filter) ∷ [])
+turn (ClosesFilter into filter) = one_of ((41, after_filter into filter) ∷ [])
 turn (Most query) =
     record {
-      ends = false;
+      ends = None;
       signs = [];
       other = Token (AnyNumber most_limit) (λ most. Closing query (steps.Limit most));
     }
+turn (OrderCloses query) = one_of ((41, Ordered (with_step query plain_order)) ∷ [])
+turn (Ordered query) =
+    record { ends = Some query; signs = (46, OrderedName query) ∷ []; other = Nothing }
+turn (OrderedName query) =
+    record {
+      ends = None;
+      signs = [];
+      other = Words ordered_words (step_fault (stage_of query)) (Opens query);
+    }
+turn (ByFirst query) =
+    record {
+      ends = None;
+      signs =
+          (41, Steps (reordered query None false)) ∷ (39, InQuotes (OrderKey query) false)
+          ∷ (34, InQuotes (OrderKey query) true) ∷ [];
+      other = direction_of query None;
+    }
+turn (AfterOrderKey query key) =
+    one_of
+    ((44, OrderDirection query (Some key)) ∷ (41, Steps (reordered query (Some key) false)) ∷ [])
+turn (OrderDirection query key) =
+    record { ends = None; signs = []; other = direction_of query key }
+turn (AfterOrderWord query key) = one_of ((46, DirectionName query key) ∷ [])
+turn (DirectionName query key) =
+    record {
+      ends = None;
+      signs = [];
+      other = Token (OneWord sort_names) (λ word. ByCloses query key (is_descending word));
+    }
+turn (ByCloses query key descending) =
+    one_of ((41, Steps (reordered query key descending)) ∷ [])
 turn (Quote quoted) = one_of ((39, InQuotes quoted false) ∷ (34, InQuotes quoted true) ∷ [])
 turn (InQuotes quoted double) =
-    record { ends = false; signs = []; other = Token AnyName (λ name. Unquote quoted name double) }
+    record { ends = None; signs = []; other = Token AnyName (λ name. Unquote quoted name double) }
 turn (Unquote quoted name double) = one_of ((quote_byte double, after_quoted quoted name) ∷ [])
+turn (BodyFirst query) =
+    record { ends = None; signs = (95, Underscore query) ∷ []; other = body_name query [] }
+turn (Underscore query) = one_of ((95, AfterAnonymous query) ∷ [])
+turn (AfterAnonymous query) = one_of ((46, BodyName query []) ∷ [])
+turn (BodyName query body) = record { ends = None; signs = []; other = body_name query body }
+turn (OpensBody query body word) = one_of ((40, opened_body (OfBody query body) word) ∷ [])
+turn (InBody query body) =
+    one_of ((46, BodyName query body) ∷ (41, AfterBody query body) ∷ [])
+turn (AfterBody query body) = one_of ((46, TimesWord query body) ∷ [])
+turn (TimesWord query body) =
+    record {
+      ends = None;
+      signs = [];
+      other = Token (Sign (codes "times")) (λ _. OpensTimes query body);
+    }
+turn (OpensTimes query body) = one_of ((40, TimesOf query body) ∷ [])
+turn (TimesOf query body) =
+    record {
+      ends = None;
+      signs = [];
+      other = Token AnyTimes (λ times. Closing query (steps.Repeat body times));
+    }
 
--- Blanks may stand before all but a name between quotes and its closing quote.
+-- Blanks may stand before all but a name between quotes, its closing quote, and the second of two
+-- underscores.
 abbrev pub is_loose : Place → Bool
 is_loose (InQuotes quoted double) = false
 is_loose (Unquote quoted name double) = false
+is_loose (Underscore query) = false
 is_loose _ = true
 
 -- the bytes after g are some query
@@ -188,7 +443,7 @@ IsQuery bytes = Loosely turn is_loose (LineFrom turn is_loose) Start bytes
 -- so many tokens lead from the place to the end of this query
 abbrev pub LineTo : Query → Place → List ℕ → Type 0
 LineTo query place bytes =
-    (n : ℕ) × Leads turn is_loose (λ _. Unit {0}) (Steps query) n place bytes
+    (n : ℕ) × Leads turn is_loose (λ _. Unit {0}) query n place bytes
 
 -- the bytes after g are this query but for the bounds
 abbrev pub QueryTo : Query → List ℕ → Type 0
@@ -202,6 +457,32 @@ StopsFrom place bytes stop =
 -- What was read leads from the place to the next one.
 abbrev pub LeadsTo : Place → List ℕ → Place → List ℕ → Type 0
 LeadsTo place bytes next rest = Reaches turn is_loose place bytes next rest
+
+-- the place after steps, the last of them an order without a `by` or not
+abbrev pub steps_place : Bool → Query → Place
+steps_place is_ordered query = cond is_ordered (Ordered query) (Steps query)
+
+-- It is an order, after which its `by` may stand.
+abbrev pub is_order : StepWord → Bool
+is_order words.Order = true
+is_order _ = false
+
+-- An order has no `by` yet, and a `by` gives an order.
+abbrev pub IsOrderStep : StepWord → Step → Type 0
+IsOrderStep words.Order step = step ≡ plain_order
+IsOrderStep words.By step =
+    (key : Option (List ℕ)) × (descending : Bool) × (step ≡ steps.Order key descending)
+IsOrderStep _ step = Unit {0}
+
+-- the steps with one more, or with the order of a `by` in place of the last
+abbrev pub put_step : StepWord → List Step → Step → List Step
+put_step word list step = cond (is_by word) (replace_last list step) (list ++ step ∷ [])
+
+-- the place after the step of this word
+abbrev pub after_word : StepWord → Query → Step → Place
+after_word word query step =
+    steps_place (is_order word)
+    (record { edges = query.edges; ids = query.ids; steps = put_step word query.steps step })
 
 -- The bytes begin with neither of the two.
 abbrev pub NeitherFirst : ℕ → ℕ → List ℕ → Type 0
@@ -221,7 +502,7 @@ pub record QuotesAt (place : Place) (quoted : Quoted) (bytes : List ℕ) : Type 
 
 -- the bytes after g are this query, within its bounds
 abbrev pub IsKeptQuery : Query → List ℕ → Type 0
-IsKeptQuery query bytes = Loosely turn is_loose (KeptFrom turn is_loose (Steps query)) Start bytes
+IsKeptQuery query bytes = Loosely turn is_loose (KeptFrom turn is_loose query) Start bytes
 
 -- a bad token of a query, after g
 abbrev pub BadQuery : Bads

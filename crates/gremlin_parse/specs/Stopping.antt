@@ -5,7 +5,8 @@ use Rattle.gremlin_parse.specs.Faults.{IsViable}
 use Rattle.gremlin_parse.specs.Reading.{StopsBefore, BadParts}
 use Rattle.gremlin_parse.specs.declared.bad_token.BadToken.{BadToken}
 use Rattle.gremlin_parse.specs.declared.bad_token.BadToken.TheVariants.{LongName, LongText}
-use Rattle.gremlin_parse.specs.declared.bad_token.BadToken.TheVariants.{WideNumber}
+use Rattle.gremlin_parse.specs.declared.bad_token.BadToken.TheVariants.{WideNumber, UnfitStep}
+use Rattle.gremlin_parse.specs.declared.bad_token.BadToken.TheVariants.{LateStep, WrongTimes}
 use Rattle.gremlin_parse.specs.declared.line_fault.LineFault.{LineFault}
 use Rattle.gremlin_parse.specs.declared.line_fault.LineFault.TheVariants as faults
 use Rattle.gremlin_parse.specs.declared.stop.Stop.{Stop}
@@ -67,6 +68,9 @@ abbrev pub bad_fault : BadToken → ℕ → LineFault
 bad_fault LongName at = faults.NameLength at
 bad_fault LongText at = faults.TextLength at
 bad_fault WideNumber at = faults.NumberRange at
+bad_fault WrongTimes at = faults.TimesRange at
+bad_fault UnfitStep at = faults.StepKind at
+bad_fault LateStep at = faults.TooManySteps at
 
 -- the fault of a line of so many bytes
 abbrev pub fault_of : Stop → ℕ → LineFault

@@ -7,7 +7,7 @@ use Rattle.plain_graph.specs.Names.{is_name_byte}
 use Rattle.gremlin_parse.specs.Numbers.{is_digit}
 use Rattle.gremlin_parse.specs.Values.{is_quote}
 use Rattle.gremlin_parse.specs.Texts.{LeavesQuoted}
-use Rattle.gremlin_parse.specs.Grammar.{Part, Blanks, Gap, Exactly, Name, Number, Written}
+use Rattle.gremlin_parse.specs.Grammar.{Part, Blanks, Gap, Exactly, Name, Number, Times, Written}
 use Rattle.gremlin_parse.specs.Grammar.{IsPart, IsBounded, is_blank, most_id}
 use Rattle.gremlin_parse.specs.Faults.{EndsRun, IsOutOfBounds}
 use Rattle.gremlin_parse.specs.Reading.{Passes, LeavesWord, Then, StartsName, StartsNumber}
@@ -17,7 +17,7 @@ use Rattle.gremlin_parse.specs.declared.stop.Stop.{Stop}
 use Rattle.gremlin_parse.specs.declared.stop.Stop.TheVariants as stops
 
 -- A symbol stands for parts: any blanks, one blank or more, a sign, one of several words, a name,
--- a number of at most so much, or a value.
+-- a number of at most so much, a number of times, or a value.
 pub data Symbol : Type 0 where
   AnyBlanks : Symbol
   AnyGap : Symbol
@@ -25,6 +25,7 @@ pub data Symbol : Type 0 where
   OneWord : (words : List (List ℕ)) → Symbol
   AnyName : Symbol
   AnyNumber : (most : ℕ) → Symbol
+  AnyTimes : Symbol
   AnyValue : Symbol
 
 -- what tells the parts of a symbol apart
@@ -35,6 +36,7 @@ Content (Sign sign) = Unit {0}
 Content (OneWord words) = List ℕ
 Content AnyName = List ℕ
 Content (AnyNumber most) = ℕ
+Content AnyTimes = ℕ
 Content AnyValue = Value
 
 abbrev pub part : (symbol : Symbol) → Content symbol → Part
@@ -44,6 +46,7 @@ part (Sign sign) content = Exactly sign
 part (OneWord words) word = Exactly word
 part AnyName name = Name name
 part (AnyNumber most) number = Number most number
+part AnyTimes number = Times number
 part AnyValue value = Written value
 
 -- The symbol has a part of this content.
@@ -54,6 +57,7 @@ Allows (Sign sign) content = Unit {0}
 Allows (OneWord words) word = InTable (word, tt) (plain words)
 Allows AnyName name = Unit {0}
 Allows (AnyNumber most) number = Unit {0}
+Allows AnyTimes number = Unit {0}
 Allows AnyValue value = Unit {0}
 
 -- what stands after the bytes of a value ends it
@@ -71,6 +75,7 @@ Ends (Sign sign) content prefix rest = Unit {0}
 Ends (OneWord words) word prefix rest = Passes is_name_byte prefix × EndsRun is_name_byte rest
 Ends AnyName name prefix rest = EndsRun is_name_byte rest
 Ends (AnyNumber most) number prefix rest = (prefix ≡ codes "0") ⊎ EndsRun is_digit rest
+Ends AnyTimes number prefix rest = (prefix ≡ codes "0") ⊎ EndsRun is_digit rest
 Ends AnyValue value prefix rest = EndsWritten value prefix rest
 
 -- The symbol stands whole at the head, with this content, before the rest.
@@ -123,6 +128,7 @@ LeavesAt (Sign sign) bytes left = LeavesWord sign bytes left
 LeavesAt (OneWord words) bytes left = LeavesTable (plain words) bytes left
 LeavesAt AnyName bytes left = (left ≡ length bytes) × (¬ StartsName bytes)
 LeavesAt (AnyNumber most) bytes left = (left ≡ length bytes) × (¬ StartsNumber bytes)
+LeavesAt AnyTimes bytes left = (left ≡ length bytes) × (¬ StartsNumber bytes)
 LeavesAt AnyValue bytes left =
     LeavesNegative bytes left ⊎ LeavesText bytes left ⊎ LeavesTruth bytes left
 

@@ -20,11 +20,12 @@ pub(crate) enum Head {
     Query,
 }
 
-const HEADS: [(&[u8], Head); 14] = [
+const HEADS: [(&[u8], Head); 15] = [
     (b"begin", Head::Alone(Word::Begin)),
     (b"commit", Head::Alone(Word::Commit)),
     (b"rollback", Head::Alone(Word::Rollback)),
     (b"checkpoint", Head::Alone(Word::Checkpoint)),
+    (b"check", Head::Alone(Word::Check)),
     (b"stats", Head::Alone(Word::Stats)),
     (b"reopen", Head::Alone(Word::Reopen)),
     (b"quit", Head::Alone(Word::Quit)),

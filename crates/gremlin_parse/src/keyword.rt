@@ -1,7 +1,7 @@
 ghost use Rattle.std.specs.Prelude.{◌≡◌, ◌≤◌, length, IfOk, IfErr};
 ghost use Rattle.std.specs.List.{prefix_len};
 ghost use Rattle.plain_graph.specs.Names.{is_name_byte};
-ghost use Rattle.gremlin_parse.specs.Keywords.{common, lookup, reach, words_of};
+ghost use Rattle.gremlin_parse.specs.Keywords.{common, lookup, reach, whole_word, words_of};
 ghost use Rattle.gremlin_parse.specs.Keywords.{TakesWord, LeavesTable};
 ghost use Rattle.gremlin_parse.specs.Stopping.{StopsWith};
 
@@ -28,6 +28,14 @@ pub(crate) fn read_keyword<'a, K: Copy>(
             left: bytes.len() - reach(table, run),
         }),
     }
+}
+
+/// What the table has for the longest prefix of the bytes that begins a word of it.
+pub(crate) fn whole_word<K: Copy>(bytes: &[u8], table: &[(&[u8], K)]) -> Option<K>
+    ensures { result ≡ whole_word (words_of table.now) bytes.now }
+{
+    let len = reach(table, bytes);
+    lookup(table, &bytes[..len])
 }
 
 /// The number of bytes of names at the head.

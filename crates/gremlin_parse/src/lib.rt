@@ -4,17 +4,21 @@
 
 mod bad_token;
 mod command;
+mod comparison;
 mod direction;
 mod head;
 mod keyword;
 mod line_fault;
 mod number;
+mod order;
 mod pair;
 mod parts;
 mod query;
 mod quoted_name;
 mod reader;
+mod repeat;
 mod source;
+mod stage;
 mod step;
 mod step_word;
 mod stop;

@@ -19,4 +19,13 @@ pub enum LineFault {
     /// in `limit`, and else outside of -9,223,372,036,854,775,808 to 9,223,372,036,854,775,807.
     #[error("a number out of range at byte {at}")]
     NumberRange { at: usize },
+    /// The number of `times` at `at` is below 1 or above 16.
+    #[error("a number of times below 1 or above 16 at byte {at}")]
+    TimesRange { at: usize },
+    /// The step whose name is at `at` does not fit what comes to it.
+    #[error("a step at byte {at} that does not fit what comes to it")]
+    StepKind { at: usize },
+    /// The name of the 33rd step is at `at`; a repeat and each step of its body count.
+    #[error("more than 32 steps, the next one at byte {at}")]
+    TooManySteps { at: usize },
 }

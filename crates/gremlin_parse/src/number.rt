@@ -5,7 +5,7 @@ ghost use Rattle.plain_graph.specs.declared.value.Value.TheVariants as values;
 ghost use Rattle.gremlin_parse.specs.Numbers.{is_digit, value_after, CountsNumber};
 ghost use Rattle.gremlin_parse.specs.Grammar.{most_id, most_limit};
 ghost use Rattle.gremlin_parse.specs.Reading.{StartsNumber};
-ghost use Rattle.gremlin_parse.specs.Symbols.{AnyNumber, AnyValue, Takes, Reads, Leaves};
+ghost use Rattle.gremlin_parse.specs.Symbols.{AnyNumber, AnyTimes, AnyValue, Takes, Reads, Leaves};
 ghost use Rattle.gremlin_parse.specs.Symbols.{is_integer_start, LeavesInteger, LeavesPositive};
 
 use crate::bad_token::BadToken;
@@ -16,6 +16,12 @@ const MOST_ID: u64 = 4_294_967_294;
 
 /// The greatest number of results to which a query is cut.
 const MOST_LIMIT: u64 = 4_294_967_295;
+
+/// The least number of times that a body is done.
+const LEAST_TIMES: u64 = 1;
+
+/// The greatest number of times that a body is done.
+const MOST_TIMES: u64 = 16;
 
 /// The greatest number of a value.
 const MOST_POSITIVE: u64 = 9_223_372_036_854_775_807;
@@ -59,6 +65,39 @@ fn read_at_most(bytes: &[u8], most: u64) -> Result<(u32, &[u8]), Stop>
     match value_of(digits, most) {
         Some(number) => Ok((number as u32, rest)),
         None => Err(wide_number(left)),
+    }
+}
+
+/// The number of times at the head, and the bytes after it.
+///
+/// # Errors
+/// A fault of syntax if no number begins here, and `WrongTimes` if it is below 1 or above 16.
+pub(crate) fn read_times(bytes: &[u8]) -> Result<(u8, &[u8]), Stop>
+    ensures ok { IfOk result (λ r. Reads AnyTimes r.0 bytes.now r.1.now) }
+    ensures err { IfErr result (Leaves AnyTimes bytes.now) }
+{
+    let left = bytes.len();
+    let Some((digits, rest)) = cut_number(bytes) else {
+        return Err(Stop::Syntax { left });
+    };
+    match value_of(digits, MOST_TIMES) {
+        Some(times) => {
+            if times < LEAST_TIMES {
+                return Err(wrong_times(left));
+            }
+            Ok((times as u8, rest))
+        }
+        None => Err(wrong_times(left)),
+    }
+}
+
+/// The stop at a number of times below 1 or above 16.
+fn wrong_times(left: usize) -> Stop
+    ensures { result ≡ Stop.Bad BadToken.WrongTimes left }
+{
+    Stop::Bad {
+        token: BadToken::WrongTimes,
+        left,
     }
 }
 

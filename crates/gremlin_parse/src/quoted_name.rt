@@ -48,10 +48,18 @@ pub(crate) fn read_close(bytes: &[u8]) -> Option<&[u8]>
     ensures some { IfSome result (λ rest. ReadsToken (41 ∷ []) bytes.now rest.now) }
     ensures none { IfNone result (first_byte bytes.now ≢ Some 41) }
 {
+    read_first(bytes, b')')
+}
+
+/// The bytes after this byte and any blanks, if it stands at the head.
+pub(crate) fn read_first(bytes: &[u8], byte: u8) -> Option<&[u8]>
+    ensures some { IfSome result (λ rest. ReadsToken (byte ∷ []) bytes.now rest.now) }
+    ensures none { IfNone result (first_byte bytes.now ≢ Some byte) }
+{
     let [first, rest @ ..] = bytes else {
         return None;
     };
-    if *first == b')' {
+    if *first == byte {
         return Some(skip_blanks(rest));
     }
     None

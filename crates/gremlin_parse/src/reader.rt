@@ -54,6 +54,9 @@ fn fault_of(stop: Stop, len: usize) -> LineFault
             BadToken::LongName => LineFault::NameLength { at: len - left },
             BadToken::LongText => LineFault::TextLength { at: len - left },
             BadToken::WideNumber => LineFault::NumberRange { at: len - left },
+            BadToken::WrongTimes => LineFault::TimesRange { at: len - left },
+            BadToken::UnfitStep => LineFault::StepKind { at: len - left },
+            BadToken::LateStep => LineFault::TooManySteps { at: len - left },
         },
     }
 }

@@ -1,57 +1,90 @@
-ghost use Rattle.std.specs.Prelude.{◌≡◌, ◌≢◌, ◌≤◌, ◌<◌, ◌++◌, ◌∷◌, [], length, IfOk, IfErr, OnOk};
+ghost use Rattle.std.specs.Prelude.{◌≡◌, ◌≢◌, ◌≤◌, ◌<◌, ◌+◌, ◌++◌, ◌∷◌, [], length, true};
+ghost use Rattle.std.specs.Prelude.{IfOk, IfErr, OnOk};
 ghost use Rattle.plain_graph.specs.declared.query.Query.{Query};
 ghost use Rattle.plain_graph.specs.declared.query.Step.TheVariants as steps;
-ghost use Rattle.gremlin_parse.specs.Queries.{Steps, Quote, Most, Key, OneName, LeadsTo};
-ghost use Rattle.gremlin_parse.specs.Queries.{StopsFrom, opened, with_step, with_names, bare_step};
-ghost use Rattle.gremlin_parse.specs.Queries.{names_step, needs_name, QuotesAt, Place};
+ghost use Rattle.gremlin_parse.specs.Queries.{Into, NamesFor, Steps, Quote, Most, Key, OneName};
+ghost use Rattle.gremlin_parse.specs.Queries.{LeadsTo, StopsFrom, opened, opened_body};
+ghost use Rattle.gremlin_parse.specs.Queries.{opened_names, after_filter, after_names, after_step};
+ghost use Rattle.gremlin_parse.specs.Queries.{steps_place, after_word, plain_order, IsOrderStep};
+ghost use Rattle.gremlin_parse.specs.Queries.{with_step, bare_step, names_step, step_of};
+ghost use Rattle.gremlin_parse.specs.Queries.{needs_name, QuotesAt, Place};
+ghost use Rattle.gremlin_parse.specs.Stages.{stage_of, name_count, added_count};
 ghost use Rattle.gremlin_parse.specs.declared.step_word.StepWord.TheVariants as words;
 
+use crate::comparison::read_comparison;
 use crate::number::read_limit;
+use crate::order::read_by;
 use crate::parts::{copy_name, read_token, skip_blanks};
 use crate::quoted_name::{read_close, read_comma, read_quoted_name};
-use crate::step_word::{BareStep, NamesStep, StepWord, read_step_word};
+use crate::repeat::read_repeat;
+use crate::stage::Stage;
+use crate::step_word::{BareStep, BodyWord, NamesStep, StepWord, read_step_word};
 use crate::stop::Stop;
-use crate::value::{read_value, value_of};
-use plain_graph::{Filter, Hop, Relation, Step, Text, Texts};
+use crate::value::value_of;
+use plain_graph::{BodyStep, Filter, Hop, Step, Text, Texts};
 use std::alloc::Global;
 
-/// The step after its dot, and the bytes after it.
+/// The step after its dot with the word for it, and the bytes after it. A `by` gives the order that
+/// stands before it, with its key and its direction.
 ///
 /// # Errors
-/// A fault of syntax if no step goes on so, another fault of its names and values, or `Memory`.
-pub(crate) fn read_step(alloc: Global, bytes: &[u8]) -> Result<(Step, &[u8]), Stop>
-    requires { bytes.now ≢ [] }
-    ensures ok { IfOk result (λ r. (query : Query) →
-        LeadsTo (Steps query) bytes.now (Steps (with_step query r.0)) r.1.now) }
-    ensures less { IfOk result (λ r. length r.1.now < length bytes.now) }
-    ensures err { IfErr result (λ stop. (query : Query) → StopsFrom (Steps query) bytes.now stop) }
+/// A fault of syntax if no step goes on so, another fault of its name, names and values, or
+/// `Memory`.
+pub(crate) fn read_step(
+    alloc: Global,
+    stage: Stage,
+    is_ordered: bool,
+    bytes: &[u8],
+) -> Result<(StepWord, Step, &[u8]), Stop>
+    requires some { bytes.now ≢ [] }
+    requires early { stage.steps ≤ 32 }
+    ensures ok { IfOk result (λ r. (query : Query) → stage_of query ≡ stage →
+        LeadsTo (steps_place is_ordered query) bytes.now (after_word r.0 query r.1) r.2.now) }
+    ensures by { IfOk result (λ r. r.0 ≡ words.By → is_ordered ≡ true) }
+    ensures order { IfOk result (λ r. IsOrderStep r.0 r.1) }
+    ensures few { IfOk result (λ r. stage.steps + added_count r.0 r.1 ≤ 32) }
+    ensures less { IfOk result (λ r. length r.2.now < length bytes.now) }
+    ensures err { IfErr result (λ stop. (query : Query) → stage_of query ≡ stage →
+        StopsFrom (steps_place is_ordered query) bytes.now stop) }
 {
-    let (word, at_arguments) = read_opening(bytes)?;
-    let (step, rest) = read_arguments(alloc, word, at_arguments)?;
-    Ok((step, rest))
+    let (word, at_arguments) = read_opening(stage, is_ordered, bytes)?;
+    let (step, rest) = read_arguments(alloc, stage, word, at_arguments)?;
+    Ok((word, step, rest))
 }
 
 /// The name of a step after its dot, and the bytes after the opening parenthesis.
-fn read_opening(bytes: &[u8]) -> Result<(StepWord, &[u8]), Stop>
-    requires { bytes.now ≢ [] }
-    ensures ok { IfOk result (λ r. (query : Query) →
-        LeadsTo (Steps query) bytes.now (opened query r.0) r.1.now) }
+fn read_opening(stage: Stage, is_ordered: bool, bytes: &[u8]) -> Result<(StepWord, &[u8]), Stop>
+    requires some { bytes.now ≢ [] }
+    requires early { stage.steps ≤ 32 }
+    ensures ok { IfOk result (λ r. (query : Query) → stage_of query ≡ stage →
+        LeadsTo (steps_place is_ordered query) bytes.now (opened query r.0) r.1.now) }
+    ensures by { IfOk result (λ r. r.0 ≡ words.By → is_ordered ≡ true) }
+    ensures few { IfOk result (λ r. stage.steps + name_count r.0 ≤ 32) }
     ensures less { IfOk result (λ r. length r.1.now < length bytes.now) }
-    ensures err { IfErr result (λ stop. (query : Query) → StopsFrom (Steps query) bytes.now stop) }
+    ensures err { IfErr result (λ stop. (query : Query) → stage_of query ≡ stage →
+        StopsFrom (steps_place is_ordered query) bytes.now stop) }
 {
     let at_name = read_token(bytes, b".")?;
-    let (word, after_name) = read_step_word(at_name)?;
+    let (word, after_name) = read_step_word(stage, is_ordered, at_name)?;
     let at_open = skip_blanks(after_name);
     let rest = read_token(at_open, b"(")?;
     Ok((word, rest))
 }
 
 /// The step of the word with its arguments up to the closing parenthesis, and the bytes after it.
-fn read_arguments(alloc: Global, word: StepWord, bytes: &[u8]) -> Result<(Step, &[u8]), Stop>
-    ensures ok { IfOk result (λ r. (query : Query) →
-        LeadsTo (opened query word) bytes.now (Steps (with_step query r.0)) r.1.now) }
+fn read_arguments(
+    alloc: Global,
+    stage: Stage,
+    word: StepWord,
+    bytes: &[u8],
+) -> Result<(Step, &[u8]), Stop>
+    requires { stage.steps + name_count word ≤ 32 }
+    ensures ok { IfOk result (λ r. (query : Query) → stage_of query ≡ stage →
+        LeadsTo (opened query word) bytes.now (after_word word query r.0) r.1.now) }
+    ensures order { IfOk result (λ r. IsOrderStep word r.0) }
+    ensures few { IfOk result (λ r. stage.steps + added_count word r.0 ≤ 32) }
     ensures within { IfOk result (λ r. length r.1.now ≤ length bytes.now) }
-    ensures err { IfErr result (λ stop. (query : Query) →
+    ensures err { IfErr result (λ stop. (query : Query) → stage_of query ≡ stage →
         StopsFrom (opened query word) bytes.now stop) }
 {
     match word {
@@ -60,16 +93,67 @@ fn read_arguments(alloc: Global, word: StepWord, bytes: &[u8]) -> Result<(Step, 
             Ok((bare_step(bare), rest))
         }
         StepWord::Names(step) => {
-            let (names, rest) = read_names(alloc, step, bytes)?;
+            let (names, rest) = read_names(alloc, false, bytes)?;
             Ok((names_step(step, names), rest))
         }
-        StepWord::Has => {
-            let (filter, rest) = read_has(alloc, bytes)?;
-            Ok((Step::Filter(filter), rest))
+        StepWord::Body(word) => {
+            let (step, rest) = read_body_arguments(alloc, word, bytes)?;
+            Ok((step_of(step), rest))
         }
         StepWord::Limit => {
             let (most, rest) = read_most(bytes)?;
             Ok((Step::Limit(most), rest))
+        }
+        StepWord::Order => {
+            let rest = read_token(bytes, b")")?;
+            Ok((plain_order(), rest))
+        }
+        StepWord::By => {
+            let (key, descending, rest) = read_by(alloc, bytes)?;
+            Ok((Step::Order { key, descending }, rest))
+        }
+        StepWord::Repeat => {
+            let (step, rest) = read_repeat(alloc, stage.steps, bytes)?;
+            Ok((step, rest))
+        }
+    }
+}
+
+/// An order without a `by`.
+fn plain_order() -> Step
+    ensures { result ≡ plain_order }
+{
+    Step::Order {
+        key: None,
+        descending: false,
+    }
+}
+
+/// The step of a query or of a body with its arguments up to the closing parenthesis, and the
+/// bytes after it.
+pub(crate) fn read_body_arguments(
+    alloc: Global,
+    word: BodyWord,
+    bytes: &[u8],
+) -> Result<(BodyStep, &[u8]), Stop>
+    ensures ok { IfOk result (λ r. (into : Into) →
+        LeadsTo (opened_body into word) bytes.now (after_step into r.0) r.1.now) }
+    ensures within { IfOk result (λ r. length r.1.now ≤ length bytes.now) }
+    ensures err { IfErr result (λ stop. (into : Into) →
+        StopsFrom (opened_body into word) bytes.now stop) }
+{
+    match word {
+        BodyWord::Neighbours(direction) => {
+            let (labels, rest) = read_names(alloc, false, bytes)?;
+            Ok((BodyStep::Neighbours(Hop { direction, labels }), rest))
+        }
+        BodyWord::HasLabel => {
+            let (labels, rest) = read_names(alloc, true, bytes)?;
+            Ok((BodyStep::Filter(Filter::HasLabel(labels)), rest))
+        }
+        BodyWord::Has => {
+            let (filter, rest) = read_has(alloc, bytes)?;
+            Ok((BodyStep::Filter(filter), rest))
         }
     }
 }
@@ -93,57 +177,54 @@ fn names_step(step: NamesStep, names: Texts) -> Step
     ensures { result ≡ names_step step names }
 {
     match step {
-        NamesStep::Neighbours(direction) => Step::Neighbours(Hop {
-            direction,
-            labels: names,
-        }),
         NamesStep::Incident(direction) => Step::Incident(Hop {
             direction,
             labels: names,
         }),
         NamesStep::Values => Step::Values(names),
-        NamesStep::HasLabel => Step::Filter(Filter::HasLabel(names)),
     }
 }
 
-/// The names of a step up to the closing parenthesis, and the bytes after it. All but `hasLabel`
-/// may have none.
-fn read_names(alloc: Global, step: NamesStep, bytes: &[u8]) -> Result<(Texts, &[u8]), Stop>
-    ensures ok { IfOk result (λ r. (query : Query) →
-        LeadsTo (opened query (words.Names step)) bytes.now (Steps (with_names query step r.0))
-        r.1.now) }
-    ensures within { IfOk result (λ r. length r.1.now ≤ length bytes.now) }
-    ensures err { IfErr result (λ stop. (query : Query) →
-        StopsFrom (opened query (words.Names step)) bytes.now stop) }
+/// The step as one of a query.
+fn step_of(step: BodyStep) -> Step
+    ensures { result ≡ step_of step }
 {
-    if needs_name(step) {
-        let read = read_some_names(alloc, step, bytes)?;
+    match step {
+        BodyStep::Neighbours(hop) => Step::Neighbours(hop),
+        BodyStep::Filter(filter) => Step::Filter(filter),
+    }
+}
+
+/// The names of a step up to the closing parenthesis, and the bytes after it. There may be none
+/// but where one is needed.
+fn read_names(alloc: Global, is_needed: bool, bytes: &[u8]) -> Result<(Texts, &[u8]), Stop>
+    ensures ok { IfOk result (λ r. (purpose : NamesFor) → needs_name purpose ≡ is_needed →
+        LeadsTo (opened_names purpose) bytes.now (after_names purpose r.0) r.1.now) }
+    ensures within { IfOk result (λ r. length r.1.now ≤ length bytes.now) }
+    ensures err { IfErr result (λ stop. (purpose : NamesFor) → needs_name purpose ≡ is_needed →
+        StopsFrom (opened_names purpose) bytes.now stop) }
+{
+    if is_needed {
+        let read = read_some_names(alloc, bytes)?;
         return Ok(read);
     }
     match read_close(bytes) {
         Some(rest) => Ok((Texts::new(Vec::new(alloc)), rest)),
         None => {
-            let read = read_some_names(alloc, step, bytes)?;
+            let read = read_some_names(alloc, bytes)?;
             Ok(read)
         }
     }
 }
 
-/// Whether the step has one name or more.
-fn needs_name(step: NamesStep) -> bool
-    ensures { result ≡ needs_name step }
-{
-    matches!(step, NamesStep::HasLabel)
-}
-
 /// One name or more of a step, up to the closing parenthesis, and the bytes after it.
-fn read_some_names(alloc: Global, step: NamesStep, bytes: &[u8]) -> Result<(Texts, &[u8]), Stop>
-    ensures ok { IfOk result (λ r. (query : Query) (place : Place) →
-        QuotesAt place (OneName query step []) bytes.now →
-        LeadsTo place bytes.now (Steps (with_names query step r.0)) r.1.now) }
+fn read_some_names(alloc: Global, bytes: &[u8]) -> Result<(Texts, &[u8]), Stop>
+    ensures ok { IfOk result (λ r. (purpose : NamesFor) (place : Place) →
+        QuotesAt place (OneName purpose []) bytes.now →
+        LeadsTo place bytes.now (after_names purpose r.0) r.1.now) }
     ensures within { IfOk result (λ r. length r.1.now ≤ length bytes.now) }
-    ensures err { IfErr result (λ stop. (query : Query) (place : Place) →
-        QuotesAt place (OneName query step []) bytes.now → StopsFrom place bytes.now stop) }
+    ensures err { IfErr result (λ stop. (purpose : NamesFor) (place : Place) →
+        QuotesAt place (OneName purpose []) bytes.now → StopsFrom place bytes.now stop) }
 {
     let mut names = Vec::new(alloc);
     let (first, after_first) = read_quoted_name(bytes)?;
@@ -170,12 +251,11 @@ fn push_name(alloc: Global, names: &mut Vec<Text>, name: &[u8]) -> Result<(), St
 
 /// The key and the value of `has` up to the closing parenthesis, and the bytes after it.
 fn read_has(alloc: Global, bytes: &[u8]) -> Result<(Filter, &[u8]), Stop>
-    ensures ok { IfOk result (λ r. (query : Query) →
-        LeadsTo (Quote (Key query)) bytes.now (Steps (with_step query (steps.Filter r.0)))
-        r.1.now) }
+    ensures ok { IfOk result (λ r. (into : Into) →
+        LeadsTo (Quote (Key into)) bytes.now (after_filter into r.0) r.1.now) }
     ensures within { IfOk result (λ r. length r.1.now ≤ length bytes.now) }
-    ensures err { IfErr result (λ stop. (query : Query) →
-        StopsFrom (Quote (Key query)) bytes.now stop) }
+    ensures err { IfErr result (λ stop. (into : Into) →
+        StopsFrom (Quote (Key into)) bytes.now stop) }
 {
     let (name, after_name) = read_quoted_name(bytes)?;
     let key = copy_name(alloc, name)?;
@@ -183,11 +263,8 @@ fn read_has(alloc: Global, bytes: &[u8]) -> Result<(Filter, &[u8]), Stop>
     if !more {
         return Ok((Filter::Has(key), at_value));
     }
-    let (written, after_value) = read_value(at_value)?;
-    let at_close = skip_blanks(after_value);
-    let rest = read_token(at_close, b")")?;
+    let (relation, written, rest) = read_comparison(at_value)?;
     let value = value_of(alloc, written)?;
-    let relation = Relation::Eq;
     Ok((
         Filter::HasValue {
             key,

@@ -1,9 +1,13 @@
-ghost use Rattle.std.specs.Prelude.{IfOk, IfErr};
-ghost use Rattle.gremlin_parse.specs.Keywords.{TakesWord, LeavesTable};
-ghost use Rattle.gremlin_parse.specs.Queries.{step_words};
-ghost use Rattle.gremlin_parse.specs.Stopping.{StopsWith};
+ghost use Rattle.std.specs.Prelude.{◌≡◌, ℕ, length, None, IfOk, IfErr, IfSome, IfNone};
+ghost use Rattle.gremlin_parse.specs.Keywords.{TakesWord, words_of};
+ghost use Rattle.gremlin_parse.specs.Queries.{words_after};
+ghost use Rattle.gremlin_parse.specs.Stages.{step_fault};
+ghost use Rattle.gremlin_parse.specs.Turns.{IsBadWord, LeavesWords};
+ghost use Rattle.gremlin_parse.specs.declared.bad_token.BadToken.{BadToken};
 
-use crate::keyword::read_keyword;
+use crate::bad_token::BadToken;
+use crate::keyword::{read_keyword, whole_word};
+use crate::stage::{Stage, step_fault};
 use crate::stop::Stop;
 use plain_graph::Direction;
 
@@ -18,13 +22,19 @@ pub(crate) enum BareStep {
     Count,
 }
 
-/// A step whose arguments are names.
+/// A step of a query alone whose arguments are names.
 #[derive(Clone, Copy)]
 pub(crate) enum NamesStep {
-    Neighbours(Direction),
     Incident(Direction),
     Values,
+}
+
+/// A step of a query or of a body.
+#[derive(Clone, Copy)]
+pub(crate) enum BodyWord {
+    Neighbours(Direction),
     HasLabel,
+    Has,
 }
 
 /// What the name of a step stands for.
@@ -32,22 +42,27 @@ pub(crate) enum NamesStep {
 pub(crate) enum StepWord {
     Bare(BareStep),
     Names(NamesStep),
-    Has,
+    Body(BodyWord),
     Limit,
+    Order,
+    By,
+    Repeat,
 }
 
-const STEPS: [(&[u8], StepWord); 16] = [
+/// `by`, which may follow an order alone, and the names of steps.
+const WORDS: [(&[u8], StepWord); 19] = [
+    (b"by", StepWord::By),
     (
         b"out",
-        StepWord::Names(NamesStep::Neighbours(Direction::Outgoing)),
+        StepWord::Body(BodyWord::Neighbours(Direction::Outgoing)),
     ),
     (
         b"in",
-        StepWord::Names(NamesStep::Neighbours(Direction::Incoming)),
+        StepWord::Body(BodyWord::Neighbours(Direction::Incoming)),
     ),
     (
         b"both",
-        StepWord::Names(NamesStep::Neighbours(Direction::Both)),
+        StepWord::Body(BodyWord::Neighbours(Direction::Both)),
     ),
     (
         b"outE",
@@ -62,8 +77,8 @@ const STEPS: [(&[u8], StepWord); 16] = [
         StepWord::Names(NamesStep::Incident(Direction::Both)),
     ),
     (b"values", StepWord::Names(NamesStep::Values)),
-    (b"hasLabel", StepWord::Names(NamesStep::HasLabel)),
-    (b"has", StepWord::Has),
+    (b"hasLabel", StepWord::Body(BodyWord::HasLabel)),
+    (b"has", StepWord::Body(BodyWord::Has)),
     (b"outV", StepWord::Bare(BareStep::OutV)),
     (b"inV", StepWord::Bare(BareStep::InV)),
     (b"id", StepWord::Bare(BareStep::Id)),
@@ -71,15 +86,49 @@ const STEPS: [(&[u8], StepWord); 16] = [
     (b"dedup", StepWord::Bare(BareStep::Dedup)),
     (b"count", StepWord::Bare(BareStep::Count)),
     (b"limit", StepWord::Limit),
+    (b"order", StepWord::Order),
+    (b"repeat", StepWord::Repeat),
 ];
 
-/// The name of a step, and the bytes after it.
+/// The name of a step, or `by` after an order without one, and the bytes after it.
 ///
 /// # Errors
-/// A fault of syntax after the longest prefix of such a name.
-pub(crate) fn read_step_word(bytes: &[u8]) -> Result<(StepWord, &[u8]), Stop>
-    ensures ok { IfOk result (λ r. TakesWord step_words bytes.now r.0 r.1.now) }
-    ensures err { IfErr result (StopsWith (LeavesTable step_words bytes.now)) }
+/// A fault of syntax after the longest prefix of such a name, `UnfitStep` and `LateStep`.
+pub(crate) fn read_step_word(
+    stage: Stage,
+    is_ordered: bool,
+    bytes: &[u8],
+) -> Result<(StepWord, &[u8]), Stop>
+    ensures ok { IfOk result (λ r. TakesWord (words_after is_ordered) bytes.now r.0 r.1.now) }
+    ensures no_fault { IfOk result (λ r. step_fault stage r.0 bytes.now ≡ None) }
+    ensures err { IfErr result (LeavesWords (words_after is_ordered) (step_fault stage) bytes.now) }
 {
-    read_keyword(bytes, &STEPS)
+    if let Some(token) = name_fault(stage, is_ordered, bytes) {
+        return Err(Stop::Bad {
+            token,
+            left: bytes.len(),
+        });
+    }
+    let (word, rest) = read_keyword(bytes, words_after(is_ordered))?;
+    Ok((word, rest))
+}
+
+/// The fault of the name that stands whole at the head, if it has one.
+fn name_fault(stage: Stage, is_ordered: bool, bytes: &[u8]) -> Option<BadToken>
+    ensures some { IfSome result (λ kind.
+        IsBadWord (words_after is_ordered) (step_fault stage) kind (length bytes.now) bytes.now) }
+    ensures none { IfNone result ((kind : BadToken) (place : ℕ) →
+        ¬ IsBadWord (words_after is_ordered) (step_fault stage) kind place bytes.now) }
+{
+    match whole_word(bytes, words_after(is_ordered)) {
+        Some(word) => step_fault(stage, word, bytes),
+        None => None,
+    }
+}
+
+/// The names that may stand here.
+fn words_after(is_ordered: bool) -> &'static [(&'static [u8], StepWord)]
+    ensures { words_of result.now ≡ words_after is_ordered }
+{
+    if is_ordered { &WORDS } else { &WORDS[1..] }
 }

@@ -35,6 +35,7 @@ HasForm commands.Begin = Unit {0}
 HasForm commands.Commit = Unit {0}
 HasForm commands.Rollback = Unit {0}
 HasForm commands.Checkpoint = Unit {0}
+HasForm commands.Check = Unit {0}
 HasForm commands.Stats = Unit {0}
 HasForm commands.Reopen = Unit {0}
 HasForm commands.Quit = Unit {0}

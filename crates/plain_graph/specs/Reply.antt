@@ -27,6 +27,8 @@ pub data Reply : Type 0 where
   EdgeMade : (id : ℕ) → Reply
   Results : (results : List Item) → Reply
   Counted : (counts : Counts) → Reply
+  Sound : Reply
+  Broken : (file id rule : ℕ) → Reply
   Faulted : (results : List Item) → (fault : Fault) → Reply
   Refused : (why : Refusal) → Reply
 
@@ -107,6 +109,11 @@ file_name file =
 abbrev pub damaged_text : ℕ → ℕ → List ℕ
 damaged_text file id = codes "damaged " ++ file_name file ++ codes " " ++ decimal id
 
+-- this record of the file breaks the rule of the store of this number, the least that is broken
+abbrev pub broken_text : ℕ → ℕ → ℕ → List ℕ
+broken_text file id rule =
+    codes "broken " ++ file_name file ++ codes " " ++ decimal id ++ codes " " ++ decimal rule
+
 -- the line of a fault
 abbrev pub fault_line : Fault → List ℕ
 fault_line PastCount = text_line (codes "error count")
@@ -122,6 +129,8 @@ reply_text (NodeMade id) = text_line (codes "node " ++ decimal id)
 reply_text (EdgeMade id) = text_line (codes "edge " ++ decimal id)
 reply_text (Results results) = flat_map result_text results ++ text_line (codes "end")
 reply_text (Counted counts) = text_line (counts_text counts)
+reply_text Sound = text_line (codes "sound")
+reply_text (Broken file id rule) = text_line (broken_text file id rule)
 reply_text (Faulted results fault) = flat_map result_text results ++ fault_line fault
 reply_text (Refused why) = text_line (refusal_text why)
 

@@ -22,6 +22,8 @@ pub enum Command {
     Rollback,
     /// All records in their files, and an empty log.
     Checkpoint,
+    /// Whether the store keeps all its rules.
+    Check,
     /// How many there are of each part of the graph.
     Stats,
     /// The store anew, as the disk holds it.

@@ -31,8 +31,8 @@ pub use pairs::{Pair, Pairs};
 pub use query::{Body, BodyStep, Hop, Ids, Query, Step, StepList};
 pub use refusal::Refusal;
 pub use reply::{
-    ResultLine, ShortText, configuration, counted, damaged, disk_fault, done, edge_made,
-    end_of_results, no_memory, node_made, not_a_store, past_count, refused, result_line,
+    ResultLine, ShortText, broken, configuration, counted, damaged, disk_fault, done, edge_made,
+    end_of_results, no_memory, node_made, not_a_store, past_count, refused, result_line, sound,
 };
 pub use text::Text;
 pub use texts::Texts;

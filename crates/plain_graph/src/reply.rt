@@ -1,5 +1,6 @@
 ghost use Rattle.std.specs.Prelude.{◌≡◌, ◌≤◌, ◌+◌, ◌*◌, ◌++◌, codes, decimal, flat_map, length};
 ghost use Rattle.plain_graph.specs.Forms.{IsKept, IsShown};
+ghost use Rattle.plain_graph.specs.Reply.{Broken, Sound, broken_text};
 ghost use Rattle.plain_graph.specs.Reply.{Counted, DamagedRecord, DiskFailed, Done, EdgeMade};
 ghost use Rattle.plain_graph.specs.Reply.{NoMemory, NodeMade, PastCount, Refused};
 ghost use Rattle.plain_graph.specs.Reply.{configuration_text, damaged_text, edge_text, escaped};
@@ -57,6 +58,29 @@ pub fn counted(counts: Counts) -> ShortText
     push_count(&mut text, b" properties ", counts.properties);
     push_count(&mut text, b" blocks ", counts.blocks);
     push_count(&mut text, b" names ", counts.names);
+    text.push(b"\n");
+    text
+}
+
+/// The reply to `check` where all rules of the store hold: `sound`.
+pub fn sound() -> &'static [u8]
+    ensures { result.now ≡ reply_text Sound }
+{
+    b"sound\n"
+}
+
+/// The reply to `check` where a record breaks a rule: `broken FILE ID RULE`.
+pub fn broken(file: u8, id: u32, rule: u8) -> ShortText
+    ensures { result ≡ reply_text (Broken file id rule) }
+{
+    let mut text = ShortText::new();
+    let mut digits = Buffer::new();
+    text.push(b"broken ");
+    text.push(file_name(file));
+    text.push(b" ");
+    text.push(digits.format(id).as_bytes());
+    text.push(b" ");
+    text.push(digits.format(rule).as_bytes());
     text.push(b"\n");
     text
 }

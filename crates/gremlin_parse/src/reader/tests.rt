@@ -22,6 +22,7 @@ enum Wanted<'a> {
     Commit,
     Rollback,
     Checkpoint,
+    Check,
     Stats,
     Reopen,
     Quit,
@@ -40,6 +41,9 @@ enum Wanted<'a> {
     NameLength(usize),
     TextLength(usize),
     NumberRange(usize),
+    StepKind(usize),
+    TooManySteps(usize),
+    TimesRange(usize),
 }
 
 /// A name of 48 bytes.
@@ -82,6 +86,7 @@ fn is_wanted(given: &Result<Command, LineFault>, wanted: Wanted) -> bool {
         | (Ok(Command::Commit), Wanted::Commit)
         | (Ok(Command::Rollback), Wanted::Rollback)
         | (Ok(Command::Checkpoint), Wanted::Checkpoint)
+        | (Ok(Command::Check), Wanted::Check)
         | (Ok(Command::Stats), Wanted::Stats)
         | (Ok(Command::Reopen), Wanted::Reopen)
         | (Ok(Command::Quit), Wanted::Quit) => true,
@@ -143,6 +148,9 @@ fn is_wanted(given: &Result<Command, LineFault>, wanted: Wanted) -> bool {
         (Err(LineFault::NameLength { at }), Wanted::NameLength(place)) => *at == place,
         (Err(LineFault::TextLength { at }), Wanted::TextLength(place)) => *at == place,
         (Err(LineFault::NumberRange { at }), Wanted::NumberRange(place)) => *at == place,
+        (Err(LineFault::StepKind { at }), Wanted::StepKind(place)) => *at == place,
+        (Err(LineFault::TooManySteps { at }), Wanted::TooManySteps(place)) => *at == place,
+        (Err(LineFault::TimesRange { at }), Wanted::TimesRange(place)) => *at == place,
         _ => false,
     }
 }
@@ -242,6 +250,7 @@ const WORD_ROWS: [(&[u8], Wanted); 26] = [
     (b" commit\t", Wanted::Commit),
     (b"rollback", Wanted::Rollback),
     (b"checkpoint ", Wanted::Checkpoint),
+    (b"check", Wanted::Check),
     (b"stats", Wanted::Stats),
     (b"reopen", Wanted::Reopen),
     (b"b", Wanted::Syntax(1)),
@@ -254,7 +263,6 @@ const WORD_ROWS: [(&[u8], Wanted); 26] = [
     (b"comit", Wanted::Syntax(3)),
     (b"commit1", Wanted::Syntax(6)),
     (b"commit_", Wanted::Syntax(6)),
-    (b"check", Wanted::Syntax(5)),
     (b"checkpoin", Wanted::Syntax(9)),
     (b"checkpoints", Wanted::Syntax(10)),
     (b"r", Wanted::Syntax(1)),
@@ -646,7 +654,7 @@ fn expansions(rt: HostRuntime) {
 }
 
 /// Lines of the grammar, without a text.
-const LINES: [&[u8]; 26] = [
+const LINES: [&[u8]; 27] = [
     b"rollback",
     b" commit ",
     b"\tcheckpoint",
@@ -668,11 +676,12 @@ const LINES: [&[u8]; 26] = [
     b" unset  node 70\tkey ",
     b"\texpand 7  both\tlikes ",
     b"g.E(3,0 , 4294967294)",
-    b" g\t.\tE ( ) . outV( ) . inV ( )\t. dedup () . id()",
+    b" g\t.\tE ( ) . has( 'k' ) . dedup ( )\t. limit ( 2 ) . id()",
     b"g.V(7).out('knows' , \"likes\").in().bothE( 'a' ).label()",
     b"g.V().hasLabel('person', 'x').values ( )",
     b"g . V() . has ( 'name' ) . values('name',\"age\") ",
     b"g.V().has('age', -20 ).has(\"k\",true).both()",
+    b"g.V().has('age', P . gte ( -20 ) ).has(\"k\",neq(true) )",
 ];
 
 /// Lines of the grammar with texts.

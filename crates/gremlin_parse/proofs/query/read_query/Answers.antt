@@ -15,8 +15,8 @@ returns-in_err-ids-clause-err c =
 pub returns-in_err-steps-clause-err : goal.returns-in_err-steps-clause-err
 returns-in_err-steps-clause-err c =
     let p = err_from_is_err_and c.from_residual-in_err-steps.result c.from_residual-in_err-steps.ensures.1 in
-    rw (p.1, p.2) (query_stops c.args.bytes.now c.skip_blanks-at_source.result.now c.in_err-steps.field-0.0 c.skip_blanks-at_source.ensures (c.in_ok-edges.ensures.ok.stops c.in_err-steps.field-0.0 ((c.in_ok-ids.ensures.ok c.in_ok-edges.edges).stops c.in_err-steps.field-0.0 (c.in_err-steps.ensures.err c.in_ok-edges.edges c.in_ok-ids.ids))))
+    rw (p.1, p.2) (query_stops c.args.bytes.now c.skip_blanks-at_source.result.now c.in_err-steps.field-0.0 c.skip_blanks-at_source.ensures (c.in_ok-edges.ensures.ok.stops c.in_err-steps.field-0.0 ((c.in_ok-ids.ensures.ok c.in_ok-edges.edges).stops c.in_err-steps.field-0.0 (c.in_err-steps.ensures.err c.in_ok-ids.ids))))
 
 pub returns-clause-ok : goal.returns-clause-ok
 returns-clause-ok c =
-    query_is_kept c.in_ok-edges.edges c.in_ok-ids.ids c.args.bytes.now c.skip_blanks-at_source.result.now c.in_ok-edges.at_ids.now c.in_ok-ids.at_steps.now c.in_ok-steps.steps c.skip_blanks-at_source.ensures c.in_ok-edges.ensures.ok (c.in_ok-ids.ensures.ok c.in_ok-edges.edges) (c.in_ok-steps.ensures.ok c.in_ok-edges.edges c.in_ok-ids.ids)
+    query_is_kept c.in_ok-edges.edges c.in_ok-ids.ids c.args.bytes.now c.skip_blanks-at_source.result.now c.in_ok-edges.at_ids.now c.in_ok-ids.at_steps.now c.in_ok-steps.steps c.skip_blanks-at_source.ensures c.in_ok-edges.ensures.ok (c.in_ok-ids.ensures.ok c.in_ok-edges.edges) (c.in_ok-steps.ensures.ok c.in_ok-ids.ids)

@@ -1,0 +1,25 @@
+use Rattle.std.proofs.lemmas.Result.{err_from_is_err_and}
+use Rattle.std.proofs.Common.{◌++◌, ◌∷◌, []}
+use Rattle.gremlin_parse.specs.Queries.{OfBody, BodyName, InBody, opened_body}
+use Rattle.gremlin_parse.proofs.QueryReads.{on}
+use Rattle.gremlin_parse.proofs.RepeatReads.{stop_at_body_name, stop_at_body_opening, body_opening_read}
+use Rattle.gremlin_parse.proofs.repeat.read_body_step.Goals as goal
+
+pub returns-in_err-word-clause-err : goal.returns-in_err-word-clause-err
+returns-in_err-word-clause-err c =
+    let p = err_from_is_err_and c.from_residual.result c.from_residual.ensures.1 in
+    rw (p.1, p.2) (stop_at_body_name c.args.before c.args.bytes.now c.in_err-word.field-0.0 c.in_err-word.ensures.err)
+
+pub returns-in_err-at_arguments-clause-err : goal.returns-in_err-at_arguments-clause-err
+returns-in_err-at_arguments-clause-err c =
+    let p = err_from_is_err_and c.from_residual-in_err-at_arguments.result c.from_residual-in_err-at_arguments.ensures.1 in
+    rw (p.1, p.2) (stop_at_body_opening c.args.before c.args.bytes.now c.in_ok-word.after_name.now c.skip_blanks-at_open.result.now c.in_ok-word.word c.in_err-at_arguments.field-0.0 c.in_ok-word.ensures.no_fault c.in_ok-word.ensures.ok c.skip_blanks-at_open.ensures c.in_err-at_arguments.ensures.err)
+
+pub returns-in_err-step-clause-err : goal.returns-in_err-step-clause-err
+returns-in_err-step-clause-err c =
+    let p = err_from_is_err_and c.from_residual-in_err-step.result c.from_residual-in_err-step.ensures.1 in
+    rw (p.1, p.2) (λ query body same. (body_opening_read c.args.before c.args.bytes.now c.in_ok-word.after_name.now c.skip_blanks-at_open.result.now c.in_ok-at_arguments.at_arguments.now c.in_ok-word.word c.in_ok-word.ensures.no_fault c.in_ok-word.ensures.ok c.skip_blanks-at_open.ensures c.in_ok-at_arguments.ensures.ok query body same).stops c.in_err-step.field-0.0 (c.in_err-step.ensures.err (OfBody query body)))
+
+pub returns-clause-ok : goal.returns-clause-ok
+returns-clause-ok c = λ query body same.
+    on (BodyName query body) c.args.bytes.now (opened_body (OfBody query body) c.in_ok-word.word) c.in_ok-at_arguments.at_arguments.now (InBody query (body ++ c.in_ok-step.step ∷ [])) c.in_ok-step.rest.now (body_opening_read c.args.before c.args.bytes.now c.in_ok-word.after_name.now c.skip_blanks-at_open.result.now c.in_ok-at_arguments.at_arguments.now c.in_ok-word.word c.in_ok-word.ensures.no_fault c.in_ok-word.ensures.ok c.skip_blanks-at_open.ensures c.in_ok-at_arguments.ensures.ok query body same) (c.in_ok-step.ensures.ok (OfBody query body))
