@@ -6,6 +6,7 @@ use Rattle.disk_model.specs.declared.disk.Disk.{Ghosts as DiskGhosts}
 use Rattle.disk_model.proofs.Spans.{OnlyNow}
 use Rattle.stream_io.specs.Lines.{InputLine}
 use Rattle.stream_io.specs.declared.streams.Sink.{Ghosts as SinkGhosts}
+use Rattle.plain_graph.specs.Reply.{Broken, Sound}
 use Rattle.plain_graph.specs.Reply.{Counted, DamagedRecord, Done, Faulted, NoMemory, EdgeMade, NodeMade, Refused, Reply, Results, Silent, reply_text}
 use Rattle.plain_graph.specs.declared.refusal.Refusal.{Refusal}
 use Rattle.graph_session.specs.Answer.{AnswersLine, Delivers, Gives, Settles, Terminal}
@@ -28,6 +29,8 @@ IsGood (NodeMade id) = Unit {0}
 IsGood (EdgeMade id) = Unit {0}
 IsGood (Results results) = Unit {0}
 IsGood (Counted counts) = Unit {0}
+IsGood Sound = Unit {0}
+IsGood (Broken file id rule) = ⊥
 IsGood (Faulted results fault) = ⊥
 IsGood (Refused why) = ⊥
 
@@ -41,6 +44,8 @@ good-step old new line disk_failed (NodeMade id) good done = done
 good-step old new line disk_failed (EdgeMade id) good done = done
 good-step old new line disk_failed (Results results) good done = done
 good-step old new line disk_failed (Counted counts) good done = done
+good-step old new line disk_failed Sound good done = done
+good-step old new line disk_failed (Broken file id rule) good done = absurd good
 good-step old new line disk_failed (Faulted results fault) good done = absurd good
 good-step old new line disk_failed (Refused why) good done = absurd good
 
@@ -51,6 +56,8 @@ good-told (NodeMade id) good = refl
 good-told (EdgeMade id) good = refl
 good-told (Results results) good = refl
 good-told (Counted counts) good = refl
+good-told Sound good = refl
+good-told (Broken file id rule) good = absurd good
 good-told (Faulted results fault) good = absurd good
 good-told (Refused why) good = refl
 
@@ -62,6 +69,8 @@ good-changed (NodeMade id) good none = none
 good-changed (EdgeMade id) good none = none
 good-changed (Results results) good none = none
 good-changed (Counted counts) good none = none
+good-changed Sound good none = none
+good-changed (Broken file id rule) good none = good
 good-changed (Faulted results fault) good none = good
 good-changed (Refused why) good none = good
 

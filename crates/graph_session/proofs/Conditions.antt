@@ -81,6 +81,7 @@ no_reason limit graph commands.Begin idle found = idle_reasons
 no_reason limit graph commands.Commit idle found = idle_reasons
 no_reason limit graph commands.Rollback idle found = idle_reasons
 no_reason limit graph commands.Checkpoint idle found = idle_reasons
+no_reason limit graph commands.Check idle found = idle_reasons
 no_reason limit graph commands.Stats idle found = idle_reasons
 no_reason limit graph commands.Reopen idle found = idle_reasons
 no_reason limit graph commands.Quit idle found = idle_reasons

@@ -37,6 +37,12 @@ refused-other fault why is e = absurd (clash (sym (ap refusal_of e) ∙ is))
     clash : None ≡ Some why → ⊥
     clash same = cc
 
+-- a line with a fault spells no command that needs no memory
+pub spells-none : {line : List ℕ} (fault : LineFault) → (fault ≢ faults.Memory → (command : Command) → ¬ Spells line command) → (fault ≡ faults.Memory → (command : Command) → NeedsNoMemory command → ¬ Spells line command)
+    → (command : Command) → NeedsNoMemory command → ¬ Spells line command
+spells-none faults.Memory none memory command needs = memory refl command needs
+spells-none _ none memory command needs = none (λ e. cc) command
+
 module _ {D K : Type 0} {g : DiskGhosts D} {sink : SinkGhosts K} {line : List ℕ} {command : Command} (only : SpellsOnly line command) {old new : Terminal D K} {turn : Turn} where
   -- a command that was settled, and whose reply was given
   pub answers-settled : (reply : Reply) → command ≢ commands.Quit → IsServed old.session.console command → SettlesCommand g command old.session new.session reply

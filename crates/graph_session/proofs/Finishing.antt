@@ -48,6 +48,8 @@ tells-good answers.Done tells = tt
 tells-good (answers.NodeMade id) tells = tt
 tells-good (answers.EdgeMade id) tells = tt
 tells-good (answers.Counted counts) tells = absurd tells
+tells-good answers.Sound tells = absurd tells
+tells-good (answers.Broken damage) tells = absurd tells
 tells-good (answers.Refused why) tells = absurd tells
 tells-good answers.NoMemory tells = absurd tells
 tells-good answers.DiskFailed tells = absurd tells
@@ -85,6 +87,8 @@ module _ {D : Type 0} {g : Ghosts D} where
     settles-stopped (answers.NodeMade id) stopped stays fault = absurd stopped
     settles-stopped (answers.EdgeMade id) stopped stays fault = absurd stopped
     settles-stopped (answers.Counted counts) stopped stays fault = absurd stopped
+    settles-stopped answers.Sound stopped stays fault = absurd stopped
+    settles-stopped (answers.Broken damage) stopped stays fault = absurd stopped
     settles-stopped (answers.Refused why) stopped stays fault =
         settles-refused at (stays (λ e. cc)) why (λ told. refused state spelled (change-reached at live spelled change) why (sees-as (sees told) (λ limit graph. FirstReason change_reasons limit graph command why) (stopped told (has told))))
         (unmade-uses at live spelled change (stays (λ e. cc)))

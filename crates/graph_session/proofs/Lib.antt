@@ -2,6 +2,7 @@ pub mod Answering
 pub mod Asking
 pub mod Beginnings
 pub mod Changes
+pub mod Checks
 pub mod Conditions
 pub mod Counts
 pub mod DiskUse

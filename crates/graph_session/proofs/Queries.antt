@@ -9,6 +9,7 @@ use Rattle.plain_graph.specs.Changes.{IsChange}
 use Rattle.plain_graph.specs.Graph.{Graph, has_node}
 use Rattle.plain_graph.specs.Meaning.{has_past_count, meaning}
 use Rattle.plain_graph.specs.Refusals.{FirstReason, change_reasons}
+use Rattle.plain_graph.specs.Reply.{Broken, Sound}
 use Rattle.plain_graph.specs.Reply.{Counted, DamagedRecord, DiskFailed, Done, EdgeMade, Faulted, NoMemory, NodeMade, PastCount, Refused, Reply, Results, Silent}
 use Rattle.plain_graph.specs.declared.command.Command.{Command}
 use Rattle.plain_graph.specs.declared.command.Command.TheVariants as commands
@@ -135,6 +136,8 @@ module _ {D : Type 0} {g : DiskGhosts D} {old new : SessionView D} {state : Stat
       ))
       (uses-reads state only (has-needs command has) results-reached stays.beneath.disk)
   settles-results (Counted counts) form rose found means = absurd form
+  settles-results Sound form rose found means = absurd form
+  settles-results (Broken file id rule) form rose found means = absurd form
   settles-results (Faulted results PastCount) form rose found means =
       settles-given {line = Whole line} {before = state} (Faulted results PastCount) state (comes-stays at stays) refl (λ told. stops-past state line command has only results-reached results (means told).0 (means told).1)
       (uses-reads state only (has-needs command has) results-reached stays.beneath.disk)

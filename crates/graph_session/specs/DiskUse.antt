@@ -4,6 +4,7 @@ use Rattle.disk_model.specs.Spans.{OnlyReads}
 use Rattle.disk_model.specs.declared.disk.Disk.{Ghosts}
 use Rattle.stream_io.specs.Lines.{InputLine}
 use Rattle.plain_graph.specs.Changes.{IsChange}
+use Rattle.plain_graph.specs.Reply.{Broken, Sound}
 use Rattle.plain_graph.specs.Reply.{Counted, DamagedRecord, DiskFailed, Done, EdgeMade, Fault}
 use Rattle.plain_graph.specs.Reply.{Faulted, NoMemory, NodeMade, PastCount, Refused, Reply, Results}
 use Rattle.plain_graph.specs.Reply.{Silent}
@@ -37,6 +38,8 @@ TellsNoChange (NodeMade id) = ⊥
 TellsNoChange (EdgeMade id) = ⊥
 TellsNoChange (Results results) = ⊥
 TellsNoChange (Counted counts) = ⊥
+TellsNoChange Sound = ⊥
+TellsNoChange (Broken file id rule) = ⊥
 TellsNoChange (Faulted results fault) = IsUnwritten fault
 TellsNoChange (Refused why) = Unit {0}
 

@@ -45,6 +45,8 @@ TellsChange answers.Done = Unit {0}
 TellsChange (answers.NodeMade id) = Unit {0}
 TellsChange (answers.EdgeMade id) = Unit {0}
 TellsChange (answers.Counted counts) = ⊥
+TellsChange answers.Sound = ⊥
+TellsChange (answers.Broken damage) = ⊥
 TellsChange (answers.Refused why) = ⊥
 TellsChange answers.NoMemory = ⊥
 TellsChange answers.DiskFailed = ⊥
@@ -80,6 +82,8 @@ module _ {D : Type 0} {g : Ghosts D} where
   IsStopped command old now (answers.NodeMade id) = ⊥
   IsStopped command old now (answers.EdgeMade id) = ⊥
   IsStopped command old now (answers.Counted counts) = ⊥
+  IsStopped command old now answers.Sound = ⊥
+  IsStopped command old now (answers.Broken damage) = ⊥
   IsStopped command old now (answers.Refused why) = g.tells_reads → HasStore old
       → Refuses command (state_of old.store) why
   IsStopped command old now answers.NoMemory = Unit {0}

@@ -6,6 +6,7 @@ use Rattle.plain_graph.specs.Changes.{Changes, Weighs, least_weight}
 use Rattle.plain_graph.specs.Counts.{counts_of}
 use Rattle.plain_graph.specs.Graph.{Graph}
 use Rattle.plain_graph.specs.Meaning.{edge_item, edges_at, has_past_count, meaning}
+use Rattle.plain_graph.specs.Reply.{Broken, Sound}
 use Rattle.plain_graph.specs.Reply.{Counted, DamagedRecord, DiskFailed, Done, EdgeMade, Fault}
 use Rattle.plain_graph.specs.Reply.{Faulted, NoMemory, NodeMade, PastCount, Refused, Reply, Results}
 use Rattle.plain_graph.specs.Reply.{Silent}
@@ -54,6 +55,7 @@ CarriesOut old commands.Commit reply new =
     × (new ≡ record old { committed = transaction.graph; open_one = None })
 CarriesOut old commands.Rollback reply new = (reply ≡ Done) × (new ≡ opening old None)
 CarriesOut old commands.Checkpoint reply new = (reply ≡ Done) × (new ≡ old)
+CarriesOut old commands.Check reply new = (reply ≡ Sound) × (new ≡ old)
 CarriesOut old commands.Stats reply new = (reply ≡ Counted (counts_of (seen old))) × (new ≡ old)
 CarriesOut old commands.Reopen reply new =
     (reply ≡ Done) × (graph : Graph) × Admits old graph
@@ -89,6 +91,7 @@ ShowsSome state commands.Begin results = results ≡ []
 ShowsSome state commands.Commit results = results ≡ []
 ShowsSome state commands.Rollback results = results ≡ []
 ShowsSome state commands.Checkpoint results = results ≡ []
+ShowsSome state commands.Check results = results ≡ []
 ShowsSome state commands.Stats results = results ≡ []
 ShowsSome state commands.Reopen results = results ≡ []
 ShowsSome state commands.Quit results = results ≡ []
@@ -117,6 +120,7 @@ LeavesOpen old line commands.Commit new =
     × (new ≡ failing old (old.committed ∷ transaction.graph ∷ []))
 LeavesOpen old line commands.Rollback new = ⊥
 LeavesOpen old line commands.Checkpoint new = new ≡ failing old (old.committed ∷ [])
+LeavesOpen old line commands.Check new = new ≡ old
 LeavesOpen old line commands.Stats new = new ≡ old
 LeavesOpen old line commands.Reopen new = new ≡ failing old (admitted old)
 LeavesOpen old line commands.Quit new = ⊥
@@ -163,7 +167,8 @@ IsDone old x new =
     IsAccepted old x.line × (command : Command) × SpellsLine x.line command
     × CarriesOut old command x.reply new
 
--- The step, reply by reply. A refusal is the first of the reasons that hold.
+-- The step, reply by reply. A refusal is the first of the reasons that hold. A store that stands for
+-- a graph keeps all rules.
 abbrev pub ConsoleStep : State → Exchange → State → Type 0
 ConsoleStep old x new = elim x.reply [
   | Silent ↦ IsSilent x.line × (new ≡ old)
@@ -172,6 +177,8 @@ ConsoleStep old x new = elim x.reply [
   | EdgeMade id ↦ IsDone old x new
   | Results results ↦ IsDone old x new
   | Counted counts ↦ IsDone old x new
+  | Sound ↦ IsDone old x new
+  | Broken file id rule ↦ ⊥
   | Faulted results fault ↦ Stops old x.line x.disk_failed results fault new
   | Refused why ↦ IsRefused old x.line why × (new ≡ old)
 ]
@@ -190,6 +197,8 @@ told_fault (NodeMade id) = 0
 told_fault (EdgeMade id) = 0
 told_fault (Results results) = 0
 told_fault (Counted counts) = 0
+told_fault Sound = 0
+told_fault (Broken file id rule) = 0
 told_fault (Faulted results fault) = told_in fault
 told_fault (Refused why) = 0
 

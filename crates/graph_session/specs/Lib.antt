@@ -15,3 +15,4 @@ pub mod Session
 pub mod Settling
 pub mod Stands
 pub mod State
+pub mod Verdicts

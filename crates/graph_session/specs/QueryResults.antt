@@ -3,6 +3,7 @@ use Rattle.std.specs.Prelude.{◌≡◌, ◌≢◌, ℕ, Bool, true, false, List
 use Rattle.fault_count.specs.Cause.{Rose}
 use Rattle.stream_io.specs.declared.streams.Sink.{Ghosts as SinkGhosts}
 use Rattle.plain_graph.specs.Meaning.{has_past_count, meaning}
+use Rattle.plain_graph.specs.Reply.{Broken, Sound}
 use Rattle.plain_graph.specs.Reply.{Counted, DamagedRecord, DiskFailed, Done, EdgeMade, Faulted}
 use Rattle.plain_graph.specs.Reply.{NoMemory, NodeMade, PastCount, Refused, Reply, Results, Silent}
 use Rattle.plain_graph.specs.Reply.{reply_text}
@@ -23,6 +24,8 @@ IsQueryReply (NodeMade id) = ⊥
 IsQueryReply (EdgeMade id) = ⊥
 IsQueryReply (Results results) = Unit {0}
 IsQueryReply (Counted counts) = ⊥
+IsQueryReply Sound = ⊥
+IsQueryReply (Broken file id rule) = ⊥
 IsQueryReply (Faulted results fault) = Unit {0}
 IsQueryReply (Refused why) = ⊥
 
@@ -35,6 +38,8 @@ Means all past (NodeMade id) = ⊥
 Means all past (EdgeMade id) = ⊥
 Means all past (Results results) = (results ≡ all) × (past ≡ false)
 Means all past (Counted counts) = ⊥
+Means all past Sound = ⊥
+Means all past (Broken file id rule) = ⊥
 Means all past (Faulted results PastCount) = AreFirst results all × (past ≡ true)
 Means all past (Faulted results NoMemory) = AreFirst results all
 Means all past (Faulted results DiskFailed) = AreFirst results all

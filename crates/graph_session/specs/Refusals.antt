@@ -28,6 +28,9 @@ refusal_of (faults.Syntax at) = Some (refusals.Syntax at)
 refusal_of (faults.NameLength at) = Some (refusals.NameLength at)
 refusal_of (faults.TextLength at) = Some (refusals.TextLength at)
 refusal_of (faults.NumberRange at) = Some (refusals.NumberRange at)
+refusal_of (faults.StepKind at) = Some (refusals.StepKind at)
+refusal_of (faults.TooManySteps at) = Some (refusals.TooManySteps at)
+refusal_of (faults.TimesRange at) = Some (refusals.TimesRange at)
 
 -- the line spells no command; its leftmost fault is told
 abbrev pub grammar_fault : Condition

@@ -38,11 +38,12 @@ IsLoud commands.Quit = ⊥
 IsLoud commands.Reopen = ⊥
 IsLoud _ = Unit {0}
 
--- a command without results that only a live session carries out
+-- a command that only a live session carries out, other than those that ask for results or a check
 abbrev pub IsPlain : Command → Type 0
 IsPlain commands.Blank = ⊥
 IsPlain commands.Quit = ⊥
 IsPlain commands.Reopen = ⊥
+IsPlain commands.Check = ⊥
 IsPlain (commands.Expand id direction label) = ⊥
 IsPlain (commands.Query query) = ⊥
 IsPlain _ = Unit {0}

@@ -12,6 +12,10 @@ pub(crate) enum Answer {
     EdgeMade(u32),
     /// It asked for these.
     Counted(Counts),
+    /// All rules of the store hold.
+    Sound,
+    /// This record breaks a rule of the store, the least that is broken.
+    Broken(Damage),
     /// It is refused, and changes nothing.
     Refused(Refusal),
     /// There was no memory for it, and it changes nothing.

@@ -85,6 +85,7 @@ impl<'d, D: Disk> Session<'d, D> {
             | Command::Commit
             | Command::Rollback
             | Command::Checkpoint
+            | Command::Check
             | Command::Stats
             | Command::Reopen
             | Command::Quit

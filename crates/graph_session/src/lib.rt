@@ -5,6 +5,7 @@
 
 mod answer;
 mod changing;
+mod checking;
 mod counting;
 mod edge_results;
 mod expanding;

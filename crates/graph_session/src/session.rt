@@ -5,6 +5,9 @@ ghost use Rattle.graph_session.specs.Answering.{reply_of};
 ghost use Rattle.graph_session.specs.Refusals.{SpellsOnly};
 ghost use Rattle.plain_graph.specs.Forms.{HasForm};
 ghost use Rattle.graph_session.specs.Settling.{IsLoud, IsPlain, SettlesCommand, told_of};
+ghost use Rattle.graph_session.specs.Verdicts.{Judges};
+ghost use Rattle.gremlin_parse.specs.Lines.{Spells};
+ghost use Rattle.plain_graph.specs.declared.command.Command.TheVariants as commands;
 ghost use Rattle.graph_session.specs.declared.health.Health.TheVariants as healths;
 
 use crate::answer::Answer;
@@ -41,6 +44,9 @@ impl<'d, D: Disk> Session<'d, D> {
     pub fn step<K: Sink>(&mut self, line: &[u8], output: &mut K) -> Turn
         ensures answers { AnswersLine D.Disk K.Sink (Whole line.now)
             (with_sink self.old output.old) (with_sink self.new output.new) result }
+        // What `check` says is true of any content of the disk.
+        ensures judges { Spells line.now commands.Check → self.old.health ≡ healths.Live
+            → Judges D.tells_reads K.Sink (view self.old).console output.old output.new result }
         ensures same_disk { HaveSameDisk self.old self.new }
     {
         match parse_line(self.alloc, line) {
@@ -80,6 +86,8 @@ impl<'d, D: Disk> Session<'d, D> {
         ensures answers { (line : List ℕ) → SpellsOnly line command.now
             → AnswersLine D.Disk K.Sink (Whole line)
             (with_sink self.old output.old) (with_sink self.new output.new) result }
+        ensures judges { command.now ≡ commands.Check → self.old.health ≡ healths.Live
+            → Judges D.tells_reads K.Sink (view self.old).console output.old output.new result }
         ensures same_disk { HaveSameDisk self.old self.new }
     {
         match command {
@@ -100,12 +108,15 @@ impl<'d, D: Disk> Session<'d, D> {
         ensures answers { (line : List ℕ) → SpellsOnly line command.now
             → AnswersLine D.Disk K.Sink (Whole line)
             (with_sink self.old output.old) (with_sink self.new output.new) result }
+        ensures judges { command.now ≡ commands.Check → self.old.health ≡ healths.Live
+            → Judges D.tells_reads K.Sink (view self.old).console output.old output.new result }
         ensures same_disk { HaveSameDisk self.old self.new }
     {
         match self.health {
             Health::Failed => give_answer(output, Answer::Refused(Refusal::Failed)),
             Health::Live => match command {
                 Command::Query(query) => self.answer_query(query, output),
+                Command::Check => self.answer_check(output),
                 Command::Expand {
                     id,
                     direction,
@@ -143,6 +154,7 @@ impl<'d, D: Disk> Session<'d, D> {
             Command::Blank
             | Command::Quit
             | Command::Reopen
+            | Command::Check
             | Command::Expand { .. }
             | Command::Query(_) => unreachable!(),
         }
@@ -159,6 +171,9 @@ fn answer_of(fault: LineFault) -> Answer
         LineFault::NameLength { at } => Answer::Refused(Refusal::NameLength { at }),
         LineFault::TextLength { at } => Answer::Refused(Refusal::TextLength { at }),
         LineFault::NumberRange { at } => Answer::Refused(Refusal::NumberRange { at }),
+        LineFault::StepKind { at } => Answer::Refused(Refusal::StepKind { at }),
+        LineFault::TooManySteps { at } => Answer::Refused(Refusal::TooManySteps { at }),
+        LineFault::TimesRange { at } => Answer::Refused(Refusal::TimesRange { at }),
     }
 }
 

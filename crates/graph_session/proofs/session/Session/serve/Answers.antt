@@ -11,5 +11,6 @@ returns-in-Failed-clause-answers g c = λ line only.
 pub returns-in_default : goal.returns-in_default
 returns-in_default g c = record {
   answers = λ line only. answers-settled only (reply_of c.settle-answer.result) (λ e. subst IsLoud e c.requires.loud) (inl c.in-Live.is) c.settle-answer.ensures.settles c.give_answer-in_default.ensures;
+  judges = λ is live. absurd (c.in_default.not-Check is);
   same_disk = c.settle-answer.ensures.same_disk;
 }

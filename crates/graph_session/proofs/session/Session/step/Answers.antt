@@ -1,5 +1,6 @@
-use Rattle.std.proofs.Common.{Err, ap}
-use Rattle.graph_session.proofs.Dispatch.{answers-fault}
+use Rattle.std.proofs.Common.{Err, ap, sym}
+use Rattle.plain_graph.specs.declared.command.Command.TheVariants as commands
+use Rattle.graph_session.proofs.Dispatch.{answers-fault, spells-none}
 use Rattle.graph_session.proofs.session.Session.step.Goals as goal
 
 pub returns-in-Ok-clause-answers : goal.returns-in-Ok-clause-answers
@@ -10,3 +11,9 @@ pub returns-in-Err-clause-answers : goal.returns-in-Err-clause-answers
 returns-in-Err-clause-answers g c =
     answers-fault g.D.Disk g.met.D.Disk.only_now g.K.Sink c.args.line.now c.in-Err.fault c.in-Err.ensures.fault c.in-Err.ensures.none (λ e. c.in-Err.ensures.memory (ap Err e))
     (rw c.answer_of.ensures at c.give_answer.ensures)
+
+pub returns-in-Ok-clause-judges : goal.returns-in-Ok-clause-judges
+returns-in-Ok-clause-judges g c = λ spells live. c.answer.ensures.judges (sym (c.in-Ok.ensures.only commands.Check spells)) live
+
+pub returns-in-Err-clause-judges : goal.returns-in-Err-clause-judges
+returns-in-Err-clause-judges g c = λ spells live. absurd (spells-none c.in-Err.fault c.in-Err.ensures.none (λ e. c.in-Err.ensures.memory (ap Err e)) commands.Check tt spells)
