@@ -1,28 +1,35 @@
--- The two directions: the words that clap takes ask for a run, and the words that ask for a run are taken.
+-- The two directions: the words that clap takes ask for something, and the words that do are taken.
 use Rattle.std.proofs.Common.{◌≡◌, ◌≢◌, ◌∙◌, ◌||◌, Bool, true, false, codes, inl, inr, refl, sym, ap, subst, List, [], ◌∷◌, Option, Some, None, ◌-◌, arith, drop, length, map, take}
 use Rattle.std.specs.Prelude.{Err, IsErrOf, option_map}
 use Rattle.std.specs.List.{list_any}
 use Rattle.std.specs.Str.{bytes_eq}
-use Rattle.clap.specs.Walk.{Row, Text, rows_of, settled}
+use Rattle.clap.specs.Walk.{Row, Text, nothing_held, rows_of}
 use Rattle.std.proofs.lemmas.List.{take_all}
 use Rattle.clap.specs.Kinds.{HasKind}
-use Rattle.clap.specs.Simple.{App, is_simple, matches_of, subcommand_of}
-use Rattle.clap.specs.Faults.{fault_of, is_simple_and_free}
-use Rattle.clap.specs.Matches.{one_text}
+use Rattle.clap.specs.Simple.{App, is_simple, matches_of, subcommand_of, subcommand_rows_of}
+use Rattle.clap.specs.Faults.{fault_of, is_simple_and_free, level_fault}
+use Rattle.clap.specs.Matches.{one_text, subcommand_name_of}
 use Rattle.clap.specs.Values.{kind_of}
+use Rattle.clap.specs.declared.parser.matches.ArgMatches.{ArgMatches}
+use Rattle.clap.specs.declared.parser.matches.ArgMatches.TheViews.{out-ArgMatches}
 use Rattle.clap.specs.declared.parser.matches.Found.{Found}
 use Rattle.clap.specs.declared.error.Error.{Error}
 use Rattle.clap.specs.declared.error.kind.ErrorKind.TheVariants.{OutOfMemory}
 use Rattle.clap.proofs.WalkLemmas.{list_any-map, one_text-rows}
 use Rattle.console_words.specs.Command.{program_app}
-use Rattle.console_words.specs.Numbers.{ReadsNumber}
-use Rattle.console_words.specs.Words.{AsksFor}
+use Rattle.console_words.specs.Numbers.{ReadsNumber, ReadsSample}
+use Rattle.console_words.specs.Words.{AsksFor, AsksForRun, AsksForSample}
+use Rattle.console_words.specs.declared.asked.Asked.{Asked}
+use Rattle.console_words.specs.declared.asked.Asked.TheVariants.{Run, Sample}
 use Rattle.console_words.specs.declared.words_fault.WordsFault.{WordsFault}
 use Rattle.console_words.specs.declared.run_options.RunOptions.{RunOptions}
-use Rattle.console_words.proofs.Turns.{escape, idle_at, options}
+use Rattle.console_words.specs.declared.sample_options.SampleOptions.{SampleOptions}
+use Rattle.console_words.proofs.Turns.{escape, idle_at}
 use Rattle.console_words.proofs.Reading.{LacksEscape, LacksEscape-words_of, Reads, back, end_of, level_back, level_from, reads, words_of}
-use Rattle.console_words.proofs.Program.{begins_run, no_words, run_back, run_from, subcommand_at_run}
-use Rattle.console_words.proofs.Asks.{Answers, asks_back, asks_for}
+use Rattle.console_words.proofs.Program.{begins_sub, leaf_of, no_words, sub_back, sub_from, sub_name, sub_rows, subcommand_at}
+use Rattle.console_words.proofs.Asks.{RunAnswers, asks_back, asks_for}
+use Rattle.console_words.proofs.Sampling.{sample_from}
+use Rattle.console_words.proofs.Sampled.{SampleAnswers, asks_for_sample, sample_asked, sample_is_read}
 
 pub list_any-LacksEscape : (ws : List Text) → LacksEscape ws → list_any (λ w. bytes_eq w escape) ws ≡ false
 list_any-LacksEscape [] h = refl
@@ -45,77 +52,199 @@ escape_of_texts f (x ∷ xs) =
     let whole : take (length (x ∷ xs) - 1) xs ≡ xs = take_all (length (x ∷ xs) - 1) xs (omega arith) in
     ap (list_any (λ y. bytes_eq (f y) escape)) whole ∙ list_any-map (λ w. bytes_eq w escape) f xs
 
+-- what the words ask for, as the level of a subcommand
+record SubBack (words : List Text) : Type 0 where
+  which : Bool
+  name : Text
+  rest : List Text
+  words_are : words ≡ name ∷ sub_name which ∷ rest
+  lacks : LacksEscape rest
+  level : level_fault (leaf_of which) [] nothing_held rest false [] ≡ []
+
+sub_back_of : (words : List Text) (asked : Asked) → AsksFor words asked → SubBack words
+sub_back_of words (Run options) a =
+    let b = asks_back words options a in
+    let rest = back b.passes.uses [] None refl b.passes.pass in
+    record {
+      which = true;
+      name = b.name;
+      rest = words_of b.passes.uses;
+      words_are = b.words_are ∙ ap (λ ws. b.name ∷ codes "run" ∷ ws) b.passes.words_are;
+      lacks = LacksEscape-words_of b.passes.uses [] b.passes.pass;
+      level = level_back (words_of b.passes.uses) rest;
+    }
+sub_back_of words (Sample options) a =
+    let b = sample_asked words options a in
+    record { which = false; name = b.name; rest = b.rest; words_are = b.words_are; lacks = b.lacks; level = b.level }
+
 -- words with a `--` behind the name ask for nothing
-pub escape_asks_nothing : (words : List Text) → list_any (λ w. bytes_eq w escape) (drop 1 words) ≡ true → (asked : RunOptions) → AsksFor words asked → ⊥
+pub escape_asks_nothing : (words : List Text) → list_any (λ w. bytes_eq w escape) (drop 1 words) ≡ true → (asked : Asked) → AsksFor words asked → ⊥
 escape_asks_nothing words e asked a =
-    let b = asks_back words asked a in
-    let lacks : LacksEscape (codes "run" ∷ words_of b.passes.uses) = (refl, LacksEscape-words_of b.passes.uses [] b.passes.pass) in
-    let whole : drop 1 words ≡ codes "run" ∷ words_of b.passes.uses = ap (drop 1) b.words_are ∙ ap (λ ws. codes "run" ∷ ws) b.passes.words_are in
+    let b = sub_back_of words asked a in
+    let lacks : LacksEscape (sub_name b.which ∷ b.rest) = (no_escape b.which, b.lacks) in
     let none : list_any (λ w. bytes_eq w escape) (drop 1 words) ≡ false =
-    ap (list_any (λ w. bytes_eq w escape)) whole ∙ list_any-LacksEscape (codes "run" ∷ words_of b.passes.uses) lacks in
+    ap (λ ws. list_any (λ w. bytes_eq w escape) (drop 1 ws)) b.words_are ∙ list_any-LacksEscape (sub_name b.which ∷ b.rest) lacks in
     let both : true ≡ false = sym e ∙ none in
     cc
-
--- what asks for a run is taken
-pub asked_is_taken : (words : List Text) (asked : RunOptions) → AsksFor words asked → fault_of program_app words ≡ []
-asked_is_taken words asked a =
-    let b = asks_back words asked a in
-    let rest = back b.passes.uses [] None refl b.passes.pass in
-    let level = level_back (words_of b.passes.uses) rest in
-    ap (fault_of program_app) (b.words_are ∙ ap (λ ws. b.name ∷ codes "run" ∷ ws) b.passes.words_are) ∙ run_back (words_of b.passes.uses) level
-
--- the rows of the subcommand, of words that are taken, and what they ask for
-pub taken_asks : (words : List Text) → LacksEscape (drop 1 words) → fault_of program_app words ≡ []
-    → (sub : Text × List Row) → subcommand_of program_app words ≡ Some sub → (asked : RunOptions) → Answers sub.1 asked → AsksFor words asked
-taken_asks [] lacks e sub is asked answers = absurd (no_words e)
-taken_asks (name ∷ ws) lacks e sub is asked answers =
-    let begins = begins_run ws lacks e in
-    let words_are : (name ∷ ws) ≡ name ∷ codes "run" ∷ begins.rest = ap (λ t. name ∷ t) begins.words_are in
-    let level = run_from begins.rest (ap (fault_of program_app) (sym words_are) ∙ e) in
-    let lacks_run : LacksEscape (codes "run" ∷ begins.rest) = subst LacksEscape begins.words_are lacks in
-    let r : Reads [] None begins.rest (end_of (idle_at [] None) begins.rest) = (reads begins.rest lacks_run.1).0 [] None (level_from begins.rest level) in
-    let same : Some sub ≡ Some (codes "run", (settled options (end_of (idle_at [] None) begins.rest).held).rows) =
-    sym is ∙ (ap (subcommand_of program_app) words_are ∙ subcommand_at_run name begins.rest) in
-    let rows : sub.1 ≡ (settled options (end_of (idle_at [] None) begins.rest).held).rows = rows_of_some sub _ same in
-    let asks = asks_for name r.uses asked r.pass (subst (λ (rows : List Row). Answers rows asked) (rows ∙ r.ends) answers) in
-    subst (λ (words : List Text). AsksFor words asked) (sym (words_are ∙ ap (λ t. name ∷ codes "run" ∷ t) r.words_are)) asks
   where
-    rows_of_some : (a b : Text × List Row) → Some a ≡ Some b → a.1 ≡ b.1
-    rows_of_some a b e2 = let same : a ≡ b = cc in ap (λ (p : Text × List Row). p.1) same
+    no_escape : (which : Bool) → bytes_eq (sub_name which) escape ≡ false
+    no_escape true = refl
+    no_escape false = refl
+
+-- what is asked for is taken
+pub asked_is_taken : (words : List Text) (asked : Asked) → AsksFor words asked → fault_of program_app words ≡ []
+asked_is_taken words asked a =
+    let b = sub_back_of words asked a in
+    ap (fault_of program_app) b.words_are ∙ sub_back b.which b.rest b.level
 
 -- a kind that the words give is no want of memory
 pub refused_asks_nothing : (words : List Text) (error : Error) (app : App) → app ≡ program_app
     → (is_simple_and_free app ≡ true → HasKind (fault_of app words) error) → kind_of error ≢ OutOfMemory
-    → (asked : RunOptions) → AsksFor words asked → ⊥
+    → (asked : Asked) → AsksFor words asked → ⊥
 refused_asks_nothing words error app is kinds no_memory asked a =
     let none : fault_of app words ≡ [] = ap (λ (x : App). fault_of x words) is ∙ asked_is_taken words asked a in
     let has : HasKind [] error = subst (λ k. HasKind k error) none (kinds (ap is_simple_and_free is)) in
     elim has [ inl memory ↦ no_memory memory | inr among ↦ absurd among ]
 
-pub same_error : (a b : WordsFault) → IsErrOf {T = RunOptions} (Err a) b → a ≡ b
+-- ---- the words that are taken
+
+-- the words were taken, and their subcommand is this one
+pub record IsTaken (words : List Text) (sub : Option (Text × List Row)) : Type 0 where
+  pub lacks : LacksEscape (drop 1 words)
+  pub no_fault : fault_of program_app words ≡ []
+  pub sub_is : subcommand_of program_app words ≡ sub
+
+pub taken_by : (words : List Text) → list_any (λ w. bytes_eq w escape) (drop 1 words) ≡ false → (app : App) → app ≡ program_app
+    → (is_simple_and_free app ≡ true → fault_of app words ≡ []) → (top : List Row) (sub : Option (Text × List Row))
+    → (is_simple app ≡ true → (top ≡ matches_of app words) × (sub ≡ subcommand_of app words)) → IsTaken words sub
+taken_by words lacks app is kinds top sub found = record {
+  lacks = LacksEscape-from_list_any (drop 1 words) lacks;
+  no_fault = ap (λ (x : App). fault_of x words) (sym is) ∙ kinds (ap is_simple_and_free is);
+  sub_is = ap (λ (x : App). subcommand_of x words) (sym is) ∙ sym (found (ap is_simple is)).1;
+}
+
+abbrev name_in : Option (Text × List Row) → Option Text
+name_in = option_map (λ (p : Text × List Row). p.0)
+
+abbrev rows_in : Option (Text × List Row) → Option (List Row)
+rows_in = option_map (λ (p : Text × List Row). p.1)
+
+-- a subcommand's name and rows, each found by itself
+same_sub : (sub : Option (Text × List Row)) (name : Text) (rows : List Row) → name_in sub ≡ Some name → rows_in sub ≡ Some rows → sub ≡ Some (name, rows)
+same_sub None name rows e f = cc
+same_sub (Some p) name rows e f =
+    let first : p.0 ≡ name = cc in
+    let second : p.1 ≡ rows = cc in
+    ap Some (ap (λ n. (n, p.1)) first ∙ ap (λ r. (name, r)) second)
+
+-- the words as the level of a subcommand
+record SubTaken (words : List Text) (sub : Option (Text × List Row)) : Type 0 where
+  which : Bool
+  name : Text
+  rest : List Text
+  words_are : words ≡ name ∷ sub_name which ∷ rest
+  lacks : LacksEscape rest
+  level : level_fault (leaf_of which) [] nothing_held rest false [] ≡ []
+  sub_is : sub ≡ Some (sub_name which, sub_rows which rest)
+
+sub_taken : (words : List Text) (sub : Option (Text × List Row)) → IsTaken words sub → SubTaken words sub
+sub_taken [] sub t = absurd (no_words t.no_fault)
+sub_taken (name ∷ ws) sub t =
+    let begins = begins_sub ws t.lacks t.no_fault in
+    let words_are : (name ∷ ws) ≡ name ∷ sub_name begins.which ∷ begins.rest = ap (λ t. name ∷ t) begins.words_are in
+    let lacks : LacksEscape (sub_name begins.which ∷ begins.rest) = subst LacksEscape begins.words_are t.lacks in
+    record {
+      which = begins.which;
+      name = name;
+      rest = begins.rest;
+      words_are = words_are;
+      lacks = lacks.1;
+      level = sub_from begins.which begins.rest (ap (fault_of program_app) (sym words_are) ∙ t.no_fault);
+      sub_is = sym t.sub_is ∙ (ap (subcommand_of program_app) words_are ∙ subcommand_at begins.which name begins.rest);
+    }
+
+-- no other subcommand is met
+pub no_other_sub : (words : List Text) (sub : Option (Text × List Row)) → IsTaken words sub
+    → (name_in sub ≡ Some (codes "run") → ⊥) → (name_in sub ≡ Some (codes "sample") → ⊥) → ⊥
+no_other_sub words sub t no_run no_sample = go s.which (ap name_in s.sub_is)
+  where
+    s : SubTaken words sub
+    s = sub_taken words sub t
+
+    go : (which : Bool) → name_in sub ≡ Some (sub_name which) → ⊥
+    go true e = no_run e
+    go false e = no_sample e
+
+-- the names of the subcommands differ
+one_name : (a b : Bool) → sub_name a ≡ sub_name b → a ≡ b
+one_name true true e = refl
+one_name true false e = let same : true ≡ false = ap (λ n. bytes_eq n (codes "run")) e in cc
+one_name false true e = let same : true ≡ false = ap (λ n. bytes_eq n (codes "sample")) e in cc
+one_name false false e = refl
+
+pair_parts : (a b : Text × List Row) → Some a ≡ Some b → (a.0 ≡ b.0) × (a.1 ≡ b.1)
+pair_parts a b e =
+    let same : a ≡ b = cc in
+    (ap (λ (p : Text × List Row). p.0) same, ap (λ (p : Text × List Row). p.1) same)
+
+module _ (words : List Text) (sub : Option (Text × List Row)) (t : IsTaken words sub) (rows : List Row) (rows_is : rows_in sub ≡ Some rows) where
+  s : SubTaken words sub
+  s = sub_taken words sub t
+
+  -- the subcommand of the name, in place of the one that was taken
+  abbrev IsThat : Bool → Type 0
+  IsThat which = (rows ≡ sub_rows which s.rest) × (words ≡ s.name ∷ sub_name which ∷ s.rest)
+      × (level_fault (leaf_of which) [] nothing_held s.rest false [] ≡ [])
+
+  is_that : (which : Bool) → name_in sub ≡ Some (sub_name which) → IsThat which
+  is_that which name_is = subst IsThat same_which (parts.1, s.words_are, s.level)
+    where
+      parts : (sub_name which ≡ sub_name s.which) × (rows ≡ sub_rows s.which s.rest)
+      parts = pair_parts (sub_name which, rows) (sub_name s.which, sub_rows s.which s.rest)
+          (sym (same_sub sub (sub_name which) rows name_is rows_is) ∙ s.sub_is)
+
+      same_which : s.which ≡ which
+      same_which = one_name s.which which (sym parts.0)
+
+  pub run_asks : name_in sub ≡ Some (codes "run") → (options : RunOptions) → RunAnswers rows options → AsksFor words (Run options)
+  run_asks name_is options answers =
+      let run = is_that true name_is in
+      let r : Reads [] None s.rest (end_of (idle_at [] None) s.rest) = (reads s.rest s.lacks).0 [] None (level_from s.rest run.2) in
+      let asks = asks_for s.name r.uses options r.pass (subst (λ (rows : List Row). RunAnswers rows options) (run.0 ∙ r.ends) answers) in
+      subst (λ (words : List Text). AsksForRun words options) (sym (run.1 ∙ ap (λ t. s.name ∷ codes "run" ∷ t) r.words_are)) asks
+
+  pub sample_asks : name_in sub ≡ Some (codes "sample") → (options : SampleOptions) → SampleAnswers rows (Some options) → AsksFor words (Sample options)
+  sample_asks name_is options answers =
+      let sample = is_that false name_is in
+      let asks = asks_for_sample s.rest (sample_from s.rest s.lacks sample.2) s.name options
+      (subst (λ (rows : List Row). SampleAnswers rows (Some options)) sample.0 answers) in
+      subst (λ (words : List Text). AsksForSample words options) (sym sample.1) asks
+
+  -- the numbers of a sample that was taken are there
+  pub sample_is_given : name_in sub ≡ Some (codes "sample") → SampleAnswers rows None → ⊥
+  sample_is_given name_is answers =
+      let sample = is_that false name_is in
+      sample_is_read s.rest (sample_from s.rest s.lacks sample.2) (subst (λ (rows : List Row). SampleAnswers rows None) sample.0 answers)
+
+pub same_error : (a b : WordsFault) → IsErrOf {T = Asked} (Err a) b → a ≡ b
 same_error a b e = cc
 
 -- what the getters of a subcommand's matches give, by its rows
-pub found_answers : (f : Found) (asked : RunOptions) → ReadsNumber 16 (one_text f (codes "threshold")) asked.threshold
-    → ReadsNumber 32 (one_text f (codes "limit")) asked.limit → Answers (rows_of f) asked
-found_answers f asked threshold limit = record {
-  threshold = subst (λ o. ReadsNumber 16 o asked.threshold) (one_text-rows f (codes "threshold")) threshold;
-  limit = subst (λ o. ReadsNumber 32 o asked.limit) (one_text-rows f (codes "limit")) limit;
+pub run_found : (f : Found) (options : RunOptions) → ReadsNumber 16 (one_text f (codes "threshold")) options.threshold
+    → ReadsNumber 32 (one_text f (codes "limit")) options.limit → RunAnswers (rows_of f) options
+run_found f options threshold limit = record {
+  threshold = subst (λ o. ReadsNumber 16 o options.threshold) (one_text-rows f (codes "threshold")) threshold;
+  limit = subst (λ o. ReadsNumber 32 o options.limit) (one_text-rows f (codes "limit")) limit;
 }
 
--- the run of a subcommand that was found
-pub found_asks : (words : List Text) → list_any (λ w. bytes_eq w escape) (drop 1 words) ≡ false → (app : App) → app ≡ program_app
-    → (is_simple_and_free app ≡ true → fault_of app words ≡ []) → (top : List Row) (sub : Option (Text × List Row))
-    → (is_simple app ≡ true → (top ≡ matches_of app words) × (sub ≡ subcommand_of app words))
-    → (rows : List Row) → Some rows ≡ option_map (λ p. p.1) sub → (asked : RunOptions) → Answers rows asked → AsksFor words asked
-found_asks words lacks app is kinds top sub found rows some asked answers = go sub (found (ap is_simple is)).1 some
-  where
-    none : fault_of program_app words ≡ []
-    none = ap (λ (x : App). fault_of x words) (sym is) ∙ kinds (ap is_simple_and_free is)
+pub sample_found : (f : Found) (options : Option SampleOptions) → ReadsSample (one_text f (codes "seed")) (one_text f (codes "count")) options
+    → SampleAnswers (rows_of f) options
+sample_found f options reads = rw (← one_text-rows f (codes "seed"), ← one_text-rows f (codes "count")) reads
 
-    go : (o : Option (Text × List Row)) → o ≡ subcommand_of app words → Some rows ≡ option_map (λ p. p.1) o → AsksFor words asked
-    go None at e = cc
-    go (Some p) at e =
-        let same : rows ≡ p.1 = cc in
-        taken_asks words (LacksEscape-from_list_any (drop 1 words) lacks) none p (ap (λ (x : App). subcommand_of x words) (sym is) ∙ sym at) asked
-        (subst (λ (rows : List Row). Answers rows asked) same answers)
+-- a name is that of the rows that stand with it
+pub names_of_rows : (m : ArgMatches) → subcommand_name_of m ≡ name_in (subcommand_rows_of m)
+names_of_rows m = go (out-ArgMatches m).subcommand _ _
+  where
+    go : {A : Type 0} (o : Option A) (f : A → Text) (g : A → List Row) → option_map f o ≡ name_in (option_map (λ (a : A). (f a, g a)) o)
+    go None f g = refl
+    go (Some a) f g = refl

@@ -1,17 +1,17 @@
--- The uses of options that pass are what `AsksFor` says, both ways.
+-- The uses of options that pass are what `AsksForRun` says, both ways.
 use Rattle.std.proofs.Common.{◌≡◌, ◌⊎◌, ◌∙◌, ◌<◌, ◌≤◌, ◌^◌, ℕ, Bool, true, false, codes, refl, sym, ap, subst, arith, inl, inr, List, [], ◌∷◌, ◌++◌, Option, Some, None, append-nil}
 use Rattle.std.specs.Str.Parse.{digits_value, without_leading_plus}
 use Rattle.clap.specs.Lexer.{without_minus}
 use Rattle.clap.specs.Walk.{Row, Text, has_row, one_of}
-use Rattle.console_words.specs.Words.{AsksFor, Gives}
+use Rattle.console_words.specs.Words.{AsksForRun, Gives, IsNumberFrom}
 use Rattle.console_words.specs.Numbers.{ReadsNumber}
 use Rattle.console_words.specs.declared.run_options.RunOptions.{RunOptions}
 use Rattle.console_words.proofs.Turns.{least_of, most_of, name_of}
-use Rattle.console_words.proofs.Values.{Fits, IsOptionText, use_fits, use_from, without_minus-text}
+use Rattle.console_words.proofs.Values.{Fits, IsNumberIn, IsOptionText, use_fits, use_from, without_minus-text}
 use Rattle.console_words.proofs.Reading.{AllPass, Use, rows_after_uses, spelled, words_of}
 
 -- the getter's answers for the two options
-pub record Answers (rows : List Row) (asked : RunOptions) : Type 0 where
+pub record RunAnswers (rows : List Row) (asked : RunOptions) : Type 0 where
   pub threshold : ReadsNumber 16 (one_of (name_of true) rows) asked.threshold
   pub limit : ReadsNumber 32 (one_of (name_of false) rows) asked.limit
 
@@ -30,10 +30,26 @@ joined_is : (which : Bool) (text : Text) → spelled true which text ≡ (dashed
 joined_is true text = refl
 joined_is false text = refl
 
+-- a text that is a number in its bounds is this number, as `AsksFor` has it
+pub given_number : {low high n : ℕ} {text : Text} → n ≡ digits_value 10 (without_leading_plus text) → IsNumberIn low high text → IsNumberFrom low high n text
+given_number {low} {high} {n} {text} is t = record {
+  number = (t.numeral, sym is);
+  least = subst (λ m. low ≤ m) (sym is) t.least;
+  most = subst (λ m. m ≤ high) (sym is) t.most;
+}
+
+-- and back
+pub number_given : {low high n : ℕ} {text : Text} → IsNumberFrom low high n text → IsNumberIn low high text
+number_given {low} {high} {n} {text} h = record {
+  numeral = h.number.0;
+  least = subst (λ m. low ≤ m) (sym h.number.1) h.least;
+  most = subst (λ m. m ≤ high) (sym h.number.1) h.most;
+}
+
 -- an option that was given, as the getter reads it
 given : (which joined : Bool) (k : ℕ) (text : Text) (n : Option ℕ) → most_of which < 2 ^ k → IsOptionText which text
     → ReadsNumber k (Some (without_minus text)) n → GivesOption which n (spelled joined which text)
-given which joined k text n fits t reads = go n (subst (λ u. ReadsNumber k (Some u) n) (without_minus-text which text t) reads)
+given which joined k text n fits t reads = go n (subst (λ u. ReadsNumber k (Some u) n) (without_minus-text text t) reads)
   where
     small : digits_value 10 (without_leading_plus text) < 2 ^ k
     small = let most = t.most in omega arith
@@ -42,9 +58,7 @@ given which joined k text n fits t reads = go n (subst (λ u. ReadsNumber k (Som
     go None h = absurd (h (t.numeral, small))
     go (Some x) h = record {
       text = text;
-      number = (t.numeral, sym h.1);
-      least = subst (λ m. least_of which ≤ m) (sym h.1) t.least;
-      most = subst (λ m. m ≤ most_of which) (sym h.1) t.most;
+      number = given_number h.1 t;
       written = written_as joined which text;
     }
 
@@ -60,8 +74,8 @@ limit_fits = omega arith
 
 -- one option
 one_use : (name : Text) (which joined : Bool) (text : Text) (asked : RunOptions) → IsOptionText which text
-    → Answers (rows_after_uses (record { which = which; text = text; is_joined = joined } ∷ []) []) asked
-    → AsksFor (name ∷ codes "run" ∷ (spelled joined which text ++ [])) asked
+    → RunAnswers (rows_after_uses (record { which = which; text = text; is_joined = joined } ∷ []) []) asked
+    → AsksForRun (name ∷ codes "run" ∷ (spelled joined which text ++ [])) asked
 one_use name true joined text asked t a = record {
   name = name;
   threshold_words = spelled joined true text;
@@ -82,8 +96,8 @@ one_use name false joined text asked t a = record {
 -- two options
 two_uses : (name : Text) (which joined : Bool) (text : Text) (which2 joined2 : Bool) (text2 : Text) (asked : RunOptions) → IsOptionText which text
     → Fits which2 (rows_after_uses (record { which = which; text = text; is_joined = joined } ∷ []) []) text2
-    → Answers (rows_after_uses (record { which = which; text = text; is_joined = joined } ∷ record { which = which2; text = text2; is_joined = joined2 } ∷ []) []) asked
-    → AsksFor (name ∷ codes "run" ∷ (spelled joined which text ++ (spelled joined2 which2 text2 ++ []))) asked
+    → RunAnswers (rows_after_uses (record { which = which; text = text; is_joined = joined } ∷ record { which = which2; text = text2; is_joined = joined2 } ∷ []) []) asked
+    → AsksForRun (name ∷ codes "run" ∷ (spelled joined which text ++ (spelled joined2 which2 text2 ++ []))) asked
 two_uses name true joined text true joined2 text2 asked t f a = let first = f.is_first in cc
 two_uses name false joined text false joined2 text2 asked t f a = let first = f.is_first in cc
 two_uses name true joined text false joined2 text2 asked t f a = record {
@@ -114,7 +128,7 @@ no_third true joined text false joined2 text2 false text3 f g = let first = g.is
 no_third false joined text true joined2 text2 true text3 f g = let first = g.is_first in cc
 no_third false joined text true joined2 text2 false text3 f g = let first = g.is_first in cc
 
-pub asks_for : (name : Text) (us : List Use) (asked : RunOptions) → AllPass us [] → Answers (rows_after_uses us []) asked → AsksFor (name ∷ codes "run" ∷ words_of us) asked
+pub asks_for : (name : Text) (us : List Use) (asked : RunOptions) → AllPass us [] → RunAnswers (rows_after_uses us []) asked → AsksForRun (name ∷ codes "run" ∷ words_of us) asked
 asks_for name [] asked pass a = record {
   name = name;
   threshold_words = [];
@@ -145,18 +159,14 @@ given_back which None words h = absent refl h
 given_back which (Some n) words h = go h.written
   where
     is_text : IsOptionText which h.text
-    is_text = record {
-      numeral = h.number.0;
-      least = subst (λ m. least_of which ≤ m) (sym h.number.1) h.least;
-      most = subst (λ m. m ≤ most_of which) (sym h.number.1) h.most;
-    }
+    is_text = number_given h.number
 
     small : (which : Bool) → IsOptionText which h.text → digits_value 10 (without_leading_plus h.text) < 2 ^ bits_of which
     small true t = let most = t.most in let fits = threshold_fits in omega arith
     small false t = let most = t.most in let fits = limit_fits in omega arith
 
     reads : ReadsNumber (bits_of which) (Some (without_minus h.text)) (Some n)
-    reads = subst (λ u. ReadsNumber (bits_of which) (Some u) (Some n)) (sym (without_minus-text which h.text is_text)) ((h.number.0, small which is_text), sym h.number.1)
+    reads = subst (λ u. ReadsNumber (bits_of which) (Some u) (Some n)) (sym (without_minus-text h.text is_text)) ((h.number.number.0, small which is_text), sym h.number.number.1)
 
     go : (words ≡ dashed which ∷ h.text ∷ []) ⊎ (words ≡ (dashed which ++ codes "=" ++ h.text) ∷ []) → Given which (Some n) words
     go (inl apart) = used_once false h.text is_text reads apart
@@ -167,7 +177,7 @@ pub record Passing (asked : RunOptions) (words : List Text) : Type 0 where
   pub uses : List Use
   pub words_are : words ≡ words_of uses
   pub pass : AllPass uses []
-  pub answers : Answers (rows_after_uses uses []) asked
+  pub answers : RunAnswers (rows_after_uses uses []) asked
 
 other : Bool → Bool
 other true = false
@@ -192,7 +202,7 @@ passing which asked first second (absent m e) (absent n f) = record {
   answers = answers which m n;
 }
   where
-    answers : (which : Bool) → number_of which asked ≡ None → number_of (other which) asked ≡ None → Answers [] asked
+    answers : (which : Bool) → number_of which asked ≡ None → number_of (other which) asked ≡ None → RunAnswers [] asked
     answers true m n = record { threshold = m; limit = n }
     answers false m n = record { threshold = n; limit = m }
 passing which asked first second (absent m e) (used_once joined text t r f) = record {
@@ -203,7 +213,7 @@ passing which asked first second (absent m e) (used_once joined text t r f) = re
 }
   where
     answers : (which : Bool) → number_of which asked ≡ None → ReadsNumber (bits_of (other which)) (Some (without_minus text)) (number_of (other which) asked)
-        → Answers (rows_after_uses (record { which = other which; text = text; is_joined = joined } ∷ []) []) asked
+        → RunAnswers (rows_after_uses (record { which = other which; text = text; is_joined = joined } ∷ []) []) asked
     answers true m r = record { threshold = m; limit = r }
     answers false m r = record { threshold = r; limit = m }
 passing which asked first second (used_once joined text t r e) (absent n f) = record {
@@ -214,7 +224,7 @@ passing which asked first second (used_once joined text t r e) (absent n f) = re
 }
   where
     answers : (which : Bool) → ReadsNumber (bits_of which) (Some (without_minus text)) (number_of which asked) → number_of (other which) asked ≡ None
-        → Answers (rows_after_uses (record { which = which; text = text; is_joined = joined } ∷ []) []) asked
+        → RunAnswers (rows_after_uses (record { which = which; text = text; is_joined = joined } ∷ []) []) asked
     answers true r n = record { threshold = r; limit = n }
     answers false r n = record { threshold = n; limit = r }
 passing which asked first second (used_once joined text t r e) (used_once joined2 text2 t2 r2 f) = record {
@@ -226,7 +236,7 @@ passing which asked first second (used_once joined text t r e) (used_once joined
   where
     answers : (which : Bool) → ReadsNumber (bits_of which) (Some (without_minus text)) (number_of which asked)
         → ReadsNumber (bits_of (other which)) (Some (without_minus text2)) (number_of (other which) asked)
-        → Answers (rows_after_uses (record { which = which; text = text; is_joined = joined } ∷ record { which = other which; text = text2; is_joined = joined2 } ∷ []) []) asked
+        → RunAnswers (rows_after_uses (record { which = which; text = text; is_joined = joined } ∷ record { which = other which; text = text2; is_joined = joined2 } ∷ []) []) asked
     answers true r r2 = record { threshold = r; limit = r2 }
     answers false r r2 = record { threshold = r2; limit = r }
 
@@ -237,7 +247,7 @@ pub record AsksBack (asked : RunOptions) (words : List Text) : Type 0 where
   pub words_are : words ≡ name ∷ codes "run" ∷ rest
   pub passes : Passing asked rest
 
-pub asks_back : (words : List Text) (asked : RunOptions) → AsksFor words asked → AsksBack asked words
+pub asks_back : (words : List Text) (asked : RunOptions) → AsksForRun words asked → AsksBack asked words
 unfolding other number_of
 asks_back words asked a = go a.are
   where

@@ -2,7 +2,9 @@ pub mod Spelling
 pub mod Turns
 pub mod Values
 pub mod Reading
+pub mod Sampling
 pub mod Program
 pub mod Asks
+pub mod Sampled
 pub mod Answered
 pub mod Unique

@@ -1,17 +1,18 @@
--- Where clap takes the program's words: those of `run`, and no others.
+-- Where clap takes the program's words: those of `run` and of `sample`, and no others.
 use Rattle.std.proofs.Common.{◌≡◌, ◌∙◌, ◌||◌, Bool, true, false, cond, codes, refl, sym, ap, subst, List, [], ◌∷◌, ◌++◌, Option, Some, None, is_some, append_assoc, append-nil}
 use Rattle.std.specs.Prelude.{fold, option_map}
 use Rattle.std.specs.Str.{bytes_eq}
 use Rattle.std.proofs.lemmas.Slice.Eq.{bytes_eq-Decides}
 use Rattle.clap.specs.Lexer.{long_of}
 use Rattle.clap.specs.Kinds.{Kinds, or_else}
-use Rattle.clap.specs.Walk.{Held, Names, Step, Text, Walk, finished, idle, long_or_other, nothing_held, settled, subcommand_or_other, trailing, walk, walk_from, walked}
+use Rattle.clap.specs.Walk.{Held, Names, Row, Step, Text, Walk, finished, idle, long_or_other, nothing_held, settled, subcommand_or_other, trailing, walk, walk_from, walked}
 use Rattle.clap.specs.Simple.{App, Shape, built, entered, names_of, subcommand_of}
 use Rattle.clap.specs.Faults.{built_fault, check_fault, defaults_fault, entered_fault, flag_word_fault, level_fault, other_fault, settle_fault, step_fault, stray_fault, turn_fault, walk_fault}
 use Rattle.clap.proofs.FaultLemmas.{stopped_fault}
 use Rattle.console_words.specs.Command.{program_app}
 use Rattle.console_words.proofs.Turns.{escape, idle_at, leaf, options, or_else-both, or_else-first, or_else-second, plain_only}
 use Rattle.console_words.proofs.Reading.{LacksEscape, end_of, finished-rows}
+use Rattle.console_words.proofs.Sampling.{rows_at_end, sample_leaf}
 
 abbrev pub program : App
 program = built program_app
@@ -22,22 +23,29 @@ top = program.top
 abbrev pub subcommands : Names
 subcommands = names_of program
 
-abbrev run_name : Text
-run_name = codes "run"
+-- a subcommand: true is `run`, and false is `sample`
+abbrev pub sub_name : Bool → Text
+sub_name true = codes "run"
+sub_name false = codes "sample"
 
--- ---- the walk stops at `run`
+abbrev pub leaf_of : Bool → Shape
+leaf_of true = leaf
+leaf_of false = sample_leaf
+
+-- ---- the walk stops at a subcommand
 
 stopped_walk : (w : Walk) (name : Text) (front ws : List Text) → fold (walked [] subcommands) (record w { stopped = Some (name, front) }) ws ≡ record w { stopped = Some (name, front ++ ws) }
 unfolding walked
 stopped_walk w name front [] = ap (λ t. record w { stopped = Some (name, t) }) (sym (append-nil front))
 stopped_walk w name front (x ∷ xs) = stopped_walk w name (front ++ x ∷ []) xs ∙ ap (λ t. record w { stopped = Some (name, t) }) (append_assoc front (x ∷ []) xs)
 
-abbrev run_walk : List Text → Walk
-run_walk ws = record (walk_from nothing_held) { stopped = Some (run_name, ws) }
+abbrev sub_walk : Bool → List Text → Walk
+sub_walk which ws = record (walk_from nothing_held) { stopped = Some (sub_name which, ws) }
 
-walk_at_run : (ws : List Text) → walk [] subcommands nothing_held (run_name ∷ ws) ≡ run_walk ws
+walk_at_sub : (which : Bool) (ws : List Text) → walk [] subcommands nothing_held (sub_name which ∷ ws) ≡ sub_walk which ws
 unfolding walked
-walk_at_run ws = stopped_walk (walk_from nothing_held) run_name [] ws
+walk_at_sub true ws = stopped_walk (walk_from nothing_held) (sub_name true) [] ws
+walk_at_sub false ws = stopped_walk (walk_from nothing_held) (sub_name false) [] ws
 
 -- the faults of the program's words, by the walk over them
 abbrev after_walk : Walk → List Text → Kinds
@@ -50,31 +58,38 @@ after_walk w words = or_else (walk_fault top subcommands (walk_from nothing_held
 by_walk : (words : List Text) → built_fault program nothing_held words ≡ after_walk (walk [] subcommands nothing_held words) words
 by_walk words = refl
 
-run_fault : (ws : List Text) → built_fault program nothing_held (run_name ∷ ws) ≡ after_walk (run_walk ws) (run_name ∷ ws)
-run_fault ws = by_walk (run_name ∷ ws) ∙ ap (λ w. after_walk w (run_name ∷ ws)) (walk_at_run ws)
+sub_fault : (which : Bool) (ws : List Text) → built_fault program nothing_held (sub_name which ∷ ws) ≡ after_walk (sub_walk which ws) (sub_name which ∷ ws)
+sub_fault which ws = by_walk (sub_name which ∷ ws) ∙ ap (λ w. after_walk w (sub_name which ∷ ws)) (walk_at_sub which ws)
 
-run_walk_fault : (ws : List Text) → walk_fault top subcommands (walk_from nothing_held) (run_name ∷ ws) ≡ []
+sub_walk_fault : (which : Bool) (ws : List Text) → walk_fault top subcommands (walk_from nothing_held) (sub_name which ∷ ws) ≡ []
 unfolding walk_fault walked
-run_walk_fault ws = stopped_fault top subcommands (walk_from nothing_held) (run_name, []) ws
+sub_walk_fault true ws = stopped_fault top subcommands (walk_from nothing_held) (sub_name true, []) ws
+sub_walk_fault false ws = stopped_fault top subcommands (walk_from nothing_held) (sub_name false, []) ws
 
-pub run_from : (ws : List Text) → built_fault program nothing_held (run_name ∷ ws) ≡ [] → level_fault leaf [] nothing_held ws false [] ≡ []
+-- the faults after the walk are those of the subcommand
+after_sub : (which : Bool) (ws : List Text) → after_walk (sub_walk which ws) (sub_name which ∷ ws)
+    ≡ or_else (walk_fault top subcommands (walk_from nothing_held) (sub_name which ∷ ws)) (or_else (level_fault (leaf_of which) [] nothing_held ws false []) [])
 unfolding defaults_fault
-run_from ws e =
-    let first = walk_fault top subcommands (walk_from nothing_held) (run_name ∷ ws) in
-    let level = level_fault leaf [] nothing_held ws false [] in
-    or_else-first level [] (or_else-second first (or_else level []) (sym (run_fault ws) ∙ e))
+after_sub true ws = refl
+after_sub false ws = refl
 
-pub run_back : (ws : List Text) → level_fault leaf [] nothing_held ws false [] ≡ [] → built_fault program nothing_held (run_name ∷ ws) ≡ []
-unfolding defaults_fault
-run_back ws e =
-    let first = walk_fault top subcommands (walk_from nothing_held) (run_name ∷ ws) in
-    let level = level_fault leaf [] nothing_held ws false [] in
-    run_fault ws ∙ or_else-both first (or_else level []) (run_walk_fault ws) (or_else-both level [] e refl)
+pub sub_from : (which : Bool) (ws : List Text) → built_fault program nothing_held (sub_name which ∷ ws) ≡ [] → level_fault (leaf_of which) [] nothing_held ws false [] ≡ []
+sub_from which ws e =
+    let first = walk_fault top subcommands (walk_from nothing_held) (sub_name which ∷ ws) in
+    let level = level_fault (leaf_of which) [] nothing_held ws false [] in
+    or_else-first level [] (or_else-second first (or_else level []) (sym (sub_fault which ws ∙ after_sub which ws) ∙ e))
+
+pub sub_back : (which : Bool) (ws : List Text) → level_fault (leaf_of which) [] nothing_held ws false [] ≡ [] → built_fault program nothing_held (sub_name which ∷ ws) ≡ []
+sub_back which ws e =
+    let first = walk_fault top subcommands (walk_from nothing_held) (sub_name which ∷ ws) in
+    let level = level_fault (leaf_of which) [] nothing_held ws false [] in
+    sub_fault which ws ∙ (after_sub which ws ∙ or_else-both first (or_else level []) (sub_walk_fault which ws) (or_else-both level [] e refl))
 
 -- ---- every other word is refused
 
-abbrev sub_by : Bool → Option Text
-sub_by is_run = option_map (λ (s : Text × List Text). s.0) (cond (is_run || false) (Some (run_name, [])) None)
+abbrev sub_by : Bool → Bool → Option Text
+sub_by is_run is_sample = option_map (λ (s : Text × List Text). s.0)
+    (cond (is_run || false) (Some (sub_name true, [])) (cond (is_sample || false) (Some (sub_name false, [])) None))
 
 abbrev fault_by : Bool → Option (Text × Option Text) → Text → Kinds
 fault_by is_escape long word = or_else (cond is_escape [] (flag_word_fault [] false long word nothing_held))
@@ -91,28 +106,32 @@ refused_by word false None n e =
     let plain_is = plain_only [] (λ x. refl) [] None idle word (or_else-first _ _ e) in
     no_stray (subst (λ (p : Held × Step). step_fault top 1 p.0 p.1 ≡ []) plain_is (or_else-second _ _ e))
 
-abbrev turn_by : Bool → Text → Kinds
-turn_by is_run word = or_else (other_fault top (sub_by is_run) word nothing_held)
-    (step_fault top 1 (subcommand_or_other [] (sub_by is_run) idle 1 word nothing_held).0 (subcommand_or_other [] (sub_by is_run) idle 1 word nothing_held).1)
+abbrev turn_by : Bool → Bool → Text → Kinds
+turn_by is_run is_sample word = or_else (other_fault top (sub_by is_run is_sample) word nothing_held)
+    (step_fault top 1 (subcommand_or_other [] (sub_by is_run is_sample) idle 1 word nothing_held).0
+    (subcommand_or_other [] (sub_by is_run is_sample) idle 1 word nothing_held).1)
 
-refused_word : (word : Text) → bytes_eq word escape ≡ false → bytes_eq run_name word ≡ false → turn_fault top subcommands (walk_from nothing_held) word ≡ [] → ⊥
-refused_word word other no_run e =
-    let as_none : turn_by false word ≡ [] = subst (λ b. turn_by b word ≡ []) no_run e in
+refused_word : (word : Text) → bytes_eq word escape ≡ false → bytes_eq (sub_name true) word ≡ false → bytes_eq (sub_name false) word ≡ false
+    → turn_fault top subcommands (walk_from nothing_held) word ≡ [] → ⊥
+refused_word word other no_run no_sample e =
+    let as_no_run : turn_by false (bytes_eq (sub_name false) word) word ≡ [] = subst (λ b. turn_by b (bytes_eq (sub_name false) word) word ≡ []) no_run e in
+    let as_none : turn_by false false word ≡ [] = subst (λ b. turn_by false b word ≡ []) no_sample as_no_run in
     refused_by word (bytes_eq word escape) (long_of word) other as_none
 
 pub no_words : built_fault program nothing_held [] ≡ [] → ⊥
 unfolding defaults_fault walk_fault
 no_words e = cc
 
--- the first word is `run`
-pub record BeginsRun (words : List Text) : Type 0 where
+-- the first word is a subcommand
+pub record BeginsSub (words : List Text) : Type 0 where
+  pub which : Bool
   pub rest : List Text
-  pub words_are : words ≡ run_name ∷ rest
+  pub words_are : words ≡ sub_name which ∷ rest
 
-pub begins_run : (words : List Text) → LacksEscape words → built_fault program nothing_held words ≡ [] → BeginsRun words
+pub begins_sub : (words : List Text) → LacksEscape words → built_fault program nothing_held words ≡ [] → BeginsSub words
 unfolding walk_fault
-begins_run [] lacks e = absurd (no_words e)
-begins_run (w ∷ ws) lacks e = go (bytes_eq run_name w) refl
+begins_sub [] lacks e = absurd (no_words e)
+begins_sub (w ∷ ws) lacks e = go (bytes_eq (sub_name true) w) (bytes_eq (sub_name false) w) refl refl
   where
     turn : turn_fault top subcommands (walk_from nothing_held) w ≡ []
     turn =
@@ -120,10 +139,25 @@ begins_run (w ∷ ws) lacks e = go (bytes_eq run_name w) refl
         let more = walk_fault top subcommands (walked [] subcommands (walk_from nothing_held) w) ws in
         or_else-first first more (or_else-first (or_else first more) _ e)
 
-    go : (b : Bool) → bytes_eq run_name w ≡ b → BeginsRun (w ∷ ws)
-    go true is = record { rest = ws; words_are = ap (λ t. t ∷ ws) (sym ((bytes_eq-Decides run_name w).0 is)) }
-    go false is = absurd (refused_word w lacks.0 is turn)
+    begins : (which : Bool) → bytes_eq (sub_name which) w ≡ true → BeginsSub (w ∷ ws)
+    begins which is = record {
+      which = which;
+      rest = ws;
+      words_are = ap (λ t. t ∷ ws) (sym ((bytes_eq-Decides (sub_name which) w).0 is));
+    }
+
+    go : (run sample : Bool) → bytes_eq (sub_name true) w ≡ run → bytes_eq (sub_name false) w ≡ sample → BeginsSub (w ∷ ws)
+    go true sample is is2 = begins true is
+    go false true is is2 = begins false is2
+    go false false is is2 = absurd (refused_word w lacks.0 is is2 turn)
+
+-- the rows of a subcommand at the words after its name
+abbrev pub sub_rows : Bool → List Text → List Row
+sub_rows true ws = (settled options (end_of (idle_at [] None) ws).held).rows
+sub_rows false ws = rows_at_end ws
 
 -- what the program's words come to
-pub subcommand_at_run : (name : Text) (ws : List Text) → subcommand_of program_app (name ∷ run_name ∷ ws) ≡ Some (run_name, (settled options (end_of (idle_at [] None) ws).held).rows)
-subcommand_at_run name ws = ap (λ (w : Walk). entered program w.stopped) (walk_at_run ws) ∙ ap (λ rows. Some (run_name, rows)) (finished-rows (end_of (idle_at [] None) ws).held)
+pub subcommand_at : (which : Bool) (name : Text) (ws : List Text) → subcommand_of program_app (name ∷ sub_name which ∷ ws) ≡ Some (sub_name which, sub_rows which ws)
+subcommand_at true name ws = ap (λ (w : Walk). entered program w.stopped) (walk_at_sub true ws)
+    ∙ ap (λ rows. Some (sub_name true, rows)) (finished-rows (end_of (idle_at [] None) ws).held)
+subcommand_at false name ws = ap (λ (w : Walk). entered program w.stopped) (walk_at_sub false ws)

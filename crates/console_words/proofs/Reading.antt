@@ -2,7 +2,7 @@
 use Rattle.std.proofs.Common.{◌≡◌, ◌∙◌, ◌||◌, Bool, true, false, cond, refl, sym, ap, subst, List, [], ◌∷◌, ◌++◌, Option, Some, None, inl, inr}
 use Rattle.std.specs.Prelude.{⊤, fold}
 use Rattle.std.specs.Str.{bytes_eq}
-use Rattle.console_words.proofs.Values.{IsPlainWord, plain_word_of, use_text}
+use Rattle.console_words.proofs.Values.{IsPlainWord, number_is_plain, use_text}
 use Rattle.clap.specs.Kinds.{Kinds, or_else}
 use Rattle.clap.specs.Walk.{Held, Row, Text, Walk, finished, has_row, nothing_held, settled, used, walked, with_default}
 use Rattle.clap.specs.Faults.{check_fault, default_fault, defaults_fault, given_default_fault, level_fault, settle_fault, turn_fault, use_fault, walk_fault}
@@ -195,7 +195,7 @@ back (u ∷ us) rows pending settles pass = go u.is_joined (back us)
     go false more =
         let at = settled_at rows pending in
         let turn = begun_turn u.which rows pending ∙ or_else-both _ _ settles refl in
-        let plain = plain_word_of u.which u.text (use_text u.which at u.text pass.0) in
+        let plain = number_is_plain u.text (use_text u.which at u.text pass.0) in
         let rest = more at (Some (name_of u.which, u.text ∷ [])) (settle_fault-given u.which at (u.text ∷ []) ∙ pass.0)
         (subst (AllPass us) (sym (settled-given u.which at (u.text ∷ []))) pass.1) in
         let value = step_back (waiting_at at u.which) u.text (words_of us) (value_turn u.which at u.text plain)
@@ -206,7 +206,7 @@ back (u ∷ us) rows pending settles pass = go u.is_joined (back us)
 -- uses that pass have no word `--`
 pub LacksEscape-words_of : (us : List Use) (rows : List Row) → AllPass us rows → LacksEscape (words_of us)
 LacksEscape-words_of [] rows pass = tt
-LacksEscape-words_of (u ∷ us) rows pass = go u.is_joined u.which (plain_word_of u.which u.text (use_text u.which rows u.text pass.0)) (LacksEscape-words_of us (rows_after_use u rows) pass.1)
+LacksEscape-words_of (u ∷ us) rows pass = go u.is_joined u.which (number_is_plain u.text (use_text u.which rows u.text pass.0)) (LacksEscape-words_of us (rows_after_use u rows) pass.1)
   where
     go : (joined which : Bool) → IsPlainWord u.text → LacksEscape (words_of us) → LacksEscape (spelled joined which u.text ++ words_of us)
     go true true plain rest = (refl, rest)

@@ -1,12 +1,16 @@
--- Words ask for one run at most.
-use Rattle.std.proofs.Common.{◌≡◌, ◌∙◌, ◌<◌, ℕ, Bool, true, false, zero, suc, arith, codes, refl, sym, ap, subst, List, [], ◌∷◌, ◌++◌, Option, Some, None}
+-- Words ask for one thing at most.
+use Rattle.std.proofs.Common.{◌≡◌, ◌∙◌, ◌<◌, ℕ, Bool, true, false, zero, suc, arith, codes, refl, sym, ap, ap₂, subst, List, [], ◌∷◌, ◌++◌, Option, Some, None, drop}
+use Rattle.std.specs.Str.Parse.{digits_value, without_leading_plus}
 use Rattle.clap.specs.Walk.{Row, Text, one_of}
 use Rattle.console_words.specs.Numbers.{ReadsNumber}
-use Rattle.console_words.specs.Words.{AsksFor}
+use Rattle.console_words.specs.Words.{AsksFor, AsksForRun, AsksForSample, IsNumber}
+use Rattle.console_words.specs.declared.asked.Asked.{Asked}
+use Rattle.console_words.specs.declared.asked.Asked.TheVariants.{Run, Sample}
 use Rattle.console_words.specs.declared.run_options.RunOptions.{RunOptions}
+use Rattle.console_words.specs.declared.sample_options.SampleOptions.{SampleOptions}
 use Rattle.console_words.proofs.Turns.{name_of}
 use Rattle.console_words.proofs.Reading.{Use, rows_after_uses, spelled, words_of}
-use Rattle.console_words.proofs.Asks.{Answers, asks_back}
+use Rattle.console_words.proofs.Asks.{RunAnswers, asks_back}
 
 -- a text is read as one number
 reads_one : (k : ℕ) (text : Option Text) (m n : Option ℕ) → ReadsNumber k text m → ReadsNumber k text n → m ≡ n
@@ -16,7 +20,7 @@ reads_one k (Some text) None (Some y) p q = absurd (p q.0)
 reads_one k (Some text) (Some x) None p q = absurd (q p.0)
 reads_one k (Some text) (Some x) (Some y) p q = ap Some (p.1 ∙ sym q.1)
 
-answers_one : (rows : List Row) (a b : RunOptions) → Answers rows a → Answers rows b → a ≡ b
+answers_one : (rows : List Row) (a b : RunOptions) → RunAnswers rows a → RunAnswers rows b → a ≡ b
 answers_one rows a b p q =
     let threshold : a.threshold ≡ b.threshold = reads_one 16 (one_of (name_of true) rows) a.threshold b.threshold p.threshold q.threshold in
     let limit : a.limit ≡ b.limit = reads_one 32 (one_of (name_of false) rows) a.limit b.limit p.limit q.limit in
@@ -84,11 +88,37 @@ words_of-one (u ∷ us) (v ∷ vs) e = starts u.is_joined u.which u.text refl v.
         let rest = more same in
         cc
 
-pub asks_one : (words : List Text) (a b : RunOptions) → AsksFor words a → AsksFor words b → a ≡ b
-asks_one words a b p q =
+run_one : (words : List Text) (a b : RunOptions) → AsksForRun words a → AsksForRun words b → a ≡ b
+run_one words a b p q =
     let first = asks_back words a p in
     let second = asks_back words b q in
     let whole : first.name ∷ codes "run" ∷ first.rest ≡ second.name ∷ codes "run" ∷ second.rest = sym first.words_are ∙ second.words_are in
     let rest : first.rest ≡ second.rest = cc in
     let same : first.passes.uses ≡ second.passes.uses = words_of-one _ _ (sym first.passes.words_are ∙ (rest ∙ second.passes.words_are)) in
-    answers_one (rows_after_uses second.passes.uses []) a b (subst (λ us. Answers (rows_after_uses us []) a) same first.passes.answers) second.passes.answers
+    answers_one (rows_after_uses second.passes.uses []) a b (subst (λ us. RunAnswers (rows_after_uses us []) a) same first.passes.answers) second.passes.answers
+
+-- a text is one number
+one_number : (text text2 : Text) (m n : ℕ) → IsNumber text m → IsNumber text2 n → text ≡ text2 → m ≡ n
+one_number text text2 m n p q e = sym p.1 ∙ (ap (λ t. digits_value 10 (without_leading_plus t)) e ∙ q.1)
+
+sample_one : (words : List Text) (a b : SampleOptions) → AsksForSample words a → AsksForSample words b → a ≡ b
+sample_one words a b p q =
+    let whole : p.name ∷ codes "sample" ∷ p.seed_text ∷ p.count_text ∷ [] ≡ q.name ∷ codes "sample" ∷ q.seed_text ∷ q.count_text ∷ [] = sym p.are ∙ q.are in
+    let seed_text : p.seed_text ≡ q.seed_text = cc in
+    let count_text : p.count_text ≡ q.count_text = cc in
+    let seed : a.seed ≡ b.seed = one_number p.seed_text q.seed_text a.seed b.seed p.seed.number q.seed.number seed_text in
+    let count : a.count ≡ b.count = one_number p.count_text q.count_text a.count b.count p.count.number q.count.number count_text in
+    ap₂ (λ (m n : ℕ). record { seed = m; count = n }) seed count
+
+run_is_no_sample : (words : List Text) (a : RunOptions) (b : SampleOptions) → AsksForRun words a → AsksForSample words b → ⊥
+unfolding byte_of byte_at
+run_is_no_sample words a b p q =
+    let run = asks_back words a p in
+    let whole : run.name ∷ codes "run" ∷ run.rest ≡ q.name ∷ codes "sample" ∷ q.seed_text ∷ q.count_text ∷ [] = sym run.words_are ∙ q.are in
+    differ 114 115 (omega arith) (ap (λ ws. byte_of 0 (drop 1 ws)) whole)
+
+pub asks_one : (words : List Text) (a b : Asked) → AsksFor words a → AsksFor words b → a ≡ b
+asks_one words (Run a) (Run b) p q = ap Run (run_one words a b p q)
+asks_one words (Run a) (Sample b) p q = absurd (run_is_no_sample words a b p q)
+asks_one words (Sample a) (Run b) p q = absurd (run_is_no_sample words b a q p)
+asks_one words (Sample a) (Sample b) p q = ap Sample (sample_one words a b p q)

@@ -1,5 +1,5 @@
--- The texts that an option of `run` takes.
-use Rattle.std.proofs.Common.{◌≡◌, ◌∙◌, ◌<◌, ◌≤◌, ◌==◌, ◌&&◌, ◌^◌, Bool, true, false, cond, refl, sym, ap, subst, arith, List, [], ◌∷◌, None}
+-- The texts that are numbers, and those that an option of `run` takes.
+use Rattle.std.proofs.Common.{◌≡◌, ◌∙◌, ◌<◌, ◌≤◌, ◌==◌, ◌&&◌, ◌^◌, ℕ, Bool, true, false, cond, refl, sym, ap, subst, arith, List, [], ◌∷◌, None}
 use Rattle.std.specs.Prelude.{pos}
 use Rattle.std.specs.Str.{bytes_eq}
 use Rattle.std.specs.Str.Parse.{IsNumeral, digits_value, starts_with_minus, without_leading_plus}
@@ -7,7 +7,7 @@ use Rattle.std.proofs.lemmas.Bool.{eqb-true}
 use Rattle.std.proofs.lemmas.Int.{ints}
 use Rattle.clap.specs.Kinds.{Kinds, or_else}
 use Rattle.clap.specs.Lexer.{long_of, short_of, without_minus}
-use Rattle.clap.specs.Values.{IsSignedIn, refused_kind}
+use Rattle.clap.specs.Values.{IsSignedIn, IsUnsignedIn, refused_kind}
 use Rattle.clap.specs.ValueTests.{accepts}
 use Rattle.clap.specs.Walk.{Row, Text, has_row}
 use Rattle.clap.specs.Faults.{use_fault}
@@ -16,11 +16,15 @@ use Rattle.clap.specs.declared.error.kind.ErrorKind.TheVariants.{ArgumentConflic
 use Rattle.clap.proofs.ValueTestLemmas.{Accepts-accepts, accepts-Accepts}
 use Rattle.console_words.proofs.Turns.{chosen, escape, least_of, most_of, name_of}
 
--- the text is a decimal number in the option's range
-pub record IsOptionText (which : Bool) (text : Text) : Type 0 where
+-- the text is a decimal number from low to high
+pub record IsNumberIn (low high : ℕ) (text : Text) : Type 0 where
   pub numeral : IsNumeral 10 (without_leading_plus text)
-  pub least : least_of which ≤ digits_value 10 (without_leading_plus text)
-  pub most : digits_value 10 (without_leading_plus text) ≤ most_of which
+  pub least : low ≤ digits_value 10 (without_leading_plus text)
+  pub most : digits_value 10 (without_leading_plus text) ≤ high
+
+-- the text is a number in the option's range
+abbrev pub IsOptionText : Bool → Text → Type 0
+IsOptionText which text = IsNumberIn (least_of which) (most_of which) text
 
 -- a word that doesn't begin with a hyphen
 pub record IsPlainWord (word : Text) : Type 0 where
@@ -43,21 +47,21 @@ plain_word : (text : Text) → starts_with_minus text ≡ false → IsPlainWord 
 plain_word [] e = record { other = refl; no_long = refl; no_short = refl }
 plain_word (x ∷ xs) e = record { other = rw e refl; no_long = rw e refl; no_short = rw e refl }
 
-pub plain_word_of : (which : Bool) (text : Text) → IsOptionText which text → IsPlainWord text
-plain_word_of which text t = plain_word text (no_minus text t.numeral)
+pub number_is_plain : {low high : ℕ} (text : Text) → IsNumberIn low high text → IsPlainWord text
+number_is_plain text t = plain_word text (no_minus text t.numeral)
 
 -- the text that a typed getter reads
-pub without_minus-text : (which : Bool) (text : Text) → IsOptionText which text → without_minus text ≡ text
-without_minus-text which text t = go text (no_minus text t.numeral)
+pub without_minus-text : {low high : ℕ} (text : Text) → IsNumberIn low high text → without_minus text ≡ text
+without_minus-text text t = go text (no_minus text t.numeral)
   where
     go : (text : Text) → starts_with_minus text ≡ false → without_minus text ≡ text
     go [] e = refl
     go (x ∷ xs) e = rw e refl
 
-signed_from : (which : Bool) (text : Text) → 0 < least_of which → IsSignedIn (pos (least_of which)) (pos (most_of which)) text → IsOptionText which text
-signed_from which text some h = go (starts_with_minus text) refl
+pub signed_from : (low high : ℕ) (text : Text) → 0 < low → IsSignedIn (pos low) (pos high) text → IsNumberIn low high text
+signed_from low high text some h = go (starts_with_minus text) refl
   where
-    go : (b : Bool) → starts_with_minus text ≡ b → IsOptionText which text
+    go : (b : Bool) → starts_with_minus text ≡ b → IsNumberIn low high text
     go true minus =
         let low_ok = rw minus at h.2 in
         absurd (omega (arith, ints))
@@ -67,12 +71,20 @@ signed_from which text some h = go (starts_with_minus text) refl
         let high_ok = rw minus at h.3 in
         record { numeral = numeral_ok; least = omega (arith, ints); most = omega (arith, ints) }
 
-signed_back : (which : Bool) (text : Text) → most_of which < 2 ^ 63 → IsOptionText which text → IsSignedIn (pos (least_of which)) (pos (most_of which)) text
-signed_back which text small t =
+pub signed_back : (low high : ℕ) (text : Text) → high < 2 ^ 63 → IsNumberIn low high text → IsSignedIn (pos low) (pos high) text
+signed_back low high text small t =
     let minus = no_minus text t.numeral in
-    let low = t.least in
-    let high = t.most in
+    let low_ok = t.least in
+    let high_ok = t.most in
     rw minus (t.numeral, record { sfits = omega arith }, omega (arith, ints), omega (arith, ints))
+
+pub unsigned_from : (low high : ℕ) (text : Text) → IsUnsignedIn low high text → IsNumberIn low high text
+unsigned_from low high text h = record { numeral = h.0; least = h.2; most = h.3 }
+
+pub unsigned_back : (low high : ℕ) (text : Text) → high < 2 ^ 64 → IsNumberIn low high text → IsUnsignedIn low high text
+unsigned_back low high text small t =
+    let most = t.most in
+    (t.numeral, omega arith, t.least, t.most)
 
 positive : (which : Bool) → 0 < least_of which
 positive true = omega arith
@@ -104,12 +116,12 @@ use_fits which rows text e = go (has_row (name_of which) rows) (takes_text which
     go : (again fits : Bool) → has_row (name_of which) rows ≡ again → takes_text which text ≡ fits → fault_by which again fits ≡ [] → Fits which rows text
     go true fits f g h = cc
     go false false f g h = cc
-    go false true f g h = record { is_first = f; is_text = signed_from which text (positive which) (accepts-Accepts false (parsers.Signed (pos (least_of which)) (pos (most_of which))) text g) }
+    go false true f g h = record { is_first = f; is_text = signed_from (least_of which) (most_of which) text (positive which) (accepts-Accepts false (parsers.Signed (pos (least_of which)) (pos (most_of which))) text g) }
 
 pub use_text : (which : Bool) (rows : List Row) (text : Text) → use_fault false (chosen which) (text ∷ []) rows ≡ [] → IsOptionText which text
 use_text which rows text e = (use_fits which rows text e).is_text
 
 pub use_from : (which : Bool) (rows : List Row) (text : Text) → has_row (name_of which) rows ≡ false → IsOptionText which text → use_fault false (chosen which) (text ∷ []) rows ≡ []
 use_from which rows text first t =
-    let fits = Accepts-accepts false (parsers.Signed (pos (least_of which)) (pos (most_of which))) text (signed_back which text (small which) t) in
+    let fits = Accepts-accepts false (parsers.Signed (pos (least_of which)) (pos (most_of which))) text (signed_back (least_of which) (most_of which) text (small which) t) in
     use_fault_is which rows text ∙ (ap (λ b. fault_by which b (takes_text which text)) first ∙ ap (fault_by which false) fits)

@@ -1,7 +1,9 @@
--- The command as `clap` reads it: `run`, with its two options, and nothing of clap's own.
+-- The command as `clap` reads it: `run` with its two options, `sample` with its two numbers, and
+-- nothing of clap's own.
 use Rattle.std.specs.Prelude.{ℕ, pos, true, Some, codes}
 use Rattle.clap.specs.Words.{App, Rule, Text, new_app, new_rule, with_rule, with_subcommand}
 use Rattle.clap.specs.declared.builder.action.ArgAction.TheVariants.{Set}
+use Rattle.clap.specs.declared.builder.value_parser.ValueParser.{ValueParser}
 use Rattle.clap.specs.declared.builder.value_parser.ValueParser.TheVariants as parsers
 
 -- an option that takes one number, from low to high
@@ -12,15 +14,39 @@ number_option name low high = record (new_rule name) {
   parser = Some (parsers.Signed (pos low) (pos high));
 }
 
+-- the option of the threshold
 abbrev pub threshold_option : Rule
 threshold_option = number_option (codes "threshold") 2 200
 
+-- the option of the limit
 abbrev pub limit_option : Rule
 limit_option = number_option (codes "limit") 16 16777216
 
+-- `run`, as it is made
 abbrev pub run_app : App
 run_app = with_rule (with_rule (new_app (codes "run")) threshold_option) limit_option
 
+-- a word that has to stand in its place, which the parser takes
+abbrev pub number_word : Text → ValueParser → Rule
+number_word name parser = record (new_rule name) {
+  action = Some Set;
+  parser = Some parser;
+  required = true;
+}
+
+-- the first word of a sample
+abbrev pub seed_word : Rule
+seed_word = number_word (codes "seed") (parsers.Unsigned 0 18446744073709551615)
+
+-- the second word of a sample
+abbrev pub count_word : Rule
+count_word = number_word (codes "count") (parsers.Signed (pos 1) (pos 20000))
+
+-- `sample`, as it is made
+abbrev pub sample_app : App
+sample_app = with_rule (with_rule (new_app (codes "sample")) seed_word) count_word
+
+-- the program's command before its subcommands
 abbrev pub empty_app : App
 empty_app = record (new_app (codes "graph")) {
   top = record (new_app (codes "graph")).top {
@@ -30,5 +56,6 @@ empty_app = record (new_app (codes "graph")) {
   };
 }
 
+-- the program's command
 abbrev pub program_app : App
-program_app = with_subcommand empty_app run_app.top
+program_app = with_subcommand (with_subcommand empty_app run_app.top) sample_app.top

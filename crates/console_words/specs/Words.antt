@@ -1,18 +1,26 @@
--- Which words ask for a run, and what they ask for.
+-- What the program's words ask for.
 use Rattle.std.specs.Prelude.{◌≡◌, ◌⊎◌, ◌≤◌, ℕ, List, [], ◌∷◌, ◌++◌, Option, Some, None, codes}
 use Rattle.std.specs.Str.Parse.{IsNumeral, digits_value, without_leading_plus}
+use Rattle.console_words.specs.declared.asked.Asked.{Asked}
+use Rattle.console_words.specs.declared.asked.Asked.TheVariants.{Run, Sample}
 use Rattle.console_words.specs.declared.run_options.RunOptions.{RunOptions}
+use Rattle.console_words.specs.declared.sample_options.SampleOptions.{SampleOptions}
 
 -- the text is a decimal number n as Rust reads one: zeros may stand first, and a plus before them
 abbrev pub IsNumber : List ℕ → ℕ → Type 0
-IsNumber text n = IsNumeral 10 (without_leading_plus text) × (digits_value 10 (without_leading_plus text) ≡ n)
+IsNumber text n = IsNumeral 10 (without_leading_plus text)
+    × (digits_value 10 (without_leading_plus text) ≡ n)
 
--- the words `--name TEXT` or the word `--name=TEXT`, where the text is the number n, from low to high
-pub record GivesNumber (name : List ℕ) (low high n : ℕ) (words : List (List ℕ)) : Type 0 where
-  pub text : List ℕ
+-- the text is the number n, which lies from low to high
+pub record IsNumberFrom (low high n : ℕ) (text : List ℕ) : Type 0 where
   pub number : IsNumber text n
   pub least : low ≤ n
   pub most : n ≤ high
+
+-- the words `--name TEXT` or the word `--name=TEXT`, where the text is such a number
+pub record GivesNumber (name : List ℕ) (low high n : ℕ) (words : List (List ℕ)) : Type 0 where
+  pub text : List ℕ
+  pub number : IsNumberFrom low high n text
   pub written : (words ≡ name ∷ text ∷ []) ⊎ (words ≡ (name ++ codes "=" ++ text) ∷ [])
 
 -- the words of an option that may be left out
@@ -21,7 +29,7 @@ Gives name low high None words = words ≡ []
 Gives name low high (Some n) words = GivesNumber name low high n words
 
 -- The words are the program's name, `run`, and the words of the two options, in either order.
-pub record AsksFor (words : List (List ℕ)) (options : RunOptions) : Type 0 where
+pub record AsksForRun (words : List (List ℕ)) (options : RunOptions) : Type 0 where
   pub name : List ℕ
   pub threshold_words : List (List ℕ)
   pub limit_words : List (List ℕ)
@@ -29,3 +37,17 @@ pub record AsksFor (words : List (List ℕ)) (options : RunOptions) : Type 0 whe
   pub limit : Gives (codes "--limit") 16 16777216 options.limit limit_words
   pub are : (words ≡ name ∷ codes "run" ∷ threshold_words ++ limit_words)
       ⊎ (words ≡ name ∷ codes "run" ∷ limit_words ++ threshold_words)
+
+-- The words are the program's name, `sample`, and the two numbers, the seed first.
+pub record AsksForSample (words : List (List ℕ)) (options : SampleOptions) : Type 0 where
+  pub name : List ℕ
+  pub seed_text : List ℕ
+  pub count_text : List ℕ
+  pub seed : IsNumberFrom 0 18446744073709551615 options.seed seed_text
+  pub count : IsNumberFrom 1 20000 options.count count_text
+  pub are : words ≡ name ∷ codes "sample" ∷ seed_text ∷ count_text ∷ []
+
+-- the words ask for this run, or for this sample
+abbrev pub AsksFor : List (List ℕ) → Asked → Type 0
+AsksFor words (Run options) = AsksForRun words options
+AsksFor words (Sample options) = AsksForSample words options

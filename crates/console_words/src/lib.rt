@@ -2,13 +2,17 @@
 //! clap's command anew.
 #![tactic(auto)]
 
+mod asked;
 mod command;
 mod run_options;
+mod sample_options;
 #[cfg(test)]
 mod tests;
 mod words;
 mod words_fault;
 
+pub use asked::Asked;
 pub use run_options::RunOptions;
+pub use sample_options::SampleOptions;
 pub use words::read_words;
 pub use words_fault::WordsFault;

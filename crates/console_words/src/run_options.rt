@@ -1,4 +1,4 @@
-/// What the words ask for: options that aren't given are left open.
+/// The options of a run; those that aren't given are left open.
 #[derive(Clone, Copy, Debug, PartialEq, Eq)]
 pub struct RunOptions {
     /// The number behind `--threshold`, 2 to 200.

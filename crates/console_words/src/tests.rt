@@ -1,5 +1,5 @@
 //! Lists of words that are taken, with what they ask for, and lists that are refused.
-use crate::{RunOptions, WordsFault, read_words};
+use crate::{Asked, RunOptions, SampleOptions, WordsFault, read_words};
 use std::alloc::{AllocError, Global};
 use std::test::Fail;
 
@@ -11,23 +11,48 @@ fn words_of(alloc: Global, line: &str) -> Result<Vec<String>, AllocError> {
     Ok(words)
 }
 
-/// Lines whose first word is the program's name.
-const TAKEN: [(&str, Option<u16>, Option<u32>); 8] = [
-    ("graph run", None, None),
-    ("graph run --threshold 2", Some(2), None),
-    ("graph run --threshold 200 --limit 16", Some(200), Some(16)),
-    ("graph run --limit=16777216", None, Some(16_777_216)),
-    ("graph run --limit=16 --threshold=60", Some(60), Some(16)),
-    ("graph run --limit 20 --threshold=+007", Some(7), Some(20)),
-    ("-- run --threshold 2", Some(2), None),
-    ("run run", None, None),
-];
+fn run(threshold: Option<u16>, limit: Option<u32>) -> Asked {
+    Asked::Run(RunOptions { threshold, limit })
+}
 
-const REFUSED: [&str; 29] = [
+fn sample(seed: u64, count: u32) -> Asked {
+    Asked::Sample(SampleOptions { seed, count })
+}
+
+/// Lines whose first word is the program's name.
+fn taken() -> [(&'static str, Asked); 14] {
+    [
+        ("graph run", run(None, None)),
+        ("graph run --threshold 2", run(Some(2), None)),
+        (
+            "graph run --threshold 200 --limit 16",
+            run(Some(200), Some(16)),
+        ),
+        ("graph run --limit=16777216", run(None, Some(16_777_216))),
+        (
+            "graph run --limit=16 --threshold=60",
+            run(Some(60), Some(16)),
+        ),
+        (
+            "graph run --limit 20 --threshold=+007",
+            run(Some(7), Some(20)),
+        ),
+        ("-- run --threshold 2", run(Some(2), None)),
+        ("run run", run(None, None)),
+        ("graph sample 1 1", sample(1, 1)),
+        ("graph sample 0 20000", sample(0, 20_000)),
+        ("graph sample 18446744073709551615 1", sample(u64::MAX, 1)),
+        ("graph sample +007 +01", sample(7, 1)),
+        ("-- sample 20001 3", sample(20_001, 3)),
+        ("sample sample 2 3", sample(2, 3)),
+    ]
+}
+
+/// Lines that ask for nothing.
+const REFUSED: [&str; 50] = [
     "",
     "graph",
     "graph walk",
-    "graph sample 1 1",
     "graph run run",
     "graph run --threshold 1",
     "graph run --threshold 201",
@@ -53,15 +78,36 @@ const REFUSED: [&str; 29] = [
     "graph run --threshold abc",
     "graph run --threshold -5",
     "graph --threshold 2 run",
+    "graph sample",
+    "graph sample 1",
+    "graph sample 1 0",
+    "graph sample 1 20001",
+    "graph sample 18446744073709551616 1",
+    "graph sample -1 1",
+    "graph sample -0 1",
+    "graph sample 1 -0",
+    "graph sample - 1",
+    "graph sample 1 1 1",
+    "graph sample 1 1 --limit 16",
+    "graph sample --limit 16 1 1",
+    "graph sample --seed 1 --count 1",
+    "graph sample 1 1 run",
+    "graph run sample 1 1",
+    "graph sample --help",
+    "graph sample -- 1 1",
+    "graph sample 1 1 --",
+    "graph sample 1.0 1",
+    "graph sample 0x1 1",
+    "graph 1 1",
+    "graph SAMPLE 1 1",
 ];
 
 #[test]
 fn words_that_are_taken(rt: HostRuntime) -> Result<(), Fail> {
     let alloc = rt.alloc();
-    for (line, threshold, limit) in TAKEN {
+    for (line, asked) in taken() {
         let words = words_of(alloc, line)?;
-        let options = RunOptions { threshold, limit };
-        assert_eq!(rt; read_words(alloc, &words), Ok(options), "{line}");
+        assert_eq!(rt; read_words(alloc, &words), Ok(asked), "{line}");
     }
     Ok(())
 }
@@ -72,6 +118,22 @@ fn words_that_are_refused(rt: HostRuntime) -> Result<(), Fail> {
     for line in REFUSED {
         let words = words_of(alloc, line)?;
         assert_eq!(rt; read_words(alloc, &words), Err(WordsFault::Usage), "{line}");
+    }
+    Ok(())
+}
+
+#[test]
+fn an_empty_word_is_no_number(rt: HostRuntime) -> Result<(), Fail> {
+    let alloc = rt.alloc();
+    for (seed, count) in [("", "1"), ("1", "")] {
+        let mut words = words_of(alloc, "graph sample")?;
+        words.push(String::from_str(alloc, seed)?)?;
+        words.push(String::from_str(alloc, count)?)?;
+        assert_eq!(rt;
+            read_words(alloc, &words),
+            Err(WordsFault::Usage),
+            "{seed:?} {count:?}"
+        );
     }
     Ok(())
 }

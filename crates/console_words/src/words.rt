@@ -2,27 +2,29 @@ ghost use Rattle.std.specs.Prelude.{◌≡◌, ◌≢◌, IfOk, IsErrOf, codes, 
 ghost use Rattle.std.specs.List.{list_any};
 ghost use Rattle.std.specs.Str.{bytes_eq};
 ghost use Rattle.clap.specs.Words.{found_of, one_text};
-ghost use Rattle.console_words.specs.Numbers.{ReadsNumber};
+ghost use Rattle.console_words.specs.Numbers.{ReadsNumber, ReadsSample};
 ghost use Rattle.console_words.specs.Words.{AsksFor};
-ghost use Rattle.console_words.specs.declared.run_options.RunOptions.{RunOptions};
+ghost use Rattle.console_words.specs.declared.asked.Asked.{Asked};
 
 use crate::command::command;
-use crate::{RunOptions, WordsFault};
+use crate::{Asked, RunOptions, SampleOptions, WordsFault};
 use clap::ArgMatches;
 use clap::error::ErrorKind;
 use std::alloc::Global;
 
-/// The run that the words ask for; `words` are the program's words, its name first. Words that ask
-/// for none are `Usage`. `Memory` may come for any words.
-pub fn read_words(alloc: Global, words: &[String]) -> Result<RunOptions, WordsFault>
-    ensures taken { IfOk result (λ options. AsksFor (map string_bytes words.now) options) }
-    ensures only { IfOk result (λ options. (other : RunOptions) → AsksFor (map string_bytes words.now) other → other ≡ options) }
-    ensures usage { IsErrOf result WordsFault.Usage → (options : RunOptions) → ¬ AsksFor (map string_bytes words.now) options }
+/// What the words ask for; `words` are the program's words, its name first. Words that ask for
+/// nothing are `Usage`. `Memory` may come for any words.
+pub fn read_words(alloc: Global, words: &[String]) -> Result<Asked, WordsFault>
+    ensures taken { IfOk result (λ asked. AsksFor (map string_bytes words.now) asked) }
+    ensures only { IfOk result (λ asked. (other : Asked)
+        → AsksFor (map string_bytes words.now) other → other ≡ asked) }
+    ensures usage { IsErrOf result WordsFault.Usage
+        → (asked : Asked) → ¬ AsksFor (map string_bytes words.now) asked }
 {
     let [_, rest @ ..] = words else {
         return Err(WordsFault::Usage);
     };
-    // clap takes a last `--`, behind which no option stands; here it is no word.
+    // clap takes a `--`, behind which no option stands; here it is no word.
     if has_escape(rest) {
         return Err(WordsFault::Usage);
     }
@@ -31,8 +33,14 @@ pub fn read_words(alloc: Global, words: &[String]) -> Result<RunOptions, WordsFa
         Ok(matches) => matches,
         Err(fault) => return Err(fault_of(fault.kind())),
     };
-    match matches.subcommand() {
-        Some((_, run)) => Ok(options_of(run)),
+    if let Some(run) = matches.subcommand_matches("run") {
+        return Ok(Asked::Run(run_options(run)));
+    }
+    let Some(sample) = matches.subcommand_matches("sample") else {
+        return Err(WordsFault::Usage);
+    };
+    match sample_options(sample) {
+        Some(options) => Ok(Asked::Sample(options)),
         None => Err(WordsFault::Usage),
     }
 }
@@ -55,12 +63,23 @@ fn fault_of(kind: ErrorKind) -> WordsFault
 }
 
 /// The options of `run` that were given.
-fn options_of(run: &ArgMatches) -> RunOptions
-    ensures threshold { ReadsNumber 16 (one_text (found_of run.now) (codes "threshold")) result.threshold }
+fn run_options(run: &ArgMatches) -> RunOptions
+    ensures threshold { ReadsNumber 16 (one_text (found_of run.now) (codes "threshold"))
+        result.threshold }
     ensures limit { ReadsNumber 32 (one_text (found_of run.now) (codes "limit")) result.limit }
 {
     RunOptions {
         threshold: run.get_one::<u16>("threshold"),
         limit: run.get_one::<u32>("limit"),
     }
+}
+
+/// The numbers of `sample`, if both were given.
+fn sample_options(sample: &ArgMatches) -> Option<SampleOptions>
+    ensures { ReadsSample (one_text (found_of sample.now) (codes "seed"))
+        (one_text (found_of sample.now) (codes "count")) result }
+{
+    let seed = sample.get_one::<u64>("seed")?;
+    let count = sample.get_one::<u32>("count")?;
+    Some(SampleOptions { seed, count })
 }

@@ -1,7 +1,7 @@
 use std::alloc::AllocError;
 use thiserror::Error;
 
-/// Why the words give no run.
+/// Why the words give nothing to do.
 #[derive(Clone, Copy, Debug, PartialEq, Eq, Error)]
 pub enum WordsFault {
     /// There was no memory to read the words.

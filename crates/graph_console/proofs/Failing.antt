@@ -31,6 +31,7 @@ module _ (old new : State) (live : old.standing ≡ Live) where
   carried_live commands.Commit reply done = ap (λ (s : State). s.standing) done.3 ∙ live
   carried_live commands.Rollback reply done = ap (λ (s : State). s.standing) done.1 ∙ live
   carried_live commands.Checkpoint reply done = stays_live done.1
+  carried_live commands.Check reply done = stays_live done.1
   carried_live commands.Stats reply done = stays_live done.1
   carried_live commands.Reopen reply done = ap (λ (s : State). s.standing) done.3
   carried_live commands.Quit reply never = absurd never
@@ -59,6 +60,8 @@ module _ (old new : State) (live : old.standing ≡ Live) where
       by (replies.EdgeMade id) s = inr (carried_live s.1 (replies.EdgeMade id) s.3)
       by (replies.Results results) s = inr (carried_live s.1 (replies.Results results) s.3)
       by (replies.Counted counts) s = inr (carried_live s.1 (replies.Counted counts) s.3)
+      by replies.Sound s = inr (carried_live s.1 replies.Sound s.3)
+      by (replies.Broken file id rule) never = absurd never
       by (replies.Faulted results fault) s = stopped_live x results fault s
       by (replies.Refused why) s = inr (stays_live s.1)
 

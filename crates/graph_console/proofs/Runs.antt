@@ -30,12 +30,12 @@ no_quit_on : (lines : List InputLine) (line : InputLine) → NoQuit lines → ¬
 no_quit_on [] line none not_quit = (not_quit, tt)
 no_quit_on (l ∷ lines) line none not_quit = (none.0, no_quit_on lines line none.1 not_quit)
 
-run_text_on : (run : List Exchange) (x : Exchange) → run_text (run ++ x ∷ []) ≡ run_text run ++ reply_text x.reply
+pub run_text_on : (run : List Exchange) (x : Exchange) → run_text (run ++ x ∷ []) ≡ run_text run ++ reply_text x.reply
 run_text_on run x =
     flat_map-append (λ (y : Exchange). reply_text y.reply) run (x ∷ [])
     ∙ ap (λ (text : List ℕ). run_text run ++ text) (append-nil (reply_text x.reply))
 
-run_lines_on : (run : List Exchange) (x : Exchange) → run_lines (run ++ x ∷ []) ≡ run_lines run ++ x.line ∷ []
+pub run_lines_on : (run : List Exchange) (x : Exchange) → run_lines (run ++ x ∷ []) ≡ run_lines run ++ x.line ∷ []
 run_lines_on run x = map_push (λ (y : Exchange). y.line) run x
 
 told_faults_on : (run : List Exchange) (x : Exchange) → told_faults (run ++ x ∷ []) ≡ told_faults run + told_fault x.reply
@@ -49,6 +49,8 @@ told_once (replies.NodeMade id) = inl refl
 told_once (replies.EdgeMade id) = inl refl
 told_once (replies.Results results) = inl refl
 told_once (replies.Counted counts) = inl refl
+told_once replies.Sound = inl refl
+told_once (replies.Broken file id rule) = inl refl
 told_once (replies.Faulted results replies.PastCount) = inl refl
 told_once (replies.Faulted results replies.NoMemory) = inl refl
 told_once (replies.Faulted results replies.DiskFailed) = inr refl

@@ -9,7 +9,10 @@ use Rattle.stream_io.specs.declared.streams.Sink.{Ghosts as SinkGhosts}
 use Rattle.stream_io.specs.declared.streams.Source.{Ghosts as SourceGhosts}
 use Rattle.plain_graph.specs.Reply.{NoMemory as WantOfMemory, fault_line, text_line}
 use Rattle.console_words.specs.Words.{AsksFor}
+use Rattle.console_words.specs.declared.asked.Asked.{Asked}
+use Rattle.console_words.specs.declared.asked.Asked.TheVariants.{Sample}
 use Rattle.console_words.specs.declared.run_options.RunOptions.{RunOptions}
+use Rattle.console_words.specs.declared.sample_options.SampleOptions.{SampleOptions}
 use Rattle.txn_core.specs.declared.config.Config.{Config}
 use Rattle.txn_core.specs.declared.open_fault.OpenFault.{OpenFault}
 use Rattle.graph_session.specs.Console.{TellsAll}
@@ -30,7 +33,11 @@ use Rattle.graph_console.specs.declared.exit.Exit.TheVariants.{InputTooLong}
 
 -- the words ask for nothing that the program does
 abbrev pub AskForNothing : List (List ℕ) → Type 0
-AskForNothing words = (options : RunOptions) → ¬ AsksFor words options
+AskForNothing words = (asked : Asked) → ¬ AsksFor words asked
+
+-- the words ask for a sample
+abbrev pub AskForSample : List (List ℕ) → Type 0
+AskForSample words = (options : SampleOptions) × AsksFor words (Sample options)
 
 -- the store that the options ask for
 abbrev pub config_for : RunOptions → Config

@@ -4,6 +4,7 @@
 
 mod exit;
 mod program;
+mod sample;
 mod serve;
 #[cfg(test)]
 mod tests;

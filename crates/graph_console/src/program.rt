@@ -1,20 +1,24 @@
-ghost use Rattle.std.specs.Prelude.{◌≡◌, ◌≢◌, ◌⊎◌, map, string_bytes};
+ghost use Rattle.std.specs.Prelude.{◌≡◌, ◌≢◌, ◌⊎◌, map, string_bytes, true};
 ghost use Rattle.fault_count.specs.Cause.{Rose};
 ghost use Rattle.console_words.specs.Words.{AsksFor};
 ghost use Rattle.console_words.specs.declared.run_options.RunOptions.{RunOptions};
+ghost use Rattle.console_words.specs.declared.sample_options.SampleOptions.{SampleOptions};
 ghost use Rattle.plain_graph.specs.Graph.{Graph};
+ghost use Rattle.rec_bytes.specs.Shape.{is_allowed};
 ghost use Rattle.rec_bytes.specs.declared.shape.Shape.{Shape};
-ghost use Rattle.txn_core.specs.Config.{Suits};
+ghost use Rattle.txn_core.specs.Config.{Suits, shape_of};
 ghost use Rattle.graph_session.specs.Opening.{IsUnopened, StandsForOne};
 ghost use Rattle.graph_session.specs.Stands.{Stands};
-ghost use Rattle.graph_console.specs.Program.{AskForNothing, EndsWithLine, HasStreamCause};
-ghost use Rattle.graph_console.specs.Program.{HoldsGraph, Refuses, ServesOn, Writes, config_for};
-ghost use Rattle.graph_console.specs.Program.{memory_line, streams, terms_for};
+ghost use Rattle.graph_console.specs.Program.{AskForNothing, AskForSample, EndsWithLine};
+ghost use Rattle.graph_console.specs.Program.{HasStreamCause, HoldsGraph, Refuses, ServesOn};
+ghost use Rattle.graph_console.specs.Program.{Writes, config_for, memory_line, streams, terms_for};
+ghost use Rattle.graph_console.specs.Sample.{IsSampleExit, Samples};
 ghost use Rattle.graph_console.specs.Unopened.{EndsUnopened, IsUnopenedExit, exit_of, line_of};
 
 use crate::Exit;
+use crate::sample::sample;
 use crate::serve::serve;
-use console_words::{RunOptions, WordsFault, read_words};
+use console_words::{Asked, RunOptions, WordsFault, read_words};
 use disk_model::Disk;
 use fault_count::Failed;
 use graph_session::{Config, NotOpened, OpenFault, Session};
@@ -25,8 +29,9 @@ use stream_io::{LineReader, Sink, Source};
 /// What is written for words that ask for nothing that the program does.
 const USAGE: &[u8] = b"usage: run [--threshold N] [--limit N] | sample SEED COUNT\n";
 
-/// The program: it opens the store of the disk, or makes one, serves the lines of the input on its
-/// graph, and gives each reply to the output. `words` are the program's words, its name first.
+/// The program: `run` opens the store of the disk, or makes one, serves the lines of the input on
+/// its graph, and gives each reply to the output. `sample` does so with generated lines on a store
+/// of its own. `words` are the program's words, its name first.
 pub fn graph_main<S: Source, K: Sink, D: Disk>(
     alloc: Global,
     words: Vec<String>,
@@ -39,14 +44,16 @@ pub fn graph_main<S: Source, K: Sink, D: Disk>(
     // crash may leave stands for a graph that the run's last state admits. At each moment it left a
     // content from before, or one that a state of the run admits. No opening reads each record, so
     // this is said of a disk that stands for a graph.
-    ensures serves { (options : RunOptions) → AsksFor (map string_bytes words.items) options
+    ensures serves { (options : RunOptions)
+        → AsksFor (map string_bytes words.items) (Asked.Run options)
         → HoldsGraph D.Disk disk.old
         → ServesOn S.Source K.Sink (terms_for D.Disk options disk.old disk.new) result
         (streams input.old output.old) (streams input.new output.new) }
 
     // Where the store was not opened, one line says why, and the disk holds what it held or a new
     // store.
-    ensures unopened { (options : RunOptions) → AsksFor (map string_bytes words.items) options
+    ensures unopened { (options : RunOptions)
+        → AsksFor (map string_bytes words.items) (Asked.Run options)
         → IsUnopenedExit result → K.tells
         → Writes (K.taken output.old) (K.taken output.new) (EndsUnopened
         (IsUnopened D.Disk (config_for options) disk.old disk.new) result) }
@@ -54,10 +61,17 @@ pub fn graph_main<S: Source, K: Sink, D: Disk>(
     // A disk that stands for a graph is never refused as damaged, and for its shape only where
     // another is asked for.
     ensures sound { (options : RunOptions) (shape : Shape) (graph : Graph)
-        → AsksFor (map string_bytes words.items) options → D.tells_reads
+        → AsksFor (map string_bytes words.items) (Asked.Run options) → D.tells_reads
         → Stands (D.reads disk.old) shape graph
         → (result ≢ Exit.BadFiles)
         × (result ≡ Exit.ConfigDiffers → ¬ Suits (config_for options) shape) }
+
+    // A sample writes the replies to its last lines, of a run of the console on an empty store of
+    // its own, whose other lines are drawn from the seed and the replies so far.
+    ensures samples { (options : SampleOptions)
+        → AsksFor (map string_bytes words.items) (Asked.Sample options) → K.tells
+        → Writes (K.taken output.old) (K.taken output.new) (Samples (Unit {0}) options result) }
+    ensures sampled { AskForSample (map string_bytes words.items) → IsSampleExit result }
 
     // Words that are no command get the usage line.
     ensures refuses { AskForNothing (map string_bytes words.items) → K.tells
@@ -66,25 +80,61 @@ pub fn graph_main<S: Source, K: Sink, D: Disk>(
     ensures refused { AskForNothing (map string_bytes words.items)
         → (result ≡ Exit.Usage) ⊎ (result ≡ Exit.OutputFault) ⊎ (result ≡ Exit.NoMemory) }
 
-    // Where nothing is served, neither the input is read nor the disk used.
-    ensures unread { AskForNothing (map string_bytes words.items) ⊎ IsUnopenedExit result
+    // Where nothing is served, and by a sample, neither the input is read nor the disk used.
+    ensures unread { AskForNothing (map string_bytes words.items)
+        ⊎ AskForSample (map string_bytes words.items) ⊎ IsUnopenedExit result
         → input.new ≡ input.old }
-    ensures unused { AskForNothing (map string_bytes words.items) → disk.new ≡ disk.old }
+    ensures unused { AskForNothing (map string_bytes words.items)
+        ⊎ AskForSample (map string_bytes words.items) → disk.new ≡ disk.old }
 
     // A fault is answered only where its object counted one. A run ends failed only so, if what the
     // disk reads stood for a graph.
     ensures cause { HasStreamCause S.Source K.Sink result
         (streams input.old output.old) (streams input.new output.new) }
     ensures disk_fault { result ≡ Exit.DiskFault → Rose (D.faults disk.old) (D.faults disk.new) }
-    ensures store_failed { (options : RunOptions) → AsksFor (map string_bytes words.items) options
+    ensures store_failed { (options : RunOptions)
+        → AsksFor (map string_bytes words.items) (Asked.Run options)
         → D.tells_reads → StandsForOne D.Disk disk.old → S.tells → K.tells
         → result ≡ Exit.StoreFailed → Rose (D.faults disk.old) (D.faults disk.new) }
 {
-    let options = match read_words(alloc, &words) {
-        Ok(options) => options,
+    let asked = match read_words(alloc, &words) {
+        Ok(asked) => asked,
         Err(WordsFault::Usage) => return end_with_line(output, USAGE, Exit::Usage),
         Err(WordsFault::Memory) => return end_without_memory(output),
     };
+    match asked {
+        Asked::Run(options) => run(alloc, options, input, output, disk),
+        Asked::Sample(options) => sample(alloc, options, output),
+    }
+}
+
+/// The program `run`. Its clauses are those of `graph_main`, for these options.
+fn run<S: Source, K: Sink, D: Disk>(
+    alloc: Global,
+    options: RunOptions,
+    input: &mut S,
+    output: &mut K,
+    disk: &mut D,
+) -> Exit
+    requires { is_allowed (shape_of (config_for options)) ≡ true }
+    ensures serves { HoldsGraph D.Disk disk.old
+        → ServesOn S.Source K.Sink (terms_for D.Disk options disk.old disk.new) result
+        (streams input.old output.old) (streams input.new output.new) }
+    ensures unopened { IsUnopenedExit result → K.tells
+        → Writes (K.taken output.old) (K.taken output.new) (EndsUnopened
+        (IsUnopened D.Disk (config_for options) disk.old disk.new) result) }
+    ensures sound { (shape : Shape) (graph : Graph) → D.tells_reads
+        → Stands (D.reads disk.old) shape graph
+        → (result ≢ Exit.BadFiles)
+        × (result ≡ Exit.ConfigDiffers → ¬ Suits (config_for options) shape) }
+    ensures known { result ≢ Exit.Usage }
+    ensures unread { IsUnopenedExit result → input.new ≡ input.old }
+    ensures cause { HasStreamCause S.Source K.Sink result
+        (streams input.old output.old) (streams input.new output.new) }
+    ensures disk_fault { result ≡ Exit.DiskFault → Rose (D.faults disk.old) (D.faults disk.new) }
+    ensures store_failed { D.tells_reads → StandsForOne D.Disk disk.old → S.tells → K.tells
+        → result ≡ Exit.StoreFailed → Rose (D.faults disk.old) (D.faults disk.new) }
+{
     let Ok(mut reader) = LineReader::new(alloc) else {
         return end_without_memory(output);
     };

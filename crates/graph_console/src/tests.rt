@@ -1,10 +1,13 @@
 //! Whole runs of the program over a source, a sink and a disk in memory.
+mod checks;
 mod edges;
 mod generated;
 mod lists;
 mod properties;
 mod queries;
 mod rows;
+mod samples;
+mod steps;
 mod stops;
 mod stored;
 
@@ -198,7 +201,7 @@ fn faults_and_usage_end_the_run(rt: HostRuntime) -> Result<(), Fail> {
     let usage: &[u8] = b"usage: run [--threshold N] [--limit N] | sample SEED COUNT\n";
     let run: &[&str] = &["nipakeel", "run"];
     // The words, the input, the read and the put that fail, the status, and what is written.
-    let cases: [(&[&str], &[u8], u64, u64, u8, &[u8]); 18] = [
+    let cases: [(&[&str], &[u8], u64, u64, u8, &[u8]); 20] = [
         (run, b"node a\ng.V", 2, 0, 3, b"node 0\n"),
         (run, b"node a\n", 1, 0, 3, b""),
         (run, b"node a", 0, 1, 4, b""),
@@ -211,7 +214,16 @@ fn faults_and_usage_end_the_run(rt: HostRuntime) -> Result<(), Fail> {
         (&["run"], b"node a\n", 0, 0, 2, usage),
         (&["nipakeel", "Run"], b"node a\n", 1, 0, 2, usage),
         (&["nipakeel", "walk"], b"node a\n", 0, 1, 4, b""),
-        (&["nipakeel", "sample", "1", "1"], b"", 0, 0, 2, usage),
+        (&["nipakeel", "sample", "1"], b"", 0, 0, 2, usage),
+        (&["nipakeel", "sample", "1", "0"], b"", 0, 0, 2, usage),
+        (
+            &["nipakeel", "sample", "1", "1"],
+            b"node a\n",
+            1,
+            3,
+            4,
+            b"ok\nok\n",
+        ),
         (&["nipakeel", "--help"], b"", 0, 0, 2, usage),
         (&["nipakeel", "run", "--"], b"", 0, 0, 2, usage),
         (&["nipakeel", "run", "--limit", "15"], b"", 0, 0, 2, usage),

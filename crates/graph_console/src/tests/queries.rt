@@ -4,7 +4,7 @@ use std::test::Fail;
 
 #[test]
 fn rows_of_queries(rt: HostRuntime) -> Result<(), Fail> {
-    let cases: [&[Row]; 2] = [
+    let cases: [&[Row]; 6] = [
         // People and the software that they made.
         &[
             (b"node person name='marko' age=29", b"node 0"),
@@ -81,6 +81,58 @@ fn rows_of_queries(rt: HostRuntime) -> Result<(), Fail> {
             (b"g.V(1).out().out('t')", b"==>v[0]\n==>v[1]\n==>v[1]\nend"),
             (b"rollback", b"ok"),
             (b"g.V(1).out()", b"end"),
+        ],
+        // A loop, and a check of it.
+        &[
+            (b"node a", b"node 0"),
+            (b"edge 0 self 0", b"edge 0"),
+            (b"g.V(0).out('self').count()", b"==>1\nend"),
+            (b"g.V(0).both('self').count()", b"==>2\nend"),
+            (b"g.V(0).bothE().dedup().count()", b"==>1\nend"),
+            (b"check", b"sound"),
+        ],
+        // An edge out of the middle of a chain.
+        &[
+            (b"node a", b"node 0"),
+            (b"node a", b"node 1"),
+            (b"node a", b"node 2"),
+            (b"node a", b"node 3"),
+            (b"edge 0 A 1", b"edge 0"),
+            (b"edge 2 A 0", b"edge 1"),
+            (b"edge 3 A 0", b"edge 2"),
+            (b"delete edge 1", b"ok"),
+            (b"g.V(0).bothE()", b"==>e[0][0-A->1]\n==>e[2][3-A->0]\nend"),
+            (b"check", b"sound"),
+        ],
+        // A ring of three.
+        &[
+            (b"node a", b"node 0"),
+            (b"node a", b"node 1"),
+            (b"node a", b"node 2"),
+            (b"edge 0 A 1", b"edge 0"),
+            (b"edge 1 A 2", b"edge 1"),
+            (b"edge 2 A 0", b"edge 2"),
+            (
+                b"g.V(0).repeat(both()).times(2)",
+                b"==>v[2]\n==>v[0]\n==>v[0]\n==>v[1]\nend",
+            ),
+            (b"g.V(0).repeat(both()).times(0)", b"error times range 28"),
+            (b"g.V(0).repeat(both()).times(17)", b"error times range 28"),
+        ],
+        // A node without the key of an order drops out of it.
+        &[
+            (b"node a age=30", b"node 0"),
+            (b"node a age=35", b"node 1"),
+            (b"node a", b"node 2"),
+            (b"node a age=35", b"node 3"),
+            (
+                b"g.V().order().by('age', desc).limit(2)",
+                b"==>v[1]\n==>v[3]\nend",
+            ),
+            (
+                b"g.V().order().by('age')",
+                b"==>v[0]\n==>v[1]\n==>v[3]\nend",
+            ),
         ],
     ];
     for rows in cases {

@@ -1,24 +1,36 @@
-use Rattle.std.proofs.Common.{◌≡◌, ◌∙◌, sym, ap, subst, rules, Err}
-use Rattle.fault_count.specs.Cause.{Rose}
+use Rattle.std.proofs.Common.{◌≡◌, inl, inr, sym, ap, subst, Err}
 use Rattle.txn_core.specs.Config.{Suits}
-use Rattle.txn_core.specs.declared.config.Config.{Config}
 use Rattle.txn_core.specs.declared.open_fault.OpenFault.TheVariants.{Memory}
-use Rattle.graph_session.specs.Opening.{IsUnopened, Opens}
-use Rattle.graph_session.specs.Session.{view}
+use Rattle.console_words.specs.declared.asked.Asked.TheVariants.{Run, Sample}
+use Rattle.console_words.specs.declared.run_options.RunOptions.{RunOptions}
+use Rattle.console_words.specs.declared.sample_options.SampleOptions.{SampleOptions}
+use Rattle.graph_session.specs.Opening.{IsUnopened}
 use Rattle.graph_console.specs.Program.{Serves, Writes, config_for, terms_for}
+use Rattle.graph_console.specs.Sample.{Samples}
 use Rattle.graph_console.specs.Unopened.{EndsUnopened}
-use Rattle.graph_console.proofs.Failing.{failed_rose}
-use Rattle.graph_console.proofs.Opened.{at_equal, disk_failed, ends_unopened, refuses_usage, serves_opened, serves_unopened, sound_for, unopened_memory}
+use Rattle.graph_console.proofs.AskedFor.{other_exit, run-not_sample, run_allowed, same_run, same_sample, sample-not_run, sample_within}
+use Rattle.graph_console.proofs.Opened.{ends_unopened, refuses_usage, serves_unopened, unopened_memory}
+use Rattle.graph_console.proofs.Samples.{ends_first}
 use Rattle.graph_console.proofs.program.graph_main.Goals as goal
 
 pub returns-in-Err-Usage-clause-serves : goal.returns-in-Err-Usage-clause-serves
-returns-in-Err-Usage-clause-serves g c = λ options asks holds s k. absurd (rw c.deref.ensures.value at (c.in-Err-Usage.ensures.usage (ap Err c.in-Err-Usage.field-0-is)) options asks)
+returns-in-Err-Usage-clause-serves g c = λ options asks holds s k. absurd (rw c.deref.ensures.value at (c.in-Err-Usage.ensures.usage (ap Err c.in-Err-Usage.field-0-is)) (Run options) asks)
 
 pub returns-in-Err-Usage-clause-usage : goal.returns-in-Err-Usage-clause-usage
 returns-in-Err-Usage-clause-usage g c = λ is. rw c.deref.ensures.value at (c.in-Err-Usage.ensures.usage (ap Err c.in-Err-Usage.field-0-is))
 
 pub returns-in-Err-Usage-clause-refuses : goal.returns-in-Err-Usage-clause-refuses
 returns-in-Err-Usage-clause-refuses g c = λ asks k. refuses_usage c.end_with_line.result _ _ (c.end_with_line.ensures.written k)
+
+pub returns-in-Err-Usage-clause-samples : goal.returns-in-Err-Usage-clause-samples
+returns-in-Err-Usage-clause-samples g c = λ options asks k. absurd (rw c.deref.ensures.value at (c.in-Err-Usage.ensures.usage (ap Err c.in-Err-Usage.field-0-is)) (Sample options) asks)
+
+pub returns-in-Err-Usage-clause-sampled : goal.returns-in-Err-Usage-clause-sampled
+returns-in-Err-Usage-clause-sampled g c = λ asks. absurd (rw c.deref.ensures.value at (c.in-Err-Usage.ensures.usage (ap Err c.in-Err-Usage.field-0-is)) (Sample asks.0) asks.1)
+
+pub returns-in-Err-Memory-clause-samples : goal.returns-in-Err-Memory-clause-samples
+returns-in-Err-Memory-clause-samples g c = λ options asks k.
+    ends_first (Unit {0}) options _ _ c.end_without_memory.result (c.end_without_memory.ensures.written k)
 
 pub returns-in-Err-Memory-clause-serves : goal.returns-in-Err-Memory-clause-serves
 returns-in-Err-Memory-clause-serves g c = λ options asks holds s k.
@@ -30,73 +42,80 @@ returns-in-Err-Memory-clause-unopened g c = λ options asks ends k.
     ends_unopened (IsUnopened g.D.Disk (config_for options) c.args.disk.now c.args.disk.now) Memory (unopened_memory g.D.Disk g.met.D.Disk.only_now (config_for options) c.args.disk.now)
     _ _ c.end_without_memory.result ends (c.end_without_memory.ensures.written k)
 
-pub returns-in_default-clause-serves : goal.returns-in_default-clause-serves
-returns-in_default-clause-serves g c = λ options asks holds s k.
-    serves_unopened g.D.Disk.tells_reads (terms_for g.D.Disk options c.args.disk.now c.args.disk.now) Memory (unopened_memory g.D.Disk g.met.D.Disk.only_now (config_for options) c.args.disk.now)
-    _ _ c.end_without_memory-in_default.result _ _ (c.end_without_memory-in_default.ensures.written k)
+pub run-requires : goal.run-requires
+run-requires g c = run_allowed _ c.in-Run.options c.in-Ok.asked c.in-Ok.ensures.taken c.in-Run.is
 
-pub returns-in_default-clause-unopened : goal.returns-in_default-clause-unopened
-returns-in_default-clause-unopened g c = λ options asks ends k.
-    ends_unopened (IsUnopened g.D.Disk (config_for options) c.args.disk.now c.args.disk.now) Memory (unopened_memory g.D.Disk g.met.D.Disk.only_now (config_for options) c.args.disk.now)
-    _ _ c.end_without_memory-in_default.result ends (c.end_without_memory-in_default.ensures.written k)
+pub returns-in-Run-clause-serves : goal.returns-in-Run-clause-serves
+returns-in-Run-clause-serves g c = λ options asks holds s k.
+    let same : options ≡ c.in-Run.options = same_run options c.in-Run.options c.in-Ok.asked (rw c.deref.ensures.value at c.in-Ok.ensures.only (Run options) asks) c.in-Run.is in
+    subst
+    (λ (o : RunOptions). Writes (g.K.Sink.taken c.args.output.now) (g.K.Sink.taken c.run.new.output)
+    (Serves (terms_for g.D.Disk o c.args.disk.now c.run.new.disk) c.run.result (g.S.Source.left c.args.input.now) (g.S.Source.left c.run.new.input)))
+    (sym same) (c.run.ensures.serves holds s k)
 
-pub returns-in-Ok-open-clause-serves : goal.returns-in-Ok-open-clause-serves
-returns-in-Ok-open-clause-serves g c = λ options asks holds s k.
-    let same = rw c.deref.ensures.value at c.in-Ok.ensures.only options asks in
-    let config_is : c.config_of.result ≡ config_for options = c.config_of.ensures ∙ ap config_for (sym same) in
-    let opens = subst (λ (config : Config). Opens g.D.Disk config c.args.disk.now (view c.in-Ok-open.session)) config_is c.in-Ok-open.ensures.opened in
-    let begins = opens.begins holds in
-    at_equal
-    (λ (disk : g.row.D.Denot). Writes (g.K.Sink.taken c.args.output.now) (g.K.Sink.taken c.serve-exit.new.output)
-    (Serves (terms_for g.D.Disk options c.args.disk.now disk) c.serve-exit.result (g.S.Source.left c.args.input.now) (g.S.Source.left c.serve-exit.new.input)))
-    (view c.serve-exit.new.session).disk _
-    (serves_opened g.D.Disk options c.args.disk.now (view c.in-Ok-open.session) (view c.serve-exit.new.session).disk opens holds begins.0 begins.1 begins.2 c.serve-exit.result _ _ _ _
-    (c.serve-exit.ensures.serves begins.0 begins.2 s k))
-    (search rules)
+pub returns-in-Run-clause-unopened : goal.returns-in-Run-clause-unopened
+returns-in-Run-clause-unopened g c = λ options asks ends k.
+    let same : options ≡ c.in-Run.options = same_run options c.in-Run.options c.in-Ok.asked (rw c.deref.ensures.value at c.in-Ok.ensures.only (Run options) asks) c.in-Run.is in
+    subst
+    (λ (o : RunOptions). Writes (g.K.Sink.taken c.args.output.now) (g.K.Sink.taken c.run.new.output) (EndsUnopened (IsUnopened g.D.Disk (config_for o) c.args.disk.now c.run.new.disk) c.run.result))
+    (sym same) (c.run.ensures.unopened ends k)
 
-pub returns-in-Ok-open-clause-store_failed : goal.returns-in-Ok-open-clause-store_failed
-returns-in-Ok-open-clause-store_failed g c = λ options asks told stands s k is.
-    let same = rw c.deref.ensures.value at c.in-Ok.ensures.only options asks in
-    let config_is : c.config_of.result ≡ config_for options = c.config_of.ensures ∙ ap config_for (sym same) in
-    let opens = subst (λ (config : Config). Opens g.D.Disk config c.args.disk.now (view c.in-Ok-open.session)) config_is c.in-Ok-open.ensures.opened in
-    let begins = opens.begins (λ _. stands) in
-    at_equal (λ (disk : g.row.D.Denot). Rose (g.D.Disk.faults c.args.disk.now) (g.D.Disk.faults disk)) (view c.serve-exit.new.session).disk _
-    (failed_rose g.D.Disk options c.args.disk.now (view c.serve-exit.new.session).disk told c.serve-exit.result _ _ _ _
-    (serves_opened g.D.Disk options c.args.disk.now (view c.in-Ok-open.session) (view c.serve-exit.new.session).disk opens (λ _. stands) begins.0 begins.1 begins.2 c.serve-exit.result _ _ _ _
-    (c.serve-exit.ensures.serves begins.0 begins.2 s k)) is)
-    (search rules)
+pub returns-in-Run-clause-sound : goal.returns-in-Run-clause-sound
+returns-in-Run-clause-sound g c = λ options shape graph asks told stands.
+    let same : options ≡ c.in-Run.options = same_run options c.in-Run.options c.in-Ok.asked (rw c.deref.ensures.value at c.in-Ok.ensures.only (Run options) asks) c.in-Run.is in
+    let sound = c.run.ensures.sound shape graph told stands in
+    (sound.0, λ is. subst (λ (o : RunOptions). ¬ Suits (config_for o) shape) (sym same) (sound.1 is))
+
+pub returns-in-Run-clause-samples : goal.returns-in-Run-clause-samples
+returns-in-Run-clause-samples g c = λ options asks k. absurd (sample-not_run options c.in-Run.options c.in-Ok.asked (rw c.deref.ensures.value at c.in-Ok.ensures.only (Sample options) asks) c.in-Run.is)
+
+pub returns-in-Run-clause-sampled : goal.returns-in-Run-clause-sampled
+returns-in-Run-clause-sampled g c = λ asks. absurd (sample-not_run asks.0 c.in-Run.options c.in-Ok.asked (rw c.deref.ensures.value at c.in-Ok.ensures.only (Sample asks.0) asks.1) c.in-Run.is)
+
+pub returns-in-Run-clause-unread : goal.returns-in-Run-clause-unread
+returns-in-Run-clause-unread g c = λ unserved. elim unserved [
+  | inl nothing ↦ absurd (nothing c.in-Ok.asked (rw c.deref.ensures.value at c.in-Ok.ensures.taken))
+  | inr (inl asks) ↦ absurd (sample-not_run asks.0 c.in-Run.options c.in-Ok.asked (rw c.deref.ensures.value at c.in-Ok.ensures.only (Sample asks.0) asks.1) c.in-Run.is)
+  | inr (inr ends) ↦ c.run.ensures.unread ends
+]
+
+pub returns-in-Run-clause-unused : goal.returns-in-Run-clause-unused
+returns-in-Run-clause-unused g c = λ unserved. elim unserved [
+  | inl nothing ↦ absurd (nothing c.in-Ok.asked (rw c.deref.ensures.value at c.in-Ok.ensures.taken))
+  | inr asks ↦ absurd (sample-not_run asks.0 c.in-Run.options c.in-Ok.asked (rw c.deref.ensures.value at c.in-Ok.ensures.only (Sample asks.0) asks.1) c.in-Run.is)
+]
+
+pub returns-in-Run-clause-usage : goal.returns-in-Run-clause-usage
+returns-in-Run-clause-usage g c = λ is. absurd (c.run.ensures.known is)
+
+pub sample-requires : goal.sample-requires
+sample-requires g c = sample_within _ c.in-Sample.options c.in-Ok.asked c.in-Ok.ensures.taken c.in-Sample.is
 
 pub returns-clause-serves : goal.returns-clause-serves
-returns-clause-serves g c = λ options asks holds s k.
-    let same = rw c.deref.ensures.value at c.in-Ok.ensures.only options asks in
-    let config_is : c.config_of.result ≡ config_for options = c.config_of.ensures ∙ ap config_for (sym same) in
-    let unopened = subst (λ (config : Config). IsUnopened g.D.Disk config c.args.disk.now c.in-Err.field-0.disk.now c.in-Err.field-0.why) config_is c.in-Err.ensures.unopened in
-    at_equal
-    (λ (disk : g.row.D.Denot). Writes (g.K.Sink.taken c.args.output.now) (g.K.Sink.taken c.end_unopened.new.output)
-    (Serves (terms_for g.D.Disk options c.args.disk.now disk) c.end_unopened.result (g.S.Source.left c.args.input.now) (g.S.Source.left c.args.input.now)))
-    c.in-Err.field-0.disk.now _
-    (serves_unopened g.D.Disk.tells_reads (terms_for g.D.Disk options c.args.disk.now c.in-Err.field-0.disk.now) c.in-Err.field-0.why unopened _ _ c.end_unopened.result _ _ (c.end_unopened.ensures.written k))
-    (search rules)
+returns-clause-serves g c = λ options asks holds s k. absurd (run-not_sample options c.in-Sample.options c.in-Ok.asked (rw c.deref.ensures.value at c.in-Ok.ensures.only (Run options) asks) c.in-Sample.is)
 
 pub returns-clause-unopened : goal.returns-clause-unopened
-returns-clause-unopened g c = λ options asks ends k.
-    let same = rw c.deref.ensures.value at c.in-Ok.ensures.only options asks in
-    let config_is : c.config_of.result ≡ config_for options = c.config_of.ensures ∙ ap config_for (sym same) in
-    let unopened = subst (λ (config : Config). IsUnopened g.D.Disk config c.args.disk.now c.in-Err.field-0.disk.now c.in-Err.field-0.why) config_is c.in-Err.ensures.unopened in
-    at_equal
-    (λ (disk : g.row.D.Denot). Writes (g.K.Sink.taken c.args.output.now) (g.K.Sink.taken c.end_unopened.new.output) (EndsUnopened (IsUnopened g.D.Disk (config_for options) c.args.disk.now disk) c.end_unopened.result))
-    c.in-Err.field-0.disk.now _
-    (ends_unopened (IsUnopened g.D.Disk (config_for options) c.args.disk.now c.in-Err.field-0.disk.now) c.in-Err.field-0.why unopened _ _ c.end_unopened.result ends (c.end_unopened.ensures.written k))
-    (search rules)
+returns-clause-unopened g c = λ options asks ends k. absurd (run-not_sample options c.in-Sample.options c.in-Ok.asked (rw c.deref.ensures.value at c.in-Ok.ensures.only (Run options) asks) c.in-Sample.is)
 
 pub returns-clause-sound : goal.returns-clause-sound
-returns-clause-sound g c = λ options shape graph asks told stands.
-    let same = rw c.deref.ensures.value at c.in-Ok.ensures.only options asks in
-    let config_is : c.config_of.result ≡ config_for options = c.config_of.ensures ∙ ap config_for (sym same) in
-    let sound = sound_for shape c.config_of.result c.in-Err.field-0.why (c.in-Err.ensures.unopened.sound told shape graph stands) c.end_unopened.result c.end_unopened.ensures.cause in
-    (sound.0, λ is. subst (λ (config : Config). ¬ Suits config shape) config_is (sound.1 is))
+returns-clause-sound g c = λ options shape graph asks told stands. absurd (run-not_sample options c.in-Sample.options c.in-Ok.asked (rw c.deref.ensures.value at c.in-Ok.ensures.only (Run options) asks) c.in-Sample.is)
+
+pub returns-clause-samples : goal.returns-clause-samples
+returns-clause-samples g c = λ options asks k.
+    let same : options ≡ c.in-Sample.options = same_sample options c.in-Sample.options c.in-Ok.asked (rw c.deref.ensures.value at c.in-Ok.ensures.only (Sample options) asks) c.in-Sample.is in
+    subst (λ (o : SampleOptions). Writes (g.K.Sink.taken c.args.output.now) (g.K.Sink.taken c.sample.new.output) (Samples (Unit {0}) o c.sample.result)) (sym same) (c.sample.ensures.samples k)
+
+pub returns-clause-usage : goal.returns-clause-usage
+returns-clause-usage g c = λ is. absurd ((other_exit c.sample.result c.sample.ensures.exits).0 is)
+
+pub returns-clause-cause : goal.returns-clause-cause
+returns-clause-cause g c = record {
+  input_fault = λ is. absurd ((other_exit c.sample.result c.sample.ensures.exits).1 is);
+  output_fault = c.sample.ensures.cause;
+}
 
 pub returns-clause-disk_fault : goal.returns-clause-disk_fault
-returns-clause-disk_fault g c = λ is.
-    at_equal (λ (disk : g.row.D.Denot). Rose (g.D.Disk.faults c.args.disk.now) (g.D.Disk.faults disk)) c.in-Err.field-0.disk.now _
-    (c.in-Err.ensures.unopened.cause (disk_failed c.in-Err.field-0.why c.end_unopened.result c.end_unopened.ensures.cause is)) (search rules)
+returns-clause-disk_fault g c = λ is. absurd ((other_exit c.sample.result c.sample.ensures.exits).2 is)
+
+pub returns-clause-store_failed : goal.returns-clause-store_failed
+returns-clause-store_failed g c = λ options asks told stands s k is. absurd ((other_exit c.sample.result c.sample.ensures.exits).3 is)

@@ -1,0 +1,10 @@
+use crate::{RunOptions, SampleOptions};
+
+/// What the words ask for.
+#[derive(Clone, Copy, Debug, PartialEq, Eq)]
+pub enum Asked {
+    /// A run over the store.
+    Run(RunOptions),
+    /// A sample: lines drawn from a seed, over a store in memory.
+    Sample(SampleOptions),
+}

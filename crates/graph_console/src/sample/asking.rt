@@ -1,0 +1,45 @@
+ghost use Rattle.std.specs.Prelude.{◌≡◌, IfOk};
+ghost use Rattle.graph_session.specs.Console.{IsAt};
+ghost use Rattle.graph_session.specs.State.{State};
+ghost use Rattle.graph_console.specs.Sample.{tells_failure};
+ghost use Rattle.graph_console.specs.Sampling.{AnswersWell};
+ghost use Rattle.graph_session.specs.Session.{view};
+
+use disk_model::Disk;
+use graph_session::{Session, Turn};
+use plain_graph::{disk_fault, no_memory};
+use std::alloc::{AllocError, Global};
+use stream_io::Page;
+
+/// How many bytes the replies to a line of a sample have room for: each is one line of 128 at most,
+/// or the one result of a count and its end.
+const REPLY_BYTES: usize = 256;
+
+/// Asks a line, and gives the page of its reply. A page without room is want of memory too, and so
+/// is a fault of the disk: it is in memory, and fails only where a file has no room left, to which
+/// no line of a sample comes.
+pub(crate) fn ask<D: Disk>(
+    alloc: Global,
+    session: &mut Session<'_, D>,
+    line: &[u8],
+) -> Result<Page, AllocError>
+    ensures { IfOk result (λ page. (state : State) → IsAt D.Disk (view session.old) state
+        → AnswersWell D.Disk line.now page.taken state (view session.new)) }
+{
+    let mut page = Page::new(alloc, REPLY_BYTES, Vec::new(alloc))?;
+    if let Turn::SinkFault = session.step(line, &mut page) {
+        return Err(AllocError);
+    }
+    if tells_failure(page.taken()) {
+        return Err(AllocError);
+    }
+    Ok(page)
+}
+
+/// Whether the last line of a reply says that memory lacks or that the disk failed.
+#[tactic(auto, unfolding(crate::specs::Sample::tells_failure))]
+fn tells_failure(text: &[u8]) -> bool
+    ensures { result ≡ tells_failure text.now }
+{
+    text.ends_with(no_memory()) || text.ends_with(disk_fault())
+}
