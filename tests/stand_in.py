@@ -1,12 +1,13 @@
 #!/usr/bin/env python3
-"""Stands in for the program, where a test wants an ending or a reply that the program gives on a bad device alone.
+"""Stands in for the program where there is none, or where a test wants an ending that it has on a bad device alone.
 
 usage: stand_in.py run [--end N=STATUS[=TEXT]] [--answer N=REPLY] [--weight W]
 
-It serves the lines that tools/import sends, and keeps how many nodes and edges are stored in the file counts of its
-folder. In the place of the reply to line N, from 1 on, it writes TEXT and ends, or writes REPLY and changes nothing.
-`--end 0=..` is before any line. A STATUS below 0 is a signal. Where TEXT is `stored`, a commit is stored before the
-end, and nothing is written. A REPLY `results` is 300 slow results and `end`. A transaction takes W lines.
+It serves lines on a graph in Python (plain_graph.py), and keeps what is stored in the file stored of its folder; the
+file counts tells how many nodes and edges that is. In the place of the reply to line N, from 1 on, it writes TEXT and
+ends, or writes REPLY and changes nothing. `--end 0=..` is before any line. A STATUS below 0 is a signal. Where TEXT is
+`stored`, a commit is stored before the end, and nothing is written. A REPLY `results` is 300 slow results and `end`; of
+`first=TEXT` the first result of the reply stands before TEXT. A transaction takes W nodes and edges.
 """
 
 import os
@@ -14,7 +15,11 @@ import pathlib
 import sys
 import time
 
-COUNTS = pathlib.Path("counts")
+sys.dont_write_bytecode = True
+from plain_graph import PlainGraph
+
+STORED, COUNTS = pathlib.Path("stored"), pathlib.Path("counts")
+CHANGES = ("node", "edge", "set", "unset", "delete", "commit")
 
 
 def options(words):
@@ -29,38 +34,33 @@ def options(words):
 
 
 class StandIn:
-    def __init__(self):
-        self.stored = [int(it) for it in COUNTS.read_text().split()] if COUNTS.exists() else [0, 0]
-        self.open = None
+    def __init__(self, most):
+        self.graph, self.most, self.made = PlainGraph(), most, 0
+        if STORED.exists():
+            self.graph.restore(STORED.read_bytes())
 
-    def commit(self):
-        self.stored, self.open = self.open, None
-        COUNTS.write_text(" ".join(map(str, self.stored)))
-
-    def answer(self, line, most):
-        word = line.split()[0]
-        now = self.open or self.stored
-        if word == "stats":
-            return "nodes %d edges %d properties 0 blocks 0 names 0" % tuple(now)
-        if word == "begin":
-            self.open = list(self.stored)
-        elif word == "commit":
-            self.commit()
-        elif word == "rollback":
-            self.open = None
-        elif word in ("node", "edge"):
-            if sum(now) - sum(self.stored) >= most:
+    def answer(self, line):
+        word = (line.split() or [""])[0]
+        if word in ("node", "edge") and self.graph.before is not None:
+            if self.made >= self.most:
                 return "error transaction full"
-            kind = ("node", "edge").index(word)
-            now[kind] += 1
-            return f"{word} {now[kind] - 1}"
-        return "ok"
+            self.made += 1
+        reply = self.graph.answer(line)
+        if word == "begin":
+            self.made = 0
+        if word in CHANGES and self.graph.before is None and not reply.startswith("error"):
+            self.store()
+        return reply
+
+    def store(self):
+        STORED.write_bytes(self.graph.state())
+        COUNTS.write_text(" ".join(str(len(it)) for it in self.graph.elements))
 
 
 def ends(how, stand_in, line):
     status, _, text = how.partition("=")
     if text == "stored" and line == "commit":
-        stand_in.commit()
+        stand_in.answer(line)
     elif text:
         print(text, flush=True)
     if int(status) < 0:
@@ -75,18 +75,26 @@ def slow_results():
 
 
 def main(words):
-    asked, stand_in = options(words[1:]), StandIn()
+    asked = options(words[1:])
+    stand_in = StandIn(asked["--weight"])
+    # A character of a line is a byte.
+    sys.stdout.reconfigure(encoding="latin-1")
     if 0 in asked["--end"]:
         ends(asked["--end"][0], stand_in, "")
     for number, line in enumerate(sys.stdin.buffer, 1):
-        line = line.decode(errors="replace").strip("\n")
+        line = line.decode("latin-1").removesuffix("\n")
+        if line.strip(" \t") == "quit":
+            break
         if number in asked["--end"]:
             ends(asked["--end"][number], stand_in, line)
-        reply = asked["--answer"].get(number) or stand_in.answer(line, asked["--weight"])
+        reply = asked["--answer"].get(number) or stand_in.answer(line)
         if reply == "results":
             slow_results()
             reply = "end"
-        print(reply, flush=True)
+        elif reply and reply.startswith("first="):
+            reply = stand_in.answer(line).split("\n")[0] + "\n" + reply.removeprefix("first=")
+        if reply is not None:
+            print(reply, flush=True)
 
 
 main(sys.argv[1:])

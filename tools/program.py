@@ -7,6 +7,9 @@ import subprocess
 
 NIPAKEEL = pathlib.Path(__file__).resolve().parent.parent / "nipakeel"
 CHUNK = 65_536
+ARROW = b"==>"
+# How a reply to a query begins that has a fault in it.
+FAULTS = (b"error ", b"fault disk", b"damaged ")
 # How each status of the program reads to a person. Negative ones are signals.
 STATUSES = {
     0: "it read its input to the end",
@@ -29,6 +32,15 @@ class Ended(Exception):
     def __init__(self, status, said=b""):
         self.status, self.said = status, said
         super().__init__(ending(status, said))
+
+
+class NotAnswered(Exception):
+    """A query whose reply ends in this line, and not in `end`."""
+
+    def __init__(self, line, reply):
+        self.line, self.reply = line, reply
+        asked = line if len(line) <= 100 else line[:97] + b"..."
+        super().__init__(f"{asked.decode(errors='replace')} is answered: {reply.decode(errors='replace')}")
 
 
 def ending(status, said=b""):
@@ -103,6 +115,20 @@ class Program:
         """Sends a line whose reply is one line, and returns that."""
         self.send(line + b"\n")
         return self.replies(1)[0]
+
+    def results(self, line):
+        """Sends a query, and gives its results as they come, without their arrows. Raises `NotAnswered` where the reply
+        doesn't end as it should. They are to be taken to the end before the next line."""
+        self.send(line + b"\n")
+        while True:
+            lines = self.replies(max(self.held_lines, 1))
+            last = None if lines[-1].startswith(ARROW) else lines.pop()
+            for it in lines:
+                yield it[len(ARROW) :]
+            if last == b"end":
+                return
+            if last is not None:
+                raise NotAnswered(line, last) if last.startswith(FAULTS) else self.refuses(last)
 
     def counts(self):
         """How many nodes and edges `stats` tells."""

@@ -15,6 +15,10 @@ NUMBER = re.compile(r"[+-]?[0-9]+")
 SHORT_NUMBER = re.compile(r"-?[1-9][0-9]{0,17}|0")
 PLAIN_TEXT = re.compile(r"[^\\'\r\n\x80-\U0010ffff]{0,40}")
 ESCAPES = str.maketrans({"\\": "\\\\", "'": "\\'", "\n": "\\n", "\r": "\\r"})
+# A text between quotes, as lines and replies of the program have it.
+QUOTED = re.compile(r"""'(?:[^'\\]|\\['"\\nrt])*'|"(?:[^"\\]|\\['"\\nrt])*\"""", re.S)
+ESCAPE = re.compile(r"\\(.)", re.S)
+ESCAPED = {"n": "\n", "r": "\r", "t": "\t"}
 
 
 class Bad(Exception):
@@ -78,10 +82,28 @@ def spell_text(value):
     return f"'{value.translate(ESCAPES)}'", 0 if size <= SHORT_TEXT else -(-size // BLOCK)
 
 
+def spell_value(value):
+    """A value of any type, given as a line of the program spells it."""
+    if QUOTED.fullmatch(value):
+        return spell_text(unquoted(value))
+    if value in ("true", "false"):
+        return value, 0
+    if not NUMBER.fullmatch(value):
+        raise Bad(f"{shown(value)} is no value: a number, true, false, or a text between quotes")
+    return spell_number(value)
+
+
+def unquoted(spelled):
+    """The text that stands so between quotes."""
+    text = spelled[1:-1]
+    return ESCAPE.sub(lambda it: ESCAPED.get(it[1], it[1]), text) if "\\" in text else text
+
+
 # The types of columns, our own and those of Neo4j's bulk import and of GraphML.
 SPELLERS = dict.fromkeys(("int", "long", "short", "byte"), spell_number)
 SPELLERS |= dict.fromkeys(("bool", "boolean"), spell_truth)
 SPELLERS |= dict.fromkeys(("text", "string", "char", ""), spell_text)
+SPELLERS["value"] = spell_value
 
 
 @dataclasses.dataclass
@@ -101,7 +123,7 @@ def column(key, kind, said):
     try:
         name(key, "key")
         if kind not in SPELLERS:
-            raise Bad(f"a store has no type {shown(kind)}: it has int, bool and text")
+            raise Bad(f"a store has no type {shown(kind)}: it has int, bool and text, and value for any of them")
     except Bad as bad:
         raise Bad(bad.why, said) from None
     return Column(key, SPELLERS[kind], said)

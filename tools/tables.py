@@ -7,7 +7,7 @@ import pathlib
 import re
 from xml.parsers import expat
 
-from rows import Bad, Column, Refused, column, shown, spell_text
+from rows import Bad, Column, Refused, column, shown, spell_text, spell_value
 
 CHUNK = 65_536
 # How text is read: bytes that are no UTF-8 are kept as they are.
@@ -248,6 +248,9 @@ class GraphMl(Table):
             value = self.values.get(id, default) or ""
             if is_word:
                 word = value or word
+            elif not value and id in self.values and it.spell is spell_text:
+                # It says that there is a text, which is the empty one.
+                fields.append((Column(it.key, spell_value, it.said), "''"))
             else:
                 fields.append((it, value if it.spell is spell_text else value.strip()))
         words = self.element

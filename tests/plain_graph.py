@@ -1,0 +1,398 @@
+"""A graph in Python, and what the lines of the console do with it, for tests that have no built program.
+
+A line and its reply are texts of one character a byte. It keeps no limits and weighs nothing. Each fault of a line is
+`error syntax 0`, wherever it stands.
+"""
+
+import dataclasses
+import operator
+import pickle
+import re
+
+TOKEN = re.compile(
+    r"""[ \t]*(?:(?P<word>[A-Za-z_][A-Za-z0-9_]*)|(?P<number>-?[0-9]+)
+    |(?P<text>'(?:[^'\\]|\\.)*'|"(?:[^"\\]|\\.)*")|(?P<sign>->|[^ \t]))""",
+    re.S | re.X,
+)
+ESCAPED = {"n": "\n", "r": "\r", "t": "\t"}
+SHOWN = str.maketrans({"'": "\\'", "\\": "\\\\", "\n": "\\n", "\r": "\\r", "\t": "\\t"})
+SHORT_TEXT, BLOCK = 40, 48
+RELATIONS = {"gt": operator.gt, "gte": operator.ge, "lt": operator.lt, "lte": operator.le}
+KINDS = {"node": 0, "edge": 1}
+
+
+class Syntax(Exception):
+    """The line is none."""
+
+
+class Refused(Exception):
+    """The line is refused, with this reply."""
+
+
+@dataclasses.dataclass
+class Element:
+    """A node, or an edge with its ends."""
+
+    id: int
+    label: str
+    properties: dict
+    ends: tuple = ()
+
+    def __hash__(self):
+        return hash((self.id, bool(self.ends)))
+
+    def __eq__(self, other):
+        return isinstance(other, Element) and (self.id, bool(self.ends)) == (other.id, bool(other.ends))
+
+
+def rank(value):
+    """The place of a value in the order: false, true, numbers, texts by their bytes."""
+    return (bool, int, str).index(type(value)), value
+
+
+def blocks(value):
+    return -(-len(value) // BLOCK) if isinstance(value, str) and len(value) > SHORT_TEXT else 0
+
+
+def value_text(value):
+    if isinstance(value, bool):
+        return "true" if value else "false"
+    return str(value) if isinstance(value, int) else f"'{value.translate(SHOWN)}'"
+
+
+def item_text(item):
+    if not isinstance(item, Element):
+        return value_text(item)
+    return f"e[{item.id}][{item.ends[0]}-{item.label}->{item.ends[1]}]" if item.ends else f"v[{item.id}]"
+
+
+class Tokens:
+    """The tokens of a line, one after the other."""
+
+    def __init__(self, line):
+        self.held = [(it.lastgroup, it[it.lastgroup]) for it in TOKEN.finditer(line.rstrip(" \t"))]
+
+    def take(self, *kinds):
+        """The next token, which has to be of one of these kinds, or a sign or a word that is written so."""
+        if not self.held or not set(self.held[0]) & set(kinds):
+            raise Syntax
+        return self.held.pop(0)[1]
+
+    def has(self, *kinds):
+        """Takes the next token where it is one of these."""
+        return bool(self.held and set(self.held[0]) & set(kinds) and self.held.pop(0))
+
+    def value(self):
+        kind, token = self.held.pop(0) if self.held else ("", "")
+        if kind == "number":
+            return int(token)
+        if kind == "text":
+            return re.sub(r"\\(.)", lambda it: ESCAPED.get(it[1], it[1]), token[1:-1], flags=re.S)
+        if token not in ("true", "false"):
+            raise Syntax
+        return token == "true"
+
+    def name(self):
+        return self.take("text")[1:-1]
+
+    def names(self):
+        """Names between quotes, and the closing parenthesis."""
+        found = []
+        while not self.has(")"):
+            if found:
+                self.take(",")
+            found.append(self.name())
+        return found
+
+    def numbers(self):
+        found = []
+        while not self.has(")"):
+            if found:
+                self.take(",")
+            found.append(int(self.take("number")))
+        return found
+
+    def pairs(self):
+        found = {}
+        while self.held:
+            key = self.take("word")
+            self.take("=")
+            found[key] = self.value()
+        return found
+
+    def end(self):
+        if self.held:
+            raise Syntax
+
+
+class PlainGraph:
+    """The graph, and the transaction that is open on it."""
+
+    def __init__(self):
+        self.elements = [{}, {}]
+        self.free, self.next = [[], []], [0, 0]
+        self.names = set()
+        self.before = self.leaving = self.entering = None
+
+    def answer(self, line):
+        """The reply to a line, without its last newline. A blank line has none."""
+        tokens = Tokens(line)
+        if not tokens.held:
+            return None
+        try:
+            word = tokens.take("word")
+            if word == "g":
+                return "\n".join([*(f"==>{item_text(it)}" for it in self.query(tokens)), "end"])
+            if not hasattr(self, f"line_{word}"):
+                raise Syntax
+            return getattr(self, f"line_{word}")(tokens) or "ok"
+        except Syntax:
+            return "error syntax 0"
+        except Refused as why:
+            return str(why)
+
+    # --- transactions
+
+    def state(self):
+        return pickle.dumps((self.elements, self.free, self.next, self.names))
+
+    def restore(self, state):
+        self.elements, self.free, self.next, self.names = pickle.loads(state)
+        self.leaving = None
+
+    def line_begin(self, tokens):
+        if self.before is not None:
+            raise Refused("error transaction open")
+        self.before = self.state()
+
+    def ends_transaction(self):
+        before, self.before = self.before, None
+        if before is None:
+            raise Refused("error no transaction")
+        return before
+
+    def line_commit(self, tokens):
+        self.ends_transaction()
+
+    def line_rollback(self, tokens):
+        self.restore(self.ends_transaction())
+
+    def line_checkpoint(self, tokens):
+        """Nothing is to be done."""
+
+    line_reopen = line_checkpoint
+
+    def line_stats(self, tokens):
+        nodes, edges = self.elements
+        values = [value for kind in self.elements for it in kind.values() for value in it.properties.values()]
+        return (
+            f"nodes {len(nodes)} edges {len(edges)} properties {len(values)} blocks {sum(map(blocks, values))}"
+            f" names {len(self.names)}"
+        )
+
+    # --- changes
+
+    def make(self, kind, label, properties, ends=()):
+        id = self.free[kind].pop() if self.free[kind] else self.next[kind]
+        self.next[kind] = max(self.next[kind], id + 1)
+        self.elements[kind][id] = Element(id, label, properties, ends)
+        self.names |= {label, *properties}
+        self.leaving = None
+        return f"{'edge' if kind else 'node'} {id}"
+
+    def find(self, kind, id):
+        if id not in self.elements[KINDS[kind]]:
+            raise Refused(f"error no {kind} {id}")
+        return self.elements[KINDS[kind]][id]
+
+    def element(self, tokens):
+        kind = tokens.take(*KINDS)
+        return kind, self.find(kind, int(tokens.take("number")))
+
+    def line_node(self, tokens):
+        return self.make(0, tokens.take("word"), tokens.pairs())
+
+    def line_edge(self, tokens):
+        source, label, target = int(tokens.take("number")), tokens.take("word"), int(tokens.take("number"))
+        properties = tokens.pairs()
+        self.find("node", source), self.find("node", target)
+        return self.make(1, label, properties, (source, target))
+
+    def line_set(self, tokens):
+        _, it = self.element(tokens)
+        key = tokens.take("word")
+        it.properties[key] = tokens.value()
+        self.names.add(key)
+
+    def line_unset(self, tokens):
+        _, it = self.element(tokens)
+        it.properties.pop(tokens.take("word"), None)
+
+    def line_delete(self, tokens):
+        kind, it = self.element(tokens)
+        if kind == "node" and any(it.id in edge.ends for edge in self.elements[1].values()):
+            raise Refused(f"error node {it.id} has relationships")
+        del self.elements[KINDS[kind]][it.id]
+        self.leaving = None
+        self.free[KINDS[kind]].append(it.id)
+
+    # --- queries
+
+    def query(self, tokens):
+        tokens.take(".")
+        kind = "VE".index(tokens.take("V", "E"))
+        tokens.take("(")
+        ids = tokens.numbers()
+        elements = self.elements[kind]
+        items = [elements[it] for it in sorted({it for it in ids if it in elements} if ids else elements)]
+        while tokens.has("."):
+            items = self.step(tokens, tokens.take("word"))(items)
+        tokens.end()
+        return items
+
+    def index(self):
+        """The edges that leave and that enter each node, by ascending identifier."""
+        if self.leaving is not None:
+            return
+        self.leaving, self.entering = {}, {}
+        for id in sorted(self.elements[1]):
+            edge = self.elements[1][id]
+            self.leaving.setdefault(edge.ends[0], []).append(edge)
+            self.entering.setdefault(edge.ends[1], []).append(edge)
+
+    def step(self, tokens, word):
+        """What this step makes of results. Its parentheses come next."""
+        tokens.take("(")
+        if word == "repeat":
+            return self.repeat(tokens)
+        if word in ("out", "in", "both", "outE", "inE", "bothE"):
+            return self.hop(word, tokens.names())
+        if word == "has":
+            return self.has(tokens)
+        if word == "hasLabel":
+            names = tokens.names()
+            return lambda items: [it for it in items if isinstance(it, Element) and it.label in names]
+        if word == "values":
+            keys = tokens.names()
+            return lambda items: [value for it in items for value in values_of(it, keys)]
+        if word == "limit":
+            most = int(tokens.take("number"))
+            tokens.take(")")
+            return lambda items: items[:most]
+        tokens.take(")")
+        if word == "order":
+            return order(tokens)
+        return self.plain_step(word)
+
+    def plain_step(self, word):
+        nodes = self.elements[0]
+        made = {
+            "outV": lambda items: [nodes[it.ends[0]] for it in elements(items) if it.ends],
+            "inV": lambda items: [nodes[it.ends[1]] for it in elements(items) if it.ends],
+            "id": lambda items: [it.id for it in elements(items)],
+            "label": lambda items: [it.label if isinstance(it, Element) else "" for it in items],
+            "dedup": lambda items: list({(type(it), it): it for it in items}.values()),
+            "count": lambda items: [len(items)],
+        }
+        if word not in made:
+            raise Syntax
+        return made[word]
+
+    def hop(self, word, names):
+        both = word.startswith("both")
+        self.index()
+
+        def edges_at(item):
+            """The edges at a node, and the end that is the other one."""
+            if not isinstance(item, Element) or item.ends:
+                return
+            for here, end in ((self.leaving, 1), (self.entering, 0)):
+                if both or word.startswith("out" if end else "in"):
+                    for edge in here.get(item.id, ()):
+                        if not names or edge.label in names:
+                            yield edge, end
+
+        if word.endswith("E"):
+            return lambda items: [edge for it in items for edge, _ in edges_at(it)]
+        return lambda items: [self.elements[0][edge.ends[end]] for it in items for edge, end in edges_at(it)]
+
+    def has(self, tokens):
+        key = tokens.name()
+        if tokens.has(")"):
+            return lambda items: [it for it in elements(items) if key in it.properties]
+        tokens.take(",")
+        relation = "eq"
+        named = bool(tokens.held) and tokens.held[0][1] in ("P", "eq", "neq", *RELATIONS)
+        if named:
+            if tokens.has("P"):
+                tokens.take(".")
+            relation = tokens.take("eq", "neq", *RELATIONS)
+            tokens.take("(")
+        written = tokens.value()
+        if named:
+            tokens.take(")")
+        tokens.take(")")
+        return lambda items: [
+            it for it in elements(items) if key in it.properties and compares(relation, it.properties[key], written)
+        ]
+
+    def repeat(self, tokens):
+        body = []
+        if tokens.has("__"):
+            tokens.take(".")
+        while not body or tokens.has("."):
+            body.append(self.step(tokens, tokens.take("out", "in", "both", "has", "hasLabel")))
+        for token in (")", ".", "times", "("):
+            tokens.take(token)
+        times = int(tokens.take("number"))
+        tokens.take(")")
+
+        def repeated(items):
+            for made in body * times:
+                items = made(items)
+            return items
+
+        return repeated
+
+
+def elements(items):
+    return [it for it in items if isinstance(it, Element)]
+
+
+def values_of(item, keys):
+    if not isinstance(item, Element):
+        return []
+    found = dict.fromkeys(keys) if keys else sorted(item.properties)
+    return [item.properties[key] for key in found if key in item.properties]
+
+
+def compares(relation, value, written):
+    if relation in RELATIONS:
+        return type(value) is type(written) and RELATIONS[relation](value, written)
+    return (rank(value) == rank(written)) == (relation == "eq")
+
+
+def order(tokens):
+    """The step order, whose `by` comes next where there is one."""
+    key, descending = None, False
+    if [it for _, it in tokens.held[:2]] == [".", "by"]:
+        del tokens.held[:2]
+        tokens.take("(")
+        if tokens.held and tokens.held[0][0] == "text":
+            key = tokens.name()
+        if not tokens.has(")"):
+            if key is not None:
+                tokens.take(",")
+            if tokens.has("Order"):
+                tokens.take(".")
+            descending = tokens.take("asc", "desc") == "desc"
+            tokens.take(")")
+
+    def of(item):
+        return rank(item.id if isinstance(item, Element) else item) if key is None else rank(item.properties[key])
+
+    def ordered(items):
+        there = items if key is None else [it for it in elements(items) if key in it.properties]
+        return sorted(there, key=of, reverse=descending)
+
+    return ordered

@@ -1,0 +1,257 @@
+"""Asks a store for its nodes and edges with their properties, by lines of the program alone, a page at a time.
+
+No line tells the keys that a store has. `values()` gives an element's values by ascending keys, without the keys, and
+`has('KEY')` tells who has a key. So the keys are given by the user. For a page of elements one question brings all
+values, and one for each key brings those who have it. When as many values are accounted for as there are, the page is
+whole, and no more keys are asked for. Where some are left after the last key, an element has a key that isn't given.
+"""
+
+import array
+import re
+
+from program import Ended
+from rows import MOST_LINE, MOST_NAME, to_bytes, unquoted
+
+# Elements in a page, whose values are in memory at once.
+PAGE = 500
+# The greatest limit of a store. Its identifiers are below it.
+MOST_ELEMENTS = 2**24
+# A run takes 2^30 bytes of input. A new one begins while the longest line still fits.
+MOST_INPUT = 2**30 - MOST_LINE - 1
+# What a question has besides identifiers and names: a source, a step and its argument, `dedup`.
+ROOM = 60 + MOST_NAME
+VERTEX = re.compile(rb"v\[([0-9]+)\]")
+EDGE = re.compile(rb"e\[([0-9]+)\]\[([0-9]+)-([A-Za-z0-9_]+)->([0-9]+)\]")
+HAVING = re.compile(rb"[ve]\[([0-9]+)\].*")
+DIRECTIONS = ("out", "in", "both")
+
+
+class Unfit(Exception):
+    """The graph isn't as the user says it is, or can't be had in the form that is asked for."""
+
+
+class Ids:
+    """Identifiers, each once, by a byte for each up to the greatest."""
+
+    def __init__(self):
+        self.flags, self.count = bytearray(), 0
+
+    def add(self, id):
+        """Takes it, and tells whether it wasn't there."""
+        if id >= len(self.flags):
+            self.flags.extend(bytes(id + 1 - len(self.flags)))
+        is_new = not self.flags[id]
+        self.flags[id] = 1
+        self.count += is_new
+        return is_new
+
+    def __contains__(self, id):
+        return id < len(self.flags) and self.flags[id] == 1
+
+    def __iter__(self):
+        return (id for id, there in enumerate(self.flags) if there)
+
+
+class Node:
+    """A node with its label and its properties."""
+
+    __slots__ = "id", "label", "properties"
+    said = "node"
+
+    def __init__(self, result):
+        self.id, self.label, self.properties = number_of(VERTEX, result), "", {}
+
+
+class Edge:
+    """An edge with its ends, its type and its properties."""
+
+    __slots__ = "id", "source", "label", "target", "properties"
+    said = "edge"
+
+    def __init__(self, result):
+        found = EDGE.fullmatch(result)
+        if not found:
+            raise Unfit(f"{text_of(result)} is no edge")
+        self.id, self.source, self.target = int(found[1]), int(found[2]), int(found[4])
+        self.label, self.properties = found[3].decode(), {}
+
+
+def number_of(form, result):
+    found = form.fullmatch(result)
+    if not found:
+        raise Unfit(f"{text_of(result)} is no vertex")
+    return int(found[1])
+
+
+def text_of(result):
+    """Bytes of a reply as a text, with escapes for those that are no UTF-8."""
+    return result.decode("utf-8", "surrogateescape")
+
+
+def value_of(result):
+    """The value that a result shows."""
+    if result.startswith(b"'"):
+        return unquoted(text_of(result))
+    return result == b"true" if result in (b"true", b"false") else int(result)
+
+
+class Asking:
+    """Questions to runs of the program. Where it leaves out, it asks for no value of a key that isn't given."""
+
+    def __init__(self, start, keys=(), leaves_out=False):
+        """`start` begins a run."""
+        self.start, self.leaves_out = start, leaves_out
+        self.program, self.counts = start(), None
+        # By kind how many elements of a page had a key when it was last asked for. Frequent ones are asked first.
+        self.uses = {"V": dict.fromkeys(keys, 0), "E": dict.fromkeys(keys, 0)}
+
+    def begin(self):
+        """Takes note of how many nodes and edges there are. Fails where no store is served."""
+        self.counts = self.program.counts()
+
+    def end(self):
+        if self.program.started.poll() is None:
+            self.program.end()
+
+    def ask(self, query):
+        """The results of a query, which are to be taken to the end before the next one is asked."""
+        if self.program.sent > MOST_INPUT:
+            status = self.program.end()
+            if status:
+                raise Ended(status)
+            self.program = self.start()
+        return self.program.results(to_bytes(query))
+
+    # --- pages
+
+    def every(self, kind, count):
+        """All elements of a kind, which `stats` counts, in pages. Each page asks for a run of identifiers."""
+        for first in range(0, MOST_ELEMENTS, PAGE):
+            if count <= 0:
+                return
+            found = self.elements(kind, range(first, first + PAGE))
+            count -= len(found)
+            yield found
+        if count > 0:
+            raise Unfit(f"stats counts {count} more {'edges' if kind == 'E' else 'nodes'} than are there")
+
+    def some(self, kind, ids):
+        """The elements with these identifiers, in pages."""
+        for page in pages(ids):
+            yield self.elements(kind, page)
+
+    def elements(self, kind, ids):
+        """The elements that have one of these identifiers."""
+        made = Edge if kind == "E" else Node
+        found = [made(it) for it in self.ask(source(kind, ids))]
+        if found:
+            ids = [it.id for it in found]
+            if kind == "V":
+                for it, label in self.matched(found, source(kind, ids) + ".label()"):
+                    it.label = value_of(label)
+            self.add_properties(kind, found, ids)
+        return found
+
+    def matched(self, things, query):
+        """Each of these things with its result of a query that gives one for each."""
+        results = list(self.ask(query))
+        if len(results) != len(things):
+            raise Unfit(f"{query[:60]}.. has {len(results)} results, and {len(things)} are wanted")
+        return zip(things, results)
+
+    # --- properties
+
+    def add_properties(self, kind, elements, ids):
+        asked, places = source(kind, ids), {it: at for at, it in enumerate(ids)}
+        if self.leaves_out:
+            self.add_named(kind, elements, asked, places)
+        else:
+            self.add_all(kind, elements, asked, places)
+
+    def add_named(self, kind, elements, asked, places):
+        """Adds the properties of the keys that are given."""
+        for key in sorted(self.uses[kind]):
+            having = self.having(kind, asked, key, places)
+            if having:
+                for at, value in self.matched(having, f"{asked}.values('{key}')"):
+                    elements[at].properties[key] = value_of(value)
+
+    def add_all(self, kind, elements, asked, places):
+        """Adds all properties, which need all keys."""
+        values = [value_of(it) for it in self.ask(asked + ".values()")]
+        keys, left = [[] for _ in elements], len(values)
+        for key in sorted(self.uses[kind], key=lambda it: -self.uses[kind][it]):
+            if not left:
+                break
+            for at in self.having(kind, asked, key, places):
+                keys[at].append(key)
+                left -= 1
+        if left:
+            self.tell_missing(kind, elements, keys)
+        # The values of an element come by ascending keys.
+        values = iter(values)
+        for it, its_keys in zip(elements, keys):
+            it.properties = {key: next(values) for key in sorted(its_keys)}
+
+    def having(self, kind, asked, key, places):
+        """The places of the elements that have a key, in order."""
+        found = [places[number_of(HAVING, it)] for it in self.ask(f"{asked}.has('{key}')")]
+        self.uses[kind][key] = len(found)
+        return found
+
+    def tell_missing(self, kind, elements, keys):
+        """Tells the first element that has more values than keys."""
+        for it, its_keys in zip(elements, keys):
+            values = list(self.ask(f"g.{kind}({it.id}).values()"))
+            if len(values) > len(its_keys):
+                has = f"it has {', '.join(sorted(its_keys)) or 'none of those given'}"
+                shown = ", ".join(text_of(value if len(value) <= 40 else value[:37] + b"..") for value in values)
+                told = f"{it.said} {it.id} has a key that isn't given: {has}, and the values {shown}"
+                raise Unfit(f"{told}; --keys names more, and --leave-out does without")
+
+    # --- parts of a graph
+
+    def reached(self, query, steps, direction, types):
+        """The identifiers of the vertices that a query gives, and of those that edges of these types lead to from them
+        in at most so many steps."""
+        found = Ids()
+        layer = array.array("I", filter(found.add, self.vertices(query)))
+        hop = f".{direction}({quoted(types)}).dedup()"
+        for _ in range(steps):
+            ends = (id for page in pages(layer, len(hop)) for id in self.vertices(source("V", page) + hop))
+            layer = array.array("I", filter(found.add, ends))
+        return found
+
+    def vertices(self, query):
+        return (number_of(VERTEX, it) for it in self.ask(query))
+
+    def between(self, vertices, types):
+        """The identifiers of the edges of these types that lead from one of these vertices to another."""
+        found, hop = Ids(), f".outE({quoted(types)})"
+        for page in pages(vertices, len(hop)):
+            for it in map(Edge, self.ask(source("V", page) + hop)):
+                if it.target in vertices:
+                    found.add(it.id)
+        return found
+
+
+def source(kind, ids):
+    return f"g.{kind}({','.join(map(str, ids))})"
+
+
+def quoted(names):
+    return ",".join(f"'{it}'" for it in names)
+
+
+def pages(ids, room=0):
+    """The identifiers in groups, each as a line can ask for it that has so many bytes besides."""
+    page, size = [], ROOM + room
+    for id in ids:
+        width = len(str(id)) + 1
+        if page and (len(page) == PAGE or size + width > MOST_LINE):
+            yield page
+            page, size = [], ROOM + room
+        page.append(id)
+        size += width
+    if page:
+        yield page

@@ -1,0 +1,75 @@
+"""Writes a graph in DOT, the language of graphviz."""
+
+import re
+
+# Light colours, on which black is read. After the last one they begin anew.
+COLOURS = (
+    "#a6cee3", "#fdbf6f", "#b2df8a", "#fb9a99", "#cab2d6", "#ffff99",
+    "#8dd3c7", "#e5c494", "#d9d9d9", "#f4cae4", "#9ecae1", "#c7e9c0",
+)
+# Texts are cut after so many characters.
+MOST_TEXT = 60
+NOT_SHOWN = re.compile("[\0-\x08\x0b-\x1f\x7f\ud800-\udfff\ufffe\uffff]")
+# What graphviz would take for the end of a text, an escape or a character's name.
+ESCAPES = str.maketrans({"\\": "\\\\", '"': '\\"', "&": "&amp;", "\n": "\\n", "\t": " "})
+
+
+class Colours:
+    """A colour for each label, in the order in which they are met."""
+
+    def __init__(self):
+        self.met = {}
+
+    def of(self, label):
+        return self.met.setdefault(label, COLOURS[len(self.met) % len(COLOURS)])
+
+
+def begin(file):
+    file.write("digraph nipakeel {\n")
+    file.write('  node [shape=box, style="rounded,filled", fontname="Helvetica", fontsize=11];\n')
+    file.write('  edge [fontname="Helvetica", fontsize=9, color="#555555"];\n')
+
+
+def end(file):
+    file.write("}\n")
+
+
+def node(file, id, lines, colour):
+    file.write(f'  {id} [label="{text(lines)}", fillcolor="{colour}"];\n')
+
+
+def edge(file, source, target, lines):
+    file.write(f'  {source} -> {target} [label="{text(lines)}"];\n')
+
+
+def text(lines):
+    return "\\n".join(map(shown, lines))
+
+
+def shown(value):
+    """A value as a picture has it."""
+    if isinstance(value, bool):
+        return "true" if value else "false"
+    said = str(value)
+    said = said if len(said) <= MOST_TEXT else said[: MOST_TEXT - 2] + ".."
+    return NOT_SHOWN.sub("\ufffd", said.replace("\r\n", "\n")).translate(ESCAPES)
+
+
+def all_of(it, label):
+    """The lines of an element with all of its properties."""
+    return [label, *(f"{key}: {value_text(value)}" for key, value in it["properties"].items())]
+
+
+def value_text(value):
+    return ("true" if value else "false") if isinstance(value, bool) else value
+
+
+def write_dot(file, nodes, edges):
+    """All elements, with their properties."""
+    colours = Colours()
+    begin(file)
+    for it in nodes.elements():
+        node(file, it["node"], all_of(it, it["label"]), colours.of(it["label"]))
+    for it in edges.elements():
+        edge(file, it["from"], it["to"], all_of(it, it["type"]))
+    end(file)
