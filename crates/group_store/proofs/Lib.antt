@@ -1,0 +1,10 @@
+pub mod DropSteps
+pub mod Drops
+pub mod FirstGroups
+pub mod GroupRecords
+pub mod GroupRules
+pub mod GroupWalks
+pub mod MakeSteps
+pub mod Makes
+pub mod Seeks
+pub mod UnknownKinds

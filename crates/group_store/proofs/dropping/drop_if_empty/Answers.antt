@@ -1,0 +1,152 @@
+use Rattle.std.proofs.Common.{true, false, ap, ◌∙◌, sym}
+use Rattle.std.specs.Prelude.{not}
+use Rattle.std.proofs.lemmas.Bool.{false≢true, true≢false}
+use Rattle.std.proofs.lemmas.Result.{err_from_is_err_and}
+use Rattle.rec_bytes.specs.Format.{group_next, group_previous, groups_file}
+use Rattle.rec_bytes.specs.RecordFiles.{meta_key_of}
+use Rattle.group_store.specs.Dropping.{lead_key}
+use Rattle.group_store.specs.Dropping.IsDropDamage.{BadNext, BadPrevious}
+use Rattle.group_store.specs.GroupChain.{next_group, previous_group}
+use Rattle.group_store.specs.GroupRecord.{group_key, range_damage}
+use Rattle.group_store.proofs.DropSteps.{is_undamaged, right_next, right_previous, back_writes, dropped_has, dropped_is, filled_is, follow_writes, give_writes, link_read, member_told, number_read, same_one}
+use Rattle.group_store.proofs.GroupWalks.{not_damaged_at}
+use Rattle.group_store.proofs.MakeSteps.{on_damage, same_read, same_writes}
+use Rattle.group_store.proofs.dropping.drop_if_empty.Goals as goal
+
+pub returns-in_err-rec-clause-damaged : goal.returns-in_err-rec-clause-damaged
+returns-in_err-rec-clause-damaged g c = λ tells.
+    let p = err_from_is_err_and c.from_residual.result c.from_residual.ensures.1 in
+    rw (p.1, p.2) (member_told (g.S.Reads.state c.args.space.now) c.args.node c.args.group c.in_err-rec.field-0.0 (c.in_err-rec.ensures.damaged tells))
+
+pub returns-in_err-rec-clause-unwritten : goal.returns-in_err-rec-clause-unwritten
+returns-in_err-rec-clause-unwritten g c =
+    on_damage c.from_residual.result _ (same_read 1 (g.S.Reads.state c.args.space.now) (g.S.Reads.state c.read_member.new.space) c.in_err-rec.ensures.at_most)
+
+pub returns-in_err-rec-clause-writes : goal.returns-in_err-rec-clause-writes
+returns-in_err-rec-clause-writes g c =
+    let s = g.S.Reads.state c.args.space.now in
+    (0, 0, same_writes s (g.S.Reads.state c.read_member.new.space) _ (same_read 1 s (g.S.Reads.state c.read_member.new.space) c.in_err-rec.ensures.at_most))
+
+pub returns-then-is_filled-clause-dropped : goal.returns-then-is_filled-clause-dropped
+returns-then-is_filled-clause-dropped g c = λ tells free xs can empty.
+    let s = g.S.Reads.state c.args.space.now in
+    absurd (true≢false (sym (filled_is s.records c.args.group c.in_ok-rec.rec c.is_filled.result true (c.in_ok-rec.ensures.got tells) c.is_filled.ensures c.if-is_filled.true) ∙ empty))
+
+pub returns-then-is_filled-clause-is : goal.returns-then-is_filled-clause-is
+returns-then-is_filled-clause-is g c = λ tells.
+    let s = g.S.Reads.state c.args.space.now in
+    ap not (sym (filled_is s.records c.args.group c.in_ok-rec.rec c.is_filled.result true (c.in_ok-rec.ensures.got tells) c.is_filled.ensures c.if-is_filled.true))
+
+pub returns-then-is_filled-clause-kept : goal.returns-then-is_filled-clause-kept
+returns-then-is_filled-clause-kept g c = λ _. same_one (g.S.Reads.state c.args.space.now) (g.S.Reads.state c.read_member.new.space) c.in_ok-rec.ensures.read
+
+pub returns-then-is_filled-clause-writes : goal.returns-then-is_filled-clause-writes
+returns-then-is_filled-clause-writes g c =
+    let s = g.S.Reads.state c.args.space.now in
+    (0, 0, same_writes s (g.S.Reads.state c.read_member.new.space) _ (same_one s (g.S.Reads.state c.read_member.new.space) c.in_ok-rec.ensures.read))
+
+pub returns-in_err-test_link-clause-damaged : goal.returns-in_err-test_link-clause-damaged
+returns-in_err-test_link-clause-damaged g c = λ tells.
+    let s = g.S.Reads.state c.args.space.now in
+    let p = err_from_is_err_and c.from_residual-in_err-test_link.result c.from_residual-in_err-test_link.ensures.1 in
+    let before = number_read s.records c.args.group group_previous c.number-before.result c.in_ok-rec.rec (c.in_ok-rec.ensures.got tells) c.number-before.ensures in
+    rw (p.1, p.2) (BadPrevious c.in_err-test_link.field-0.0 (link_read s (g.S.Reads.state c.read_member.new.space) c.number-before.result (previous_group s.records c.args.group) (range_damage c.args.group) c.in_err-test_link.field-0.0
+    c.in_ok-rec.ensures.read before c.in_err-test_link.ensures.damaged))
+
+pub returns-in_err-test_link-clause-unwritten : goal.returns-in_err-test_link-clause-unwritten
+returns-in_err-test_link-clause-unwritten g c =
+    on_damage c.from_residual-in_err-test_link.result _ (same_one (g.S.Reads.state c.args.space.now) (g.S.Reads.state c.read_member.new.space) c.in_ok-rec.ensures.read)
+
+pub returns-in_err-test_link-clause-writes : goal.returns-in_err-test_link-clause-writes
+returns-in_err-test_link-clause-writes g c =
+    let s = g.S.Reads.state c.args.space.now in
+    (0, 0, same_writes s (g.S.Reads.state c.read_member.new.space) _ (same_one s (g.S.Reads.state c.read_member.new.space) c.in_ok-rec.ensures.read))
+
+pub returns-in_err-test_link-2-clause-damaged : goal.returns-in_err-test_link-2-clause-damaged
+returns-in_err-test_link-2-clause-damaged g c = λ tells.
+    let s = g.S.Reads.state c.args.space.now in
+    let p = err_from_is_err_and c.from_residual-in_err-test_link-2.result c.from_residual-in_err-test_link-2.ensures.1 in
+    let after = number_read s.records c.args.group group_next c.number-after.result c.in_ok-rec.rec (c.in_ok-rec.ensures.got tells) c.number-after.ensures in
+    rw (p.1, p.2) (BadNext c.in_err-test_link-2.field-0.0 (link_read s (g.S.Reads.state c.read_member.new.space) c.number-after.result (next_group s.records c.args.group) (range_damage c.args.group) c.in_err-test_link-2.field-0.0
+    c.in_ok-rec.ensures.read after c.in_err-test_link-2.ensures.damaged))
+
+pub returns-in_err-test_link-2-clause-unwritten : goal.returns-in_err-test_link-2-clause-unwritten
+returns-in_err-test_link-2-clause-unwritten g c =
+    on_damage c.from_residual-in_err-test_link-2.result _ (same_one (g.S.Reads.state c.args.space.now) (g.S.Reads.state c.read_member.new.space) c.in_ok-rec.ensures.read)
+
+pub returns-in_err-test_link-2-clause-writes : goal.returns-in_err-test_link-2-clause-writes
+returns-in_err-test_link-2-clause-writes g c =
+    let s = g.S.Reads.state c.args.space.now in
+    (0, 0, same_writes s (g.S.Reads.state c.read_member.new.space) _ (same_one s (g.S.Reads.state c.read_member.new.space) c.in_ok-rec.ensures.read))
+
+pub returns-in_err-back-clause-writes : goal.returns-in_err-back-clause-writes
+returns-in_err-back-clause-writes g c = (
+  c.number-before.result,
+  c.number-after.result,
+  back_writes (g.S.Reads.state c.args.space.now) (g.S.Reads.state c.read_member.new.space) (g.S.Reads.state c.back.new.space)
+      (group_key c.number-after.result) (lead_key c.args.node c.number-before.result) (group_key c.args.group) (meta_key_of groups_file) c.in_ok-rec.ensures.read c.in_err-back.ensures.writes,
+)
+
+pub returns-in_err-follow-clause-writes : goal.returns-in_err-follow-clause-writes
+returns-in_err-follow-clause-writes g c = (
+  c.number-before.result,
+  c.number-after.result,
+  follow_writes (g.S.Reads.state c.args.space.now) (g.S.Reads.state c.read_member.new.space) (g.S.Reads.state c.back.new.space) (g.S.Reads.state c.follow.new.space)
+      (group_key c.number-after.result) (lead_key c.args.node c.number-before.result) (group_key c.args.group) (meta_key_of groups_file) c.in_ok-rec.ensures.read c.in_ok-back.ensures.writes c.in_err-follow.ensures.writes,
+)
+
+pub returns-in_err-give-clause-writes : goal.returns-in_err-give-clause-writes
+returns-in_err-give-clause-writes g c = (
+  c.number-before.result,
+  c.number-after.result,
+  give_writes (g.S.Reads.state c.args.space.now) (g.S.Reads.state c.read_member.new.space) (g.S.Reads.state c.back.new.space) (g.S.Reads.state c.follow.new.space) (g.S.Reads.state c.give.new.space)
+      (group_key c.number-after.result) (lead_key c.args.node c.number-before.result) (group_key c.args.group) (meta_key_of groups_file) c.in_ok-rec.ensures.read c.in_ok-back.ensures.writes c.in_ok-follow.ensures.writes c.in_err-give.ensures.writes,
+)
+
+pub returns-clause-writes : goal.returns-clause-writes
+returns-clause-writes g c = (
+  c.number-before.result,
+  c.number-after.result,
+  give_writes (g.S.Reads.state c.args.space.now) (g.S.Reads.state c.read_member.new.space) (g.S.Reads.state c.back.new.space) (g.S.Reads.state c.follow.new.space) (g.S.Reads.state c.give.new.space)
+      (group_key c.number-after.result) (lead_key c.args.node c.number-before.result) (group_key c.args.group) (meta_key_of groups_file) c.in_ok-rec.ensures.read c.in_ok-back.ensures.writes c.in_ok-follow.ensures.writes c.in_ok-give.ensures.writes,
+)
+
+pub returns-clause-is : goal.returns-clause-is
+returns-clause-is g c = λ tells.
+    let s = g.S.Reads.state c.args.space.now in
+    ap not (sym (filled_is s.records c.args.group c.in_ok-rec.rec c.is_filled.result false (c.in_ok-rec.ensures.got tells) c.is_filled.ensures c.if-is_filled.false))
+
+pub returns-clause-ok : goal.returns-clause-ok
+returns-clause-ok g c = λ tells _.
+    let s = g.S.Reads.state c.args.space.now in
+    let before = number_read s.records c.args.group group_previous c.number-before.result c.in_ok-rec.rec (c.in_ok-rec.ensures.got tells) c.number-before.ensures in
+    let after = number_read s.records c.args.group group_next c.number-after.result c.in_ok-rec.rec (c.in_ok-rec.ensures.got tells) c.number-after.ensures in
+    dropped_is s (g.S.Reads.state c.read_member.new.space) (g.S.Reads.state c.back.new.space) (g.S.Reads.state c.follow.new.space) (g.S.Reads.state c.give.new.space) c.args.node c.number-before.result c.number-after.result c.args.group
+    c.in_ok-rec.ensures.read (c.in_ok-back.ensures.ok tells) (c.in_ok-follow.ensures.ok tells) before after (c.in_ok-give.ensures.ok tells)
+
+pub returns-clause-dropped : goal.returns-clause-dropped
+returns-clause-dropped g c = λ tells free xs can empty.
+    let s = g.S.Reads.state c.args.space.now in
+    let before = number_read s.records c.args.group group_previous c.number-before.result c.in_ok-rec.rec (c.in_ok-rec.ensures.got tells) c.number-before.ensures in
+    let after = number_read s.records c.args.group group_next c.number-after.result c.in_ok-rec.rec (c.in_ok-rec.ensures.got tells) c.number-after.ensures in
+    dropped_has s (g.S.Reads.state c.read_member.new.space) (g.S.Reads.state c.back.new.space) (g.S.Reads.state c.follow.new.space) (g.S.Reads.state c.give.new.space) c.args.node c.number-before.result c.number-after.result c.args.group free xs
+    c.in_ok-rec.ensures.read (c.in_ok-back.ensures.ok tells) (c.in_ok-follow.ensures.ok tells) before after (c.in_ok-give.ensures.given tells free) can
+
+pub returns-in_err-rec-clause-sound : goal.returns-in_err-rec-clause-sound
+returns-in_err-rec-clause-sound g c = λ tells xs on.
+    let p = err_from_is_err_and c.from_residual.result c.from_residual.ensures.1 in
+    not_damaged_at c.from_residual.result p.0 c.in_err-rec.field-0.0 p.1 p.2 (is_undamaged (g.S.Reads.state c.args.space.now) c.args.node c.args.group xs c.in_err-rec.field-0.0 on (c.in_err-rec.ensures.damaged tells))
+
+pub returns-in_err-test_link-clause-sound : goal.returns-in_err-test_link-clause-sound
+returns-in_err-test_link-clause-sound g c = λ tells xs on.
+    let s = g.S.Reads.state c.args.space.now in
+    let before = number_read s.records c.args.group group_previous c.number-before.result c.in_ok-rec.rec (c.in_ok-rec.ensures.got tells) c.number-before.ensures in
+    let is_ok = c.in_err-test_link.ensures.sound (right_previous s (g.S.Reads.state c.read_member.new.space) c.args.node c.args.group c.number-before.result xs c.in_ok-rec.ensures.read before on) in
+    absurd (false≢true is_ok)
+
+pub returns-in_err-test_link-2-clause-sound : goal.returns-in_err-test_link-2-clause-sound
+returns-in_err-test_link-2-clause-sound g c = λ tells xs on.
+    let s = g.S.Reads.state c.args.space.now in
+    let after = number_read s.records c.args.group group_next c.number-after.result c.in_ok-rec.rec (c.in_ok-rec.ensures.got tells) c.number-after.ensures in
+    let is_ok = c.in_err-test_link-2.ensures.sound (right_next s (g.S.Reads.state c.read_member.new.space) c.args.node c.args.group c.number-after.result xs c.in_ok-rec.ensures.read after on) in
+    absurd (false≢true is_ok)

@@ -1,0 +1,17 @@
+use Rattle.std.proofs.Common.{◌≡◌, ◌≤◌, ◌-◌, length, ℕ, List}
+use Rattle.rec_bytes.specs.Space.{after_gets}
+use Rattle.group_store.specs.GroupChain.{IsGroupList, LacksType}
+use Rattle.group_store.proofs.GroupWalks.{HasPassed, IsLeft}
+use Rattle.group_store.proofs.finding.seek.Given as goal
+
+-- what was passed, none of which has the type, and what is left of a list that ends
+abbrev pub invariant-loop : goal.invariant-loop
+invariant-loop g l =
+    let s = g.R.Reads.state l.fn.space in
+    record {
+      met : g.R.Reads.tells → (ms : List ℕ) × HasPassed s.records l.node l.fn.first l.at ms × LacksType s.records l.label ms × (length ms ≡ l.counter);
+      left : g.R.Reads.tells → (xs : List ℕ) → IsGroupList s.records l.node l.fn.first xs → IsLeft s.records l.node (l.budget - l.counter) l.at;
+      read : g.R.Reads.state l.space ≡ after_gets l.counter s;
+      onward : g.R.Reads.onward l.fn.space l.space;
+      later : g.R.Reads.faults l.fn.space ≤ g.R.Reads.faults l.space;
+    }

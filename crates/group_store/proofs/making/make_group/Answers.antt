@@ -1,0 +1,127 @@
+use Rattle.std.proofs.Common.{◌≡◌, sym, subst, arith}
+use Rattle.std.specs.Prelude.{IfSome, Option, ℕ}
+use Rattle.std.proofs.lemmas.Bool.{false≢true}
+use Rattle.std.proofs.lemmas.Result.{err_from_is_err_and}
+use Rattle.node_store.specs.NodeRecord.{node_key}
+use Rattle.rec_bytes.specs.Format.{groups_file}
+use Rattle.rec_bytes.specs.RecordFiles.{meta_key_of}
+use Rattle.rec_bytes.specs.Space.{after_get}
+use Rattle.store_rules.specs.Views.{first_link}
+use Rattle.group_store.specs.FirstGroup.{IsFirst}
+use Rattle.group_store.specs.GroupRecord.{group_key}
+use Rattle.group_store.specs.Making.{IsMakeDamage, link_damage}
+use Rattle.group_store.specs.Making.IsMakeDamage.{NotDense, BadLink}
+use Rattle.group_store.proofs.MakeSteps.{all_writes, link_told, made_has, made_is, node_told, on_damage, right_first, same_read, same_then, same_writes, take_told}
+use Rattle.group_store.proofs.making.make_group.Goals as goal
+
+pub returns-in_err-first-clause-damaged : goal.returns-in_err-first-clause-damaged
+returns-in_err-first-clause-damaged g c = λ tells.
+    let p = err_from_is_err_and c.from_residual.result c.from_residual.ensures.1 in
+    rw (p.1, p.2) (node_told (g.S.Reads.state c.args.space.now) c.args.node c.in_err-first.field-0.0 (c.in_err-first.ensures.damaged tells))
+
+pub returns-in_err-first-clause-unwritten : goal.returns-in_err-first-clause-unwritten
+returns-in_err-first-clause-unwritten g c =
+    on_damage c.from_residual.result _ (same_read 1 (g.S.Reads.state c.args.space.now) (g.S.Reads.state c.first_group.new.space) c.in_err-first.ensures.at_most)
+
+pub returns-in_err-first-clause-writes : goal.returns-in_err-first-clause-writes
+returns-in_err-first-clause-writes g c =
+    let s = g.S.Reads.state c.args.space.now in
+    (0, 0, same_writes s (g.S.Reads.state c.first_group.new.space) _ (same_read 1 s (g.S.Reads.state c.first_group.new.space) c.in_err-first.ensures.at_most))
+
+pub returns-in_default-clause-damaged : goal.returns-in_default-clause-damaged
+returns-in_default-clause-damaged g c = λ tells.
+    let s = g.S.Reads.state c.args.space.now in
+    subst (IsMakeDamage s c.args.node) (sym c.chain_damage.ensures) (NotDense (subst (IsFirst s.records c.args.node) c.in_default.is (c.in_ok-first.ensures.first tells)))
+
+pub returns-in_default-clause-unwritten : goal.returns-in_default-clause-unwritten
+returns-in_default-clause-unwritten g c = same_read 1 (g.S.Reads.state c.args.space.now) (g.S.Reads.state c.first_group.new.space) c.in_ok-first.ensures.at_most
+
+pub returns-in_default-clause-writes : goal.returns-in_default-clause-writes
+returns-in_default-clause-writes g c =
+    let s = g.S.Reads.state c.args.space.now in
+    (0, 0, same_writes s (g.S.Reads.state c.first_group.new.space) _ (same_read 1 s (g.S.Reads.state c.first_group.new.space) c.in_ok-first.ensures.at_most))
+
+pub returns-in_err-test_link-clause-damaged : goal.returns-in_err-test_link-clause-damaged
+returns-in_err-test_link-clause-damaged g c = λ tells.
+    let s = g.S.Reads.state c.args.space.now in
+    let p = err_from_is_err_and c.from_residual-in_err-test_link.result c.from_residual-in_err-test_link.ensures.1 in
+    let first = subst (IsFirst s.records c.args.node) c.in-Some.is (c.in_ok-first.ensures.first tells) in
+    let reads = c.in_ok-first.ensures.at_most in
+    rw (p.1, p.2) (BadLink c.in_err-test_link.field-0.0 (link_told s (g.S.Reads.state c.first_group.new.space) reads.count c.in-Some.first (first_link s.records c.args.node) (link_damage c.args.node) c.in_err-test_link.field-0.0
+    reads.is first.1 c.in_err-test_link.ensures.damaged))
+
+pub returns-in_err-test_link-clause-sound : goal.returns-in_err-test_link-clause-sound
+returns-in_err-test_link-clause-sound g c = λ tells readable free xs can dense room.
+    let s = g.S.Reads.state c.args.space.now in
+    let first = subst (IsFirst s.records c.args.node) c.in-Some.is (c.in_ok-first.ensures.first tells) in
+    let reads = c.in_ok-first.ensures.at_most in
+    let is_ok = c.in_err-test_link.ensures.sound (right_first s (g.S.Reads.state c.first_group.new.space) reads.count c.args.node c.args.label c.in-Some.first free xs reads.is first.1 can) in
+    absurd (false≢true is_ok)
+
+pub returns-in_err-test_link-clause-unwritten : goal.returns-in_err-test_link-clause-unwritten
+returns-in_err-test_link-clause-unwritten g c =
+    on_damage c.from_residual-in_err-test_link.result _ (same_read 1 (g.S.Reads.state c.args.space.now) (g.S.Reads.state c.first_group.new.space) c.in_ok-first.ensures.at_most)
+
+pub returns-in_err-test_link-clause-writes : goal.returns-in_err-test_link-clause-writes
+returns-in_err-test_link-clause-writes g c =
+    let s = g.S.Reads.state c.args.space.now in
+    (0, 0, same_writes s (g.S.Reads.state c.first_group.new.space) _ (same_read 1 s (g.S.Reads.state c.first_group.new.space) c.in_ok-first.ensures.at_most))
+
+pub returns-in_err-id-clause-damaged : goal.returns-in_err-id-clause-damaged
+returns-in_err-id-clause-damaged g c = λ tells.
+    let s = g.S.Reads.state c.args.space.now in
+    let now = g.S.Reads.state c.first_group.new.space in
+    let p = err_from_is_err_and c.from_residual-in_err-id.result c.from_residual-in_err-id.ensures.1 in
+    let read : now ≡ after_get s = subst (λ (first : Option ℕ). IfSome first (λ _. now ≡ after_get s)) c.in-Some.is (c.in_ok-first.ensures.read tells) in
+    rw (p.1, p.2) (take_told s now c.args.node c.in_err-id.field-0.0 read (c.in_err-id.ensures.refused tells))
+
+pub returns-in_err-id-clause-unwritten : goal.returns-in_err-id-clause-unwritten
+returns-in_err-id-clause-unwritten g c =
+    let s = g.S.Reads.state c.args.space.now in
+    let now = g.S.Reads.state c.first_group.new.space in
+    on_damage c.from_residual-in_err-id.result _ (same_then s now (g.S.Reads.state c.take.new.space) (same_read 1 s now c.in_ok-first.ensures.at_most) c.in_err-id.ensures.err)
+
+pub returns-in_err-id-clause-writes : goal.returns-in_err-id-clause-writes
+returns-in_err-id-clause-writes g c =
+    let s = g.S.Reads.state c.args.space.now in
+    let now = g.S.Reads.state c.first_group.new.space in
+    (0, 0, same_writes s (g.S.Reads.state c.take.new.space) _ (same_then s now (g.S.Reads.state c.take.new.space) (same_read 1 s now c.in_ok-first.ensures.at_most) c.in_err-id.ensures.err))
+
+pub returns-in_err-lead-clause-writes : goal.returns-in_err-lead-clause-writes
+returns-in_err-lead-clause-writes g c =
+    let s = g.S.Reads.state c.args.space.now in
+    let now = g.S.Reads.state c.first_group.new.space in (
+      c.in_ok-id.id,
+      c.in-Some.first,
+      all_writes s now (g.S.Reads.state c.take.new.space) (g.S.Reads.state c.lead.new.space) (group_key c.in_ok-id.id) (group_key c.in-Some.first) (node_key c.args.node) (meta_key_of groups_file)
+          (same_read 1 s now c.in_ok-first.ensures.at_most) c.in_ok-id.ensures.writes c.in_err-lead.ensures.writes,
+    )
+
+pub returns-clause-writes : goal.returns-clause-writes
+returns-clause-writes g c =
+    let s = g.S.Reads.state c.args.space.now in
+    let now = g.S.Reads.state c.first_group.new.space in (
+      c.in_ok-id.id,
+      c.in-Some.first,
+      all_writes s now (g.S.Reads.state c.take.new.space) (g.S.Reads.state c.lead.new.space) (group_key c.in_ok-id.id) (group_key c.in-Some.first) (node_key c.args.node) (meta_key_of groups_file)
+          (same_read 1 s now c.in_ok-first.ensures.at_most) c.in_ok-id.ensures.writes c.in_ok-lead.ensures.writes,
+    )
+
+pub returns-clause-ok : goal.returns-clause-ok
+returns-clause-ok g c = λ tells.
+    let s = g.S.Reads.state c.args.space.now in
+    let now = g.S.Reads.state c.first_group.new.space in
+    let read : now ≡ after_get s = subst (λ (first : Option ℕ). IfSome first (λ _. now ≡ after_get s)) c.in-Some.is (c.in_ok-first.ensures.read tells) in
+    let first = subst (IsFirst s.records c.args.node) c.in-Some.is (c.in_ok-first.ensures.first tells) in
+    made_is s now (g.S.Reads.state c.take.new.space) (g.S.Reads.state c.lead.new.space) c.args.node c.args.label c.in-Some.first c.in_ok-id.id c.empty_group.result
+    read (c.in_ok-id.ensures.ok tells) first.1 c.in_ok-id.ensures.is c.empty_group.ensures (c.in_ok-lead.ensures.ok tells)
+
+pub returns-clause-made : goal.returns-clause-made
+returns-clause-made g c = λ tells free xs can.
+    let s = g.S.Reads.state c.args.space.now in
+    let now = g.S.Reads.state c.first_group.new.space in
+    let read : now ≡ after_get s = subst (λ (first : Option ℕ). IfSome first (λ _. now ≡ after_get s)) c.in-Some.is (c.in_ok-first.ensures.read tells) in
+    let first = subst (IsFirst s.records c.args.node) c.in-Some.is (c.in_ok-first.ensures.first tells) in
+    made_has s now (g.S.Reads.state c.take.new.space) (g.S.Reads.state c.lead.new.space) c.args.node c.args.label c.in-Some.first c.in_ok-id.id c.empty_group.result c.empty_row.result free xs
+    read (c.in_ok-id.ensures.taken tells free) (c.in_ok-id.ensures.fresh tells) first.1 c.empty_group.ensures (c.in_ok-lead.ensures.ok tells) c.empty_row.ensures
+    (omega (arith, c.in_ok-id.ensures.key.id)) (omega (arith, c.ranges.node.fits)) (omega (arith, c.ranges.label.fits)) can

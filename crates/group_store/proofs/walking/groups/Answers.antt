@@ -1,0 +1,102 @@
+use Rattle.std.proofs.Common.{◌≡◌, ◌-◌, ◌+◌, suc, length, [], ◌++◌, ◌∷◌, ap, ◌∙◌, sym, subst, arith}
+use Rattle.std.proofs.lemmas.List.{length_push}
+use Rattle.std.proofs.lemmas.Result.{err_from_is_err_and}
+use Rattle.rec_bytes.specs.declared.meta.Meta.{Meta}
+use Rattle.rec_bytes.proofs.Spaces.{after_gets-zero}
+use Rattle.group_store.specs.GroupRecord.{row_of}
+use Rattle.group_store.specs.Loading.{group_mark}
+use Rattle.group_store.specs.Walking.{IsWalkDamage}
+use Rattle.group_store.specs.Walking.IsWalkDamage.{NoList}
+use Rattle.group_store.proofs.GroupWalks.{few_groups, left_more, left_none, link_then, member_then, passed_all, passed_more, passed_none, read_next, reads_more, rec_then, rows_more, not_damaged_at, undamaged, walk_fault}
+use Rattle.group_store.proofs.walking.groups.Goals as goal
+
+pub loop-init : goal.loop-init
+loop-init g c =
+    let s = g.R.Reads.state c.args.space.now in
+    let none = c.new-rows.ensures.items in
+    let mark : c.meta-budget.result.high ≡ group_mark s = ap (λ (m : Meta). m.high) c.meta-budget.ensures in
+    record {
+      met = λ tells. ([], passed_none s.records c.args.row.now.id c.args.row.now.first, none);
+      left = λ tells xs list. let few = few_groups s.records c.args.row.now.id c.args.row.now.first xs list in (xs, list, omega arith);
+      count = ap length none;
+      read = rw none (sym (after_gets-zero s));
+      onward = g.met.R.Reads.stays_onward c.args.space.now;
+      later = omega arith;
+    }
+
+pub loop-preserved : goal.loop-preserved
+loop-preserved g c =
+    let s = g.R.Reads.state c.args.space.now in
+    let now = g.R.Reads.state c.loop.space in
+    let rows = c.loop.rows.items in
+    let some = c.if-at.false in
+    let less : c.meta-budget.result.high - c.loop.counter ≡ suc (c.meta-budget.result.high - (c.loop.counter + 1)) = let lt = c.loop-test.true in omega arith in
+    let one_more : length c.push.new.self.items ≡ length rows + 1 = ap length c.in_ok-push.ensures.items ∙ length_push rows c.row_of.result in
+    record {
+      met = λ tells.
+          let met = c.loop.invariant.met tells in
+          let member = member_then s now (length rows) c.args.row.now.id c.loop.at c.loop.invariant.read (c.in_ok-rec.ensures.member tells) in
+          let got = rec_then s now (length rows) c.loop.at c.in_ok-rec.rec c.loop.invariant.read (c.in_ok-rec.ensures.got tells) in
+          let link = link_then s now (length rows) c.loop.at c.number-at.result c.in_ok-rec.rec c.loop.invariant.read (c.in_ok-rec.ensures.got tells) c.number-at.ensures in (
+            met.0 ++ c.loop.at ∷ [],
+            passed_more s.records c.args.row.now.id c.args.row.now.first c.loop.at c.number-at.result met.0 some member link met.1,
+            c.in_ok-push.ensures.items ∙ rows_more s.records met.0 rows c.row_of.result c.loop.at (c.row_of.ensures ∙ ap (λ r. row_of r c.loop.at) got) met.2,
+          );
+      left = λ tells xs list.
+          let link = link_then s now (length rows) c.loop.at c.number-at.result c.in_ok-rec.rec c.loop.invariant.read (c.in_ok-rec.ensures.got tells) c.number-at.ensures in
+          left_more s.records c.args.row.now.id (c.meta-budget.result.high - c.loop.counter) (c.meta-budget.result.high - (c.loop.counter + 1)) c.loop.at c.number-at.result less some link (c.loop.invariant.left tells xs list);
+      count = one_more ∙ ap (λ n. n + 1) c.loop.invariant.count;
+      read = read_next s now (g.R.Reads.state c.read_member.new.space) (length rows) (length c.push.new.self.items) one_more c.loop.invariant.read c.in_ok-rec.ensures.read;
+      onward = g.met.R.Reads.further_onward c.args.space.now c.loop.space c.read_member.new.space c.loop.invariant.onward c.in_ok-rec.ensures.onward;
+      later = let cause = c.in_ok-rec.ensures.cause in omega (arith, c.loop.invariant.later, cause.later);
+    }
+
+pub returns-then-at-clause-rows : goal.returns-then-at-clause-rows
+returns-then-at-clause-rows g c = λ tells.
+    let s = g.R.Reads.state c.args.space.now in
+    let met = c.loop.invariant.met tells in
+    record { members = met.0; list = passed_all s.records c.args.row.now.id c.args.row.now.first c.loop.at met.0 c.if-at.true met.1; are = met.2 }
+
+pub returns-clause-rows : goal.returns-clause-rows
+returns-clause-rows g c = λ tells.
+    let s = g.R.Reads.state c.args.space.now in
+    let met = c.loop.invariant.met tells in
+    record { members = met.0; list = passed_all s.records c.args.row.now.id c.args.row.now.first c.loop.at met.0 c.if-at-2.false met.1; are = met.2 }
+
+pub returns-in_err-rec-clause-at_most : goal.returns-in_err-rec-clause-at_most
+returns-in_err-rec-clause-at_most g c =
+    let s = g.R.Reads.state c.args.space.now in
+    let mark : c.meta-budget.result.high ≡ group_mark s = ap (λ (m : Meta). m.high) c.meta-budget.ensures in
+    let lt = c.loop-test.true in
+    let count = c.loop.invariant.count in
+    reads_more s (g.R.Reads.state c.loop.space) (g.R.Reads.state c.read_member.new.space) (length c.loop.rows.items) 1 (group_mark s) (omega arith) c.loop.invariant.read c.in_err-rec.ensures.at_most
+
+pub returns-in_err-push-clause-at_most : goal.returns-in_err-push-clause-at_most
+returns-in_err-push-clause-at_most g c =
+    let s = g.R.Reads.state c.args.space.now in
+    let mark : c.meta-budget.result.high ≡ group_mark s = ap (λ (m : Meta). m.high) c.meta-budget.ensures in
+    let lt = c.loop-test.true in
+    let count = c.loop.invariant.count in
+    reads_more s (g.R.Reads.state c.loop.space) (g.R.Reads.state c.read_member.new.space) (length c.loop.rows.items) 1 (group_mark s) (omega arith) c.loop.invariant.read c.in_ok-rec.ensures.at_most
+
+pub returns-in_err-rec-clause-damaged : goal.returns-in_err-rec-clause-damaged
+returns-in_err-rec-clause-damaged g c = λ tells.
+    let s = g.R.Reads.state c.args.space.now in
+    let p = err_from_is_err_and c.from_residual.result c.from_residual.ensures.1 in
+    rw (p.1, p.2) (walk_fault s (g.R.Reads.state c.loop.space) (length c.loop.rows.items) c.args.row.now.id c.args.row.now.first (c.meta-budget.result.high - c.loop.counter) c.loop.at c.in_err-rec.field-0.0
+    c.loop.invariant.read c.if-at.false (c.loop.invariant.left tells) (c.in_err-rec.ensures.damaged tells))
+
+pub returns-in_err-rec-clause-sound : goal.returns-in_err-rec-clause-sound
+returns-in_err-rec-clause-sound g c = λ tells xs can.
+    let s = g.R.Reads.state c.args.space.now in
+    let p = err_from_is_err_and c.from_residual.result c.from_residual.ensures.1 in
+    not_damaged_at c.from_residual.result p.0 c.in_err-rec.field-0.0 p.1 p.2 (undamaged s c.args.row.now.id c.args.row.now.first xs c.in_err-rec.field-0.0 can
+    (walk_fault s (g.R.Reads.state c.loop.space) (length c.loop.rows.items) c.args.row.now.id c.args.row.now.first (c.meta-budget.result.high - c.loop.counter) c.loop.at c.in_err-rec.field-0.0
+    c.loop.invariant.read c.if-at.false (c.loop.invariant.left tells) (c.in_err-rec.ensures.damaged tells)))
+
+pub returns-then-at-2-clause-damaged : goal.returns-then-at-2-clause-damaged
+returns-then-at-2-clause-damaged g c = λ tells.
+    let s = g.R.Reads.state c.args.space.now in
+    let ge = c.loop-test.false in
+    subst (IsWalkDamage s c.args.row.now.id c.args.row.now.first) (sym c.chain_damage.ensures)
+    (NoList (λ xs list. c.if-at-2.true (left_none s.records c.args.row.now.id (c.meta-budget.result.high - c.loop.counter) c.loop.at (omega arith) (c.loop.invariant.left tells xs list))))

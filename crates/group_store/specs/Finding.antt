@@ -1,0 +1,34 @@
+-- What a search for a node's group of a type finds.
+use Rattle.std.specs.Prelude.{◌≡◌, ◌⊎◌, ℕ, List, Option, None, Some}
+use Rattle.rec_bytes.specs.Space.{State}
+use Rattle.node_store.specs.Loading.{IsNodeDamage}
+use Rattle.store_rules.specs.Views.{Records, first_link}
+use Rattle.group_store.specs.declared.group_fault.GroupFault.{GroupFault}
+use Rattle.group_store.specs.declared.group_fault.GroupFault.TheVariants.{Memory, Disk, Damaged}
+use Rattle.group_store.specs.declared.group_row.GroupRow.{GroupRow}
+use Rattle.group_store.specs.GroupChain.{IsDense, IsGroupList, IsGroupOf, LacksType}
+use Rattle.group_store.specs.Walking.{IsWalkDamage, group_row_at}
+
+-- the row is that of a group of the node, which has the type
+pub record IsGroupFound (records : Records) (node label : ℕ) (row : GroupRow) : Type 0 where
+  pub is : row ≡ group_row_at records row.id
+  pub member : IsGroupOf records node row.id
+  pub typed : row.label ≡ label
+
+-- a group of the type, or none where no group from the first on has it
+abbrev pub IsSought : Records → ℕ → ℕ → ℕ → Option GroupRow → Type 0
+IsSought records node first label None =
+    (xs : List ℕ) × IsGroupList records node first xs × LacksType records label xs
+IsSought records node first label (Some row) = IsGroupFound records node label row
+
+-- a group of the type at a dense node, or none where no group on its chain has it
+abbrev pub IsFound : Records → ℕ → ℕ → Option GroupRow → Type 0
+IsFound records node label None =
+    IsDense records node → IsSought records node (first_link records node) label None
+IsFound records node label (Some row) = IsDense records node × IsGroupFound records node label row
+
+abbrev pub IsFindFault : State → ℕ → GroupFault → Type 0
+IsFindFault s node Memory = Unit {0}
+IsFindFault s node Disk = Unit {0}
+IsFindFault s node (Damaged damage) =
+    IsNodeDamage s node damage ⊎ IsWalkDamage s node (first_link s.records node) damage

@@ -1,0 +1,10 @@
+pub mod Dropping
+pub mod Finding
+pub mod FirstGroup
+pub mod GroupChain
+pub mod GroupFault
+pub mod GroupRecord
+pub mod Links
+pub mod Loading
+pub mod Making
+pub mod Walking

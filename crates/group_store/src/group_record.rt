@@ -1,0 +1,42 @@
+ghost use Rattle.std.specs.Prelude.{◌≡◌};
+ghost use Rattle.group_store.specs.GroupRecord.{read_row, row_of};
+
+use crate::GroupRow;
+use rec_bytes::{
+    Damage, FREE, GROUP_FIRST_IN, GROUP_FIRST_LOOP, GROUP_FIRST_OUT, GROUP_TYPE, GROUPED, GROUPS,
+    KIND, Rec, RowFault,
+};
+
+/// The rule that a record's kind and its numbers are ones that may stand there.
+pub(crate) const RANGE_RULE: u8 = 1;
+
+/// The row of a record of the groups, by its kind: none where it is free.
+pub(crate) fn read_row(rec: &Rec, id: u32) -> Result<Option<GroupRow>, RowFault>
+    ensures { result ≡ read_row rec.now id }
+{
+    let kind = rec.byte(KIND);
+    if kind == FREE {
+        Ok(None)
+    } else if kind == GROUPED {
+        Ok(Some(row_of(rec, id)))
+    } else {
+        Err(RowFault::Damaged(Damage {
+            file: GROUPS,
+            id,
+            rule: RANGE_RULE,
+        }))
+    }
+}
+
+/// The fields of a group's record.
+pub(crate) fn row_of(rec: &Rec, id: u32) -> GroupRow
+    ensures { result ≡ row_of rec.now id }
+{
+    GroupRow {
+        id,
+        label: rec.number(GROUP_TYPE),
+        first_out: rec.number(GROUP_FIRST_OUT),
+        first_in: rec.number(GROUP_FIRST_IN),
+        first_loop: rec.number(GROUP_FIRST_LOOP),
+    }
+}

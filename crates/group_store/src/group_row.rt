@@ -1,0 +1,46 @@
+ghost use Rattle.std.specs.Prelude.{◌≡◌};
+
+/// A group in use, as its record says it, but for its owner and its neighbours.
+#[derive(Clone, Copy, Debug, PartialEq, Eq)]
+pub struct GroupRow {
+    /// Its identifier, which the record doesn't hold.
+    pub id: u32,
+    /// The number of its type's name.
+    pub label: u32,
+    /// The first of the relationships that leave its owner, or `NIL`.
+    pub first_out: u32,
+    /// The first of those that enter it, or `NIL`.
+    pub first_in: u32,
+    /// The first of those that do both, or `NIL`.
+    pub first_loop: u32,
+}
+
+impl GroupRow {
+    /// Changes the type alone.
+    pub fn set_label(&mut self, label: u32)
+        ensures { self.new ≡ record self.old { label = label } }
+    {
+        self.label = label;
+    }
+
+    /// Changes alone the first of the relationships that leave the owner.
+    pub fn set_first_out(&mut self, first_out: u32)
+        ensures { self.new ≡ record self.old { first_out = first_out } }
+    {
+        self.first_out = first_out;
+    }
+
+    /// Changes alone the first of those that enter it.
+    pub fn set_first_in(&mut self, first_in: u32)
+        ensures { self.new ≡ record self.old { first_in = first_in } }
+    {
+        self.first_in = first_in;
+    }
+
+    /// Changes alone the first of those that do both.
+    pub fn set_first_loop(&mut self, first_loop: u32)
+        ensures { self.new ≡ record self.old { first_loop = first_loop } }
+    {
+        self.first_loop = first_loop;
+    }
+}

@@ -1,0 +1,110 @@
+ghost use Rattle.std.specs.Prelude.{◌≡◌, ◌≢◌, ◌∷◌, [], ℕ, List, IfErr, IfOk, OnOk};
+ghost use Rattle.id_freelist.specs.Taking.{room};
+ghost use Rattle.node_store.specs.Loading.{IsReadable};
+ghost use Rattle.node_store.specs.NodeRecord.{node_key};
+ghost use Rattle.rec_bytes.specs.Format.{groups_file};
+ghost use Rattle.rec_bytes.specs.Key.{IsKey};
+ghost use Rattle.rec_bytes.specs.RecordFiles.{meta_key_of};
+ghost use Rattle.rec_bytes.specs.Space.{HasCause, SameButReads, WritesOnly, meta_of};
+ghost use Rattle.group_store.specs.GroupChain.{IsDense};
+ghost use Rattle.group_store.specs.GroupFault.{HasGroupCause, NotDamaged, OnDamage};
+ghost use Rattle.group_store.specs.GroupRecord.{group_key};
+ghost use Rattle.group_store.specs.Making.{CanMake, HasMade, IsMakeFault, empty_group, empty_row};
+ghost use Rattle.group_store.specs.Making.{led, made};
+
+use crate::group_record::RANGE_RULE;
+use crate::links::{back, test_link};
+use crate::members::{chain_damage, first_group};
+use crate::{GroupFault, GroupRow};
+use id_freelist::take;
+use rec_bytes::{
+    Damage, GROUP_FIRST_IN, GROUP_FIRST_LOOP, GROUP_FIRST_OUT, GROUP_NEXT, GROUP_OWNER,
+    GROUP_PREVIOUS, GROUP_TYPE, GROUPED, GROUPS, KIND, Key, NIL, NODE_FIRST_LINK, NODES, Rec,
+    Space, SpaceFault, set_number,
+};
+
+/// Makes an empty group of a type at a dense node, first on its chain. The node is damaged where it
+/// isn't dense or its first link leads nowhere, and the meta record of the groups where it counts
+/// as many as there is room for. Then nothing is written.
+pub fn make_group<S: Space>(space: &mut S, node: u32, label: u32) -> Result<GroupRow, GroupFault>
+    ensures made { S.tells → IfOk result (λ row. (free xs : List ℕ)
+        → CanMake (S.state space.old) node label free xs
+        → HasMade (S.state space.old).records (S.state space.new).records node label row free xs) }
+    ensures ok { S.tells → OnOk result (S.state space.new ≡ made (S.state space.old) node label) }
+    ensures damaged { S.tells → IfErr result (IsMakeFault (S.state space.old) node) }
+    ensures sound { S.tells → IsReadable (S.state space.old) node → (free xs : List ℕ)
+        → CanMake (S.state space.old) node label free xs → IsDense (S.state space.old).records node
+        → (meta_of (S.state space.old) groups_file).live ≢ room (S.state space.old) groups_file
+        → NotDamaged result }
+    ensures unwritten { OnDamage result (SameButReads (S.state space.old) (S.state space.new)) }
+    ensures writes { (first id : ℕ) × WritesOnly (S.state space.old) (S.state space.new)
+        (group_key first ∷ group_key id ∷ node_key node ∷ meta_key_of groups_file ∷ []) }
+    ensures onward { S.onward space.old space.new }
+    ensures cause { HasGroupCause (S.faults space.old) (S.faults space.new) result }
+{
+    let Some(first) = first_group(space, node)? else {
+        return Err(GroupFault::Damaged(chain_damage(node)));
+    };
+    let leads_nowhere = Damage {
+        file: NODES,
+        id: node,
+        rule: RANGE_RULE,
+    };
+    test_link(space, first, leads_nowhere)?;
+    let id = take(space, GROUPS)?;
+    lead(space, node, first, id, empty_group(node, label, first))?;
+    Ok(empty_row(id, label))
+}
+
+/// Writes the record of a group, and puts it before the first one of the node.
+#[tactic(auto, unfolding(crate::specs::Making::led))]
+fn lead<S: Space>(space: &mut S, node: u32, first: u32, id: u32, rec: Rec) -> Result<(), SpaceFault>
+    requires node { IsKey (node_key node) }
+    requires first { first ≢ NIL → IsKey (group_key first) }
+    requires id { IsKey (group_key id) }
+    ensures ok { S.tells
+        → OnOk result (S.state space.new ≡ led (S.state space.old) node first id rec) }
+    ensures writes { WritesOnly (S.state space.old) (S.state space.new)
+        (group_key id ∷ group_key first ∷ node_key node ∷ []) }
+    ensures onward { S.onward space.old space.new }
+    ensures cause { HasCause (S.faults space.old) (S.faults space.new) result }
+{
+    space.put(Key { file: GROUPS, id }, rec)?;
+    back(space, first, id)?;
+    let key = Key {
+        file: NODES,
+        id: node,
+    };
+    set_number(space, key, NODE_FIRST_LINK, id)?;
+    Ok(())
+}
+
+/// The record of an empty group, with the group after it.
+#[tactic(auto, unfolding(rec_bytes::specs::Tables::with_fields))]
+fn empty_group(node: u32, label: u32, next: u32) -> Rec
+    ensures { result ≡ empty_group node label next }
+{
+    let mut rec = Rec::ZEROS;
+    rec.set_byte(KIND, GROUPED);
+    rec.set_number(GROUP_TYPE, label);
+    rec.set_number(GROUP_OWNER, node);
+    rec.set_number(GROUP_PREVIOUS, NIL);
+    rec.set_number(GROUP_NEXT, next);
+    rec.set_number(GROUP_FIRST_OUT, NIL);
+    rec.set_number(GROUP_FIRST_IN, NIL);
+    rec.set_number(GROUP_FIRST_LOOP, NIL);
+    rec
+}
+
+/// The row of an empty group.
+fn empty_row(id: u32, label: u32) -> GroupRow
+    ensures { result ≡ empty_row id label }
+{
+    GroupRow {
+        id,
+        label,
+        first_out: NIL,
+        first_in: NIL,
+        first_loop: NIL,
+    }
+}
