@@ -1,4 +1,4 @@
-ghost use Rattle.std.specs.Prelude.{◌<◌};
+ghost use Rattle.std.specs.Prelude.{◌≡◌, ◌<◌};
 
 use super::*;
 use node_store::NodeRow;
@@ -14,7 +14,9 @@ const SHAPE: Shape = Shape {
     limit: 16,
 };
 
-fn dense(first: u32) -> NodeRow {
+fn dense(first: u32) -> NodeRow
+    ensures { result.id ≡ 1 }
+{
     NodeRow {
         id: 1,
         label: 0,
