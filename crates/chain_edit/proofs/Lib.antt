@@ -5,6 +5,7 @@ pub mod Damages
 pub mod Edits
 pub mod InRange
 pub mod LinkLaws
+pub mod OwnedHeads
 pub mod Pushes
 pub mod Removals
 pub mod Walks

@@ -148,13 +148,13 @@ module _ (s : State) (owner : Owner) (is : IsOwner owner) (h : HasElement s owne
   pub live_properties : (change : Properties → Properties) → property_count (with_properties (graph_of s.records) (target_of owner) change) + maps.len (properties_of s owner) ≡ (meta_in s.records format.properties_file).live + maps.len (change (properties_of s owner))
   live_properties change =
       let all = property_count-with_properties (graph_of s.records) (target_of owner) change (distinct_in_store s.records) has_target in
-      let count = count_properties s.records s.shape h.store.keeps in
+      let count = count_properties s.records s.shape h.store in
       omega arith
 
   pub live_blocks : (change : Properties → Properties) → block_count (with_properties (graph_of s.records) (target_of owner) change) + blocks_in (properties_of s owner) ≡ (meta_in s.records format.strings_file).live + blocks_in (change (properties_of s owner))
   live_blocks change =
       let all = block_count-with_properties (graph_of s.records) (target_of owner) change (distinct_in_store s.records) has_target in
-      let count = count_blocks s.records s.shape h.store.keeps in
+      let count = count_blocks s.records s.shape h.store in
       omega arith
 
   -- One property more where the key is new.

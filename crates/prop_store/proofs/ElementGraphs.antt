@@ -12,7 +12,7 @@ use Rattle.rec_bytes.specs.Space.{State, meta_in, meta_of}
 use Rattle.store_rules.specs.Graph.{graph_of}
 use Rattle.store_rules.specs.Properties.{AreProperties, Property, blocks_of, first_property, ids_of, map_of, property_records}
 use Rattle.store_rules.specs.PropertyChange.{ChangesProperties, property_from}
-use Rattle.store_rules.specs.Rules.{IsSparseStore}
+use Rattle.store_rules.specs.Rules.{IsWellFormed}
 use Rattle.store_rules.specs.Views.{high, rec_at}
 use Rattle.store_rules.proofs.ElementProperties.{properties_at-is}
 use Rattle.store_rules.proofs.PropertyCounts.{blocks_in-map_of, count_properties, len-map_of, length-property_blocks, property_count-limit}
@@ -54,27 +54,27 @@ module _ (s : State) (owner : Owner) (is : IsOwner owner) (has : HasElement s ow
 
   -- its properties
   abbrev pub listed_at : List Property
-  listed_at = listed s.records s.shape has.store.keeps file x
+  listed_at = listed s.records s.shape has.store file x
 
   owned : owner_in s.records file x ≡ Some first
   owned = owner_in-used s.records file x is.file has.used
 
   are_listed : AreProperties (property_records s.records) first listed_at
-  are_listed = properties_right s.records s.shape has.store.keeps file x first owned
+  are_listed = properties_right s.records s.shape has.store file x first owned
 
   -- it has them, and nothing else is asked
   pub owns_listed : OwnsProperties s owner listed_at
   owns_listed = record {
     used = has.used;
-    fits = has.store.keeps.ranges.fit file x (meta_of_element file is.file) (kind_below (high s.records file) (rec_at s.records file x) x has.used);
+    fits = has.store.ranges.fit file x (meta_of_element file is.file) (kind_below (high s.records file) (rec_at s.records file x) x has.used);
     held = record {
       are = subst (λ f. AreProperties (property_records s.records) f listed_at) (sym (first_of-is s.records owner is)) are_listed;
       properties = file_now s.records s.records s.shape format.properties_file [] [] (keeps_in_store s.records s.shape format.properties_file (inl refl) has.store) (ids_of listed_at)
-          (property_live s.records s.shape has.store.keeps file x first listed_at owned are_listed);
+          (property_live s.records s.shape has.store file x first listed_at owned are_listed);
       strings = file_now s.records s.records s.shape format.strings_file [] [] (keeps_in_store s.records s.shape format.strings_file (inr refl) has.store) (blocks_of listed_at)
-          (block_live s.records s.shape has.store.keeps file x first listed_at owned are_listed);
+          (block_live s.records s.shape has.store file x first listed_at owned are_listed);
     };
-    known = key_known s.records s.shape has.store.keeps file x first listed_at owned are_listed;
+    known = key_known s.records s.shape has.store file x first listed_at owned are_listed;
   }
 
   -- the graph has them
@@ -83,10 +83,10 @@ module _ (s : State) (owner : Owner) (is : IsOwner owner) (has : HasElement s ow
 
   -- as many, with as many blocks
   pub count_is : maps.len (properties_of s owner) ≡ length listed_at
-  count_is = ap maps.len properties_are ∙ len-map_of names mark has.store.keeps.names listed_at owns_listed.known are_listed.keys_once
+  count_is = ap maps.len properties_are ∙ len-map_of names mark has.store.names listed_at owns_listed.known are_listed.keys_once
 
   blocks_are : plain.blocks_in (properties_of s owner) ≡ length (blocks_of listed_at)
-  blocks_are = ap plain.blocks_in properties_are ∙ blocks_in-map_of names mark has.store.keeps.names (property_records s.records) listed_at are_listed.linked owns_listed.known are_listed.keys_once
+  blocks_are = ap plain.blocks_in properties_are ∙ blocks_in-map_of names mark has.store.names (property_records s.records) listed_at are_listed.linked owns_listed.known are_listed.keys_once
 
   -- ---- one key
 
@@ -99,12 +99,12 @@ module _ (s : State) (owner : Owner) (is : IsOwner owner) (has : HasElement s ow
   count_with key value o got = properties_with-live s owner is has key value ∙ ap (λ v. (meta_in s.records format.properties_file).live + cond (is_some v) 0 1) got
 
   live_limit : (meta_of s format.properties_file).live ≤ s.shape.limit
-  live_limit = let count = count_properties s.records s.shape has.store.keeps in let most = property_count-limit s.records s.shape has.store.keeps in omega arith
+  live_limit = let count = count_properties s.records s.shape has.store in let most = property_count-limit s.records s.shape has.store in omega arith
 
   -- a name that is none of their keys has no value
   pub absent_value : (key : ℕ) → key < mark → LacksKey listed_at key → maps.get (properties_of s owner) (text_at s key) ≡ None
   absent_value key low none = value_lacked s.records s.shape has.store file x is.file has.used listed_at (text_at s key) are_listed
-      (lack_key names mark has.store.keeps.names listed_at key low owns_listed.known (no_key listed_at key none))
+      (lack_key names mark has.store.names listed_at key low owns_listed.known (no_key listed_at key none))
 
   -- and one of theirs has
   module _ (front : List Property) (e : Property) (back : List Property) (key : ℕ) (at : HasKeyAt listed_at front e back key) where
@@ -116,7 +116,7 @@ module _ (s : State) (owner : Owner) (is : IsOwner owner) (has : HasElement s ow
 
     found_blocks : length e.blocks ≡ plain.blocks_at (properties_of s owner) (text_at s key)
     found_blocks = sym (ap plain.blocks_if found_value
-        ∙ sym (length-property_blocks names mark has.store.keeps.names (property_records s.records) e (first_property back) (linked_after (property_records s.records) front (e ∷ back) parts.linked).0))
+        ∙ sym (length-property_blocks names mark has.store.names (property_records s.records) e (first_property back) (linked_after (property_records s.records) front (e ∷ back) parts.linked).0))
 
     as_many : (value : Value) → maps.len (set_properties s owner key value) ≤ 32
     as_many value = let same = len_with key value (Some e.value) found_value in let n = count_is in let few = are_listed.few in omega arith
@@ -134,8 +134,8 @@ module _ (s : State) (owner : Owner) (is : IsOwner owner) (has : HasElement s ow
 
   -- ---- what a change makes
 
-  changed : (t : State) (after : List Property) → ChangesProperties s.records t.records s.shape file x listed_at after → t.shape ≡ s.shape → IsSparseStore t.records s.shape → ChangesElement s t owner
-  changed t after changes shape store = record { before = listed_at; after = after; changes = changes; store = subst (IsSparseStore t.records) (sym shape) store }
+  changed : (t : State) (after : List Property) → ChangesProperties s.records t.records s.shape file x listed_at after → t.shape ≡ s.shape → IsWellFormed t.records s.shape → ChangesElement s t owner
+  changed t after changes shape store = record { before = listed_at; after = after; changes = changes; store = subst (IsWellFormed t.records) (sym shape) store }
 
   pub drops_graph : (t : State) (dropped : Dropped) → DropsAllAlone s t owner listed_at dropped → t.shape ≡ s.shape → DropsAll s t owner dropped
   drops_graph t dropped drops shape =

@@ -16,7 +16,7 @@ use Rattle.store_rules.specs.Chains.{In}
 use Rattle.store_rules.specs.PropertyChange.{ChangesFile}
 use Rattle.store_rules.specs.Ranges.{Fits, is_reused}
 use Rattle.store_rules.specs.Rows.{ids}
-use Rattle.store_rules.specs.Rules.{IsSparseStore}
+use Rattle.store_rules.specs.Rules.{IsWellFormed}
 use Rattle.store_rules.specs.Views.{Records, high, is_live, key_in, kind_at, rec_at}
 use Rattle.store_rules.proofs.Changes.{live_other, marks_le}
 use Rattle.store_rules.proofs.Counts.{ids_with}
@@ -158,13 +158,13 @@ file_same s t shape file old new h meta each marks xs live =
     }
 
 -- A store's files of properties and of blocks keep their rules.
-pub keeps_in_store : (s : Records) (shape : Shape) (file : ℕ) → IsPropertyFile file → IsSparseStore s shape → ChangesFile s s shape file [] []
+pub keeps_in_store : (s : Records) (shape : Shape) (file : ℕ) → IsPropertyFile file → IsWellFormed s shape → ChangesFile s s shape file [] []
 keeps_in_store s shape file is store =
-    let split = store.keeps.split file (reused_file file is) in
+    let split = store.split file (reused_file file is) in
     record {
       grows = omega arith;
-      meta = store.keeps.ranges.metas file (meta_of_file file is);
-      fits = λ x lt. store.keeps.ranges.fit file x (meta_of_file file is) lt;
+      meta = store.ranges.metas file (meta_of_file file is);
+      fits = λ x lt. store.ranges.fit file x (meta_of_file file is) lt;
       free = split.0;
       split = split.1;
       live = λ x i. elim i [ ];

@@ -11,7 +11,7 @@ use Rattle.rec_bytes.specs.Space.{SameButReads, State}
 use Rattle.store_rules.specs.Graph.{graph_of}
 use Rattle.store_rules.specs.Properties.{Property}
 use Rattle.store_rules.specs.PropertyChange.{ChangesProperties, target_in}
-use Rattle.store_rules.specs.Rules.{IsSparseStore}
+use Rattle.store_rules.specs.Rules.{IsWellFormed}
 use Rattle.store_rules.specs.Views.{high, kind_at, rec_at, text_of}
 use Rattle.prop_store.specs.Owner.{first_of}
 use Rattle.prop_store.specs.declared.changing.Dropped.{Dropped}
@@ -34,7 +34,7 @@ text_at s key = text_of (rec_at s.records format.names_file key)
 
 -- The element is in use in a store.
 pub record HasElement (s : State) (owner : Owner) : Type 0 where
-  pub store : IsSparseStore s.records s.shape
+  pub store : IsWellFormed s.records s.shape
   pub used : kind_at s.records owner.key.file owner.key.id ≢ format.free_kind
 
 -- besides, the key is one of the store's names
@@ -48,7 +48,7 @@ pub record ChangesElement (old new : State) (owner : Owner) : Type 0 where
   pub after : List Property
   pub changes : ChangesProperties old.records new.records old.shape owner.key.file owner.key.id
       before after
-  pub store : IsSparseStore new.records new.shape
+  pub store : IsWellFormed new.records new.shape
 
 -- The key of the element has the value now. The value that it had is gone, with so many blocks.
 pub record SetsValue (old new : State) (owner : Owner) (key : ℕ) (value : Value) (released : ℕ)

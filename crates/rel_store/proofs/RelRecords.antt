@@ -56,7 +56,7 @@ layout-rel_record row small = ap (layout_by format.relationships_file (rel_recor
 outside : (row : RelRow) (i : ℕ) → list_any (is_in i) rel_used ≡ false → is_clear i 1 (rel_fields row) ≡ true
 outside row i out = ⊎_elim (λ (low : i < 4). grind (arith, nat_tests)) (λ (high : 4 ≤ i). grind (arith, nat_tests)) (cases_lt i 4)
 
-byte-zeros : (i : ℕ) → i < 64 → field 1 zeros i ≡ 0
+pub byte-zeros : (i : ℕ) → i < 64 → field 1 zeros i ≡ 0
 unfolding field
 byte-zeros i lt =
     let byte : get_or (drop i zeros.bytes) 0 0 ≡ 0 = get_or-drop i (replicate 64 0) 0 0 ∙ get_or-replicate 64 (i + 0) 0 0 (omega arith) in

@@ -1,21 +1,23 @@
--- A relationship that goes from between sparse nodes keeps the rules, and is one edge less of the graph.
+-- A relationship that goes keeps the rules, but that the groups that it stood in may be empty, and is one edge less of the graph.
 use Rattle.std.specs.List.{list_any}
-use Rattle.std.proofs.Common.{◌≡◌, ◌≢◌, ℕ, ◌+◌, ◌<◌, ◌≤◌, nat_eq, true, false, None, Some, length, sym, ap, ◌∙◌, subst, inl, ⊎_elim, arith, refl}
+use Rattle.std.proofs.Common.{◌≡◌, ◌≢◌, ◌⊎◌, ℕ, ◌+◌, ◌<◌, ◌≤◌, nat_eq, true, false, None, Some, List, length, sym, ap, ◌∙◌, subst, inl, inr, ⊎_elim, arith, refl}
 use Rattle.plain_graph.specs.Graph.{edge_number, without_row}
 use Rattle.rec_bytes.specs.declared.shape.Shape.{Shape}
 use Rattle.rec_bytes.specs.Format as format
-use Rattle.rec_bytes.specs.RecordFiles.{room_of}
+use Rattle.store_rules.specs.Chains.{In}
 use Rattle.store_rules.specs.Graph.{edge_from, edge_of, graph_of, names_of}
 use Rattle.store_rules.specs.Properties.{properties_from, property_records}
 use Rattle.store_rules.specs.Rows.{collect}
-use Rattle.store_rules.specs.Rules.{AllListed, IsEnd, IsSparseStore, SparseHead, degree_of, stands_in}
-use Rattle.store_rules.specs.Views.{Records, RelRow, degree, high, is_at, kind_at, rec_at, rel_at, rel_in, text_of}
+use Rattle.store_rules.specs.Rules.{AllListed, IsEnd, IsInGroup, KeepsRules, Owns, StandsAt, degree_of, is_filled, stands_in}
+use Rattle.store_rules.specs.Views.{GroupRow, Records, RelRow, degree, group_at, high, is_at, kind_at, rec_at, rel_at, rel_in, text_of}
 use Rattle.store_rules.proofs.Changes as ch
 use Rattle.store_rules.proofs.Counts.{ids_with}
 use Rattle.store_rules.proofs.EdgeChange as ec
-use Rattle.store_rules.proofs.EdgeChange.{IsEdgeChange, IsEdgeStore, Stands, edge_store}
+use Rattle.store_rules.proofs.EdgeChange.{IsEdgeChange, IsEdgeStore, edge_well}
 use Rattle.store_rules.proofs.EdgeMade.{end_cases, ids_kept, no_row}
+use Rattle.store_rules.proofs.FilledGroups.{filled_by, filled_has, group_head}
 use Rattle.store_rules.proofs.GraphRows.{edges_numbered}
+use Rattle.store_rules.proofs.GroupLaws.{IsFirstPlace}
 use Rattle.store_rules.proofs.Made.{IsGone}
 use Rattle.store_rules.proofs.NumberLaws.{nat_cases}
 use Rattle.store_rules.proofs.Relinks as re
@@ -23,18 +25,20 @@ use Rattle.store_rules.proofs.Relinks.{IsRelinked}
 use Rattle.store_rules.proofs.RowLaws.{collect_without, there_collect}
 use Rattle.store_rules.proofs.ViewLaws.{kind_below, some_row}
 
--- Links and degrees were set, and then the record of a relationship between sparse nodes, which has no properties, was given back.
-pub record IsEdgeGone (s u t : Records) (shape : Shape) (id : ℕ) (row : RelRow) : Type 0 where
+-- Links and degrees were set, and then the record of a relationship, which has no properties, was given back. The groups that it stood in, and
+-- those that might be empty before, may be.
+pub record IsEdgeGone (s u t : Records) (shape : Shape) (id : ℕ) (row : RelRow) (before empty : List ℕ) : Type 0 where
   pub links : IsRelinked s u
   pub gone : IsGone u t shape format.relationships_file id
   pub live : rel_at s id ≡ Some row
   pub bare : row.property ≡ format.nil
-  pub room : room_of shape format.relationships_file ≤ format.most_ids
-  pub listed : AllListed t (SparseHead (kind_at s format.nodes_file)) (Stands (rel_at t))
+  pub listed : AllListed t (Owns (kind_at s format.nodes_file) (group_at s)) (StandsAt (rel_at t) (group_at s))
+  pub out_of : (g at : ℕ) → IsInGroup (group_at s) (group_head g at) row → In g empty
+  pub still : (g : ℕ) → In g before → In g empty
   pub less : (n : ℕ) → IsEnd n row → degree t n + 1 ≡ degree s n
   pub as_before : (n : ℕ) → ¬ IsEnd n row → degree t n ≡ degree s n
 
-module _ (s u t : Records) (shape : Shape) (id : ℕ) (row : RelRow) (edge : IsEdgeGone s u t shape id row) (store : IsSparseStore s shape) where
+module _ (s u t : Records) (shape : Shape) (id : ℕ) (row : RelRow) {most : ℕ} {before empty : List ℕ} (edge : IsEdgeGone s u t shape id row before empty) (well : KeepsRules s shape most before) where
   change : IsEdgeChange s t id
   change = ec.relinked_changed s u t id edge.links edge.gone.change
 
@@ -64,28 +68,52 @@ module _ (s u t : Records) (shape : Shape) (id : ℕ) (row : RelRow) (edge : IsE
 
   counted : (n : ℕ) → kind_at s format.nodes_file n ≢ format.free_kind → degree t n ≡ degree_of (rel_at t) (high t format.relationships_file) n
   counted n some = end_cases n row
-      (λ end at. lower _ _ _ _ (edge.less n end) (store.keeps.degrees.each n some) (less_at n at))
-      (λ out at. edge.as_before n out ∙ store.keeps.degrees.each n some ∙ sym (same_at n at))
+      (λ end at. lower _ _ _ _ (edge.less n end) (well.degrees.each n some) (less_at n at))
+      (λ out at. edge.as_before n out ∙ well.degrees.each n some ∙ sym (same_at n at))
       ∙ ap (λ m. degree_of (rel_at t) m n) (sym mark)
 
-  now : IsEdgeStore s t shape id
-  now = record {
-    change = change;
-    room = edge.room;
-    ranges = ch.in_range u t format.relationships_file id edge.gone.change shape edge.gone.meta (λ _. edge.gone.fits) (re.range_stays s u edge.links shape store.keeps.ranges);
-    free = edge.gone.free;
-    split = edge.gone.split;
-    was = λ a e. subst (λ (r : RelRow). r.property ≡ format.nil) (inner row a (sym edge.live ∙ e)) edge.bare;
-    row = λ a e. absurd (let z : None ≡ Some a = sym rel_gone ∙ e in cc);
-    listed = edge.listed;
-    counted = counted;
-  }
+  same_row : (a : RelRow) → rel_at s id ≡ Some a → row ≡ a
+  same_row a e = inner row a (sym edge.live ∙ e)
     where
       inner : (a b : RelRow) → Some a ≡ Some b → a ≡ b
       inner a b e = cc
 
-  pub gone_store : IsSparseStore t shape
-  gone_store = edge_store s t shape id store now
+  -- a group has what it had, but for the old one
+  filled : (g : ℕ) (group : GroupRow) → group_at s g ≡ Some group → (is_filled (rec_at t format.groups_file g) ≡ true) ⊎ In g empty
+  filled g group is =
+      let has = well.grouped.each group.owner (well.grouped.owned g group is) in
+      ⊎_elim (λ (k : is_filled (rec_at s format.groups_file g) ≡ true). stays (filled_has s well.grouped g group is s (rel_at s) well.linked.listed k))
+      (λ (k : In g before). inr (edge.still g k)) (has.filled g (has.all g group is refl))
+    where
+      stays : (at : ℕ) × (x : ℕ) × IsFirstPlace at × StandsAt (rel_at s) (group_at s) (group_head g at) x → (is_filled (rec_at t format.groups_file g) ≡ true) ⊎ In g empty
+      stays k = ⊎_elim
+          (λ (e : k.1 ≡ id). ⊎_elim
+          (λ z. absurd (let f : 3 ≡ 1 = z.0 in omega arith))
+          (λ z. inr (edge.out_of g k.0 (subst (IsInGroup (group_at s) (group_head g k.0)) (sym (same_row k.3.row (ap (rel_at s) (sym e) ∙ k.3.live))) z.1))) k.3.on)
+          (λ (ne : k.1 ≢ id). inl (filled_by s well.grouped g group is t (rel_at t) edge.listed k.0 k.1 k.2 (record { row = k.3.row; live = change.rels k.1 ne ∙ k.3.live; on = k.3.on })))
+          (nat_cases k.1 id)
+
+  few : (n : ℕ) → kind_at s format.nodes_file n ≡ format.sparse → degree t n ≤ most
+  few n sparse = end_cases n row
+      (λ end at. let a = edge.less n end in let b = well.degrees.few n sparse in omega arith)
+      (λ out at. let a = edge.as_before n out in let b = well.degrees.few n sparse in omega arith)
+
+  now : IsEdgeStore s t shape id most empty
+  now = record {
+    change = change;
+    ranges = ch.in_range u t format.relationships_file id edge.gone.change shape edge.gone.meta (λ _. edge.gone.fits) (re.range_stays s u edge.links shape well.ranges);
+    free = edge.gone.free;
+    split = edge.gone.split;
+    was = λ a e. subst (λ (r : RelRow). r.property ≡ format.nil) (same_row a e) edge.bare;
+    row = λ a e. absurd (let z : None ≡ Some a = sym rel_gone ∙ e in cc);
+    listed = edge.listed;
+    filled = filled;
+    counted = counted;
+    few = few;
+  }
+
+  pub gone_well : KeepsRules t shape most empty
+  gone_well = edge_well s t shape id well now
 
   -- ---- the graph
   pub gone_nodes : (graph_of t).nodes ≡ (graph_of s).nodes

@@ -48,11 +48,11 @@ split_same s t f free h k = subst (λ l. IsSplit t f l free) (sym (live_same s t
 })
 
 -- the fourth rule reads dense nodes alone
-pub grouped_stays : (kind now first then : ℕ → ℕ) (group_file : ℕ → Rec) (groups : ℕ → Option GroupRow) → ((n g : ℕ) (row : GroupRow) → groups g ≡ Some row → row.owner ≡ n → kind n ≡ format.dense → now n ≡ format.dense)
-    → ((n : ℕ) → now n ≡ format.dense → (kind n ≡ format.dense) × (then n ≡ first n)) → IsGrouped kind first group_file groups → IsGrouped now then group_file groups
-grouped_stays kind now first then group_file groups there back h = record {
+pub grouped_stays : (kind now first then : ℕ → ℕ) (group_file : ℕ → Rec) (groups : ℕ → Option GroupRow) {empty : List ℕ} → ((n g : ℕ) (row : GroupRow) → groups g ≡ Some row → row.owner ≡ n → kind n ≡ format.dense → now n ≡ format.dense)
+    → ((n : ℕ) → now n ≡ format.dense → (kind n ≡ format.dense) × (then n ≡ first n)) → IsGrouped kind first group_file groups empty → IsGrouped now then group_file groups empty
+grouped_stays kind now first then group_file groups {empty} there back h = record {
   owned = λ g row e. there row.owner g row e refl (h.owned g row e);
-  each = λ n d. let k = back n d in subst (λ f. HasGroups f n group_file groups) (sym k.1) (h.each n k.0);
+  each = λ n d. let k = back n d in subst (λ f. HasGroups f n group_file groups empty) (sym k.1) (h.each n k.0);
 }
 
 -- ---- owners that come and go

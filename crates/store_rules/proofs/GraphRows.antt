@@ -1,6 +1,6 @@
 -- The nodes and the edges of the graph, as the rows of their files.
 use Rattle.std.specs.Prelude.{is_some}
-use Rattle.std.proofs.Common.{◌≡◌, ◌≢◌, ℕ, Bool, true, false, not, cond, nat_eq, Option, None, Some, length, sym, ap, ◌∙◌, refl}
+use Rattle.std.proofs.Common.{List, ◌≡◌, ◌≢◌, ℕ, ◌≤◌, Bool, true, false, not, cond, nat_eq, Option, None, Some, length, sym, ap, ◌∙◌, arith, refl}
 use Rattle.plain_graph.specs.Graph as plain
 use Rattle.plain_graph.specs.Graph.{Edge, Graph, Node, degree_in, edge_number, has_edge, has_node, node_number}
 use Rattle.rec_bytes.specs.declared.shape.Shape.{Shape}
@@ -10,9 +10,10 @@ use Rattle.store_rules.specs.Graph.{edge_from, edge_of, graph_of, node_from, nod
 use Rattle.store_rules.specs.Properties.{properties_from, property_records}
 use Rattle.store_rules.specs.Rules.{KeepsRules, degree_of, stands_in}
 use Rattle.store_rules.specs.Views.{Records, RelRow, degree, high, is_live, kind_at, node_in, rec_at, rel_at, rel_in, text_of}
-use Rattle.store_rules.proofs.Counts.{length-collect, length-filter, row_passes}
+use Rattle.store_rules.proofs.Counts.{length-collect, length-filter, length-ids, row_passes}
 use Rattle.store_rules.proofs.NodeChange.{nodes_numbered}
 use Rattle.store_rules.proofs.RowLaws.{fresh_collect, there_collect}
+use Rattle.store_rules.proofs.Shapes.{high_most}
 use Rattle.store_rules.proofs.ViewLaws.{kind_below, row_none, row_some}
 
 -- ---- nodes
@@ -45,7 +46,7 @@ edges_numbered s x e h = on (nat_eq (kind_at s format.relationships_file x) 0) h
         inner a b e = cc
 
 -- the count of edges is that of their file
-pub count_edges : (s : Records) (shape : Shape) {most : ℕ} → KeepsRules s shape most → (meta_in s format.relationships_file).live ≡ length (graph_of s).edges
+pub count_edges : (s : Records) (shape : Shape) {most : ℕ} {empty : List ℕ} → KeepsRules s shape most empty → (meta_in s format.relationships_file).live ≡ length (graph_of s).edges
 count_edges s shape keeps = (keeps.split format.relationships_file refl).1.exact
     ∙ sym (length-collect Edge (edge_of s) (is_live s format.relationships_file) (high s format.relationships_file) (λ x. on x (nat_eq (kind_at s format.relationships_file x) 0)))
   where
@@ -84,5 +85,13 @@ degree_in-rows s n = length-filter Edge (edge_of s) (plain.is_at n) (λ x. stand
     on (Some row) = refl
 
 -- so the degree that a node's record has is the graph's
-pub degree_in-degree : (s : Records) (shape : Shape) {most : ℕ} → KeepsRules s shape most → (n : ℕ) → kind_at s format.nodes_file n ≢ format.free_kind → degree_in (graph_of s) n ≡ degree s n
+pub degree_in-degree : (s : Records) (shape : Shape) {most : ℕ} {empty : List ℕ} → KeepsRules s shape most empty → (n : ℕ) → kind_at s format.nodes_file n ≢ format.free_kind → degree_in (graph_of s) n ≡ degree s n
 degree_in-degree s shape keeps n used = degree_in-rows s n ∙ sym (keeps.degrees.each n used)
+
+-- and a node has no more relationships than a file may have identifiers
+pub degree_most : (s : Records) (shape : Shape) {most : ℕ} {empty : List ℕ} → KeepsRules s shape most empty → (n : ℕ) → kind_at s format.nodes_file n ≢ format.free_kind → degree s n ≤ format.most_ids
+degree_most s shape keeps n used =
+    let is = keeps.degrees.each n used in
+    let few = length-ids (λ x. stands_in n (rel_at s x)) (high s format.relationships_file) in
+    let most = high_most s shape format.relationships_file keeps.ranges refl in
+    omega arith

@@ -6,8 +6,10 @@ pub mod EdgeChange
 pub mod EdgeGone
 pub mod EdgeMade
 pub mod ElementProperties
+pub mod FilledGroups
 pub mod Frames
 pub mod GraphRows
+pub mod GroupLaws
 pub mod HeldChange
 pub mod LinkFits
 pub mod Made
@@ -37,7 +39,8 @@ pub mod Relinks
 pub mod RowChange
 pub mod RowLaws
 pub mod Shapes
-pub mod SparseStores
 pub mod TwinRows
 pub mod Untouched
+pub mod UsedKinds
 pub mod ViewLaws
+pub mod WriteLaws

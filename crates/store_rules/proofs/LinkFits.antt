@@ -8,6 +8,7 @@ use Rattle.rec_bytes.specs.Format as format
 use Rattle.rec_bytes.specs.Record.{field, with_field}
 use Rattle.rec_bytes.proofs.Numbers.{field-with_field_other, field-with_field_same}
 use Rattle.store_rules.specs.Ranges.{Fits, IsBlankOutside, Layout, Pointer, all_point, bytes_of, is_in, layout_by, layout_of, may, must, points}
+use Rattle.store_rules.proofs.GroupLaws.{IsFirstPlace}
 use Rattle.store_rules.proofs.NumberLaws.{and_parts, eq_true, lt_true}
 
 -- none, or below a mark
@@ -33,6 +34,14 @@ rel_layout_is = record {
       ∷ may format.relationship_target_previous format.relationships_file ∷ may format.relationship_target_next format.relationships_file
       ∷ may format.relationship_first_property format.properties_file ∷ [];
   used = bytes_of format.kind 1 ∷ bytes_of format.relationship_type 32 ∷ [];
+}
+
+abbrev group_layout_is : Layout
+group_layout_is = record {
+  pointers = must format.group_owner format.nodes_file ∷ may format.group_previous format.groups_file ∷ may format.group_next format.groups_file
+      ∷ may format.group_first_out format.relationships_file ∷ may format.group_first_in format.relationships_file
+      ∷ may format.group_first_loop format.relationships_file ∷ [];
+  used = bytes_of format.kind 1 ∷ bytes_of format.group_type 28 ∷ [];
 }
 
 inner : (a b : Layout) → Some a ≡ Some b → a ≡ b
@@ -99,14 +108,38 @@ module _ (marks : ℕ → ℕ) (r : Rec) (at to : ℕ) (low : 4 ≤ at) (fits : 
   rel_as : at + 4 ≤ 36 → PointRight rel_layout_is.pointers → field 1 r format.kind ≡ format.related → Fits marks format.relationships_file r → Fits marks format.relationships_file now
   rel_as inside right kind = fits_as format.relationships_file 32 rel_layout_is refl inside right (ap (layout_by format.relationships_file r) kind) (ap (layout_by format.relationships_file now) (kind_same ∙ kind))
 
+  group_as : at + 4 ≤ 32 → PointRight group_layout_is.pointers → field 1 r format.kind ≡ format.grouped → Fits marks format.groups_file r → Fits marks format.groups_file now
+  group_as inside right kind = fits_as format.groups_file 28 group_layout_is refl inside right (ap (layout_by format.groups_file r) kind) (ap (layout_by format.groups_file now) (kind_same ∙ kind))
+
 -- the first link of a sparse node
 pub fits_first : (marks : ℕ → ℕ) (r : Rec) (to : ℕ) → to < 2 ^ 32 → IsLow (marks format.relationships_file) to → field 1 r format.kind ≡ format.sparse → Fits marks format.nodes_file r
     → Fits marks format.nodes_file (with_field 4 r format.node_first_link to)
 fits_first marks r to small low = node_as marks r format.node_first_link to (omega arith) (omega arith) small (omega arith) (inr (refl, refl, low), (inl (omega arith, inr (omega arith)), tt))
 
--- its degree
-pub fits_degree : (marks : ℕ → ℕ) (r : Rec) (to : ℕ) → to < 2 ^ 32 → field 1 r format.kind ≡ format.sparse → Fits marks format.nodes_file r → Fits marks format.nodes_file (with_field 4 r format.node_degree to)
-fits_degree marks r to small = node_as marks r format.node_degree to (omega arith) (omega arith) small (omega arith) (inl (omega arith, inl (omega arith)), (inl (omega arith, inl (omega arith)), tt))
+-- the degree of a node
+pub fits_degree : (marks : ℕ → ℕ) (r : Rec) (to : ℕ) → to < 2 ^ 32 → (field 1 r format.kind ≡ format.sparse) ⊎ (field 1 r format.kind ≡ format.dense) → Fits marks format.nodes_file r → Fits marks format.nodes_file (with_field 4 r format.node_degree to)
+fits_degree marks r to small (inl sparse) = node_as marks r format.node_degree to (omega arith) (omega arith) small (omega arith) (inl (omega arith, inl (omega arith)), (inl (omega arith, inl (omega arith)), tt)) sparse
+fits_degree marks r to small (inr dense) = dense_as marks r format.node_degree to (omega arith) (omega arith) small (omega arith) (inl (omega arith, inl (omega arith)), (inl (omega arith, inl (omega arith)), tt)) dense
+
+abbrev FirstFits : (ℕ → ℕ) → Rec → ℕ → ℕ → Type 0
+FirstFits marks r to at = field 1 r format.kind ≡ format.grouped → Fits marks format.groups_file r → Fits marks format.groups_file (with_field 4 r at to)
+
+-- the first link of a chain of a group
+pub fits_group_first : (marks : ℕ → ℕ) (r : Rec) (at to : ℕ) → IsFirstPlace at → to < 2 ^ 32 → IsLow (marks format.relationships_file) to → field 1 r format.kind ≡ format.grouped → Fits marks format.groups_file r
+    → Fits marks format.groups_file (with_field 4 r at to)
+fits_group_first marks r at to is small low = ⊎_elim (λ (e : at ≡ 20). subst (FirstFits marks r to) (sym e) at_20) (λ k. ⊎_elim (λ (e : at ≡ 24). subst (FirstFits marks r to) (sym e) at_24) (λ (e : at ≡ 28). subst (FirstFits marks r to) (sym e) at_28) k) is
+  where
+    at_20 : FirstFits marks r to 20
+    at_20 = group_as marks r 20 to (omega arith) (omega arith) small (omega arith)
+        (inl (omega arith, inl (omega arith)), (inl (omega arith, inl (omega arith)), (inl (omega arith, inl (omega arith)), (inr (refl, refl, low), (inl (omega arith, inr (omega arith)), (inl (omega arith, inr (omega arith)), tt))))))
+
+    at_24 : FirstFits marks r to 24
+    at_24 = group_as marks r 24 to (omega arith) (omega arith) small (omega arith)
+        (inl (omega arith, inl (omega arith)), (inl (omega arith, inl (omega arith)), (inl (omega arith, inl (omega arith)), (inl (omega arith, inl (omega arith)), (inr (refl, refl, low), (inl (omega arith, inr (omega arith)), tt))))))
+
+    at_28 : FirstFits marks r to 28
+    at_28 = group_as marks r 28 to (omega arith) (omega arith) small (omega arith)
+        (inl (omega arith, inl (omega arith)), (inl (omega arith, inl (omega arith)), (inl (omega arith, inl (omega arith)), (inl (omega arith, inl (omega arith)), (inl (omega arith, inl (omega arith)), (inr (refl, refl, low), tt))))))
 
 abbrev LinkFits : (ℕ → ℕ) → Rec → ℕ → ℕ → Type 0
 LinkFits marks r to at = field 1 r format.kind ≡ format.related → Fits marks format.relationships_file r → Fits marks format.relationships_file (with_field 4 r at to)
@@ -142,3 +175,19 @@ pub fits_rel_property : (marks : ℕ → ℕ) (r : Rec) (to : ℕ) → to < 2 ^ 
     → Fits marks format.relationships_file (with_field 4 r format.relationship_first_property to)
 fits_rel_property marks r to small low = rel_as marks r format.relationship_first_property to (omega arith) (omega arith) small (omega arith)
     (inl (omega arith, inl (omega arith)), (inl (omega arith, inl (omega arith)), (inl (omega arith, inl (omega arith)), (inl (omega arith, inl (omega arith)), (inl (omega arith, inl (omega arith)), (inl (omega arith, inl (omega arith)), (inr (refl, refl, low), tt)))))))
+
+-- the link of a group to another
+pub fits_group_previous : (marks : ℕ → ℕ) (r : Rec) (to : ℕ) → to < 2 ^ 32 → IsLow (marks format.groups_file) to → field 1 r format.kind ≡ format.grouped → Fits marks format.groups_file r
+    → Fits marks format.groups_file (with_field 4 r format.group_previous to)
+fits_group_previous marks r to small low = group_as marks r format.group_previous to (omega arith) (omega arith) small (omega arith)
+    (inl (omega arith, inl (omega arith)), (inr (refl, refl, low), (inl (omega arith, inr (omega arith)), (inl (omega arith, inr (omega arith)), (inl (omega arith, inr (omega arith)), (inl (omega arith, inr (omega arith)), tt))))))
+
+pub fits_group_next : (marks : ℕ → ℕ) (r : Rec) (to : ℕ) → to < 2 ^ 32 → IsLow (marks format.groups_file) to → field 1 r format.kind ≡ format.grouped → Fits marks format.groups_file r
+    → Fits marks format.groups_file (with_field 4 r format.group_next to)
+fits_group_next marks r to small low = group_as marks r format.group_next to (omega arith) (omega arith) small (omega arith)
+    (inl (omega arith, inl (omega arith)), (inl (omega arith, inl (omega arith)), (inr (refl, refl, low), (inl (omega arith, inr (omega arith)), (inl (omega arith, inr (omega arith)), (inl (omega arith, inr (omega arith)), tt))))))
+
+-- the first link of a dense node, which is to a group
+pub fits_dense_first : (marks : ℕ → ℕ) (r : Rec) (to : ℕ) → to < 2 ^ 32 → IsLow (marks format.groups_file) to → field 1 r format.kind ≡ format.dense → Fits marks format.nodes_file r
+    → Fits marks format.nodes_file (with_field 4 r format.node_first_link to)
+fits_dense_first marks r to small low = dense_as marks r format.node_first_link to (omega arith) (omega arith) small (omega arith) (inr (refl, refl, low), (inl (omega arith, inr (omega arith)), tt))

@@ -16,7 +16,7 @@ use Rattle.store_rules.specs.Graph.{edge_from, edge_of, graph_of, names_of, node
 use Rattle.store_rules.specs.Properties.{properties_from, property_records}
 use Rattle.store_rules.specs.Ranges.{Fits}
 use Rattle.store_rules.specs.Rows.{collect}
-use Rattle.store_rules.specs.Rules.{AreNamed, AreNames, HaveProperties, Head, IsListed, IsSparseStore, KeepsRules, Owns, StandsAt, node_first, property_files, property_owner, rel_first}
+use Rattle.store_rules.specs.Rules.{AreNamed, AreNames, HaveProperties, Head, IsListed, KeepsRules, Owns, StandsAt, node_first, property_files, property_owner, rel_first}
 use Rattle.store_rules.specs.Views.{NodeRow, Records, RelRow, group_at, high, kind_at, node_at, node_in, rec_at, rel_at, row_if, text_of}
 use Rattle.store_rules.proofs.Changes as ch
 use Rattle.store_rules.proofs.Changes.{IsChanged}
@@ -67,7 +67,7 @@ module _ (s t : Records) (shape : Shape) (rec : Rec) (text : List ℕ) (made : I
   low_or_last : (x : ℕ) → x < high t format.names_file → (x < count) ⊎ (x ≡ count)
   low_or_last x lt = let m = made.mark in ⊎_elim (λ (k : x < count). inl k) (λ (k : count ≤ x). inr (omega arith)) (cases_lt x count)
 
-  module _ {most : ℕ} (well : KeepsRules s shape most) where
+  module _ {most : ℕ} {empty : List ℕ} (well : KeepsRules s shape most empty) where
     listed : (h : Head) (n : ℕ) → Owns (kind_at t format.nodes_file) (group_at s) h n → IsListed t h n (StandsAt (rel_at s) (group_at s) h)
     listed h n o =
         let old : Owns (kind_at s format.nodes_file) (group_at s) h n = subst (λ (k : ℕ → ℕ). Owns k (group_at s) h n) kinds o in
@@ -114,7 +114,7 @@ module _ (s t : Records) (shape : Shape) (rec : Rec) (text : List ℕ) (made : I
           (λ (l : y ≡ count). k ∙ sym l) (low_or_last y b)) (low_or_last x a);
     }
 
-    pub name_well : KeepsRules t shape most
+    pub name_well : KeepsRules t shape most empty
     name_well = record {
       ranges = ch.in_range s t format.names_file count made.change shape made.meta (λ _. subst (Fits (high t) format.names_file) (sym made.here) made.fits) well.ranges;
       split = ch.split_all s t format.names_file count made.change (λ e. absurd (false≢true e)) well.split;
@@ -178,11 +178,3 @@ module _ (s t : Records) (shape : Shape) (rec : Rec) (text : List ℕ) (made : I
       where
         add : (n : ℕ) → n + 1 ≡ suc n
         add n = omega arith
-
--- a sparse store stays one
-pub name_store : (s t : Records) (shape : Shape) (rec : Rec) (text : List ℕ) → IsNamed s t shape rec text → IsSparseStore s shape → IsSparseStore t shape
-name_store s t shape rec text made store = record {
-  keeps = name_well s t shape rec text made store.keeps;
-  alone = un.alone_stays s t format.names_file (high s format.names_file) made.change refl store.alone;
-  sparse = λ n d. store.sparse n (sym (ap (λ (k : ℕ → ℕ). k n) (kinds s t shape rec text made)) ∙ d);
-}

@@ -1,5 +1,5 @@
 -- A new store meets all rules, and its graph is empty, whatever records its own are laid over.
-use Rattle.std.proofs.Common.{◌≡◌, ℕ, ◌<◌, Bool, true, false, nat_eq, cond, ◌&&◌, ◌||◌, Option, None, Some, [], ◌∷◌, length, sym, ap, ◌∙◌, subst, inl, inr, arith, refl}
+use Rattle.std.proofs.Common.{◌≡◌, ℕ, ◌<◌, Bool, true, false, nat_eq, cond, ◌&&◌, Option, None, Some, [], length, sym, ap, ◌∙◌, subst, inl, inr, arith, refl}
 use Rattle.std.proofs.lemmas.Bool.{true≢false}
 use Rattle.plain_graph.specs.Graph.{empty_graph}
 use Rattle.rec_bytes.specs.declared.meta.Meta.{Meta}
@@ -15,11 +15,10 @@ use Rattle.rec_bytes.specs.Shape.{is_allowed, shape_of_record}
 use Rattle.rec_bytes.specs.Space.{laid_over, meta_in}
 use Rattle.rec_bytes.proofs.CreationPairs.{IsMetaInRange-empty, find_pair-creation_meta, shape_of_record-new}
 use Rattle.rec_bytes.proofs.Metas.{meta_reads_back}
-use Rattle.rec_bytes.proofs.RecordFiles.{passes}
 use Rattle.rec_bytes.proofs.Spaces.{laid_over-at}
 use Rattle.store_rules.specs.Graph.{edge_of, graph_of, node_of}
 use Rattle.store_rules.specs.Rows.{collect, ids}
-use Rattle.store_rules.specs.Rules.{AreHeld, HaveProperties, Head, IsListed, IsSparseStore, IsSplit, KeepsRules, Owns, StandsAt, block_owner, node_first, property_files, property_owner, rel_first}
+use Rattle.store_rules.specs.Rules.{AreHeld, HaveProperties, Head, IsListed, IsWellFormed, IsSplit, Owns, StandsAt, block_owner, node_first, property_files, property_owner, rel_first}
 use Rattle.store_rules.specs.Views.{Records, group_at, group_in, high, is_live, kind_at, node_at, node_in, rec_at, rel_at, rel_in, text_of}
 use Rattle.store_rules.proofs.MetaLaws.{meta_of_reused}
 use Rattle.store_rules.proofs.ViewLaws.{kind_high, live_false, row_none}
@@ -111,8 +110,8 @@ module _ (before : Records) (shape : Shape) where
   listed h n (inl k) = absurd (let z = sym (none_used format.nodes_file n refl) ∙ k.sparse in omega arith)
   listed h n (inr k) = absurd (let z = sym (none_used format.nodes_file n refl) ∙ k.dense in omega arith)
 
-  new_well : is_allowed shape ≡ true → (most : ℕ) → KeepsRules new shape most
-  new_well allowed most = record {
+  pub new_well : is_allowed shape ≡ true → IsWellFormed new shape
+  new_well allowed = record {
     ranges = record {
       own = own-new allowed;
       metas = λ file is. subst (IsMetaInRange (room_of shape file)) (sym (meta-new file is)) (IsMetaInRange-empty (room_of shape file));
@@ -142,13 +141,6 @@ module _ (before : Records) (shape : Shape) where
       each = λ n some. absurd (some (none_used format.nodes_file n refl));
       few = λ n d. absurd (let z = sym (none_used format.nodes_file n refl) ∙ d in omega arith);
     };
-  }
-
-  pub new_store_well : is_allowed shape ≡ true → IsSparseStore new shape
-  new_store_well allowed = record {
-    keeps = new_well allowed format.most_ids;
-    alone = λ file come. mark file (passes is_meta_file (format.groups_file ∷ []) file refl (ap (λ b. b || false) come));
-    sparse = λ n d. let z = sym (none_used format.nodes_file n refl) ∙ d in omega arith;
   }
 
   pub new_store_empty : graph_of new ≡ empty_graph

@@ -1,6 +1,6 @@
 -- What a node that comes or goes leaves of the rules and of the graph.
 use Rattle.std.specs.Prelude.{is_some}
-use Rattle.std.proofs.Common.{length, not, ◌≡◌, ◌≢◌, ℕ, Bool, true, false, cond, nat_eq, None, Some, sym, ap, ◌∙◌, subst, inl, inr, ⊎_elim, arith, refl}
+use Rattle.std.proofs.Common.{List, length, not, ◌≡◌, ◌≢◌, ℕ, Bool, true, false, cond, nat_eq, None, Some, sym, ap, ◌∙◌, subst, inl, inr, ⊎_elim, arith, refl}
 use Rattle.plain_graph.specs.Graph.{Node, node_number}
 use Rattle.rec_bytes.specs.declared.record.Rec.{Rec}
 use Rattle.rec_bytes.specs.declared.key.Key.{Key}
@@ -31,7 +31,7 @@ nodes_numbered s x e h = on (nat_eq (kind_at s format.nodes_file x) 0) h
         inner a b e = cc
 
 -- the count of nodes is that of their file
-pub count_nodes : (s : Records) (shape : Shape) {most : ℕ} → KeepsRules s shape most → (meta_in s format.nodes_file).live ≡ length (graph_of s).nodes
+pub count_nodes : (s : Records) (shape : Shape) {most : ℕ} {empty : List ℕ} → KeepsRules s shape most empty → (meta_in s format.nodes_file).live ≡ length (graph_of s).nodes
 count_nodes s shape well = (well.split format.nodes_file refl).1.exact ∙ sym (length-collect Node (node_of s) (is_live s format.nodes_file) (high s format.nodes_file) (λ x. on x (nat_eq (kind_at s format.nodes_file x) 0)))
   where
     on : (x : ℕ) (b : Bool) → is_some (node_from (rec_at s format.names_file) (property_records s) (cond b None (Some (node_in (rec_at s format.nodes_file x) x)))) ≡ not b
@@ -72,7 +72,7 @@ module _ (s t : Records) (id : ℕ) (change : IsChanged s t format.nodes_file id
   pub row_other : (x : ℕ) → x ≢ id → node_of t x ≡ node_of s x
   row_other x ne = node_text x ∙ ap (node_from (rec_at s format.names_file) (property_records s)) (node_other x ne)
 
-  module _ (shape : Shape) {most : ℕ} (well : KeepsRules s shape most) where
+  module _ (shape : Shape) {most : ℕ} {empty : List ℕ} (well : KeepsRules s shape most empty) where
     pub names : AreNames (rec_at t format.names_file) (high t format.names_file)
     names = subst (λ r. AreNames r (high t format.names_file)) (sym name_file) (subst (λ m. AreNames (rec_at s format.names_file) m) (sym name_mark) well.names)
 

@@ -1,5 +1,5 @@
 -- A node that goes keeps the rules, and is one node less of the graph.
-use Rattle.std.proofs.Common.{◌≡◌, ◌≢◌, ℕ, nat_eq, Bool, true, false, ◌||◌, None, Some, length, sym, ap, ◌∙◌, subst, inl, inr, ⊎_elim, arith, refl}
+use Rattle.std.proofs.Common.{List, ◌≡◌, ◌≢◌, ℕ, nat_eq, Bool, true, false, ◌||◌, None, Some, length, sym, ap, ◌∙◌, subst, inl, inr, ⊎_elim, arith, refl}
 use Rattle.std.proofs.lemmas.Bool.{true≢false}
 use Rattle.plain_graph.specs.Graph.{degree_in, node_number, without_row}
 use Rattle.rec_bytes.specs.declared.shape.Shape.{Shape}
@@ -8,7 +8,7 @@ use Rattle.rec_bytes.specs.Record.{field}
 use Rattle.store_rules.specs.Graph.{graph_of, node_from, node_of}
 use Rattle.store_rules.specs.Properties.{property_records}
 use Rattle.store_rules.specs.Rows.{collect, ids}
-use Rattle.store_rules.specs.Rules.{AreCounted, AreNamed, HaveProperties, Head, IsEnd, IsListed, IsSparseStore, KeepsRules, Owns, StandsAt, node_first, property_files, stands_in}
+use Rattle.store_rules.specs.Rules.{AreCounted, AreNamed, HaveProperties, Head, IsEnd, IsListed, KeepsRules, Owns, StandsAt, node_first, property_files, stands_in}
 use Rattle.store_rules.specs.Views.{GroupRow, Records, RelRow, degree, group_at, high, kind_at, node_at, node_in, rec_at, rel_at, rel_in}
 use Rattle.store_rules.proofs.Changes as ch
 use Rattle.store_rules.proofs.Counts.{ids_empty}
@@ -16,7 +16,7 @@ use Rattle.store_rules.proofs.Frames.{owner_beside_node, properties_bare}
 use Rattle.store_rules.proofs.GraphRows.{degree_in-degree}
 use Rattle.store_rules.proofs.Made.{IsGone}
 use Rattle.store_rules.proofs.NodeChange as nc
-use Rattle.store_rules.proofs.NumberLaws.{nat_cases, eq_true}
+use Rattle.store_rules.proofs.NumberLaws.{eq_true}
 use Rattle.store_rules.proofs.RowLaws.{collect_without}
 use Rattle.store_rules.proofs.Untouched as un
 use Rattle.store_rules.proofs.ViewLaws.{kind_below, row_none, row_some, some_row}
@@ -28,7 +28,22 @@ pub record IsBare (s : Records) (id : ℕ) : Type 0 where
   pub bare : field 4 (rec_at s format.nodes_file id) format.node_first_property ≡ format.nil
   pub ungrouped : (g : ℕ) (row : GroupRow) → group_at s g ≡ Some row → row.owner ≢ id
 
-module _ (s t : Records) (shape : Shape) (id : ℕ) (lost : IsGone s t shape format.nodes_file id) (old : IsBare s id) {most : ℕ} (well : KeepsRules s shape most) where
+-- a node of degree 0 is no end of a relationship
+module _ (s : Records) (shape : Shape) {most : ℕ} {empty : List ℕ} (well : KeepsRules s shape most empty) (id : ℕ) (used : kind_at s format.nodes_file id ≢ format.free_kind) (alone : degree s id ≡ 0) where
+  none_counted : length (ids (λ x. stands_in id (rel_at s x)) (high s format.relationships_file)) ≡ 0
+  none_counted = sym (well.degrees.each id used) ∙ alone
+
+  pub no_end : (x : ℕ) (row : RelRow) → rel_at s x ≡ Some row → IsEnd id row → ⊥
+  no_end x row e i =
+      let k = some_row (kind_at s format.relationships_file x) (rel_in (rec_at s format.relationships_file x) x) row e in
+      let out = ids_empty (λ y. stands_in id (rel_at s y)) (high s format.relationships_file) none_counted x (kind_below (high s format.relationships_file) (rec_at s format.relationships_file x) x k.0) in
+      absurd (true≢false (sym (ap (stands_in id) e ∙ ⊎_elim (λ (f : row.from ≡ id). rw (eq_true row.from id f) refl) (λ (f : row.to ≡ id). rw (eq_true row.to id f) (or_true (nat_eq row.from id))) i) ∙ out))
+    where
+      or_true : (a : Bool) → (a || true) ≡ true
+      or_true true = refl
+      or_true false = refl
+
+module _ (s t : Records) (shape : Shape) (id : ℕ) (lost : IsGone s t shape format.nodes_file id) (old : IsBare s id) {most : ℕ} {empty : List ℕ} (well : KeepsRules s shape most empty) where
   kind_other : (n : ℕ) → n ≢ id → kind_at t format.nodes_file n ≡ kind_at s format.nodes_file n
   kind_other = nc.kind_other s t id lost.change
 
@@ -41,20 +56,6 @@ module _ (s t : Records) (shape : Shape) (id : ℕ) (lost : IsGone s t shape for
 
   node_there : node_at s id ≡ Some (node_in (rec_at s format.nodes_file id) id)
   node_there = row_some (kind_at s format.nodes_file id) (node_in (rec_at s format.nodes_file id) id) old.used
-
-  -- no relationship is at the node
-  none_counted : length (ids (λ x. stands_in id (rel_at s x)) (high s format.relationships_file)) ≡ 0
-  none_counted = sym (well.degrees.each id old.used) ∙ old.alone
-
-  no_end : (x : ℕ) (row : RelRow) → rel_at s x ≡ Some row → IsEnd id row → ⊥
-  no_end x row e i =
-      let k = some_row (kind_at s format.relationships_file x) (rel_in (rec_at s format.relationships_file x) x) row e in
-      let out = ids_empty (λ y. stands_in id (rel_at s y)) (high s format.relationships_file) none_counted x (kind_below (high s format.relationships_file) (rec_at s format.relationships_file x) x k.0) in
-      absurd (true≢false (sym (ap (stands_in id) e ∙ ⊎_elim (λ (f : row.from ≡ id). rw (eq_true row.from id f) refl) (λ (f : row.to ≡ id). rw (eq_true row.to id f) (or_true (nat_eq row.from id))) i) ∙ out))
-    where
-      or_true : (a : Bool) → (a || true) ≡ true
-      or_true true = refl
-      or_true false = refl
 
   used_by : (h : Head) (n : ℕ) → Owns (kind_at t format.nodes_file) (group_at s) h n → kind_at t format.nodes_file n ≢ format.free_kind
   used_by h n (inl k) z = let p = sym z ∙ k.sparse in omega arith
@@ -89,12 +90,12 @@ module _ (s t : Records) (shape : Shape) (id : ℕ) (lost : IsGone s t shape for
       (λ n some. let ne = other n some in degree_other n ne ∙ well.degrees.each n (λ z. some (kind_other n ne ∙ z)))
       (λ n d. let ne = other n (λ z. let p = sym z ∙ d in omega arith) in let z = degree_other n ne in let b = well.degrees.few n (sym (kind_other n ne) ∙ d) in omega arith)
 
-  pub gone_well : KeepsRules t shape most
+  pub gone_well : KeepsRules t shape most empty
   gone_well = record {
     ranges = ch.in_range s t format.nodes_file id lost.change shape lost.meta (λ _. lost.fits) well.ranges;
     split = ch.split_all s t format.nodes_file id lost.change (λ _. (lost.free, lost.split)) well.split;
     kept = ch.kept_all s t format.nodes_file id lost.change (λ e. absurd (true≢false e)) well.kept;
-    linked = un.linked s t format.nodes_file id lost.change refl (λ x n row e i. kind_other n (λ k. no_end x row e (subst (λ z. IsEnd z row) k i))) listed well.linked;
+    linked = un.linked s t format.nodes_file id lost.change refl (λ x n row e i. kind_other n (λ k. no_end s shape well id old.used old.alone x row e (subst (λ z. IsEnd z row) k i))) listed well.linked;
     grouped = un.grouped s t format.nodes_file id lost.change refl (λ n g row e o d. kind_other n (λ k. old.ungrouped g row e (o ∙ k)) ∙ d)
         (λ n d. (sym (kind_other n (dense_new n d)) ∙ d, nc.first_other s t id lost.change n (dense_new n d))) well.grouped;
     properties = properties;
@@ -111,13 +112,3 @@ module _ (s t : Records) (shape : Shape) (id : ℕ) (lost : IsGone s t shape for
 
   pub node_was_lone : degree_in (graph_of s) id ≡ 0
   node_was_lone = degree_in-degree s shape well id old.used ∙ old.alone
-
--- a sparse store stays one
-pub gone_store : (s t : Records) (shape : Shape) (id : ℕ) → IsGone s t shape format.nodes_file id → IsBare s id → IsSparseStore s shape → IsSparseStore t shape
-gone_store s t shape id lost old store = record {
-  keeps = gone_well s t shape id lost old store.keeps;
-  alone = un.alone_stays s t format.nodes_file id lost.change refl store.alone;
-  sparse = λ n d. ⊎_elim
-      (λ (e : n ≡ id). let p = sym (ap (kind_at t format.nodes_file) e ∙ lost.gone) ∙ d in omega arith)
-      (λ (ne : n ≢ id). store.sparse n (sym (nc.kind_other s t id lost.change n ne) ∙ d)) (nat_cases n id);
-}

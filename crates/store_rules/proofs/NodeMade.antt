@@ -1,5 +1,5 @@
 -- A new node keeps the rules, and is one more node of the graph.
-use Rattle.std.proofs.Common.{◌≡◌, ◌≢◌, ℕ, ◌<◌, nat_eq, false, Option, None, Some, [], length, sym, ap, ◌∙◌, subst, inl, inr, ⊎_elim, arith, refl}
+use Rattle.std.proofs.Common.{List, ◌≡◌, ◌≢◌, ℕ, ◌<◌, nat_eq, false, Option, None, Some, [], length, sym, ap, ◌∙◌, subst, inl, inr, ⊎_elim, arith, refl}
 use Rattle.std.specs.List.{list_any}
 use Rattle.std.proofs.lemmas.Bool.{true≢false}
 use Rattle.plain_graph.specs.Graph.{Node, node_number, with_row}
@@ -11,7 +11,7 @@ use Rattle.rec_bytes.specs.Record.{field}
 use Rattle.store_rules.specs.Graph.{graph_of, node_from, node_of}
 use Rattle.store_rules.specs.Properties.{property_records}
 use Rattle.store_rules.specs.Ranges.{Fits}
-use Rattle.store_rules.specs.Rules.{AreCounted, AreNamed, HaveProperties, Head, IsEnd, IsListed, IsSparseStore, KeepsRules, Owns, SparseHead, GroupHead, StandsAt, degree_of, node_first, node_head, property_files, stands_in}
+use Rattle.store_rules.specs.Rules.{AreCounted, AreNamed, HaveProperties, Head, IsEnd, IsListed, KeepsRules, Owns, SparseHead, GroupHead, StandsAt, degree_of, node_first, node_head, property_files, stands_in}
 use Rattle.store_rules.specs.Views.{NodeRow, Records, RelRow, degree, group_at, high, kind_at, node_at, node_in, rec_at, rel_at, row_if, text_of}
 use Rattle.store_rules.proofs.Changes as ch
 use Rattle.store_rules.proofs.Counts.{ids_none}
@@ -33,7 +33,7 @@ pub record IsNewNode (rec : Rec) (number : ℕ) : Type 0 where
   pub degree : field 4 rec format.node_degree ≡ 0
   pub fits : (marks : ℕ → ℕ) → Fits marks format.nodes_file rec
 
-module _ (s t : Records) (shape : Shape) (id number : ℕ) (rec : Rec) (made : IsMade s t shape format.nodes_file id rec) (new : IsNewNode rec number) {most : ℕ} (well : KeepsRules s shape most) (known : number < high s format.names_file) where
+module _ (s t : Records) (shape : Shape) (id number : ℕ) (rec : Rec) (made : IsMade s t shape format.nodes_file id rec) (new : IsNewNode rec number) {most : ℕ} {empty : List ℕ} (well : KeepsRules s shape most empty) (known : number < high s format.names_file) where
   kind_new : kind_at t format.nodes_file id ≡ format.sparse
   kind_new = kind_low (high t format.nodes_file) (rec_at t format.nodes_file id) id made.below ∙ ap (λ r. field 1 r format.kind) made.here ∙ new.kind
 
@@ -118,7 +118,7 @@ module _ (s t : Records) (shape : Shape) (id number : ℕ) (rec : Rec) (made : I
       (λ (e : n ≡ id). let z : degree t n ≡ 0 = ap (degree t) e ∙ degree_new in omega arith)
       (λ (ne : n ≢ id). let z = degree_other n ne in let b = well.degrees.few n (sym (kind_other n ne) ∙ d) in omega arith) (nat_cases n id))
 
-  pub node_well : KeepsRules t shape most
+  pub node_well : KeepsRules t shape most empty
   node_well = record {
     ranges = ch.in_range s t format.nodes_file id made.change shape made.meta (λ _. subst (Fits (high t) format.nodes_file) (sym made.here) (new.fits (high t))) well.ranges;
     split = ch.split_all s t format.nodes_file id made.change (λ _. (made.free, made.split)) well.split;
@@ -146,13 +146,3 @@ module _ (s t : Records) (shape : Shape) (id number : ℕ) (rec : Rec) (made : I
   node_added = rows_with node_number (node_of s) (node_of t) (high s format.nodes_file) (high t format.nodes_file) id (new_node no_properties) (nc.nodes_numbered s) refl none_before
       (nc.node_text s t id made.change id ∙ ap (node_from (rec_at s format.names_file) (property_records s)) node_new ∙ ap (λ p. Some (new_node p)) (properties_from-nil (rec_at s format.names_file) (property_records s)))
       (nc.row_other s t id made.change) made.below made.grows
-
--- a sparse store stays one
-pub node_store : (s t : Records) (shape : Shape) (id number : ℕ) (rec : Rec) → IsMade s t shape format.nodes_file id rec → IsNewNode rec number → IsSparseStore s shape → number < high s format.names_file → IsSparseStore t shape
-node_store s t shape id number rec made new store known = record {
-  keeps = node_well s t shape id number rec made new store.keeps known;
-  alone = un.alone_stays s t format.nodes_file id made.change refl store.alone;
-  sparse = λ n d. ⊎_elim
-      (λ (e : n ≡ id). let p = sym (ap (kind_at t format.nodes_file) e ∙ kind_new s t shape id number rec made new store.keeps known) ∙ d in omega arith)
-      (λ (ne : n ≢ id). store.sparse n (sym (nc.kind_other s t id made.change n ne) ∙ d)) (nat_cases n id);
-}

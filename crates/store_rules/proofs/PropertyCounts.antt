@@ -197,7 +197,7 @@ module _ (s : Records) (lists : ℕ → ℕ → List ℕ) where
 
 -- ---- the counts
 
-module _ (s : Records) (shape : Shape) {most : ℕ} (keeps : KeepsRules s shape most) where
+module _ (s : Records) (shape : Shape) {most : ℕ} {empty : List ℕ} (keeps : KeepsRules s shape most empty) where
   abbrev files : PropertyRecords
   files = property_records s
 

@@ -21,7 +21,7 @@ use Rattle.store_rules.proofs.PropertyLists.{owner_in, owner_in-used, properties
 use Rattle.store_rules.proofs.PropertyStays.{properties_stay}
 use Rattle.store_rules.proofs.RowChange.{collect_changed}
 
-module _ (s t : Records) (shape : Shape) (file x : ℕ) (old new : List Property) (h : ChangesProperties s t shape file x old new) {most : ℕ} (well : KeepsRules s shape most) where
+module _ (s t : Records) (shape : Shape) (file x : ℕ) (old new : List Property) (h : ChangesProperties s t shape file x old new) {most : ℕ} {empty : List ℕ} (well : KeepsRules s shape most empty) where
   -- what names are read from
   abbrev names : ℕ → Rec
   names = rec_at s format.names_file

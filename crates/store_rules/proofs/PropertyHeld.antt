@@ -43,7 +43,7 @@ pieces_stay size now n (b ∷ c ∷ bs) same h = (same b (inl refl) ∙ h.0, h.1
 inner : (a b : ℕ) → Some a ≡ Some b → a ≡ b
 inner a b e = cc
 
-module _ (s t : Records) (shape : Shape) (file x : ℕ) (old new : List Property) (h : ChangesProperties s t shape file x old new) {most : ℕ} (well : KeepsRules s shape most) where
+module _ (s t : Records) (shape : Shape) (file x : ℕ) (old new : List Property) (h : ChangesProperties s t shape file x old new) {most : ℕ} {empty : List ℕ} (well : KeepsRules s shape most empty) where
   -- ---- properties
   abbrev held : AreHeld (owner_in s) (next_property (rec_at s format.properties_file)) (is_live s format.properties_file)
   held = well.properties.held

@@ -231,7 +231,7 @@ block_owner_is kind property_file file x first owned = by (nat_eq file format.pr
     by true false f g e = absurd cc
     by false b f g e = absurd cc
 
-module _ (s : Records) (shape : Shape) {most : ℕ} (keeps : KeepsRules s shape most) where
+module _ (s : Records) (shape : Shape) {most : ℕ} {empty : List ℕ} (keeps : KeepsRules s shape most empty) where
   abbrev files : PropertyRecords
   files = property_records s
 

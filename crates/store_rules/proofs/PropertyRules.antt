@@ -15,7 +15,7 @@ use Rattle.store_rules.specs.Chains.{IsWalk, next_in, place_of, prev_in}
 use Rattle.store_rules.specs.Properties.{Property}
 use Rattle.store_rules.specs.Ranges.{AreInRange, Fits, is_reused}
 use Rattle.store_rules.specs.Rows.{ids}
-use Rattle.store_rules.specs.Rules.{AreAllLive, AreCounted, AreNamed, AreNames, Head, IsGrouped, IsLinked, IsSparseStore, IsSplit, KeepsRules, Owns, first_of, is_to_come, next_free}
+use Rattle.store_rules.specs.Rules.{AreAllLive, AreCounted, AreNamed, AreNames, Head, IsGrouped, IsLinked, IsSplit, KeepsRules, Owns, first_of, next_free}
 use Rattle.store_rules.specs.Views.{Records, degree, first_link, group_at, high, is_live, kind_at, node_at, rec_at, rel_at}
 use Rattle.store_rules.proofs.ChainLaws.{walk_stays}
 use Rattle.store_rules.proofs.Frames.{pair_cases}
@@ -140,11 +140,11 @@ module _ (s t : Records) (shape : Shape) (file x : ℕ) (old new : List Property
       (twin.linked_alike s t (kind_at s format.nodes_file) (rel_at s) (rel_at t) (group_at s) rels_there rels_back next_same prev_same (head_same (kind_at s format.nodes_file)) was))
 
   -- the fourth
-  grouped : IsGrouped (kind_at s format.nodes_file) (first_link s) (rec_at s format.groups_file) (group_at s) → IsGrouped (kind_at t format.nodes_file) (first_link t) (rec_at t format.groups_file) (group_at t)
-  grouped was = subst (λ k. IsGrouped k (first_link t) (rec_at t format.groups_file) (group_at t)) (sym (fr.node_kinds s t shape file x old new h))
-      (subst (λ f. IsGrouped (kind_at s format.nodes_file) f (rec_at t format.groups_file) (group_at t)) (sym (fr.first_links s t shape file x old new h))
-      (subst (λ r. IsGrouped (kind_at s format.nodes_file) (first_link s) r (group_at t)) (sym (fr.group_file s t shape file x old new h))
-      (subst (IsGrouped (kind_at s format.nodes_file) (first_link s) (rec_at s format.groups_file)) (sym (fr.groups_same s t shape file x old new h)) was)))
+  grouped : {empty : List ℕ} → IsGrouped (kind_at s format.nodes_file) (first_link s) (rec_at s format.groups_file) (group_at s) empty → IsGrouped (kind_at t format.nodes_file) (first_link t) (rec_at t format.groups_file) (group_at t) empty
+  grouped {empty} was = subst (λ k. IsGrouped k (first_link t) (rec_at t format.groups_file) (group_at t) empty) (sym (fr.node_kinds s t shape file x old new h))
+      (subst (λ f. IsGrouped (kind_at s format.nodes_file) f (rec_at t format.groups_file) (group_at t) empty) (sym (fr.first_links s t shape file x old new h))
+      (subst (λ r. IsGrouped (kind_at s format.nodes_file) (first_link s) r (group_at t) empty) (sym (fr.group_file s t shape file x old new h))
+      (subst (λ g. IsGrouped (kind_at s format.nodes_file) (first_link s) (rec_at s format.groups_file) g empty) (sym (fr.groups_same s t shape file x old new h)) was)))
 
   -- the sixth
   names : AreNames (rec_at s format.names_file) (high s format.names_file) → AreNames (rec_at t format.names_file) (high t format.names_file)
@@ -161,7 +161,7 @@ module _ (s t : Records) (shape : Shape) (file x : ℕ) (old new : List Property
       (twin.counted_alike (rel_at s) (rel_at t) rels_there rels_back (kind_at s format.nodes_file) (degree s) (degree t) (high s format.relationships_file) most (fr.degrees_same s t shape file x old new h) was))
 
   -- a change of one element's properties keeps the rules
-  pub properties_well : {most : ℕ} → KeepsRules s shape most → KeepsRules t shape most
+  pub properties_well : {most : ℕ} {empty : List ℕ} → KeepsRules s shape most empty → KeepsRules t shape most empty
   properties_well well = record {
     ranges = ranges well.ranges;
     split = splits well.split;
@@ -172,13 +172,4 @@ module _ (s t : Records) (shape : Shape) (file x : ℕ) (old new : List Property
     named = named well.named;
     names = names well.names;
     degrees = degrees well.degrees;
-  }
-
-  -- and a store of sparse nodes stays one
-  pub properties_store : IsSparseStore s shape → IsSparseStore t shape
-  properties_store store = record {
-    keeps = properties_well store.keeps;
-    alone = λ f come.
-        fr.mark_same s t shape file x old new h f (λ e. true≢false (sym come ∙ ap is_to_come e)) (λ e. true≢false (sym come ∙ ap is_to_come e)) ∙ store.alone f come;
-    sparse = λ n d. store.sparse n (sym (ap (λ f. f n) (fr.node_kinds s t shape file x old new h)) ∙ d);
   }

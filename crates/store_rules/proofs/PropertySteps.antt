@@ -11,7 +11,7 @@ use Rattle.rec_bytes.specs.Format as format
 use Rattle.store_rules.specs.Chains.{In}
 use Rattle.store_rules.specs.Graph.{graph_of}
 use Rattle.store_rules.specs.Properties.{AreOnce, AreProperties, Property, keys_of, map_of, property_records}
-use Rattle.store_rules.specs.Rules.{IsSparseStore}
+use Rattle.store_rules.specs.Rules.{IsWellFormed}
 use Rattle.store_rules.specs.Views.{Records, high, kind_at, rec_at, text_of}
 use Rattle.store_rules.proofs.ElementProperties.{graph_kept, properties_at-is}
 use Rattle.store_rules.proofs.MemberLaws.{once_apart, once_right}
@@ -20,7 +20,7 @@ use Rattle.store_rules.specs.PropertyChange.{ChangesProperties, property_from, t
 use Rattle.store_rules.proofs.PropertyGraph.{graph_changed}
 use Rattle.store_rules.proofs.PropertyLists.{key_known, owner_in-used}
 use Rattle.store_rules.proofs.PropertyMaps.{LackKey, get-map_of_none, get-map_of_some, lack_key, map_of-lacking, map_of-none, map_of-pushed, map_of-removed, map_of-replaced}
-use Rattle.store_rules.proofs.PropertyRules.{properties_store}
+use Rattle.store_rules.proofs.PropertyRules.{properties_well}
 
 -- the text of a property's key, in a store
 abbrev pub key_in : Records → Property → List ℕ
@@ -33,7 +33,7 @@ key_apart front e back once =
     ((λ i. once_apart e.key (keys_of front) (e.key ∷ keys_of back) parts i (inl refl)), (once_right (keys_of front) (e.key ∷ keys_of back) parts).0)
 
 -- ---- an element in use
-module _ (s : Records) (shape : Shape) (store : IsSparseStore s shape) (file x : ℕ) (element : (file ≡ format.nodes_file) ⊎ (file ≡ format.relationships_file)) (used : kind_at s file x ≢ format.free_kind) where
+module _ (s : Records) (shape : Shape) (store : IsWellFormed s shape) (file x : ℕ) (element : (file ≡ format.nodes_file) ⊎ (file ≡ format.relationships_file)) (used : kind_at s file x ≢ format.free_kind) where
   -- the records of names
   abbrev names : ℕ → Rec
   names = rec_at s format.names_file
@@ -42,12 +42,12 @@ module _ (s : Records) (shape : Shape) (store : IsSparseStore s shape) (file x :
   pub lack_around : (front : List Property) (e : Property) (back : List Property) → AreProperties (property_records s) (property_from s file x) (front ++ e ∷ back) → LackKey names front (key_in s e) × LackKey names back (key_in s e)
   lack_around front e back are =
       let old = front ++ e ∷ back in
-      let known : (k : ℕ) → In k (keys_of old) → k < high s format.names_file = key_known s shape store.keeps file x (property_from s file x) old (owner_in-used s file x element used) are in
+      let known : (k : ℕ) → In k (keys_of old) → k < high s format.names_file = key_known s shape store file x (property_from s file x) old (owner_in-used s file x element used) are in
       let in_old : (k : ℕ) → In k (map (λ (z : Property). z.key) front ++ (e.key ∷ keys_of back)) → k < high s format.names_file = λ k i. known k (subst (In k) (sym (map-append (λ (z : Property). z.key) front (e ∷ back))) i) in
       let apart = key_apart front e back are.keys_once in
       let mine = in_old e.key (in_right e.key (keys_of front) (e.key ∷ keys_of back) (inl refl)) in (
-        lack_key names (high s format.names_file) store.keeps.names front e.key mine (λ k i. in_old k (in_left k (keys_of front) (e.key ∷ keys_of back) i)) apart.0,
-        lack_key names (high s format.names_file) store.keeps.names back e.key mine (λ k i. in_old k (in_right k (keys_of front) (e.key ∷ keys_of back) (inr i))) apart.1,
+        lack_key names (high s format.names_file) store.names front e.key mine (λ k i. in_old k (in_left k (keys_of front) (e.key ∷ keys_of back) i)) apart.0,
+        lack_key names (high s format.names_file) store.names back e.key mine (λ k i. in_old k (in_right k (keys_of front) (e.key ∷ keys_of back) (inr i))) apart.1,
       )
 
   -- a property is the value of its key
@@ -64,16 +64,16 @@ module _ (s : Records) (shape : Shape) (store : IsSparseStore s shape) (file x :
     nothing_removed = graph_kept s file x es element used are (λ properties. maps.remove properties text) (map_of-lacking names es text lack)
 
 -- ---- changes
--- The records are a store of sparse nodes, and their graph is this one.
+-- The records are a well-formed store, and their graph is this one.
 pub record IsStoreOf (t : Records) (shape : Shape) (graph : Graph) : Type 0 where
-  pub store : IsSparseStore t shape
+  pub store : IsWellFormed t shape
   pub graph_is : graph_of t ≡ graph
 
-module _ (s t : Records) (shape : Shape) (file x : ℕ) (store : IsSparseStore s shape) where
+module _ (s t : Records) (shape : Shape) (file x : ℕ) (store : IsWellFormed s shape) where
   -- a change of the list that is a change of the map is that change of the graph
   step : (old new : List Property) → ChangesProperties s t shape file x old new → (change : Properties → Properties) → change (map_of (rec_at s format.names_file) old) ≡ map_of (rec_at s format.names_file) new
       → IsStoreOf t shape (with_properties (graph_of s) (target_in file x) change)
-  step old new h change is = record { store = properties_store s t shape file x old new h store; graph_is = graph_changed s t shape file x old new h store.keeps change is }
+  step old new h change is = record { store = properties_well s t shape file x old new h store; graph_is = graph_changed s t shape file x old new h store change is }
 
   -- one more, in front of the others
   pub property_added : (e : Property) (old : List Property) → ChangesProperties s t shape file x old (e ∷ old) → IsStoreOf t shape (with_value (graph_of s) (target_in file x) (key_in s e) e.value)

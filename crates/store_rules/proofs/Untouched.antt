@@ -1,11 +1,11 @@
 -- The rules where no relationship, group, property or block changed.
-use Rattle.std.proofs.Common.{◌≡◌, ◌≢◌, ℕ, ◌≤◌, Bool, true, false, nat_eq, Option, Some, [], ◌∷◌, sym, ap, ◌∙◌, subst, inl, inr, refl}
+use Rattle.std.proofs.Common.{List, ◌≡◌, ◌≢◌, ℕ, ◌≤◌, Bool, true, false, nat_eq, Option, Some, [], ◌∷◌, sym, ap, ◌∙◌, subst, inl, inr, refl}
 use Rattle.std.specs.List.{list_any}
 use Rattle.std.proofs.lemmas.Bool.{true≢false}
 use Rattle.rec_bytes.specs.declared.key.Key.{Key}
 use Rattle.rec_bytes.specs.Format as format
 use Rattle.rec_bytes.specs.RecordFiles.{is_meta_file}
-use Rattle.store_rules.specs.Rules.{AreCounted, HaveProperties, Head, IsEnd, IsGrouped, IsLinked, IsListed, Owns, StandsAt, degree_of, is_to_come, property_files}
+use Rattle.store_rules.specs.Rules.{AreCounted, HaveProperties, Head, IsEnd, IsGrouped, IsLinked, IsListed, Owns, StandsAt, degree_of, property_files}
 use Rattle.store_rules.specs.Views.{GroupRow, NodeRow, Records, RelRow, degree, first_link, group_at, group_in, high, kind_at, rec_at, rel_at, rel_in, row_if}
 use Rattle.store_rules.proofs.Changes as ch
 use Rattle.store_rules.proofs.Changes.{IsChanged}
@@ -19,10 +19,6 @@ head_file kind groups h n (inr k) = ap (λ (z : Key). is_meta_file z.file) k.key
 -- the files of relationships, groups, properties and blocks
 abbrev pub is_beside : ℕ → Bool
 is_beside file = list_any (nat_eq file) (format.relationships_file ∷ format.groups_file ∷ format.properties_file ∷ format.strings_file ∷ [])
-
--- a file to come stays as it was where another changed
-pub alone_stays : (s t : Records) (file id : ℕ) → IsChanged s t file id → is_to_come file ≡ false → ((f : ℕ) → is_to_come f ≡ true → high s f ≡ 0) → (f : ℕ) → is_to_come f ≡ true → high t f ≡ 0
-alone_stays s t file id change out alone f come = ch.mark_same s t file id change f (λ e. true≢false (sym come ∙ ap is_to_come e ∙ out)) ∙ alone f come
 
 module _ (s t : Records) (file id : ℕ) (change : IsChanged s t file id) (apart : is_beside file ≡ false) where
   other_file : (f : ℕ) → is_beside f ≡ true → f ≢ file
@@ -60,11 +56,11 @@ module _ (s t : Records) (file id : ℕ) (change : IsChanged s t file id) (apart
   }))
 
   -- the fourth, where dense nodes are those that they were
-  pub grouped : ((n g : ℕ) (row : GroupRow) → group_at s g ≡ Some row → row.owner ≡ n → kind_at s format.nodes_file n ≡ format.dense → kind_at t format.nodes_file n ≡ format.dense)
+  pub grouped : {empty : List ℕ} → ((n g : ℕ) (row : GroupRow) → group_at s g ≡ Some row → row.owner ≡ n → kind_at s format.nodes_file n ≡ format.dense → kind_at t format.nodes_file n ≡ format.dense)
       → ((n : ℕ) → kind_at t format.nodes_file n ≡ format.dense → (kind_at s format.nodes_file n ≡ format.dense) × (first_link t n ≡ first_link s n))
-      → IsGrouped (kind_at s format.nodes_file) (first_link s) (rec_at s format.groups_file) (group_at s) → IsGrouped (kind_at t format.nodes_file) (first_link t) (rec_at t format.groups_file) (group_at t)
-  grouped there back old = subst (λ r. IsGrouped (kind_at t format.nodes_file) (first_link t) r (group_at t)) (sym group_file_same)
-      (subst (λ g. IsGrouped (kind_at t format.nodes_file) (first_link t) (rec_at s format.groups_file) g) (sym groups_same)
+      → IsGrouped (kind_at s format.nodes_file) (first_link s) (rec_at s format.groups_file) (group_at s) empty → IsGrouped (kind_at t format.nodes_file) (first_link t) (rec_at t format.groups_file) (group_at t) empty
+  grouped {empty} there back old = subst (λ r. IsGrouped (kind_at t format.nodes_file) (first_link t) r (group_at t) empty) (sym group_file_same)
+      (subst (λ g. IsGrouped (kind_at t format.nodes_file) (first_link t) (rec_at s format.groups_file) g empty) (sym groups_same)
       (grouped_stays (kind_at s format.nodes_file) (kind_at t format.nodes_file) (first_link s) (first_link t) (rec_at s format.groups_file) (group_at s) there back old))
 
   -- the fifth, by nodes and names that may have changed

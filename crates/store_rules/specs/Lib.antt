@@ -1,4 +1,5 @@
 pub mod Chains
+pub mod Ends
 pub mod Graph
 pub mod Properties
 pub mod PropertyChange

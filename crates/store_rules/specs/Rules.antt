@@ -137,23 +137,23 @@ is_filled r =
     && (nat_eq (field 4 r format.group_first_in) format.nil
     && nat_eq (field 4 r format.group_first_loop) format.nil))
 
--- the groups of a node, from the first on; each has a type of its own
-pub record HasGroups (first n : ℕ) (group_file : ℕ → Rec)
-    (groups : ℕ → Option GroupRow) : Type 0 where
+-- The groups of a node, from the first on. Each has a type of its own and a relationship, but those
+-- that may be empty.
+pub record HasGroups (first n : ℕ) (group_file : ℕ → Rec) (groups : ℕ → Option GroupRow)
+    (empty : List ℕ) : Type 0 where
   pub members : List ℕ
   pub chain : IsChain (λ g. field 4 (group_file g) format.group_next)
       (λ g. field 4 (group_file g) format.group_previous) format.nil first members
-  pub only : (g : ℕ) → In g members
-      → (row : GroupRow)
-      × ((groups g ≡ Some row) × (row.owner ≡ n) × (is_filled (group_file g) ≡ true))
+  pub only : (g : ℕ) → In g members → (row : GroupRow) × (groups g ≡ Some row) × (row.owner ≡ n)
+  pub filled : (g : ℕ) → In g members → (is_filled (group_file g) ≡ true) ⊎ In g empty
   pub all : (g : ℕ) (row : GroupRow) → groups g ≡ Some row → row.owner ≡ n → In g members
   pub once : (g k : ℕ) → In g members → In k members
       → field 4 (group_file g) format.group_type ≡ field 4 (group_file k) format.group_type → g ≡ k
 
-pub record IsGrouped (kind first : ℕ → ℕ) (group_file : ℕ → Rec)
-    (groups : ℕ → Option GroupRow) : Type 0 where
+pub record IsGrouped (kind first : ℕ → ℕ) (group_file : ℕ → Rec) (groups : ℕ → Option GroupRow)
+    (empty : List ℕ) : Type 0 where
   pub owned : (g : ℕ) (row : GroupRow) → groups g ≡ Some row → kind row.owner ≡ format.dense
-  pub each : (n : ℕ) → kind n ≡ format.dense → HasGroups (first n) n group_file groups
+  pub each : (n : ℕ) → kind n ≡ format.dense → HasGroups (first n) n group_file groups empty
 
 -- ---- the fifth rule: properties and blocks are each in the list of one owner
 
@@ -273,9 +273,10 @@ pub record AreCounted (kind degrees : ℕ → ℕ)
 
 -- ---- all of them
 
--- The records of a well-formed store of this shape, but for how many relationships a sparse node
--- may have.
-pub record KeepsRules (records : Records) (shape : Shape) (most : ℕ) : Type 0 where
+-- The rules of a store of this shape. So many relationships a sparse node may have, and these groups
+-- may be empty.
+pub record KeepsRules (records : Records) (shape : Shape) (most : ℕ) (empty : List ℕ)
+    : Type 0 where
   pub ranges : AreInRange records shape
   pub split : (file : ℕ) → is_reused file ≡ true
       → (free : List ℕ) × IsSplit records file (is_live records file) free
@@ -284,7 +285,7 @@ pub record KeepsRules (records : Records) (shape : Shape) (most : ℕ) : Type 0 
   pub linked : IsLinked records (kind_at records format.nodes_file) (rel_at records)
       (group_at records)
   pub grouped : IsGrouped (kind_at records format.nodes_file) (first_link records)
-      (rec_at records format.groups_file) (group_at records)
+      (rec_at records format.groups_file) (group_at records) empty
   pub properties : HaveProperties (property_files records) (node_at records) (rel_at records)
       (high records format.names_file)
   pub named : AreNamed (node_at records) (rel_at records) (high records format.names_file)
@@ -294,16 +295,4 @@ pub record KeepsRules (records : Records) (shape : Shape) (most : ℕ) : Type 0 
 
 -- the records of a well-formed store of this shape
 abbrev pub IsWellFormed : Records → Shape → Type 0
-IsWellFormed records shape = KeepsRules records shape shape.threshold
-
--- ---- the stores of this version
-
--- groups are still to come
-abbrev pub is_to_come : ℕ → Bool
-is_to_come file = nat_eq file format.groups_file
-
--- A store in which no group was ever given out. Each node is sparse, whatever its degree.
-pub record IsSparseStore (records : Records) (shape : Shape) : Type 0 where
-  pub keeps : KeepsRules records shape format.most_ids
-  pub alone : (file : ℕ) → is_to_come file ≡ true → high records file ≡ 0
-  pub sparse : (n : ℕ) → kind_at records format.nodes_file n ≢ format.dense
+IsWellFormed records shape = KeepsRules records shape shape.threshold []

@@ -1,0 +1,57 @@
+-- A record in use is of a kind of its file.
+use Rattle.std.proofs.Common.{◌≡◌, ◌≢◌, ◌⊎◌, ℕ, nat_eq, Bool, true, false, cond, Some, None, ap, ◌∙◌, inl, inr, ⊎_elim, refl}
+use Rattle.rec_bytes.specs.declared.record.Rec.{Rec}
+use Rattle.rec_bytes.specs.declared.shape.Shape.{Shape}
+use Rattle.rec_bytes.specs.Format as format
+use Rattle.rec_bytes.specs.RecordFiles.{is_meta_file}
+use Rattle.store_rules.specs.Ranges.{AreInRange, Layout, free_layout, group_layout, layout_by, node_layout, relationship_layout}
+use Rattle.store_rules.specs.Views.{Records, high, kind_at, rec_at}
+use Rattle.store_rules.proofs.NumberLaws.{eq_false, nat_cases}
+use Rattle.store_rules.proofs.ViewLaws.{kind_below, kind_low}
+
+module _ (s : Records) (shape : Shape) (ranges : AreInRange s shape) where
+  laid_out : (f x : ℕ) → is_meta_file f ≡ true → kind_at s f x ≢ format.free_kind → (layout : Layout) × (layout_by f (rec_at s f x) (kind_at s f x) ≡ Some layout)
+  laid_out f x file live =
+      let lt = kind_below (high s f) (rec_at s f x) x live in
+      let fits = ranges.fit f x file lt in
+      (fits.layout, ap (layout_by f (rec_at s f x)) (kind_low (high s f) (rec_at s f x) x lt) ∙ fits.is)
+
+  pub rel_kind : (x : ℕ) → kind_at s format.relationships_file x ≢ format.free_kind → kind_at s format.relationships_file x ≡ format.related
+  rel_kind x live = ⊎_elim (λ e. e) (λ ne. absurd (let l = laid_out format.relationships_file x refl live in none (kind_at s format.relationships_file x) live ne l.0 l.1))
+      (nat_cases (kind_at s format.relationships_file x) format.related)
+    where
+      none : (kind : ℕ) → kind ≢ 0 → kind ≢ format.related → (layout : Layout) → layout_by format.relationships_file (rec_at s format.relationships_file x) kind ≡ Some layout → ⊥
+      none kind a b layout is = by (nat_eq kind 0) (nat_eq kind format.related) (eq_false kind 0 a) (eq_false kind format.related b) is
+        where
+          by : (p q : Bool) → p ≡ false → q ≡ false → cond p (free_layout format.relationships_file) (cond q relationship_layout None) ≡ Some layout → ⊥
+          by true q e f h = cc
+          by false true e f h = cc
+          by false false e f h = cc
+
+  pub group_kind : (x : ℕ) → kind_at s format.groups_file x ≢ format.free_kind → kind_at s format.groups_file x ≡ format.grouped
+  group_kind x live = ⊎_elim (λ e. e) (λ ne. absurd (let l = laid_out format.groups_file x refl live in none (kind_at s format.groups_file x) live ne l.0 l.1))
+      (nat_cases (kind_at s format.groups_file x) format.grouped)
+    where
+      none : (kind : ℕ) → kind ≢ 0 → kind ≢ format.grouped → (layout : Layout) → layout_by format.groups_file (rec_at s format.groups_file x) kind ≡ Some layout → ⊥
+      none kind a b layout is = by (nat_eq kind 0) (nat_eq kind format.grouped) (eq_false kind 0 a) (eq_false kind format.grouped b) is
+        where
+          by : (p q : Bool) → p ≡ false → q ≡ false → cond p (free_layout format.groups_file) (cond q group_layout None) ≡ Some layout → ⊥
+          by true q e f h = cc
+          by false true e f h = cc
+          by false false e f h = cc
+
+  -- a node is sparse or dense
+  pub node_kind : (x : ℕ) → kind_at s format.nodes_file x ≢ format.free_kind → (kind_at s format.nodes_file x ≡ format.sparse) ⊎ (kind_at s format.nodes_file x ≡ format.dense)
+  node_kind x live = ⊎_elim (λ e. inl e) (λ ne. ⊎_elim (λ e. inr e)
+      (λ nd. absurd (let l = laid_out format.nodes_file x refl live in none (kind_at s format.nodes_file x) live ne nd l.0 l.1))
+      (nat_cases (kind_at s format.nodes_file x) format.dense)) (nat_cases (kind_at s format.nodes_file x) format.sparse)
+    where
+      none : (kind : ℕ) → kind ≢ 0 → kind ≢ format.sparse → kind ≢ format.dense → (layout : Layout) → layout_by format.nodes_file (rec_at s format.nodes_file x) kind ≡ Some layout → ⊥
+      none kind a b c layout is = by (nat_eq kind 0) (nat_eq kind format.sparse) (nat_eq kind format.dense) (eq_false kind 0 a) (eq_false kind format.sparse b) (eq_false kind format.dense c) is
+        where
+          by : (p q r : Bool) → p ≡ false → q ≡ false → r ≡ false
+              → cond p (free_layout format.nodes_file) (cond q (node_layout format.relationships_file) (cond r (node_layout format.groups_file) None)) ≡ Some layout → ⊥
+          by true q r e f g h = cc
+          by false true r e f g h = cc
+          by false false true e f g h = cc
+          by false false false e f g h = cc
