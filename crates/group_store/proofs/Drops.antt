@@ -106,16 +106,16 @@ module _ (s : State) (node before after : ℕ) where
 module _ (s end : State) (node g : ℕ) (free xs : List ℕ) (can : CanDrop s node g free xs)
     (gives : CanGive (linked s node (previous_group s.records g) (next_group s.records g)) format.groups_file g free
     → HasGiven (linked s node (previous_group s.records g) (next_group s.records g)).records end.records format.groups_file g free) where
-  before : ℕ
+  abbrev pub before : ℕ
   before = previous_group s.records g
 
-  after : ℕ
+  abbrev pub after : ℕ
   after = next_group s.records g
 
-  first : ℕ
+  abbrev pub first : ℕ
   first = first_link s.records node
 
-  u : State
+  pub u : State
   unfolding before after
   u = linked s node before after
 
@@ -145,15 +145,15 @@ module _ (s end : State) (node g : ℕ) (free xs : List ℕ) (can : CanDrop s no
   unfolding before first
   before_not = before_other (next_group s.records) (previous_group s.records) format.nil first xs g (nil_out (next_group s.records) first xs walked) can.chain.chain can.member
 
-  after_member : (after ≡ format.nil) ⊎ In after xs
+  pub after_member : (after ≡ format.nil) ⊎ In after xs
   unfolding after
   after_member = after_in (next_group s.records) first xs g walked can.member
 
-  before_member : (first ≡ g) ⊎ In before xs
+  pub before_member : (first ≡ g) ⊎ In before xs
   unfolding before first
   before_member = before_in (next_group s.records) (previous_group s.records) format.nil first xs g can.chain.chain can.member
 
-  before_nil : first ≡ g → before ≡ format.nil
+  pub before_nil : first ≡ g → before ≡ format.nil
   unfolding before first
   before_nil e = first_before (next_group s.records) (previous_group s.records) format.nil first xs g can.chain.chain can.member e
 
@@ -164,7 +164,7 @@ module _ (s end : State) (node g : ℕ) (free xs : List ℕ) (can : CanDrop s no
   out : (x : ℕ) → In x free → x ≢ g
   out x i e = unused_apart s.records node g x (can.unused x i) member (sym e)
 
-  has : HasGiven u.records end.records format.groups_file g free
+  pub has : HasGiven u.records end.records format.groups_file g free
   unfolding u before after
   has = gives (record {
     list = subst (λ z. IsWalk (next_free u.records 3) z free) (sym (ap (λ r. (metas.meta_of r).free) (meta_stays s node before after)))
@@ -178,7 +178,7 @@ module _ (s end : State) (node g : ℕ) (free xs : List ℕ) (can : CanDrop s no
   node_end : (m : ℕ) → first_link end.records m ≡ first_link u.records m
   node_end m = ap (λ r. field 4 r format.node_first_link) (has.others (node_key m) (λ e. let f = ap (λ (k : Key). k.file) e in absurd (omega arith)) (λ e. let f = ap (λ (k : Key). k.file) e in absurd (omega arith)))
 
-  number : (h n at : ℕ) → at + n ≤ 64 → h ≢ g → (h ≡ after → (at + n ≤ 12) ⊎ (16 ≤ at)) → (h ≡ before → (at + n ≤ 16) ⊎ (20 ≤ at)) → field n (rec_at end.records 3 h) at ≡ field n (rec_at s.records 3 h) at
+  pub number : (h n at : ℕ) → at + n ≤ 64 → h ≢ g → (h ≡ after → (at + n ≤ 12) ⊎ (16 ≤ at)) → (h ≡ before → (at + n ≤ 16) ⊎ (20 ≤ at)) → field n (rec_at end.records 3 h) at ≡ field n (rec_at s.records 3 h) at
   unfolding u
   number h n at fits ne where_after where_before = ap (λ r. field n r at) (rec_end h ne) ∙ group_stays s node before after h n at fits where_after where_before
 
@@ -186,11 +186,11 @@ module _ (s end : State) (node g : ℕ) (free xs : List ℕ) (can : CanDrop s no
   unfolding u
   mark = has.mark ∙ ap (λ r. (metas.meta_of r).high) (meta_stays s node before after)
 
-  kind_stays : (h : ℕ) → h ≢ g → kind_at end.records 3 h ≡ kind_at s.records 3 h
+  pub kind_stays : (h : ℕ) → h ≢ g → kind_at end.records 3 h ≡ kind_at s.records 3 h
   kind_stays h ne = kind_by (high end.records 3) (rec_at end.records 3 h) (rec_at s.records 3 h) h (number h 1 0 (omega arith) ne (λ _. inl (omega arith)) (λ _. inl (omega arith)))
       ∙ ap (λ m. kind_in m (rec_at s.records 3 h) h) mark
 
-  no_kind : kind_at end.records 3 g ≡ format.free_kind
+  pub no_kind : kind_at end.records 3 g ≡ format.free_kind
   no_kind = let m = mark in let lt = group_below s.records node g member in
       kind_low (high end.records 3) (rec_at end.records 3 g) g (omega arith) ∙ ap (λ r. field 1 r format.kind) has.here ∙ free_is_free (meta_in u.records format.groups_file).free
 

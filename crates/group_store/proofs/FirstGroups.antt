@@ -5,7 +5,7 @@ use Rattle.rec_bytes.specs.declared.damage.Damage.{Damage}
 use Rattle.rec_bytes.specs.declared.row_fault.RowFault.{RowFault}
 use Rattle.rec_bytes.specs.declared.row_fault.RowFault.TheVariants as row
 use Rattle.rec_bytes.specs.Format as format
-use Rattle.rec_bytes.specs.Space.{State, after_get}
+use Rattle.rec_bytes.specs.Space.{SameButReads, State, after_get}
 use Rattle.store_rules.specs.Views.{Records, first_link, high, rec_at}
 use Rattle.store_rules.proofs.NumberLaws.{lt_true}
 use Rattle.store_rules.proofs.ViewLaws.{kind_below}
@@ -55,6 +55,13 @@ load_reads s now node after = by (nat_lt node (nodes.node_mark s) && nat_lt node
     by : (b : Bool) → now ≡ cond b (after_get s) s → ReadsAtMost 1 s now
     by true e = reads_one s now e
     by false e = subst (ReadsAtMost 1 s) (sym e) (reads_none s 1)
+
+pub only_loads_node : (s now : State) (node : ℕ) → now ≡ nodes.after_load s node → SameButReads s now
+only_loads_node s now node after = by (nat_lt node (nodes.node_mark s) && nat_lt node (nodes.node_room s)) after
+  where
+    by : (b : Bool) → now ≡ cond b (after_get s) s → SameButReads s now
+    by true e = subst (SameButReads s) (sym e) refl
+    by false e = subst (SameButReads s) (sym e) refl
 
 pub node_fault : (s : State) (node : ℕ) (fault : RowFault) → nodes.IsNodeFault s node fault → IsNodeFault s node (of_row fault)
 node_fault s node row.Disk told = tt

@@ -34,10 +34,10 @@ use Rattle.group_store.specs.Walking.{group_row_at}
 all_fit : (node label next : ℕ) → node < 2 ^ 32 → label < 2 ^ 32 → next < 2 ^ 32 → AllFit (empty_fields node label next)
 all_fit node label next a b c = (omega arith, (b, (a, (omega arith, (c, (omega arith, (omega arith, (omega arith, tt))))))))
 
-kind-empty_group : (node label next : ℕ) → node < 2 ^ 32 → label < 2 ^ 32 → next < 2 ^ 32 → field 1 (empty_group node label next) format.kind ≡ format.grouped
+pub kind-empty_group : (node label next : ℕ) → node < 2 ^ 32 → label < 2 ^ 32 → next < 2 ^ 32 → field 1 (empty_group node label next) format.kind ≡ format.grouped
 kind-empty_group node label next a b c = field-with_fields 1 zeros (empty_fields node label next) format.kind format.grouped refl (all_fit node label next a b c) refl
 
-number-empty_group : (node label next at value : ℕ) → node < 2 ^ 32 → label < 2 ^ 32 → next < 2 ^ 32 → field_at (empty_fields node label next) 4 at ≡ Some value
+pub number-empty_group : (node label next at value : ℕ) → node < 2 ^ 32 → label < 2 ^ 32 → next < 2 ^ 32 → field_at (empty_fields node label next) 4 at ≡ Some value
     → field 4 (empty_group node label next) at ≡ value
 number-empty_group node label next at value a b c is = field-with_fields 4 zeros (empty_fields node label next) at value refl (all_fit node label next a b c) is
 
@@ -53,7 +53,7 @@ module _ (u : State) (node first id : ℕ) (rec : Rec) where
   b : State
   b = backed t first id
 
-  pub new : State
+  unfoldable pub new : State
   new = led u node first id rec
 
   new_is : new ≡ after_set b (node_key node) 4 format.node_first_link id

@@ -1,5 +1,7 @@
 -- Why groups are not read or changed.
 use Rattle.std.specs.Prelude.{ℕ, ◌≤◌, Result, Ok, Err, IsErrOf}
+use Rattle.chain_edit.specs.declared.chain_fault.ChainFault.{ChainFault}
+use Rattle.chain_edit.specs.declared.chain_fault.ChainFault.TheVariants as chain
 use Rattle.fault_count.specs.Cause.{Rose}
 use Rattle.id_freelist.specs.declared.take_fault.TakeFault.{TakeFault}
 use Rattle.id_freelist.specs.declared.take_fault.TakeFault.TheVariants as take
@@ -61,6 +63,11 @@ OnDamage (Err Memory) P = Unit {0}
 OnDamage (Err Disk) P = Unit {0}
 OnDamage (Err (Damaged damage)) P = P
 
--- damage as a fault of this crate
+-- a chain's fault and damage as ones of this crate
+abbrev pub of_chain : ChainFault → GroupFault
+of_chain chain.Memory = Memory
+of_chain chain.Disk = Disk
+of_chain (chain.Damaged damage) = Damaged damage
+
 abbrev pub of_damage : Damage → GroupFault
 of_damage damage = Damaged damage

@@ -1,3 +1,5 @@
+pub mod Closing
+pub mod Densing
 pub mod Dropping
 pub mod Finding
 pub mod FirstGroup
@@ -7,4 +9,8 @@ pub mod GroupRecord
 pub mod Links
 pub mod Loading
 pub mod Making
+pub mod Opening
+pub mod OwnWrites
+pub mod Sides
+pub mod Spreading
 pub mod Walking

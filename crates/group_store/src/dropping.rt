@@ -44,6 +44,7 @@ pub fn drop_if_empty<S: Space>(space: &mut S, node: u32, group: u32) -> Result<b
     ensures writes { (before after : ℕ) × WritesOnly (S.state space.old) (S.state space.new)
         (group_key after ∷ lead_key node before ∷ group_key group ∷ meta_key_of groups_file
         ∷ []) }
+    ensures shape { S.tells → (S.state space.new).shape ≡ (S.state space.old).shape }
     ensures onward { S.onward space.old space.new }
     ensures cause { HasGroupCause (S.faults space.old) (S.faults space.new) result }
 {
@@ -84,6 +85,7 @@ fn follow<S: Space>(space: &mut S, node: u32, before: u32, after: u32) -> Result
         → OnOk result (S.state space.new ≡ follows (S.state space.old) node before after) }
     ensures writes { WritesOnly (S.state space.old) (S.state space.new)
         (lead_key node before ∷ []) }
+    ensures shape { S.tells → (S.state space.new).shape ≡ (S.state space.old).shape }
     ensures onward { S.onward space.old space.new }
     ensures cause { HasCause (S.faults space.old) (S.faults space.new) result }
 {

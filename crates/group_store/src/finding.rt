@@ -1,10 +1,12 @@
-ghost use Rattle.std.specs.Prelude.{◌≡◌, ◌+◌, ℕ, List, length, IfErr, IfOk, None, ◌↔◌};
+ghost use Rattle.std.specs.Prelude.{◌≡◌, ◌+◌, ℕ, List, length, IfErr, IfOk, IfSome, None, ◌↔◌};
 ghost use Rattle.chain_edit.specs.Walking.{ReadsAtMost};
 ghost use Rattle.node_store.specs.Loading as nodes;
+ghost use Rattle.rec_bytes.specs.Key.{IsKey};
 ghost use Rattle.store_rules.specs.Views.{first_link};
 ghost use Rattle.group_store.specs.Finding.{IsFindFault, IsFound, IsSought};
 ghost use Rattle.group_store.specs.GroupChain.{IsDense, IsGroupChain, LacksGroup, up_to_type};
 ghost use Rattle.group_store.specs.GroupFault.{HasGroupCause, NotDamaged, TakesNoMemory};
+ghost use Rattle.group_store.specs.GroupRecord.{group_key};
 ghost use Rattle.group_store.specs.Loading.{group_mark};
 ghost use Rattle.group_store.specs.Walking.{IsWalkable, IsWalkFault};
 
@@ -36,6 +38,7 @@ pub fn find_group<R: Reads>(
     ensures sound { R.tells → nodes.IsReadable (R.state space.old) node → (xs : List ℕ)
         → IsWalkable (R.state space.old) node (first_link (R.state space.old).records node) xs
         → NotDamaged result }
+    ensures key { IfOk result (λ found. IfSome found (λ row. IsKey (group_key row.id))) }
     ensures no_memory { TakesNoMemory result }
     ensures onward { R.onward space.old space.new }
     ensures cause { HasGroupCause (R.faults space.old) (R.faults space.new) result }
@@ -63,6 +66,7 @@ fn seek<R: Reads>(
     ensures damaged { R.tells → IfErr result (IsWalkFault (R.state space.old) node first) }
     ensures sound { R.tells → (xs : List ℕ) → IsWalkable (R.state space.old) node first xs
         → NotDamaged result }
+    ensures key { IfOk result (λ found. IfSome found (λ row. IsKey (group_key row.id))) }
     ensures no_memory { TakesNoMemory result }
     ensures onward { R.onward space.old space.new }
     ensures cause { HasGroupCause (R.faults space.old) (R.faults space.new) result }

@@ -1,4 +1,5 @@
 use crate::GroupRow;
+use chain_edit::ChainFault;
 use id_freelist::TakeFault;
 use rec_bytes::{Damage, GROUPS, META, RowFault, SpaceFault};
 use std::alloc::AllocFailed;
@@ -45,6 +46,21 @@ impl From<RowFault> for GroupFault {
         match fault {
             RowFault::Disk => GroupFault::Disk,
             RowFault::Damaged(damage) => GroupFault::Damaged(damage),
+        }
+    }
+}
+
+impl From<ChainFault> for GroupFault {
+    ghost from_gives = { λ s r. r ≡ of_chain s };
+
+    ghost use Rattle.std.specs.Prelude.{◌≡◌};
+    ghost use Rattle.group_store.specs.GroupFault.{of_chain};
+
+    fn from(fault: ChainFault) -> GroupFault {
+        match fault {
+            ChainFault::Memory => GroupFault::Memory,
+            ChainFault::Disk => GroupFault::Disk,
+            ChainFault::Damaged(damage) => GroupFault::Damaged(damage),
         }
     }
 }

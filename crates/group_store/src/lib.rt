@@ -1,8 +1,11 @@
 //! Groups of dense nodes: the record of a group as a row of named fields, and the chain of a node's
-//! groups, of which one is found, made or dropped. A walk and a search cost a read for each group,
-//! a change at most five reads and four writes. Only a walk takes memory of its own, for its rows.
+//! groups, of which one is found, made or dropped. A walk and a search cost a read for each group, a
+//! change at most five reads and four writes. A node becomes dense at the cost of a search and two
+//! changes for each of its relationships. Only a walk takes memory of its own, for its rows.
 #![tactic(auto)]
 
+mod closing;
+mod densing;
 mod dropping;
 mod finding;
 mod group_fault;
@@ -12,14 +15,20 @@ mod links;
 mod loading;
 mod making;
 mod members;
+mod opening;
+mod side;
 mod walking;
 
+pub use closing::close_chain;
+pub use densing::make_dense;
 pub use dropping::drop_if_empty;
 pub use finding::find_group;
 pub use group_fault::GroupFault;
 pub use group_row::GroupRow;
 pub use loading::load;
 pub use making::make_group;
+pub use opening::{find_head, open_chain};
+pub use side::Side;
 pub use walking::groups;
 
 #[cfg(test)]

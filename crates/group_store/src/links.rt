@@ -39,6 +39,7 @@ pub(crate) fn test_link<R: Reads>(space: &R, link: u32, named: Damage) -> Result
 pub(crate) fn back<S: Space>(space: &mut S, id: u32, to: u32) -> Result<(), SpaceFault>
     requires { id ≢ NIL → IsKey (group_key id) }
     ensures ok { S.tells → OnOk result (S.state space.new ≡ backed (S.state space.old) id to) }
+    ensures shape { S.tells → (S.state space.new).shape ≡ (S.state space.old).shape }
     ensures writes { WritesOnly (S.state space.old) (S.state space.new) (group_key id ∷ []) }
     ensures onward { S.onward space.old space.new }
     ensures cause { HasCause (S.faults space.old) (S.faults space.new) result }

@@ -6,11 +6,12 @@ ghost use Rattle.rec_bytes.specs.Format.{groups_file};
 ghost use Rattle.rec_bytes.specs.Key.{IsKey};
 ghost use Rattle.rec_bytes.specs.RecordFiles.{meta_key_of};
 ghost use Rattle.rec_bytes.specs.Space.{HasCause, SameButReads, WritesOnly, meta_of};
-ghost use Rattle.group_store.specs.GroupChain.{IsDense};
+ghost use Rattle.group_store.specs.GroupChain.{IsDense, LacksGroup};
 ghost use Rattle.group_store.specs.GroupFault.{HasGroupCause, NotDamaged, OnDamage};
 ghost use Rattle.group_store.specs.GroupRecord.{group_key};
 ghost use Rattle.group_store.specs.Making.{CanMake, HasMade, IsMakeFault, empty_group, empty_row};
 ghost use Rattle.group_store.specs.Making.{led, made};
+ghost use Rattle.group_store.specs.Spreading.{HasOpened, KeepsBut};
 
 use crate::group_record::RANGE_RULE;
 use crate::links::{back, test_link};
@@ -37,6 +38,17 @@ pub fn make_group<S: Space>(space: &mut S, node: u32, label: u32) -> Result<Grou
         → (meta_of (S.state space.old) groups_file).live ≢ room (S.state space.old) groups_file
         → NotDamaged result }
     ensures unwritten { OnDamage result (SameButReads (S.state space.old) (S.state space.new)) }
+    ensures key { IfOk result (λ row. IsKey (group_key row.id)) }
+    ensures rules { S.tells → IfOk result (λ row. (rest : List ℕ) (most : ℕ) (empty : List ℕ)
+        → KeepsBut (S.state space.old).records (S.state space.old).shape node rest most empty
+        → IsDense (S.state space.old).records node
+        → LacksGroup (S.state space.old).records node label
+        → KeepsBut (S.state space.new).records (S.state space.new).shape node rest most
+        (row.id ∷ empty) × HasOpened (S.state space.old) (S.state space.new) node label row.id) }
+    ensures shape { S.tells → (S.state space.new).shape ≡ (S.state space.old).shape }
+    ensures wrote { IfOk result (λ row. (first : ℕ) × WritesOnly (S.state space.old)
+        (S.state space.new) (group_key row.id ∷ group_key first ∷ node_key node
+        ∷ meta_key_of groups_file ∷ [])) }
     ensures writes { (first id : ℕ) × WritesOnly (S.state space.old) (S.state space.new)
         (group_key first ∷ group_key id ∷ node_key node ∷ meta_key_of groups_file ∷ []) }
     ensures onward { S.onward space.old space.new }
@@ -64,6 +76,7 @@ fn lead<S: Space>(space: &mut S, node: u32, first: u32, id: u32, rec: Rec) -> Re
     requires id { IsKey (group_key id) }
     ensures ok { S.tells
         → OnOk result (S.state space.new ≡ led (S.state space.old) node first id rec) }
+    ensures shape { S.tells → (S.state space.new).shape ≡ (S.state space.old).shape }
     ensures writes { WritesOnly (S.state space.old) (S.state space.new)
         (group_key id ∷ group_key first ∷ node_key node ∷ []) }
     ensures onward { S.onward space.old space.new }

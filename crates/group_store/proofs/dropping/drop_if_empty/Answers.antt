@@ -1,3 +1,4 @@
+use Rattle.rec_bytes.specs.Space.{State}
 use Rattle.std.proofs.Common.{true, false, ap, ◌∙◌, sym}
 use Rattle.std.specs.Prelude.{not}
 use Rattle.std.proofs.lemmas.Bool.{false≢true, true≢false}
@@ -8,6 +9,7 @@ use Rattle.group_store.specs.Dropping.{lead_key}
 use Rattle.group_store.specs.Dropping.IsDropDamage.{BadNext, BadPrevious}
 use Rattle.group_store.specs.GroupChain.{next_group, previous_group}
 use Rattle.group_store.specs.GroupRecord.{group_key, range_damage}
+use Rattle.group_store.proofs.ChainHeads.{only_read}
 use Rattle.group_store.proofs.DropSteps.{is_undamaged, right_next, right_previous, back_writes, dropped_has, dropped_is, filled_is, follow_writes, give_writes, link_read, member_told, number_read, same_one}
 use Rattle.group_store.proofs.GroupWalks.{not_damaged_at}
 use Rattle.group_store.proofs.MakeSteps.{on_damage, same_read, same_writes}
@@ -150,3 +152,6 @@ returns-in_err-test_link-2-clause-sound g c = λ tells xs on.
     let after = number_read s.records c.args.group group_next c.number-after.result c.in_ok-rec.rec (c.in_ok-rec.ensures.got tells) c.number-after.ensures in
     let is_ok = c.in_err-test_link-2.ensures.sound (right_next s (g.S.Reads.state c.read_member.new.space) c.args.node c.args.group c.number-after.result xs c.in_ok-rec.ensures.read after on) in
     absurd (false≢true is_ok)
+
+pub returns-in_err-rec-clause-shape : goal.returns-in_err-rec-clause-shape
+returns-in_err-rec-clause-shape g c = λ tells. ap (λ (z : State). z.shape) (only_read (g.S.Reads.state c.args.space.now) (g.S.Reads.state c.read_member.new.space) 1 c.read_member.ensures.at_most)

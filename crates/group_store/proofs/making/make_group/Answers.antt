@@ -1,17 +1,19 @@
-use Rattle.std.proofs.Common.{◌≡◌, sym, subst, arith}
-use Rattle.std.specs.Prelude.{IfSome, Option, ℕ}
+use Rattle.std.proofs.Common.{◌≡◌, ap, sym, subst, arith}
+use Rattle.std.specs.Prelude.{IfSome, Option, ℕ, ◌∷◌, []}
+use Rattle.group_store.specs.declared.group_row.GroupRow.{GroupRow}
 use Rattle.std.proofs.lemmas.Bool.{false≢true}
 use Rattle.std.proofs.lemmas.Result.{err_from_is_err_and}
 use Rattle.node_store.specs.NodeRecord.{node_key}
 use Rattle.rec_bytes.specs.Format.{groups_file}
 use Rattle.rec_bytes.specs.RecordFiles.{meta_key_of}
-use Rattle.rec_bytes.specs.Space.{after_get}
 use Rattle.store_rules.specs.Views.{first_link}
 use Rattle.group_store.specs.FirstGroup.{IsFirst}
 use Rattle.group_store.specs.GroupRecord.{group_key}
 use Rattle.group_store.specs.Making.{IsMakeDamage, link_damage}
 use Rattle.group_store.specs.Making.IsMakeDamage.{NotDense, BadLink}
 use Rattle.group_store.proofs.MakeSteps.{all_writes, link_told, made_has, made_is, node_told, on_damage, right_first, same_read, same_then, same_writes, take_told}
+use Rattle.group_store.proofs.MadeRules.{made_shape, rules_made}
+use Rattle.rec_bytes.specs.Space.{State, WritesOnly, after_get}
 use Rattle.group_store.proofs.making.make_group.Goals as goal
 
 pub returns-in_err-first-clause-damaged : goal.returns-in_err-first-clause-damaged
@@ -125,3 +127,46 @@ returns-clause-made g c = λ tells free xs can.
     made_has s now (g.S.Reads.state c.take.new.space) (g.S.Reads.state c.lead.new.space) c.args.node c.args.label c.in-Some.first c.in_ok-id.id c.empty_group.result c.empty_row.result free xs
     read (c.in_ok-id.ensures.taken tells free) (c.in_ok-id.ensures.fresh tells) first.1 c.empty_group.ensures (c.in_ok-lead.ensures.ok tells) c.empty_row.ensures
     (omega (arith, c.in_ok-id.ensures.key.id)) (omega (arith, c.ranges.node.fits)) (omega (arith, c.ranges.label.fits)) can
+
+pub returns-clause-wrote : goal.returns-clause-wrote
+returns-clause-wrote g c =
+    let s = g.S.Reads.state c.args.space.now in
+    let now = g.S.Reads.state c.first_group.new.space in
+    let id : c.in_ok-id.id ≡ c.empty_row.result.id = sym (ap (λ (r : GroupRow). r.id) c.empty_row.ensures) in (
+      c.in-Some.first,
+      subst (λ k. WritesOnly s (g.S.Reads.state c.lead.new.space) (group_key k ∷ group_key c.in-Some.first ∷ node_key c.args.node ∷ meta_key_of groups_file ∷ [])) id
+          (all_writes s now (g.S.Reads.state c.take.new.space) (g.S.Reads.state c.lead.new.space) (group_key c.in_ok-id.id) (group_key c.in-Some.first) (node_key c.args.node) (meta_key_of groups_file)
+          (same_read 1 s now c.in_ok-first.ensures.at_most) c.in_ok-id.ensures.writes c.in_ok-lead.ensures.writes),
+    )
+
+pub returns-in_err-first-clause-shape : goal.returns-in_err-first-clause-shape
+returns-in_err-first-clause-shape g c = λ _.
+    ap (λ (t : State). t.shape) (same_read 1 (g.S.Reads.state c.args.space.now) (g.S.Reads.state c.first_group.new.space) c.in_err-first.ensures.at_most)
+
+pub returns-in_default-clause-shape : goal.returns-in_default-clause-shape
+returns-in_default-clause-shape g c = λ _.
+    ap (λ (t : State). t.shape) (same_read 1 (g.S.Reads.state c.args.space.now) (g.S.Reads.state c.first_group.new.space) c.in_ok-first.ensures.at_most)
+
+pub returns-in_err-lead-clause-shape : goal.returns-in_err-lead-clause-shape
+returns-in_err-lead-clause-shape g c = λ tells.
+    let s = g.S.Reads.state c.args.space.now in
+    let now = g.S.Reads.state c.first_group.new.space in
+    made_shape s now (g.S.Reads.state c.take.new.space) (g.S.Reads.state c.lead.new.space)
+    (ap (λ (t : State). t.shape) (same_read 1 s now c.in_ok-first.ensures.at_most)) (c.in_ok-id.ensures.ok tells) (c.in_err-lead.ensures.shape tells)
+
+pub returns-clause-shape : goal.returns-clause-shape
+returns-clause-shape g c = λ tells.
+    let s = g.S.Reads.state c.args.space.now in
+    let now = g.S.Reads.state c.first_group.new.space in
+    made_shape s now (g.S.Reads.state c.take.new.space) (g.S.Reads.state c.lead.new.space)
+    (ap (λ (t : State). t.shape) (same_read 1 s now c.in_ok-first.ensures.at_most)) (c.in_ok-id.ensures.ok tells) (c.in_ok-lead.ensures.shape tells)
+
+pub returns-clause-rules : goal.returns-clause-rules
+returns-clause-rules g c = λ tells rest most empty keeps dense lacks.
+    let s = g.S.Reads.state c.args.space.now in
+    let now = g.S.Reads.state c.first_group.new.space in
+    let read : now ≡ after_get s = subst (λ (first : Option ℕ). IfSome first (λ _. now ≡ after_get s)) c.in-Some.is (c.in_ok-first.ensures.read tells) in
+    let first = subst (IsFirst s.records c.args.node) c.in-Some.is (c.in_ok-first.ensures.first tells) in
+    rules_made s now (g.S.Reads.state c.take.new.space) (g.S.Reads.state c.lead.new.space) c.args.node c.args.label c.in-Some.first c.in_ok-id.id c.empty_group.result c.empty_row.result
+    read (λ free. c.in_ok-id.ensures.taken tells free) (c.in_ok-id.ensures.fresh tells) c.in_ok-id.ensures.small (c.in_ok-id.ensures.ok tells) first.1 c.empty_group.ensures (c.in_ok-lead.ensures.ok tells) c.empty_row.ensures
+    (omega (arith, c.ranges.node.fits)) (omega (arith, c.ranges.label.fits)) rest most empty keeps dense lacks

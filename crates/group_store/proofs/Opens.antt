@@ -1,0 +1,177 @@
+-- The head that a new relationship comes to: what opening it leaves of the store.
+use Rattle.std.proofs.Common.{◌≡◌, ◌≢◌, ℕ, ◌+◌, ◌*◌, ◌≤◌, ◌<◌, true, List, [], ◌∷◌, length, refl, sym, ap, ◌∙◌, subst, arith}
+use Rattle.std.proofs.lemmas.Bool.Decides.{nat_tests}
+use Rattle.rec_bytes.specs.declared.key.Key.{Key}
+use Rattle.rec_bytes.specs.declared.meta.Meta.{Meta}
+use Rattle.rec_bytes.specs.declared.shape.Shape.{Shape}
+use Rattle.rec_bytes.specs.Format as format
+use Rattle.rec_bytes.specs.RecordFiles.{room_of}
+use Rattle.rec_bytes.specs.Shape.{is_allowed}
+use Rattle.rec_bytes.specs.Space.{SameButReads, State, meta_of}
+use Rattle.store_rules.specs.Ends.{Regroups}
+use Rattle.store_rules.specs.Rules.{Head, KeepsRules, node_head}
+use Rattle.store_rules.specs.Views.{GroupRow, Records, RelRow, degree, group_at, group_in, kind_at, rec_at, rel_at}
+use Rattle.store_rules.specs.Writes.{WritesBeside}
+use Rattle.store_rules.proofs.NumberLaws.{eq_true}
+use Rattle.store_rules.proofs.ViewLaws.{some_row}
+use Rattle.store_rules.proofs.WriteLaws.{beside_more, beside_then, none_beside}
+use Rattle.group_store.specs.declared.side.Side.{Side}
+use Rattle.group_store.specs.Densing.{BecomesDense, CanBecomeDense, HasDenseRoom}
+use Rattle.node_store.specs.NodeRecord.{node_key}
+use Rattle.group_store.specs.GroupChain.{IsDense, IsGroupOf}
+use Rattle.group_store.specs.Opening.{CanOpen, CanOpenGroup, HasGroupRoom, OpensChain, WritesOpened, dense_writes, moved_writes}
+use Rattle.group_store.specs.Sides.{group_head}
+use Rattle.group_store.specs.Spreading.{HasOpened, KeepsBut, StandsBut}
+use Rattle.group_store.proofs.ChainHeads.{at_group, at_node, sparse_unless}
+use Rattle.group_store.proofs.GroupCounts.{few_groups}
+use Rattle.group_store.proofs.GroupRules.{group_of_row}
+use Rattle.group_store.proofs.GroupWrites.{opened_more, opened_then}
+use Rattle.group_store.proofs.Regrouping.{regroups_both, regroups_read}
+
+-- ---- no relationship is apart
+
+pub all_but : (s : Records) (shape : Shape) (node most : ℕ) (empty : List ℕ) → KeepsRules s shape most empty → KeepsBut s shape node [] most empty
+all_but s shape node most empty well = record {
+  others = record { ranges = well.ranges; split = well.split; kept = well.kept; properties = well.properties; named = well.named; names = well.names; degrees = well.degrees };
+  linked = record {
+    ends = well.linked.ends;
+    typed = λ x n row live end dense out. well.linked.typed x n row live end dense;
+    listed = record {
+      each = λ h n o. let l = well.linked.listed.each h n o in record { members = l.members; chain = l.chain; only = λ x i. record { stands = l.only x i; apart = λ k i. i }; all = λ x (a : StandsBut (rel_at s) (group_at s) node [] h x). l.all x a.stands };
+    };
+  };
+  grouped = well.grouped;
+}
+
+pub but_all : (s : Records) (shape : Shape) (node most : ℕ) (empty : List ℕ) → KeepsBut s shape node [] most empty → KeepsRules s shape most empty
+but_all s shape node most empty well = record {
+  ranges = well.others.ranges;
+  split = well.others.split;
+  kept = well.others.kept;
+  linked = record {
+    ends = well.linked.ends;
+    typed = λ x n row live end dense. well.linked.typed x n row live end dense (λ e i. i);
+    listed = record {
+      each = λ h n o. let l = well.linked.listed.each h n o in record { members = l.members; chain = l.chain; only = λ x i. (l.only x i).stands; all = λ x a. l.all x (record { stands = a; apart = λ k i. i }) };
+    };
+  };
+  grouped = well.grouped;
+  properties = well.others.properties;
+  named = well.others.named;
+  names = well.others.names;
+  degrees = well.others.degrees;
+}
+
+-- a store with room has a free identifier for a group
+pub not_full : (s : State) (node most : ℕ) (empty : List ℕ) → KeepsRules s.records s.shape most empty → HasGroupRoom s empty → (meta_of s format.groups_file).live ≢ room_of s.shape format.groups_file
+not_full s node most empty well room e = let f = few_groups s.records s.shape node [] most empty (all_but s.records s.shape node most empty well) in omega (arith, room, f, e)
+
+-- ---- a group that was opened
+
+module _ (s t : State) (node label g : ℕ) (side : Side) (row : RelRow) (empty : List ℕ) (can : CanOpenGroup s node label side row empty)
+    (keeps : KeepsBut t.records t.shape node [] s.shape.threshold (g ∷ empty)) (opened : HasOpened s t node label g) where
+  well : KeepsRules t.records t.shape s.shape.threshold (g ∷ empty)
+  well = but_all t.records t.shape node s.shape.threshold (g ∷ empty) keeps
+
+  row_is : group_in (rec_at t.records format.groups_file g) g ≡ record { id = g; label = label; owner = node }
+  row_is = (some_row (kind_at t.records format.groups_file g) (group_in (rec_at t.records format.groups_file g) g) (record { id = g; label = label; owner = node }) opened.group).1
+
+  member : IsGroupOf t.records node g
+  member = group_of_row t.records t.shape node g (record { id = g; label = label; owner = node }) well.ranges opened.group refl
+
+  dense_now : kind_at t.records format.nodes_file node ≡ format.dense
+  dense_now = well.grouped.owned g (record { id = g; label = label; owner = node }) opened.group
+
+  pub opens_group : OpensChain s t (group_head g side) node row empty
+  opens_group = record {
+    keeps = subst (λ (q : Shape). KeepsRules t.records t.shape q.threshold (g ∷ empty)) (sym opened.regroups.shape) well;
+    stands = at_group t.records t.shape well node g label side row member (ap (λ (r : GroupRow). r.label) row_is) can.at;
+    few = λ sparse. let k = sym dense_now ∙ sparse in absurd (omega arith);
+    regroups = opened.regroups;
+  }
+
+-- ---- a node whose head is opened
+
+module _ (s z : State) (same : SameButReads s z) (node degree_is label : ℕ) (side : Side) (row : RelRow) (empty : List ℕ) (can : CanOpen s node degree_is label side row empty) where
+  pub group_can : IsDense s.records node → CanOpenGroup z node label side row empty
+  group_can dense = subst (λ (q : State). CanOpenGroup q node label side row empty) (sym same) (record { keeps = can.keeps; dense = dense; named = can.named; at = can.at })
+
+  pub room_same : HasGroupRoom s empty → HasGroupRoom z empty
+  room_same room = subst (λ (q : State). HasGroupRoom q empty) (sym same) room
+
+  pub then_opens : (t : State) (h : Head) → OpensChain z t h node row empty → OpensChain s t h node row empty
+  then_opens t h o = record { keeps = o.keeps; stands = o.stands; few = o.few; regroups = regroups_both s z t node (subst (λ (q : State). Regroups s q node) (sym same) (regroups_read s z.reads node)) o.regroups }
+
+  module _ (thin : ¬ IsDense s.records node) where
+    sparse : kind_at s.records format.nodes_file node ≡ format.sparse
+    sparse = sparse_unless s.records s.shape node can.keeps.ranges can.used thin
+
+    pub opens_node : degree_is ≢ s.shape.threshold → OpensChain s z (node_head node) node row empty
+    opens_node ne = subst (λ (q : State). OpensChain s q (node_head node) node row empty) (sym same) (record {
+      keeps = can.keeps;
+      stands = at_node s.records s.shape can.keeps node can.used thin row can.at.end;
+      few = λ _. let f = can.keeps.degrees.few node sparse in let e = can.counted in omega arith;
+      regroups = regroups_read s z.reads node;
+    })
+
+    pub dense_can : CanBecomeDense z node s.shape.threshold empty
+    dense_can = subst (λ (q : State). CanBecomeDense q node s.shape.threshold empty) (sym same) (record { keeps = can.keeps; sparse = sparse })
+
+    pub dense_room : HasGroupRoom s empty → HasDenseRoom z node empty
+    dense_room room = subst (λ (q : State). HasDenseRoom q node empty) (sym same) (record { few = can.keeps.degrees.few node sparse; room = omega (arith, room) })
+
+  -- after it became dense
+  module _ (u : State) (becomes : BecomesDense z u node s.shape.threshold empty) where
+    shape_u : u.shape ≡ s.shape
+    shape_u = becomes.regroups.shape ∙ ap (λ (q : State). q.shape) same
+
+    meta_u : (f : ℕ) → f ≢ format.groups_file → meta_of u f ≡ meta_of s f
+    meta_u f ne = becomes.regroups.metas f ne ∙ ap (λ (q : State). meta_of q f) same
+
+    pub dense_group_can : CanOpenGroup u node label side row empty
+    dense_group_can = record {
+      keeps = subst (λ (q : Shape). KeepsRules u.records u.shape q.threshold empty) (sym shape_u) becomes.keeps;
+      dense = becomes.dense;
+      named = subst (λ (m : Meta). label < m.high) (sym (meta_u format.names_file (λ e. omega arith))) can.named;
+      at = can.at;
+    }
+
+    pub dense_group_room : HasGroupRoom s empty → HasGroupRoom u empty
+    dense_group_room room = subst (λ (m : Meta). 2 * m.live + length empty < room_of u.shape format.groups_file) (sym (meta_u format.relationships_file (λ e. omega arith)))
+        (subst (λ (q : Shape). 2 * (meta_of s format.relationships_file).live + length empty < room_of q format.groups_file) (sym shape_u) room)
+
+    pub dense_opens : (t : State) (h : Head) → OpensChain u t h node row empty → OpensChain s t h node row empty
+    dense_opens t h o = then_opens t h (record { keeps = o.keeps; stands = o.stands; few = o.few; regroups = regroups_both z u t node becomes.regroups o.regroups })
+
+-- ---- what is written
+
+most_threshold : (shape : Shape) → is_allowed shape ≡ true → shape.threshold ≤ 200
+most_threshold shape allowed = grind (arith, nat_tests)
+
+module _ (s z t : State) (node degree_is : ℕ) (same : SameButReads s z) where
+  -- a group in a node that was dense
+  pub group_opened : (head : Key) → WritesOpened z t node head 1 → WritesOpened s t node head (dense_writes s.shape.threshold degree_is + 1)
+  group_opened head w = opened_more (omega arith) (opened_then s z t node head (none_beside (node_key node) s z same) w)
+
+  -- relationships that came into groups
+  module _ (u : State) (e : degree_is ≡ s.shape.threshold) (w : WritesBeside (node_key node) (4 * z.shape.threshold) z u) where
+    count : dense_writes s.shape.threshold degree_is ≡ 4 * s.shape.threshold
+    count = rw (eq_true degree_is s.shape.threshold e) refl
+
+    pub dense_beside : (more : ℕ) → more ≤ 2 → WritesBeside (node_key node) more u t → WritesBeside (node_key node) (dense_writes s.shape.threshold degree_is + 2) s t
+    dense_beside more le v = beside_more (let k = ap (λ (q : State). q.shape.threshold) same in let c = count in omega arith) (beside_then (none_beside (node_key node) s z same) (beside_then w v))
+
+    pub dense_opened : (head : Key) → WritesOpened u t node head 1 → WritesOpened s t node head (dense_writes s.shape.threshold degree_is + 1)
+    dense_opened head v = opened_more (let k = ap (λ (q : State). q.shape.threshold) same in let c = count in omega arith) (opened_then s z t node head (none_beside (node_key node) s z same) (opened_then z u t node head w v))
+
+-- where the store keeps the rules
+pub moved_opened : (s z u t : State) (node degree_is : ℕ) (head : Key) → SameButReads s z → degree_is ≡ s.shape.threshold → degree s.records node ≡ degree_is → WritesBeside (node_key node) (2 * degree z.records node) z u → WritesOpened u t node head 1
+    → WritesOpened s t node head (moved_writes s.shape.threshold degree_is + 1)
+moved_opened s z u t node degree_is head same e counted w v =
+    let count : moved_writes s.shape.threshold degree_is ≡ 2 * s.shape.threshold = rw (eq_true degree_is s.shape.threshold e) refl in
+    let k : degree z.records node ≡ degree s.records node = ap (λ (q : State). degree q.records node) same in
+    opened_more (omega arith) (opened_then s z t node head (none_beside (node_key node) s z same) (opened_then z u t node head w v))
+
+-- no store has a greater threshold
+pub few_beside : (s z u t : State) (key : Key) → SameButReads s z → is_allowed z.shape ≡ true → WritesBeside key (4 * z.shape.threshold) z u → (more : ℕ) → more ≤ 2 → WritesBeside key more u t → WritesBeside key 802 s t
+few_beside s z u t key same allowed w more le v = beside_more (let k = most_threshold z.shape allowed in omega arith) (beside_then (none_beside key s z same) (beside_then w v))

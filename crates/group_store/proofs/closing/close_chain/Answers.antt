@@ -1,0 +1,37 @@
+use Rattle.std.proofs.Common.{ℕ, Bool, [], ◌∷◌, sym, subst}
+use Rattle.std.proofs.lemmas.Result.{err_from_is_err_and}
+use Rattle.rec_bytes.specs.Format as format
+use Rattle.rec_bytes.specs.RecordFiles.{meta_key_of}
+use Rattle.rec_bytes.specs.Space.{WritesOnly}
+use Rattle.store_rules.specs.Views.{key_in}
+use Rattle.group_store.specs.Dropping.{lead_key}
+use Rattle.group_store.specs.GroupRecord.{group_key}
+use Rattle.group_store.proofs.Closings.{closable, closed_by}
+use Rattle.group_store.proofs.Openings.{handed}
+use Rattle.group_store.proofs.closing.close_chain.Goals as goal
+use Rattle.group_store.proofs.closing.close_chain.Goals.{After-drop_if_empty}
+use Rattle.group_store.proofs.closing.close_chain.Given.{Over}
+
+pub returns-in_err-drop_if_empty-clause-sound : goal.returns-in_err-drop_if_empty-clause-sound
+returns-in_err-drop_if_empty-clause-sound g c = λ tells most empty can.
+    let s = g.S.Reads.state c.args.space.now in
+    let p = err_from_is_err_and c.from_residual.result c.from_residual.ensures.1 in
+    let on = closable s c.args.head.key.file c.args.head.key.id c.args.head.field c.args.node most empty c.if-head-eq-GROUPS.true can in
+    rw (p.1, p.2) (handed Bool Unit c.in_err-drop_if_empty.field-0.0 (c.in_err-drop_if_empty.ensures.sound tells on.0 on.1))
+
+-- the group's key is that of the head
+written : (g : Over) (c : After-drop_if_empty g) → (before after : ℕ) × WritesOnly (g.S.Reads.state c.args.space.now) (g.S.Reads.state c.drop_if_empty.new.space) (group_key after ∷ lead_key c.args.node before ∷ c.args.head.key ∷ meta_key_of format.groups_file ∷ [])
+written g c =
+    let w = c.drop_if_empty.ensures.writes in
+    (w.0, w.1, subst (λ f. WritesOnly (g.S.Reads.state c.args.space.now) (g.S.Reads.state c.drop_if_empty.new.space) (group_key w.1 ∷ lead_key c.args.node w.0 ∷ key_in f c.args.head.key.id ∷ meta_key_of format.groups_file ∷ [])) (sym c.if-head-eq-GROUPS.true) w.2)
+
+pub returns-in_err-drop_if_empty-clause-writes : goal.returns-in_err-drop_if_empty-clause-writes
+returns-in_err-drop_if_empty-clause-writes g c = written g (goal.at.returns-in_err-drop_if_empty-clause-writes g c).After-drop_if_empty
+
+pub returns-in_ok-drop_if_empty-clause-closed : goal.returns-in_ok-drop_if_empty-clause-closed
+returns-in_ok-drop_if_empty-clause-closed g c = λ tells most empty can.
+    closed_by (g.S.Reads.state c.args.space.now) c.args.head.key.file c.args.head.key.id c.args.head.field c.args.node most empty c.if-head-eq-GROUPS.true can (g.S.Reads.state c.drop_if_empty.new.space)
+    c.in_ok-drop_if_empty.field-0 (c.in_ok-drop_if_empty.ensures.is tells) c.in_ok-drop_if_empty.ensures.kept (c.in_ok-drop_if_empty.ensures.ok tells) (c.in_ok-drop_if_empty.ensures.shape tells)
+
+pub returns-in_ok-drop_if_empty-clause-writes : goal.returns-in_ok-drop_if_empty-clause-writes
+returns-in_ok-drop_if_empty-clause-writes g c = written g (goal.at.returns-in_ok-drop_if_empty-clause-writes g c).After-drop_if_empty

@@ -1,0 +1,26 @@
+-- A sparse node that becomes dense: its relationships come into groups.
+use Rattle.std.specs.Prelude.{◌≡◌, ℕ, ◌+◌, ◌*◌, ◌≤◌, List, length}
+use Rattle.rec_bytes.specs.Format as format
+use Rattle.rec_bytes.specs.RecordFiles.{room_of}
+use Rattle.rec_bytes.specs.Space.{State, meta_of}
+use Rattle.store_rules.specs.Ends.{Regroups}
+use Rattle.store_rules.specs.Rules.{KeepsRules}
+use Rattle.store_rules.specs.Views.{degree, kind_at}
+
+-- The node is sparse, in a store that keeps the rules, but that these groups may be empty.
+pub record CanBecomeDense (s : State) (node most : ℕ) (empty : List ℕ) : Type 0 where
+  pub keeps : KeepsRules s.records s.shape most empty
+  pub sparse : kind_at s.records format.nodes_file node ≡ format.sparse
+
+-- The node is dense, and the store keeps the rules as it did.
+pub record BecomesDense (s t : State) (node most : ℕ) (empty : List ℕ) : Type 0 where
+  pub keeps : KeepsRules t.records t.shape most empty
+  pub dense : kind_at t.records format.nodes_file node ≡ format.dense
+  pub regroups : Regroups s t node
+
+-- The node has at most as many relationships as a sparse one may have, and the file of groups has
+-- room for one at each end of each relationship besides those that are empty.
+pub record HasDenseRoom (s : State) (node : ℕ) (empty : List ℕ) : Type 0 where
+  pub few : degree s.records node ≤ s.shape.threshold
+  pub room : 2 * (meta_of s format.relationships_file).live + length empty
+      ≤ room_of s.shape format.groups_file

@@ -1,0 +1,105 @@
+-- A store in which one node's relationships are on their way into its groups.
+use Rattle.std.specs.Prelude.{◌≡◌, ℕ, ◌+◌, ◌*◌, ◌≤◌, true, false, Option}
+use Rattle.std.specs.Prelude.{Some, List, length}
+use Rattle.chain_edit.specs.Chains.{next_of}
+use Rattle.node_store.specs.NodeRecord.{node_key}
+use Rattle.rec_bytes.specs.declared.damage.Damage.{Damage}
+use Rattle.rec_bytes.specs.declared.shape.Shape.{Shape}
+use Rattle.rec_bytes.specs.Format as format
+use Rattle.rec_bytes.specs.Record.{with_field}
+use Rattle.rec_bytes.specs.RecordFiles.{is_meta_file, room_of}
+use Rattle.rec_bytes.specs.Space.{State, after_get, after_put, meta_of}
+use Rattle.store_rules.specs.Chains.{In, IsWalk}
+use Rattle.store_rules.specs.Ends.{Regroups}
+use Rattle.store_rules.specs.Ranges.{AreInRange, is_reused}
+use Rattle.store_rules.specs.Rules.{AllListed, AreAllLive, AreCounted, AreNamed, AreNames, HasEnds}
+use Rattle.store_rules.specs.Rules.{HasGroup, HaveProperties, Head, IsEnd, IsGrouped, IsSplit, Owns}
+use Rattle.store_rules.specs.Rules.{StandsAt, property_files}
+use Rattle.store_rules.specs.Views.{GroupRow, Records, RelRow, degree, first_link, group_at, high}
+use Rattle.store_rules.specs.Views.{is_live, kind_at, node_at, rec_at, rel_at}
+
+-- ---- the rules, but that some relationships are in none of the node's groups
+
+-- all rules but the third and the fourth
+pub record KeepsOthers (records : Records) (shape : Shape) (most : ℕ) : Type 0 where
+  pub ranges : AreInRange records shape
+  pub split : (file : ℕ) → is_reused file ≡ true
+      → (free : List ℕ) × IsSplit records file (is_live records file) free
+  pub kept : (file : ℕ) → is_meta_file file ≡ true → is_reused file ≡ false
+      → AreAllLive records file
+  pub properties : HaveProperties (property_files records) (node_at records) (rel_at records)
+      (high records format.names_file)
+  pub named : AreNamed (node_at records) (rel_at records) (high records format.names_file)
+  pub names : AreNames (rec_at records format.names_file) (high records format.names_file)
+  pub degrees : AreCounted (kind_at records format.nodes_file) (degree records) (rel_at records)
+      (high records format.relationships_file) most
+
+-- the head is that of a chain of one of the node's groups
+pub record IsHeadOf (groups : ℕ → Option GroupRow) (node : ℕ) (h : Head) : Type 0 where
+  pub file : h.key.file ≡ format.groups_file
+  pub row : GroupRow
+  pub group : groups h.key.id ≡ Some row
+  pub owner : row.owner ≡ node
+
+-- a relationship in use that stands at the head, unless it is one of these and the head the node's
+pub record StandsBut (rels : ℕ → Option RelRow) (groups : ℕ → Option GroupRow) (node : ℕ)
+    (rest : List ℕ) (h : Head) (x : ℕ) : Type 0 where
+  pub stands : StandsAt rels groups h x
+  pub apart : IsHeadOf groups node h → ¬ In x rest
+
+-- the third rule, but that these relationships are in none of the node's groups
+pub record IsLinkedBut (records : Records) (kind : ℕ → ℕ) (rels : ℕ → Option RelRow)
+    (groups : ℕ → Option GroupRow) (node : ℕ) (rest : List ℕ) : Type 0 where
+  pub ends : (x : ℕ) (row : RelRow) → rels x ≡ Some row → HasEnds kind row
+  pub typed : (x n : ℕ) (row : RelRow) → rels x ≡ Some row → IsEnd n row → kind n ≡ format.dense
+      → (n ≡ node → ¬ In x rest) → HasGroup groups n row.label
+  pub listed : AllListed records (Owns kind groups) (StandsBut rels groups node rest)
+
+-- The rules of a store of this shape, but that these relationships are in none of the node's
+-- groups. So many relationships a sparse node may have, and these groups may be empty.
+pub record KeepsBut (records : Records) (shape : Shape) (node : ℕ) (rest : List ℕ) (most : ℕ)
+    (empty : List ℕ) : Type 0 where
+  pub others : KeepsOthers records shape most
+  pub linked : IsLinkedBut records (kind_at records format.nodes_file) (rel_at records)
+      (group_at records) node rest
+  pub grouped : IsGrouped (kind_at records format.nodes_file) (first_link records)
+      (rec_at records format.groups_file) (group_at records) empty
+
+-- ---- a group that is found or made
+
+-- The node has the group of the type, and nothing but its groups changed.
+pub record HasOpened (s t : State) (node label id : ℕ) : Type 0 where
+  pub group : group_at t.records id ≡ Some (record { id = id; label = label; owner = node })
+  pub dense : kind_at t.records format.nodes_file node ≡ format.dense
+  pub regroups : Regroups s t node
+  pub rels : (x : ℕ) → rec_at t.records format.relationships_file x
+      ≡ rec_at s.records format.relationships_file x
+
+-- ---- a relationship that comes into its group
+
+-- The node is dense, and these are its relationships that are in no group of it. Its links lead
+-- through them from this one on.
+pub record IsSpread (s : State) (node at : ℕ) (rest : List ℕ) (most : ℕ) (empty : List ℕ)
+    : Type 0 where
+  pub keeps : KeepsBut s.records s.shape node rest most empty
+  pub dense : kind_at s.records format.nodes_file node ≡ format.dense
+  pub walk : IsWalk (next_of s.records node) at rest
+  pub ends : (x : ℕ) → In x rest
+      → (row : RelRow) × (rel_at s.records x ≡ Some row) × IsEnd node row
+
+-- the file of groups has room for one at each end of each relationship besides those that are empty
+abbrev pub HasEndRoom : State → List ℕ → Type 0
+HasEndRoom s empty =
+    2 * (meta_of s format.relationships_file).live + length empty
+    ≤ room_of s.shape format.groups_file
+
+-- after a node became dense and has no group
+abbrev pub cleared : State → ℕ → State
+cleared s node =
+    let rec = s.records (node_key node) in
+    after_put (after_get s) (node_key node)
+    (with_field 4 (with_field 1 rec format.kind format.dense) format.node_first_link format.nil)
+
+-- the relationships of the node break the third rule
+abbrev pub rels_damage : ℕ → Damage
+rels_damage node = record { file = format.nodes_file; id = node; rule = 3 }

@@ -1,0 +1,190 @@
+ghost use Rattle.std.specs.Prelude.{◌≡◌, ◌≢◌, ◌∷◌, [], ◌*◌, ℕ, List, IfOk, OnOk};
+ghost use Rattle.node_store.specs.NodeRecord.{node_key};
+ghost use Rattle.rec_bytes.specs.Key.{IsKey};
+ghost use Rattle.rec_bytes.specs.RecordFiles.{meta_key_of};
+ghost use Rattle.rec_bytes.specs.Format.{groups_file};
+ghost use Rattle.id_freelist.specs.Taking.{room};
+ghost use Rattle.rec_bytes.specs.Space.{HasCause, WritesOnly, meta_of};
+ghost use Rattle.rel_store.specs.RelRecord.{rel_key};
+ghost use Rattle.store_rules.specs.Ends.{Regroups};
+ghost use Rattle.store_rules.specs.Views.{degree};
+ghost use Rattle.store_rules.specs.Writes.{WritesBeside};
+ghost use Rattle.chain_edit.specs.Links.{prev_set};
+ghost use Rattle.group_store.specs.Densing.{BecomesDense, CanBecomeDense, HasDenseRoom};
+ghost use Rattle.group_store.specs.GroupChain.{IsDense};
+ghost use Rattle.group_store.specs.GroupFault.{HasGroupCause, NotDamaged};
+ghost use Rattle.group_store.specs.GroupRecord.{group_key};
+ghost use Rattle.group_store.specs.OwnWrites.{WritesOwn};
+ghost use Rattle.group_store.specs.Spreading.{HasEndRoom, HasOpened, IsSpread, KeepsBut, cleared};
+ghost use Rattle.group_store.specs.Spreading.{rels_damage};
+
+use crate::finding::find_group;
+use crate::making::make_group;
+use crate::members::chain_damage;
+use crate::side::group_head;
+use crate::{GroupFault, GroupRow, Side};
+use chain_edit::push_front;
+use rec_bytes::{
+    DENSE, Damage, KIND, Key, NIL, NODE_FIRST_LINK, NODES, RELATIONSHIPS, Space, SpaceFault,
+};
+use rel_store::{Linked, end_links, place_of};
+
+/// The rule that each chain lists what stands in it.
+const CHAIN_RULE: u8 = 3;
+
+/// Makes a sparse node dense: each of its relationships comes into the group of its type, at the
+/// front of the chain of its direction. The node is damaged where it isn't sparse, or where its
+/// chain leads to no relationship or to more than a sparse node may have.
+pub fn make_dense<S: Space>(space: &mut S, node: u32) -> Result<(), GroupFault>
+    ensures made { S.tells → OnOk result ((most : ℕ) (empty : List ℕ)
+        → CanBecomeDense (S.state space.old) node most empty
+        → BecomesDense (S.state space.old) (S.state space.new) node most empty) }
+    ensures sound { S.tells → (most : ℕ) (empty : List ℕ)
+        → CanBecomeDense (S.state space.old) node most empty
+        → HasDenseRoom (S.state space.old) node empty → NotDamaged result }
+    ensures exact { S.tells → OnOk result ((most : ℕ) (empty : List ℕ)
+        → CanBecomeDense (S.state space.old) node most empty
+        → WritesBeside (node_key node) (2 * degree (S.state space.old).records node)
+        (S.state space.old) (S.state space.new)) }
+    ensures writes { WritesBeside (node_key node) (4 * (S.state space.old).shape.threshold)
+        (S.state space.old) (S.state space.new) }
+    ensures shape { S.tells → (S.state space.new).shape ≡ (S.state space.old).shape }
+    ensures onward { S.onward space.old space.new }
+    ensures cause { HasGroupCause (S.faults space.old) (S.faults space.new) result }
+{
+    let Some(row) = node_store::load(space, node)? else {
+        return Err(GroupFault::Damaged(chain_damage(node)));
+    };
+    if row.dense {
+        return Err(GroupFault::Damaged(chain_damage(node)));
+    }
+    let budget = space.shape().threshold;
+    clear(space, node)?;
+    let mut at = row.first;
+    for _ in 0..budget {
+        if at == NIL {
+            return Ok(());
+        }
+        at = move_one(space, node, at)?;
+    }
+    if at != NIL {
+        return Err(GroupFault::Damaged(rels_damage(node)));
+    }
+    Ok(())
+}
+
+/// The damage of a node whose relationships break their rule.
+fn rels_damage(node: u32) -> Damage
+    ensures { result ≡ rels_damage node }
+{
+    Damage {
+        file: NODES,
+        id: node,
+        rule: CHAIN_RULE,
+    }
+}
+
+/// Makes a node dense, with no group.
+fn clear<S: Space>(space: &mut S, node: u32) -> Result<(), SpaceFault>
+    requires { IsKey (node_key node) }
+    ensures ok { S.tells → OnOk result (S.state space.new ≡ cleared (S.state space.old) node) }
+    ensures writes { WritesOnly (S.state space.old) (S.state space.new) (node_key node ∷ []) }
+    ensures shape { S.tells → (S.state space.new).shape ≡ (S.state space.old).shape }
+    ensures onward { S.onward space.old space.new }
+    ensures cause { HasCause (S.faults space.old) (S.faults space.new) result }
+{
+    let rec = space.edit(Key {
+        file: NODES,
+        id: node,
+    })?;
+    rec.set_byte(KIND, DENSE);
+    rec.set_number(NODE_FIRST_LINK, NIL);
+    Ok(())
+}
+
+/// Moves a relationship of a dense node into the group of its type, and answers which one comes
+/// after it.
+fn move_one<S: Space>(space: &mut S, node: u32, rel: u32) -> Result<u32, GroupFault>
+    ensures moved { S.tells → IfOk result (λ next. (rest : List ℕ) (most : ℕ) (empty : List ℕ)
+        → IsSpread (S.state space.old) node rel (rel ∷ rest) most empty
+        → IsSpread (S.state space.new) node next rest most empty
+        × Regroups (S.state space.old) (S.state space.new) node) }
+    ensures sound { S.tells → (rest : List ℕ) (most : ℕ) (empty : List ℕ)
+        → IsSpread (S.state space.old) node rel (rel ∷ rest) most empty
+        → HasEndRoom (S.state space.old) empty → NotDamaged result }
+    ensures own { S.tells → OnOk result ((rest : List ℕ) (most : ℕ) (empty : List ℕ)
+        → IsSpread (S.state space.old) node rel (rel ∷ rest) most empty
+        → (made : ℕ) × WritesOwn (S.state space.old) (S.state space.new) node made) }
+    ensures writes { WritesBeside (node_key node) 4 (S.state space.old) (S.state space.new) }
+    ensures shape { S.tells → (S.state space.new).shape ≡ (S.state space.old).shape }
+    ensures onward { S.onward space.old space.new }
+    ensures cause { HasGroupCause (S.faults space.old) (S.faults space.new) result }
+{
+    let Some(row) = rel_store::load(space, rel)? else {
+        return Err(GroupFault::Damaged(rels_damage(node)));
+    };
+    let group = own_group(space, node, row.label)?;
+    let head = group_head(group.id, Side::at(node, row.from, row.to));
+    free_previous(space, node, rel)?;
+    push_front(space, head, node, rel)?;
+    let (_, next) = end_links(&row, node);
+    Ok(next)
+}
+
+/// The group of a type at a dense node, which is made where there is none.
+pub(crate) fn own_group<S: Space>(
+    space: &mut S,
+    node: u32,
+    label: u32,
+) -> Result<GroupRow, GroupFault>
+    ensures opened { S.tells → IfOk result (λ row. (rest : List ℕ) (most : ℕ) (empty : List ℕ)
+        → KeepsBut (S.state space.old).records (S.state space.old).shape node rest most empty
+        → IsDense (S.state space.old).records node
+        → KeepsBut (S.state space.new).records (S.state space.new).shape node rest most
+        (row.id ∷ empty) × HasOpened (S.state space.old) (S.state space.new) node label row.id) }
+    ensures sound { S.tells → (rest : List ℕ) (most : ℕ) (empty : List ℕ)
+        → KeepsBut (S.state space.old).records (S.state space.old).shape node rest most empty
+        → IsDense (S.state space.old).records node
+        → (meta_of (S.state space.old) groups_file).live ≢ room (S.state space.old) groups_file
+        → NotDamaged result }
+    ensures key { IfOk result (λ row. IsKey (group_key row.id)) }
+    ensures own { S.tells → OnOk result ((rest : List ℕ) (most : ℕ) (empty : List ℕ)
+        → KeepsBut (S.state space.old).records (S.state space.old).shape node rest most empty
+        → IsDense (S.state space.old).records node
+        → (made : ℕ) × WritesOwn (S.state space.old) (S.state space.new) node made) }
+    ensures wrote { IfOk result (λ row. (first : ℕ) × WritesOnly (S.state space.old)
+        (S.state space.new) (group_key row.id ∷ group_key first ∷ node_key node
+        ∷ meta_key_of groups_file ∷ [])) }
+    ensures writes { (first id : ℕ) × WritesOnly (S.state space.old) (S.state space.new)
+        (group_key id ∷ group_key first ∷ node_key node ∷ meta_key_of groups_file ∷ []) }
+    ensures shape { S.tells → (S.state space.new).shape ≡ (S.state space.old).shape }
+    ensures onward { S.onward space.old space.new }
+    ensures cause { HasGroupCause (S.faults space.old) (S.faults space.new) result }
+{
+    match find_group(space, node, label)? {
+        Some(row) => Ok(row),
+        None => make_group(space, node, label),
+    }
+}
+
+/// Lets a relationship have none before it in a chain of the node.
+fn free_previous<S: Space>(space: &mut S, node: u32, rel: u32) -> Result<(), SpaceFault>
+    requires { IsKey (rel_key rel) }
+    ensures ok { S.tells
+        → OnOk result (S.state space.new ≡ prev_set (S.state space.old) node rel NIL) }
+    ensures writes { WritesOnly (S.state space.old) (S.state space.new) (rel_key rel ∷ []) }
+    ensures shape { S.tells → (S.state space.new).shape ≡ (S.state space.old).shape }
+    ensures onward { S.onward space.old space.new }
+    ensures cause { HasCause (S.faults space.old) (S.faults space.new) result }
+{
+    let rec = space.edit(Key {
+        file: RELATIONSHIPS,
+        id: rel,
+    })?;
+    let place = place_of(rec, node);
+    rec.set_link(place, NIL);
+    Ok(())
+}
+
+#[cfg(test)]
+mod tests;
