@@ -32,7 +32,7 @@ use Rattle.graph_ops.specs.declared.assigning.Assignment.{Assignment}
 use Rattle.graph_ops.proofs.LastPairs.{all_placed, blocks_in-with_pairs, len-with_pairs, once_placed, pairs_new, with_pairs-placed, with_pairs-push}
 use Rattle.graph_ops.proofs.LineNames.{held_name, key_lacks, name_long, name_prefix, uses_more}
 use Rattle.graph_ops.proofs.NewNames.{name_one, named_once, placed_grows}
-use Rattle.graph_ops.proofs.Writes.{more_written, then_written}
+use Rattle.store_rules.proofs.WriteLaws.{more_written, then_written}
 
 -- ---- the form of a pair
 pub pair_form : (pairs : List Pair) (i : ℕ) (d : Pair) → ArePairs pairs → i < length pairs → IsShortName (get_or pairs i d).key × IsKept (get_or pairs i d).value

@@ -14,6 +14,7 @@ use Rattle.plain_graph.specs.declared.refusal.Refusal.TheVariants as refusals
 use Rattle.rec_bytes.specs.declared.shape.Shape.{Shape}
 use Rattle.rec_bytes.specs.Format as format
 use Rattle.rec_bytes.specs.Space.{SameButReads, State, meta_of}
+use Rattle.store_rules.specs.Views.{Records}
 use Rattle.store_rules.proofs.GraphRows.{count_edges}
 use Rattle.node_store.specs.declared.node_row.NodeRow.{NodeRow}
 use Rattle.node_store.specs.Loading as nodes
@@ -39,7 +40,7 @@ use Rattle.graph_ops.proofs.Reasons.{None as Never, refused_more}
 -- ---- room for an edge
 module _ (s : State) (names : List (List ℕ)) (store : IsStore s names) where
   live_edges : (meta_of s format.relationships_file).live ≡ length (graph_in s).edges
-  live_edges = count_edges s.records s.shape store.store.keeps
+  live_edges = count_edges s.records s.shape store.store
 
   pub not_full : HasRoom s format.relationships_file 1 → ¬ IsFullOfEdges s
   not_full = rooms.not_full s names store format.relationships_file (length (graph_in s).edges) refl refl refl live_edges
@@ -49,7 +50,7 @@ module _ (s : State) (names : List (List ℕ)) (store : IsStore s names) where
 
   -- a space with the same edges has room for one more, too
   pub room_kept : (u : State) (c : List (List ℕ)) → KeepsElements s u c → HasRoom s format.relationships_file 1 → HasRoom u format.relationships_file 1
-  room_kept u c kept = rooms.room_still s u format.relationships_file 1 (count_edges u.records u.shape kept.store.store.keeps ∙ ap length kept.edges ∙ sym live_edges) kept.shape
+  room_kept u c kept = rooms.room_still s u format.relationships_file 1 (count_edges u.records u.shape kept.store.store ∙ ap length kept.edges ∙ sym live_edges) kept.shape
 
 -- ---- the ends
 clash : true ≡ false → ⊥
@@ -129,6 +130,13 @@ has_degree s names id store there = by (nodes.row_at s.records id) refl
     by None is = absurd (clash (sym there ∙ node_missing s id (sym is)))
     by (Some row) is = record { row = row; found = is; is = found_in s names id row.degree store (record { row = row; found = is; is = refl }) }
 
+-- it has one degree
+pub same_degree : (records : Records) (id a b : ℕ) → HasDegree records id a → HasDegree records id b → a ≡ b
+same_degree records id a b p q = sym p.is ∙ ap (λ (r : NodeRow). r.degree) (inner p.row q.row (sym p.found ∙ q.found)) ∙ q.is
+  where
+    inner : (r t : NodeRow) → Some r ≡ Some t → r ≡ t
+    inner r t e = cc
+
 -- it keeps it where the elements stay
 pub degree_kept : (s u : State) (names c : List (List ℕ)) (id n : ℕ) → IsStore s names → KeepsElements s u c → HasDegree s.records id n → HasDegree u.records id n
 degree_kept s u names c id n store kept has =
@@ -151,12 +159,6 @@ module _ (s m n : State) (names : List (List ℕ)) (from to source target : ℕ)
   pub target_then : HasDegree n.records to target
   target_then = subst (λ (z : State). HasDegree z.records to target) (sym two) target_has
 
-  pub leaves_then : has_node (graph_in n) from ≡ true
-  leaves_then = found_there n names from source store_then source_then
-
-  pub enters_then : has_node (graph_in n) to ≡ true
-  enters_then = found_there n names to target store_then target_then
-
 -- ---- the change
 module _ (s u v : State) (names c : List (List ℕ)) (from : ℕ) (label : List ℕ) (to : ℕ) (pairs : List Pair) (id : ℕ) (prepared : Prepared) (store : IsStore s names) (at_hand : IsPrepared s u c label pairs prepared)
     (puts : PutsEdge u v c from label to id) (same : v.shape ≡ u.shape) where
@@ -176,7 +178,8 @@ module _ (s u v : State) (names c : List (List ℕ)) (from : ℕ) (label : List 
   }
 
   pub put_room : HasPropertyRoom v (length prepared.assigned.items) (assigned_blocks pairs prepared.assigned.items)
-  put_room = rooms.properties_still u v (length prepared.assigned.items) (assigned_blocks pairs prepared.assigned.items) format.relationships_file (λ e. omega arith) (λ e. omega arith) puts.metas same at_hand.room
+  put_room = rooms.properties_still u v (length prepared.assigned.items) (assigned_blocks pairs prepared.assigned.items)
+      (puts.metas format.properties_file (λ e. omega arith) (λ e. omega arith)) (puts.metas format.strings_file (λ e. omega arith) (λ e. omega arith)) same at_hand.room
 
   module _ (w : State) (put : PutsPairs v w c (targets.Edge id) (pairs_of c pairs prepared.assigned.items)) (room : ¬ IsFullOfEdges s) (source target : ℕ) (source_has : HasDegree s.records from source)
       (target_has : HasDegree s.records to target) where

@@ -1,36 +1,40 @@
 -- A relationship that left the chains of its ends, as the rules ask of one that goes.
-use Rattle.std.proofs.Common.{◌≡◌, ◌≢◌, ◌⊎◌, ℕ, ◌+◌, ◌-◌, ◌<◌, ◌≤◌, ◌^◌, nat_eq, true, not, ◌&&◌, None, Some, sym, ap, ◌∙◌, subst, inl, inr, ⊎_elim, arith, refl}
+use Rattle.std.proofs.Common.{◌≡◌, ◌≢◌, ◌⊎◌, ℕ, ◌+◌, ◌-◌, ◌<◌, ◌^◌, nat_eq, true, not, ◌&&◌, None, Some, [], sym, ap, ◌∙◌, subst, inl, inr, ⊎_elim, arith, refl}
+use Rattle.rec_bytes.specs.declared.key.Key.{Key}
 use Rattle.rec_bytes.specs.declared.shape.Shape.{Shape}
 use Rattle.rec_bytes.specs.Format as format
 use Rattle.rec_bytes.specs.Record.{field}
-use Rattle.rec_bytes.specs.RecordFiles.{room_of}
 use Rattle.rec_bytes.specs.Space.{State}
 use Rattle.rec_bytes.proofs.Numbers.{field-lt}
-use Rattle.store_rules.specs.Chains.{next_in, prev_in}
+use Rattle.store_rules.specs.Chains.{In, next_in, prev_in}
+use Rattle.store_rules.specs.Ends.{IsEndHead, group_of_head}
 use Rattle.store_rules.specs.Ranges.{AreInRange}
-use Rattle.store_rules.specs.Rules.{AllListed, Head, IsEnd, IsSparseStore, SparseHead, first_of, node_head, stands_in}
-use Rattle.store_rules.specs.Views.{Records, RelRow, degree, high, is_at, kind_at, rec_at, rel_at, rel_in}
+use Rattle.store_rules.specs.Rules.{AllListed, Head, IsEnd, IsInGroup, IsOn, IsWellFormed, Owns, StandsAt, first_of, stands_in}
+use Rattle.store_rules.specs.Views.{Records, RelRow, degree, group_at, high, is_at, key_in, kind_at, rec_at, rel_at, rel_in}
 use Rattle.store_rules.proofs.Changes as ch
 use Rattle.store_rules.proofs.Counts.{ids_with}
 use Rattle.store_rules.proofs.EdgeChange as ec
-use Rattle.store_rules.proofs.EdgeChange.{Stands}
 use Rattle.store_rules.proofs.EdgeGone.{IsEdgeGone}
 use Rattle.store_rules.proofs.EdgeMade.{end_cases, no_row}
+use Rattle.store_rules.proofs.FilledGroups.{group_head, in_place, owns_chain}
 use Rattle.store_rules.proofs.Made.{IsGone}
-use Rattle.store_rules.proofs.NumberLaws.{eq_false, eq_true}
+use Rattle.store_rules.proofs.NumberLaws.{eq_false, eq_true, nat_cases}
+use Rattle.store_rules.proofs.OnceLaws.{in_left, in_right}
 use Rattle.store_rules.proofs.Relinks as re
-use Rattle.store_rules.proofs.Relinks.{IsRelinked, relinked_both}
+use Rattle.store_rules.proofs.Relinks.{IsRelinked, owned_link, relinked_both}
+use Rattle.store_rules.proofs.UsedKinds.{rel_kind}
 use Rattle.store_rules.proofs.ViewLaws.{kind_below, some_row}
 use Rattle.chain_edit.specs.Chains.{Differ, next_of, prev_of}
+use Rattle.chain_edit.specs.Heads.{IsPlace}
 use Rattle.chain_edit.specs.Links.{IsRightLink}
-use Rattle.chain_edit.specs.Listed.{without_one}
+use Rattle.chain_edit.specs.Listed.{AreHeads, without_one}
 use Rattle.chain_edit.proofs.AllPushed.{all_listed_same, all_listed_stays}
 use Rattle.chain_edit.proofs.ChainSteps.{on_test}
 use Rattle.chain_edit.proofs.InRange.{right_next, right_prev}
-use Rattle.graph_ops.specs.EdgeEnds.{both_parted, parted}
-use Rattle.graph_ops.proofs.EdgeJoined.{differ_stays, end_in, related_of, sparse_listed}
-use Rattle.graph_ops.proofs.EdgeLists.{ends_differ, next_used, parted_listed, prev_used}
-use Rattle.graph_ops.proofs.EdgeSteps.{degree_parted, links_parted, node_parted, shape_parted}
+use Rattle.chain_edit.proofs.OwnedHeads.{end_in, end_on, heads_differ, only_head, other_record, owned_heads, owner_kind}
+use Rattle.graph_ops.specs.EdgeEnds.{both_parted, end_groups, parted}
+use Rattle.graph_ops.proofs.EdgeLists.{next_used, parted_listed, prev_used}
+use Rattle.graph_ops.proofs.EdgeSteps.{IsNode, degree_parted, differ_stays, first_stays, links_parted, node_stays, record_parted, shape_parted}
 
 some_same : (a b : RelRow) → Some a ≡ Some b → a ≡ b
 some_same a b q = cc
@@ -39,45 +43,44 @@ some_same a b q = cc
 abbrev pub But : (Head → ℕ → Type 0) → ℕ → Head → ℕ → Type 0
 But at id h x = at h x × (x ≢ id)
 
--- A relationship in use between two sparse nodes, without properties.
-pub record IsLiveEdge (s : Records) (shape : Shape) (id : ℕ) (row : RelRow) : Type 0 where
+-- A relationship in use without properties, and the heads that it stands at; a loop stands at one.
+pub record IsLiveEdge (s : Records) (id : ℕ) (row : RelRow) (h k : Head) : Type 0 where
   pub live : rel_at s id ≡ Some row
   pub bare : row.property ≡ format.nil
-  pub from_sparse : kind_at s format.nodes_file row.from ≡ format.sparse
-  pub to_sparse : kind_at s format.nodes_file row.to ≡ format.sparse
-  pub room : room_of shape format.relationships_file ≤ format.most_ids
+  pub source : IsEndHead s h row.from row
+  pub target : IsEndHead s k row.to row
 
-module _ (s : State) (shape : Shape) (id : ℕ) (row : RelRow) (edge : IsLiveEdge s.records shape id row) (store : IsSparseStore s.records shape)
+module _ (s : State) (shape : Shape) (id : ℕ) (row : RelRow) (h k : Head) (edge : IsLiveEdge s.records id row h k) (store : IsWellFormed s.records shape)
     (d e : ℕ) (d_is : d ≡ degree s.records row.from - 1) (e_is : e ≡ degree s.records row.to - 1) where
   abbrev Own : Head → ℕ → Type 0
-  Own = SparseHead (kind_at s.records format.nodes_file)
+  Own = Owns (kind_at s.records format.nodes_file) (group_at s.records)
 
   abbrev At : Head → ℕ → Type 0
-  At = Stands (rel_at s.records)
+  At = StandsAt (rel_at s.records) (group_at s.records)
 
-  listed : AllListed s.records Own At
-  listed = sparse_listed s.records shape store
+  -- one relationship stands at two heads by one row
+  on_same : (a : Head) (x : ℕ) (r : RelRow) → rel_at s.records x ≡ Some r → (p : At a x) → IsOn (group_at s.records) a r
+  on_same a x r is p = subst (IsOn (group_at s.records) a) (some_same p.row r (sym p.live ∙ is)) p.on
 
-  at_end : (h : Head) (n x : ℕ) → Own h n → (a : At h x) → IsEnd n a.row
-  at_end h n x o a = subst (λ k. IsEnd k a.row) (ap (λ (z : Head). z.key.id) o.is) a.end
-
-  meet : (h : Head) (n k x : ℕ) → Own h n → At h x → At (node_head k) x → k ≢ n → Differ s.records k n x
-  meet h n k x o a b ne = ends_differ (rec_at s.records format.relationships_file x) k n (end_in s.records x k b.row b.live b.end) (end_in s.records x n a.row a.live (at_end h n x o a)) ne
-
-  sole : (h : Head) (n k : ℕ) → Own h n → h ≢ node_head k → k ≢ n
-  sole h n k o ne same = ne (o.is ∙ ap node_head (sym same))
+  meet : (a b : Head) (n m x : ℕ) → Own a n → Own b m → a ≢ b → At a x → At b x → Differ s.records m n x
+  meet a b n m x o q ne p there =
+      heads_differ s.records [] store.grouped b a m n p.row (rec_at s.records format.relationships_file x) q o (λ z. ne (sym z)) (on_same b x p.row p.live there) p.on
+      (λ end. end_in s.records x m p.row p.live end) (λ end. end_in s.records x n p.row p.live end)
 
   row_is : (kind_at s.records format.relationships_file id ≢ 0) × (rel_in (rec_at s.records format.relationships_file id) id ≡ row)
   row_is = some_row (kind_at s.records format.relationships_file id) (rel_in (rec_at s.records format.relationships_file id) id) row edge.live
 
-  related_at : (h : Head) (x : ℕ) → At h x → kind_at s.records format.relationships_file x ≡ format.related
-  related_at h x a = related_of s.records shape x store.keeps.ranges (some_row (kind_at s.records format.relationships_file x) (rel_in (rec_at s.records format.relationships_file x) x) a.row a.live).0
+  related_at : (a : Head) (x : ℕ) → At a x → kind_at s.records format.relationships_file x ≡ format.related
+  related_at a x p = rel_kind s.records shape store.ranges x (some_row (kind_at s.records format.relationships_file x) (rel_in (rec_at s.records format.relationships_file x) x) p.row p.live).0
 
-  pub related : kind_at s.records format.relationships_file id ≡ format.related
-  related = related_of s.records shape id store.keeps.ranges row_is.0
+  related : kind_at s.records format.relationships_file id ≡ format.related
+  related = rel_kind s.records shape store.ranges id row_is.0
 
-  stands : (n : ℕ) → IsEnd n row → At (node_head n) id
-  stands n end = record { row = row; live = edge.live; end = end }
+  at_source : At h id
+  at_source = record { row = row; live = edge.live; on = edge.source.on }
+
+  at_target : At k id
+  at_target = record { row = row; live = edge.live; on = edge.target.on }
 
   small_at : (n : ℕ) → degree s.records n - 1 < 2 ^ 32
   small_at n = let b = field-lt 4 (rec_at s.records format.nodes_file n) format.node_degree in omega arith
@@ -88,84 +91,108 @@ module _ (s : State) (shape : Shape) (id : ℕ) (row : RelRow) (edge : IsLiveEdg
   e_small : e < 2 ^ 32
   e_small = let b = small_at row.to in omega arith
 
+  heads : AreHeads Own
+  heads = owned_heads (kind_at s.records format.nodes_file) (group_at s.records)
+
+  place_at_source : IsPlace h
+  place_at_source = heads.place h row.from edge.source.owns
+
+  place_at_target : IsPlace k
+  place_at_target = heads.place k row.to edge.target.owns
+
+  node_at_source : IsNode s.records row.from
+  node_at_source = owner_kind (kind_at s.records format.nodes_file) (group_at s.records) h row.from edge.source.owns
+
+  node_at_target : IsNode s.records row.to
+  node_at_target = owner_kind (kind_at s.records format.nodes_file) (group_at s.records) k row.to edge.target.owns
+
   -- ---- at the source
   one : State
-  one = parted s row.from id d
+  one = parted s h row.from id d
 
-  one_listed : AllListed one.records Own (without_one At (node_head row.from) id)
+  one_listed : AllListed one.records Own (without_one At h id)
   unfolding one
-  one_listed = parted_listed s (kind_at s.records format.nodes_file) At listed row.from id d edge.from_sparse (stands row.from (inl refl))
-      (λ h n x o ne a b. meet h n row.from x o a b (sole h n row.from o ne))
+  one_listed = parted_listed s (kind_at s.records format.nodes_file) (group_at s.records) At store.linked.listed h row.from id d edge.source.owns at_source
+      (λ a n x o ne p there. meet a h n row.from x o edge.source.owns ne p there)
 
   one_links : IsRelinked s.records one.records
   unfolding one
-  one_links = links_parted s row.from id edge.from_sparse related d d_small
-      (prev_used s (kind_at s.records format.nodes_file) At listed row.from id d edge.from_sparse (stands row.from (inl refl)) (λ x a. related_at (node_head row.from) x a))
-      (next_used s (kind_at s.records format.nodes_file) At listed row.from id d edge.from_sparse (stands row.from (inl refl)) (λ x a. related_at (node_head row.from) x a))
+  one_links = links_parted s h row.from id (owned_link s.records shape store.ranges h row.from edge.source.owns) place_at_source node_at_source related d d_small
+      (prev_used s (kind_at s.records format.nodes_file) (group_at s.records) At store.linked.listed h row.from id d edge.source.owns at_source (λ x p. related_at h x p))
+      (next_used s (kind_at s.records format.nodes_file) (group_at s.records) At store.linked.listed h row.from id d edge.source.owns at_source (λ x p. related_at h x p))
 
   -- ---- at the target
   two : State
-  two = parted one row.to id e
+  two = parted one k row.to id e
 
-  still : row.from ≢ row.to → without_one At (node_head row.from) id (node_head row.to) id
-  still differ = (stands row.to (inr refl), λ q. absurd (differ (ap (λ (h : Head). h.key.id) (sym q))))
+  still : row.from ≢ row.to → without_one At h id k id
+  still differ = (at_target, λ q. absurd (differ (heads.one_node h row.from row.to edge.source.owns (subst (λ z. Own z row.to) q edge.target.owns))))
 
-  one_related : (x : ℕ) → without_one At (node_head row.from) id (node_head row.to) x → kind_at one.records format.relationships_file x ≡ format.related
-  one_related x a = re.kind_stays s.records one.records one_links format.relationships_file x ∙ related_at (node_head row.to) x a.0
+  one_related : (x : ℕ) → without_one At h id k x → kind_at one.records format.relationships_file x ≡ format.related
+  one_related x p = re.kind_stays s.records one.records one_links format.relationships_file x ∙ related_at k x p.0
 
-  two_listed : row.from ≢ row.to → AllListed two.records Own (without_one (without_one At (node_head row.from) id) (node_head row.to) id)
+  two_listed : row.from ≢ row.to → AllListed two.records Own (without_one (without_one At h id) k id)
   unfolding two
-  two_listed differ = parted_listed one (kind_at s.records format.nodes_file) (without_one At (node_head row.from) id) one_listed row.to id e edge.to_sparse (still differ)
-      (λ h n x o ne a b. differ_stays s.records one.records one_links row.to n x (meet h n row.to x o a.0 b.0 (sole h n row.to o ne)))
+  two_listed differ = parted_listed one (kind_at s.records format.nodes_file) (group_at s.records) (without_one At h id) one_listed k row.to id e edge.target.owns (still differ)
+      (λ a n x o ne p there. differ_stays s.records one.records one_links row.to n x (meet a k n row.to x o edge.target.owns ne p.0 there.0))
 
   two_links : row.from ≢ row.to → IsRelinked s.records two.records
   unfolding two
-  two_links differ = relinked_both s.records one.records two.records one_links (links_parted one row.to id (re.kind_stays s.records one.records one_links format.nodes_file row.to ∙ edge.to_sparse)
-      (re.kind_stays s.records one.records one_links format.relationships_file id ∙ related) e e_small
-      (prev_used one (kind_at s.records format.nodes_file) (without_one At (node_head row.from) id) one_listed row.to id e edge.to_sparse (still differ) one_related)
-      (next_used one (kind_at s.records format.nodes_file) (without_one At (node_head row.from) id) one_listed row.to id e edge.to_sparse (still differ) one_related))
+  two_links differ = relinked_both s.records one.records two.records one_links (links_parted one k row.to id
+      (first_stays s.records one.records one_links k (owned_link s.records shape store.ranges k row.to edge.target.owns)) place_at_target
+      (node_stays s.records one.records one_links row.to node_at_target) (re.kind_stays s.records one.records one_links format.relationships_file id ∙ related) e e_small
+      (prev_used one (kind_at s.records format.nodes_file) (group_at s.records) (without_one At h id) one_listed k row.to id e edge.target.owns (still differ) one_related)
+      (next_used one (kind_at s.records format.nodes_file) (group_at s.records) (without_one At h id) one_listed k row.to id e edge.target.owns (still differ) one_related))
 
-  -- it stood at its two ends alone
-  ends_of : (h : Head) (n x : ℕ) → Own h n → x ≡ id → At h x → (h ≡ node_head row.from) ⊎ (h ≡ node_head row.to)
-  ends_of h n x o q a =
-      let same : a.row ≡ row = some_same a.row row (sym a.live ∙ ap (rel_at s.records) q ∙ edge.live) in
-      let end : IsEnd n row = subst (IsEnd n) same (at_end h n x o a) in
-      ⊎_elim (λ (k : row.from ≡ n). inl (o.is ∙ ap node_head (sym k))) (λ (k : row.to ≡ n). inr (o.is ∙ ap node_head (sym k))) end
+  -- it stood at its two heads alone
+  heads_of : (a : Head) (n : ℕ) → Own a n → IsOn (group_at s.records) a row → (a ≡ h) ⊎ (a ≡ k)
+  heads_of a n o on = ⊎_elim
+      (λ (q : row.from ≡ n). inl (only_head s.records [] store.grouped a h n row o (subst (Own h) q edge.source.owns) on edge.source.on))
+      (λ (q : row.to ≡ n). inr (only_head s.records [] store.grouped a k n row o (subst (Own k) q edge.target.owns) on edge.target.on))
+      (end_on (kind_at s.records format.nodes_file) (group_at s.records) a n row o on)
+
+  loop_head : row.from ≡ row.to → k ≡ h
+  loop_head loop = only_head s.records [] store.grouped k h row.from row (subst (Own k) (sym loop) edge.target.owns) edge.source.owns edge.target.on edge.source.on
+
+  ends_of : (a : Head) (n x : ℕ) → Own a n → x ≡ id → At a x → (a ≡ h) ⊎ (a ≡ k)
+  ends_of a n x o q p = heads_of a n o (on_same a x row (ap (rel_at s.records) q ∙ edge.live) p)
 
   loop_listed : row.from ≡ row.to → AllListed one.records Own (But At id)
-  loop_listed loop = all_listed_same one.records Own (without_one At (node_head row.from) id) Own (But At id) (λ h n o. o)
-      (λ h n x o a. (a.0, λ q. a.1 (⊎_elim (λ k. k) (λ k. k ∙ ap node_head (sym loop)) (ends_of h n x o q a.0)) q)) (λ h n x o a. (a.0, λ _. a.1)) one_listed
+  loop_listed loop = all_listed_same one.records Own (without_one At h id) Own (But At id) (λ a n o. o)
+      (λ a n x o p. (p.0, λ q. p.1 (⊎_elim (λ z. z) (λ z. z ∙ loop_head loop) (ends_of a n x o q p.0)) q)) (λ a n x o p. (p.0, λ _. p.1)) one_listed
 
   pair_listed : row.from ≢ row.to → AllListed two.records Own (But At id)
-  pair_listed differ = all_listed_same two.records Own (without_one (without_one At (node_head row.from) id) (node_head row.to) id) Own (But At id) (λ h n o. o)
-      (λ h n x o a. (a.0.0, λ q. ⊎_elim (λ k. a.0.1 k q) (λ k. a.1 k q) (ends_of h n x o q a.0.0))) (λ h n x o a. ((a.0, λ _. a.1), λ _. a.1)) (two_listed differ)
+  pair_listed differ = all_listed_same two.records Own (without_one (without_one At h id) k id) Own (But At id) (λ a n o. o)
+      (λ a n x o p. (p.0.0, λ q. ⊎_elim (λ z. p.0.1 z q) (λ z. p.1 z q) (ends_of a n x o q p.0.0))) (λ a n x o p. ((p.0, λ _. p.1), λ _. p.1)) (two_listed differ)
 
   -- ---- degrees
-  some_degree : (n : ℕ) → kind_at s.records format.nodes_file n ≡ format.sparse → is_at n row ≡ true → (degree s.records n - 1) + 1 ≡ degree s.records n
-  some_degree n k end =
+  some_degree : (n : ℕ) → IsNode s.records n → is_at n row ≡ true → (degree s.records n - 1) + 1 ≡ degree s.records n
+  some_degree n used end =
       let more = ids_with (λ x. not (nat_eq x id) && stands_in n (rel_at s.records x)) (λ x. stands_in n (rel_at s.records x)) (high s.records format.relationships_file) (high s.records format.relationships_file) id
       (rw (eq_true id id refl) refl) (ap (stands_in n) edge.live ∙ end) (λ x ne. rw (eq_false x id ne) refl) (kind_below (high s.records format.relationships_file) (rec_at s.records format.relationships_file id) id row_is.0) (inl refl) in
-      let deg = store.keeps.degrees.each n (λ z. let q = sym z ∙ k in omega arith) in
+      let deg = store.degrees.each n (λ z. ⊎_elim (λ q. let w = sym z ∙ q in omega arith) (λ q. let w = sym z ∙ q in omega arith) used) in
       omega arith
 
-  at_some : (n : ℕ) → kind_at s.records format.nodes_file n ≡ format.sparse → IsEnd n row → (degree s.records n - 1) + 1 ≡ degree s.records n
-  at_some n k end = end_cases n row (λ i at. some_degree n k at) (λ out at. absurd (out end))
+  at_some : (n : ℕ) → IsNode s.records n → IsEnd n row → (degree s.records n - 1) + 1 ≡ degree s.records n
+  at_some n used end = end_cases n row (λ i at. some_degree n used at) (λ out at. absurd (out end))
 
   one_degree : degree one.records row.from + 1 ≡ degree s.records row.from
   unfolding one
-  one_degree = ap (λ z. z + 1) (degree_parted s row.from id d d_small ∙ d_is) ∙ at_some row.from edge.from_sparse (inl refl)
+  one_degree = ap (λ z. z + 1) (degree_parted s h row.from id d d_small ∙ d_is) ∙ at_some row.from node_at_source (inl refl)
 
   one_else : (n : ℕ) → n ≢ row.from → degree one.records n ≡ degree s.records n
   unfolding one
-  one_else n ne = ap (λ r. field 4 r format.node_degree) (node_parted s row.from id d n ne)
+  one_else n ne = ap (λ r. field 4 r format.node_degree) (record_parted s h row.from id d (key_in format.nodes_file n) (λ q. omega arith)
+      (other_record (kind_at s.records format.nodes_file) (group_at s.records) h row.from n edge.source.owns ne) (λ q. ne (ap (λ (z : Key). z.id) q)))
 
   two_degree : degree two.records row.to + 1 ≡ degree s.records row.to
   unfolding two
-  two_degree = ap (λ z. z + 1) (degree_parted one row.to id e e_small ∙ e_is) ∙ at_some row.to edge.to_sparse (inr refl)
+  two_degree = ap (λ z. z + 1) (degree_parted one k row.to id e e_small ∙ e_is) ∙ at_some row.to node_at_target (inr refl)
 
   two_else : (n : ℕ) → n ≢ row.to → degree two.records n ≡ degree one.records n
   unfolding two
-  two_else n ne = ap (λ r. field 4 r format.node_degree) (node_parted one row.to id e n ne)
+  two_else n ne = ap (λ r. field 4 r format.node_degree) (record_parted one k row.to id e (key_in format.nodes_file n) (λ q. omega arith)
+      (other_record (kind_at s.records format.nodes_file) (group_at s.records) k row.to n edge.target.owns ne) (λ q. ne (ap (λ (z : Key). z.id) q)))
 
   -- ---- given back
   pub record HasParted (u : Records) : Type 0 where
@@ -178,7 +205,7 @@ module _ (s : State) (shape : Shape) (id : ℕ) (row : RelRow) (edge : IsLiveEdg
   loop_parted loop = record {
     links = one_links;
     listed = loop_listed loop;
-    less = λ n end. let same : row.from ≡ n = ⊎_elim (λ k. k) (λ k. loop ∙ k) end in subst (λ z. degree one.records z + 1 ≡ degree s.records z) same one_degree;
+    less = λ n end. let same : row.from ≡ n = ⊎_elim (λ z. z) (λ z. loop ∙ z) end in subst (λ z. degree one.records z + 1 ≡ degree s.records z) same one_degree;
     as_before = λ n out. one_else n (λ q. out (inl (sym q)));
   }
 
@@ -187,28 +214,44 @@ module _ (s : State) (shape : Shape) (id : ℕ) (row : RelRow) (edge : IsLiveEdg
     links = two_links differ;
     listed = pair_listed differ;
     less = λ n end. ⊎_elim
-        (λ (k : row.from ≡ n). subst (λ z. degree two.records z + 1 ≡ degree s.records z) k (ap (λ z. z + 1) (two_else row.from differ) ∙ one_degree))
-        (λ (k : row.to ≡ n). subst (λ z. degree two.records z + 1 ≡ degree s.records z) k two_degree) end;
+        (λ (q : row.from ≡ n). subst (λ z. degree two.records z + 1 ≡ degree s.records z) q (ap (λ z. z + 1) (two_else row.from differ) ∙ one_degree))
+        (λ (q : row.to ≡ n). subst (λ z. degree two.records z + 1 ≡ degree s.records z) q two_degree) end;
     as_before = λ n out. two_else n (λ q. out (inr (sym q))) ∙ one_else n (λ q. out (inl (sym q)));
   }
 
-  pub edge_parted : HasParted (both_parted s row.from row.to id d e).records
+  pub edge_parted : HasParted (both_parted s h k row.from row.to id d e).records
   unfolding one two
-  edge_parted = on_test (λ (u : State). HasParted u.records) row.from row.to (parted s row.from id d) (parted (parted s row.from id d) row.to id e) loop_parted pair_parted
+  edge_parted = on_test (λ (u : State). HasParted u.records) row.from row.to (parted s h row.from id d) (parted (parted s h row.from id d) k row.to id e) loop_parted pair_parted
+
+  -- the groups that it stood in are those of its heads
+  of_head : (g at : ℕ) (a : Head) → group_head g at ≡ a → In g (group_of_head a)
+  of_head g at a q = subst (λ z. In g (group_of_head z)) q (inl refl)
+
+  of_heads : (g at : ℕ) → (group_head g at ≡ h) ⊎ (group_head g at ≡ k) → In g (end_groups h k row.from row.to)
+  of_heads g at either = ⊎_elim
+      (λ (loop : row.from ≡ row.to). in_left g (group_of_head h) _ (of_head g at h (⊎_elim (λ z. z) (λ z. z ∙ loop_head loop) either)))
+      (λ (differ : row.from ≢ row.to). ⊎_elim (λ z. in_left g (group_of_head h) _ (of_head g at h z))
+      (λ z. in_right g (group_of_head h) _ (rw (eq_false row.from row.to differ) (in_left g (group_of_head k) [] (of_head g at k z)))) either)
+      (nat_cases row.from row.to)
+
+  left_groups : (g at : ℕ) → IsInGroup (group_at s.records) (group_head g at) row → In g (end_groups h k row.from row.to)
+  left_groups g at i =
+      let o = owns_chain s.records store.grouped g i.row i.group at (in_place (group_at s.records) (group_head g at) row i) in
+      of_heads g at (heads_of (group_head g at) i.row.owner (inr o) (inr (refl, i)))
 
   -- the relationship as the rules ask of one that went
-  pub edge_left : (u t : Records) → HasParted u → IsGone u t shape format.relationships_file id → IsEdgeGone s.records u t shape id row
+  pub edge_left : (u t : Records) → HasParted u → IsGone u t shape format.relationships_file id → IsEdgeGone s.records u t shape id row [] (end_groups h k row.from row.to)
   edge_left u t parts gone = record {
     links = parts.links;
     gone = gone;
     live = edge.live;
     bare = edge.bare;
-    room = edge.room;
-    listed = all_listed_same t Own (But At id) Own (Stands (rel_at t)) (λ h n o. o)
-        (λ h n x o a. record { row = a.0.row; live = rel_other x a.1 ∙ a.0.live; end = a.0.end })
-        (λ h n x o a. let ne = other x a.row a.live in (record { row = a.row; live = sym (rel_other x ne) ∙ a.live; end = a.end }, ne))
-        (all_listed_stays u t Own (But At id) (λ h n x o a. ap (λ r. next_in r n) (rec_other x a.1)) (λ h n x o a. ap (λ r. prev_in r n) (rec_other x a.1))
-        (λ h n o. ap (first_of t) o.is ∙ ap (λ r. field 4 r format.node_first_link) (node_same n) ∙ sym (ap (first_of u) o.is)) parts.listed);
+    listed = all_listed_same t Own (But At id) Own (StandsAt (rel_at t) (group_at s.records)) (λ a n o. o)
+        (λ a n x o p. record { row = p.0.row; live = rel_other x p.1 ∙ p.0.live; on = p.0.on })
+        (λ a n x o (p : StandsAt (rel_at t) (group_at s.records) a x). let ne = other x p.row p.live in (record { row = p.row; live = sym (rel_other x ne) ∙ p.live; on = p.on }, ne))
+        (all_listed_stays u t Own (But At id) (λ a n x o p. ap (λ r. next_in r n) (rec_other x p.1)) (λ a n x o p. ap (λ r. prev_in r n) (rec_other x p.1)) first_same parts.listed);
+    out_of = left_groups;
+    still = λ g i. absurd i;
     less = λ n end. ap (λ r. field 4 r format.node_degree + 1) (node_same n) ∙ parts.less n end;
     as_before = λ n out. ap (λ r. field 4 r format.node_degree) (node_same n) ∙ parts.as_before n out;
   }
@@ -225,24 +268,31 @@ module _ (s : State) (shape : Shape) (id : ℕ) (row : RelRow) (edge : IsLiveEdg
       node_same : (n : ℕ) → rec_at t format.nodes_file n ≡ rec_at u format.nodes_file n
       node_same n = ch.other_record u t format.relationships_file id gone.change format.nodes_file n refl (λ q. absurd (let z : 1 ≡ 2 = q in omega arith))
 
+      group_same : (g : ℕ) → rec_at t format.groups_file g ≡ rec_at u format.groups_file g
+      group_same g = ch.other_record u t format.relationships_file id gone.change format.groups_file g refl (λ q. absurd (let z : 3 ≡ 2 = q in omega arith))
+
+      first_same : (a : Head) (n : ℕ) → Own a n → first_of t a ≡ first_of u a
+      first_same a n (inl o) = ap (first_of t) o.is ∙ ap (λ r. field 4 r format.node_first_link) (node_same n) ∙ sym (ap (first_of u) o.is)
+      first_same a n (inr o) = ap (λ z. field 4 (t z) a.field) o.key ∙ ap (λ r. field 4 r a.field) (group_same o.row.id) ∙ sym (ap (λ z. field 4 (u z) a.field) o.key)
+
   -- ---- the links that are read
   pub from_prev : s.shape ≡ shape → IsRightLink s (prev_of s.records row.from id)
-  from_prev same = right_prev s (subst (AreInRange s.records) (sym same) store.keeps.ranges) id row.from row_is.0
+  from_prev same = right_prev s (subst (AreInRange s.records) (sym same) store.ranges) id row.from row_is.0
 
   pub from_next : s.shape ≡ shape → IsRightLink s (next_of s.records row.from id)
-  from_next same = right_next s (subst (AreInRange s.records) (sym same) store.keeps.ranges) id row.from row_is.0
+  from_next same = right_next s (subst (AreInRange s.records) (sym same) store.ranges) id row.from row_is.0
 
   one_ranges : s.shape ≡ shape → AreInRange one.records one.shape
   unfolding one
-  one_ranges same = subst (AreInRange one.records) (sym (shape_parted s row.from id d ∙ same)) (re.range_stays s.records one.records one_links shape store.keeps.ranges)
+  one_ranges same = subst (AreInRange one.records) (sym (shape_parted s h row.from id d ∙ same)) (re.range_stays s.records one.records one_links shape store.ranges)
 
   one_live : kind_at one.records format.relationships_file id ≢ 0
   one_live z = row_is.0 (sym (re.kind_stays s.records one.records one_links format.relationships_file id) ∙ z)
 
-  pub to_prev : s.shape ≡ shape → IsRightLink (parted s row.from id d) (prev_of (parted s row.from id d).records row.to id)
+  pub to_prev : s.shape ≡ shape → IsRightLink (parted s h row.from id d) (prev_of (parted s h row.from id d).records row.to id)
   unfolding one
   to_prev same = right_prev one (one_ranges same) id row.to one_live
 
-  pub to_next : s.shape ≡ shape → IsRightLink (parted s row.from id d) (next_of (parted s row.from id d).records row.to id)
+  pub to_next : s.shape ≡ shape → IsRightLink (parted s h row.from id d) (next_of (parted s h row.from id d).records row.to id)
   unfolding one
   to_next same = right_next one (one_ranges same) id row.to one_live

@@ -1,6 +1,6 @@
 -- A new relationship's record and its chains, over a store that has its type's name.
 use Rattle.std.specs.Prelude.{slice_get}
-use Rattle.std.proofs.Common.{◌≡◌, ◌≢◌, ℕ, ◌+◌, ◌<◌, ◌≤◌, ◌^◌, min, nat_eq, nat_lt, Bool, true, false, ◌&&◌, ◌||◌, cond, Some, List, [], ◌∷◌, sym, ap, ◌∙◌, subst, arith, refl}
+use Rattle.std.proofs.Common.{◌≡◌, ◌≢◌, ◌⊎◌, ℕ, ◌+◌, ◌<◌, ◌^◌, nat_eq, nat_lt, Bool, true, false, ◌&&◌, ◌||◌, cond, Some, List, [], ◌∷◌, sym, ap, ◌∙◌, subst, ⊎_elim, arith, refl}
 use Rattle.plain_graph.specs.Graph.{edge_number, with_row}
 use Rattle.plain_graph.specs.Properties.{no_properties}
 use Rattle.rec_bytes.specs.declared.record.Rec.{Rec}
@@ -8,33 +8,36 @@ use Rattle.rec_bytes.specs.declared.shape.Shape.{Shape}
 use Rattle.rec_bytes.specs.Format as format
 use Rattle.rec_bytes.specs.Meta as metas
 use Rattle.rec_bytes.specs.Record.{field}
-use Rattle.rec_bytes.specs.RecordFiles.{room_of}
 use Rattle.rec_bytes.specs.Space.{State, put}
 use Rattle.rec_bytes.proofs.Spaces.{put_same, put_other}
-use Rattle.store_rules.specs.Chains.{prev_in}
+use Rattle.store_rules.specs.Chains.{In, prev_in}
+use Rattle.store_rules.specs.Ends.{IsEndHead, group_of_head}
 use Rattle.store_rules.specs.Ranges.{Fits, layout_by, may, must}
-use Rattle.store_rules.specs.Rules.{IsSparseStore, IsSplit, first_of, node_head}
+use Rattle.store_rules.specs.Rules.{Head, IsEnd, IsSplit, IsWellFormed, KeepsRules, Owns, first_of}
 use Rattle.store_rules.specs.Views as views
-use Rattle.store_rules.specs.Views.{Records, degree, high, is_live, key_in, kind_at, rec_at, rel_in, text_of}
+use Rattle.store_rules.specs.Views.{Records, degree, group_at, high, is_live, key_in, kind_at, rec_at, rel_in, text_of}
 use Rattle.store_rules.proofs.Changes as ch
 use Rattle.store_rules.proofs.EdgeChange as ec
-use Rattle.store_rules.proofs.EdgeMade.{IsEdgeMade, made_edges, made_fresh, made_names, made_nodes, made_store}
+use Rattle.store_rules.proofs.EdgeMade.{IsEdgeMade, made_edges, made_fresh, made_names, made_nodes, made_well}
+use Rattle.store_rules.proofs.GraphRows.{degree_most, node_there}
 use Rattle.store_rules.proofs.Made.{IsMade}
 use Rattle.store_rules.proofs.NumberLaws.{lt_true}
+use Rattle.store_rules.proofs.Shapes.{high_most, room_most, room_small}
 use Rattle.store_rules.proofs.ViewLaws.{kind_below}
 use Rattle.id_freelist.specs.Taking.{HasTaken}
 use Rattle.id_freelist.proofs.Making.{is_made}
 use Rattle.rel_store.specs.RelRecord.{rel_record, rel_used}
 use Rattle.rel_store.proofs.RelRecords.{HasNumbers, blank-rel_record, kind-rel_record, number-rel_record}
+use Rattle.chain_edit.specs.Heads.{head_of}
 use Rattle.chain_edit.specs.Links.{IsRightLink}
+use Rattle.chain_edit.proofs.OwnedHeads.{owner_used}
+use Rattle.graph_ops.specs.declared.edge_end.EdgeEnd.{EdgeEnd}
 use Rattle.graph_ops.specs.EdgeEnds.{both_joined, joined}
-use Rattle.graph_ops.specs.EdgePlacing.{HasPlaced, PutsEdge, new_row}
-use Rattle.graph_ops.specs.NodeDeleting.{HasDegree}
-use Rattle.graph_ops.specs.Store.{IsStore, graph_in}
+use Rattle.graph_ops.specs.EdgeJoining.{CanJoin, HasPlaced, MayStandAt, edge_row, new_row, one_more}
+use Rattle.graph_ops.specs.EdgePlacing.{PutsEdge}
+use Rattle.graph_ops.specs.Store.{graph_in}
 use Rattle.graph_ops.proofs.EdgeJoined.{IsLoneEdge, edge_joined, made_right, one_right}
-use Rattle.graph_ops.proofs.Elements.{found_sparse, found_there, one_more_of}
 use Rattle.graph_ops.proofs.NodePut.{number_in}
-use Rattle.store_rules.proofs.Shapes.{room_most, room_small}
 
 -- ---- the record of a new relationship
 module _ (id label from to : ℕ) (label_small : label < 2 ^ 32) (from_small : from < 2 ^ 32) (to_small : to < 2 ^ 32) where
@@ -95,113 +98,127 @@ module _ (id label from to : ℕ) (label_small : label < 2 ^ 32) (from_small : f
       all_open false false = refl
 
 -- ---- over a store that has the type
-module _ (v m : Records) (t : State) (shape : Shape) (id number from to : ℕ) (free : List ℕ) (store : IsSparseStore v shape) (split : IsSplit v format.relationships_file (is_live v format.relationships_file) free)
+module _ (v m : Records) (t : State) (shape : Shape) (id number from to : ℕ) (h k : Head) (free : List ℕ) {most : ℕ} {empty : List ℕ} (well : KeepsRules v shape most empty) (split : IsSplit v format.relationships_file (is_live v format.relationships_file) free)
     (taken : HasTaken v m format.relationships_file id free) (small : id < shape.limit) (known : number < high v format.names_file)
-    (from_sparse : kind_at v format.nodes_file from ≡ format.sparse) (to_sparse : kind_at v format.nodes_file to ≡ format.sparse)
-    (put_is : t.records ≡ put m (key_in format.relationships_file id) (rel_record (new_row id number from to))) where
+    (put_is : t.records ≡ put m (key_in format.relationships_file id) (rel_record (new_row id number from to)))
+    (source : IsEndHead v h from (edge_row id number from to)) (target : IsEndHead v k to (edge_row id number from to))
+    (into : (g : ℕ) → In g empty → In g (group_of_head h) ⊎ In g (group_of_head k))
+    (few : (n : ℕ) → IsEnd n (edge_row id number from to) → kind_at v format.nodes_file n ≡ format.sparse → degree v n < most) where
   abbrev new : Rec
   new = rel_record (new_row id number from to)
 
-  abbrev row : views.RelRow
-  row = record { id = id; label = number; from = from; to = to; property = format.nil }
+  node_low : (a : Head) (n : ℕ) → Owns (kind_at v format.nodes_file) (group_at v) a n → n < high v format.nodes_file
+  node_low a n o = kind_below (high v format.nodes_file) (rec_at v format.nodes_file n) n (owner_used (kind_at v format.nodes_file) (group_at v) a n o)
 
-  node_low : (n : ℕ) → kind_at v format.nodes_file n ≡ format.sparse → n < high v format.nodes_file
-  node_low n sparse = kind_below (high v format.nodes_file) (rec_at v format.nodes_file n) n (λ e. let k = sym e ∙ sparse in omega arith)
+  from_low : from < high v format.nodes_file
+  from_low = node_low h from source.owns
 
-  node_room : high v format.nodes_file ≤ format.most_ids
-  node_room = let h = (store.keeps.ranges.metas format.nodes_file refl).high in let r = room_most v shape format.nodes_file store.keeps.ranges in omega arith
+  to_low : to < high v format.nodes_file
+  to_low = node_low k to target.owns
 
-  from_small : from < 2 ^ 32
-  from_small = let a = node_low from from_sparse in let b = node_room in omega arith
-
-  to_small : to < 2 ^ 32
-  to_small = let a = node_low to to_sparse in let b = node_room in omega arith
+  node_small : (n : ℕ) → n < high v format.nodes_file → n < 2 ^ 32
+  node_small n low = let r = high_most v shape format.nodes_file well.ranges refl in omega arith
 
   label_small : number < 2 ^ 32
-  label_small = let h = (store.keeps.ranges.metas format.names_file refl).high in omega (arith, known, h)
-
-  rels_room : room_of shape format.relationships_file ≤ format.most_ids
-  rels_room = room_most v shape format.relationships_file store.keeps.ranges
+  label_small = let h = (well.ranges.metas format.names_file refl).high in omega (arith, known, h)
 
   made : IsMade v t.records shape format.relationships_file id new
   made = is_made v m t.records shape format.relationships_file id free new refl split taken
       (ap (λ (r : Records). r (key_in format.relationships_file id)) put_is ∙ put_same m (key_in format.relationships_file id) new)
       (λ key ne. ap (λ (r : Records). r key) put_is ∙ put_other m (key_in format.relationships_file id) new key ne)
-      (λ e. let k = new_kind id number from to label_small from_small to_small in omega arith) small (room_small v shape format.relationships_file store.keeps.ranges) (store.keeps.ranges.metas format.relationships_file refl)
+      (λ e. let k = new_kind id number from to label_small (node_small from from_low) (node_small to to_low) in omega arith) small (room_small v shape format.relationships_file well.ranges) (well.ranges.metas format.relationships_file refl)
 
-  some : (n : ℕ) → kind_at v format.nodes_file n ≡ format.sparse → kind_at v format.nodes_file n ≢ format.free_kind
-  some n sparse e = let k = sym e ∙ sparse in omega arith
+  low_now : (n : ℕ) → n < high v format.nodes_file → n < high t.records format.nodes_file
+  low_now n low = let b = ch.marks_le v t.records format.relationships_file id made.change format.nodes_file in omega arith
 
-  pub lone_edge : IsLoneEdge v t.records shape id new row
+  pub lone_edge : IsLoneEdge v t.records shape id new (edge_row id number from to) h k most empty
   lone_edge = record {
     made = made;
-    is = new_is id number from to label_small from_small to_small;
-    kind = new_kind id number from to label_small from_small to_small;
-    fits = new_fits id number from to label_small from_small to_small (high t.records)
-        (let a = node_low from from_sparse in let b = ch.marks_le v t.records format.relationships_file id made.change format.nodes_file in omega arith)
-        (let a = node_low to to_sparse in let b = ch.marks_le v t.records format.relationships_file id made.change format.nodes_file in omega arith);
-    lone = new_lone id number from to label_small from_small to_small;
-    good = record { ends = record { from = some from from_sparse; to = some to to_sparse }; named = known; bare = refl };
-    from_sparse = from_sparse;
-    to_sparse = to_sparse;
-    room = rels_room;
-    small = let r = rels_room in omega arith;
+    is = new_is id number from to label_small (node_small from from_low) (node_small to to_low);
+    kind = new_kind id number from to label_small (node_small from from_low) (node_small to to_low);
+    fits = new_fits id number from to label_small (node_small from from_low) (node_small to to_low) (high t.records) (low_now from from_low) (low_now to to_low);
+    lone = new_lone id number from to label_small (node_small from from_low) (node_small to to_low);
+    named = known;
+    bare = refl;
+    source = source;
+    target = target;
+    into = into;
+    few = few;
+    small = let r = room_most v shape format.relationships_file well.ranges in omega arith;
   }
 
--- ---- what the calls leave, by the degrees that the ends had
-module _ (s t : State) (names : List (List ℕ)) (from number : ℕ) (label : List ℕ) (to id nd ne : ℕ) (store : IsStore s names) (at : slice_get names number ≡ Some label)
-    (source : HasDegree s.records from nd) (target : HasDegree s.records to ne) (placed : HasPlaced s t number from to id)
-    (d e : ℕ) (d_is : d ≡ min (nd + 1) 4294967295) (e_is : e ≡ min (ne + 1) 4294967295) where
-  abbrev edge_row : views.RelRow
-  edge_row = record { id = id; label = number; from = from; to = to; property = format.nil }
+-- ---- what the calls leave
+module _ (s t : State) (names : List (List ℕ)) (number : ℕ) (label : List ℕ) (source target : EdgeEnd) (id : ℕ) (can : CanJoin s names number source target) (at : slice_get names number ≡ Some label)
+    (placed : HasPlaced s t number source.node target.node id) where
+  abbrev row : views.RelRow
+  row = edge_row id number source.node target.node
 
   abbrev edge_rec : Rec
-  edge_rec = rel_record (new_row id number from to)
+  edge_rec = rel_record (new_row id number source.node target.node)
+
+  abbrev from_head : Head
+  from_head = head_of source.head
+
+  abbrev to_head : Head
+  to_head = head_of target.head
+
+  leaves : MayStandAt s source row
+  leaves = can.leaves id
+
+  enters : MayStandAt s target row
+  enters = can.enters id
 
   known : (number < high s.records format.names_file) × (text_of (rec_at s.records format.names_file number) ≡ label)
-  known = number_in s.records names number label store.names at
+  known = number_in s.records names number label can.named at
 
-  d_more : d ≡ degree s.records from + 1
-  d_more = one_more_of s names from nd store source d d_is
+  -- the ends are nodes in use, of degrees that can grow
+  end_used : (end : EdgeEnd) → MayStandAt s end row → kind_at s.records format.nodes_file end.node ≢ format.free_kind
+  end_used end may = owner_used (kind_at s.records format.nodes_file) (group_at s.records) (head_of end.head) end.node may.head.owns
 
-  e_more : e ≡ degree s.records to + 1
-  e_more = one_more_of s names to ne store target e e_is
+  more_of : (end : EdgeEnd) → MayStandAt s end row → one_more end.degree ≡ degree s.records end.node + 1
+  more_of end may = let few = degree_most s.records s.shape can.keeps end.node (end_used end may) in let is = may.degree in omega arith
 
-  lone : IsLoneEdge s.records t.records s.shape id edge_rec edge_row
-  lone = let split = store.store.keeps.split format.relationships_file refl in
-      lone_edge s.records placed.took.records t s.shape id number from to split.0 store.store split.1 (placed.taken split.0 split.1.walk) placed.small known.0
-      (found_sparse s names from nd store source) (found_sparse s names to ne store target) (ap (λ (z : State). z.records) placed.saved)
+  few : (n : ℕ) → IsEnd n row → kind_at s.records format.nodes_file n ≡ format.sparse → degree s.records n < s.shape.threshold
+  few n end sparse = ⊎_elim (λ (q : source.node ≡ n). at_end source leaves q) (λ (q : target.node ≡ n). at_end target enters q) end
+    where
+      at_end : (end : EdgeEnd) → MayStandAt s end row → end.node ≡ n → degree s.records n < s.shape.threshold
+      at_end end may q = subst (λ z. degree s.records z < s.shape.threshold) q (let few = may.few (ap (kind_at s.records format.nodes_file) q ∙ sparse) in let is = may.degree in omega arith)
+
+  lone : IsLoneEdge s.records t.records s.shape id edge_rec row from_head to_head s.shape.threshold can.empty
+  lone = let split = can.keeps.split format.relationships_file refl in
+      lone_edge s.records placed.took.records t s.shape id number source.node target.node from_head to_head split.0 can.keeps split.1 (placed.taken split.0 split.1.walk) placed.small known.0
+      (ap (λ (z : State). z.records) placed.saved) leaves.head enters.head can.into few
 
   same_shape : t.shape ≡ s.shape
   same_shape = ap (λ (z : State). z.shape) placed.saved ∙ placed.shape
 
   abbrev ends : State
-  ends = both_joined t from to id d e
+  ends = both_joined t from_head to_head source.node target.node id (one_more source.degree) (one_more target.degree)
 
-  edge : IsEdgeMade s.records t.records ends.records s.shape id edge_rec edge_row
-  edge = edge_joined s.records t s.shape id edge_rec edge_row lone store.store d e d_more e_more
+  edge : IsEdgeMade s.records t.records ends.records s.shape id edge_rec row s.shape.threshold can.empty
+  edge = edge_joined s.records t s.shape id edge_rec row from_head to_head lone can.keeps (one_more source.degree) (one_more target.degree) (more_of source leaves) (more_of target enters)
 
-  pub first_right : IsRightLink t (first_of t.records (node_head from))
-  first_right = made_right s.records t s.shape id edge_rec edge_row lone store.store d e d_more e_more same_shape
+  pub first_right : IsRightLink t (first_of t.records from_head)
+  first_right = made_right s.records t s.shape id edge_rec row from_head to_head lone can.keeps (one_more source.degree) (one_more target.degree) (more_of source leaves) (more_of target enters) same_shape
 
-  pub second_right : IsRightLink (joined t from id d) (first_of (joined t from id d).records (node_head to))
-  second_right = one_right s.records t s.shape id edge_rec edge_row lone store.store d e d_more e_more same_shape
+  pub second_right : IsRightLink (joined t from_head source.node id (one_more source.degree)) (first_of (joined t from_head source.node id (one_more source.degree)).records to_head)
+  second_right = one_right s.records t s.shape id edge_rec row from_head to_head lone can.keeps (one_more source.degree) (one_more target.degree) (more_of source leaves) (more_of target enters) same_shape
 
-  puts : ends.shape ≡ s.shape → PutsEdge s ends names from label to id
+  puts : ends.shape ≡ s.shape → PutsEdge s ends names source.node label target.node id
   puts shape = record {
     store = record {
-      store = subst (IsSparseStore ends.records) (sym shape) (made_store s.records t.records ends.records s.shape id edge_rec edge_row edge store.store);
-      names = store.names ∙ sym (made_names s.records t.records ends.records s.shape id edge_rec edge_row edge store.store);
+      store = subst (IsWellFormed ends.records) (sym shape) (made_well s.records t.records ends.records s.shape id edge_rec row edge can.keeps);
+      names = can.named ∙ sym (made_names s.records t.records ends.records s.shape id edge_rec row edge can.keeps);
     };
-    leaves = found_there s names from nd store source;
-    enters = found_there s names to ne store target;
+    leaves = node_there s.records source.node (end_used source leaves);
+    enters = node_there s.records target.node (end_used target enters);
     below = placed.small;
-    fresh = made_fresh s.records t.records ends.records s.shape id edge_rec edge_row edge store.store;
-    nodes = made_nodes s.records t.records ends.records s.shape id edge_rec edge_row edge store.store;
-    edges = made_edges s.records t.records ends.records s.shape id edge_rec edge_row edge store.store
-        ∙ ap (λ l. with_row edge_number (record { id = id; label = l; from = from; to = to; properties = no_properties }) (graph_in s).edges) known.1;
-    metas = λ file ne. ap metas.meta_of (ec.meta_same s.records ends.records id (ec.changed_relinked s.records t.records ends.records id edge.made.change edge.links) file ne);
+    fresh = made_fresh s.records t.records ends.records s.shape id edge_rec row edge can.keeps;
+    nodes = made_nodes s.records t.records ends.records s.shape id edge_rec row edge can.keeps;
+    edges = made_edges s.records t.records ends.records s.shape id edge_rec row edge can.keeps
+        ∙ ap (λ l. with_row edge_number (record { id = id; label = l; from = source.node; to = target.node; properties = no_properties }) (graph_in s).edges) known.1;
+    metas = λ file ne _. ap metas.meta_of (ec.meta_same s.records ends.records id (ec.changed_relinked s.records t.records ends.records id edge.made.change edge.links) file ne);
   }
 
-  pub puts_edge : (z : State) → z ≡ ends → z.shape ≡ s.shape → PutsEdge s z names from label to id
-  puts_edge z is shape = subst (λ (q : State). PutsEdge s q names from label to id) (sym is) (puts (ap (λ (q : State). q.shape) (sym is) ∙ shape))
+  pub puts_edge : (z : State) → z ≡ ends → z.shape ≡ s.shape → PutsEdge s z names source.node label target.node id
+  puts_edge z is shape = subst (λ (q : State). PutsEdge s q names source.node label target.node id) (sym is) (puts (ap (λ (q : State). q.shape) (sym is) ∙ shape))

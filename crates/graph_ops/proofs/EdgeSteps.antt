@@ -1,4 +1,4 @@
--- A relationship that joins a node's chain, or leaves it: links and degrees alone are set.
+-- A relationship that joins a chain of a node, or leaves it: links and degrees alone are set.
 use Rattle.std.proofs.Common.{◌≡◌, ◌≢◌, ◌⊎◌, ℕ, ◌+◌, ◌<◌, ◌^◌, nat_eq, Bool, true, false, cond, sym, ap, ◌∙◌, subst, inl, inr, ⊎_elim, arith, refl}
 use Rattle.rec_bytes.specs.declared.key.Key.{Key}
 use Rattle.rec_bytes.specs.declared.record.Rec.{Rec}
@@ -7,12 +7,13 @@ use Rattle.rec_bytes.specs.Record.{field, with_field}
 use Rattle.rec_bytes.specs.Space.{State, after_get, after_put, put}
 use Rattle.rec_bytes.proofs.Spaces.{put_other, put_same, put_twice}
 use Rattle.store_rules.specs.Chains.{place_of}
-use Rattle.store_rules.specs.Rules.{Head, first_of, node_head}
+use Rattle.store_rules.specs.Rules.{Head, first_of}
 use Rattle.store_rules.specs.Views.{Records, degree, high, key_in, kind_at, rec_at}
 use Rattle.store_rules.proofs.LinkFits.{IsLink, IsLow}
-use Rattle.store_rules.proofs.Relinks.{IsRelinked, relinked_none, set_degree, set_first, set_link}
+use Rattle.store_rules.proofs.Relinks.{IsFirstLink, IsRelinked, kind_stays, relinked_none, set_degree, set_head, set_link}
 use Rattle.store_rules.proofs.ViewLaws.{kind_below}
-use Rattle.chain_edit.specs.Chains.{next_of, prev_of}
+use Rattle.chain_edit.specs.Chains.{Differ, next_of, prev_of}
+use Rattle.chain_edit.specs.Heads.{IsPlace}
 use Rattle.chain_edit.specs.Links.{backed, next_set, number_set, prev_set}
 use Rattle.chain_edit.specs.Pushing.{pushed}
 use Rattle.chain_edit.specs.Unlinking.{alone, led, unlinked}
@@ -25,10 +26,15 @@ use Rattle.graph_ops.specs.EdgeEnds.{joined, parted}
 abbrev pub IsUsedLink : Records → ℕ → Type 0
 IsUsedLink records link = (link ≡ format.nil) ⊎ (kind_at records format.relationships_file link ≡ format.related)
 
+-- a node in use
+abbrev pub IsNode : Records → ℕ → Type 0
+IsNode records n = (kind_at records format.nodes_file n ≡ format.sparse) ⊎ (kind_at records format.nodes_file n ≡ format.dense)
+
 rel_low : (records : Records) (rel : ℕ) → kind_at records format.relationships_file rel ≡ format.related → IsLow (high records format.relationships_file) rel
 rel_low records rel related = inr (kind_below (high records format.relationships_file) (rec_at records format.relationships_file rel) rel (λ e. let z = sym e ∙ related in omega arith))
 
-used_low : (records : Records) (link : ℕ) → IsUsedLink records link → IsLow (high records format.relationships_file) link
+-- what leads to one is below the mark
+pub used_low : (records : Records) (link : ℕ) → IsUsedLink records link → IsLow (high records format.relationships_file) link
 used_low records link used = ⊎_elim (λ e. inl e) (λ k. rel_low records link k) used
 
 place_link : (r : Rec) (n : ℕ) → IsLink (place_of r n)
@@ -54,23 +60,22 @@ links_backed s t n link to old used low = on_test (λ (z : State). IsRelinked s 
 links_next : (s : Records) (t : State) (n rel to : ℕ) → IsRelinked s t.records → kind_at s format.relationships_file rel ≡ format.related → IsLow (high s format.relationships_file) to → IsRelinked s (next_set t n rel to).records
 links_next s t n rel to old related low = set_link s t.records old rel (place_of (rec_at t.records format.relationships_file rel) n + 4) to related (next_link (rec_at t.records format.relationships_file rel) n) low
 
-module _ (s : State) (n rel : ℕ) (sparse : kind_at s.records format.nodes_file n ≡ format.sparse) (related : kind_at s.records format.relationships_file rel ≡ format.related) where
+module _ (s : State) (head : Head) (n rel : ℕ) (first : IsFirstLink s.records head) (place : IsPlace head) (node : IsNode s.records n) (related : kind_at s.records format.relationships_file rel ≡ format.related) where
   -- ---- at the front
-  pub links_pushed : IsUsedLink s.records (first_of s.records (node_head n)) → IsRelinked s.records (pushed s (node_head n) n rel).records
+  links_pushed : IsUsedLink s.records (first_of s.records head) → IsRelinked s.records (pushed s head n rel).records
   unfolding pushed
   links_pushed used =
-      let first = first_of s.records (node_head n) in
-      let back = backed (after_get s) n first rel in
-      let linked = next_set back n rel first in
+      let old = first_of s.records head in
+      let back = backed (after_get s) n old rel in
+      let linked = next_set back n rel old in
       let low = rel_low s.records rel related in
-      let links = links_next s.records back n rel first (links_backed s.records (after_get s) n first rel (relinked_none s.records) used low) related (used_low s.records first used) in
-      let key = key_in format.nodes_file n in
-      let same : linked.records key ≡ s.records key = elsewhere-set_next back.records n rel first key (λ e. omega arith) ∙ elsewhere-backed (after_get s) n first rel key (λ e. omega arith) in
-      subst (λ r. IsRelinked s.records (put linked.records key (with_field 4 r format.node_first_link rel))) same (set_first s.records linked.records links n rel sparse low)
+      let links = links_next s.records back n rel old (links_backed s.records (after_get s) n old rel (relinked_none s.records) used low) related (used_low s.records old used) in
+      let same : linked.records head.key ≡ s.records head.key = elsewhere-set_next back.records n rel old head.key place.elsewhere ∙ elsewhere-backed (after_get s) n old rel head.key place.elsewhere in
+      subst (λ r. IsRelinked s.records (put linked.records head.key (with_field 4 r head.field rel))) same (set_head s.records linked.records links head rel first low)
 
-  pub links_joined : (d : ℕ) → d < 2 ^ 32 → IsUsedLink s.records (first_of s.records (node_head n)) → IsRelinked s.records (joined s n rel d).records
+  pub links_joined : (d : ℕ) → d < 2 ^ 32 → IsUsedLink s.records (first_of s.records head) → IsRelinked s.records (joined s head n rel d).records
   unfolding joined
-  links_joined d small used = set_degree s.records (pushed s (node_head n) n rel).records (links_pushed used) n d sparse small
+  links_joined d small used = set_degree s.records (pushed s head n rel).records (links_pushed used) n d node small
 
   -- ---- taken out
   links_freed : IsRelinked s.records (put s.records (key_in format.relationships_file rel) (alone (s.records (key_in format.relationships_file rel)) n))
@@ -81,85 +86,94 @@ module _ (s : State) (n rel : ℕ) (sparse : kind_at s.records format.nodes_file
       let two = with_field 4 one (place_of r n + 4) format.nil in
       let single = put s.records key one in
       let there : single key ≡ one = put_same s.records key one in
-      let first = set_link s.records s.records (relinked_none s.records) rel (place_of r n) format.nil related (place_link r n) (inl refl) in
-      let both = set_link s.records single first rel (place_of r n + 4) format.nil related (next_link r n) (inl refl) in
+      let before = set_link s.records s.records (relinked_none s.records) rel (place_of r n) format.nil related (place_link r n) (inl refl) in
+      let both = set_link s.records single before rel (place_of r n + 4) format.nil related (next_link r n) (inl refl) in
       subst (IsRelinked s.records) (put_twice s.records key one two) (subst (λ q. IsRelinked s.records (put single key (with_field 4 q (place_of r n + 4) format.nil))) there both)
 
-  links_led : (t : State) (before after : ℕ) → IsRelinked s.records t.records → IsUsedLink s.records before → IsLow (high s.records format.relationships_file) after → IsRelinked s.records (led t (node_head n) n before after).records
+  links_led : (t : State) (before after : ℕ) → IsRelinked s.records t.records → IsUsedLink s.records before → IsLow (high s.records format.relationships_file) after → IsRelinked s.records (led t head n before after).records
   unfolding led
-  links_led t before after old used low = on_test (λ (z : State). IsRelinked s.records z.records) before format.nil (number_set t (node_head n) after) (next_set t n before after)
-      (λ _. set_first s.records t.records old n after sparse low)
+  links_led t before after old used low = on_test (λ (z : State). IsRelinked s.records z.records) before format.nil (number_set t head after) (next_set t n before after)
+      (λ _. set_head s.records t.records old head after first low)
       (λ ne. links_next s.records t n before after old (⊎_elim (λ e. absurd (ne e)) (λ k. k) used) low)
 
-  pub links_unlinked : IsUsedLink s.records (prev_of s.records n rel) → IsUsedLink s.records (next_of s.records n rel) → IsRelinked s.records (unlinked s (node_head n) n rel).records
+  links_unlinked : IsUsedLink s.records (prev_of s.records n rel) → IsUsedLink s.records (next_of s.records n rel) → IsRelinked s.records (unlinked s head n rel).records
   unfolding unlinked
   links_unlinked before after =
       let freed = after_put (after_get s) (key_in format.relationships_file rel) (alone (s.records (key_in format.relationships_file rel)) n) in
       links_led (backed freed n (next_of s.records n rel) (prev_of s.records n rel)) (prev_of s.records n rel) (next_of s.records n rel)
       (links_backed s.records freed n (next_of s.records n rel) (prev_of s.records n rel) links_freed after (used_low s.records (prev_of s.records n rel) before)) before (used_low s.records (next_of s.records n rel) after)
 
-  pub links_parted : (d : ℕ) → d < 2 ^ 32 → IsUsedLink s.records (prev_of s.records n rel) → IsUsedLink s.records (next_of s.records n rel) → IsRelinked s.records (parted s n rel d).records
+  pub links_parted : (d : ℕ) → d < 2 ^ 32 → IsUsedLink s.records (prev_of s.records n rel) → IsUsedLink s.records (next_of s.records n rel) → IsRelinked s.records (parted s head n rel d).records
   unfolding parted
-  links_parted d small before after = set_degree s.records (unlinked s (node_head n) n rel).records (links_unlinked before after) n d sparse small
+  links_parted d small before after = set_degree s.records (unlinked s head n rel).records (links_unlinked before after) n d node small
 
--- ---- degrees
-module _ (s : State) (n rel d : ℕ) where
-  at_node : Head
-  at_node = record { key = key_in format.nodes_file n; field = format.node_degree }
-
-  pub degree_joined : d < 2 ^ 32 → degree (joined s n rel d).records n ≡ d
+-- ---- degrees, and the records of other nodes and groups
+module _ (s : State) (head : Head) (n rel d : ℕ) where
+  pub degree_joined : d < 2 ^ 32 → degree (joined s head n rel d).records n ≡ d
   unfolding joined
-  degree_joined small = field-set_same (pushed s (node_head n) n rel).records (record { key = key_in format.nodes_file n; field = format.node_degree }) d (omega arith) small
+  degree_joined small = field-set_same (pushed s head n rel).records (record { key = key_in format.nodes_file n; field = format.node_degree }) d (omega arith) small
 
-  pub degree_parted : d < 2 ^ 32 → degree (parted s n rel d).records n ≡ d
+  pub degree_parted : d < 2 ^ 32 → degree (parted s head n rel d).records n ≡ d
   unfolding parted
-  degree_parted small = field-set_same (unlinked s (node_head n) n rel).records (record { key = key_in format.nodes_file n; field = format.node_degree }) d (omega arith) small
+  degree_parted small = field-set_same (unlinked s head n rel).records (record { key = key_in format.nodes_file n; field = format.node_degree }) d (omega arith) small
 
-  other_key : (m : ℕ) → m ≢ n → key_in format.nodes_file m ≢ key_in format.nodes_file n
-  other_key m ne e = ne (ap (λ (k : Key). k.id) e)
-
-  pub node_joined : (m : ℕ) → m ≢ n → rec_at (joined s n rel d).records format.nodes_file m ≡ rec_at s.records format.nodes_file m
+  pub record_joined : (key : Key) → key.file ≢ format.relationships_file → key ≢ head.key → key ≢ key_in format.nodes_file n → (joined s head n rel d).records key ≡ s.records key
   unfolding joined pushed
-  node_joined m ne =
-      let first = first_of s.records (node_head n) in
-      let back = backed (after_get s) n first rel in
-      let linked = next_set back n rel first in
-      let key = key_in format.nodes_file m in
-      let one = (pushed s (node_head n) n rel).records in
-      put_other one (key_in format.nodes_file n) (with_field 4 (one (key_in format.nodes_file n)) format.node_degree d) key (other_key m ne)
-      ∙ put_other linked.records (key_in format.nodes_file n) (with_field 4 (s.records (key_in format.nodes_file n)) format.node_first_link rel) key (other_key m ne)
-      ∙ elsewhere-set_next back.records n rel first key (λ e. omega arith) ∙ elsewhere-backed (after_get s) n first rel key (λ e. omega arith)
+  record_joined key no_link no_head no_node =
+      let old = first_of s.records head in
+      let back = backed (after_get s) n old rel in
+      let linked = next_set back n rel old in
+      let one = (pushed s head n rel).records in
+      put_other one (key_in format.nodes_file n) (with_field 4 (one (key_in format.nodes_file n)) format.node_degree d) key no_node
+      ∙ put_other linked.records head.key (with_field 4 (s.records head.key) head.field rel) key no_head
+      ∙ elsewhere-set_next back.records n rel old key no_link ∙ elsewhere-backed (after_get s) n old rel key no_link
 
-  pub node_parted : (m : ℕ) → m ≢ n → rec_at (parted s n rel d).records format.nodes_file m ≡ rec_at s.records format.nodes_file m
+  pub record_parted : (key : Key) → key.file ≢ format.relationships_file → key ≢ head.key → key ≢ key_in format.nodes_file n → (parted s head n rel d).records key ≡ s.records key
   unfolding parted unlinked led
-  node_parted m ne =
+  record_parted key no_link no_head no_node =
       let before = prev_of s.records n rel in
       let after = next_of s.records n rel in
       let freed = after_put (after_get s) (key_in format.relationships_file rel) (alone (s.records (key_in format.relationships_file rel)) n) in
       let back = backed freed n after before in
-      let key = key_in format.nodes_file m in
-      let one = (unlinked s (node_head n) n rel).records in
-      let stays : back.records key ≡ s.records key = elsewhere-backed freed n after before key (λ e. omega arith)
-      ∙ put_other s.records (key_in format.relationships_file rel) (alone (s.records (key_in format.relationships_file rel)) n) key (λ e. let f = ap (λ (k : Key). k.file) e in omega arith) in
-      put_other one (key_in format.nodes_file n) (with_field 4 (one (key_in format.nodes_file n)) format.node_degree d) key (other_key m ne)
-      ∙ on_test (λ (z : State). z.records key ≡ s.records key) before format.nil (number_set back (node_head n) after) (next_set back n before after)
-      (λ _. put_other back.records (key_in format.nodes_file n) (with_field 4 (back.records (key_in format.nodes_file n)) format.node_first_link after) key (other_key m ne) ∙ stays)
-      (λ _. elsewhere-set_next back.records n before after key (λ e. omega arith) ∙ stays)
+      let one = (unlinked s head n rel).records in
+      let stays : back.records key ≡ s.records key = elsewhere-backed freed n after before key no_link
+      ∙ put_other s.records (key_in format.relationships_file rel) (alone (s.records (key_in format.relationships_file rel)) n) key (λ e. no_link (ap (λ (k : Key). k.file) e)) in
+      put_other one (key_in format.nodes_file n) (with_field 4 (one (key_in format.nodes_file n)) format.node_degree d) key no_node
+      ∙ on_test (λ (z : State). z.records key ≡ s.records key) before format.nil (number_set back head after) (next_set back n before after)
+      (λ _. put_other back.records head.key (with_field 4 (back.records head.key) head.field after) key no_head ∙ stays)
+      (λ _. elsewhere-set_next back.records n before after key no_link ∙ stays)
 
 -- ---- the shape
 shape_backed : (s : State) (n link to : ℕ) → (backed s n link to).shape ≡ s.shape
 unfolding backed
 shape_backed s n link to = on_test (λ (z : State). z.shape ≡ s.shape) link format.nil s (prev_set s n link to) (λ _. refl) (λ _. refl)
 
-pub shape_joined : (s : State) (n rel d : ℕ) → (joined s n rel d).shape ≡ s.shape
+pub shape_joined : (s : State) (head : Head) (n rel d : ℕ) → (joined s head n rel d).shape ≡ s.shape
 unfolding joined pushed
-shape_joined s n rel d = shape_backed (after_get s) n (first_of s.records (node_head n)) rel
+shape_joined s head n rel d = shape_backed (after_get s) n (first_of s.records head) rel
 
-pub shape_parted : (s : State) (n rel d : ℕ) → (parted s n rel d).shape ≡ s.shape
+pub shape_parted : (s : State) (head : Head) (n rel d : ℕ) → (parted s head n rel d).shape ≡ s.shape
 unfolding parted unlinked led
-shape_parted s n rel d =
+shape_parted s head n rel d =
     let before = prev_of s.records n rel in
     let after = next_of s.records n rel in
     let freed = after_put (after_get s) (key_in format.relationships_file rel) (alone (s.records (key_in format.relationships_file rel)) n) in
     let back = backed freed n after before in
-    on_test (λ (z : State). z.shape ≡ s.shape) before format.nil (number_set back (node_head n) after) (next_set back n before after) (λ _. shape_backed freed n after before) (λ _. shape_backed freed n after before)
+    on_test (λ (z : State). z.shape ≡ s.shape) before format.nil (number_set back head after) (next_set back n before after) (λ _. shape_backed freed n after before) (λ _. shape_backed freed n after before)
+
+-- ---- what stays where links alone are set
+pub first_stays : (s t : Records) → IsRelinked s t → (h : Head) → IsFirstLink s h → IsFirstLink t h
+first_stays s t links h (inl k) = inl (kind_stays s t links format.nodes_file h.key.id ∙ k.0, k.1)
+first_stays s t links h (inr k) = inr (kind_stays s t links format.groups_file h.key.id ∙ k.0, k.1, k.2)
+
+pub node_stays : (s t : Records) → IsRelinked s t → (n : ℕ) → IsNode s n → IsNode t n
+node_stays s t links n (inl k) = inl (kind_stays s t links format.nodes_file n ∙ k)
+node_stays s t links n (inr k) = inr (kind_stays s t links format.nodes_file n ∙ k)
+
+-- the places of links
+place_stays : (s t : Records) → IsRelinked s t → (x n : ℕ) → place_of (rec_at t format.relationships_file x) n ≡ place_of (rec_at s format.relationships_file x) n
+place_stays s t links x n = ap (λ z. cond (nat_eq z n) 16 24) (links.same (key_in format.relationships_file x) 4 format.relationship_source (omega arith)
+    ((λ e. absurd (let z : 2 ≡ 1 = e in omega arith)), (λ _. inl (omega arith)), (λ e. absurd (let z : 2 ≡ 3 = e in omega arith))))
+
+pub differ_stays : (s t : Records) → IsRelinked s t → (n m x : ℕ) → Differ s n m x → Differ t n m x
+differ_stays s t links n m x differ = rw (place_stays s t links x n, place_stays s t links x m) differ

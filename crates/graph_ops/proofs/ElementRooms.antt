@@ -18,9 +18,9 @@ module _ (s : State) (names : List (List ℕ)) (store : IsStore s names) (file c
     (live : (meta_of s file).live ≡ count) where
   count-limit : count ≤ s.shape.limit
   count-limit =
-      let exact = sym live ∙ (store.store.keeps.split file reused).1.exact in
+      let exact = sym live ∙ (store.store.split file reused).1.exact in
       let few = length-ids (is_live s.records file) (high s.records file) in
-      let most = (store.store.keeps.ranges.metas file has_meta).high in
+      let most = (store.store.ranges.metas file has_meta).high in
       let room = room_is in
       omega arith
 
@@ -37,12 +37,12 @@ pub room_still : (s u : State) (file needed : ℕ) → (meta_of u file).live ≡
 room_still s u file needed live same room = let r = ap (λ (h : Shape). room_of h file) same in omega arith
 
 -- so does room for properties
-pub properties_still : (s u : State) (count blocks file : ℕ) → file ≢ format.properties_file → file ≢ format.strings_file → ((other : ℕ) → other ≢ file → meta_of u other ≡ meta_of s other) → u.shape ≡ s.shape
+pub properties_still : (s u : State) (count blocks : ℕ) → meta_of u format.properties_file ≡ meta_of s format.properties_file → meta_of u format.strings_file ≡ meta_of s format.strings_file → u.shape ≡ s.shape
     → HasPropertyRoom s count blocks → HasPropertyRoom u count blocks
-properties_still s u count blocks file one two metas same room =
+properties_still s u count blocks properties strings same room =
     let a = room.properties in
     let b = room.blocks in
-    let p = ap (λ (m : Meta). m.live) (metas format.properties_file (λ e. one (sym e))) in
-    let q = ap (λ (m : Meta). m.live) (metas format.strings_file (λ e. two (sym e))) in
+    let p = ap (λ (m : Meta). m.live) properties in
+    let q = ap (λ (m : Meta). m.live) strings in
     let limit = ap (λ (h : Shape). h.limit) same in
     record { properties = omega arith; blocks = omega arith }

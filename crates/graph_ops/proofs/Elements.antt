@@ -1,17 +1,14 @@
 -- What a row that was loaded, or none, says of the graph.
-use Rattle.std.proofs.Common.{◌≡◌, ◌≢◌, ℕ, ◌+◌, min, nat_eq, nat_lt, Bool, true, false, cond, ◌&&◌, None, Some, List, sym, ap, ◌∙◌, ⊎_elim, arith, refl}
+use Rattle.std.proofs.Common.{◌≡◌, ◌≢◌, ℕ, nat_lt, Bool, true, false, cond, ◌&&◌, None, Some, List, sym, ap, ◌∙◌, ⊎_elim, refl}
 use Rattle.plain_graph.specs.Graph.{degree_in, has_edge, has_element, has_node}
 use Rattle.plain_graph.specs.declared.command.Target.{Target}
 use Rattle.plain_graph.specs.declared.command.Target.TheVariants as targets
 use Rattle.rec_bytes.specs.Format as format
 use Rattle.rec_bytes.specs.Space.{SameButReads, State, after_get}
-use Rattle.rec_bytes.specs.Record.{field}
-use Rattle.rec_bytes.specs.declared.shape.Shape.{Shape}
-use Rattle.store_rules.specs.Ranges.{AreInRange, Layout, free_layout, layout_by, node_layout}
-use Rattle.store_rules.specs.Views.{Records, degree, high, kind_at, rec_at, row_if}
+use Rattle.store_rules.specs.Views.{degree, kind_at, rec_at, row_if}
 use Rattle.store_rules.proofs.GraphRows as rows
-use Rattle.store_rules.proofs.NumberLaws.{eq_false, nat_cases}
-use Rattle.store_rules.proofs.ViewLaws.{kind_below, kind_low, row_some}
+use Rattle.store_rules.proofs.NumberLaws.{nat_cases}
+use Rattle.store_rules.proofs.ViewLaws.{row_some}
 use Rattle.node_store.specs.declared.node_row.NodeRow.{NodeRow}
 use Rattle.node_store.specs.Loading as nodes
 use Rattle.node_store.proofs.Rows as node_rows
@@ -73,37 +70,14 @@ element_used s (targets.Edge id) there free = clash (sym there ∙ rows.no_edge 
 
 -- ---- a store's records can be read
 pub node_readable : (s : State) (names : List (List ℕ)) (id : ℕ) → IsStore s names → nodes.IsReadable s id
-node_readable s names id store = node_rows.IsReadable-AreInRange s id store.store.keeps.ranges
+node_readable s names id store = node_rows.IsReadable-AreInRange s id store.store.ranges
 
 -- ---- the degree that was read of a node of a store
-
--- a node in use that isn't dense is sparse
-pub sparse_of : (s : Records) (shape : Shape) (x : ℕ) → AreInRange s shape → kind_at s format.nodes_file x ≢ 0 → kind_at s format.nodes_file x ≢ format.dense → kind_at s format.nodes_file x ≡ format.sparse
-sparse_of s shape x ranges live thin =
-    let r = rec_at s format.nodes_file x in
-    let lt = kind_below (high s format.nodes_file) r x live in
-    let low = kind_low (high s format.nodes_file) r x lt in
-    let fits = ranges.fit format.nodes_file x refl lt in
-    ⊎_elim (λ (e : field 1 r format.kind ≡ format.sparse). low ∙ e)
-    (λ (ne : field 1 r format.kind ≢ format.sparse). absurd (none (field 1 r format.kind) fits.layout (λ e. live (low ∙ e)) ne (λ e. thin (low ∙ e)) fits.is)) (nat_cases (field 1 r format.kind) format.sparse)
-  where
-    none : (kind : ℕ) (layout : Layout) → kind ≢ 0 → kind ≢ 1 → kind ≢ 2 → layout_by format.nodes_file (rec_at s format.nodes_file x) kind ≡ Some layout → ⊥
-    none kind layout a b c is = by (nat_eq kind 0) (nat_eq kind 1) (nat_eq kind 2) (eq_false kind 0 a) (eq_false kind 1 b) (eq_false kind 2 c) is
-      where
-        by : (free sparse dense : Bool) → free ≡ false → sparse ≡ false → dense ≡ false
-            → cond free (free_layout format.nodes_file) (cond sparse (node_layout format.relationships_file) (cond dense (node_layout format.groups_file) None)) ≡ Some layout → ⊥
-        by true sparse dense e f h k = cc
-        by false true dense e f h k = cc
-        by false false true e f h k = cc
-        by false false false e f h k = cc
 
 -- what a load of a node of a store says
 module _ (s : State) (names : List (List ℕ)) (id n : ℕ) (store : IsStore s names) (has : HasDegree s.records id n) where
   pub found_used : kind_at s.records format.nodes_file id ≢ format.free_kind
   found_used = (used_of s id has.row (sym has.found)).0
-
-  pub found_sparse : kind_at s.records format.nodes_file id ≡ format.sparse
-  found_sparse = sparse_of s.records s.shape id store.store.keeps.ranges found_used (store.store.sparse id)
 
   pub found_degree : n ≡ degree s.records id
   found_degree = sym has.is ∙ (used_of s id has.row (sym has.found)).1
@@ -112,7 +86,4 @@ module _ (s : State) (names : List (List ℕ)) (id n : ℕ) (store : IsStore s n
   found_there = rows.node_there s.records id found_used
 
   pub found_in : n ≡ degree_in (graph_in s) id
-  found_in = found_degree ∙ sym (rows.degree_in-degree s.records s.shape store.store.keeps id found_used)
-
-  pub one_more_of : (d : ℕ) → d ≡ min (n + 1) 4294967295 → d ≡ degree s.records id + 1
-  one_more_of d is = let b = store.store.keeps.degrees.few id found_sparse in let e = found_degree in omega arith
+  found_in = found_degree ∙ sym (rows.degree_in-degree s.records s.shape store.store id found_used)

@@ -13,7 +13,10 @@ use Rattle.prop_store.specs.declared.set_fault.SetFault.{SetFault}
 use Rattle.prop_store.specs.declared.set_fault.SetFault.TheVariants as sets
 use Rattle.chain_edit.specs.declared.chain_fault.ChainFault.{ChainFault}
 use Rattle.chain_edit.specs.declared.chain_fault.ChainFault.TheVariants as chains
-use Rattle.graph_ops.specs.ChangeFault.{LeavesSpace, MayComeLate, is_element_file, of_chain, of_set, of_space}
+use Rattle.group_store.specs.GroupFault.{NotDamaged}
+use Rattle.group_store.specs.declared.group_fault.GroupFault.{GroupFault}
+use Rattle.group_store.specs.declared.group_fault.GroupFault.TheVariants as groups
+use Rattle.graph_ops.specs.ChangeFault.{IsOutside, LeavesSpace, MayComeLate, is_element_file, of_chain, of_group, of_set, of_space}
 
 -- what holds of a fault holds of the result that hands it on
 pub fault_exit : {T F : Type 0} (of : F → ChangeFault) (P : ChangeFault → Type 0) (fault : F) (out : Result T ChangeFault) → IsErrAnd out (λ y. y ≡ of fault) → P (of fault) → IfErr out P
@@ -53,6 +56,13 @@ late_leaves s t (PropsFull count) late = tt
 late_leaves s t Memory late = tt
 late_leaves s t Disk late = tt
 late_leaves s t (Damaged damage) late = tt
+
+-- ---- faults of the crates below that are no answers
+
+pub group_outside : (T : Type 0) (fault : GroupFault) → NotDamaged {T = T} (Err fault) → IsOutside (of_group fault)
+group_outside T groups.Memory right = tt
+group_outside T groups.Disk right = tt
+group_outside T (groups.Damaged damage) right = absurd right
 
 -- ---- faults of the crates below that may come late
 pub space_late : (fault : SpaceFault) → MayComeLate (of_space fault)

@@ -7,17 +7,17 @@ use Rattle.plain_graph.specs.Names.{IsShortName}
 use Rattle.rec_bytes.specs.Format as format
 use Rattle.rec_bytes.specs.RecordFiles.{meta_key_of}
 use Rattle.rec_bytes.specs.Space.{SameButReads, State, WritesOnly}
-use Rattle.store_rules.specs.Rules.{IsSparseStore}
+use Rattle.store_rules.specs.Rules.{IsWellFormed}
 use Rattle.store_rules.specs.Views.{Records, high}
 use Rattle.store_rules.specs.Writes.{WritesAtMost}
-use Rattle.store_rules.proofs.NameMade.{IsNamed, edges_stay, name_store, names_more, nodes_stay}
+use Rattle.store_rules.proofs.NameMade.{IsNamed, edges_stay, name_well, names_more, nodes_stay}
 use Rattle.name_store.specs.Interning.{interned, named}
 use Rattle.name_store.specs.NameRecord.{name_key, name_record}
 use Rattle.name_store.proofs.FirstNames.{length-names_of}
 use Rattle.name_store.proofs.NamedStore.{IsNamed-named, interned-known, interned-new}
 use Rattle.graph_ops.specs.Rooms.{KeepsElementMetas}
 use Rattle.graph_ops.specs.Store.{IsStore, KeepsElements}
-use Rattle.graph_ops.proofs.Writes.{among_metas, more_written, none_written, some_written}
+use Rattle.store_rules.proofs.WriteLaws.{among_metas, more_written, none_written, some_written}
 
 pub keeps_same : (s : State) (names : List (List ℕ)) → IsStore s names → KeepsElements s s names
 keeps_same s names store = record { store = store; shape = refl; nodes = refl; edges = refl }
@@ -34,19 +34,19 @@ keeps_named : (s : State) (old : List (List ℕ)) (text : List ℕ) → IsStore 
 keeps_named s old text store short lacks few =
     let count = high s.records format.names_file in
     let long : length old ≡ count = ap length store.names ∙ length-names_of s.records in
-    let meta = store.store.keeps.ranges.metas format.names_file refl in
+    let meta = store.store.ranges.metas format.names_file refl in
     let most = meta.high in
     let v : Records = (named s count text).records in
     let there : IsNamed s.records v s.shape (name_record text) text
-    = IsNamed-named s s.shape text meta (store.store.keeps.kept format.names_file refl refl) (omega (arith, few, long, most)) short (λ k. lacks (subst (λ xs. Contains xs text) (sym store.names) k)) in
+    = IsNamed-named s s.shape text meta (store.store.kept format.names_file refl refl) (omega (arith, few, long, most)) short (λ k. lacks (subst (λ xs. Contains xs text) (sym store.names) k)) in
     subst (λ n. KeepsElements s (named s n text) (old ++ text ∷ [])) (sym long) (record {
       store = record {
-        store = subst (IsSparseStore v) (sym (named-shape s count text)) (name_store s.records v s.shape (name_record text) text there store.store);
-        names = ap (λ xs. xs ++ text ∷ []) store.names ∙ sym (names_more s.records v s.shape (name_record text) text there store.store.keeps);
+        store = subst (IsWellFormed v) (sym (named-shape s count text)) (name_well s.records v s.shape (name_record text) text there store.store);
+        names = ap (λ xs. xs ++ text ∷ []) store.names ∙ sym (names_more s.records v s.shape (name_record text) text there store.store);
       };
       shape = named-shape s count text;
-      nodes = nodes_stay s.records v s.shape (name_record text) text there store.store.keeps;
-      edges = edges_stay s.records v s.shape (name_record text) text there store.store.keeps;
+      nodes = nodes_stay s.records v s.shape (name_record text) text there store.store;
+      edges = edges_stay s.records v s.shape (name_record text) text there store.store;
     })
 
 -- no name touches what the meta records of other files say

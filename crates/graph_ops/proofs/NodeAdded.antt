@@ -30,7 +30,7 @@ use Rattle.graph_ops.proofs.Reasons.{None, refused_more}
 -- ---- room for a node
 module _ (s : State) (names : List (List ℕ)) (store : IsStore s names) where
   live_nodes : (meta_of s format.nodes_file).live ≡ length (graph_in s).nodes
-  live_nodes = count_nodes s.records s.shape store.store.keeps
+  live_nodes = count_nodes s.records s.shape store.store
 
   pub not_full : HasRoom s format.nodes_file 1 → ¬ IsFullOfNodes s
   not_full = rooms.not_full s names store format.nodes_file (length (graph_in s).nodes) refl refl refl live_nodes
@@ -43,7 +43,7 @@ module _ (s : State) (names : List (List ℕ)) (store : IsStore s names) where
 
   -- a space with the same nodes has room for one more, too
   pub room_kept : (u : State) (c : List (List ℕ)) → KeepsElements s u c → HasRoom s format.nodes_file 1 → HasRoom u format.nodes_file 1
-  room_kept u c kept = rooms.room_still s u format.nodes_file 1 (count_nodes u.records u.shape kept.store.store.keeps ∙ ap length kept.nodes ∙ sym live_nodes) kept.shape
+  room_kept u c kept = rooms.room_still s u format.nodes_file 1 (count_nodes u.records u.shape kept.store.store ∙ ap length kept.nodes ∙ sym live_nodes) kept.shape
 
 -- ---- refusals
 none_of : (other : Refusal) → ⊥ → ⊥
@@ -82,7 +82,8 @@ module _ (s u v : State) (names c : List (List ℕ)) (label : List ℕ) (pairs :
   }
 
   pub put_room : HasPropertyRoom v (length prepared.assigned.items) (assigned_blocks pairs prepared.assigned.items)
-  put_room = rooms.properties_still u v (length prepared.assigned.items) (assigned_blocks pairs prepared.assigned.items) format.nodes_file (λ e. omega arith) (λ e. omega arith) puts.metas same at_hand.room
+  put_room = rooms.properties_still u v (length prepared.assigned.items) (assigned_blocks pairs prepared.assigned.items)
+      (puts.metas format.properties_file (λ e. omega arith)) (puts.metas format.strings_file (λ e. omega arith)) same at_hand.room
 
   module _ (w : State) (put : PutsPairs v w c (targets.Node id) (pairs_of c pairs prepared.assigned.items)) (room : ¬ IsFullOfNodes s) where
     abbrev ps : List Pair

@@ -12,11 +12,11 @@ use Rattle.rec_bytes.specs.RecordFiles.{meta_key_of}
 use Rattle.rec_bytes.specs.Space.{State, after_put, put}
 use Rattle.rec_bytes.proofs.Spaces.{put_same, put_other}
 use Rattle.store_rules.specs.Graph.{names_of}
-use Rattle.store_rules.specs.Rules.{IsSparseStore}
+use Rattle.store_rules.specs.Rules.{IsWellFormed}
 use Rattle.store_rules.specs.Views.{Records, high, rec_at, text_of}
 use Rattle.store_rules.proofs.Made.{IsMade}
 use Rattle.store_rules.proofs.NodeChange.{edges_stay, names_stay}
-use Rattle.store_rules.proofs.NodeMade.{IsNewNode, node_added, node_fresh, node_store}
+use Rattle.store_rules.proofs.NodeMade.{IsNewNode, node_added, node_fresh, node_well}
 use Rattle.id_freelist.specs.FreeLists.{IsFreeList}
 use Rattle.id_freelist.specs.Taking.{HasTaken}
 use Rattle.id_freelist.proofs.Making.{is_made}
@@ -51,15 +51,15 @@ module _ (s m t : State) (names : List (List ℕ)) (id number : ℕ) (label : Li
   known = number_in s.records names number label store.names at
 
   fresh : IsNewNode rec number
-  fresh = let few = (store.store.keeps.ranges.metas format.names_file refl).high in IsNewNode-node_record id number (omega (arith, known.0, few))
+  fresh = let few = (store.store.ranges.metas format.names_file refl).high in IsNewNode-node_record id number (omega (arith, known.0, few))
 
-  has : HasTaken s.records m.records format.nodes_file id (store.store.keeps.split format.nodes_file refl).0
-  has = let split = store.store.keeps.split format.nodes_file refl in taken split.0 split.1.walk
+  has : HasTaken s.records m.records format.nodes_file id (store.store.split format.nodes_file refl).0
+  has = let split = store.store.split format.nodes_file refl in taken split.0 split.1.walk
 
   made : IsMade s.records after s.shape format.nodes_file id rec
-  made = let split = store.store.keeps.split format.nodes_file refl in
+  made = let split = store.store.split format.nodes_file refl in
       is_made s.records m.records after s.shape format.nodes_file id split.0 rec refl split.1 has (put_same m.records (node_key id) rec) (put_other m.records (node_key id) rec)
-      (λ e. let k = fresh.kind in omega arith) small (room_small s.records s.shape format.nodes_file store.store.keeps.ranges) (store.store.keeps.ranges.metas format.nodes_file refl)
+      (λ e. let k = fresh.kind in omega arith) small (room_small s.records s.shape format.nodes_file store.store.ranges) (store.store.ranges.metas format.nodes_file refl)
 
   other_meta : (file : ℕ) → file ≢ format.nodes_file → after (meta_key_of file) ≡ s.records (meta_key_of file)
   other_meta file ne = put_other m.records (node_key id) rec (meta_key_of file) (λ e. let f = ap (λ (k : Key). k.file) e in omega arith) ∙ has.others (meta_key_of file) (λ e. ne (ap (λ (k : Key). k.id) e))
@@ -67,12 +67,12 @@ module _ (s m t : State) (names : List (List ℕ)) (id number : ℕ) (label : Li
   puts : PutsNode s (after_put m (node_key id) rec) names label id
   puts = record {
     store = record {
-      store = subst (IsSparseStore after) (sym shape) (node_store s.records after s.shape id number rec made fresh store.store known.0);
+      store = subst (IsWellFormed after) (sym shape) (node_well s.records after s.shape id number rec made fresh store.store known.0);
       names = store.names ∙ sym (names_stay s.records after id made.change);
     };
     below = small;
-    fresh = node_fresh s.records after s.shape id number rec made fresh store.store.keeps known.0;
-    nodes = node_added s.records after s.shape id number rec made fresh store.store.keeps known.0
+    fresh = node_fresh s.records after s.shape id number rec made fresh store.store known.0;
+    nodes = node_added s.records after s.shape id number rec made fresh store.store known.0
         ∙ ap (λ l. with_row node_number (record { id = id; label = l; properties = no_properties }) (graph_in s).nodes) known.1;
     edges = edges_stay s.records after id made.change;
     metas = λ file ne. ap metas.meta_of (other_meta file ne);

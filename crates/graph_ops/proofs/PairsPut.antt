@@ -140,7 +140,7 @@ module _ (s t : State) (names : List (List ℕ)) (target : Target) (pairs : List
     fits_properties =
         let all = property_count-with_properties (graph_in s) target more (distinct_in_store s.records) can.there in
         let same = ap property_count (next_graph value is) in
-        let live = count_properties s.records s.shape can.store.store.keeps in
+        let live = count_properties s.records s.shape can.store.store in
         let none = bare_len in
         let n = ap (λ m. maps.len (more m)) can.bare ∙ count_then (i + 1) (omega arith) in
         let fits = room.properties in
@@ -150,7 +150,7 @@ module _ (s t : State) (names : List (List ℕ)) (target : Target) (pairs : List
     fits_blocks =
         let all = block_count-with_properties (graph_in s) target more (distinct_in_store s.records) can.there in
         let same = ap block_count (next_graph value is) in
-        let live = count_blocks s.records s.shape can.store.store.keeps in
+        let live = count_blocks s.records s.shape can.store.store in
         let none = bare_blocks in
         let b = ap (λ m. blocks_in (more m)) can.bare ∙ blocks_in-with_pairs no_properties (take (i + 1) ps) (new_take no_properties (i + 1) ps can.are.once) in
         let empty = blocks_in-empty in

@@ -69,10 +69,10 @@ module _ (s : State) (a b : List (List ℕ)) (label : List ℕ) (pairs : List Pa
   module _ (u : State) (c : List (List ℕ)) (xs : List Assignment) (later : UsesNames b (keys_in pairs) c) (kept : KeepsElements s u c) (are : AreAssigned c pairs xs) (few : length xs ≤ 32) (names_few : length c ≤ most_names) where
     -- the counts of the store are those of the graph before
     live_properties : (meta_of u format.properties_file).live ≡ property_count (graph_in s)
-    live_properties = count_properties u.records u.shape kept.store.store.keeps ∙ (λ i. property_count (record { nodes = kept.nodes i; edges = kept.edges i; names = (graph_in s).names }))
+    live_properties = count_properties u.records u.shape kept.store.store ∙ (λ i. property_count (record { nodes = kept.nodes i; edges = kept.edges i; names = (graph_in s).names }))
 
     live_blocks : (meta_of u format.strings_file).live ≡ block_count (graph_in s)
-    live_blocks = count_blocks u.records u.shape kept.store.store.keeps ∙ (λ i. block_count (record { nodes = kept.nodes i; edges = kept.edges i; names = (graph_in s).names }))
+    live_blocks = count_blocks u.records u.shape kept.store.store ∙ (λ i. block_count (record { nodes = kept.nodes i; edges = kept.edges i; names = (graph_in s).names }))
 
     limit_is : u.shape.limit ≡ s.shape.limit
     limit_is = ap (λ (h : Shape). h.limit) kept.shape

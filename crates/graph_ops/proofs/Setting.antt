@@ -141,16 +141,16 @@ module _ (s : State) (names : List (List ℕ)) (target : Target) (key : List ℕ
   used = element_used s target there
 
   es : List Property
-  es = listed s.records s.shape store.store.keeps element_file element_id
+  es = listed s.records s.shape store.store element_file element_id
 
   are : AreProperties (property_records s.records) (property_from s.records element_file element_id) es
   unfolding es
-  are = properties_right s.records s.shape store.store.keeps element_file element_id (property_from s.records element_file element_id) (owner_in-used s.records element_file element_id (owner_file target) used)
+  are = properties_right s.records s.shape store.store element_file element_id (property_from s.records element_file element_id) (owner_in-used s.records element_file element_id (owner_file target) used)
 
   -- what is no name is no key
   lacks_key : ¬ Contains names key → LackKey (rec_at s.records format.names_file) es key
   lacks_key lacks k i e =
-      let low = key_known s.records s.shape store.store.keeps element_file element_id (property_from s.records element_file element_id) es (owner_in-used s.records element_file element_id (owner_file target) used) are k i in
+      let low = key_known s.records s.shape store.store element_file element_id (property_from s.records element_file element_id) es (owner_in-used s.records element_file element_id (owner_file target) used) are k i in
       lacks (subst (λ l. Contains l key) (sym store.names) (contains_at (names_of s.records) k key (first-names_of s.records k low ∙ ap Some e)))
 
   pub unnamed_none : ¬ Contains names key → maps.get (properties_at (graph_in s) target) key ≡ None
@@ -351,8 +351,8 @@ module _ (s : State) (old : List (List ℕ)) (target : Target) (key : List ℕ) 
         let graph : graph_in u ≡ record (with_value (graph_in s) target key value) { names = (graph_in t).names } = h.graph ∙ graph_with in
         let names : (graph_in u).names ≡ new = ap (λ (z : Graph). z.names) graph ∙ sym kept.store.names in
         let limit : u.shape.limit ≡ s.shape.limit = ap (λ (z : Shape). z.limit) (shape ∙ kept.shape) in
-        let properties = property_count-limit u.records u.shape h.changes.store.keeps in
-        let blocks = block_count-limit u.records u.shape h.changes.store.keeps in
+        let properties = property_count-limit u.records u.shape h.changes.store in
+        let blocks = block_count-limit u.records u.shape h.changes.store in
         record {
           store = record { store = h.changes.store; names = sym names };
           changes = (

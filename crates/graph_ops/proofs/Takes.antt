@@ -5,6 +5,7 @@ use Rattle.rec_bytes.specs.Format as format
 use Rattle.rec_bytes.specs.RecordFiles.{is_meta_file}
 use Rattle.rec_bytes.specs.Space.{State, meta_of}
 use Rattle.store_rules.specs.Ranges.{is_reused}
+use Rattle.store_rules.specs.Rules.{KeepsRules}
 use Rattle.id_freelist.specs.declared.take_fault.TakeFault.{TakeFault}
 use Rattle.id_freelist.specs.declared.take_fault.TakeFault.TheVariants as take
 use Rattle.id_freelist.specs.Taking.{CanTake, IsTakeFault, free_taken, mark_taken, taken}
@@ -15,8 +16,11 @@ use Rattle.graph_ops.specs.Rooms.{HasRoom}
 use Rattle.graph_ops.specs.Store.{IsStore}
 
 -- a file of a store can give an identifier, unless it is full
-pub store_can_take : (s : State) (names : List (List ℕ)) (file : ℕ) (reused : is_reused file ≡ true) → is_meta_file file ≡ true → (store : IsStore s names) → CanTake s file (store.store.keeps.split file reused).0
-store_can_take s names file reused is store = let k = store.store.keeps.split file reused in can_take s file k.0 (store.store.keeps.ranges.metas file is).high k.1
+pub kept_can_take : (s : State) {most : ℕ} {empty : List ℕ} (file : ℕ) (reused : is_reused file ≡ true) → is_meta_file file ≡ true → (well : KeepsRules s.records s.shape most empty) → CanTake s file (well.split file reused).0
+kept_can_take s file reused is well = let k = well.split file reused in can_take s file k.0 (well.ranges.metas file is).high k.1
+
+pub store_can_take : (s : State) (names : List (List ℕ)) (file : ℕ) (reused : is_reused file ≡ true) → is_meta_file file ≡ true → (store : IsStore s names) → CanTake s file (store.store.split file reused).0
+store_can_take s names file reused is store = kept_can_take s file reused is store.store
 
 -- so only the machine can fail
 pub take_outside : (s : State) (file : ℕ) (fault : TakeFault) → HasRoom s file 1 → IsTakeFault s file fault → NotDamaged {T = ℕ} (Err fault) → IsOutside (of_take fault)

@@ -18,6 +18,8 @@ use Rattle.prop_store.specs.declared.set_fault.SetFault.{SetFault}
 use Rattle.prop_store.specs.declared.set_fault.SetFault.TheVariants as set
 use Rattle.chain_edit.specs.declared.chain_fault.ChainFault.{ChainFault}
 use Rattle.chain_edit.specs.declared.chain_fault.ChainFault.TheVariants as chain
+use Rattle.group_store.specs.declared.group_fault.GroupFault.{GroupFault}
+use Rattle.group_store.specs.declared.group_fault.GroupFault.TheVariants as group
 use Rattle.graph_ops.specs.declared.change_fault.ChangeFault.{ChangeFault}
 use Rattle.graph_ops.specs.declared.change_fault.ChangeFault.TheVariants.{NoNode, NoEdge}
 use Rattle.graph_ops.specs.declared.change_fault.ChangeFault.TheVariants.{HasRelationships, Full}
@@ -47,6 +49,11 @@ abbrev pub of_chain : ChainFault → ChangeFault
 of_chain chain.Memory = Memory
 of_chain chain.Disk = Disk
 of_chain (chain.Damaged damage) = Damaged damage
+
+abbrev pub of_group : GroupFault → ChangeFault
+of_group group.Memory = Memory
+of_group group.Disk = Disk
+of_group (group.Damaged damage) = Damaged damage
 
 abbrev pub of_prop : Fault → ChangeFault
 of_prop prop.Memory = Memory

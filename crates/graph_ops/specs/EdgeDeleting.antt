@@ -1,19 +1,66 @@
 -- An edge that is deleted.
-use Rattle.std.specs.Prelude.{◌≡◌, ℕ, List, Some}
+use Rattle.std.specs.Prelude.{◌≡◌, ◌≢◌, ◌⊎◌, ℕ, ◌+◌, ◌∷◌, ◌++◌, List, Some}
 use Rattle.plain_graph.specs.Graph.{RemovesEdge}
 use Rattle.rec_bytes.specs.Format as format
-use Rattle.rec_bytes.specs.Space.{State}
-use Rattle.store_rules.specs.Views.{rel_at}
+use Rattle.rec_bytes.specs.Space.{State, WritesOnly, meta_of}
+use Rattle.rel_store.specs.RelRecord.{rel_key}
+use Rattle.store_rules.specs.Graph.{names_of}
+use Rattle.store_rules.specs.Rules.{KeepsRules, Owns, StandsAt}
+use Rattle.store_rules.specs.Views.{Records, degree, group_at, kind_at, node_at, rel_at}
+use Rattle.store_rules.specs.Writes.{meta_keys}
+use Rattle.chain_edit.specs.Heads.{head_of}
+use Rattle.graph_ops.specs.EdgeEnds.{end_groups, end_keys}
 use Rattle.graph_ops.specs.NodeDeleting.{HasDegree}
 use Rattle.graph_ops.specs.Store.{IsStore, graph_in}
+use Rattle.graph_ops.specs.declared.edge_end.EdgeEnd.{EdgeEnd}
 
--- The edge has these ends, of these degrees, and no properties.
-pub record IsBareEdge (s : State) (id from from_degree to to_degree : ℕ) : Type 0 where
+-- The relationship stands at the head, which the node owns, and the node has so many relationships.
+pub record StandsAtEnd (records : Records) (id : ℕ) (end : EdgeEnd) : Type 0 where
+  pub owns : Owns (kind_at records format.nodes_file) (group_at records)
+      (head_of end.head) end.node
+  pub stands : StandsAt (rel_at records) (group_at records) (head_of end.head) id
+  pub degree : HasDegree records end.node end.degree
+
+-- The edge has these ends, and no properties.
+pub record IsBareEdge (s : State) (id : ℕ) (source target : EdgeEnd) : Type 0 where
   pub label : ℕ
-  pub there : rel_at s.records id
-      ≡ Some (record { id = id; label = label; from = from; to = to; property = format.nil })
-  pub source : HasDegree s.records from from_degree
-  pub target : HasDegree s.records to to_degree
+  pub there : rel_at s.records id ≡ Some (record {
+    id = id;
+    label = label;
+    from = source.node;
+    to = target.node;
+    property = format.nil;
+  })
+  pub leaves : StandsAtEnd s.records id source
+  pub enters : StandsAtEnd s.records id target
+
+-- The store lacks the edge, and keeps the rules, but that the groups of the heads at its ends may be
+-- empty.
+pub record PartsEdge (s t : State) (kept : List (List ℕ)) (id : ℕ) (source target : EdgeEnd)
+    : Type 0 where
+  pub keeps : KeepsRules t.records t.shape t.shape.threshold
+      (end_groups (head_of source.head) (head_of target.head) source.node target.node)
+  pub names : kept ≡ names_of t.records
+  pub removes : RemovesEdge (graph_in s) id (graph_in t)
+  pub nodes : (n : ℕ) → node_at t.records n ≡ node_at s.records n
+  pub kinds : (n : ℕ) → kind_at t.records format.nodes_file n
+      ≡ kind_at s.records format.nodes_file n
+  pub groups : (g : ℕ) → group_at t.records g ≡ group_at s.records g
+  pub rels : (x : ℕ) → x ≢ id → rel_at t.records x ≡ rel_at s.records x
+  pub less : (n : ℕ) → (source.node ≡ n) ⊎ (target.node ≡ n)
+      → degree t.records n + 1 ≡ degree s.records n
+  pub as_before : (n : ℕ) → n ≢ source.node → n ≢ target.node
+      → degree t.records n ≡ degree s.records n
+  pub metas : (file : ℕ) → file ≢ format.relationships_file → meta_of t file ≡ meta_of s file
+
+-- The records of the relationship and of its ends are all that became written, meta records aside.
+pub record WritesEnds (old new : State) (id : ℕ) (source target : EdgeEnd) : Type 0 where
+  pub before_source : ℕ
+  pub after_source : ℕ
+  pub before_target : ℕ
+  pub after_target : ℕ
+  pub only : WritesOnly old new (rel_key id ∷ end_keys before_source after_source source
+      ++ end_keys before_target after_target target ++ meta_keys)
 
 -- The store lacks the edge.
 pub record TakesEdge (s t : State) (names : List (List ℕ)) (id : ℕ) : Type 0 where

@@ -4,6 +4,8 @@ pub mod ChangeFault
 pub mod EdgeAdding
 pub mod EdgeDeleting
 pub mod EdgeEnds
+pub mod EdgeJoining
+pub mod EdgeOpening
 pub mod EdgePlacing
 pub mod NodeAdding
 pub mod NodeDeleting

@@ -3,11 +3,11 @@ use Rattle.std.specs.Prelude.{◌≡◌, ℕ, List}
 use Rattle.plain_graph.specs.Graph.{Graph}
 use Rattle.rec_bytes.specs.Space.{State}
 use Rattle.store_rules.specs.Graph.{graph_of, names_of}
-use Rattle.store_rules.specs.Rules.{IsSparseStore}
+use Rattle.store_rules.specs.Rules.{IsWellFormed}
 
 -- a store that keeps the rules, and its names beside it
 pub record IsStore (s : State) (kept : List (List ℕ)) : Type 0 where
-  pub store : IsSparseStore s.records s.shape
+  pub store : IsWellFormed s.records s.shape
   pub names : kept ≡ names_of s.records
 
 -- the graph that a space stands for

@@ -1,4 +1,5 @@
 use chain_edit::ChainFault;
+use group_store::GroupFault;
 use id_freelist::TakeFault;
 use name_store::InternFault;
 use prop_store::{Fault, SetFault};
@@ -107,6 +108,21 @@ impl From<ChainFault> for ChangeFault {
             ChainFault::Memory => ChangeFault::Memory,
             ChainFault::Disk => ChangeFault::Disk,
             ChainFault::Damaged(damage) => ChangeFault::Damaged(damage),
+        }
+    }
+}
+
+impl From<GroupFault> for ChangeFault {
+    ghost from_gives = { λ fault result. result ≡ of_group fault };
+
+    ghost use Rattle.std.specs.Prelude.{◌≡◌};
+    ghost use Rattle.graph_ops.specs.ChangeFault.{of_group};
+
+    fn from(fault: GroupFault) -> ChangeFault {
+        match fault {
+            GroupFault::Memory => ChangeFault::Memory,
+            GroupFault::Disk => ChangeFault::Disk,
+            GroupFault::Damaged(damage) => ChangeFault::Damaged(damage),
         }
     }
 }

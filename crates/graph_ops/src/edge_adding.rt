@@ -1,5 +1,5 @@
 ghost use Rattle.std.specs.Prelude.{◌≡◌, ◌≤◌, ◌<◌, ◌++◌, ◌+◌, ◌-◌, ◌*◌, ◌∷◌, ℕ, List, IfErr, IfOk};
-ghost use Rattle.std.specs.Prelude.{IsErr, OnErr, length};
+ghost use Rattle.std.specs.Prelude.{IsErr, OnErr, OnOk, length};
 ghost use Rattle.plain_graph.specs.Changes.{properties_weight};
 ghost use Rattle.plain_graph.specs.Forms.{HasForm};
 ghost use Rattle.plain_graph.specs.Graph.{UsesNames};
@@ -57,9 +57,20 @@ pub fn add_edge<S: Space>(
     ensures light { IfOk result (λ added. added.weight + 6 ≤ 2048) }
     ensures prefix { (rest : List (List ℕ)) × (names.new.names ≡ names.old.names ++ rest) }
     ensures shape { S.tells → (S.state space.new).shape ≡ (S.state space.old).shape }
-    ensures writes { IfOk result (λ added.
+    ensures exact { S.tells → IfOk result (λ added.
+        IsStore (S.state space.old) names.old.names
+        → WritesAtMost added.weight (S.state space.old) (S.state space.new)) }
+    ensures writes { S.tells → IfOk result (λ added.
+        WritesAtMost (2 * added.weight) (S.state space.old) (S.state space.new)) }
+    ensures weighed { S.tells → (from_degree to_degree : ℕ)
+        → HasDegree (S.state space.old).records from from_degree
+        → HasDegree (S.state space.old).records to to_degree
+        → degrees_weight (S.state space.old).shape.threshold from from_degree to to_degree ≡ 0
+        → IfOk result (λ added.
         WritesAtMost added.weight (S.state space.old) (S.state space.new)) }
-    ensures refused_writes { OnErr result (WritesAtMost 778
+    ensures few_writes { OnOk result (WritesAtMost 2384
+        (S.state space.old) (S.state space.new)) }
+    ensures refused_writes { OnErr result (WritesAtMost 2384
         (S.state space.old) (S.state space.new)) }
     ensures onward { S.onward space.old space.new }
     ensures cause { HasChangeCause (S.faults space.old) (S.faults space.new) result }
@@ -105,3 +116,6 @@ fn ends_weight(threshold: u32, from: u32, from_degree: u32, to: u32, to_degree: 
         end_weight(threshold, from_degree) + end_weight(threshold, to_degree)
     }
 }
+
+#[cfg(test)]
+mod tests;

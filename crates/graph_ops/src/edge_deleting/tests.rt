@@ -2,7 +2,7 @@ use super::*;
 use crate::{add_edge, add_node, delete_node};
 use name_store::load as load_names;
 use plain_graph::{Pairs, Text, is_short_name};
-use rec_bytes::{MapSpace, Shape};
+use rec_bytes::{GROUPS, MapSpace, Shape};
 use std::test::Fail;
 
 const SHAPE: Shape = Shape {
@@ -109,6 +109,93 @@ fn edges_come_and_go(rt: HostRuntime) -> Result<(), Fail> {
                     assert_eq!(rt; weight.map(|weight| (id, weight)), *result);
                 }
             }
+        }
+    }
+    Ok(())
+}
+
+/// An edge that comes, by its source, its type and its target, or one that goes, by its identifier.
+#[derive(Clone, Copy)]
+enum Turn<'a> {
+    Comes(u32, &'a [u8], u32),
+    Goes(u32),
+}
+
+/// A change of the nodes 0, 1 and 2, its edge with its weight, and how many groups there are then.
+type Step<'a> = (Turn<'a>, u32, u32, u32);
+
+// The threshold is 2. A new type weighs 1 more, and an end of two relationships 6 more.
+const TURNS: [&[Step]; 3] = [
+    // The first of a chain, one between two others, the last one, and the only one. With that the
+    // groups of both ends go.
+    &[
+        (Turn::Comes(0, b"r", 1), 0, 10, 0),
+        (Turn::Comes(0, b"r", 1), 1, 9, 0),
+        (Turn::Comes(0, b"r", 1), 2, 21, 2),
+        (Turn::Comes(0, b"r", 1), 3, 9, 2),
+        (Turn::Goes(3), 3, 13, 2),
+        (Turn::Goes(0), 0, 13, 2),
+        (Turn::Goes(1), 1, 13, 2),
+        (Turn::Goes(2), 2, 13, 0),
+    ],
+    // A group stays until all three of its chains are empty. A dense node of two relationships
+    // weighs as one that becomes dense.
+    &[
+        (Turn::Comes(0, b"r", 0), 0, 10, 0),
+        (Turn::Comes(0, b"r", 1), 1, 9, 0),
+        (Turn::Comes(2, b"r", 0), 2, 15, 1),
+        (Turn::Goes(1), 1, 13, 1),
+        (Turn::Comes(0, b"s", 1), 1, 16, 2),
+        (Turn::Goes(2), 2, 13, 2),
+        (Turn::Goes(0), 0, 13, 1),
+        (Turn::Comes(0, b"r", 0), 0, 9, 2),
+        (Turn::Goes(1), 1, 13, 1),
+        (Turn::Goes(0), 0, 13, 0),
+    ],
+    // Groups go from the front of a node's chain of groups, from its middle and from its end.
+    &[
+        (Turn::Comes(0, b"r", 1), 0, 10, 0),
+        (Turn::Comes(0, b"s", 2), 1, 10, 0),
+        (Turn::Comes(0, b"t", 0), 2, 16, 3),
+        (Turn::Comes(0, b"u", 0), 3, 10, 4),
+        (Turn::Goes(3), 3, 13, 3),
+        (Turn::Goes(0), 0, 13, 2),
+        (Turn::Goes(1), 1, 13, 1),
+        (Turn::Goes(2), 2, 13, 0),
+    ],
+];
+
+#[test]
+fn groups_go_with_their_last_edge(rt: HostRuntime) -> Result<(), Fail> {
+    let node_label = Text::new(b"a".to_vec(rt.alloc())?);
+    let no_pairs = Pairs::new(Vec::new(rt.alloc()));
+    for steps in TURNS {
+        let mut space = MapSpace::new(rt.alloc(), SHAPE)?;
+        let mut names = load_names(rt.alloc(), &mut space)?;
+        for _ in 0..3 {
+            if is_short_name(node_label.as_bytes()) {
+                add_node(&mut space, &mut names, &node_label, &no_pairs)?;
+            }
+        }
+        for (turn, id, weight, groups) in steps {
+            match *turn {
+                Turn::Comes(from, label, to) => {
+                    let label = Text::new(label.to_vec(rt.alloc())?);
+                    if is_short_name(label.as_bytes()) {
+                        let added = add_edge(&mut space, &mut names, from, &label, to, &no_pairs)?;
+                        assert_eq!(rt; (added.id, added.weight), (*id, *weight), "edge {id}");
+                    }
+                }
+                Turn::Goes(gone) => {
+                    let own = delete_edge(&mut space, &names, gone)?;
+                    assert_eq!(rt; (gone, own), (*id, *weight), "edge {id}");
+                }
+            }
+            assert_eq!(rt; space.meta(GROUPS).live, *groups, "edge {id}");
+        }
+        // A dense node may go as soon as it has no relationship.
+        for id in 0..3 {
+            assert_eq!(rt; delete_node(&mut space, &names, id), Ok(1));
         }
     }
     Ok(())

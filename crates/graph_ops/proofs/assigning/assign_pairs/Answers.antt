@@ -13,7 +13,7 @@ use Rattle.graph_ops.proofs.Interned.{keeps_interned, keeps_same, keeps_then, me
 use Rattle.graph_ops.proofs.LineNames.{name_long, uses_long, uses_prefix}
 use Rattle.graph_ops.proofs.NewNames.{placed_grows}
 use Rattle.graph_ops.proofs.Places.{has_room, no_room}
-use Rattle.graph_ops.proofs.Writes.{more_written, none_written, then_written}
+use Rattle.store_rules.proofs.WriteLaws.{more_written, none_written, then_written}
 use Rattle.graph_ops.proofs.assigning.assign_pairs.Goals as goal
 use Rattle.graph_ops.proofs.assigning.assign_pairs.Goals.{After-as_bytes, After-len}
 use Rattle.graph_ops.proofs.assigning.assign_pairs.Given.{Over}

@@ -14,7 +14,8 @@ use Rattle.graph_ops.specs.declared.assigning.Assignment.{Assignment}
 use Rattle.graph_ops.proofs.Assigned.{pair_form}
 use Rattle.graph_ops.proofs.Exits.{fault_exit, set_late}
 use Rattle.graph_ops.proofs.PairsPut.{all_put, key_fits, key_new, key_there, none_put, put_more, put_outside}
-use Rattle.graph_ops.proofs.Writes.{beside_more, beside_then, beside_written, more_written, on_any_err, then_written, this_written, touched_written}
+use Rattle.store_rules.proofs.WriteLaws.{beside_more, beside_then, beside_written, more_written, then_written, this_written}
+use Rattle.graph_ops.proofs.Writes.{on_any_err, touched_written}
 use Rattle.graph_ops.proofs.assigning.put_properties.Goals as goal
 use Rattle.graph_ops.proofs.assigning.put_properties.Goals.{After-index-pairs-assignment}
 use Rattle.graph_ops.proofs.assigning.put_properties.Given.{Over}

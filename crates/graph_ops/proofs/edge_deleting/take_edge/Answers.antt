@@ -1,39 +1,66 @@
-use Rattle.std.proofs.Common.{◌∙◌, arith, refl}
-use Rattle.rec_bytes.specs.Format as format
-use Rattle.graph_ops.specs.ChangeFault.{IsOutside, MayComeLate, of_space}
-use Rattle.graph_ops.proofs.EdgeTaken.{right_from_next, right_from_prev, right_to_next, right_to_prev, takes_edge}
-use Rattle.graph_ops.proofs.Exits.{fault_exit, space_late}
-use Rattle.graph_ops.proofs.Writes.{given_written, more_written, on_any_err, then_written}
+use Rattle.graph_ops.specs.ChangeFault.{IsOutside, of_group}
+use Rattle.graph_ops.proofs.EdgeClosed.{loop_taken, pair_taken, source_closes, target_closes}
+use Rattle.graph_ops.proofs.EndWrites.{ends_beside, source_beside, target_beside}
+use Rattle.graph_ops.proofs.Exits.{fault_exit, group_outside}
 use Rattle.graph_ops.proofs.edge_deleting.take_edge.Goals as goal
 
-pub returns-in_err-part_ends-clause-sound : goal.returns-in_err-part_ends-clause-sound
-returns-in_err-part_ends-clause-sound g c tells names store bare =
+-- ---- why it fails
+pub returns-in_err-part_edge-clause-sound : goal.returns-in_err-part_edge-clause-sound
+returns-in_err-part_edge-clause-sound g c tells names store bare =
+    fault_exit (λ f. f) IsOutside c.in_err-part_edge.field-0.0 c.from_residual.result c.from_residual.ensures.1 (c.in_err-part_edge.ensures.sound tells names store bare)
+
+pub returns-in_err-close_chain-clause-sound : goal.returns-in_err-close_chain-clause-sound
+returns-in_err-close_chain-clause-sound g c tells names store bare =
     let s = g.S.Reads.state c.args.space.now in
-    let d = c.saturating_sub-from_degree.result in
-    let e = c.saturating_sub-to_degree.result in
-    let d_is = c.saturating_sub-from_degree.ensures in
-    let e_is = c.saturating_sub-to_degree.ensures in
-    fault_exit (λ f. f) IsOutside c.in_err-part_ends.field-0.0 c.from_residual.result c.from_residual.ensures.1
-    (c.in_err-part_ends.ensures.sound tells
-    (right_from_prev s names c.args.id c.args.from c.args.from_degree c.args.to c.args.to_degree store bare d e d_is e_is)
-    (right_from_next s names c.args.id c.args.from c.args.from_degree c.args.to c.args.to_degree store bare d e d_is e_is)
-    (λ _. right_to_prev s names c.args.id c.args.from c.args.from_degree c.args.to c.args.to_degree store bare d e d_is e_is)
-    (λ _. right_to_next s names c.args.id c.args.from c.args.from_degree c.args.to c.args.to_degree store bare d e d_is e_is))
+    let u = g.S.Reads.state c.part_edge.new.space in
+    fault_exit of_group IsOutside c.in_err-close_chain.field-0.0 c.from_residual-in_err-close_chain.result c.from_residual-in_err-close_chain.ensures.1
+    (group_outside Unit c.in_err-close_chain.field-0.0 (c.in_err-close_chain.ensures.sound tells _ _
+    (source_closes s u names c.args.id c.args.source c.args.target bare (c.in_ok-part_edge.ensures.parted tells names store bare))))
 
-pub returns-clause-taken : goal.returns-clause-taken
-returns-clause-taken g c tells names store bare =
-    takes_edge (g.S.Reads.state c.args.space.now) names c.args.id c.args.from c.args.from_degree c.args.to c.args.to_degree store bare
-    c.saturating_sub-from_degree.result c.saturating_sub-to_degree.result c.saturating_sub-from_degree.ensures c.saturating_sub-to_degree.ensures
-    (g.S.Reads.state c.part_ends.new.space) (g.S.Reads.state c.give.new.space) (c.in_ok-part_ends.ensures.ok tells) (c.give.ensures.shape tells ∙ c.part_ends.ensures.shape tells) (c.in_ok-give.ensures.given tells)
+pub returns-in_err-close_chain-2-clause-sound : goal.returns-in_err-close_chain-2-clause-sound
+returns-in_err-close_chain-2-clause-sound g c tells names store bare =
+    let s = g.S.Reads.state c.args.space.now in
+    let u = g.S.Reads.state c.part_edge.new.space in
+    let v = g.S.Reads.state c.close_chain.new.space in
+    let parts = c.in_ok-part_edge.ensures.parted tells names store bare in
+    fault_exit of_group IsOutside c.in_err-close_chain-2.field-0.0 c.from_residual-in_err-close_chain-2.result c.from_residual-in_err-close_chain-2.ensures.1
+    (group_outside Unit c.in_err-close_chain-2.field-0.0 (c.in_err-close_chain-2.ensures.sound tells _ _
+    (target_closes s u names c.args.id c.args.source c.args.target bare parts v
+    (c.in_ok-close_chain.ensures.closed tells _ _ (source_closes s u names c.args.id c.args.source c.args.target bare parts)) c.if-source-target.true)))
 
-pub returns-clause-writes : goal.returns-clause-writes
-returns-clause-writes g c = then_written c.in_ok-part_ends.ensures.writes (given_written format.relationships_file c.args.id _ _ refl c.give.ensures.writes)
+-- ---- what it leaves
+pub returns-else-source-target-clause-taken : goal.returns-else-source-target-clause-taken
+returns-else-source-target-clause-taken g c tells names store bare =
+    let s = g.S.Reads.state c.args.space.now in
+    let u = g.S.Reads.state c.part_edge.new.space in
+    let v = g.S.Reads.state c.close_chain.new.space in
+    let parts = c.in_ok-part_edge.ensures.parted tells names store bare in
+    loop_taken s u names c.args.id c.args.source c.args.target bare parts v
+    (c.in_ok-close_chain.ensures.closed tells _ _ (source_closes s u names c.args.id c.args.source c.args.target bare parts)) c.if-source-target.false
 
-pub returns-in_err-part_ends-clause-err_writes : goal.returns-in_err-part_ends-clause-err_writes
-returns-in_err-part_ends-clause-err_writes g c = on_any_err _ _ (more_written (omega arith) c.in_err-part_ends.ensures.err_writes)
+pub returns-in_ok-close_chain-2-clause-taken : goal.returns-in_ok-close_chain-2-clause-taken
+returns-in_ok-close_chain-2-clause-taken g c tells names store bare =
+    let s = g.S.Reads.state c.args.space.now in
+    let u = g.S.Reads.state c.part_edge.new.space in
+    let v = g.S.Reads.state c.close_chain.new.space in
+    let w = g.S.Reads.state c.close_chain-then-source-target.new.space in
+    let parts = c.in_ok-part_edge.ensures.parted tells names store bare in
+    let closed = c.in_ok-close_chain.ensures.closed tells _ _ (source_closes s u names c.args.id c.args.source c.args.target bare parts) in
+    pair_taken s u names c.args.id c.args.source c.args.target bare parts v closed w
+    (c.in_ok-close_chain-2.ensures.closed tells _ _ (target_closes s u names c.args.id c.args.source c.args.target bare parts v closed c.if-source-target.true))
 
-pub returns-in_err-give-clause-err_writes : goal.returns-in_err-give-clause-err_writes
-returns-in_err-give-clause-err_writes g c = on_any_err _ _ (then_written c.in_ok-part_ends.ensures.writes (given_written format.relationships_file c.args.id _ _ refl c.give.ensures.writes))
+-- ---- what it writes
+pub returns-in_err-part_edge-clause-writes : goal.returns-in_err-part_edge-clause-writes
+returns-in_err-part_edge-clause-writes g c = ends_beside _ _ c.args.id c.args.source c.args.target c.requires.source c.requires.target c.part_edge.ensures.writes
 
-pub returns-in_err-give-clause-late : goal.returns-in_err-give-clause-late
-returns-in_err-give-clause-late g c = fault_exit of_space MayComeLate c.in_err-give.field-0.0 c.from_residual-in_err-give.result c.from_residual-in_err-give.ensures.1 (space_late c.in_err-give.field-0.0)
+pub returns-in_err-close_chain-clause-writes : goal.returns-in_err-close_chain-clause-writes
+returns-in_err-close_chain-clause-writes g c = source_beside _ _ c.args.id c.args.source c.args.target c.requires.source c.requires.target c.part_edge.ensures.writes _ c.close_chain.ensures.writes
+
+pub returns-else-source-target-clause-writes : goal.returns-else-source-target-clause-writes
+returns-else-source-target-clause-writes g c = source_beside _ _ c.args.id c.args.source c.args.target c.requires.source c.requires.target c.part_edge.ensures.writes _ c.close_chain.ensures.writes
+
+pub returns-in_err-close_chain-2-clause-writes : goal.returns-in_err-close_chain-2-clause-writes
+returns-in_err-close_chain-2-clause-writes g c = target_beside _ _ c.args.id c.args.source c.args.target c.requires.source c.requires.target c.part_edge.ensures.writes _ c.close_chain.ensures.writes _ c.close_chain-then-source-target.ensures.writes
+
+pub returns-in_ok-close_chain-2-clause-writes : goal.returns-in_ok-close_chain-2-clause-writes
+returns-in_ok-close_chain-2-clause-writes g c = target_beside _ _ c.args.id c.args.source c.args.target c.requires.source c.requires.target c.part_edge.ensures.writes _ c.close_chain.ensures.writes _ c.close_chain-then-source-target.ensures.writes

@@ -1,34 +1,77 @@
-use Rattle.std.proofs.Common.{◌∙◌, arith}
+use Rattle.std.specs.Prelude.{slice_get}
+use Rattle.std.proofs.Common.{◌≡◌, ◌+◌, ℕ, List, Some, ap, subst, arith}
+use Rattle.rec_bytes.specs.declared.meta.Meta.{Meta}
+use Rattle.rec_bytes.specs.Format as format
+use Rattle.rel_store.specs.RelRecord.{rel_key}
+use Rattle.store_rules.specs.Writes.{WritesBeside}
+use Rattle.group_store.proofs.OwnGroups.{if_ok}
 use Rattle.graph_ops.specs.ChangeFault.{IsOutside}
-use Rattle.graph_ops.proofs.EdgePut.{first_right, puts_edge, second_right}
+use Rattle.graph_ops.specs.EdgeOpening.{ends_moved, ends_writes}
+use Rattle.graph_ops.specs.EdgePlacing.{PutsEdge}
+use Rattle.graph_ops.specs.NodeDeleting.{HasDegree}
+use Rattle.graph_ops.specs.Store.{IsStore}
+use Rattle.graph_ops.proofs.EdgeOpened.{puts_through}
+use Rattle.graph_ops.proofs.ElementRooms.{room_still}
 use Rattle.graph_ops.proofs.Exits.{fault_exit}
-use Rattle.graph_ops.proofs.Writes.{more_written, on_any_err, then_written}
+use Rattle.graph_ops.proofs.NodePut.{number_in}
+use Rattle.graph_ops.proofs.OpenWrites.{put_beside, put_few}
+use Rattle.store_rules.proofs.WriteLaws.{beside_more}
 use Rattle.graph_ops.proofs.edge_placing.put_edge.Goals as goal
 
-pub returns-in_err-id-clause-sound : goal.returns-in_err-id-clause-sound
-returns-in_err-id-clause-sound g c tells names text store at source target room =
-    fault_exit (λ f. f) IsOutside c.in_err-id.field-0.0 c.from_residual.result c.from_residual.ensures.1 (c.in_err-id.ensures.sound tells names store room)
-
-pub returns-in_err-join_ends-clause-sound : goal.returns-in_err-join_ends-clause-sound
-returns-in_err-join_ends-clause-sound g c tells names text store at source target room =
+pub returns-in_err-ends-clause-sound : goal.returns-in_err-ends-clause-sound
+returns-in_err-ends-clause-sound g c tells names text store at leaves enters room =
     let s = g.S.Reads.state c.args.space.now in
-    let t = g.S.Reads.state c.place.new.space in
-    let placed = c.in_ok-id.ensures.placed tells in
-    fault_exit (λ f. f) IsOutside c.in_err-join_ends.field-0.0 c.from_residual-in_err-join_ends.result c.from_residual-in_err-join_ends.ensures.1
-    (c.in_err-join_ends.ensures.sound tells
-    (first_right s t names c.args.from c.args.label text c.args.to c.in_ok-id.id c.args.from_degree c.args.to_degree store at source target placed c.saturating_add.result c.saturating_add-2.result c.saturating_add.ensures c.saturating_add-2.ensures)
-    (λ _. second_right s t names c.args.from c.args.label text c.args.to c.in_ok-id.id c.args.from_degree c.args.to_degree store at source target placed c.saturating_add.result c.saturating_add-2.result c.saturating_add.ensures c.saturating_add-2.ensures))
+    fault_exit (λ f. f) IsOutside c.in_err-ends.field-0.0 c.from_residual.result c.from_residual.ensures.1
+    (c.in_err-ends.ensures.sound tells names (record { store = store; named = (number_in s.records names c.args.label text store.names at).0; leaves = leaves; enters = enters }) room)
 
 pub returns-clause-put : goal.returns-clause-put
-returns-clause-put g c tells names text store at source target =
-    puts_edge (g.S.Reads.state c.args.space.now) (g.S.Reads.state c.place.new.space) names c.args.from c.args.label text c.args.to c.in_ok-id.id c.args.from_degree c.args.to_degree store at source target (c.in_ok-id.ensures.placed tells)
-    c.saturating_add.result c.saturating_add-2.result c.saturating_add.ensures c.saturating_add-2.ensures (g.S.Reads.state c.join_ends.new.space) (c.in_ok-join_ends.ensures.ok tells) (c.join_ends.ensures.shape tells ∙ c.in_ok-id.ensures.shape tells)
+returns-clause-put g c tells =
+    let s = g.S.Reads.state c.args.space.now in
+    let t = g.S.Reads.state c.open_ends.new.space in
+    let u = g.S.Reads.state c.join_edge.new.space in
+    let nodes = c.in_ok-ends.ensures.nodes in
+    if_ok c.join_edge.result _
+    (λ id. (names : List (List ℕ)) (text : List ℕ) → IsStore s names → slice_get names c.args.label ≡ Some text → HasDegree s.records c.args.from c.args.from_degree → HasDegree s.records c.args.to c.args.to_degree
+    → PutsEdge s u names c.args.from text c.args.to id)
+    (λ id joined names text store at leaves enters.
+    let opens = c.in_ok-ends.ensures.opened tells names (record { store = store; named = (number_in s.records names c.args.label text store.names at).0; leaves = leaves; enters = enters }) in
+    puts_through s t u names c.args.from text c.args.to id opens.keeps
+    (subst (λ n. PutsEdge t u names n text c.args.to id) nodes.0 (subst (λ n. PutsEdge t u names c.in_ok-ends.ends.source.node text n id) nodes.1 (joined names text opens.can at))))
+    (c.join_edge.ensures.joined tells)
+
+pub returns-clause-sound : goal.returns-clause-sound
+returns-clause-sound g c tells names text store at leaves enters room =
+    let s = g.S.Reads.state c.args.space.now in
+    let t = g.S.Reads.state c.open_ends.new.space in
+    let opens = c.in_ok-ends.ensures.opened tells names (record { store = store; named = (number_in s.records names c.args.label text store.names at).0; leaves = leaves; enters = enters }) in
+    c.join_edge.ensures.sound tells names text opens.can at
+    (room_still s t format.relationships_file 1 (ap (λ (m : Meta). m.live) (opens.keeps.metas format.relationships_file (λ e. omega arith))) opens.keeps.shape room)
+
+pub returns-clause-exact : goal.returns-clause-exact
+returns-clause-exact g c tells =
+    let s = g.S.Reads.state c.args.space.now in
+    let t = g.S.Reads.state c.open_ends.new.space in
+    let u = g.S.Reads.state c.join_edge.new.space in
+    let most = ends_moved s.shape.threshold c.args.from c.args.from_degree c.args.to c.args.to_degree in
+    let ends = c.in_ok-ends.ensures.ends in
+    if_ok c.join_edge.result _
+    (λ id. (names : List (List ℕ)) (text : List ℕ) → IsStore s names → slice_get names c.args.label ≡ Some text → HasDegree s.records c.args.from c.args.from_degree → HasDegree s.records c.args.to c.args.to_degree
+    → WritesBeside (rel_key id) (8 + most) s u)
+    (λ id joins names text store at leaves enters.
+    let opened = c.in_ok-ends.ensures.exact tells names (record { store = store; named = (number_in s.records names c.args.label text store.names at).0; leaves = leaves; enters = enters }) in
+    beside_more (omega arith) (put_beside s t u id c.in_ok-ends.ends (2 + most) ends.0 ends.1 opened joins)) c.join_edge.ensures.writes
 
 pub returns-clause-writes : goal.returns-clause-writes
-returns-clause-writes g c = then_written c.in_ok-id.ensures.writes c.in_ok-join_ends.ensures.writes
+returns-clause-writes g c tells =
+    let s = g.S.Reads.state c.args.space.now in
+    let t = g.S.Reads.state c.open_ends.new.space in
+    let u = g.S.Reads.state c.join_edge.new.space in
+    let most = ends_writes s.shape.threshold c.args.from c.args.from_degree c.args.to c.args.to_degree in
+    let ends = c.in_ok-ends.ensures.ends in
+    if_ok c.join_edge.result _ (λ id. WritesBeside (rel_key id) (8 + most) s u)
+    (λ id joins. beside_more (omega arith) (put_beside s t u id c.in_ok-ends.ends (2 + most) ends.0 ends.1 (c.in_ok-ends.ensures.wrote tells) joins)) c.join_edge.ensures.writes
 
-pub returns-in_err-id-clause-err_writes : goal.returns-in_err-id-clause-err_writes
-returns-in_err-id-clause-err_writes g c = on_any_err _ _ (more_written (omega arith) c.in_err-id.ensures.err_writes)
-
-pub returns-in_err-join_ends-clause-err_writes : goal.returns-in_err-join_ends-clause-err_writes
-returns-in_err-join_ends-clause-err_writes g c = on_any_err _ _ (then_written c.in_ok-id.ensures.writes c.in_err-join_ends.ensures.err_writes)
+pub returns-clause-few_writes : goal.returns-clause-few_writes
+returns-clause-few_writes g c =
+    let ends = c.in_ok-ends.ensures.ends in
+    put_few _ _ _ c.in_ok-ends.ends ends.0 ends.1 c.in_ok-ends.ensures.few_writes c.join_edge.result c.join_edge.ensures.writes c.join_edge.ensures.err_writes

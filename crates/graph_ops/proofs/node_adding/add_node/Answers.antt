@@ -18,7 +18,8 @@ use Rattle.graph_ops.proofs.ElementRooms.{room_still}
 use Rattle.graph_ops.proofs.Exits.{exit_is, fault_exit, late_leaves}
 use Rattle.graph_ops.proofs.NodeAdded.{can_put, full_fault, full_refused, line_refused, made, not_full, put_room, room_kept}
 use Rattle.graph_ops.proofs.Reasons.{outside_refused}
-use Rattle.graph_ops.proofs.Writes.{beside_then, beside_written, more_written, on_any_err, then_written}
+use Rattle.store_rules.proofs.WriteLaws.{beside_then, beside_written, more_written, then_written}
+use Rattle.graph_ops.proofs.Writes.{on_any_err}
 use Rattle.graph_ops.proofs.node_adding.add_node.Goals as goal
 use Rattle.graph_ops.proofs.node_adding.add_node.Goals.{After-put_properties, In_err-id, In_err-put_properties, In_ok-id, In_ok-prepared}
 use Rattle.graph_ops.proofs.node_adding.add_node.Given.{Over}

@@ -9,7 +9,8 @@ use Rattle.graph_ops.specs.ChangeFault.{IsOutside, MayComeLate, of_space, of_tak
 use Rattle.graph_ops.proofs.Exits.{fault_exit, space_late}
 use Rattle.graph_ops.proofs.NodePut.{puts_node}
 use Rattle.graph_ops.proofs.Takes.{store_can_take, take_late, take_outside, taken-shape}
-use Rattle.graph_ops.proofs.Writes.{among_metas, beside_then, on_any_err, read_exit, record_written, taken_written, then_written, this_written}
+use Rattle.store_rules.proofs.WriteLaws.{among_metas, beside_then, then_written, this_written}
+use Rattle.graph_ops.proofs.Writes.{on_any_err, read_exit, record_written, taken_written}
 use Rattle.graph_ops.proofs.node_adding.put_node.Goals as goal
 use Rattle.graph_ops.proofs.node_adding.put_node.Goals.{In_ok-id}
 use Rattle.graph_ops.proofs.node_adding.put_node.Given.{Over}

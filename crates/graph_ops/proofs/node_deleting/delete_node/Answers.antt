@@ -20,7 +20,8 @@ use Rattle.graph_ops.proofs.Elements.{node_loaded, node_missing, same_node, used
 use Rattle.graph_ops.proofs.Exits.{fault_exit}
 use Rattle.graph_ops.proofs.Setting.{has_owner, prop_refused}
 use Rattle.graph_ops.proofs.Readings.{made_read, store_read, there_read}
-use Rattle.graph_ops.proofs.Writes.{among_metas, on_any_err, read_exit, beside_then, beside_written, more_written, none_written, then_written, this_written, touched_written}
+use Rattle.store_rules.proofs.WriteLaws.{among_metas, beside_then, beside_written, more_written, none_written, then_written, this_written}
+use Rattle.graph_ops.proofs.Writes.{on_any_err, read_exit, touched_written}
 use Rattle.graph_ops.proofs.node_deleting.delete_node.Goals as goal
 use Rattle.graph_ops.proofs.node_deleting.delete_node.Goals.{After-give, After-load}
 use Rattle.graph_ops.proofs.node_deleting.delete_node.Given.{Over}
@@ -36,7 +37,7 @@ returns-then-node-ne0-clause-refused g c tells store =
     let found = sym c.in-Some.is ∙ c.in_ok-node.ensures.found tells in
     let k = used_of s c.args.id c.in-Some.node found in
     node_joined s.shape.limit (graph_in s) c.args.id c.in-Some.node.degree (node_loaded s c.args.id c.in-Some.node found)
-    (λ e. c.if-node-ne0.true (k.1 ∙ sym (degree_in-degree s.records s.shape store.store.keeps c.args.id k.0) ∙ e))
+    (λ e. c.if-node-ne0.true (k.1 ∙ sym (degree_in-degree s.records s.shape store.store c.args.id k.0) ∙ e))
 
 pub returns-in_err-dropped-clause-refused : goal.returns-in_err-dropped-clause-refused
 returns-in_err-dropped-clause-refused g c tells store =

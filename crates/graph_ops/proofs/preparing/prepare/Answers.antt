@@ -17,7 +17,7 @@ use Rattle.graph_ops.proofs.Assigned.{blocks-assigned, length-assigned}
 use Rattle.graph_ops.proofs.LineNames.{held_name, name_long, name_prefix, uses_long, uses_once}
 use Rattle.graph_ops.proofs.NewNames.{name_one}
 use Rattle.graph_ops.proofs.Preparation.{assign_refused_by, label_refused, prepared_is, reserve_refused}
-use Rattle.graph_ops.proofs.Writes.{more_written, then_written}
+use Rattle.store_rules.proofs.WriteLaws.{more_written, then_written}
 use Rattle.graph_ops.proofs.preparing.prepare.Goals as goal
 use Rattle.graph_ops.proofs.preparing.prepare.Goals.{After-assign_pairs, After-intern, In_ok-assigned, In_ok-label}
 use Rattle.graph_ops.proofs.preparing.prepare.Given.{Over}

@@ -20,7 +20,8 @@ use Rattle.graph_ops.proofs.LineNames.{held_name}
 use Rattle.graph_ops.proofs.NewNames.{name_one}
 use Rattle.graph_ops.proofs.Setting.{few_blocks, set_known, set_missing, set_refused, set_unnamed, set_value}
 use Rattle.graph_ops.proofs.Readings.{made_read, store_read, there_read}
-use Rattle.graph_ops.proofs.Writes.{more_written, none_written, on_any_err, own_record, then_written, touched_written}
+use Rattle.store_rules.proofs.WriteLaws.{more_written, none_written, then_written}
+use Rattle.graph_ops.proofs.Writes.{on_any_err, own_record, touched_written}
 use Rattle.graph_ops.proofs.property_setting.set.Goals as goal
 use Rattle.graph_ops.proofs.property_setting.set.Goals.{After-intern, After-set}
 use Rattle.graph_ops.proofs.property_setting.set.Given.{Over}

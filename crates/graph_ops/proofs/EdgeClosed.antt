@@ -1,0 +1,69 @@
+-- An edge that left the chains of its ends, whose groups are dropped if they are empty.
+use Rattle.std.proofs.Common.{◌≡◌, ◌≢◌, ℕ, nat_eq, cond, List, [], ◌++◌, sym, ap, ◌∙◌, subst, inl, inr, refl}
+use Rattle.plain_graph.specs.Graph.{Graph, RemovesEdge}
+use Rattle.rec_bytes.specs.Format as format
+use Rattle.rec_bytes.specs.Space.{State}
+use Rattle.store_rules.specs.Ends.{group_of_head}
+use Rattle.store_rules.specs.Graph.{graph_of}
+use Rattle.store_rules.specs.Rules as rules
+use Rattle.store_rules.specs.Rules.{KeepsRules, Owns}
+use Rattle.store_rules.specs.Views.{group_at, kind_at}
+use Rattle.store_rules.proofs.NumberLaws.{eq_false, eq_true}
+use Rattle.chain_edit.specs.Heads.{head_of}
+use Rattle.group_store.specs.Closing.{CanClose, HasClosed}
+use Rattle.graph_ops.specs.EdgeDeleting.{IsBareEdge, PartsEdge, TakesEdge}
+use Rattle.graph_ops.specs.Store.{graph_in}
+use Rattle.graph_ops.specs.declared.edge_end.EdgeEnd.{EdgeEnd}
+
+module _ (s u : State) (names : List (List ℕ)) (id : ℕ) (source target : EdgeEnd) (bare : IsBareEdge s id source target) (parts : PartsEdge s u names id source target) where
+  -- the group of the target's head, unless it is the source's too
+  abbrev rest : List ℕ
+  rest = cond (nat_eq source.node target.node) [] (group_of_head (head_of target.head) ++ [])
+
+  owns_still : (h : rules.Head) (n : ℕ) → Owns (kind_at s.records format.nodes_file) (group_at s.records) h n → Owns (kind_at u.records format.nodes_file) (group_at u.records) h n
+  owns_still h n o = subst (λ k. Owns k (group_at u.records) h n) (λ i m. sym (parts.kinds m) i) (subst (λ g. Owns (kind_at s.records format.nodes_file) g h n) (λ i g. sym (parts.groups g) i) o)
+
+  -- the source's head may be closed
+  pub source_closes : CanClose u (head_of source.head) source.node u.shape.threshold rest
+  source_closes = record { keeps = parts.keeps; owns = owns_still (head_of source.head) source.node bare.leaves.owns }
+
+  -- what is left keeps the rules, and the graph
+  taken : (t : State) → KeepsRules t.records t.shape u.shape.threshold [] → t.shape ≡ u.shape → graph_of t.records ≡ graph_of u.records → TakesEdge s t names id
+  taken t keeps shape graph = record {
+    store = record {
+      store = subst (λ m. KeepsRules t.records t.shape m []) (sym (ap (λ z. z.threshold) shape)) keeps;
+      names = parts.names ∙ sym (ap (λ (z : Graph). z.names) graph);
+    };
+    removes = subst (RemovesEdge (graph_in s) id) (sym graph) parts.removes;
+  }
+
+  module _ (v : State) (closed : HasClosed u v source.node u.shape.threshold rest) where
+    pub loop_taken : source.node ≡ target.node → TakesEdge s v names id
+    loop_taken loop = taken v (subst (KeepsRules v.records v.shape u.shape.threshold) none closed.keeps) closed.regroups.shape closed.regroups.graph
+      where
+        none : rest ≡ []
+        none = rw (eq_true source.node target.node loop) refl
+
+    -- the other end's head is still the other's
+    owns_then : (h : rules.Head) (n : ℕ) → n ≢ source.node → Owns (kind_at u.records format.nodes_file) (group_at u.records) h n → Owns (kind_at v.records format.nodes_file) (group_at v.records) h n
+    owns_then h n ne (inl o) = inl (record { sparse = closed.regroups.kinds n ne ∙ o.sparse; is = o.is })
+    owns_then h n ne (inr o) = inr (record {
+      dense = closed.regroups.kinds n ne ∙ o.dense;
+      row = o.row;
+      group = closed.regroups.groups o.row.id o.row o.group (λ e. ne (sym o.owner ∙ e));
+      owner = o.owner;
+      key = o.key;
+      field = o.field;
+    })
+
+    pub target_closes : source.node ≢ target.node → CanClose v (head_of target.head) target.node u.shape.threshold []
+    target_closes differ = record {
+      keeps = subst (KeepsRules v.records v.shape u.shape.threshold) other closed.keeps;
+      owns = owns_then (head_of target.head) target.node (λ e. differ (sym e)) (owns_still (head_of target.head) target.node bare.enters.owns);
+    }
+      where
+        other : rest ≡ group_of_head (head_of target.head) ++ []
+        other = rw (eq_false source.node target.node differ) refl
+
+    pub pair_taken : (w : State) → HasClosed v w target.node u.shape.threshold [] → TakesEdge s w names id
+    pair_taken w last = taken w last.keeps (last.regroups.shape ∙ closed.regroups.shape) (last.regroups.graph ∙ closed.regroups.graph)

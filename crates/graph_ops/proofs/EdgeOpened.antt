@@ -1,0 +1,124 @@
+-- The heads where a new edge is to stand, which were opened one after the other.
+use Rattle.std.proofs.Common.{◌≡◌, ◌≢◌, ℕ, ◌<◌, List, [], ◌++◌, sym, ap, ◌∙◌, subst, inl, inr, ⊎_elim, arith}
+use Rattle.plain_graph.specs.Graph.{Graph, edge_number, has_edge, has_node, with_row}
+use Rattle.plain_graph.specs.Properties.{no_properties}
+use Rattle.rec_bytes.specs.declared.key.Key.{Key}
+use Rattle.rec_bytes.specs.declared.shape.Shape.{Shape}
+use Rattle.rec_bytes.specs.Format as format
+use Rattle.rec_bytes.specs.Space.{State}
+use Rattle.store_rules.specs.Ends.{IsEndHead, Regroups, group_of_head}
+use Rattle.store_rules.specs.Graph.{names_of}
+use Rattle.store_rules.specs.Rules.{Head, IsOn, Owns}
+use Rattle.store_rules.specs.Views.{GroupRow, RelRow, degree, group_at, kind_at}
+use Rattle.store_rules.proofs.GroupLaws.{same_group}
+use Rattle.store_rules.proofs.OnceLaws.{in_parts}
+use Rattle.chain_edit.specs.Heads.{head_of}
+use Rattle.group_store.specs.Opening.{OpensChain}
+use Rattle.graph_ops.specs.declared.edge_end.EdgeEnd.{EdgeEnd}
+use Rattle.graph_ops.specs.EdgeJoining.{CanJoin, MayStandAt, edge_row}
+use Rattle.graph_ops.specs.EdgePlacing.{KeepsGraph, PutsEdge}
+
+-- ---- what a change of another node's groups leaves
+module _ (s t : State) (m : ℕ) (change : Regroups s t m) (h : Head) (n : ℕ) (ne : n ≢ m) where
+  owns_stays : Owns (kind_at s.records format.nodes_file) (group_at s.records) h n → Owns (kind_at t.records format.nodes_file) (group_at t.records) h n
+  owns_stays (inl o) = inl (record { sparse = change.kinds n ne ∙ o.sparse; is = o.is })
+  owns_stays (inr o) = inr (record {
+    dense = change.kinds n ne ∙ o.dense;
+    row = o.row;
+    group = change.groups o.row.id o.row o.group (λ e. ne (sym o.owner ∙ e));
+    owner = o.owner;
+    key = o.key;
+    field = o.field;
+  })
+
+  on_stays : (row : RelRow) → Owns (kind_at s.records format.nodes_file) (group_at s.records) h n → IsOn (group_at s.records) h row → IsOn (group_at t.records) h row
+  on_stays row o (inl b) = inl b
+  on_stays row (inl o) (inr b) = absurd (let f = b.0 in let k = ap (λ (z : Head). z.key.file) o.is in omega arith)
+  on_stays row (inr o) (inr b) =
+      let same : b.1.row ≡ o.row = same_group b.1.row o.row (sym b.1.group ∙ ap (λ (z : Key). group_at s.records z.id) o.key ∙ o.group) in
+      inr (
+        b.0,
+        record {
+          row = b.1.row;
+          group = change.groups h.key.id b.1.row b.1.group (λ e. ne (sym o.owner ∙ ap (λ (r : GroupRow). r.owner) (sym same) ∙ e));
+          label = b.1.label;
+          side = b.1.side;
+        },
+      )
+
+  pub end_stays : (row : RelRow) → IsEndHead s.records h n row → IsEndHead t.records h n row
+  end_stays row end = record { owns = owns_stays end.owns; on = on_stays row end.owns end.on }
+
+-- ---- the graph stays
+pub keeps_graph : (s t : State) (n : ℕ) → Regroups s t n → KeepsGraph s t
+keeps_graph s t n change = record { shape = change.shape; graph = change.graph; metas = change.metas }
+
+pub graph_twice : (s t u : State) → KeepsGraph s t → KeepsGraph t u → KeepsGraph s u
+graph_twice s t u a b = record { shape = b.shape ∙ a.shape; graph = b.graph ∙ a.graph; metas = λ file ne. b.metas file ne ∙ a.metas file ne }
+
+-- an edge that is put then was put into the store before
+pub puts_through : (s t u : State) (names : List (List ℕ)) (from : ℕ) (label : List ℕ) (to id : ℕ) → KeepsGraph s t → PutsEdge t u names from label to id → PutsEdge s u names from label to id
+puts_through s t u names from label to id keeps puts = record {
+  store = puts.store;
+  leaves = ap (λ g. has_node g from) (sym keeps.graph) ∙ puts.leaves;
+  enters = ap (λ g. has_node g to) (sym keeps.graph) ∙ puts.enters;
+  below = subst (λ (h : Shape). id < h.limit) keeps.shape puts.below;
+  fresh = ap (λ g. has_edge g id) (sym keeps.graph) ∙ puts.fresh;
+  nodes = puts.nodes ∙ ap (λ (g : Graph). g.nodes) keeps.graph;
+  edges = puts.edges ∙ ap (λ (g : Graph). with_row edge_number (record { id = id; label = label; from = from; to = to; properties = no_properties }) g.edges) keeps.graph;
+  metas = λ file a b. puts.metas file a b ∙ keeps.metas file b;
+}
+
+-- ---- both heads
+module _ (s : State) (names : List (List ℕ)) (label : ℕ) (source target : EdgeEnd) (named : names ≡ names_of s.records)
+    (leaves : degree s.records source.node ≡ source.degree) (enters : degree s.records target.node ≡ target.degree) where
+  abbrev row : ℕ → RelRow
+  row id = edge_row id label source.node target.node
+
+  -- a loop has one
+  pub opened_loop : (t : State) → target ≡ source → ((id : ℕ) → OpensChain s t (head_of source.head) source.node (row id) []) → CanJoin t names label source target
+  opened_loop t loop opened = record {
+    empty = group_of_head (head_of source.head) ++ [];
+    keeps = (opened 0).keeps;
+    into = λ g i. inl (⊎_elim (λ k. k) (λ k. absurd k) (in_parts g (group_of_head (head_of source.head)) [] i));
+    named = named ∙ ap (λ (g : Graph). g.names) (sym (opened 0).regroups.graph);
+    leaves = stands;
+    enters = λ id. subst (λ (e : EdgeEnd). MayStandAt t e (row id)) (sym loop) (stands id);
+  }
+    where
+      stands : (id : ℕ) → MayStandAt t source (row id)
+      stands id = record {
+        head = (opened id).stands;
+        degree = (opened id).regroups.degrees source.node ∙ leaves;
+        few = λ sparse. subst (λ n. n < t.shape.threshold) ((opened id).regroups.degrees source.node ∙ leaves) ((opened id).few sparse);
+      }
+
+  module _ (t u : State) (differ : source.node ≢ target.node) (first : (id : ℕ) → OpensChain s t (head_of source.head) source.node (row id) [])
+      (second : (id : ℕ) → OpensChain t u (head_of target.head) target.node (row id) (group_of_head (head_of source.head) ++ [])) where
+    source_stands : (id : ℕ) → MayStandAt u source (row id)
+    source_stands id =
+        let a = (first id).regroups in
+        let b = (second id).regroups in
+        record {
+          head = end_stays t u target.node b (head_of source.head) source.node differ (row id) (first id).stands;
+          degree = b.degrees source.node ∙ a.degrees source.node ∙ leaves;
+          few = λ sparse. subst (λ (h : Shape). source.degree < h.threshold) (sym b.shape) (subst (λ n. n < t.shape.threshold) (a.degrees source.node ∙ leaves) ((first id).few (sym (b.kinds source.node differ) ∙ sparse)));
+        }
+
+    target_stands : (id : ℕ) → MayStandAt u target (row id)
+    target_stands id =
+        let a = (first id).regroups in
+        let b = (second id).regroups in
+        let same = b.degrees target.node ∙ a.degrees target.node ∙ enters in
+        record { head = (second id).stands; degree = same; few = λ sparse. subst (λ n. n < u.shape.threshold) same ((second id).few sparse) }
+
+    pub opened_both : CanJoin u names label source target
+    opened_both = record {
+      empty = group_of_head (head_of target.head) ++ (group_of_head (head_of source.head) ++ []);
+      keeps = (second 0).keeps;
+      into = λ g i. ⊎_elim (λ k. inr k) (λ k. inl (⊎_elim (λ j. j) (λ j. absurd j) (in_parts g (group_of_head (head_of source.head)) [] k)))
+          (in_parts g (group_of_head (head_of target.head)) (group_of_head (head_of source.head) ++ []) i);
+      named = named ∙ ap (λ (g : Graph). g.names) (sym ((second 0).regroups.graph ∙ (first 0).regroups.graph));
+      leaves = source_stands;
+      enters = target_stands;
+    }

@@ -1,0 +1,94 @@
+-- What the opening of the ends of a new edge needs, and what it leaves.
+use Rattle.std.proofs.Common.{◌≡◌, ◌≢◌, ℕ, ◌<◌, ◌≤◌, nat_eq, Bool, true, false, cond, List, [], ◌∷◌, ◌++◌, length, sym, ap, ◌∙◌, subst, inl, inr, arith, refl}
+use Rattle.rec_bytes.specs.declared.meta.Meta.{Meta}
+use Rattle.rec_bytes.specs.declared.shape.Shape.{Shape}
+use Rattle.rec_bytes.specs.Format as format
+use Rattle.rec_bytes.specs.Space.{State, meta_of}
+use Rattle.store_rules.specs.Ends.{group_of_head}
+use Rattle.store_rules.specs.Rules.{Head}
+use Rattle.store_rules.specs.Views.{RelRow, degree}
+use Rattle.chain_edit.specs.declared.head.Head.{Head as ChainHead}
+use Rattle.chain_edit.specs.Heads.{head_of}
+use Rattle.group_store.specs.declared.side.Side.{Side}
+use Rattle.group_store.specs.Opening.{CanOpen, HasGroupRoom, OpensChain}
+use Rattle.group_store.specs.Sides.{side_at}
+use Rattle.graph_ops.specs.declared.edge_end.EdgeEnd.{EdgeEnd}
+use Rattle.graph_ops.specs.EdgeJoining.{edge_row}
+use Rattle.graph_ops.specs.EdgeOpening.{CanLink, OpensEnds}
+use Rattle.graph_ops.specs.Rooms.{HasRoom}
+use Rattle.graph_ops.proofs.EdgeOpened.{graph_twice, keeps_graph, opened_both, opened_loop}
+use Rattle.graph_ops.proofs.Elements.{found_degree, found_used}
+
+-- an end by its numbers
+abbrev pub end_of : ℕ → ChainHead → ℕ → EdgeEnd
+end_of node head degree = record { node = node; head = head; degree = degree }
+
+-- the group of a head is one at most
+one_group : (h : Head) → length (group_of_head h ++ []) ≤ 1
+one_group h = by (nat_eq h.key.file format.groups_file)
+  where
+    by : (b : Bool) → length (cond b (h.key.id ∷ []) [] ++ []) ≤ 1
+    by true = omega arith
+    by false = omega arith
+
+module _ (s : State) (names : List (List ℕ)) (label from from_degree to to_degree : ℕ) (can : CanLink s names label from from_degree to to_degree) where
+  abbrev row : ℕ → RelRow
+  row id = edge_row id label from to
+
+  pub source_can : (side : Side) → side ≡ side_at from from to → (id : ℕ) → CanOpen s from from_degree label side (row id) []
+  source_can side is id = record {
+    keeps = can.store.store;
+    used = found_used s names from from_degree can.store can.leaves;
+    counted = sym (found_degree s names from from_degree can.store can.leaves);
+    named = can.named;
+    at = record { end = inl refl; typed = refl; aside = is };
+  }
+
+  pub source_room : HasRoom s format.relationships_file 1 → HasGroupRoom s []
+  source_room room = omega (arith, room)
+
+  leaves_is : degree s.records from ≡ from_degree
+  leaves_is = sym (found_degree s names from from_degree can.store can.leaves)
+
+  enters_is : degree s.records to ≡ to_degree
+  enters_is = sym (found_degree s names to to_degree can.store can.enters)
+
+  -- the source's head is open
+  module _ (t : State) (head : ChainHead) (first : (id : ℕ) → OpensChain s t (head_of head) from (row id) []) where
+    -- a loop has no other
+    pub loop_opened : from ≡ to → OpensEnds s t names label (record { source = end_of from head from_degree; target = end_of from head from_degree })
+    loop_opened loop = record {
+      keeps = keeps_graph s t from (first 0).regroups;
+      can = opened_loop s names label (end_of from head from_degree) (end_of from head from_degree) can.store.names leaves_is leaves_is t refl
+          (subst (λ n. (id : ℕ) → OpensChain s t (head_of head) from (edge_row id label from n) []) (sym loop) first);
+    }
+
+    module _ (differ : from ≢ to) where
+      -- which groups may be empty now
+      abbrev pub made : List ℕ
+      made = group_of_head (head_of head) ++ []
+
+      high_same : (meta_of t format.names_file) ≡ (meta_of s format.names_file)
+      high_same = (first 0).regroups.metas format.names_file (λ e. omega arith)
+
+      pub target_can : (side : Side) → side ≡ side_at to from to → (id : ℕ) → CanOpen t to to_degree label side (row id) made
+      target_can side is id = record {
+        keeps = (first 0).keeps;
+        used = λ free. found_used s names to to_degree can.store can.enters (sym ((first 0).regroups.kinds to (λ e. differ (sym e))) ∙ free);
+        counted = (first 0).regroups.degrees to ∙ enters_is;
+        named = subst (λ (m : Meta). label < m.high) (sym high_same) can.named;
+        at = record { end = inr refl; typed = refl; aside = is };
+      }
+
+      pub target_room : HasRoom s format.relationships_file 1 → HasGroupRoom t made
+      target_room room =
+          let live = ap (λ (m : Meta). m.live) ((first 0).regroups.metas format.relationships_file (λ e. omega arith)) in
+          let limit = ap (λ (h : Shape). h.limit) (first 0).regroups.shape in
+          let one = one_group (head_of head) in
+          omega (arith, room)
+
+      pub both_opened : (u : State) (other : ChainHead) → ((id : ℕ) → OpensChain t u (head_of other) to (row id) made) → OpensEnds s u names label (record { source = end_of from head from_degree; target = end_of to other to_degree })
+      both_opened u other second = record {
+        keeps = graph_twice s t u (keeps_graph s t from (first 0).regroups) (keeps_graph t u to (second 0).regroups);
+        can = opened_both s names label (end_of from head from_degree) (end_of to other to_degree) can.store.names leaves_is enters_is t u differ first second;
+      }

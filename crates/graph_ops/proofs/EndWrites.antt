@@ -1,0 +1,131 @@
+-- Which records are written at the ends of a relationship.
+use Rattle.std.proofs.Common.{◌≡◌, ℕ, true, List, [], ◌∷◌, ◌++◌, sym, subst, inl, inr, ⊎_elim, arith, refl}
+use Rattle.rec_bytes.specs.Format as format
+use Rattle.rec_bytes.specs.RecordFiles.{is_meta_file, meta_key_of}
+use Rattle.rec_bytes.specs.declared.key.Key.{Key}
+use Rattle.rec_bytes.specs.Space.{IsAmong, State, WritesOnly}
+use Rattle.rec_bytes.proofs.Spaces.{writes_more, writes_then}
+use Rattle.rel_store.specs.RelRecord.{rel_key}
+use Rattle.node_store.specs.NodeRecord.{node_key}
+use Rattle.store_rules.specs.Writes.{AreOwn, WritesBeside, meta_keys}
+use Rattle.store_rules.proofs.WriteLaws.{among_both, among_left, among_metas, among_right, beside_more, these_written}
+use Rattle.chain_edit.proofs.ChainSteps.{on_test}
+use Rattle.group_store.specs.Dropping.{lead_key}
+use Rattle.group_store.specs.GroupRecord.{group_key}
+use Rattle.graph_ops.specs.EdgeDeleting.{WritesEnds}
+use Rattle.graph_ops.specs.EdgeEnds.{IsEdgeEnd, end_keys}
+use Rattle.graph_ops.specs.declared.edge_end.EdgeEnd.{EdgeEnd}
+
+abbrev WritesEnd : State → State → ℕ → EdgeEnd → Type 0
+WritesEnd old new rel end = (before after : ℕ) × WritesOnly old new (rel_key rel ∷ end_keys before after end)
+
+module _ (s t : State) (rel : ℕ) (source target : EdgeEnd) where
+  -- at one end
+  pub end_written : WritesEnd s t rel source → WritesEnds s t rel source target
+  end_written w = record {
+    before_source = w.0;
+    after_source = w.1;
+    before_target = rel;
+    after_target = rel;
+    only = writes_more s t (rel_key rel ∷ end_keys w.0 w.1 source) _
+        (λ q i. ⊎_elim (λ e. inl e) (λ j. inr (among_left q (end_keys w.0 w.1 source) (end_keys rel rel target ++ meta_keys) j)) i) w.2;
+  }
+
+  -- at both, one after the other
+  pub ends_written : (u : State) → WritesEnd s t rel source → WritesEnd t u rel target → WritesEnds s u rel source target
+  ends_written u w v = record {
+    before_source = w.0;
+    after_source = w.1;
+    before_target = v.0;
+    after_target = v.1;
+    only = writes_more s u ((rel_key rel ∷ end_keys w.0 w.1 source) ++ (rel_key rel ∷ end_keys v.0 v.1 target)) _
+        (λ q i. among_both q (rel_key rel ∷ end_keys w.0 w.1 source) (rel_key rel ∷ end_keys v.0 v.1 target)
+        (λ j. ⊎_elim (λ e. inl e) (λ m. inr (among_left q (end_keys w.0 w.1 source) (end_keys v.0 v.1 target ++ meta_keys) m)) j)
+        (λ j. ⊎_elim (λ e. inl e) (λ m. inr (among_right q (end_keys w.0 w.1 source) (end_keys v.0 v.1 target ++ meta_keys) (among_left q (end_keys v.0 v.1 target) meta_keys m))) j) i)
+        (writes_then s t u _ _ w.2 v.2);
+  }
+
+  -- and the identifier is given back then
+  pub ends_given : (u : State) → WritesEnds s t rel source target → WritesOnly t u (rel_key rel ∷ meta_key_of format.relationships_file ∷ []) → WritesEnds s u rel source target
+  ends_given u w given = record {
+    before_source = w.before_source;
+    after_source = w.after_source;
+    before_target = w.before_target;
+    after_target = w.after_target;
+    only = writes_more s u (all ++ (rel_key rel ∷ meta_key_of format.relationships_file ∷ [])) all
+        (λ q i. among_both q all (rel_key rel ∷ meta_key_of format.relationships_file ∷ []) (λ j. j)
+        (λ j. ⊎_elim (λ e. inl e) (λ m. ⊎_elim (λ e. inr (among_right q (end_keys w.before_source w.after_source source) (end_keys w.before_target w.after_target target ++ meta_keys)
+        (among_right q (end_keys w.before_target w.after_target target) meta_keys (among_metas format.relationships_file q refl e)))) (λ e. absurd e) m) j) i)
+        (writes_then s t u _ _ w.only given);
+  }
+    where
+      all : List Key
+      all = rel_key rel ∷ end_keys w.before_source w.after_source source ++ end_keys w.before_target w.after_target target ++ meta_keys
+
+-- ---- counted, besides the relationship
+
+-- the ends' records, and the neighbours of the groups that are dropped after
+abbrev ends_keys : ℕ → ℕ → ℕ → ℕ → EdgeEnd → EdgeEnd → List Key
+ends_keys a b c d source target = end_keys a b source ++ end_keys c d target
+
+own_ends : (a b c d : ℕ) (source target : EdgeEnd) → IsEdgeEnd source → IsEdgeEnd target → AreOwn (ends_keys a b c d source target)
+own_ends a b c d source target p q = (refl, (refl, (p.own, (refl, (refl, (refl, (q.own, (refl, tt))))))))
+
+own_lead : (node before : ℕ) → is_meta_file (lead_key node before).file ≡ true
+own_lead node before = on_test (λ (k : Key). is_meta_file k.file ≡ true) before format.nil (node_key node) (group_key before) (λ _. refl) (λ _. refl)
+
+-- the chain of an end is closed
+abbrev WritesClosed : State → State → EdgeEnd → Type 0
+WritesClosed old new end = (before after : ℕ) × WritesOnly old new (group_key after ∷ lead_key end.node before ∷ end.head.key ∷ meta_key_of format.groups_file ∷ [])
+
+-- the group's key is there already
+close_in : (q : Key) (end : EdgeEnd) (a b : ℕ) (keys : List Key) → IsAmong end.head.key keys → IsAmong (group_key a) keys → IsAmong (lead_key end.node b) keys
+    → IsAmong q (group_key a ∷ lead_key end.node b ∷ end.head.key ∷ meta_key_of format.groups_file ∷ []) → IsAmong q (keys ++ meta_keys)
+close_in q end a b keys head after before (inl e) = among_left q keys meta_keys (subst (λ z. IsAmong z keys) (sym e) after)
+close_in q end a b keys head after before (inr (inl e)) = among_left q keys meta_keys (subst (λ z. IsAmong z keys) (sym e) before)
+close_in q end a b keys head after before (inr (inr (inl e))) = among_left q keys meta_keys (subst (λ z. IsAmong z keys) (sym e) head)
+close_in q end a b keys head after before (inr (inr (inr (inl e)))) = among_right q keys meta_keys (among_metas format.groups_file q refl e)
+close_in q end a b keys head after before (inr (inr (inr (inr i)))) = absurd i
+
+module _ (s t : State) (rel : ℕ) (source target : EdgeEnd) (is_source : IsEdgeEnd source) (is_target : IsEdgeEnd target) (w : WritesEnds s t rel source target) where
+  abbrev E : List Key
+  E = ends_keys w.before_source w.after_source w.before_target w.after_target source target
+
+  ends_in : (q : Key) (more : List Key) → IsAmong q (rel_key rel ∷ E ++ meta_keys) → IsAmong q (rel_key rel ∷ (E ++ more) ++ meta_keys)
+  ends_in q more i = ⊎_elim (λ e. inl e) (λ j. inr (among_both q E meta_keys (λ m. among_left q (E ++ more) meta_keys (among_left q E more m)) (λ m. among_right q (E ++ more) meta_keys m) j)) i
+
+  pub ends_beside : WritesBeside (rel_key rel) 12 s t
+  ends_beside = beside_more (omega arith) (these_written (rel_key rel) s t E (rel_key rel ∷ E ++ meta_keys) (own_ends w.before_source w.after_source w.before_target w.after_target source target is_source is_target) (λ q i. i) w.only)
+
+  module _ (v : State) (first : WritesClosed t v source) where
+    abbrev C : List Key
+    C = group_key first.1 ∷ lead_key source.node first.0 ∷ []
+
+    own_first : AreOwn (E ++ C)
+    own_first = (refl, (refl, (is_source.own, (refl, (refl, (refl, (is_target.own, (refl, (refl, (own_lead source.node first.0, tt))))))))))
+
+    source_only : WritesOnly s v (rel_key rel ∷ (E ++ C) ++ meta_keys)
+    source_only = writes_more s v ((rel_key rel ∷ E ++ meta_keys) ++ (group_key first.1 ∷ lead_key source.node first.0 ∷ source.head.key ∷ meta_key_of format.groups_file ∷ [])) _
+        (λ q i. among_both q (rel_key rel ∷ E ++ meta_keys) (group_key first.1 ∷ lead_key source.node first.0 ∷ source.head.key ∷ meta_key_of format.groups_file ∷ []) (λ m. ends_in q C m)
+        (λ m. inr (close_in q source first.1 first.0 (E ++ C) (inr (inr (inl refl))) (among_right (group_key first.1) E C (inl refl)) (among_right (lead_key source.node first.0) E C (inr (inl refl))) m)) i)
+        (writes_then s t v _ _ w.only first.2)
+
+    pub source_beside : WritesBeside (rel_key rel) 12 s v
+    source_beside = beside_more (omega arith) (these_written (rel_key rel) s v (E ++ C) (rel_key rel ∷ (E ++ C) ++ meta_keys) own_first (λ q i. i) source_only)
+
+    module _ (x : State) (last : WritesClosed v x target) where
+      abbrev D : List Key
+      D = group_key last.1 ∷ lead_key target.node last.0 ∷ []
+
+      own_last : AreOwn ((E ++ C) ++ D)
+      own_last = (refl, (refl, (is_source.own, (refl, (refl, (refl, (is_target.own, (refl, (refl, (own_lead source.node first.0, (refl, (own_lead target.node last.0, tt))))))))))))
+
+      target_only : WritesOnly s x (rel_key rel ∷ ((E ++ C) ++ D) ++ meta_keys)
+      target_only = writes_more s x ((rel_key rel ∷ (E ++ C) ++ meta_keys) ++ (group_key last.1 ∷ lead_key target.node last.0 ∷ target.head.key ∷ meta_key_of format.groups_file ∷ [])) _
+          (λ q i. among_both q (rel_key rel ∷ (E ++ C) ++ meta_keys) (group_key last.1 ∷ lead_key target.node last.0 ∷ target.head.key ∷ meta_key_of format.groups_file ∷ [])
+          (λ m. ⊎_elim (λ e. inl e) (λ j. inr (among_both q (E ++ C) meta_keys (λ k. among_left q ((E ++ C) ++ D) meta_keys (among_left q (E ++ C) D k)) (λ k. among_right q ((E ++ C) ++ D) meta_keys k) j)) m)
+          (λ m. inr (close_in q target last.1 last.0 ((E ++ C) ++ D) (inr (inr (inr (inr (inr (inr (inl refl))))))) (among_right (group_key last.1) (E ++ C) D (inl refl)) (among_right (lead_key target.node last.0) (E ++ C) D (inr (inl refl))) m)) i)
+          (writes_then s v x _ _ source_only last.2)
+
+      pub target_beside : WritesBeside (rel_key rel) 12 s x
+      target_beside = these_written (rel_key rel) s x ((E ++ C) ++ D) (rel_key rel ∷ ((E ++ C) ++ D) ++ meta_keys) own_last (λ q i. i) target_only

@@ -1,0 +1,153 @@
+-- Which records are written where the ends of a new edge are opened.
+use Rattle.std.proofs.Common.{◌≡◌, ◌≢◌, ℕ, ◌+◌, ◌*◌, ◌≤◌, nat_eq, Bool, true, false, cond, List, ◌∷◌, ◌++◌, Result, Ok, Err, IfOk, inl, inr, ⊎_elim, arith, refl}
+use Rattle.std.specs.Prelude.{OnErr}
+use Rattle.std.proofs.lemmas.List.{length-append}
+use Rattle.store_rules.proofs.NumberLaws.{eq_false, eq_true}
+use Rattle.rec_bytes.specs.declared.key.Key.{Key}
+use Rattle.rec_bytes.specs.Space.{IsAmong, State}
+use Rattle.rec_bytes.proofs.Spaces.{writes_more, writes_then}
+use Rattle.store_rules.specs.Writes.{WritesAtMost, WritesBeside, meta_keys}
+use Rattle.rel_store.specs.RelRecord.{rel_key}
+use Rattle.node_store.specs.NodeRecord.{node_key}
+use Rattle.group_store.specs.Opening.{WritesOpened, dense_writes, moved_writes}
+use Rattle.graph_ops.specs.declared.edge_end.BothEnds.{BothEnds}
+use Rattle.graph_ops.specs.declared.edge_end.EdgeEnd.{EdgeEnd}
+use Rattle.graph_ops.specs.EdgeAdding.{degree_weight, degrees_weight}
+use Rattle.graph_ops.specs.EdgeJoining.{WritesJoined, joined_keys}
+use Rattle.graph_ops.specs.EdgeEnds.{IsEdgeEnd}
+use Rattle.graph_ops.specs.EdgeOpening.{WritesEndsOpened, ends_moved, ends_writes, opened_keys}
+use Rattle.graph_ops.specs.declared.change_fault.ChangeFault.{ChangeFault}
+use Rattle.graph_ops.proofs.JoinWrites.{joined_written}
+use Rattle.store_rules.proofs.WriteLaws.{among_both, among_left, among_right, then_written}
+use Rattle.group_store.proofs.GroupWrites.{own_both}
+
+-- ---- the ends that become dense
+
+-- the writes of both ends are those of each; a loop has one
+pub loop_writes : (threshold from from_degree to to_degree : ℕ) → from ≡ to → ends_writes threshold from from_degree to to_degree ≡ dense_writes threshold from_degree
+loop_writes threshold from from_degree to to_degree loop = rw (eq_true from to loop) (omega arith)
+
+pub pair_writes : (threshold from from_degree to to_degree : ℕ) → from ≢ to → ends_writes threshold from from_degree to to_degree ≡ dense_writes threshold from_degree + dense_writes threshold to_degree
+pair_writes threshold from from_degree to to_degree differ = rw (eq_false from to differ) refl
+
+-- an end writes at most twice what it weighs, and nothing where it weighs nothing
+end_double : (threshold degree : ℕ) → dense_writes threshold degree ≤ 2 * degree_weight threshold degree
+end_double threshold degree = by (nat_eq degree threshold)
+  where
+    by : (b : Bool) → cond b (4 * threshold) 0 ≤ 2 * cond b (2 * (threshold + 1)) 0
+    by true = omega arith
+    by false = omega arith
+
+pub ends_double : (threshold from from_degree to to_degree : ℕ) → ends_writes threshold from from_degree to to_degree ≤ 2 * degrees_weight threshold from from_degree to to_degree
+ends_double threshold from from_degree to to_degree = by (nat_eq from to)
+  where
+    by : (b : Bool) → dense_writes threshold from_degree + cond b 0 (dense_writes threshold to_degree) ≤ 2 * (degree_weight threshold from_degree + cond b 0 (degree_weight threshold to_degree))
+    by true = let f = end_double threshold from_degree in omega arith
+    by false = let f = end_double threshold from_degree in let t = end_double threshold to_degree in omega arith
+
+-- ---- so where the store keeps the rules
+
+pub loop_moved : (threshold from from_degree to to_degree : ℕ) → from ≡ to → ends_moved threshold from from_degree to to_degree ≡ moved_writes threshold from_degree
+loop_moved threshold from from_degree to to_degree loop = rw (eq_true from to loop) (omega arith)
+
+pub pair_moved : (threshold from from_degree to to_degree : ℕ) → from ≢ to → ends_moved threshold from from_degree to to_degree ≡ moved_writes threshold from_degree + moved_writes threshold to_degree
+pair_moved threshold from from_degree to to_degree differ = rw (eq_false from to differ) refl
+
+-- an end writes at most what it weighs
+end_weighs : (threshold degree : ℕ) → moved_writes threshold degree ≤ degree_weight threshold degree
+end_weighs threshold degree = by (nat_eq degree threshold)
+  where
+    by : (b : Bool) → cond b (2 * threshold) 0 ≤ cond b (2 * (threshold + 1)) 0
+    by true = omega arith
+    by false = omega arith
+
+pub ends_weigh : (threshold from from_degree to to_degree : ℕ) → ends_moved threshold from from_degree to to_degree ≤ degrees_weight threshold from from_degree to to_degree
+ends_weigh threshold from from_degree to to_degree = by (nat_eq from to)
+  where
+    by : (b : Bool) → moved_writes threshold from_degree + cond b 0 (moved_writes threshold to_degree) ≤ degree_weight threshold from_degree + cond b 0 (degree_weight threshold to_degree)
+    by true = let f = end_weighs threshold from_degree in omega arith
+    by false = let f = end_weighs threshold from_degree in let t = end_weighs threshold to_degree in omega arith
+
+-- ---- the heads that are opened
+
+-- all that is written at both ends
+module _ (source target : EdgeEnd) (keys : List Key) where
+  abbrev all : List Key
+  all = opened_keys source ++ opened_keys target ++ keys ++ meta_keys
+
+  others : (q : Key) → IsAmong q (keys ++ meta_keys) → IsAmong q all
+  others q i = among_right q (opened_keys source) (opened_keys target ++ keys ++ meta_keys) (among_right q (opened_keys target) (keys ++ meta_keys) i)
+
+  at_source : (q : Key) (more : List Key) → (IsAmong q more → IsAmong q keys) → IsAmong q (node_key source.node ∷ source.head.key ∷ more ++ meta_keys) → IsAmong q all
+  at_source q more are i = ⊎_elim (λ e. inl e) (λ j. ⊎_elim (λ e. inr (inl e)) (λ k. others q (among_both q more meta_keys (λ l. among_left q keys meta_keys (are l)) (λ l. among_right q keys meta_keys l) k)) j) i
+
+  at_target : (q : Key) (more : List Key) → (IsAmong q more → IsAmong q keys) → IsAmong q (node_key target.node ∷ target.head.key ∷ more ++ meta_keys) → IsAmong q all
+  at_target q more are i = ⊎_elim (λ e. inr (inr (inl e))) (λ j. ⊎_elim (λ e. inr (inr (inr (inl e)))) (λ k. others q (among_both q more meta_keys (λ l. among_left q keys meta_keys (are l)) (λ l. among_right q keys meta_keys l) k)) j) i
+
+-- a loop's
+pub loop_wrote : {n m : ℕ} (s t : State) (source : EdgeEnd) → n ≤ m → WritesOpened s t source.node source.head.key n → WritesEndsOpened s t (record { source = source; target = source }) m
+loop_wrote s t source le w = record { keys = w.keys; few = let f = w.few in omega arith; own = w.own; only = writes_more s t _ _ (λ q i. at_source source source w.keys q w.keys (λ l. l) i) w.only }
+
+-- both, one after the other
+pub both_wrote : {n m k : ℕ} (s t u : State) (source target : EdgeEnd) → n + m ≤ k → WritesOpened s t source.node source.head.key n → WritesOpened t u target.node target.head.key m
+    → WritesEndsOpened s u (record { source = source; target = target }) k
+both_wrote s t u source target le v w = record {
+  keys = v.keys ++ w.keys;
+  few = let a = v.few in let b = w.few in omega (arith, length-append v.keys w.keys);
+  own = own_both v.keys w.keys v.own w.own;
+  only = writes_more s u (first ++ second) (all source target (v.keys ++ w.keys))
+      (λ q i. among_both q first second
+      (λ j. at_source source target (v.keys ++ w.keys) q v.keys (λ l. among_left q v.keys w.keys l) j)
+      (λ j. at_target source target (v.keys ++ w.keys) q w.keys (λ l. among_right q v.keys w.keys l) j) i)
+      (writes_then s t u first second v.only w.only);
+}
+  where
+    first : List Key
+    first = node_key source.node ∷ source.head.key ∷ v.keys ++ meta_keys
+
+    second : List Key
+    second = node_key target.node ∷ target.head.key ∷ w.keys ++ meta_keys
+
+-- ---- and the relationship that joins the chains then
+
+module _ (s t u : State) (rel : ℕ) (ends : BothEnds) (count : ℕ) (is_source : IsEdgeEnd ends.source) (is_target : IsEdgeEnd ends.target) (opened : WritesEndsOpened s t ends count) (joins : WritesJoined t u rel ends.source ends.target) where
+  abbrev chains : List Key
+  chains = joined_keys joins.first_source ends.source ++ joined_keys joins.first_target ends.target
+
+  abbrev E : List Key
+  E = chains ++ opened.keys
+
+  in_chains : (q : Key) → IsAmong q chains → IsAmong q (rel_key rel ∷ E ++ meta_keys)
+  in_chains q i = inr (among_left q E meta_keys (among_left q chains opened.keys i))
+
+  in_opened : (q : Key) → IsAmong q (opened.keys ++ meta_keys) → IsAmong q (rel_key rel ∷ E ++ meta_keys)
+  in_opened q i = inr (among_both q opened.keys meta_keys (λ j. among_left q E meta_keys (among_right q chains opened.keys j)) (λ j. among_right q E meta_keys j) i)
+
+  before : (q : Key) → IsAmong q (opened_keys ends.source ++ opened_keys ends.target ++ opened.keys ++ meta_keys) → IsAmong q (rel_key rel ∷ E ++ meta_keys)
+  before q (inl e) = in_chains q (inr (inr (inl e)))
+  before q (inr (inl e)) = in_chains q (inr (inl e))
+  before q (inr (inr (inl e))) = in_chains q (inr (inr (inr (inr (inr (inl e))))))
+  before q (inr (inr (inr (inl e)))) = in_chains q (inr (inr (inr (inr (inl e)))))
+  before q (inr (inr (inr (inr i)))) = in_opened q i
+
+  after : (q : Key) → IsAmong q (rel_key rel ∷ chains ++ meta_keys) → IsAmong q (rel_key rel ∷ E ++ meta_keys)
+  after q i = ⊎_elim (λ e. inl e) (λ j. among_both q chains meta_keys (in_chains q) (λ k. in_opened q (among_right q opened.keys meta_keys k)) j) i
+
+  pub put_beside : WritesBeside (rel_key rel) (6 + count) s u
+  put_beside = record {
+    keys = E;
+    few = let f = opened.few in omega (arith, length-append chains opened.keys);
+    own = own_both chains opened.keys (refl, (is_source.own, (refl, (refl, (is_target.own, (refl, tt)))))) opened.own;
+    only = writes_more s u (before_keys ++ (rel_key rel ∷ chains ++ meta_keys)) (rel_key rel ∷ E ++ meta_keys)
+        (λ q i. among_both q before_keys (rel_key rel ∷ chains ++ meta_keys) (before q) (after q) i)
+        (writes_then s t u before_keys (rel_key rel ∷ chains ++ meta_keys) opened.only joins.only);
+  }
+    where
+      before_keys : List Key
+      before_keys = opened_keys ends.source ++ opened_keys ends.target ++ opened.keys ++ meta_keys
+
+-- whether it joined them or not
+pub put_few : (s t u : State) (ends : BothEnds) → IsEdgeEnd ends.source → IsEdgeEnd ends.target → WritesAtMost 1606 s t → (result : Result ℕ ChangeFault) → IfOk result (λ id. WritesJoined t u id ends.source ends.target)
+    → OnErr result ((id : ℕ) × WritesJoined t u id ends.source ends.target) → WritesAtMost 1613 s u
+put_few s t u ends source target few (Ok id) joins failed = then_written few (joined_written t u id ends.source ends.target source.own target.own joins)
+put_few s t u ends source target few (Err fault) joins failed = then_written few (joined_written t u failed.0 ends.source ends.target source.own target.own failed.1)

@@ -1,0 +1,42 @@
+use Rattle.std.proofs.Common.{ℕ, ◌∙◌}
+use Rattle.graph_ops.specs.ChangeFault.{IsOutside}
+use Rattle.graph_ops.specs.EdgeJoining.{WritesJoined}
+use Rattle.graph_ops.proofs.EdgePut.{first_right, puts_edge, second_right}
+use Rattle.graph_ops.proofs.Exits.{fault_exit}
+use Rattle.graph_ops.proofs.JoinWrites.{placed_joined, placed_written}
+use Rattle.graph_ops.proofs.Writes.{on_any_err}
+use Rattle.graph_ops.proofs.edge_joining.join_edge.Goals as goal
+
+pub returns-in_err-id-clause-sound : goal.returns-in_err-id-clause-sound
+returns-in_err-id-clause-sound g c tells names text can at room =
+    fault_exit (λ f. f) IsOutside c.in_err-id.field-0.0 c.from_residual.result c.from_residual.ensures.1 (c.in_err-id.ensures.sound tells _ can.empty can.keeps room)
+
+pub returns-in_err-join_ends-clause-sound : goal.returns-in_err-join_ends-clause-sound
+returns-in_err-join_ends-clause-sound g c tells names text can at room =
+    let s = g.S.Reads.state c.args.space.now in
+    let t = g.S.Reads.state c.place.new.space in
+    let placed = c.in_ok-id.ensures.placed tells in
+    fault_exit (λ f. f) IsOutside c.in_err-join_ends.field-0.0 c.from_residual-in_err-join_ends.result c.from_residual-in_err-join_ends.ensures.1
+    (c.in_err-join_ends.ensures.sound tells
+    (first_right s t names c.args.label text c.args.source c.args.target c.in_ok-id.id can at placed)
+    (λ _. second_right s t names c.args.label text c.args.source c.args.target c.in_ok-id.id can at placed))
+
+pub returns-clause-joined : goal.returns-clause-joined
+returns-clause-joined g c tells names text can at =
+    puts_edge (g.S.Reads.state c.args.space.now) (g.S.Reads.state c.place.new.space) names c.args.label text c.args.source c.args.target c.in_ok-id.id can at (c.in_ok-id.ensures.placed tells)
+    (g.S.Reads.state c.join_ends.new.space) (c.in_ok-join_ends.ensures.ok tells) (c.join_ends.ensures.shape tells ∙ c.in_ok-id.ensures.shape tells)
+
+pub returns-clause-writes : goal.returns-clause-writes
+returns-clause-writes g c = placed_joined _ _ _ c.in_ok-id.id c.args.source c.args.target c.in_ok-id.ensures.writes c.join_ends.ensures.writes
+
+pub returns-in_err-id-clause-err_writes : goal.returns-in_err-id-clause-err_writes
+returns-in_err-id-clause-err_writes g c =
+    let placed = c.in_err-id.ensures.err_writes in
+    let w : (id : ℕ) × WritesJoined (g.S.Reads.state c.args.space.now) (g.S.Reads.state c.place.new.space) id c.args.source c.args.target = (placed.0, placed_written _ _ placed.0 c.args.source c.args.target placed.1) in
+    on_any_err _ _ w
+
+pub returns-in_err-join_ends-clause-err_writes : goal.returns-in_err-join_ends-clause-err_writes
+returns-in_err-join_ends-clause-err_writes g c =
+    let w : (id : ℕ) × WritesJoined (g.S.Reads.state c.args.space.now) (g.S.Reads.state c.join_ends.new.space) id c.args.source c.args.target
+    = (c.in_ok-id.id, placed_joined _ _ _ c.in_ok-id.id c.args.source c.args.target c.in_ok-id.ensures.writes c.join_ends.ensures.writes) in
+    on_any_err _ _ w

@@ -1,0 +1,66 @@
+use Rattle.std.proofs.Common.{◌≡◌, ℕ, [], ◌∷◌, ◌∙◌, ap, inl, inr, ⊎_elim, refl, subst}
+use Rattle.rec_bytes.specs.Format as format
+use Rattle.rec_bytes.specs.RecordFiles.{meta_key_of}
+use Rattle.rec_bytes.specs.Space.{State, WritesOnly, after_put}
+use Rattle.rec_bytes.proofs.Spaces.{writes_more, writes_then}
+use Rattle.store_rules.specs.Writes.{meta_keys}
+use Rattle.rel_store.specs.declared.rel_row.RelRow.{RelRow}
+use Rattle.rel_store.specs.RelRecord.{rel_key, rel_record}
+use Rattle.graph_ops.specs.ChangeFault.{IsOutside, MayComeLate, of_space}
+use Rattle.graph_ops.proofs.Exits.{fault_exit, space_late}
+use Rattle.graph_ops.proofs.Takes.{taken-shape}
+use Rattle.store_rules.proofs.WriteLaws.{among_metas}
+use Rattle.graph_ops.proofs.Writes.{on_any_err, only_read}
+use Rattle.graph_ops.proofs.edge_joining.place.Goals as goal
+use Rattle.graph_ops.proofs.edge_joining.place.Goals.{After-save, In_ok-id}
+use Rattle.graph_ops.proofs.edge_joining.place.Given.{Over}
+
+pub returns-in_err-id-clause-sound : goal.returns-in_err-id-clause-sound
+returns-in_err-id-clause-sound g c tells most empty keeps room =
+    fault_exit (λ f. f) IsOutside c.in_err-id.field-0.0 c.from_residual.result c.from_residual.ensures.1 (c.in_err-id.ensures.sound tells most empty keeps room)
+
+-- the shape after the identifier was taken
+took : (g : Over) (c : In_ok-id g) → g.S.Reads.tells → (g.S.Reads.state c.take_id.new.space).shape ≡ (g.S.Reads.state c.args.space.now).shape
+took g c tells = ap (λ (s : State). s.shape) (c.in_ok-id.ensures.ok tells) ∙ taken-shape (g.S.Reads.state c.args.space.now) format.relationships_file
+
+pub returns-in_err-save-clause-shape : goal.returns-in_err-save-clause-shape
+returns-in_err-save-clause-shape g c tells = ap (λ (s : State). s.shape) c.in_err-save.ensures.err ∙ took g (goal.at.returns-in_err-save-clause-shape g c).In_ok-id tells
+
+pub returns-clause-placed : goal.returns-clause-placed
+returns-clause-placed g c tells = record {
+  took = g.S.Reads.state c.take_id.new.space;
+  taken = c.in_ok-id.ensures.taken tells;
+  small = c.in_ok-id.ensures.small;
+  shape = took g (goal.at.returns-clause-placed g c).In_ok-id tells;
+  saved = c.in_ok-save.ensures.ok ∙ ap (λ (r : RelRow). after_put (g.S.Reads.state c.take_id.new.space) (rel_key r.id) (rel_record r)) c.new_row.ensures;
+}
+
+pub returns-clause-shape : goal.returns-clause-shape
+returns-clause-shape g c tells = ap (λ (s : State). s.shape) c.in_ok-save.ensures.ok ∙ took g (goal.at.returns-clause-shape g c).In_ok-id tells
+
+-- the identifier's meta record, and the relationship's record
+written : (g : Over) (c : After-save g) → WritesOnly (g.S.Reads.state c.args.space.now) (g.S.Reads.state c.save.new.space) (rel_key c.in_ok-id.id ∷ meta_keys)
+written g c =
+    let s = g.S.Reads.state c.args.space.now in
+    let t = g.S.Reads.state c.take_id.new.space in
+    let u = g.S.Reads.state c.save.new.space in
+    let saved = subst (λ (r : RelRow). WritesOnly t u (rel_key r.id ∷ [])) c.new_row.ensures c.save.ensures.writes in
+    writes_more s u (meta_key_of format.relationships_file ∷ rel_key c.in_ok-id.id ∷ []) (rel_key c.in_ok-id.id ∷ meta_keys)
+    (λ q i. ⊎_elim (λ e. inr (among_metas format.relationships_file q refl e)) (λ j. ⊎_elim (λ e. inl e) (λ e. absurd e) j) i)
+    (writes_then s t u (meta_key_of format.relationships_file ∷ []) (rel_key c.in_ok-id.id ∷ []) c.take_id.ensures.writes saved)
+
+pub returns-clause-writes : goal.returns-clause-writes
+returns-clause-writes g c = written g (goal.at.returns-clause-writes g c).After-save
+
+pub returns-in_err-save-clause-err_writes : goal.returns-in_err-save-clause-err_writes
+returns-in_err-save-clause-err_writes g c =
+    let w : (id : ℕ) × WritesOnly (g.S.Reads.state c.args.space.now) (g.S.Reads.state c.save.new.space) (rel_key id ∷ meta_keys) = (c.in_ok-id.id, written g (goal.at.returns-in_err-save-clause-err_writes g c).After-save) in
+    on_any_err _ _ w
+
+pub returns-in_err-id-clause-err_writes : goal.returns-in_err-id-clause-err_writes
+returns-in_err-id-clause-err_writes g c =
+    let w : (id : ℕ) × WritesOnly (g.S.Reads.state c.args.space.now) (g.S.Reads.state c.take_id.new.space) (rel_key id ∷ meta_keys) = (0, only_read _ _ (rel_key 0 ∷ meta_keys) c.in_err-id.ensures.err) in
+    on_any_err _ _ w
+
+pub returns-in_err-save-clause-late : goal.returns-in_err-save-clause-late
+returns-in_err-save-clause-late g c = fault_exit of_space MayComeLate c.in_err-save.field-0.0 c.from_residual-in_err-save.result c.from_residual-in_err-save.ensures.1 (space_late c.in_err-save.field-0.0)

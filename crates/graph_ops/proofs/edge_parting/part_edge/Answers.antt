@@ -1,0 +1,27 @@
+use Rattle.std.proofs.Common.{◌∙◌}
+use Rattle.graph_ops.specs.ChangeFault.{IsOutside}
+use Rattle.graph_ops.proofs.EdgeTaken.{parts_edge, right_from_next, right_from_prev, right_to_next, right_to_prev}
+use Rattle.graph_ops.proofs.EndWrites.{ends_given}
+use Rattle.graph_ops.proofs.Exits.{fault_exit}
+use Rattle.graph_ops.proofs.edge_parting.part_edge.Goals as goal
+
+pub returns-in_err-part_ends-clause-sound : goal.returns-in_err-part_ends-clause-sound
+returns-in_err-part_ends-clause-sound g c tells names store bare =
+    let s = g.S.Reads.state c.args.space.now in
+    fault_exit (λ f. f) IsOutside c.in_err-part_ends.field-0.0 c.from_residual.result c.from_residual.ensures.1
+    (c.in_err-part_ends.ensures.sound tells
+    (right_from_prev s names c.args.id c.args.source c.args.target store bare)
+    (right_from_next s names c.args.id c.args.source c.args.target store bare)
+    (λ _. right_to_prev s names c.args.id c.args.source c.args.target store bare)
+    (λ _. right_to_next s names c.args.id c.args.source c.args.target store bare))
+
+pub returns-clause-parted : goal.returns-clause-parted
+returns-clause-parted g c tells names store bare =
+    parts_edge (g.S.Reads.state c.args.space.now) names c.args.id c.args.source c.args.target store bare
+    (g.S.Reads.state c.part_ends.new.space) (g.S.Reads.state c.give.new.space) (c.in_ok-part_ends.ensures.ok tells) (c.give.ensures.shape tells ∙ c.part_ends.ensures.shape tells) (c.in_ok-give.ensures.given tells)
+
+pub returns-clause-writes : goal.returns-clause-writes
+returns-clause-writes g c = ends_given _ _ _ c.args.source c.args.target _ c.part_ends.ensures.writes c.give.ensures.writes
+
+pub returns-in_err-give-clause-writes : goal.returns-in_err-give-clause-writes
+returns-in_err-give-clause-writes g c = ends_given _ _ _ c.args.source c.args.target _ c.part_ends.ensures.writes c.give.ensures.writes
