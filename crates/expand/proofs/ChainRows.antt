@@ -1,53 +1,53 @@
 -- The rows that the chain of a node lists are a part of all rows.
-use Rattle.std.proofs.Common.{◌≡◌, ◌≢◌, ◌<◌, ◌≤◌, ℕ, nat_eq, Bool, true, false, None, Some, List, length, map, inl, inr, refl, sym, ap, ◌∙◌, subst, ⊎_elim, arith}
+use Rattle.std.proofs.Common.{◌≡◌, ◌≢◌, ◌<◌, ◌≤◌, ℕ, nat_eq, Bool, true, Some, List, length, map, inl, inr, refl, sym, ap, ◌∙◌, subst, ⊎_elim, arith}
 use Rattle.std.specs.Cmp.{IsEquivalence}
 use Rattle.std.specs.List.{Contains, filter}
-use Rattle.std.proofs.lemmas.Bool.{and_parts, eqb-false, eqb-true, or_cases, or_left, or_right}
+use Rattle.std.proofs.lemmas.Bool.{and_parts, eqb-true, or_cases, or_left, or_right}
 use Rattle.std.proofs.lemmas.List.Folds.{Any-from_list_any, list_any-from_Any}
-use Rattle.std.proofs.lemmas.Map.Keys.{IsDistinct-from_apart, apart_from_distinct}
+use Rattle.std.proofs.lemmas.Map.Keys.{IsDistinct-from_apart}
 use Rattle.std.proofs.lemmas.Map.Made.{length-le_from_is_member}
 use Rattle.plain_graph.specs.declared.direction.Direction.{Direction}
 use Rattle.plain_graph.specs.declared.direction.Direction.TheVariants as directions
 use Rattle.rec_bytes.specs.declared.shape.Shape.{Shape}
 use Rattle.rec_bytes.specs.Format as format
-use Rattle.rec_bytes.specs.Record.{field}
 use Rattle.store_rules.specs.Chains.{In, IsWalk}
-use Rattle.store_rules.specs.Ranges.{layout_by}
-use Rattle.store_rules.specs.Rules.{IsEnd, IsInGroup, IsListed, IsSparseStore, StandsAt, node_head}
+use Rattle.store_rules.specs.Properties.{AreOnce}
+use Rattle.store_rules.specs.Rules.{IsEnd, IsInGroup, IsListed, IsWellFormed, StandsAt, node_head}
 use Rattle.store_rules.specs.Views.{Records, RelRow, first_link, group_at, high, kind_at, rec_at, rel_at, rel_in}
 use Rattle.store_rules.proofs.ChainLaws.{walk_of_chain}
-use Rattle.store_rules.proofs.NumberLaws.{eq_false, eq_true, nat_cases}
-use Rattle.store_rules.proofs.ViewLaws.{kind_below, kind_low, row_some, some_row}
+use Rattle.store_rules.proofs.NumberLaws.{eq_false, eq_true}
+use Rattle.store_rules.proofs.OnceLaws.{once_walk}
+use Rattle.store_rules.proofs.ViewLaws.{kind_below, row_some, some_row}
 use Rattle.rel_store.specs.declared.edge_row.EdgeRow.{EdgeRow}
 use Rattle.chain_edit.specs.Chains.{next_of}
 use Rattle.chain_edit.specs.Walking.{edge_at}
-use Rattle.chain_edit.proofs.Walks.{distinct}
 use Rattle.expand.specs.declared.matching.End.TheVariants as ends
 use Rattle.expand.specs.Expanding.{edge_row_at, rows_of}
 use Rattle.expand.specs.Matching.{IsPart, id_of, is_at, is_met, is_met_at, is_wanted}
 use Rattle.expand.proofs.Ascending.{Differs, flips, same_id}
-use Rattle.expand.proofs.Members.{ascends_collect, collect_contains, contains_collect, contains_map, filter_contains, map_contains, pairs_map}
+use Rattle.expand.proofs.Members.{ascends_collect, collect_contains, contains_collect, contains_map, filter_contains, map_contains, pairs_map, pairs_once}
 
--- a node in use of a store of this version is sparse
-pub kind_sparse : (s : Records) (shape : Shape) (n : ℕ) → IsSparseStore s shape → kind_at s format.nodes_file n ≢ 0 → kind_at s format.nodes_file n ≡ format.sparse
-kind_sparse s shape n store used =
-    let r = rec_at s format.nodes_file n in
-    let lt = kind_below (high s format.nodes_file) r n used in
-    let low = kind_low (high s format.nodes_file) r n lt in
-    let fits = store.keeps.ranges.fit format.nodes_file n refl lt in
-    ⊎_elim (λ (e : field 1 r format.kind ≡ format.sparse). low ∙ e)
-    (λ (ne : field 1 r format.kind ≢ format.sparse).
-    let none = no_layout (field 1 r format.kind) (eq_false _ _ (λ e. used (low ∙ e))) (eq_false _ _ ne) (eq_false _ _ (λ e. store.sparse n (low ∙ e))) in
-    let clash : None ≡ Some fits.layout = sym none ∙ fits.is in
-    absurd cc) (nat_cases (field 1 r format.kind) format.sparse)
-  where
-    no_layout : (kind : ℕ) → nat_eq kind format.free_kind ≡ false → nat_eq kind format.sparse ≡ false → nat_eq kind format.dense ≡ false → layout_by format.nodes_file (rec_at s format.nodes_file n) kind ≡ None
-    no_layout kind free sparse dense = rw (free, sparse, dense) refl
+-- the rows of relationships in use, none of which comes twice, with all that pass a test among them
+pub rows_part : (s : Records) (test : EdgeRow → Bool) (xs : List ℕ) → AreOnce xs → ((x : ℕ) → In x xs → kind_at s format.relationships_file x ≢ 0)
+    → ((x : ℕ) → kind_at s format.relationships_file x ≢ 0 → test (edge_at s x) ≡ true → In x xs) → IsPart test (map (edge_at s) xs) (rows_of s)
+rows_part s test xs once live all = record {
+  ascends = ascends_collect id_of (edge_row_at s) (high s format.relationships_file) (λ x row is. ap id_of (sym (some_row (kind_at s format.relationships_file x) (edge_at s x) row is).1));
+  distinct = pairs_map Differs (edge_at s) xs (pairs_once (λ x y. x ≢ y) xs once (λ x y i j ne. ne));
+  only = λ row is.
+      let found = contains_map (edge_at s) xs row is in
+      let some = live found.0 found.1 in
+      collect_contains (edge_row_at s) (high s format.relationships_file) found.0 row (kind_below (high s format.relationships_file) (rec_at s format.relationships_file found.0) found.0 some)
+      (row_some (kind_at s format.relationships_file found.0) (edge_at s found.0) some ∙ ap (λ (r : EdgeRow). Some r) (sym found.2));
+  all = λ row is passes.
+      let found = contains_collect (edge_row_at s) (high s format.relationships_file) row is in
+      let has = some_row (kind_at s format.relationships_file found.0) (edge_at s found.0) row found.2 in
+      subst (Contains (map (edge_at s) xs)) has.1 (map_contains (edge_at s) xs found.0 (all found.0 has.0 (subst (λ (r : EdgeRow). test r ≡ true) (sym has.1) passes)));
+}
 
-module _ (s : Records) (shape : Shape) (store : IsSparseStore s shape) (n : ℕ) (used : kind_at s format.nodes_file n ≢ 0) where
+module _ (s : Records) (shape : Shape) (store : IsWellFormed s shape) (n : ℕ) (sparse : kind_at s format.nodes_file n ≡ format.sparse) where
   -- the head of the node lists what stands at it
   pub listed : IsListed s (node_head n) n (StandsAt (rel_at s) (group_at s) (node_head n))
-  listed = store.keeps.linked.listed.each (node_head n) n (inl (record { sparse = kind_sparse s shape n store used; is = refl }))
+  listed = store.linked.listed.each (node_head n) n (inl (record { sparse = sparse; is = refl }))
 
   -- the relationships of the node's chain
   abbrev pub members : List ℕ
@@ -86,18 +86,7 @@ module _ (s : Records) (shape : Shape) (store : IsSparseStore s shape) (n : ℕ)
 
   -- so their rows are a part of all
   pub part : IsPart (is_at n) (map (edge_at s) members) (rows_of s)
-  part = record {
-    ascends = ascends_collect id_of (edge_row_at s) (high s format.relationships_file) (λ x row is. ap id_of (sym (some_row (kind_at s format.relationships_file x) (edge_at s x) row is).1));
-    distinct = pairs_map Differs (edge_at s) members (λ i j d lt high. eqb-false _ _ (apart_from_distinct nat_eq members i j d (distinct (next_of s n) (first_link s n) members walk) lt high));
-    only = λ row is.
-        let found = contains_map (edge_at s) members row is in
-        collect_contains (edge_row_at s) (high s format.relationships_file) found.0 row (low found.0 found.1)
-        (row_some (kind_at s format.relationships_file found.0) (edge_at s found.0) (live found.0 found.1) ∙ ap (λ (r : EdgeRow). Some r) (sym found.2));
-    all = λ row is at.
-        let found = contains_collect (edge_row_at s) (high s format.relationships_file) row is in
-        let has = some_row (kind_at s format.relationships_file found.0) (edge_at s found.0) row found.2 in
-        subst (Contains (map (edge_at s) members)) has.1 (map_contains (edge_at s) members found.0 (all found.0 has.0 (subst (λ (r : EdgeRow). is_at n r ≡ true) (sym has.1) at)));
-  }
+  part = rows_part s (is_at n) members (once_walk (next_of s n) (first_link s n) members walk) live all
 
 -- ---- as many as the degree
 
@@ -121,7 +110,7 @@ length-part wide test rows edges part passes =
 -- ---- a direction and types
 
 -- a relationship that is met in a direction is at the node
-at_met : (direction : Direction) (labels : List ℕ) (n : ℕ) (row : EdgeRow) → is_met direction labels n row ≡ true → is_at n row ≡ true
+pub at_met : (direction : Direction) (labels : List ℕ) (n : ℕ) (row : EdgeRow) → is_met direction labels n row ≡ true → is_at n row ≡ true
 at_met direction labels n row met = by direction met
   where
     leaves : is_met_at ends.Source labels n row ≡ true → is_at n row ≡ true

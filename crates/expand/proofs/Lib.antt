@@ -1,6 +1,13 @@
 pub mod Ascending
 pub mod ChainRows
+pub mod ChainWalks
+pub mod DenseRows
+pub mod DenseWalks
+pub mod GroupHeads
+pub mod HeadChains
 pub mod LoadedRows
+pub mod ManyEdges
 pub mod Members
 pub mod ModelEdges
 pub mod ReadCounts
+pub mod TypeCounts

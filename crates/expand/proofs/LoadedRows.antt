@@ -1,43 +1,49 @@
 -- What a load of a node and a walk of its chain say of the store.
-use Rattle.std.proofs.Common.{◌≡◌, ◌≢◌, ◌≤◌, ◌+◌, ℕ, true, false, None, Some, List, Err, length, map, refl, sym, ap, ◌∙◌, subst, arith}
+use Rattle.std.proofs.Common.{◌≡◌, ◌≢◌, ◌≤◌, ◌+◌, ℕ, nat_eq, true, false, cond, None, Some, List, Result, Ok, Err, IfErr, IfOk, OnOk, length, map, refl, sym, ap, ◌∙◌, subst, arith}
 use Rattle.std.specs.List.{Contains}
-use Rattle.std.specs.Prelude.{Vec}
-use Rattle.std.specs.declared.alloc.Global.{Global}
+use Rattle.std.proofs.lemmas.Bool.{eqb-true, true≢false}
 use Rattle.plain_graph.specs.Graph.{degree_in, has_node}
+use Rattle.plain_graph.specs.declared.direction.Direction.{Direction}
 use Rattle.rec_bytes.specs.declared.row_fault.RowFault.{RowFault}
 use Rattle.rec_bytes.specs.declared.row_fault.RowFault.TheVariants as row
-use Rattle.rec_bytes.specs.declared.shape.Shape.{Shape}
 use Rattle.rec_bytes.specs.Format as format
-use Rattle.rec_bytes.specs.RecordFiles.{room_of}
+use Rattle.rec_bytes.specs.Record.{field}
 use Rattle.rec_bytes.specs.Space.{State, after_gets}
 use Rattle.store_rules.specs.Chains.{IsWalk}
-use Rattle.store_rules.specs.Views.{Records, first_link, high, kind_at}
+use Rattle.store_rules.specs.Graph.{graph_of}
+use Rattle.store_rules.specs.Rules.{IsWellFormed}
+use Rattle.store_rules.specs.Views.{Records, first_link, high, kind_at, rec_at}
 use Rattle.store_rules.proofs.GraphRows.{no_node, node_there}
+use Rattle.store_rules.proofs.NumberLaws.{eq_true}
+use Rattle.store_rules.proofs.ViewLaws.{kind_below, kind_low}
 use Rattle.node_store.specs.declared.node_row.NodeRow.{NodeRow}
 use Rattle.node_store.specs.Loading.{IsNodeFault, after_load, row_at}
+use Rattle.node_store.specs.NodeRecord.{row_of}
 use Rattle.node_store.proofs.Rows.{kind-row_at-None, kind-row_at-Some}
 use Rattle.rel_store.specs.declared.edge_row.EdgeRow.{EdgeRow}
 use Rattle.rel_store.specs.Loading.{rel_mark, rel_room}
 use Rattle.chain_edit.specs.declared.chain_fault.ChainFault.{ChainFault}
 use Rattle.chain_edit.specs.declared.chain_fault.ChainFault.TheVariants as chain
 use Rattle.chain_edit.specs.Chains.{next_of}
-use Rattle.chain_edit.specs.ChainFault as chains
 use Rattle.chain_edit.specs.Walking.{HasWalked, IsSoundWalk, IsWalkDamage, IsWalkFault, ReadsAtMost, edge_at}
 use Rattle.chain_edit.proofs.Walks as walks
 use Rattle.chain_edit.proofs.Walks.{sound_below}
-use Rattle.expand.specs.ExpandFault.{NotDamaged, of_chain, of_row}
-use Rattle.expand.specs.Expanding.{IsExpandFault, IsSparse, TellsNode, graph_in, rows_of}
-use Rattle.expand.specs.Expanding.IsExpandDamage.{OfChain, OfNode}
-use Rattle.expand.specs.Matching.{IsPart, is_at}
+use Rattle.group_store.specs.Loading.{group_mark}
+use Rattle.group_store.proofs.ChainHeads.{sparse_unless}
+use Rattle.expand.specs.declared.expand_fault.ExpandFault.{ExpandFault}
+use Rattle.expand.specs.declared.expand_fault.ExpandFault.TheVariants.{Damaged, Disk, Memory, NoNode}
+use Rattle.expand.specs.Costs.{dense_reads, met_count, most_reads, type_count}
+use Rattle.expand.specs.ExpandFault.{of_chain, of_row}
+use Rattle.expand.specs.Expanding.{CanWalkGroups, HasDenseRows, IsDenseDamage, IsDenseFault, IsExpandFault, IsStore, TellsNode, graph_in, name_of, rows_of}
+use Rattle.expand.specs.Expanding.IsExpandDamage.{OfChain, OfDense, OfNode}
+use Rattle.expand.specs.Matching.{IsPart, is_at, is_met}
 use Rattle.expand.proofs.ChainRows as chain_rows
-use Rattle.expand.proofs.ChainRows.{length-part}
+use Rattle.expand.proofs.ChainRows.{length-part, part_met}
+use Rattle.expand.proofs.ChainWalks.{Rows}
+use Rattle.expand.proofs.DenseRows as dense_rows
 use Rattle.expand.proofs.Members.{contains_map}
 use Rattle.expand.proofs.ModelEdges.{length-at_node}
 use Rattle.expand.proofs.ReadCounts.{records-after_load, reads_then, shape-after_load}
-
--- what a load of rows gives
-abbrev pub Rows : Type 0
-Rows = Vec EdgeRow Global
 
 -- no row: no node has the identifier
 pub none_there : (s : State) (n : ℕ) → None ≡ row_at s.records n → has_node (graph_in s) n ≡ false
@@ -54,72 +60,174 @@ module _ (s : State) (n : ℕ) (row : NodeRow) (found : Some row ≡ row_at s.re
   pub one_there : has_node (graph_in s) n ≡ true
   one_there = node_there s.records n used
 
+  row_is : row ≡ row_of (rec_at s.records format.nodes_file n) n
+  row_is = (kind-row_at-Some s.records n row (sym found)).1
+
   -- where its chain begins
   first_is : row.first ≡ first_link s.records n
-  first_is = ap (λ (r : NodeRow). r.first) (kind-row_at-Some s.records n row (sym found)).1
+  first_is = ap (λ (r : NodeRow). r.first) row_is
 
-  -- a fault of the walk
-  pub chain_tells : (fault : ChainFault) → TellsNode {T = Rows} (Err (of_chain fault)) n (has_node (graph_in s) n)
-  chain_tells chain.Memory = one_there
-  chain_tells chain.Disk = tt
-  chain_tells (chain.Damaged damage) = tt
+  -- its kind is as the row says
+  kind_is : kind_at s.records format.nodes_file n ≡ field 1 (rec_at s.records format.nodes_file n) format.kind
+  kind_is = let r = rec_at s.records format.nodes_file n in kind_low (high s.records format.nodes_file) r n (kind_below (high s.records format.nodes_file) r n used)
 
-  module _ (mid : State) (mark : ℕ) (loaded : mid ≡ after_load s n) (marked : mark ≡ rel_mark s) where
-    -- a record that the walk calls damaged breaks a rule of the chain
-    pub chain_fault : (fault : ChainFault) → IsWalkFault mid row.first n mark fault → IsExpandFault s n (of_chain fault)
-    chain_fault chain.Memory told = tt
-    chain_fault chain.Disk told = tt
-    chain_fault (chain.Damaged damage) told = OfChain row (sym found) (subst (λ m. IsWalkDamage (after_load s n) row.first n m damage) marked (subst (λ t. IsWalkDamage t row.first n mark damage) loaded told))
+  dense_test : row.dense ≡ nat_eq (kind_at s.records format.nodes_file n) format.dense
+  dense_test = ap (λ (r : NodeRow). r.dense) row_is ∙ ap (λ kind. nat_eq kind format.dense) (sym kind_is)
 
-    -- the load changed no record, no mark and no room
-    records_stay : mid.records ≡ s.records
+  is_sparse : IsStore s → row.dense ≡ false → kind_at s.records format.nodes_file n ≡ format.sparse
+  is_sparse store thin = sparse_unless s.records s.shape n store.ranges used (λ e. true≢false (sym (eq_true _ _ e) ∙ sym dense_test ∙ thin))
+
+  -- the bound on reads
+  sparse_bound : (direction : Direction) (labels : List ℕ) → row.dense ≡ false → most_reads s direction labels n ≡ degree_in (graph_in s) n + 1
+  sparse_bound direction labels thin = ap (λ t. cond t (dense_reads s direction labels n) (degree_in (graph_in s) n + 1)) (sym dense_test ∙ thin)
+
+  dense_bound : (direction : Direction) (labels : List ℕ) → row.dense ≡ true → most_reads s direction labels n ≡ dense_reads s direction labels n
+  dense_bound direction labels thick = ap (λ t. cond t (dense_reads s direction labels n) (degree_in (graph_in s) n + 1)) (sym dense_test ∙ thick)
+
+  module _ (mid : State) (loaded : mid ≡ after_load s n) where
+    -- the load changed no record, no mark, no shape and no room
+    pub records_stay : mid.records ≡ s.records
     records_stay = ap (λ (t : State). t.records) loaded ∙ records-after_load s n
+
+    shape_stays : mid.shape ≡ s.shape
+    shape_stays = ap (λ (t : State). t.shape) loaded ∙ shape-after_load s n
 
     mark_stays : rel_mark mid ≡ rel_mark s
     mark_stays = ap (λ (r : Records). high r format.relationships_file) records_stay
 
-    room_stays : rel_room mid ≡ rel_room s
-    room_stays = ap (λ (shape : Shape). room_of shape format.relationships_file) (ap (λ (t : State). t.shape) loaded ∙ shape-after_load s n)
+    store_stays : IsStore s → IsStore mid
+    store_stays store = subst (λ (r : Records). IsWellFormed r mid.shape) (sym records_stay) (subst (IsWellFormed s.records) (sym shape_stays) store)
 
-    module _ (store : IsSparse s) where
-      -- the relationships of the node's chain
-      abbrev pub members : List ℕ
-      members = chain_rows.members s.records s.shape store n used
+    -- ---- of a sparse node
 
-      -- they are met after the load
-      walk : IsWalk (next_of mid.records n) row.first members
-      walk = subst (λ (r : Records). IsWalk (next_of r n) row.first members) (sym records_stay) (subst (λ first. IsWalk (next_of s.records n) first members) (sym first_is) (chain_rows.walk s.records s.shape store n used))
+    module _ (mark : ℕ) (marked : mark ≡ rel_mark s) (thin : row.dense ≡ false) where
+      -- a record that the walk calls damaged breaks a rule of the chain
+      pub chain_fault : (fault : ChainFault) → IsWalkFault mid row.first n mark fault → IsExpandFault s n (of_chain fault)
+      chain_fault chain.Memory told = tt
+      chain_fault chain.Disk told = tt
+      chain_fault (chain.Damaged damage) told = OfChain row (sym found) thin (subst (λ m. IsWalkDamage (after_load s n) row.first n m damage) marked (subst (λ t. IsWalkDamage t row.first n mark damage) loaded told))
 
-      -- the chain ends within the mark
-      pub sound : IsSoundWalk mid row.first n mark members
-      sound = subst (λ m. IsSoundWalk mid row.first n m members) (mark_stays ∙ sym marked) (sound_below mid row.first n members walk (λ x i. let low = chain_rows.low s.records s.shape store n used x i in let same = mark_stays in omega arith))
+      module _ (store : IsStore s) where
+        pub sparse : kind_at s.records format.nodes_file n ≡ format.sparse
+        sparse = is_sparse store thin
 
-      -- there is room for as many as were given out
-      pub room : rel_mark mid ≤ rel_room mid
-      room = let high = (store.keeps.ranges.metas format.relationships_file refl).high in let mark = mark_stays in let room = room_stays in omega arith
+        -- the relationships of the node's chain
+        abbrev pub members : List ℕ
+        members = chain_rows.members s.records s.shape store n sparse
 
-      module _ (rows : List EdgeRow) (walked : HasWalked mid row.first n mark rows) where
-        -- the rows are theirs
-        rows_are : rows ≡ map (edge_at s.records) members
-        rows_are = walks.rows_of mid row.first n mark rows members walked walk ∙ ap (λ (r : Records). map (edge_at r) members) records_stay
+        -- they are met after the load
+        walk : IsWalk (next_of mid.records n) row.first members
+        walk = subst (λ (r : Records). IsWalk (next_of r n) row.first members) (sym records_stay) (subst (λ first. IsWalk (next_of s.records n) first members) (sym first_is) (chain_rows.walk s.records s.shape store n sparse))
 
-        -- so they are a part of all rows
-        pub loaded_part : IsPart (is_at n) rows (rows_of s.records)
-        loaded_part = subst (λ xs. IsPart (is_at n) xs (rows_of s.records)) (sym rows_are) (chain_rows.part s.records s.shape store n used)
+        -- the chain ends within the mark
+        pub sound : IsSoundWalk mid row.first n mark members
+        sound = subst (λ m. IsSoundWalk mid row.first n m members) (mark_stays ∙ sym marked) (sound_below mid row.first n members walk (λ x i. let low = chain_rows.low s.records s.shape store n sparse x i in let same = mark_stays in omega arith))
 
-        -- each of them is at the node
-        at_node : (r : EdgeRow) → Contains rows r → is_at n r ≡ true
-        at_node r is =
-            let found = contains_map (edge_at s.records) members r (subst (λ xs. Contains xs r) rows_are is) in
-            subst (λ (e : EdgeRow). is_at n e ≡ true) (sym found.2) (chain_rows.at_node s.records s.shape store n used found.0 found.1)
+        -- there is room for as many as were given out
+        pub room : rel_mark mid ≤ rel_room mid
+        room = ((store_stays store).ranges.metas format.relationships_file refl).high
 
-        -- as many reads as relationships, and one for the node
-        pub loaded_reads : (new : State) → new ≡ after_gets (length rows) mid → ReadsAtMost (degree_in (graph_in s) n + 1) s new
-        loaded_reads new reads =
-            let few = length-part (is_at n) (is_at n) rows (rows_of s.records) loaded_part at_node in
-            let same = length-at_node s.records s.shape store.keeps n in
-            let more : ReadsAtMost (degree_in (graph_in s) n) mid new = record { count = length rows; within = omega arith; is = reads } in
-            reads_then s mid new n (degree_in (graph_in s) n) loaded more
+        module _ (rows : List EdgeRow) (walked : HasWalked mid row.first n mark rows) where
+          -- the rows are theirs
+          rows_are : rows ≡ map (edge_at s.records) members
+          rows_are = walks.rows_of mid row.first n mark rows members walked walk ∙ ap (λ (r : Records). map (edge_at r) members) records_stay
+
+          whole : IsPart (is_at n) rows (rows_of s.records)
+          whole = subst (λ xs. IsPart (is_at n) xs (rows_of s.records)) (sym rows_are) (chain_rows.part s.records s.shape store n sparse)
+
+          -- so they are a part of all rows
+          pub sparse_part : (direction : Direction) (labels : List ℕ) → IsPart (is_met direction labels n) rows (rows_of s.records)
+          sparse_part direction labels = part_met direction labels n rows (rows_of s.records) whole
+
+          -- each of them is at the node
+          at_node : (r : EdgeRow) → Contains rows r → is_at n r ≡ true
+          at_node r is =
+              let found = contains_map (edge_at s.records) members r (subst (λ xs. Contains xs r) rows_are is) in
+              subst (λ (e : EdgeRow). is_at n e ≡ true) (sym found.2) (chain_rows.at_node s.records s.shape store n sparse found.0 found.1)
+
+          -- as many reads as relationships, and one for the node
+          pub sparse_reads : (direction : Direction) (labels : List ℕ) (new : State) → new ≡ after_gets (length rows) mid → ReadsAtMost (most_reads s direction labels n) s new
+          sparse_reads direction labels new reads =
+              let few = length-part (is_at n) (is_at n) rows (rows_of s.records) whole at_node in
+              let same = length-at_node s.records s.shape store n in
+              let more : ReadsAtMost (degree_in (graph_in s) n) mid new = record { count = length rows; within = omega arith; is = reads } in
+              subst (λ most. ReadsAtMost most s new) (sym (sparse_bound direction labels thin)) (reads_then s mid new n (degree_in (graph_in s) n) loaded more)
+
+    -- ---- of a dense one
+
+    module _ (thick : row.dense ≡ true) where
+      -- a record that is called damaged breaks a rule of the groups or of their chains
+      pub dense_fault : (found : Result Rows ExpandFault) → IfErr found (IsDenseFault mid row) → IfErr found (IsExpandFault s n)
+      dense_fault (Ok rows) told = tt
+      dense_fault (Err (NoNode id)) told = absurd told
+      dense_fault (Err Memory) told = tt
+      dense_fault (Err Disk) told = tt
+      dense_fault (Err (Damaged damage)) told = OfDense row (sym found) thick (subst (λ (t : State). IsDenseDamage t row damage) loaded told)
+
+      -- the node is there
+      pub dense_tells : (found : Result Rows ExpandFault) → IfErr found (IsDenseFault mid row) → TellsNode found n (has_node (graph_in s) n)
+      dense_tells (Ok rows) told = one_there
+      dense_tells (Err (NoNode id)) told = absurd told
+      dense_tells (Err Memory) told = one_there
+      dense_tells (Err Disk) told = tt
+      dense_tells (Err (Damaged damage)) told = tt
+
+      module _ (store : IsStore s) where
+        id_is : row.id ≡ n
+        id_is = ap (λ (r : NodeRow). r.id) row_is
+
+        mid_dense : kind_at mid.records format.nodes_file row.id ≡ format.dense
+        mid_dense = ap (λ x. kind_at mid.records format.nodes_file x) id_is ∙ ap (λ (r : Records). kind_at r format.nodes_file n) records_stay ∙ eqb-true _ _ (sym dense_test ∙ thick)
+
+        mid_first : row.first ≡ first_link mid.records row.id
+        mid_first = first_is ∙ ap (λ (r : Records). first_link r n) (sym records_stay) ∙ ap (first_link mid.records) (sym id_is)
+
+        -- the walks have an end
+        pub walkable : (direction : Direction) (labels : List ℕ) → (groups : List ℕ) × (members : List ℕ) × CanWalkGroups mid row direction labels groups members
+        walkable direction labels = (
+          dense_rows.members mid (store_stays store) row mid_dense mid_first direction labels,
+          (dense_rows.chains mid (store_stays store) row mid_dense mid_first direction labels).members,
+          dense_rows.can_walk mid (store_stays store) row mid_dense mid_first direction labels,
+        )
+
+        module _ (direction : Direction) (labels : List ℕ) (new : State) where
+          -- the rows are a part of all rows
+          pub dense_part : (rows : List EdgeRow) → HasDenseRows mid new row direction labels rows → IsPart (is_met direction labels n) rows (rows_of s.records)
+          dense_part rows has = subst (λ (r : Records). IsPart (is_met direction labels n) rows (rows_of r)) records_stay
+              (subst (λ x. IsPart (is_met direction labels x) rows (rows_of mid.records)) id_is (dense_rows.dense_part mid (store_stays store) row mid_dense mid_first direction labels new rows has))
+
+          -- as many reads as types and as relationships that are met, and one for the node
+          pub dense_most : (found : Result Rows ExpandFault) → IfOk found (λ (rows : Rows). HasDenseRows mid new row direction labels rows.items) → OnOk found (ReadsAtMost (most_reads s direction labels n) s new)
+          dense_most (Err fault) has = tt
+          dense_most (Ok rows) has =
+              let more = dense_rows.dense_most mid (store_stays store) row mid_dense mid_first direction labels new rows.items has in
+              let count = λ (r : Records) (x : ℕ). type_count (graph_of r) x + met_count (graph_of r) direction (map (name_of r) labels) x in
+              subst (λ most. ReadsAtMost most s new) (sym (dense_bound direction labels thick))
+              (reads_then s mid new n (count s.records n) loaded
+              (subst (λ (r : Records). ReadsAtMost (count r n) mid new) records_stay (subst (λ x. ReadsAtMost (count mid.records x) mid new) id_is more)))
+
+-- the rows of a dense node are a part of all rows
+pub dense_parts : (s : State) (n : ℕ) (row : NodeRow) (found : Some row ≡ row_at s.records n) (mid : State) (loaded : mid ≡ after_load s n) (thick : row.dense ≡ true) (direction : Direction) (labels : List ℕ) (new : State)
+    (result : Result Rows ExpandFault) → IfOk result (λ (rows : Rows). HasDenseRows mid new row direction labels rows.items) → IfOk result (λ (rows : Rows). IsStore s → IsPart (is_met direction labels n) rows.items (rows_of s.records))
+dense_parts s n row found mid loaded thick direction labels new (Ok rows) has = λ store. dense_part s n row found mid loaded thick store direction labels new rows.items has
+dense_parts s n row found mid loaded thick direction labels new (Err fault) has = tt
+
+-- reads after the load are no more than the marks count
+pub dense_at_most : (s : State) (n : ℕ) (mid new : State) → mid ≡ after_load s n → ReadsAtMost (group_mark mid + rel_mark mid) mid new → ReadsAtMost (group_mark s + rel_mark s + 1) s new
+dense_at_most s n mid new loaded more =
+    let same = ap (λ (t : State). t.records) loaded ∙ records-after_load s n in
+    reads_then s mid new n (group_mark s + rel_mark s) loaded
+    (subst (λ (r : Records). ReadsAtMost (high r format.groups_file + high r format.relationships_file) mid new) same more)
+
+pub sparse_at_most : (s : State) (n : ℕ) (mid new : State) → mid ≡ after_load s n → ReadsAtMost (rel_mark s) mid new → ReadsAtMost (group_mark s + rel_mark s + 1) s new
+sparse_at_most s n mid new loaded more =
+    reads_then s mid new n (group_mark s + rel_mark s) loaded (record { count = more.count; within = let few = more.within in omega arith; is = more.is })
+
+-- a fault of the walk says that the node is there
+pub chain_tells : (s : State) (n : ℕ) → has_node (graph_in s) n ≡ true → (fault : ChainFault) → TellsNode {T = Rows} (Err (of_chain fault)) n (has_node (graph_in s) n)
+chain_tells s n there chain.Memory = there
+chain_tells s n there chain.Disk = tt
+chain_tells s n there (chain.Damaged damage) = tt
 
 -- ---- faults
 
@@ -127,9 +235,3 @@ module _ (s : State) (n : ℕ) (row : NodeRow) (found : Some row ≡ row_at s.re
 pub row_fault : (s : State) (n : ℕ) (fault : RowFault) → IsNodeFault s n fault → IsExpandFault s n (of_row fault)
 row_fault s n row.Disk told = tt
 row_fault s n (row.Damaged damage) told = OfNode told
-
--- a walk that calls no record damaged
-pub chain_sound : (fault : ChainFault) → chains.NotDamaged {T = Rows} (Err fault) → NotDamaged {T = Rows} (Err (of_chain fault))
-chain_sound chain.Memory told = tt
-chain_sound chain.Disk told = tt
-chain_sound (chain.Damaged damage) told = told

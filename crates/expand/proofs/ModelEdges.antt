@@ -38,7 +38,7 @@ module _ {A B : Type 0} (R : A → B → Type 0) where
   zip_append (x ∷ xs) xs' (y ∷ ys) ys' front back = (front.0, zip_append xs xs' ys ys' front.1 back)
 
   -- tests that agree on related items keep related items
-  zip_filter : (p : A → Bool) (q : B → Bool) → ((x : A) (y : B) → R x y → p x ≡ q y) → (xs : List A) (ys : List B) → AllZip R xs ys → AllZip R (filter p xs) (filter q ys)
+  pub zip_filter : (p : A → Bool) (q : B → Bool) → ((x : A) (y : B) → R x y → p x ≡ q y) → (xs : List A) (ys : List B) → AllZip R xs ys → AllZip R (filter p xs) (filter q ys)
   zip_filter p q agree [] [] all = tt
   zip_filter p q agree [] (y ∷ ys) all = absurd all
   zip_filter p q agree (x ∷ xs) [] all = absurd all
@@ -63,7 +63,7 @@ module _ {A B : Type 0} (R : A → B → Type 0) where
 abbrev pub StandFor : Records → List ℕ → List (List ℕ) → Type 0
 StandFor s labels names = (x : ℕ) → x < high s format.names_file → is_wanted labels x ≡ meaning.is_named names (name_of s x)
 
-module _ (s : Records) (shape : Shape) {most : ℕ} (keeps : KeepsRules s shape most) where
+module _ (s : Records) (shape : Shape) {most : ℕ} {empty : List ℕ} (keeps : KeepsRules s shape most empty) where
   -- the rows of the store are those of the graph's edges
   pub rows_are : AreRowsOf s (rows_of s) (graph_of s).edges
   rows_are = zip_collect (IsRowOf s) (edge_row_at s) (edge_of s) (high s format.relationships_file) (λ x lt. one x (nat_eq (kind_at s format.relationships_file x) 0) refl (λ some. keeps.named.rels_named x _ (row_some _ (rel_in (rec_at s format.relationships_file x) x) (eqb-false _ _ some))))

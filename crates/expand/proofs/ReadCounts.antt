@@ -1,9 +1,12 @@
 -- Reads of a node and then of others.
-use Rattle.std.proofs.Common.{◌≡◌, ◌+◌, ℕ, zero, suc, Bool, true, false, ◌&&◌, cond, nat_lt, refl, sym, ap, ◌∙◌, arith}
+use Rattle.std.proofs.Common.{◌≡◌, ◌+◌, ℕ, zero, suc, Bool, true, false, ◌&&◌, cond, nat_lt, refl, sym, ap, ◌∙◌, subst, arith}
 use Rattle.rec_bytes.specs.Space.{State, after_get, after_gets}
 use Rattle.rec_bytes.proofs.Spaces.{after_gets-zero, after_gets_more}
 use Rattle.node_store.specs.Loading.{after_load, node_mark, node_room}
+use Rattle.rel_store.specs.Loading.{rel_mark}
 use Rattle.chain_edit.specs.Walking.{ReadsAtMost}
+use Rattle.chain_edit.proofs.Walks.{mark_then}
+use Rattle.group_store.proofs.GroupWalks.{gets_add}
 
 -- more reads
 after_gets-after_get : (n : ℕ) (s : State) → after_gets n (after_get s) ≡ after_gets (n + 1) s
@@ -41,3 +44,15 @@ shape-after_load s id = by (nat_lt id (node_mark s) && nat_lt id (node_room s))
     by : (there : Bool) → (cond there (after_get s) s).shape ≡ s.shape
     by true = refl
     by false = refl
+
+-- so many reads, and then so many more
+pub reads_both : (s mid new : State) (first then : ℕ) → ReadsAtMost first s mid → ReadsAtMost then mid new → ReadsAtMost (first + then) s new
+reads_both s mid new first then before more = record {
+  count = more.count + before.count;
+  within = let few = before.within in let le = more.within in omega arith;
+  is = more.is ∙ ap (after_gets more.count) before.is ∙ gets_add more.count before.count s;
+}
+
+-- those of groups, and then as many as relationships were given out
+pub reads_marks : (s mid new : State) (most : ℕ) → ReadsAtMost most s mid → ReadsAtMost (rel_mark mid) mid new → ReadsAtMost (most + rel_mark s) s new
+reads_marks s mid new most before more = reads_both s mid new most (rel_mark s) before (subst (λ mark. ReadsAtMost mark mid new) (mark_then s mid before.count before.is) more)

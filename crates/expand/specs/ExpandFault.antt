@@ -5,6 +5,8 @@ use Rattle.rec_bytes.specs.declared.row_fault.RowFault.{RowFault}
 use Rattle.rec_bytes.specs.declared.row_fault.RowFault.TheVariants as row
 use Rattle.chain_edit.specs.declared.chain_fault.ChainFault.{ChainFault}
 use Rattle.chain_edit.specs.declared.chain_fault.ChainFault.TheVariants as chain
+use Rattle.group_store.specs.declared.group_fault.GroupFault.{GroupFault}
+use Rattle.group_store.specs.declared.group_fault.GroupFault.TheVariants as group
 use Rattle.expand.specs.declared.expand_fault.ExpandFault.{ExpandFault}
 use Rattle.expand.specs.declared.expand_fault.ExpandFault.TheVariants.{NoNode, Memory, Disk}
 use Rattle.expand.specs.declared.expand_fault.ExpandFault.TheVariants.{Damaged}
@@ -18,6 +20,11 @@ abbrev pub of_chain : ChainFault → ExpandFault
 of_chain chain.Memory = Memory
 of_chain chain.Disk = Disk
 of_chain (chain.Damaged damage) = Damaged damage
+
+abbrev pub of_group : GroupFault → ExpandFault
+of_group group.Memory = Memory
+of_group group.Disk = Disk
+of_group (group.Damaged damage) = Damaged damage
 
 abbrev pub of_memory : ExpandFault
 of_memory = Memory

@@ -1,27 +1,33 @@
 -- What is found of the edges of a node, and what it costs.
-use Rattle.std.specs.Prelude.{◌≡◌, ◌<◌, ℕ, Bool, true, false, Option, List, Result, Ok, Err, All}
-use Rattle.std.specs.Prelude.{Some}
+use Rattle.std.specs.Prelude.{◌≡◌, ◌<◌, ◌≤◌, ℕ, ◌+◌, Bool, true, false, Option, List, length, map}
+use Rattle.std.specs.Prelude.{Result, Ok, Err, All, Some}
 use Rattle.std.specs.List.{AllZip}
 use Rattle.plain_graph.specs.Graph.{Edge, Graph}
+use Rattle.plain_graph.specs.declared.direction.Direction.{Direction}
 use Rattle.rec_bytes.specs.declared.damage.Damage.{Damage}
 use Rattle.rec_bytes.specs.Format.{names_file, relationships_file}
-use Rattle.rec_bytes.specs.Space.{State}
+use Rattle.rec_bytes.specs.Space.{State, after_gets}
 use Rattle.store_rules.specs.Graph.{graph_of}
 use Rattle.store_rules.specs.Rows.{collect}
-use Rattle.store_rules.specs.Rules.{IsSparseStore}
+use Rattle.store_rules.specs.Rules.{IsWellFormed}
 use Rattle.store_rules.specs.Views.{Records, high, kind_at, rec_at, row_if, text_of}
 use Rattle.node_store.specs.declared.node_row.NodeRow.{NodeRow}
 use Rattle.node_store.specs.Loading.{IsNodeDamage, after_load, row_at}
 use Rattle.rel_store.specs.declared.edge_row.EdgeRow.{EdgeRow}
-use Rattle.rel_store.specs.Loading.{rel_mark}
+use Rattle.rel_store.specs.Loading.{rel_mark, rel_room}
 use Rattle.chain_edit.specs.Walking.{IsWalkDamage, edge_at}
+use Rattle.group_store.specs.declared.group_row.GroupRow.{GroupRow}
+use Rattle.group_store.specs.Walking as groups
+use Rattle.group_store.specs.Walking.{HasGroupRows, IsWalkable, group_row_at}
 use Rattle.expand.specs.declared.expand_fault.ExpandFault.{ExpandFault}
 use Rattle.expand.specs.declared.expand_fault.ExpandFault.TheVariants.{NoNode, Memory, Disk}
 use Rattle.expand.specs.declared.expand_fault.ExpandFault.TheVariants.{Damaged}
+use Rattle.expand.specs.FirstLinks.{first_links}
+use Rattle.expand.specs.Walking.{AreSoundWalks, AreWalksDamage, HaveWalked}
 
--- the records are those of a well-formed store of this version, in which each node is sparse
-abbrev pub IsSparse : State → Type 0
-IsSparse s = IsSparseStore s.records s.shape
+-- the records are those of a well-formed store
+abbrev pub IsStore : State → Type 0
+IsStore s = IsWellFormed s.records s.shape
 
 -- the graph of the records
 abbrev pub graph_in : State → Graph
@@ -67,11 +73,51 @@ TellsNode (Err Memory) node there = there ≡ true
 TellsNode (Err Disk) node there = Unit {0}
 TellsNode (Err (Damaged damage)) node there = Unit {0}
 
--- The record that is said to be damaged breaks a rule: the one of the node, or its chain.
+-- The rows are those of what is met in chains of a dense node's groups, with a read for each group
+-- and each relationship.
+pub record HasDenseRows (s t : State) (row : NodeRow) (direction : Direction) (labels : List ℕ)
+    (rows : List EdgeRow) : Type 0 where
+  pub groups : List GroupRow
+  pub listed : HasGroupRows s.records row.id row.first groups
+  pub walked : HaveWalked s row.id (first_links direction labels groups) rows
+  pub read : t ≡ after_gets (length groups + length rows) s
+
+-- the links lead through these groups of the dense node, and in chains of them through these
+-- relationships
+pub record CanWalkGroups (s : State) (row : NodeRow) (direction : Direction) (labels : List ℕ)
+    (groups members : List ℕ) : Type 0 where
+  pub walkable : IsWalkable s row.id row.first groups
+  pub mark : rel_mark s ≤ rel_room s
+  pub sound : AreSoundWalks s row.id
+      (first_links direction labels (map (group_row_at s.records) groups)) (rel_mark s) members
+
+-- The record that is said to be damaged breaks a rule: that of the groups of a dense node, or the
+-- one of their chains.
+pub data IsDenseDamage (s : State) (row : NodeRow) : Damage → Type 0 where
+  OfGroups : {damage : Damage} → groups.IsWalkDamage s row.id row.first damage
+      → IsDenseDamage s row damage
+  OfGroupChains : {damage : Damage} (direction : Direction) (labels : List ℕ)
+      (groups : List GroupRow) → HasGroupRows s.records row.id row.first groups
+      → AreWalksDamage s row.id (first_links direction labels groups) damage
+      → IsDenseDamage s row damage
+
+-- what holds where a fault is given; no node is said to be missing
+abbrev pub IsDenseFault : State → NodeRow → ExpandFault → Type 0
+IsDenseFault s row (NoNode id) = ⊥
+IsDenseFault s row Memory = Unit {0}
+IsDenseFault s row Disk = Unit {0}
+IsDenseFault s row (Damaged damage) = IsDenseDamage s row damage
+
+-- The record that is said to be damaged breaks a rule: the one of the node, of a sparse node's
+-- chain, or of a dense one's groups and their chains.
 pub data IsExpandDamage (s : State) (node : ℕ) : Damage → Type 0 where
   OfNode : {damage : Damage} → IsNodeDamage s node damage → IsExpandDamage s node damage
   OfChain : {damage : Damage} (row : NodeRow) → row_at s.records node ≡ Some row
+      → row.dense ≡ false
       → IsWalkDamage (after_load s node) row.first node (rel_mark s) damage
+      → IsExpandDamage s node damage
+  OfDense : {damage : Damage} (row : NodeRow) → row_at s.records node ≡ Some row
+      → row.dense ≡ true → IsDenseDamage (after_load s node) row damage
       → IsExpandDamage s node damage
 
 -- what holds where a fault is given

@@ -1,3 +1,6 @@
+pub mod Costs
 pub mod ExpandFault
 pub mod Expanding
+pub mod FirstLinks
 pub mod Matching
+pub mod Walking

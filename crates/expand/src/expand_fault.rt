@@ -1,4 +1,5 @@
 use chain_edit::ChainFault;
+use group_store::GroupFault;
 use rec_bytes::{Damage, RowFault};
 use std::alloc::AllocError;
 use thiserror::Error;
@@ -45,6 +46,21 @@ impl From<ChainFault> for ExpandFault {
             ChainFault::Memory => ExpandFault::Memory,
             ChainFault::Disk => ExpandFault::Disk,
             ChainFault::Damaged(damage) => ExpandFault::Damaged(damage),
+        }
+    }
+}
+
+impl From<GroupFault> for ExpandFault {
+    ghost from_gives = { λ fault result. result ≡ of_group fault };
+
+    ghost use Rattle.std.specs.Prelude.{◌≡◌};
+    ghost use Rattle.expand.specs.ExpandFault.{of_group};
+
+    fn from(fault: GroupFault) -> ExpandFault {
+        match fault {
+            GroupFault::Memory => ExpandFault::Memory,
+            GroupFault::Disk => ExpandFault::Disk,
+            GroupFault::Damaged(damage) => ExpandFault::Damaged(damage),
         }
     }
 }

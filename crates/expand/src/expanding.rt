@@ -1,14 +1,16 @@
-ghost use Rattle.std.specs.Prelude.{◌≡◌, ◌+◌, IfErr, IfOk, OnOk, map};
+ghost use Rattle.std.specs.Prelude.{◌≡◌, ◌+◌, ◌<◌, IfErr, IfOk, OnOk, map};
 ghost use Rattle.plain_graph.specs.Graph.{degree_in, has_node};
 ghost use Rattle.plain_graph.specs.Meaning.{edges_at};
 ghost use Rattle.rel_store.specs.Loading.{rel_mark};
 ghost use Rattle.chain_edit.specs.Walking.{ReadsAtMost};
+ghost use Rattle.group_store.specs.Loading.{group_mark};
+ghost use Rattle.expand.specs.Costs.{dense_reads, most_reads};
 ghost use Rattle.expand.specs.ExpandFault.{HasExpandCause, NotDamaged};
 ghost use Rattle.expand.specs.Expanding.{
   AreNameNumbers,
   AreRowsOf,
   IsExpandFault,
-  IsSparse,
+  IsStore,
   TellsNode,
   graph_in,
   name_of,
@@ -28,7 +30,8 @@ use std::alloc::Global;
 /// is given. They come by ascending identifier. In both directions those that leave the node come
 /// before those that enter it, and a loop is met twice. A number that is no name's matches no edge.
 ///
-/// It costs a read for the node, and one for each relationship at it in any direction.
+/// It costs a read for the node. A sparse node costs one more for each relationship at it in any
+/// direction, a dense one for each type that it has, and for each relationship that is met.
 pub fn expand<R: Reads>(
     alloc: Global,
     space: &mut R,
@@ -36,27 +39,33 @@ pub fn expand<R: Reads>(
     direction: Direction,
     labels: &[u32],
 ) -> Result<Vec<EdgeRow>, ExpandFault>
-    ensures edges { R.tells → IfOk result (λ rows. IsSparse (R.state space.old)
+    ensures edges { R.tells → IfOk result (λ rows. IsStore (R.state space.old)
         → AreNameNumbers (R.state space.old).records labels.now
         → AreRowsOf (R.state space.old).records rows.items
         (edges_at (graph_in (R.state space.old)) direction
         (map (name_of (R.state space.old).records) labels.now) node)) }
     // so for any numbers
-    ensures rows { R.tells → IfOk result (λ rows. IsSparse (R.state space.old)
+    ensures rows { R.tells → IfOk result (λ rows. IsStore (R.state space.old)
         → rows.items ≡ rows_at direction labels.now node (rows_of (R.state space.old).records)) }
-    ensures missing { R.tells → IsSparse (R.state space.old)
+    ensures missing { R.tells → IsStore (R.state space.old)
         → TellsNode result node (has_node (graph_in (R.state space.old)) node) }
-    ensures sound { R.tells → IsSparse (R.state space.old) → NotDamaged result }
+    ensures sound { R.tells → IsStore (R.state space.old) → NotDamaged result }
     ensures damaged { R.tells → IfErr result (IsExpandFault (R.state space.old) node) }
-    ensures reads { R.tells → IsSparse (R.state space.old) → OnOk result
-        (ReadsAtMost (degree_in (graph_in (R.state space.old)) node + 1)
+    ensures reads { R.tells → IsStore (R.state space.old) → OnOk result
+        (ReadsAtMost (most_reads (R.state space.old) direction labels.now node)
         (R.state space.old) (R.state space.new)) }
-    ensures at_most { ReadsAtMost (rel_mark (R.state space.old) + 1)
+    // so where a node has more edges than a sparse one may have
+    ensures dense_reads { R.tells → IsStore (R.state space.old)
+        → (R.state space.old).shape.threshold < degree_in (graph_in (R.state space.old)) node
+        → OnOk result (ReadsAtMost (dense_reads (R.state space.old) direction labels.now node)
+        (R.state space.old) (R.state space.new)) }
+    ensures at_most { ReadsAtMost
+        (group_mark (R.state space.old) + rel_mark (R.state space.old) + 1)
         (R.state space.old) (R.state space.new) }
     ensures onward { R.onward space.old space.new }
     ensures cause { HasExpandCause (R.faults space.old) (R.faults space.new) result }
 {
-    let rows = load_rows(alloc, space, node)?;
+    let rows = load_rows(alloc, space, node, direction, labels)?;
     let found = rows_at(alloc, &rows, node, direction, labels)?;
     Ok(found)
 }

@@ -1,12 +1,15 @@
 //! The edges of a node, in the order of the model: by ascending identifier, those that leave it
-//! before those that enter it. A call reads the node's record and those of its relationships, and
-//! takes memory for their rows.
+//! before those that enter it. A call reads the node's record and those of a sparse node's
+//! relationships, or of a dense one's groups and the relationships that match. It takes memory for
+//! their rows.
 #![tactic(auto)]
 
 mod expand_fault;
 mod expanding;
+mod first_links;
 mod loading;
 mod matching;
+mod walking;
 
 pub use expand_fault::ExpandFault;
 pub use expanding::expand;

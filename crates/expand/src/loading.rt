@@ -1,43 +1,56 @@
 //! Where the rows of the relationships at a node come from.
 
-ghost use Rattle.std.specs.Prelude.{◌≡◌, ◌+◌, IfErr, IfOk, OnOk};
-ghost use Rattle.plain_graph.specs.Graph.{degree_in, has_node};
+ghost use Rattle.std.specs.Prelude.{◌≡◌, ◌+◌, ℕ, List, IfErr, IfOk, OnOk};
+ghost use Rattle.plain_graph.specs.Graph.{has_node};
 ghost use Rattle.rel_store.specs.Loading.{rel_mark};
 ghost use Rattle.chain_edit.specs.Walking.{ReadsAtMost};
+ghost use Rattle.group_store.specs.Loading.{group_mark};
+ghost use Rattle.expand.specs.Costs.{most_reads};
 ghost use Rattle.expand.specs.ExpandFault.{HasExpandCause, NotDamaged};
 ghost use Rattle.expand.specs.Expanding.{
+  CanWalkGroups,
+  HasDenseRows,
+  IsDenseFault,
   IsExpandFault,
-  IsSparse,
+  IsStore,
   TellsNode,
   graph_in,
   rows_of,
 };
-ghost use Rattle.expand.specs.Matching.{IsPart, is_at};
+ghost use Rattle.expand.specs.Matching.{IsPart, is_met};
 
 use crate::ExpandFault;
+use crate::first_links::first_links;
+use crate::walking::walk_all;
 use chain_edit::walk;
-use node_store::load;
+use group_store::groups;
+use node_store::{NodeRow, load};
+use plain_graph::Direction;
 use rec_bytes::{RELATIONSHIPS, Reads};
 use rel_store::EdgeRow;
 use std::alloc::Global;
 
-/// Reads the rows of the relationships at a node, a loop once, in the order of its chain. The node
-/// is taken for a sparse one, as all are.
+/// Reads rows of relationships at a node, a loop once, in the order of its chains: all of a sparse
+/// node's, and of a dense one's those of a direction and of these types.
 pub(crate) fn load_rows<R: Reads>(
     alloc: Global,
     space: &mut R,
     node: u32,
+    direction: Direction,
+    labels: &[u32],
 ) -> Result<Vec<EdgeRow>, ExpandFault>
-    ensures part { R.tells → IfOk result (λ rows. IsSparse (R.state space.old)
-        → IsPart (is_at node) rows.items (rows_of (R.state space.old).records)) }
-    ensures missing { R.tells → IsSparse (R.state space.old)
+    ensures part { R.tells → IfOk result (λ rows. IsStore (R.state space.old)
+        → IsPart (is_met direction labels.now node) rows.items
+        (rows_of (R.state space.old).records)) }
+    ensures missing { R.tells → IsStore (R.state space.old)
         → TellsNode result node (has_node (graph_in (R.state space.old)) node) }
-    ensures sound { R.tells → IsSparse (R.state space.old) → NotDamaged result }
+    ensures sound { R.tells → IsStore (R.state space.old) → NotDamaged result }
     ensures damaged { R.tells → IfErr result (IsExpandFault (R.state space.old) node) }
-    ensures reads { R.tells → IsSparse (R.state space.old) → OnOk result
-        (ReadsAtMost (degree_in (graph_in (R.state space.old)) node + 1)
+    ensures reads { R.tells → IsStore (R.state space.old) → OnOk result
+        (ReadsAtMost (most_reads (R.state space.old) direction labels.now node)
         (R.state space.old) (R.state space.new)) }
-    ensures at_most { ReadsAtMost (rel_mark (R.state space.old) + 1)
+    ensures at_most { ReadsAtMost
+        (group_mark (R.state space.old) + rel_mark (R.state space.old) + 1)
         (R.state space.old) (R.state space.new) }
     ensures onward { R.onward space.old space.new }
     ensures cause { HasExpandCause (R.faults space.old) (R.faults space.new) result }
@@ -46,6 +59,34 @@ pub(crate) fn load_rows<R: Reads>(
     let Some(row) = load(space, node)? else {
         return Err(ExpandFault::NoNode { id: node });
     };
+    if row.dense {
+        return dense_rows(alloc, space, &row, direction, labels);
+    }
     let rows = walk(alloc, space, row.first, node, mark)?;
+    Ok(rows)
+}
+
+/// Those of the dense node of a row. It reads the groups, and then the chains that can have some.
+fn dense_rows<R: Reads>(
+    alloc: Global,
+    space: &mut R,
+    row: &NodeRow,
+    direction: Direction,
+    labels: &[u32],
+) -> Result<Vec<EdgeRow>, ExpandFault>
+    ensures rows { R.tells → IfOk result (λ rows. HasDenseRows (R.state space.old)
+        (R.state space.new) row.now direction labels.now rows.items) }
+    ensures at_most { ReadsAtMost (group_mark (R.state space.old) + rel_mark (R.state space.old))
+        (R.state space.old) (R.state space.new) }
+    ensures damaged { R.tells → IfErr result (IsDenseFault (R.state space.old) row.now) }
+    ensures sound { R.tells → (groups members : List ℕ)
+        → CanWalkGroups (R.state space.old) row.now direction labels.now groups members
+        → NotDamaged result }
+    ensures onward { R.onward space.old space.new }
+    ensures cause { HasExpandCause (R.faults space.old) (R.faults space.new) result }
+{
+    let groups = groups(alloc, space, row)?;
+    let firsts = first_links(alloc, &groups, direction, labels)?;
+    let rows = walk_all(alloc, space, row.id, &firsts)?;
     Ok(rows)
 }

@@ -104,7 +104,7 @@ fn end_of(end: End, row: &EdgeRow) -> u32
 }
 
 /// Whether the type is one of these, or none is given.
-fn is_wanted(labels: &[u32], label: u32) -> bool
+pub(crate) fn is_wanted(labels: &[u32], label: u32) -> bool
     ensures { result ≡ is_wanted labels.now label }
 {
     labels.is_empty() || is_among(labels, label)

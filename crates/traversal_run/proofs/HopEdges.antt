@@ -17,7 +17,7 @@ use Rattle.rec_bytes.specs.declared.shape.Shape.{Shape}
 use Rattle.rel_store.specs.declared.edge_row.EdgeRow.{EdgeRow}
 use Rattle.store_rules.specs.Graph.{edge_from, edge_of, graph_of}
 use Rattle.store_rules.specs.Properties.{PropertyRecords, property_records}
-use Rattle.store_rules.specs.Rules.{IsSparseStore}
+use Rattle.store_rules.specs.Rules.{IsWellFormed}
 use Rattle.store_rules.specs.Views.{Records, RelRow, high, kind_at, rec_at, rel_at, text_of}
 use Rattle.store_rules.proofs.GraphRows.{node_there}
 use Rattle.store_rules.proofs.NumberLaws.{and_parts, eq_false, eq_true, nat_cases}
@@ -50,7 +50,7 @@ and_false : (b : Bool) → b && false ≡ false
 and_false true = refl
 and_false false = refl
 
-module _ (s : Records) (shape : Shape) (store : IsSparseStore s shape) where
+module _ (s : Records) (shape : Shape) (store : IsWellFormed s shape) where
   edge_is : (x : ℕ) (e : Edge) → edge_of s x ≡ Some e → IsEdgeOf (rec_at s format.names_file) (rel_at s x) e
   edge_is x e is = edge_parts (rec_at s format.names_file) (property_records s) (rel_at s x) e is
 
@@ -73,7 +73,7 @@ module _ (s : Records) (shape : Shape) (store : IsSparseStore s shape) where
       unnamed : (x : ℕ) (e : Edge) → edge_of s x ≡ Some e → is_named (text ∷ texts) e.label ≡ false
       unnamed x e is =
           let edge = edge_is x e is in
-          ap (is_named (text ∷ texts)) edge.label ∙ sym (finds edge.row.label (store.keeps.named.rels_named x edge.row edge.is))
+          ap (is_named (text ∷ texts)) edge.label ∙ sym (finds edge.row.label (store.named.rels_named x edge.row edge.is))
 
   -- an end is a node
   not_here : (id : ℕ) → has_node (graph_of s) id ≡ false → (n end : ℕ) → end ≡ n → kind_at s format.nodes_file n ≢ format.free_kind → nat_eq end id ≡ false
@@ -86,8 +86,8 @@ module _ (s : Records) (shape : Shape) (store : IsSparseStore s shape) where
   pub edges_at-no_node : (texts : List (List ℕ)) (id : ℕ) (direction : Direction) → has_node (graph_of s) id ≡ false → edges_at (graph_of s) direction texts id ≡ []
   edges_at-no_node texts id direction gone =
       nothing_at texts id
-      (λ x e is. let edge = edge_is x e is in ap (λ b. b && is_named texts e.label) (not_here id gone edge.row.from e.from edge.from (store.keeps.linked.ends x edge.row edge.is).from))
-      (λ x e is. let edge = edge_is x e is in ap (λ b. b && is_named texts e.label) (not_here id gone edge.row.to e.to edge.to (store.keeps.linked.ends x edge.row edge.is).to)) direction
+      (λ x e is. let edge = edge_is x e is in ap (λ b. b && is_named texts e.label) (not_here id gone edge.row.from e.from edge.from (store.linked.ends x edge.row edge.is).from))
+      (λ x e is. let edge = edge_is x e is in ap (λ b. b && is_named texts e.label) (not_here id gone edge.row.to e.to edge.to (store.linked.ends x edge.row edge.is).to)) direction
 
 -- the numbers of some texts stand for them, where some number is known or no text is written
 pub stand_for : (s : Records) (labels : List ℕ) (texts : List (List ℕ)) → FindsNames s labels texts → All (λ label. label < name_count s) labels → (labels ≡ [] → texts ≡ []) → StandFor s labels texts

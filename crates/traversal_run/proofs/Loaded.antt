@@ -18,7 +18,7 @@ use Rattle.store_rules.specs.Chains.{In}
 use Rattle.store_rules.specs.Graph.{graph_of, node_of}
 use Rattle.store_rules.specs.Properties.{Property, keys_of}
 use Rattle.store_rules.specs.PropertyChange.{property_from, target_in}
-use Rattle.store_rules.specs.Rules.{IsSparseStore}
+use Rattle.store_rules.specs.Rules.{IsWellFormed}
 use Rattle.store_rules.specs.Views.{Records, high, kind_at, node_in, rec_at}
 use Rattle.store_rules.proofs.ElementProperties.{node_used}
 use Rattle.store_rules.proofs.GraphRows.{no_edge, no_node}
@@ -82,24 +82,24 @@ node_label-is s id row found =
     ∙ ap (λ (r : NodeRow). name_at s r.label) (sym is.1)
 
 -- whose number is a name's in a store
-pub label_known : (s : Records) (shape : Shape) → IsSparseStore s shape → (id : ℕ) (row : NodeRow) → Some row ≡ nodes.row_at s id → row.label < name_count s
+pub label_known : (s : Records) (shape : Shape) → IsWellFormed s shape → (id : ℕ) (row : NodeRow) → Some row ≡ nodes.row_at s id → row.label < name_count s
 label_known s shape store id row found =
     let is = node_rows.kind-row_at-Some s id row (sym found) in
     subst (λ (r : NodeRow). r.label < name_count s) (sym is.1)
-    (store.keeps.named.nodes_named id (node_in (rec_at s format.nodes_file id) id) (row_some (kind_at s format.nodes_file id) (node_in (rec_at s format.nodes_file id) id) is.0))
+    (store.named.nodes_named id (node_in (rec_at s format.nodes_file id) id) (row_some (kind_at s format.nodes_file id) (node_in (rec_at s format.nodes_file id) id) is.0))
 
 -- ---- a text that is no name
 
-module _ (s : State) (store : IsSparseStore s.records s.shape) (text : List ℕ) (none : FindsName s.records None text) where
+module _ (s : State) (store : IsWellFormed s.records s.shape) (text : List ℕ) (none : FindsName s.records None text) where
   -- an element in use has no value of it
   lacks_value : (file x : ℕ) → (file ≡ format.nodes_file) ⊎ (file ≡ format.relationships_file) → kind_at s.records file x ≢ format.free_kind → maps.get (properties_at (graph_of s.records) (target_in file x)) text ≡ None
   lacks_value file x element used =
-      let es : List Property = listed s.records s.shape store.keeps file x in
+      let es : List Property = listed s.records s.shape store file x in
       let first = property_from s.records file x in
       let owned = owner_in-used s.records file x element used in
-      let are = properties_right s.records s.shape store.keeps file x first owned in
+      let are = properties_right s.records s.shape store file x first owned in
       value_lacked s.records s.shape store file x element used es text are (λ k i e.
-      absurd (let no = none k (key_known s.records s.shape store.keeps file x first es owned are k i) in let yes = subst (λ t. is_text text t ≡ true) (sym e) (is_text-itself text) in cc))
+      absurd (let no = none k (key_known s.records s.shape store file x first es owned are k i) in let yes = subst (λ t. is_text text t ≡ true) (sym e) (is_text-itself text) in cc))
 
   none_of_none : maps.get no_properties text ≡ None
   none_of_none = get-empty order text

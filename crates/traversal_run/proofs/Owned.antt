@@ -32,7 +32,7 @@ use Rattle.rec_bytes.specs.Space.{SameButReads, State}
 use Rattle.store_rules.specs.Chains.{In}
 use Rattle.store_rules.specs.Graph.{graph_of}
 use Rattle.store_rules.specs.Properties.{AreProperties, Property, keys_of, map_of, named_property, property_records}
-use Rattle.store_rules.specs.Rules.{AreNames, IsSparseStore}
+use Rattle.store_rules.specs.Rules.{AreNames, IsWellFormed}
 use Rattle.store_rules.specs.Views.{Records, rec_at, text_of}
 use Rattle.store_rules.proofs.ElementProperties.{properties_at-is}
 use Rattle.store_rules.proofs.PropertyMaps.{get-map_of_none}
@@ -61,7 +61,7 @@ pub record HasListed (records now : Records) (item : Item) (owner : Owner) : Typ
   pub is : properties_of (graph_of records) item ≡ map_of (rec_at records format.names_file) es
 
 -- so it is in a store, after reads
-pub listed_in : (s z : State) (item : Item) (owner : Owner) → SameButReads s z → IsSparseStore s.records s.shape → IsOwner owner → Owns s item owner → HasListed s.records z.records item owner
+pub listed_in : (s z : State) (item : Item) (owner : Owner) → SameButReads s z → IsWellFormed s.records s.shape → IsOwner owner → Owns s item owner → HasListed s.records z.records item owner
 listed_in s z item owner same store is owns =
     let has : HasElement s owner = record { store = store; used = owns.used } in
     let es = listed_at s owner is has in
@@ -94,14 +94,14 @@ module _ (name_file : ℕ → Rec) (names : ℕ) (named : AreNames name_file nam
       by false later = later
 
 -- properties that a store's element has, as a list and as a map
-module _ (records : Records) (shape : Shape) (store : IsSparseStore records shape) (properties : Properties) (es : List Property) (known : (key : ℕ) → In key (keys_of es) → key < name_count records) (are : properties ≡ map_of (rec_at records format.names_file) es) (text : List ℕ) where
+module _ (records : Records) (shape : Shape) (store : IsWellFormed records shape) (properties : Properties) (es : List Property) (known : (key : ℕ) → In key (keys_of es) → key < name_count records) (are : properties ≡ map_of (rec_at records format.names_file) es) (text : List ℕ) where
   -- a name's value is that of its number
   pub value_is : (key : ℕ) → key < name_count records → FindsName records (Some key) text → value_of es key ≡ maps.get properties text
   value_is key low finds =
       let names = rec_at records format.names_file in
       let own : text ≡ name_at records key = is_text-same text (name_at records key) (sym (finds key low) ∙ nat_eq_equiv.refl key) in
       sym (ap (λ m. maps.get m text) are ∙ maps.get-from_entries nat_list_cmp_total (map (named_property names) es) text
-      ∙ ap (λ t. maps.find order t (map (named_property names) es)) own ∙ find-named names (name_count records) store.keeps.names es key low known)
+      ∙ ap (λ t. maps.find order t (map (named_property names) es)) own ∙ find-named names (name_count records) store.names es key low known)
 
   -- a text that is no name has none
   pub value_none : FindsName records None text → maps.get properties text ≡ None

@@ -4,7 +4,7 @@ ghost use Rattle.plain_graph.specs.Forms.{IsKept, IsShown};
 ghost use Rattle.plain_graph.specs.Meaning.{label_of, properties_of};
 ghost use Rattle.prop_store.specs.Owner.{IsOwner};
 ghost use Rattle.store_rules.specs.Graph.{graph_of};
-ghost use Rattle.store_rules.specs.Rules.{IsSparseStore};
+ghost use Rattle.store_rules.specs.Rules.{IsWellFormed};
 ghost use Rattle.traversal_run.specs.Elements.{IsOwnerOf};
 ghost use Rattle.traversal_run.specs.Fault.{HasFaultCause, NotDamaged};
 ghost use Rattle.traversal_run.specs.Reading.{IsNamedStore, IsRead};
@@ -25,7 +25,7 @@ pub(crate) fn owner_of<R: Reads>(space: &mut R, item: &Item) -> Result<Option<Ow
     ensures found { R.tells
         → IfOk result (λ owner. IsOwnerOf (R.state space.old) item.now owner) }
     ensures sound { R.tells
-        → IsSparseStore (R.state space.old).records (R.state space.old).shape → NotDamaged result }
+        → IsWellFormed (R.state space.old).records (R.state space.old).shape → NotDamaged result }
     ensures owner { IfOk result (λ owner. IfSome owner IsOwner) }
     ensures read { IsRead R.Reads space.old space.new }
     ensures cause { HasFaultCause (R.faults space.old) (R.faults space.new) result }

@@ -1,7 +1,7 @@
 //! Elements that are read by their identifiers.
 
 ghost use Rattle.std.specs.Prelude.{◌≡◌, IfOk, false, true};
-ghost use Rattle.store_rules.specs.Rules.{IsSparseStore};
+ghost use Rattle.store_rules.specs.Rules.{IsWellFormed};
 ghost use Rattle.traversal_run.specs.Finding.{element_at, element_mark};
 ghost use Rattle.traversal_run.specs.Fault.{HasFaultCause, NotDamaged};
 ghost use Rattle.traversal_run.specs.Reading.{IsNamedStore, IsRead};
@@ -52,7 +52,7 @@ pub(crate) fn element_at<R: Reads>(
 fn vertex_at<R: Reads>(space: &mut R, id: u32) -> Result<Option<Shown>, Fault>
     ensures is { R.tells
         → IfOk result (λ item. item ≡ element_at (R.state space.old).records false id) }
-    ensures sound { R.tells → IsSparseStore (R.state space.old).records (R.state space.old).shape
+    ensures sound { R.tells → IsWellFormed (R.state space.old).records (R.state space.old).shape
         → NotDamaged result }
     ensures read { IsRead R.Reads space.old space.new }
     ensures cause { HasFaultCause (R.faults space.old) (R.faults space.new) result }

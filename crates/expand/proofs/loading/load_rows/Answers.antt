@@ -1,10 +1,12 @@
-use Rattle.std.proofs.Common.{◌∙◌, ap, subst, sym}
+use Rattle.std.proofs.Common.{◌+◌, ◌∙◌, ap, subst, sym}
 use Rattle.std.proofs.lemmas.Result.{err_from_is_err_and}
 use Rattle.rec_bytes.specs.declared.meta.Meta.{Meta}
 use Rattle.rel_store.specs.Loading.{rel_mark}
 use Rattle.chain_edit.specs.Walking.{ReadsAtMost}
-use Rattle.expand.proofs.LoadedRows.{chain_fault, chain_sound, chain_tells, loaded_part, loaded_reads, members, none_there, one_there, room, row_fault, sound}
-use Rattle.expand.proofs.ReadCounts.{load_reads, reads_then}
+use Rattle.group_store.specs.Loading.{group_mark}
+use Rattle.expand.proofs.ChainWalks.{chain_sound}
+use Rattle.expand.proofs.LoadedRows.{chain_fault, chain_tells, dense_at_most, dense_fault, dense_most, dense_parts, dense_tells, members, none_there, one_there, room, row_fault, sound, sparse_at_most, sparse_part, sparse_reads, walkable}
+use Rattle.expand.proofs.ReadCounts.{load_reads}
 use Rattle.expand.proofs.loading.load_rows.Goals as goal
 
 pub returns-in_err-row-clause-damaged : goal.returns-in_err-row-clause-damaged
@@ -15,7 +17,7 @@ returns-in_err-row-clause-damaged g c = λ tells.
 pub returns-in_err-row-clause-at_most : goal.returns-in_err-row-clause-at_most
 returns-in_err-row-clause-at_most g c =
     let s = g.R.Reads.state c.args.space.now in
-    load_reads s (g.R.Reads.state c.load.new.space) c.args.node (rel_mark s) c.in_err-row.ensures.state
+    load_reads s (g.R.Reads.state c.load.new.space) c.args.node (group_mark s + rel_mark s) c.in_err-row.ensures.state
 
 pub returns-in_default-clause-missing : goal.returns-in_default-clause-missing
 returns-in_default-clause-missing g c = λ tells store. (
@@ -26,12 +28,53 @@ returns-in_default-clause-missing g c = λ tells store. (
 pub returns-in_default-clause-at_most : goal.returns-in_default-clause-at_most
 returns-in_default-clause-at_most g c =
     let s = g.R.Reads.state c.args.space.now in
-    load_reads s (g.R.Reads.state c.load.new.space) c.args.node (rel_mark s) c.in_ok-row.ensures.state
+    load_reads s (g.R.Reads.state c.load.new.space) c.args.node (group_mark s + rel_mark s) c.in_ok-row.ensures.state
+
+-- ---- a dense node
+
+pub returns-then-row-clause-part : goal.returns-then-row-clause-part
+returns-then-row-clause-part g c = λ tells.
+    let s = g.R.Reads.state c.args.space.now in
+    let found = sym c.in-Some.is ∙ c.in_ok-row.ensures.found tells in
+    dense_parts s c.args.node c.in-Some.row found (g.R.Reads.state c.load.new.space) c.in_ok-row.ensures.state c.if-row.true c.args.direction c.args.labels.now (g.R.Reads.state c.dense_rows.new.space)
+    c.dense_rows.result (c.dense_rows.ensures.rows tells)
+
+pub returns-then-row-clause-missing : goal.returns-then-row-clause-missing
+returns-then-row-clause-missing g c = λ tells store.
+    let found = sym c.in-Some.is ∙ c.in_ok-row.ensures.found tells in
+    dense_tells (g.R.Reads.state c.args.space.now) c.args.node c.in-Some.row found (g.R.Reads.state c.load.new.space) c.in_ok-row.ensures.state c.if-row.true
+    c.dense_rows.result (c.dense_rows.ensures.damaged tells)
+
+pub returns-then-row-clause-sound : goal.returns-then-row-clause-sound
+returns-then-row-clause-sound g c = λ tells store.
+    let found = sym c.in-Some.is ∙ c.in_ok-row.ensures.found tells in
+    let can = walkable (g.R.Reads.state c.args.space.now) c.args.node c.in-Some.row found (g.R.Reads.state c.load.new.space) c.in_ok-row.ensures.state c.if-row.true store c.args.direction c.args.labels.now in
+    c.dense_rows.ensures.sound tells can.0 can.1 can.2
+
+pub returns-then-row-clause-damaged : goal.returns-then-row-clause-damaged
+returns-then-row-clause-damaged g c = λ tells.
+    let found = sym c.in-Some.is ∙ c.in_ok-row.ensures.found tells in
+    dense_fault (g.R.Reads.state c.args.space.now) c.args.node c.in-Some.row found (g.R.Reads.state c.load.new.space) c.in_ok-row.ensures.state c.if-row.true
+    c.dense_rows.result (c.dense_rows.ensures.damaged tells)
+
+pub returns-then-row-clause-reads : goal.returns-then-row-clause-reads
+returns-then-row-clause-reads g c = λ tells store.
+    let found = sym c.in-Some.is ∙ c.in_ok-row.ensures.found tells in
+    dense_most (g.R.Reads.state c.args.space.now) c.args.node c.in-Some.row found (g.R.Reads.state c.load.new.space) c.in_ok-row.ensures.state c.if-row.true store c.args.direction c.args.labels.now
+    (g.R.Reads.state c.dense_rows.new.space) c.dense_rows.result (c.dense_rows.ensures.rows tells)
+
+pub returns-then-row-clause-at_most : goal.returns-then-row-clause-at_most
+returns-then-row-clause-at_most g c =
+    dense_at_most (g.R.Reads.state c.args.space.now) c.args.node (g.R.Reads.state c.load.new.space) (g.R.Reads.state c.dense_rows.new.space) c.in_ok-row.ensures.state c.dense_rows.ensures.at_most
+
+-- ---- a sparse one
 
 pub returns-in_err-rows-clause-missing : goal.returns-in_err-rows-clause-missing
 returns-in_err-rows-clause-missing g c = λ tells store.
+    let s = g.R.Reads.state c.args.space.now in
+    let there = one_there s c.args.node c.in-Some.row (sym c.in-Some.is ∙ c.in_ok-row.ensures.found tells) in
     let p = err_from_is_err_and c.from_residual-in_err-rows.result c.from_residual-in_err-rows.ensures.1 in
-    rw (p.1, p.2) (chain_tells (g.R.Reads.state c.args.space.now) c.args.node c.in-Some.row (sym c.in-Some.is ∙ c.in_ok-row.ensures.found tells) c.in_err-rows.field-0.0)
+    rw (p.1, p.2) (chain_tells s c.args.node there c.in_err-rows.field-0.0)
 
 pub returns-in_err-rows-clause-sound : goal.returns-in_err-rows-clause-sound
 returns-in_err-rows-clause-sound g c = λ tells store.
@@ -41,19 +84,19 @@ returns-in_err-rows-clause-sound g c = λ tells store.
     let n = c.args.node in
     let found = sym c.in-Some.is ∙ c.in_ok-row.ensures.found tells in
     let loaded = c.in_ok-row.ensures.state in
+    let mark = c.meta-mark.result.high in
     let marked = ap (λ (meta : Meta). meta.high) c.meta-mark.ensures in
     let p = err_from_is_err_and c.from_residual-in_err-rows.result c.from_residual-in_err-rows.ensures.1 in
     rw (p.1, p.2) (chain_sound c.in_err-rows.field-0.0
-    (c.in_err-rows.ensures.sound tells (room s n row found mid c.meta-mark.result.high loaded marked store)
-    (members s n row found mid c.meta-mark.result.high loaded marked store) (sound s n row found mid c.meta-mark.result.high loaded marked store)))
+    (c.in_err-rows.ensures.sound tells (room s n row found mid loaded mark marked c.if-row.false store)
+    (members s n row found mid loaded mark marked c.if-row.false store) (sound s n row found mid loaded mark marked c.if-row.false store)))
 
 pub returns-in_err-rows-clause-damaged : goal.returns-in_err-rows-clause-damaged
 returns-in_err-rows-clause-damaged g c = λ tells.
-    let s = g.R.Reads.state c.args.space.now in
     let found = sym c.in-Some.is ∙ c.in_ok-row.ensures.found tells in
     let marked = ap (λ (meta : Meta). meta.high) c.meta-mark.ensures in
     let p = err_from_is_err_and c.from_residual-in_err-rows.result c.from_residual-in_err-rows.ensures.1 in
-    rw (p.1, p.2) (chain_fault s c.args.node c.in-Some.row found (g.R.Reads.state c.load.new.space) c.meta-mark.result.high c.in_ok-row.ensures.state marked
+    rw (p.1, p.2) (chain_fault (g.R.Reads.state c.args.space.now) c.args.node c.in-Some.row found (g.R.Reads.state c.load.new.space) c.in_ok-row.ensures.state c.meta-mark.result.high marked c.if-row.false
     c.in_err-rows.field-0.0 (c.in_err-rows.ensures.damaged tells))
 
 pub returns-in_err-rows-clause-at_most : goal.returns-in_err-rows-clause-at_most
@@ -62,15 +105,14 @@ returns-in_err-rows-clause-at_most g c =
     let mid = g.R.Reads.state c.load.new.space in
     let new = g.R.Reads.state c.walk.new.space in
     let marked = ap (λ (meta : Meta). meta.high) c.meta-mark.ensures in
-    reads_then s mid new c.args.node (rel_mark s) c.in_ok-row.ensures.state (subst (λ m. ReadsAtMost m mid new) marked c.in_err-rows.ensures.at_most)
+    sparse_at_most s c.args.node mid new c.in_ok-row.ensures.state (subst (λ m. ReadsAtMost m mid new) marked c.in_err-rows.ensures.at_most)
 
 pub returns-clause-part : goal.returns-clause-part
 returns-clause-part g c = λ tells store.
-    let s = g.R.Reads.state c.args.space.now in
     let found = sym c.in-Some.is ∙ c.in_ok-row.ensures.found tells in
     let marked = ap (λ (meta : Meta). meta.high) c.meta-mark.ensures in
-    loaded_part s c.args.node c.in-Some.row found (g.R.Reads.state c.load.new.space) c.meta-mark.result.high c.in_ok-row.ensures.state marked store
-    c.in_ok-rows.rows.items (c.in_ok-rows.ensures.rows tells)
+    sparse_part (g.R.Reads.state c.args.space.now) c.args.node c.in-Some.row found (g.R.Reads.state c.load.new.space) c.in_ok-row.ensures.state c.meta-mark.result.high marked c.if-row.false store
+    c.in_ok-rows.rows.items (c.in_ok-rows.ensures.rows tells) c.args.direction c.args.labels.now
 
 pub returns-clause-missing : goal.returns-clause-missing
 returns-clause-missing g c = λ tells store.
@@ -78,11 +120,10 @@ returns-clause-missing g c = λ tells store.
 
 pub returns-clause-reads : goal.returns-clause-reads
 returns-clause-reads g c = λ tells store.
-    let s = g.R.Reads.state c.args.space.now in
     let found = sym c.in-Some.is ∙ c.in_ok-row.ensures.found tells in
     let marked = ap (λ (meta : Meta). meta.high) c.meta-mark.ensures in
-    loaded_reads s c.args.node c.in-Some.row found (g.R.Reads.state c.load.new.space) c.meta-mark.result.high c.in_ok-row.ensures.state marked store
-    c.in_ok-rows.rows.items (c.in_ok-rows.ensures.rows tells) (g.R.Reads.state c.walk.new.space) c.in_ok-rows.ensures.reads
+    sparse_reads (g.R.Reads.state c.args.space.now) c.args.node c.in-Some.row found (g.R.Reads.state c.load.new.space) c.in_ok-row.ensures.state c.meta-mark.result.high marked c.if-row.false store
+    c.in_ok-rows.rows.items (c.in_ok-rows.ensures.rows tells) c.args.direction c.args.labels.now (g.R.Reads.state c.walk.new.space) c.in_ok-rows.ensures.reads
 
 pub returns-clause-at_most : goal.returns-clause-at_most
 returns-clause-at_most g c =
@@ -90,4 +131,4 @@ returns-clause-at_most g c =
     let mid = g.R.Reads.state c.load.new.space in
     let new = g.R.Reads.state c.walk.new.space in
     let marked = ap (λ (meta : Meta). meta.high) c.meta-mark.ensures in
-    reads_then s mid new c.args.node (rel_mark s) c.in_ok-row.ensures.state (subst (λ m. ReadsAtMost m mid new) marked c.in_ok-rows.ensures.at_most)
+    sparse_at_most s c.args.node mid new c.in_ok-row.ensures.state (subst (λ m. ReadsAtMost m mid new) marked c.in_ok-rows.ensures.at_most)

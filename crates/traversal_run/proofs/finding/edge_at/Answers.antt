@@ -10,14 +10,14 @@ use Rattle.rel_store.specs.declared.rel_row.RelRow.{RelRow}
 use Rattle.rel_store.proofs.Rows.{rel_at-Some, rule_row}
 use Rattle.store_rules.specs.Graph.{edge_from}
 use Rattle.store_rules.specs.Properties.{property_records}
-use Rattle.store_rules.specs.Rules.{IsSparseStore}
+use Rattle.store_rules.specs.Rules.{IsWellFormed}
 use Rattle.store_rules.specs.Views as views
 use Rattle.store_rules.specs.Views.{Records, rec_at}
 use Rattle.traversal_run.specs.Naming.{name_count}
 use Rattle.traversal_run.proofs.finding.edge_at.Goals as goal
 
-row_typed : (records : Records) (shape : Shape) (id : ℕ) (row : RelRow) → IsSparseStore records shape → row_at records id ≡ Some row → row.label < name_count records
-row_typed records shape id row store found = store.keeps.named.rels_named id (rule_row row) (rel_at-Some records id row found)
+row_typed : (records : Records) (shape : Shape) (id : ℕ) (row : RelRow) → IsWellFormed records shape → row_at records id ≡ Some row → row.label < name_count records
+row_typed records shape id row store found = store.named.rels_named id (rule_row row) (rel_at-Some records id row found)
 
 pub returns-in_err-item-clause-sound : goal.returns-in_err-item-clause-sound
 returns-in_err-item-clause-sound g c = λ tells store.

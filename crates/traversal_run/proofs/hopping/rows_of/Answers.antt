@@ -38,7 +38,7 @@ returns-in-Ok-clause-found g c = λ tells store.
     let are = λ (numbers : List ℕ). rows_at hop.direction numbers c.args.id (rows_of s.records) in
     let rows_is : c.in-Ok.rows.items ≡ are labels.items = subst (λ numbers. c.in-Ok.rows.items ≡ are numbers) c.deref.ensures.value (c.in-Ok.ensures.rows tells store.store) in
     subst (λ (rows : List EdgeRow). AreRowsOf s.records rows (edges_at (graph_of s.records) hop.direction hop.labels c.args.id)) (sym rows_is)
-    (rows_at_are s.records s.shape store.store.keeps labels.items hop.labels (stand_for s.records labels.items hop.labels finds c.in_ok-labels.ensures.below none) c.args.id hop.direction)
+    (rows_at_are s.records s.shape store.store labels.items hop.labels (stand_for s.records labels.items hop.labels finds c.in_ok-labels.ensures.below none) c.args.id hop.direction)
 
 pub returns-in-Ok-clause-read : goal.returns-in-Ok-clause-read
 returns-in-Ok-clause-read g c = is_read-gets g.R.Reads c.in-Ok.ensures.at_most.count c.args.space.now c.expand.new.space c.in-Ok.ensures.at_most.is c.in-Ok.ensures.onward c.in-Ok.ensures.cause.later

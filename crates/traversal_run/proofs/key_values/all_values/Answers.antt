@@ -18,7 +18,7 @@ returns-clause-found g c = λ tells store.
     let read = c.in_ok-props.ensures.found tells store in
     let all = subst (All (λ (prop : Prop). prop.key < name_count s.records)) (sym read.read) (all_known (name_count s.records) read.es read.known) in
     let is = ap (λ (props : List Prop). map (λ (entry : List ℕ × Item). entry.1) (sorted entry_below (map (named_entry s.records) props))) read.read
-    ∙ values-sorted s.records (name_count s.records) store.store.keeps.names read.es read.known read.once
+    ∙ values-sorted s.records (name_count s.records) store.store.names read.es read.known read.once
     ∙ ap (λ (properties : Properties). map items.Value (maps.values properties)) (sym read.are) in
     subst (λ (list : List Item). IfOk c.ordered_values.result (λ values. values ≡ list)) is (c.ordered_values.ensures.ordered s.records s.shape store all)
 
