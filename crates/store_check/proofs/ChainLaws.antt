@@ -1,18 +1,24 @@
--- The chains of nodes as lines.
-use Rattle.std.proofs.Common.{◌≡◌, ◌≢◌, ℕ, ◌<◌, ◌≤◌, Bool, true, false, not, ◌&&◌, ◌||◌, List, [], ◌∷◌, map, nat_eq, sym, ap, ◌∙◌, subst, inl, inr, ⊎_elim, arith, refl}
-use Rattle.std.proofs.lemmas.Bool.{and_from, eq-eqb, eqb-true, or_cases, true≢false}
+-- The chains of nodes and of groups as lines.
+use Rattle.std.proofs.Common.{◌≡◌, ◌≢◌, ℕ, ◌<◌, ◌≤◌, Bool, true, not, ◌&&◌, List, [], ◌∷◌, Some, map, nat_eq, sym, ap, ◌∙◌, subst, inl, inr, ⊎_elim, arith, refl}
+use Rattle.std.proofs.lemmas.Bool.{and_from, eq-eqb, eqb-true, true≢false}
 use Rattle.rec_bytes.specs.declared.record.Rec.{Rec}
 use Rattle.rec_bytes.specs.Format as format
 use Rattle.rec_bytes.specs.Record.{field}
 use Rattle.store_rules.specs.Chains.{In, IsChain, next_in, prev_in}
 use Rattle.store_rules.specs.Rules as rules
-use Rattle.store_rules.specs.Views.{RelRow, Records, first_link, group_at, high, kind_at, rec_at, rel_at, rel_in}
+use Rattle.store_rules.specs.Views.{GroupRow, RelRow, Records, group_at, high, kind_at, rec_at, rel_at, rel_in}
 use Rattle.store_rules.proofs.NumberLaws.{and_parts, eq_false, eq_true}
 use Rattle.store_rules.proofs.ViewLaws.{kind_below, kind_low, row_some, some_row}
-use Rattle.store_check.specs.Breaking.{IsNodeChain}
+use Rattle.store_check.specs.Breaking.{IsFirstPlace, IsHeadChain, group_head}
+use Rattle.store_check.specs.declared.chains.Side.{Side}
+use Rattle.store_check.specs.declared.chains.Side.TheVariants.{Any}
+use Rattle.store_check.specs.declared.heads.Found.{Found}
+use Rattle.store_check.specs.declared.heads.Found.TheVariants.{Items, Missing, Nothing}
+use Rattle.store_check.specs.Heads.{FoundIs}
 use Rattle.store_check.specs.Lines.{IsLine, IsLineIn}
-use Rattle.store_check.specs.NodeChains.{AreNodeEnds, chain_line, end_of, enters, is_of, leaves}
+use Rattle.store_check.specs.NodeChains.{AreHeadEnds, AreLineEnds, EndsFound, chain_line, end_of, is_of, is_on, side_at}
 use Rattle.store_check.proofs.LineLaws.{below_in}
+use Rattle.store_check.proofs.SideLaws.{OnSide, at_place, on_place, on_side, side_from, side_test, side_to}
 
 -- ---- chains and lines
 
@@ -45,46 +51,73 @@ chain_one next prev b f (x ∷ xs) (y ∷ ys) h k =
     let same : y ≡ x = sym k.0 ∙ h.0 in
     ap (λ z. z ∷ xs) (sym same) ∙ ap (λ zs. y ∷ zs) (chain_one next prev y (next y) xs ys (subst (λ z. IsChain next prev z (next z) xs) (sym same) h.3) k.3)
 
-pub or_right : (a b : Bool) → b ≡ true → (a || b) ≡ true
-or_right true b e = refl
-or_right false b e = e
+-- after a member no other has none before it
+later_prev : (next prev : ℕ → ℕ) (b f : ℕ) (xs : List ℕ) → IsChain next prev b f xs → b ≢ format.nil → (x : ℕ) → In x xs → prev x ≢ format.nil
+later_prev next prev b f [] h there x i = elim i [ ]
+later_prev next prev b f (y ∷ ys) h there x (inl e) = λ z. there (sym h.2 ∙ ap prev (sym e) ∙ z)
+later_prev next prev b f (y ∷ ys) h there x (inr i) = later_prev next prev y (next y) ys h.3 h.1 x i
 
--- ---- what stands at a node
+-- so the member with none before it is the first
+first_is : (next prev : ℕ → ℕ) (f : ℕ) (xs : List ℕ) (x : ℕ) → IsChain next prev format.nil f xs → In x xs → prev x ≡ format.nil → f ≡ x
+first_is next prev f [] x h i z = elim i [ ]
+first_is next prev f (y ∷ ys) x h (inl e) z = h.0 ∙ sym e
+first_is next prev f (y ∷ ys) x h (inr i) z = absurd (later_prev next prev y (next y) ys h.3 h.1 x i z)
 
-module _ (records : Records) (n : ℕ) where
+-- chains of the same members begin at one
+pub first_same : (next prev : ℕ → ℕ) (f g : ℕ) (xs ys : List ℕ) → IsChain next prev format.nil f xs → IsChain next prev format.nil g ys
+    → ((x : ℕ) → In x xs → In x ys) → ((x : ℕ) → In x ys → In x xs) → f ≡ g
+first_same next prev f g [] [] h k there back = h ∙ sym k
+first_same next prev f g [] (y ∷ ys) h k there back = elim (back y (inl refl)) [ ]
+first_same next prev f g (x ∷ xs) ys h k there back = h.0 ∙ sym (first_is next prev g ys x k (there x (inl refl)) h.2)
+
+-- ---- the chain at a head
+
+-- just what is on the side of the node is on the head
+pub record IsSideOf (records : Records) (head : rules.Head) (n : ℕ) (side : Side) : Type 0 where
+  pub to : (row : RelRow) → OnSide side n row → rules.IsOn (group_at records) head row
+  pub from : (row : RelRow) → rules.IsOn (group_at records) head row → OnSide side n row
+
+pub node_side : (records : Records) (n : ℕ) → IsSideOf records (rules.node_head n) n Any
+node_side records n = record {
+  to = λ row end. inl (refl, end);
+  from = λ row on. ⊎_elim (λ a. a.1) (λ b. absurd (let e : 1 ≡ 3 = b.0 in omega arith)) on;
+}
+
+pub group_side : (records : Records) (g place : ℕ) (row : GroupRow) → group_at records g ≡ Some row → IsFirstPlace place
+    → IsSideOf records (group_head g place) row.owner (side_at place row.label)
+group_side records g place row live at = record {
+  to = λ rel on. let s = side_from place row.label row.owner rel at on in on_place records (group_head g place) row refl live rel s.0 s.1;
+  from = λ rel on. let s = at_place records (group_head g place) row refl live rel on in side_to place row.label row.owner rel s.0 s.1;
+}
+
+module _ (records : Records) (head : rules.Head) (n : ℕ) (side : Side) (fit : IsSideOf records head n side) where
   abbrev pub rel_of : ℕ → Rec
   rel_of x = rec_at records format.relationships_file x
 
   abbrev pub Stands : ℕ → Type 0
-  Stands x = rules.StandsAt (rel_at records) (group_at records) (rules.node_head n) x
+  Stands x = rules.StandsAt (rel_at records) (group_at records) head x
 
-  pub stands_of : (x : ℕ) → x < high records format.relationships_file → is_of n (rel_of x) ≡ true → Stands x
+  stands_of : (x : ℕ) → x < high records format.relationships_file → is_of side n (rel_of x) ≡ true → Stands x
   stands_of x lt t =
-      let both = and_parts (not (nat_eq (field 1 (rel_of x) format.kind) format.free_kind)) (leaves (rel_of x) n || enters (rel_of x) n) t in
+      let both = and_parts (not (nat_eq (field 1 (rel_of x) format.kind) format.free_kind)) (is_on side n (rel_of x)) t in
       let low = kind_low (high records format.relationships_file) (rel_of x) x lt in
       let some : kind_at records format.relationships_file x ≢ 0 = λ e. true≢false (sym both.0 ∙ ap not (eq_true (field 1 (rel_of x) format.kind) 0 (sym low ∙ e))) in
       record {
         row = rel_in (rel_of x) x;
         live = row_some (kind_at records format.relationships_file x) (rel_in (rel_of x) x) some;
-        on = inl (refl, ⊎_elim (λ l. inl (eqb-true (field 4 (rel_of x) format.relationship_source) n l)) (λ e. inr (eqb-true (field 4 (rel_of x) format.relationship_target) n e)) (or_cases (leaves (rel_of x) n) (enters (rel_of x) n) both.1));
+        on = fit.to (rel_in (rel_of x) x) (on_side n (rel_of x) x side both.1);
       }
 
-  pub stands_low : (x : ℕ) → Stands x → x < high records format.relationships_file
+  stands_low : (x : ℕ) → Stands x → x < high records format.relationships_file
   stands_low x s = kind_below (high records format.relationships_file) (rel_of x) x (some_row (kind_at records format.relationships_file x) (rel_in (rel_of x) x) s.row s.live).0
 
-  pub stands_end : (x : ℕ) (s : Stands x) → rules.IsEnd n s.row
-  stands_end x s = ⊎_elim (λ a. a.1) (λ b. absurd (let e : 1 ≡ 3 = b.0 in omega arith)) s.on
-
-  pub of_stands : (x : ℕ) → Stands x → is_of n (rel_of x) ≡ true
+  of_stands : (x : ℕ) → Stands x → is_of side n (rel_of x) ≡ true
   of_stands x s =
       let r = some_row (kind_at records format.relationships_file x) (rel_in (rel_of x) x) s.row s.live in
       let low = kind_low (high records format.relationships_file) (rel_of x) x (stands_low x s) in
-      and_from (not (nat_eq (field 1 (rel_of x) format.kind) format.free_kind)) (leaves (rel_of x) n || enters (rel_of x) n)
+      and_from (not (nat_eq (field 1 (rel_of x) format.kind) format.free_kind)) (is_on side n (rel_of x))
       (ap not (eq_false (field 1 (rel_of x) format.kind) 0 (λ e. r.0 (low ∙ e))))
-      (⊎_elim
-      (λ (f : s.row.from ≡ n). let l : leaves (rel_of x) n ≡ true = eq_true (field 4 (rel_of x) format.relationship_source) n (ap (λ (row : RelRow). row.from) r.1 ∙ f) in rw l refl)
-      (λ (t : s.row.to ≡ n). or_right (leaves (rel_of x) n) (enters (rel_of x) n) (eq_true (field 4 (rel_of x) format.relationship_target) n (ap (λ (row : RelRow). row.to) r.1 ∙ t)))
-      (stands_end x s))
+      (side_test n (rel_of x) x side (subst (OnSide side n) (sym r.1) (fit.from s.row s.on)))
 
   abbrev pub next : ℕ → ℕ
   next x = next_in (rel_of x) n
@@ -92,22 +125,47 @@ module _ (records : Records) (n : ℕ) where
   abbrev pub prev : ℕ → ℕ
   prev x = prev_in (rel_of x) n
 
-  abbrev pub IsIt : List ℕ → Type 0
-  IsIt xs = IsLineIn (chain_line n) records (high records format.relationships_file) (first_link records n) xs
+  abbrev pub IsIt : ℕ → List ℕ → Type 0
+  IsIt first xs = IsLineIn (chain_line side n) records (high records format.relationships_file) first xs
 
-  pub node_chain : high records format.relationships_file ≤ format.most_ids → (xs : List ℕ) → IsIt xs → IsNodeChain records n xs
-  node_chain room xs h = record {
-    chain = chain_of_line next prev (λ x. is_of n (rel_of x)) (high records format.relationships_file) room format.nil (first_link records n) xs h;
+  head_chain : high records format.relationships_file ≤ format.most_ids → (first : ℕ) → first ≡ rules.first_of records head → (xs : List ℕ) → IsIt first xs → IsHeadChain records head n xs
+  head_chain room first is xs h = record {
+    chain = subst (λ f. IsChain next prev format.nil f xs) is (chain_of_line next prev (λ x. is_of side n (rel_of x)) (high records format.relationships_file) room format.nil first xs h);
     only = λ x i. stands_of x
-        (below_in next (λ before x. is_of n (rel_of x) && nat_eq (prev x) before) (high records format.relationships_file) room format.nil (first_link records n) xs h x i)
-        (test_of_line next prev (λ x. is_of n (rel_of x)) (high records format.relationships_file) format.nil (first_link records n) xs h x i);
+        (below_in next (λ before x. is_of side n (rel_of x) && nat_eq (prev x) before) (high records format.relationships_file) room format.nil first xs h x i)
+        (test_of_line next prev (λ x. is_of side n (rel_of x)) (high records format.relationships_file) format.nil first xs h x i);
   }
 
-  pub line_of_node : (xs : List ℕ) → IsNodeChain records n xs → IsIt xs
-  line_of_node xs h = line_of_chain next prev (λ x. is_of n (rel_of x)) (high records format.relationships_file) format.nil (first_link records n) xs h.chain (λ x i. stands_low x (h.only x i)) (λ x i. of_stands x (h.only x i))
+  line_of_head : (first : ℕ) → first ≡ rules.first_of records head → (xs : List ℕ) → IsHeadChain records head n xs → IsIt first xs
+  line_of_head first is xs h = line_of_chain next prev (λ x. is_of side n (rel_of x)) (high records format.relationships_file) format.nil first xs
+      (subst (λ f. IsChain next prev format.nil f xs) (sym is) h.chain) (λ x i. stands_low x (h.only x i)) (λ x i. of_stands x (h.only x i))
 
-  pub node_chain_one : (xs ys : List ℕ) → IsNodeChain records n xs → IsNodeChain records n ys → xs ≡ ys
-  node_chain_one xs ys h k = chain_one next prev format.nil (first_link records n) xs ys h.chain k.chain
+  -- what a line of ends says of the head
+  head_ends : (first : ℕ) (ends : List ℕ) → high records format.relationships_file ≤ format.most_ids → first ≡ rules.first_of records head
+      → AreLineEnds records (high records format.relationships_file) side n first ends → AreHeadEnds records head n ends
+  head_ends first ends room e h = record { members = h.members; chain = head_chain room first e h.members h.line; are = h.are }
 
-pub ends_one : (records : Records) (n : ℕ) (xs ys : List ℕ) → AreNodeEnds records n xs → AreNodeEnds records n ys → xs ≡ ys
-ends_one records n xs ys h k = h.are ∙ ap (map (end_of records n)) (node_chain_one records n h.members k.members h.chain k.chain) ∙ sym k.are
+  no_ends : (first : ℕ) → first ≡ rules.first_of records head → ((xs : List ℕ) → ¬ IsIt first xs) → (xs : List ℕ) → ¬ AreHeadEnds records head n xs
+  no_ends first e none xs h = none h.members (line_of_head first e h.members h.chain)
+
+module _ (records : Records) (head : rules.Head) (n : ℕ) where
+  head_chain_one : (xs ys : List ℕ) → IsHeadChain records head n xs → IsHeadChain records head n ys → xs ≡ ys
+  head_chain_one xs ys h k = chain_one (λ x. next_in (rec_at records format.relationships_file x) n) (λ x. prev_in (rec_at records format.relationships_file x) n) format.nil (rules.first_of records head) xs ys h.chain k.chain
+
+  ends_one : (xs ys : List ℕ) → AreHeadEnds records head n xs → AreHeadEnds records head n ys → xs ≡ ys
+  ends_one xs ys h k = h.are ∙ ap (map (end_of records n)) (head_chain_one h.members k.members h.chain k.chain) ∙ sym k.are
+
+-- what a walk finds is the one list of ends at the head
+pub found_is : (records after : Records) (head : rules.Head) (n : ℕ) (side : Side) (mark first : ℕ) (found : Found) → IsSideOf records head n side
+    → after ≡ records → mark ≡ high records format.relationships_file → high records format.relationships_file ≤ format.most_ids → first ≡ rules.first_of records head
+    → (has : Type 0) → has → EndsFound after mark side n first found → FoundIs has (AreHeadEnds records head n) found
+found_is records after head n side mark first Nothing fit read is room at has must h = absurd h
+found_is records after head n side mark first Missing fit read is room at has must h = (
+  must,
+  no_ends records head n side fit first at
+      (subst (λ m. (xs : List ℕ) → ¬ IsLineIn (chain_line side n) records m first xs) is (subst (λ (r : Records). (xs : List ℕ) → ¬ IsLineIn (chain_line side n) r mark first xs) read h)),
+)
+found_is records after head n side mark first (Items v) fit read is room at has must h =
+    let ends = head_ends records head n side fit first v.items room at
+    (subst (λ m. AreLineEnds records m side n first v.items) is (subst (λ (r : Records). AreLineEnds r mark side n first v.items) read h)) in
+    (must, ends, (λ xs k. ends_one records head n xs v.items k ends))

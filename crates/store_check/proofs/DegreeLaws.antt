@@ -1,5 +1,5 @@
 -- Counts of the relationships at a node.
-use Rattle.std.proofs.Common.{◌≡◌, ℕ, ◌+◌, ◌<◌, ◌≤◌, Bool, true, false, cond, not, ◌&&◌, ◌||◌, Some, None, length, nat_eq, sym, ap, ◌∙◌, ⊎_elim, arith, refl}
+use Rattle.std.proofs.Common.{◌≡◌, ℕ, ◌+◌, ◌<◌, Bool, true, false, cond, not, ◌&&◌, ◌||◌, Some, None, length, nat_eq, sym, ap, ◌∙◌, ⊎_elim, arith, refl}
 use Rattle.std.proofs.lemmas.Bool.{cases_Bool}
 use Rattle.rec_bytes.specs.declared.record.Rec.{Rec}
 use Rattle.rec_bytes.specs.Format as format
@@ -7,15 +7,14 @@ use Rattle.rec_bytes.specs.Record.{field}
 use Rattle.store_rules.specs.Rows.{ids}
 use Rattle.store_rules.specs.Rules as rules
 use Rattle.store_rules.specs.Views.{Records, degree, high, kind_at, rec_at, rel_at, rel_in}
-use Rattle.store_rules.proofs.Counts.{length-ids}
 use Rattle.store_check.specs.Breaking.{DegreeKeeps}
-use Rattle.store_check.specs.NodeChains.{enters, is_of, leaves}
+use Rattle.store_check.specs.NodeChains.{enters, is_of_node, leaves}
 use Rattle.store_check.proofs.FreeLaws.{count_more, count_same}
 use Rattle.store_check.proofs.RecordLaws.{kind_read}
 
 -- a record below the mark stands at a node where it says so
 stands_read : (records : Records) (x n : ℕ) (r : Rec) → x < high records format.relationships_file → r ≡ rec_at records format.relationships_file x
-    → rules.stands_in n (rel_at records x) ≡ is_of n r
+    → rules.stands_in n (rel_at records x) ≡ is_of_node n r
 stands_read records x n r lt e =
     let file = format.relationships_file in
     ap (λ k. rules.stands_in n (cond (nat_eq k 0) None (Some (rel_in (rec_at records file x) x)))) (kind_read records file x r lt e)
@@ -28,23 +27,19 @@ stands_read records x n r lt e =
 
 -- so one more record counts where it stands at the node
 pub degree_more : (records : Records) (x y n : ℕ) (r : Rec) → x < high records format.relationships_file → r ≡ rec_at records format.relationships_file x → y ≡ x + 1
-    → rules.degree_of (rel_at records) y n ≡ rules.degree_of (rel_at records) x n + cond (is_of n r) 1 0
+    → rules.degree_of (rel_at records) y n ≡ rules.degree_of (rel_at records) x n + cond (is_of_node n r) 1 0
 degree_more records x y n r lt e next =
     let test : ℕ → Bool = λ z. rules.stands_in n (rel_at records z) in
     let read = stands_read records x n r lt e in
     ⊎_elim
-    (λ (t : is_of n r ≡ true). count_more test x y next (read ∙ t) ∙ ap (λ b. length (ids test x) + cond b 1 0) (sym t))
-    (λ (f : is_of n r ≡ false). count_same test x y next (read ∙ f) ∙ (let z : length (ids test x) ≡ length (ids test x) + 0 = omega arith in z) ∙ ap (λ b. length (ids test x) + cond b 1 0) (sym f))
-    (cases_Bool (is_of n r))
+    (λ (t : is_of_node n r ≡ true). count_more test x y next (read ∙ t) ∙ ap (λ b. length (ids test x) + cond b 1 0) (sym t))
+    (λ (f : is_of_node n r ≡ false). count_same test x y next (read ∙ f) ∙ (let z : length (ids test x) ≡ length (ids test x) + 0 = omega arith in z) ∙ ap (λ b. length (ids test x) + cond b 1 0) (sym f))
+    (cases_Bool (is_of_node n r))
 
 -- where each node keeps the rule the store does
-pub are_counted : (records : Records) → high records format.relationships_file ≤ format.most_ids → ((n : ℕ) → DegreeKeeps records n)
-    → rules.AreCounted (kind_at records format.nodes_file) (degree records) (rel_at records) (high records format.relationships_file) format.most_ids
-are_counted records room each = record {
+pub are_counted : (records : Records) (threshold : ℕ) → ((n : ℕ) → DegreeKeeps records threshold n)
+    → rules.AreCounted (kind_at records format.nodes_file) (degree records) (rel_at records) (high records format.relationships_file) threshold
+are_counted records threshold each = record {
   each = λ n live. let k = each n in k.exact live;
-  few = λ n is.
-      let k = each n in
-      let e = k.exact (λ z. let one : 1 ≡ 0 = sym is ∙ z in omega arith) in
-      let most = length-ids (λ x. rules.stands_in n (rel_at records x)) (high records format.relationships_file) in
-      omega arith;
+  few = λ n is. let k = each n in k.few is;
 }

@@ -48,6 +48,15 @@ module _ (next : ℕ → ℕ) (fits : ℕ → ℕ → Bool) (high : ℕ) where
       → (ys : List ℕ) (on : ℕ) → ys ≡ xs ++ to ∷ [] → on ≡ next to → IsPath next fits high b f ys to on
   path_step b f xs last to h lt ok ys on e n = rw (e, n) (path_more b f xs last to h lt ok)
 
+  -- a line is determined
+  pub line_one : (b f : ℕ) (xs ys : List ℕ) → high ≤ most_ids → IsLine next fits high b f xs → IsLine next fits high b f ys → xs ≡ ys
+  line_one b f [] [] room h k = refl
+  line_one b f [] (y ∷ ys) room h k = absurd (let lt : y < high = k.1 in let e : y ≡ nil = sym k.0 ∙ h in omega arith)
+  line_one b f (x ∷ xs) [] room h k = absurd (let lt : x < high = h.1 in let e : x ≡ nil = sym h.0 ∙ k in omega arith)
+  line_one b f (x ∷ xs) (y ∷ ys) room h k =
+      let same : y ≡ x = sym k.0 ∙ h.0 in
+      ap (λ z. z ∷ xs) (sym same) ∙ ap (λ zs. y ∷ zs) (line_one y (next y) xs ys room (subst (λ z. IsLine next fits high z (next z) xs) (sym same) h.3) k.3)
+
   -- at the end
   pub path_ends : (b f : ℕ) (xs : List ℕ) (last to : ℕ) → IsPath next fits high b f xs last to → to ≡ nil → IsLine next fits high b f xs
   path_ends b f [] last to h e = h.1 ∙ e

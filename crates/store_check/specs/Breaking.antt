@@ -1,6 +1,6 @@
--- The rules of a well-formed store of this version by their numbers, and which records break each.
+-- The rules of a well-formed store by their numbers, and which records break each.
 use Rattle.std.specs.Prelude.{◌≡◌, ◌≢◌, ℕ, ◌<◌, Bool, true, false, List, length, Some, zero, suc}
-use Rattle.std.specs.Prelude.{◌≤◌, ◌||◌, nat_eq}
+use Rattle.std.specs.Prelude.{◌≤◌, ◌⊎◌, ◌||◌, [], nat_eq}
 use Rattle.plain_graph.specs.Names.{IsShortName}
 use Rattle.rec_bytes.specs.declared.damage.Damage.{Damage}
 use Rattle.rec_bytes.specs.declared.shape.Shape.{Shape}
@@ -14,8 +14,8 @@ use Rattle.store_rules.specs.Chains.{In, IsChain, IsWalk, next_in, prev_in}
 use Rattle.store_rules.specs.Ranges.{AreInRange, Fits, is_reused}
 use Rattle.store_rules.specs.Rows.{ids}
 use Rattle.store_rules.specs.Rules as rules
-use Rattle.store_rules.specs.Views.{RelRow, Records, degree, first_link, group_at, high, is_live}
-use Rattle.store_rules.specs.Views.{kind_at, node_at, rec_at, rel_at, text_of}
+use Rattle.store_rules.specs.Views.{GroupRow, RelRow, Records, degree, first_link, group_at, high}
+use Rattle.store_rules.specs.Views.{is_live, key_in, kind_at, node_at, rec_at, rel_at, text_of}
 
 -- ---- what each rule says of the whole store
 
@@ -26,19 +26,6 @@ pub record AreSplit (records : Records) : Type 0 where
       → (free : List ℕ) × rules.IsSplit records file (is_live records file) free
   pub kept : (file : ℕ) → is_meta_file file ≡ true → is_reused file ≡ false
       → rules.AreAllLive records file
-
--- The third rule, of a store whose nodes are sparse: the ends of each relationship are nodes, and
--- the chain of each node has just what stands at it.
-pub record AreChained (records : Records) : Type 0 where
-  pub ends : (x : ℕ) (row : RelRow) → rel_at records x ≡ Some row
-      → rules.HasEnds (kind_at records format.nodes_file) row
-  pub listed : rules.AllListed records (rules.SparseHead (kind_at records format.nodes_file))
-      (rules.StandsAt (rel_at records) (group_at records))
-
--- The fourth rule, of this version: no group was ever given out, and no node is dense.
-pub record HasNoGroups (records : Records) : Type 0 where
-  pub alone : high records format.groups_file ≡ 0
-  pub sparse : (n : ℕ) → kind_at records format.nodes_file n ≢ format.dense
 
 -- The fifth rule: properties and blocks are held, and keys, labels and types are names.
 pub record AreProperties (records : Records) : Type 0 where
@@ -51,14 +38,17 @@ abbrev pub Keeps : Records → Shape → ℕ → Type 0
 Keeps records shape zero = Unit {0}
 Keeps records shape (suc zero) = AreInRange records shape
 Keeps records shape (suc (suc zero)) = AreSplit records
-Keeps records shape (suc (suc (suc zero))) = AreChained records
-Keeps records shape (suc (suc (suc (suc zero)))) = HasNoGroups records
+Keeps records shape (suc (suc (suc zero))) =
+    rules.IsLinked records (kind_at records format.nodes_file) (rel_at records) (group_at records)
+Keeps records shape (suc (suc (suc (suc zero)))) =
+    rules.IsGrouped (kind_at records format.nodes_file) (first_link records)
+    (rec_at records format.groups_file) (group_at records) []
 Keeps records shape (suc (suc (suc (suc (suc zero))))) = AreProperties records
 Keeps records shape (suc (suc (suc (suc (suc (suc zero)))))) =
     rules.AreNames (rec_at records format.names_file) (high records format.names_file)
 Keeps records shape (suc (suc (suc (suc (suc (suc (suc zero))))))) =
     rules.AreCounted (kind_at records format.nodes_file) (degree records) (rel_at records)
-    (high records format.relationships_file) format.most_ids
+    (high records format.relationships_file) shape.threshold
 Keeps records shape (suc (suc (suc (suc (suc (suc (suc (suc n)))))))) = Unit {0}
 
 -- ---- what each rule says of one record
@@ -81,35 +71,111 @@ pub record IsOnFreeList (records : Records) (file x : ℕ) : Type 0 where
   pub list : IsFreeList records file members
   pub member : In x members
 
--- The chain of a node is these relationships, each of which stands at it.
-pub record IsNodeChain (records : Records) (n : ℕ) (members : List ℕ) : Type 0 where
+-- The node owns the head: its own where it is sparse, one of its groups where it is dense.
+abbrev pub IsHeadOf : Records → rules.Head → ℕ → Type 0
+IsHeadOf records head n =
+    rules.Owns (kind_at records format.nodes_file) (group_at records) head n
+
+abbrev pub IsGroupHeadOf : Records → rules.Head → ℕ → Type 0
+IsGroupHeadOf records head n =
+    rules.GroupHead (kind_at records format.nodes_file) (group_at records) head n
+
+-- The chain at a head of a node is these relationships, each of which stands there.
+pub record IsHeadChain (records : Records) (head : rules.Head) (n : ℕ) (members : List ℕ)
+    : Type 0 where
   pub chain : IsChain (λ x. next_in (rec_at records format.relationships_file x) n)
       (λ x. prev_in (rec_at records format.relationships_file x) n) format.nil
-      (first_link records n) members
-  pub only : (x : ℕ) → In x members
-      → rules.StandsAt (rel_at records) (group_at records) (rules.node_head n) x
+      (rules.first_of records head) members
+  pub only : (x : ℕ) → In x members → rules.StandsAt (rel_at records) (group_at records) head x
 
 -- the third rule of a node: if it is sparse, it has a chain
 pub record NodeKeeps (records : Records) (n : ℕ) : Type 0 where
   pub chain : kind_at records format.nodes_file n ≡ format.sparse
-      → (members : List ℕ) × IsNodeChain records n members
+      → (members : List ℕ) × IsHeadChain records (rules.node_head n) n members
 
--- the relationship is in the chain of the node
+-- the place of a first link in a group
+abbrev pub group_head : ℕ → ℕ → rules.Head
+group_head g place = record { key = key_in format.groups_file g; field = place }
+
+abbrev pub IsFirstPlace : ℕ → Type 0
+IsFirstPlace place =
+    (place ≡ format.group_first_out)
+    ⊎ ((place ≡ format.group_first_in) ⊎ (place ≡ format.group_first_loop))
+
+-- two groups in use of one type at one dense node
+pub record AreTwins (records : Records) (g k : ℕ) : Type 0 where
+  pub row : GroupRow
+  pub other : GroupRow
+  pub group : group_at records g ≡ Some row
+  pub twin : group_at records k ≡ Some other
+  pub dense : kind_at records format.nodes_file row.owner ≡ format.dense
+  pub owner : other.owner ≡ row.owner
+  pub label : other.label ≡ row.label
+
+-- The third rule of a group: if it is in use at a dense node, it has its chains. Each relationship
+-- of its type there is to be in them, so another group of the type has the same ones. That there
+-- is no such group the fourth rule says.
+pub record GroupKeeps (records : Records) (g : ℕ) : Type 0 where
+  pub chains : (place n : ℕ) → IsGroupHeadOf records (group_head g place) n
+      → (members : List ℕ) × IsHeadChain records (group_head g place) n members
+  pub alike : (k place : ℕ) → AreTwins records g k → IsFirstPlace place
+      → rules.first_of records (group_head g place) ≡ rules.first_of records (group_head k place)
+
+-- the relationship is in a chain of the node
 pub record IsInChain (records : Records) (n x : ℕ) : Type 0 where
+  pub head : rules.Head
+  pub owns : IsHeadOf records head n
   pub members : List ℕ
-  pub chain : IsNodeChain records n members
+  pub chain : IsHeadChain records head n members
   pub member : In x members
 
--- the third rule of one end of a relationship: it is a node, and if it is sparse, the relationship
--- is in its chain
+abbrev pub HasChains : Records → ℕ → Type 0
+HasChains records n =
+    (kind_at records format.nodes_file n ≡ format.sparse)
+    ⊎ (kind_at records format.nodes_file n ≡ format.dense)
+
+-- the third rule of one end of a relationship: it is a node, and the relationship is in its chain,
+-- or in one of a group of the type
 pub record EndKeeps (records : Records) (n x : ℕ) : Type 0 where
   pub node : kind_at records format.nodes_file n ≢ format.free_kind
-  pub chain : kind_at records format.nodes_file n ≡ format.sparse → IsInChain records n x
+  pub chain : HasChains records n → IsInChain records n x
 
 -- the third rule of a record of a relationship: if it is in use, its ends keep it
 pub record RelKeeps (records : Records) (x : ℕ) : Type 0 where
   pub from : (row : RelRow) → rel_at records x ≡ Some row → EndKeeps records row.from x
   pub to : (row : RelRow) → rel_at records x ≡ Some row → EndKeeps records row.to x
+
+abbrev pub group_label : Records → ℕ → ℕ
+group_label records g = field 4 (rec_at records format.groups_file g) format.group_type
+
+-- The group chain of a node is these: groups in use of the node, each with a relationship, and no
+-- two of one type.
+pub record IsGroupChain (records : Records) (n : ℕ) (members : List ℕ) : Type 0 where
+  pub chain : IsChain (λ g. field 4 (rec_at records format.groups_file g) format.group_next)
+      (λ g. field 4 (rec_at records format.groups_file g) format.group_previous) format.nil
+      (first_link records n) members
+  pub only : (g : ℕ) → In g members
+      → (row : GroupRow) × (group_at records g ≡ Some row) × (row.owner ≡ n)
+  pub filled : (g : ℕ) → In g members
+      → rules.is_filled (rec_at records format.groups_file g) ≡ true
+  pub once : (g k : ℕ) → In g members → In k members
+      → group_label records g ≡ group_label records k → g ≡ k
+
+-- the fourth rule of a node: if it is dense, it has a group chain
+pub record OwnerKeeps (records : Records) (n : ℕ) : Type 0 where
+  pub groups : kind_at records format.nodes_file n ≡ format.dense
+      → (members : List ℕ) × IsGroupChain records n members
+
+-- the node is dense, and the group is in its group chain
+pub record IsGroupOf (records : Records) (n g : ℕ) : Type 0 where
+  pub dense : kind_at records format.nodes_file n ≡ format.dense
+  pub members : List ℕ
+  pub groups : IsGroupChain records n members
+  pub member : In g members
+
+-- the fourth rule of a record of a group: if it is in use, its owner has it
+pub record MemberKeeps (records : Records) (g : ℕ) : Type 0 where
+  pub owner : (row : GroupRow) → group_at records g ≡ Some row → IsGroupOf records row.owner g
 
 -- the files of nodes and relationships
 abbrev pub is_element_file : ℕ → Bool
@@ -214,11 +280,12 @@ pub record NameKeeps (records : Records) (x : ℕ) : Type 0 where
   pub alone : (y : ℕ) → y < high records format.names_file
       → text_at records y ≡ text_at records x → y ≡ x
 
--- the seventh rule of a node
-pub record DegreeKeeps (records : Records) (n : ℕ) : Type 0 where
+-- the seventh rule of a node: its degree is exact, and if it is sparse, at most the threshold
+pub record DegreeKeeps (records : Records) (threshold n : ℕ) : Type 0 where
   pub exact : kind_at records format.nodes_file n ≢ format.free_kind
       → degree records n
       ≡ rules.degree_of (rel_at records) (high records format.relationships_file) n
+  pub few : kind_at records format.nodes_file n ≡ format.sparse → degree records n ≤ threshold
 
 abbrev pub damage : ℕ → ℕ → ℕ → Damage
 damage file id rule = record { file = file; id = id; rule = rule }
@@ -242,13 +309,14 @@ pub data Breaks (records : Records) (shape : Shape) : Damage → Type 0 where
       → Breaks records shape (damage format.meta_file format.names_file 2)
   NodeChain : (n : ℕ) → n < high records format.nodes_file → ¬ NodeKeeps records n
       → Breaks records shape (damage format.nodes_file n 3)
+  GroupChains : (g : ℕ) → g < high records format.groups_file → ¬ GroupKeeps records g
+      → Breaks records shape (damage format.groups_file g 3)
   RelEnds : (x : ℕ) → x < high records format.relationships_file → ¬ RelKeeps records x
       → Breaks records shape (damage format.relationships_file x 3)
-  GroupGiven : (g : ℕ) → g < high records format.groups_file
-      → Breaks records shape (damage format.groups_file g 4)
-  DenseNode : (n : ℕ) → n < high records format.nodes_file
-      → kind_at records format.nodes_file n ≡ format.dense
+  OwnerGroups : (n : ℕ) → n < high records format.nodes_file → ¬ OwnerKeeps records n
       → Breaks records shape (damage format.nodes_file n 4)
+  GroupOwner : (g : ℕ) → ¬ MemberKeeps records g
+      → Breaks records shape (damage format.groups_file g 4)
   WrongElement : (file x : ℕ) → is_element_file file ≡ true → x < high records file
       → ¬ ElementKeeps records file x → Breaks records shape (damage file x 5)
   WrongHolding : (p : ℕ) → ¬ IsHeldOnce records p
@@ -259,5 +327,6 @@ pub data Breaks (records : Records) (shape : Shape) : Damage → Type 0 where
       → Breaks records shape (damage format.strings_file b 5)
   WrongName : (x : ℕ) → x < high records format.names_file → ¬ NameKeeps records x
       → Breaks records shape (damage format.names_file x 6)
-  WrongDegree : (n : ℕ) → n < high records format.nodes_file → ¬ DegreeKeeps records n
+  WrongDegree : (n : ℕ) → n < high records format.nodes_file
+      → ¬ DegreeKeeps records shape.threshold n
       → Breaks records shape (damage format.nodes_file n 7)

@@ -13,7 +13,9 @@ pub record AreOfNodes (degrees : Degrees) (records : Records) : Type 0 where
   pub nodes : length degrees.counts.items ≡ high records format.nodes_file
   pub few : high records format.nodes_file ≤ format.most_ids
 
--- a node in use has the degree that was counted
-abbrev pub HasDegree : Degrees → Records → ℕ → Type 0
-HasDegree degrees records n = kind_at records format.nodes_file n ≢ format.free_kind
-    → degree records n ≡ count_at degrees.counts.items n
+-- a node in use has the degree that was counted, and a sparse one at most the threshold
+pub record HasDegree (degrees : Degrees) (records : Records) (n : ℕ) : Type 0 where
+  pub exact : kind_at records format.nodes_file n ≢ format.free_kind
+      → degree records n ≡ count_at degrees.counts.items n
+  pub few : kind_at records format.nodes_file n ≡ format.sparse
+      → degree records n ≤ degrees.threshold

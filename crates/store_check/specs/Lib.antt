@@ -8,6 +8,7 @@ pub mod Groups
 pub mod Heads
 pub mod Holding
 pub mod Layouts
+pub mod Leading
 pub mod Lines
 pub mod Listing
 pub mod Marks

@@ -1,39 +1,49 @@
-//! The third rule: the chain of each node has just the relationships at it.
+//! The third rule: the chains of each node, its own or those of its groups, have just the
+//! relationships at it.
 
-ghost use Rattle.std.specs.Prelude.{◌≡◌, ◌≢◌, ◌+◌, ◌*◌, ◌<◌, ◌≤◌, IfNone, IfOk, IfSome, false, map};
-ghost use Rattle.std.specs.Prelude.{length, List, ℕ};
+ghost use Rattle.std.specs.Prelude.{◌≡◌, ◌+◌, ◌*◌, ◌%◌, ◌<◌, ◌≤◌, IfNone, IfOk, IfSome, false, map};
+ghost use Rattle.std.specs.Prelude.{length, ℕ};
 ghost use Rattle.std.specs.Bool.{Decides};
 ghost use Rattle.std.specs.List.{All};
-ghost use Rattle.rec_bytes.specs.Format.{most_ids, nodes_file, relationships_file};
+ghost use Rattle.rec_bytes.specs.Format.{groups_file, most_ids, nodes_file, relationships_file};
 ghost use Rattle.rec_bytes.specs.Space.{HasCause};
 ghost use Rattle.store_rules.specs.Chains.{place_of};
 ghost use Rattle.store_rules.specs.Views.{high};
 ghost use Rattle.store_check.specs.Breaking.{damage};
-ghost use Rattle.store_check.specs.Heads.{AmongHeads, BrokeIs};
-ghost use Rattle.store_check.specs.Lines.{IsLineIn};
+ghost use Rattle.store_check.specs.Heads.{FoundBelow};
+ghost use Rattle.store_check.specs.Leading.{AreLed};
 ghost use Rattle.store_check.specs.Marks.{marked};
 ghost use Rattle.store_check.specs.NodeChains.{
   AreAttached,
   AreChainHeads,
-  AreLineEnds,
+  AreGroupEnds,
+  AreGroupHeads,
+  AreMet,
   AreNodeEnds,
   EndHolds,
+  EndsFound,
+  IsLeading,
   IsSparse,
   RelHolds,
   chain_line,
   end_in,
   end_of,
+  group_of,
+  is_on,
+  side_at,
 };
-ghost use Rattle.store_check.specs.Verdicts.{AreMarksLow, DecidesRule};
+ghost use Rattle.store_check.specs.Verdicts.{AreMarksLow, BreaksRule, DecidesRule};
 
 use crate::heads::{Broke, Found, Heads, list_heads};
+use crate::leaders::{Leaders, lead_groups};
 use crate::line::{Line, follow};
 use crate::marks::no_marks;
 use crate::sentence::{Sentence, find_false};
 use rec_bytes::{
-    Damage, FREE, KIND, Key, NODE_FIRST_LINK, NODES, RELATIONSHIP_SOURCE,
-    RELATIONSHIP_SOURCE_PREVIOUS, RELATIONSHIP_TARGET, RELATIONSHIP_TARGET_PREVIOUS, RELATIONSHIPS,
-    Reads, Rec, SPARSE, SpaceFault,
+    DENSE, Damage, FREE, GROUP_FIRST_IN, GROUP_FIRST_OUT, GROUP_OWNER, GROUP_TYPE, GROUPS, KIND,
+    Key, NODE_FIRST_LINK, NODES, RELATIONSHIP_SOURCE, RELATIONSHIP_SOURCE_PREVIOUS,
+    RELATIONSHIP_TARGET, RELATIONSHIP_TARGET_PREVIOUS, RELATIONSHIP_TYPE, RELATIONSHIPS, Reads,
+    Rec, SPARSE, SpaceFault,
 };
 use std::alloc::Global;
 
@@ -52,14 +62,41 @@ fn place_of(rec: &Rec, node: u32) -> u8
     }
 }
 
-/// The chain of a node.
+/// Which relationships of its node a chain has: all, or those of one type that leave it alone,
+/// enter it alone, or do both.
+#[derive(Clone, Copy, Debug, PartialEq, Eq)]
+pub enum Side {
+    Any,
+    Out(u32),
+    Into(u32),
+    Loop(u32),
+}
+
+impl Side {
+    fn has(&self, node: u32, rec: &Rec) -> bool
+        ensures { result ≡ is_on self.now node rec.now }
+    {
+        let leaves = rec.number(RELATIONSHIP_SOURCE) == node;
+        let enters = rec.number(RELATIONSHIP_TARGET) == node;
+        let label = rec.number(RELATIONSHIP_TYPE);
+        match *self {
+            Side::Any => leaves || enters,
+            Side::Out(own) => leaves && !enters && label == own,
+            Side::Into(own) => !leaves && enters && label == own,
+            Side::Loop(own) => leaves && enters && label == own,
+        }
+    }
+}
+
+/// A chain of a node.
 #[derive(Drop)]
 struct ChainLine {
     node: u32,
+    side: Side,
 }
 
 impl Line for ChainLine {
-    ghost kind = { λ line. chain_line line.node };
+    ghost kind = { λ line. chain_line line.side line.node };
 
     fn file(&self) -> u8 {
         RELATIONSHIPS
@@ -71,8 +108,7 @@ impl Line for ChainLine {
 
     fn fits(&self, before: u32, _at: u32, rec: &Rec) -> bool {
         rec.byte(KIND) != FREE
-            && (rec.number(RELATIONSHIP_SOURCE) == self.node
-                || rec.number(RELATIONSHIP_TARGET) == self.node)
+            && self.side.has(self.node, rec)
             && rec.number(place_of(rec, self.node)) == before
     }
 }
@@ -114,32 +150,29 @@ fn ends_of<R: Reads>(
     Ok(ends)
 }
 
-/// The ends in the chain from a relationship on, or none where there is no such chain.
+/// The ends in the chain from a relationship on, if there is such a chain.
 fn chain_ends<R: Reads>(
     alloc: Global,
     space: &mut R,
-    node: u32,
+    line: &ChainLine,
     first: u32,
     high: u32,
-) -> Result<Option<Vec<u32>>, SpaceFault>
+) -> Result<Found, SpaceFault>
     requires { high ≤ most_ids }
-    ensures found { R.tells → IfOk result (λ found. IfSome found
-        (λ ends. AreLineEnds (R.state space.old).records high node first ends.items)) }
-    ensures none { R.tells → IfOk result (λ found. IfNone found ((xs : List ℕ)
-        → ¬ IsLineIn (chain_line node) (R.state space.old).records high first xs)) }
-    ensures low { IfOk result (λ found. IfSome found (λ ends. All (λ x. x < 2 * high) ends.items)) }
+    ensures told { R.tells → IfOk result
+        (EndsFound (R.state space.old).records high line.now.side line.now.node first) }
+    ensures low { IfOk result (FoundBelow (2 * high)) }
     ensures same { (R.state space.new).records ≡ (R.state space.old).records }
     ensures shape { (R.state space.new).shape ≡ (R.state space.old).shape }
     ensures written { (R.state space.new).written ≡ (R.state space.old).written }
     ensures onward { R.onward space.old space.new }
     ensures cause { HasCause (R.faults space.old) (R.faults space.new) result }
 {
-    let line = ChainLine { node };
-    let Some(ids) = follow(alloc, space, &line, first, high)? else {
-        return Ok(None);
+    let Some(ids) = follow(alloc, space, line, first, high)? else {
+        return Ok(Found::Missing);
     };
-    let ends = ends_of(alloc, space, node, &ids, high)?;
-    Ok(Some(ends))
+    let ends = ends_of(alloc, space, line.node, &ids, high)?;
+    Ok(Found::Items(ends))
 }
 
 /// The sparse nodes, at which chains start.
@@ -165,15 +198,74 @@ impl Heads for ChainHeads {
         if rec.byte(KIND) != SPARSE {
             return Ok(Found::Nothing);
         }
+        let line = ChainLine {
+            node: id,
+            side: Side::Any,
+        };
         let first = rec.number(NODE_FIRST_LINK);
-        match chain_ends(alloc, space, id, first, self.relationships)? {
-            Some(ends) => Ok(Found::Items(ends)),
-            None => Ok(Found::Missing),
-        }
+        let found = chain_ends(alloc, space, &line, first, self.relationships)?;
+        Ok(found)
     }
 }
 
-/// Whether a number is that of a node, and if that is sparse, whether the end was met.
+/// The side of the chain that begins at a place of a group.
+fn side_at(place: u8, label: u32) -> Side
+    ensures { result ≡ side_at place label }
+{
+    if place == GROUP_FIRST_OUT {
+        Side::Out(label)
+    } else if place == GROUP_FIRST_IN {
+        Side::Into(label)
+    } else {
+        Side::Loop(label)
+    }
+}
+
+/// The first groups of each type at a node. Three chains start at each.
+#[derive(Drop)]
+pub struct GroupHeads<'a> {
+    leaders: &'a Leaders,
+    groups: u32,
+    relationships: u32,
+}
+
+impl<'a> Heads for GroupHeads<'a> {
+    ghost has = { λ heads records id. IsLeading heads.leaders.now records (group_of id) };
+
+    ghost lists = { λ _. AreGroupEnds };
+
+    ghost suits = { AreGroupHeads };
+
+    ghost mark = { λ heads. 3 * heads.groups };
+
+    ghost bound = { λ heads. 2 * heads.relationships };
+
+    fn list<R: Reads>(&self, alloc: Global, space: &mut R, id: u32) -> Result<Found, SpaceFault> {
+        let group = id / 3;
+        let place = GROUP_FIRST_OUT + 4 * (id % 3) as u8;
+        let rec = space.get(Key {
+            file: GROUPS,
+            id: group,
+        })?;
+        let node = rec.number(GROUP_OWNER);
+        let label = rec.number(GROUP_TYPE);
+        if rec.byte(KIND) == FREE {
+            return Ok(Found::Nothing);
+        }
+        if !self.leaders.has(node, label, group) {
+            return Ok(Found::Nothing);
+        }
+        let line = ChainLine {
+            node,
+            side: side_at(place, label),
+        };
+        let first = rec.number(place);
+        let found = chain_ends(alloc, space, &line, first, self.relationships)?;
+        Ok(found)
+    }
+}
+
+/// Whether a number is that of a node, and the end was met.
 fn end_holds<R: Reads>(space: &mut R, id: u32, met: bool) -> Result<bool, SpaceFault>
     requires { high (R.state space.old).records nodes_file ≤ most_ids }
     ensures holds { R.tells
@@ -192,7 +284,11 @@ fn end_holds<R: Reads>(space: &mut R, id: u32, met: bool) -> Result<bool, SpaceF
     if kind == FREE {
         return Ok(false);
     }
-    if kind == SPARSE { Ok(met) } else { Ok(true) }
+    if kind == SPARSE || kind == DENSE {
+        Ok(met)
+    } else {
+        Ok(true)
+    }
 }
 
 /// The number of the end of a relationship at a node.
@@ -208,7 +304,7 @@ fn end_of(rec: &Rec, node: u32, id: u32) -> usize
     }
 }
 
-/// The ends of a relationship are nodes, and marked where those are sparse.
+/// The ends of a relationship are nodes, and marked.
 #[derive(Drop)]
 pub struct Attached<'a> {
     relationships: u32,
@@ -263,13 +359,64 @@ fn find_loose<R: Reads>(space: &mut R, marks: &[bool]) -> Result<Option<u32>, Sp
     find_false(space, &attached, relationships)
 }
 
+/// Marks the ends in the chains of all nodes and groups, or finds what breaks the third rule.
+fn mark_ends<R: Reads>(
+    alloc: Global,
+    space: &mut R,
+    leaders: &Leaders,
+    marks: &mut [bool],
+) -> Result<Option<Damage>, SpaceFault>
+    requires low { AreMarksLow (R.state space.old).records }
+    requires led { R.tells → AreLed leaders.now (R.state space.old).records
+        (high (R.state space.old).records groups_file) }
+    requires marks { length marks.old
+        ≡ 2 * high (R.state space.old).records relationships_file }
+    requires clear { (p : ℕ) → marked marks.old p ≡ false }
+    ensures met { R.tells → IfOk result
+        (λ found. IfNone found (AreMet (R.state space.old).records marks.new)) }
+    ensures broken { R.tells → IfOk result (λ found. IfSome found
+        (BreaksRule (R.state space.old).records (R.state space.old).shape 3)) }
+    ensures len { length marks.new ≡ length marks.old }
+    ensures same { (R.state space.new).records ≡ (R.state space.old).records }
+    ensures shape { (R.state space.new).shape ≡ (R.state space.old).shape }
+    ensures written { (R.state space.new).written ≡ (R.state space.old).written }
+    ensures onward { R.onward space.old space.new }
+    ensures cause { HasCause (R.faults space.old) (R.faults space.new) result }
+{
+    let nodes = space.meta(NODES).high;
+    let groups = space.meta(GROUPS).high;
+    let relationships = space.meta(RELATIONSHIPS).high;
+    let heads = ChainHeads {
+        nodes,
+        relationships,
+    };
+    match list_heads(alloc, space, &heads, nodes, marks)? {
+        Some(Broke::Head(id)) => return Ok(Some(broken(NODES, id))),
+        Some(Broke::Item(end)) => return Ok(Some(broken(RELATIONSHIPS, end / 2))),
+        None => {}
+    }
+    let heads = GroupHeads {
+        leaders,
+        groups,
+        relationships,
+    };
+    match list_heads(alloc, space, &heads, 3 * groups, marks)? {
+        Some(Broke::Head(id)) => Ok(Some(broken(GROUPS, id / 3))),
+        Some(Broke::Item(end)) => Ok(Some(broken(RELATIONSHIPS, end / 2))),
+        None => Ok(None),
+    }
+}
+
 /// Decides the third rule, with marks for the ends of all relationships, none of them set.
 fn check_marked<R: Reads>(
     alloc: Global,
     space: &mut R,
+    leaders: &Leaders,
     marks: &mut [bool],
 ) -> Result<Option<Damage>, SpaceFault>
     requires low { AreMarksLow (R.state space.old).records }
+    requires led { R.tells → AreLed leaders.now (R.state space.old).records
+        (high (R.state space.old).records groups_file) }
     requires marks { length marks.old
         ≡ 2 * high (R.state space.old).records relationships_file }
     requires clear { (p : ℕ) → marked marks.old p ≡ false }
@@ -281,16 +428,8 @@ fn check_marked<R: Reads>(
     ensures onward { R.onward space.old space.new }
     ensures cause { HasCause (R.faults space.old) (R.faults space.new) result }
 {
-    let nodes = space.meta(NODES).high;
-    let relationships = space.meta(RELATIONSHIPS).high;
-    let heads = ChainHeads {
-        nodes,
-        relationships,
-    };
-    match list_heads(alloc, space, &heads, nodes, marks)? {
-        Some(Broke::Head(id)) => return Ok(Some(broken(NODES, id))),
-        Some(Broke::Item(end)) => return Ok(Some(broken(RELATIONSHIPS, end / 2))),
-        None => {}
+    if let Some(damage) = mark_ends(alloc, space, leaders, marks)? {
+        return Ok(Some(damage));
     }
     match find_loose(space, marks)? {
         Some(id) => Ok(Some(broken(RELATIONSHIPS, id))),
@@ -322,9 +461,13 @@ pub(crate) fn check_chains<R: Reads>(
     ensures onward { R.onward space.old space.new }
     ensures cause { HasCause (R.faults space.old) (R.faults space.new) result }
 {
+    let mut leaders = Leaders::new(alloc);
+    if let Some(group) = lead_groups(space, &mut leaders)? {
+        return Ok(Some(broken(GROUPS, group)));
+    }
     let ends = 2 * space.meta(RELATIONSHIPS).high as usize;
     let Ok(mut marks) = no_marks(alloc, ends) else {
         return Err(SpaceFault::Memory);
     };
-    check_marked(alloc, space, &mut marks)
+    check_marked(alloc, space, &leaders, &mut marks)
 }

@@ -3,7 +3,7 @@
 ghost use Rattle.std.specs.Prelude.{◌≡◌, IfOk};
 ghost use Rattle.rec_bytes.specs.Space.{HasCause, SameButReads};
 ghost use Rattle.store_rules.specs.Ranges.{AreInRange};
-ghost use Rattle.store_rules.specs.Rules.{IsSparseStore};
+ghost use Rattle.store_rules.specs.Rules.{IsWellFormed};
 ghost use Rattle.store_check.specs.CheckFault.{HasCheckCause};
 ghost use Rattle.store_check.specs.Verdicts.{AreMarksLow, BrokenIs, VerdictIs};
 
@@ -84,7 +84,7 @@ fn check_from_groups<R: Reads>(alloc: Global, space: &mut R) -> Result<Verdict, 
     ensures onward { R.onward space.old space.new }
     ensures cause { HasCause (R.faults space.old) (R.faults space.new) result }
 {
-    match check_groups(space)? {
+    match check_groups(alloc, space)? {
         Some(damage) => Ok(Verdict::Broken(damage)),
         None => check_from_properties(alloc, space),
     }
@@ -146,8 +146,8 @@ fn check_from_ranges<R: Reads>(alloc: Global, space: &mut R) -> Result<Verdict, 
 /// rules hold, else the least rule that is broken and a record that breaks it. It only reads.
 pub fn check<R: Reads>(alloc: Global, space: &mut R) -> Result<Verdict, CheckFault>
     ensures sound { R.tells → IfOk result (λ v. v ≡ Verdict.Sound
-        → IsSparseStore (R.state space.old).records (R.state space.old).shape) }
-    ensures only { R.tells → IsSparseStore (R.state space.old).records (R.state space.old).shape
+        → IsWellFormed (R.state space.old).records (R.state space.old).shape) }
+    ensures only { R.tells → IsWellFormed (R.state space.old).records (R.state space.old).shape
         → IfOk result (λ v. v ≡ Verdict.Sound) }
     ensures broken { R.tells → IfOk result
         (BrokenIs (R.state space.old).records (R.state space.old).shape) }

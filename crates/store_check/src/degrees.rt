@@ -1,4 +1,5 @@
-//! The seventh rule: the degree of each node is the number of relationships at it.
+//! The seventh rule: the degree of each node is the number of relationships at it, and a sparse
+//! node has at most as many as the threshold.
 
 ghost use Rattle.std.specs.Prelude.{◌≡◌, ◌-◌, ◌+◌, ◌^◌, ◌<◌, ◌≤◌, IfOk, OnOk, length, nat_eq, ℕ};
 ghost use Rattle.std.specs.Prelude.{if◌then◌else◌};
@@ -7,13 +8,13 @@ ghost use Rattle.rec_bytes.specs.Space.{HasCause};
 ghost use Rattle.store_rules.specs.Rules.{degree_of};
 ghost use Rattle.store_rules.specs.Views.{high, rel_at};
 ghost use Rattle.store_check.specs.Degrees.{AreOfNodes, HasDegree, count_at};
-ghost use Rattle.store_check.specs.NodeChains.{is_of};
+ghost use Rattle.store_check.specs.NodeChains.{is_of_node};
 ghost use Rattle.store_check.specs.Verdicts.{AreMarksLow, DecidesRule};
 
 use crate::sentence::{Sentence, find_false};
 use rec_bytes::{
     Damage, FREE, KIND, Key, NODE_DEGREE, NODES, RELATIONSHIP_SOURCE, RELATIONSHIP_TARGET,
-    RELATIONSHIPS, Reads, Rec, SpaceFault,
+    RELATIONSHIPS, Reads, Rec, SPARSE, SpaceFault,
 };
 use std::alloc::Global;
 
@@ -37,7 +38,7 @@ fn count_one(counts: &mut [u32], at: u32)
 fn count_rel(counts: &mut [u32], rec: &Rec)
     requires { (n : ℕ) → n < length counts.old → count_at counts.old n < 2 ^ 32 - 1 }
     ensures count { (n : ℕ) → n < length counts.old → count_at counts.new n
-        ≡ count_at counts.old n + (if is_of n rec.now then 1 else 0) }
+        ≡ count_at counts.old n + (if is_of_node n rec.now then 1 else 0) }
     ensures len { length counts.new ≡ length counts.old }
 {
     if rec.byte(KIND) == FREE {
@@ -75,10 +76,11 @@ fn count_ends<R: Reads>(space: &mut R, counts: &mut [u32]) -> Result<(), SpaceFa
     Ok(())
 }
 
-/// How many relationships there are at each node.
+/// How many relationships there are at each node, and how many a sparse one may have.
 #[derive(Drop)]
 pub struct Degrees {
     counts: Vec<u32>,
+    threshold: u32,
 }
 
 impl Sentence for Degrees {
@@ -90,8 +92,15 @@ impl Sentence for Degrees {
 
     fn holds<R: Reads>(&self, space: &mut R, id: u32) -> Result<bool, SpaceFault> {
         let rec = space.get(Key { file: NODES, id })?;
+        let kind = rec.byte(KIND);
+        if kind == FREE {
+            return Ok(true);
+        }
         let degree = rec.number(NODE_DEGREE);
-        Ok(rec.byte(KIND) == FREE || degree == self.counts[id as usize])
+        if kind == SPARSE && degree > self.threshold {
+            return Ok(false);
+        }
+        Ok(degree == self.counts[id as usize])
     }
 }
 
@@ -103,6 +112,8 @@ fn count_degrees<R: Reads>(alloc: Global, space: &mut R) -> Result<Degrees, Spac
         (high (R.state space.old).records relationships_file) n) }
     ensures len { IfOk result (λ degrees.
         length degrees.counts.items ≡ high (R.state space.old).records nodes_file) }
+    ensures threshold { IfOk result
+        (λ degrees. degrees.threshold ≡ (R.state space.old).shape.threshold) }
     ensures same { (R.state space.new).records ≡ (R.state space.old).records }
     ensures shape { (R.state space.new).shape ≡ (R.state space.old).shape }
     ensures written { (R.state space.new).written ≡ (R.state space.old).written }
@@ -113,7 +124,8 @@ fn count_degrees<R: Reads>(alloc: Global, space: &mut R) -> Result<Degrees, Spac
         return Err(SpaceFault::Memory);
     };
     count_ends(space, &mut counts)?;
-    Ok(Degrees { counts })
+    let threshold = space.shape().threshold as u32;
+    Ok(Degrees { counts, threshold })
 }
 
 /// Decides the seventh rule.

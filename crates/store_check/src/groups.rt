@@ -1,37 +1,193 @@
-//! The fourth rule, of this version: no group was ever given out, and no node is dense.
+//! The fourth rule: each group is in the group chain of a dense node.
 
-ghost use Rattle.std.specs.Prelude.{◌≡◌, IfOk};
+ghost use Rattle.std.specs.Prelude.{◌≡◌, ◌<◌, ◌≤◌, IfOk, false, length, map, ℕ};
+ghost use Rattle.std.specs.List.{All};
+ghost use Rattle.rec_bytes.specs.Format.{groups_file, most_ids};
 ghost use Rattle.rec_bytes.specs.Space.{HasCause};
-ghost use Rattle.store_check.specs.Groups.{IsNotDense, IsOnNodes};
+ghost use Rattle.store_rules.specs.Rules.{is_filled};
+ghost use Rattle.store_rules.specs.Views.{high};
+ghost use Rattle.store_check.specs.Breaking.{IsGroupChain, damage, group_label};
+ghost use Rattle.store_check.specs.Groups.{AreOwners, GroupsFound, group_line};
+ghost use Rattle.store_check.specs.Heads.{FoundBelow};
+ghost use Rattle.store_check.specs.Marks.{marked};
+ghost use Rattle.store_check.specs.NodeChains.{IsDense};
 ghost use Rattle.store_check.specs.Verdicts.{AreMarksLow, DecidesRule};
 
-use crate::sentence::{Sentence, find_false};
-use rec_bytes::{DENSE, Damage, GROUPS, KIND, Key, NODES, Reads, SpaceFault};
+use crate::distinct::are_distinct;
+use crate::heads::{Broke, Found, Heads, list_heads};
+use crate::holding::find_unmarked;
+use crate::line::{Line, follow};
+use crate::marks::no_marks;
+use rec_bytes::{
+    DENSE, Damage, FREE, GROUP_FIRST_IN, GROUP_FIRST_LOOP, GROUP_FIRST_OUT, GROUP_NEXT,
+    GROUP_OWNER, GROUP_PREVIOUS, GROUP_TYPE, GROUPS, KIND, Key, NIL, NODE_FIRST_LINK, NODES, Reads,
+    Rec, SpaceFault,
+};
+use std::alloc::Global;
 
 /// The number of the rule.
 const GROUP_RULE: u8 = 4;
 
-/// A node isn't dense.
-#[derive(Drop)]
-pub struct NotDense {
-    nodes: u32,
+/// Whether one of the chains of a group has a relationship.
+fn is_filled(rec: &Rec) -> bool
+    ensures { result ≡ is_filled rec.now }
+{
+    !(rec.number(GROUP_FIRST_OUT) == NIL
+        && rec.number(GROUP_FIRST_IN) == NIL
+        && rec.number(GROUP_FIRST_LOOP) == NIL)
 }
 
-impl Sentence for NotDense {
-    ghost suits = { IsOnNodes };
+/// The group chain of a node.
+#[derive(Drop)]
+struct GroupLine {
+    node: u32,
+}
 
-    ghost mark = { λ sentence. sentence.nodes };
+impl Line for GroupLine {
+    ghost kind = { λ line. group_line line.node };
 
-    ghost says = { λ _. IsNotDense };
+    fn file(&self) -> u8 {
+        GROUPS
+    }
 
-    fn holds<R: Reads>(&self, space: &mut R, id: u32) -> Result<bool, SpaceFault> {
+    fn next(&self, rec: &Rec) -> u32 {
+        rec.number(GROUP_NEXT)
+    }
+
+    fn fits(&self, before: u32, _at: u32, rec: &Rec) -> bool {
+        rec.byte(KIND) != FREE
+            && rec.number(GROUP_OWNER) == self.node
+            && is_filled(rec)
+            && rec.number(GROUP_PREVIOUS) == before
+    }
+}
+
+/// The types of groups.
+fn types_of<R: Reads>(alloc: Global, space: &mut R, ids: &[u32]) -> Result<Vec<u32>, SpaceFault>
+    requires { All (λ x. x < most_ids) ids.now }
+    ensures types { R.tells → IfOk result
+        (λ types. types.items ≡ map (group_label (R.state space.old).records) ids.now) }
+    ensures same { (R.state space.new).records ≡ (R.state space.old).records }
+    ensures shape { (R.state space.new).shape ≡ (R.state space.old).shape }
+    ensures written { (R.state space.new).written ≡ (R.state space.old).written }
+    ensures onward { R.onward space.old space.new }
+    ensures cause { HasCause (R.faults space.old) (R.faults space.new) result }
+{
+    let mut types = Vec::new(alloc);
+    for id in ids {
+        let rec = space.get(Key {
+            file: GROUPS,
+            id: *id,
+        })?;
+        let Ok(()) = types.push(rec.number(GROUP_TYPE)) else {
+            return Err(SpaceFault::Memory);
+        };
+    }
+    Ok(types)
+}
+
+/// The groups of a node from one on.
+fn groups_from<R: Reads>(
+    alloc: Global,
+    space: &mut R,
+    node: u32,
+    first: u32,
+    high: u32,
+) -> Result<Found, SpaceFault>
+    requires { high ≤ most_ids }
+    ensures told { R.tells → IfOk result
+        (GroupsFound (R.state space.old).records high node first) }
+    ensures low { IfOk result (FoundBelow high) }
+    ensures same { (R.state space.new).records ≡ (R.state space.old).records }
+    ensures shape { (R.state space.new).shape ≡ (R.state space.old).shape }
+    ensures written { (R.state space.new).written ≡ (R.state space.old).written }
+    ensures onward { R.onward space.old space.new }
+    ensures cause { HasCause (R.faults space.old) (R.faults space.new) result }
+{
+    let Some(ids) = follow(alloc, space, &GroupLine { node }, first, high)? else {
+        return Ok(Found::Missing);
+    };
+    let mut types = types_of(alloc, space, &ids)?;
+    if !are_distinct(&mut types) {
+        return Ok(Found::Missing);
+    }
+    Ok(Found::Items(ids))
+}
+
+/// The dense nodes, at which group chains start.
+#[derive(Drop)]
+pub struct Owners {
+    nodes: u32,
+    groups: u32,
+}
+
+impl Heads for Owners {
+    ghost has = { λ _. IsDense };
+
+    ghost lists = { λ _. IsGroupChain };
+
+    ghost suits = { AreOwners };
+
+    ghost mark = { λ owners. owners.nodes };
+
+    ghost bound = { λ owners. owners.groups };
+
+    fn list<R: Reads>(&self, alloc: Global, space: &mut R, id: u32) -> Result<Found, SpaceFault> {
         let rec = space.get(Key { file: NODES, id })?;
-        Ok(rec.byte(KIND) != DENSE)
+        if rec.byte(KIND) != DENSE {
+            return Ok(Found::Nothing);
+        }
+        let first = rec.number(NODE_FIRST_LINK);
+        let found = groups_from(alloc, space, id, first, self.groups)?;
+        Ok(found)
+    }
+}
+
+fn broken(file: u8, id: u32) -> Damage
+    ensures { result ≡ damage file id 4 }
+{
+    Damage {
+        file,
+        id,
+        rule: GROUP_RULE,
+    }
+}
+
+/// Decides the fourth rule, with a mark for each group, none of them set.
+fn check_marked<R: Reads>(
+    alloc: Global,
+    space: &mut R,
+    marks: &mut [bool],
+) -> Result<Option<Damage>, SpaceFault>
+    requires low { AreMarksLow (R.state space.old).records }
+    requires marks { length marks.old ≡ high (R.state space.old).records groups_file }
+    requires clear { (p : ℕ) → marked marks.old p ≡ false }
+    ensures decided { R.tells → IfOk result
+        (DecidesRule (R.state space.old).records (R.state space.old).shape 4) }
+    ensures same { (R.state space.new).records ≡ (R.state space.old).records }
+    ensures shape { (R.state space.new).shape ≡ (R.state space.old).shape }
+    ensures written { (R.state space.new).written ≡ (R.state space.old).written }
+    ensures onward { R.onward space.old space.new }
+    ensures cause { HasCause (R.faults space.old) (R.faults space.new) result }
+{
+    let nodes = space.meta(NODES).high;
+    let groups = space.meta(GROUPS).high;
+    match list_heads(alloc, space, &Owners { nodes, groups }, nodes, marks)? {
+        Some(Broke::Head(id)) => return Ok(Some(broken(NODES, id))),
+        Some(Broke::Item(group)) => return Ok(Some(broken(GROUPS, group))),
+        None => {}
+    }
+    match find_unmarked(space, GROUPS, marks)? {
+        Some(id) => Ok(Some(broken(GROUPS, id))),
+        None => Ok(None),
     }
 }
 
 /// Decides the fourth rule.
-pub(crate) fn check_groups<R: Reads>(space: &mut R) -> Result<Option<Damage>, SpaceFault>
+pub(crate) fn check_groups<R: Reads>(
+    alloc: Global,
+    space: &mut R,
+) -> Result<Option<Damage>, SpaceFault>
     requires { AreMarksLow (R.state space.old).records }
     ensures decided { R.tells → IfOk result
         (DecidesRule (R.state space.old).records (R.state space.old).shape 4) }
@@ -41,20 +197,9 @@ pub(crate) fn check_groups<R: Reads>(space: &mut R) -> Result<Option<Damage>, Sp
     ensures onward { R.onward space.old space.new }
     ensures cause { HasCause (R.faults space.old) (R.faults space.new) result }
 {
-    if space.meta(GROUPS).high > 0 {
-        return Ok(Some(Damage {
-            file: GROUPS,
-            id: 0,
-            rule: GROUP_RULE,
-        }));
-    }
-    let nodes = space.meta(NODES).high;
-    match find_false(space, &NotDense { nodes }, nodes)? {
-        Some(id) => Ok(Some(Damage {
-            file: NODES,
-            id,
-            rule: GROUP_RULE,
-        })),
-        None => Ok(None),
-    }
+    let groups = space.meta(GROUPS).high as usize;
+    let Ok(mut marks) = no_marks(alloc, groups) else {
+        return Err(SpaceFault::Memory);
+    };
+    check_marked(alloc, space, &mut marks)
 }

@@ -13,6 +13,7 @@ mod groups;
 mod heads;
 mod holding;
 mod layout;
+mod leaders;
 mod line;
 mod live_line;
 mod marks;

@@ -1,8 +1,8 @@
 use Rattle.std.proofs.Common.{rules, arith, ◌≡◌, ◌<◌, ◌≤◌, ◌∙◌, ℕ, IfNone, IfSome, length, ap, sym, subst, ⊎_elim, refl}
 use Rattle.std.proofs.lemmas.Bool.{cases_lt}
 use Rattle.rec_bytes.specs.declared.meta.Meta.{Meta}
-use Rattle.rec_bytes.specs.Format.{nodes_file, relationships_file}
-use Rattle.store_rules.specs.Views.{Records, high, rec_at}
+use Rattle.rec_bytes.specs.Format.{nodes_file}
+use Rattle.store_rules.specs.Views.{Records, high, kind_at, rec_at}
 use Rattle.store_rules.proofs.ViewLaws.{kind_high}
 use Rattle.store_check.specs.Breaking.{DegreeKeeps, damage}
 use Rattle.store_check.specs.Breaking.Breaks.{WrongDegree}
@@ -22,7 +22,8 @@ returns-in-Some-clause-decided g c = λ tells.
     = subst (λ (r : Records). IfSome c.in_ok-id.field-0 (λ x. (x < c.meta-nodes.result.high) × (¬ HasDegree degrees r x))) c.in_ok-degrees.ensures.same (c.in_ok-id.ensures.found tells) in
     let bad : (id < c.meta-nodes.result.high) × (¬ HasDegree degrees s.records id) = search (rules, found) in
     let low : id < length degrees.counts.items = let len = c.in_ok-degrees.ensures.len in omega (arith, bad.0) in
-    breaks_by s.records s.shape 7 _ (damage 1 id 7) refl refl (WrongDegree id (omega (arith, bad.0)) (λ (k : DegreeKeeps s.records id). bad.1 (λ live. k.exact live ∙ sym (counts id low))))
+    breaks_by s.records s.shape 7 _ (damage 1 id 7) refl refl (WrongDegree id (omega (arith, bad.0)) (λ (k : DegreeKeeps s.records s.shape.threshold id).
+    bad.1 (record { exact = λ live. k.exact live ∙ sym (counts id low); few = λ is. let le = k.few is in let t = c.in_ok-degrees.ensures.threshold in omega arith })))
 
 pub returns-clause-decided : goal.returns-clause-decided
 returns-clause-decided g c = λ tells.
@@ -34,9 +35,11 @@ returns-clause-decided g c = λ tells.
     let none : IfNone c.in_ok-id.field-0 ((x : ℕ) → x < c.meta-nodes.result.high → HasDegree degrees s.records x)
     = subst (λ (r : Records). IfNone c.in_ok-id.field-0 ((x : ℕ) → x < c.meta-nodes.result.high → HasDegree degrees r x)) c.in_ok-degrees.ensures.same (c.in_ok-id.ensures.none tells) in
     let each : (x : ℕ) → x < c.meta-nodes.result.high → HasDegree degrees s.records x = search (rules, none) in
-    are_counted s.records (c.requires relationships_file refl) (λ n. record {
-      exact = λ live. ⊎_elim
-          (λ (lt : n < high s.records nodes_file). each n (omega arith) live ∙ counts n (omega arith))
-          (λ (ge : high s.records nodes_file ≤ n). absurd (live (kind_high (high s.records nodes_file) (rec_at s.records nodes_file n) n ge)))
-          (cases_lt n (high s.records nodes_file));
-    })
+    are_counted s.records s.shape.threshold (λ n. ⊎_elim
+    (λ (lt : n < high s.records nodes_file).
+    let h = each n (omega arith) in
+    record { exact = λ live. h.exact live ∙ counts n (omega arith); few = λ is. let le = h.few is in let t = c.in_ok-degrees.ensures.threshold in omega arith })
+    (λ (ge : high s.records nodes_file ≤ n).
+    let z = kind_high (high s.records nodes_file) (rec_at s.records nodes_file n) n ge in
+    record { exact = λ live. absurd (live z); few = λ (is : kind_at s.records nodes_file n ≡ 1). absurd (let e : 0 ≡ 1 = sym z ∙ is in omega arith) })
+    (cases_lt n (high s.records nodes_file)))
