@@ -1,5 +1,6 @@
 //! Whole runs of the program over a source, a sink and a disk in memory.
 mod checks;
+mod dense;
 mod edges;
 mod generated;
 mod lists;

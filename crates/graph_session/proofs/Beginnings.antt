@@ -32,8 +32,8 @@ use Rattle.txn_core.specs.declared.open_fault.OpenFault.{OpenFault}
 use Rattle.txn_core.specs.declared.open_fault.OpenFault.TheVariants as refusals
 use Rattle.txn_core.specs.declared.store.Store.{Store}
 use Rattle.store_rules.specs.Graph.{graph_of, names_of}
-use Rattle.store_rules.specs.Rules.{IsSparseStore}
-use Rattle.store_rules.proofs.NewStores.{new_store_empty, new_store_well}
+use Rattle.store_rules.specs.Rules.{IsWellFormed}
+use Rattle.store_rules.proofs.NewStores.{new_store_empty, new_well}
 use Rattle.name_store.specs.Fault.{NotDamaged}
 use Rattle.name_store.specs.Loading.{AreLoadable, IsLoadFault, after_names, name_mark}
 use Rattle.name_store.specs.declared.fault.Fault.{Fault}
@@ -53,12 +53,12 @@ use Rattle.graph_session.proofs.Streams.{Rose-from}
 -- ---- the records of the store
 
 -- a well-formed store is one that recovery finds
-found-made : (space : Key → Rec) (shape : Shape) → IsSparseStore space shape → finding.IsMade space shape
-found-made space shape store = record { own = store.keeps.ranges.own; metas = store.keeps.ranges.metas }
+found-made : (space : Key → Rec) (shape : Shape) → IsWellFormed space shape → finding.IsMade space shape
+found-made space shape store = record { own = store.ranges.own; metas = store.ranges.metas }
 
 -- its names are loaded
-loadable : (space : Key → Rec) (shape : Shape) → IsSparseStore space shape → AreLoadable space
-loadable space shape store = AreLoadable-AreInRange space shape store.keeps.ranges store.keeps.names
+loadable : (space : Key → Rec) (shape : Shape) → IsWellFormed space shape → AreLoadable space
+loadable space shape store = AreLoadable-AreInRange space shape store.ranges store.names
 
 -- recovery finds no store in a content where none was made
 unmade-not_found : (content : Files) (shape : Shape) (space : Key → Rec) → IsUnmade content → Redoes content space → ¬ finding.IsMade space shape
@@ -72,26 +72,26 @@ unmade-not_found content shape space unmade redoes made =
     none e = cc
 
 -- a new store is well-formed
-new-store : (content : Files) (config : Config) (shape : Shape) (space : Key → Rec) → is_allowed (shape_of config) ≡ true → shape ≡ shape_of config → space ≡ made_over content shape → IsSparseStore space shape
+new-store : (content : Files) (config : Config) (shape : Shape) (space : Key → Rec) → is_allowed (shape_of config) ≡ true → shape ≡ shape_of config → space ≡ made_over content shape → IsWellFormed space shape
 new-store content config shape space allowed shape_is space_is =
-    subst (λ (records : Key → Rec). IsSparseStore records shape) (sym space_is)
-    (subst (λ (s : Shape). IsSparseStore (made_over content s) s) (sym shape_is) (new_store_well (record_at content) (shape_of config) allowed))
+    subst (λ (records : Key → Rec). IsWellFormed records shape) (sym space_is)
+    (subst (λ (s : Shape). IsWellFormed (made_over content s) s) (sym shape_is) (new_well (record_at content) (shape_of config) allowed))
 
 -- The store that is opened is well-formed, where the content stands for a graph.
 opened-store : (content : Files) (config : Config) (shape : Shape) (space : Key → Rec) → is_allowed (shape_of config) ≡ true → opening.Opens content config shape space
-    → (other : Shape) (graph : Graph) → Stands content other graph → IsSparseStore space shape
+    → (other : Shape) (graph : Graph) → Stands content other graph → IsWellFormed space shape
 opened-store content config shape space allowed (inl new) other graph stands = new-store content config shape space allowed new.1 new.2
 opened-store content config shape space allowed (inr found) other graph (inl unmade) = absurd (unmade-not_found content shape space unmade.0 found.0 found.1)
 opened-store content config shape space allowed (inr found) other graph (inr made) =
     let same : made.space ≡ space = Redoes-only content made.space space made.redoes found.0 in
-    let shapes : other ≡ shape = same_one other shape (sym made.store.keeps.ranges.own ∙ ap (λ (records : Key → Rec). shape_of_record (records own_key)) same ∙ found.1.own) in
-    subst (λ (s : Shape). IsSparseStore space s) shapes (subst (λ (records : Key → Rec). IsSparseStore records other) same made.store)
+    let shapes : other ≡ shape = same_one other shape (sym made.store.ranges.own ∙ ap (λ (records : Key → Rec). shape_of_record (records own_key)) same ∙ found.1.own) in
+    subst (λ (s : Shape). IsWellFormed space s) shapes (subst (λ (records : Key → Rec). IsWellFormed records other) same made.store)
 
 -- the state that a session over these records begins with
 abbrev pub beginning : Shape → (Key → Rec) → State
 beginning shape space = record { shape = shape; committed = graph_of space; open_one = None; standing = Live }
 
-opened-starts : (content : Files) (config : Config) (shape : Shape) (space : Key → Rec) → opening.Opens content config shape space → IsSparseStore space shape → Starts content config (beginning shape space)
+opened-starts : (content : Files) (config : Config) (shape : Shape) (space : Key → Rec) → opening.Opens content config shape space → IsWellFormed space shape → Starts content config (beginning shape space)
 opened-starts content config shape space (inl new) store = inl (new.0, new.1, ap graph_of new.2 ∙ new_store_empty (record_at content) shape)
 opened-starts content config shape space (inr found) store = inr (IsMade-redoes content space shape found.0 store, found.2)
 
@@ -112,7 +112,7 @@ left-new content images config allowed unmade left (inr (inr redoes)) =
       inr (record {
         space = made_over content (shape_of config);
         redoes = redoes;
-        store = new_store_well (record_at content) (shape_of config) allowed;
+        store = new_well (record_at content) (shape_of config) allowed;
         graph_is = sym (new_store_empty (record_at content) (shape_of config));
       }),
     ))
@@ -187,7 +187,7 @@ record BeginsOver {D : Type 0} (g : Ghosts D) (session : SessionView D) (shape :
   live : IsTrue session.console.is_live
   closed : session.console.is_open ≡ false
   no_draft : session.console.draft ≡ []
-  store : g.tells_reads → IsSparseStore space shape
+  store : g.tells_reads → IsWellFormed space shape
   committed : session.console.committed ≡ space
   working : session.console.working ≡ space
   names : g.tells_reads → session.console.names ≡ names_of space
@@ -218,7 +218,7 @@ module _ {D : Type 0} (g : Ghosts D) where
         images = λ told. all-admitted state space (g.may_leave session.disk) (own-one state space refl (begins.store told.0) refl) (begins.stored.images told.0 told.1);
       }
 
-  begins-starts : (config : Config) (old : D) (shape : Shape) (space : Key → Rec) → Suits config shape → (g.tells_reads → opening.Opens (g.reads old) config shape space) → (g.tells_reads → IsSparseStore space shape)
+  begins-starts : (config : Config) (old : D) (shape : Shape) (space : Key → Rec) → Suits config shape → (g.tells_reads → opening.Opens (g.reads old) config shape space) → (g.tells_reads → IsWellFormed space shape)
       → StartsAs g old config (beginning shape space)
   begins-starts config old shape space suits opens store =
       let starts : g.tells_reads → Starts (g.reads old) config (beginning shape space) = λ told. opened-starts (g.reads old) config shape space (opens told) (store told) in
@@ -248,7 +248,7 @@ module _ {D : Type 0} {g : Ghosts D} (counts : CountsNow g) (config : Config) (o
   loaded-leaves : LeavesByOpening g config old loaded.base.disk.now
   loaded-leaves = loading-leaves g config old opened.base.disk.now loaded.base.disk.now counts (opening-leaves g config old opened.base.disk.now opens.allowed opens.leaves) reads.disk
 
-  store-of : (g.tells_reads → StandsForOne g old) → g.tells_reads → IsSparseStore (committed opened) opened.base.shape
+  store-of : (g.tells_reads → StandsForOne g old) → g.tells_reads → IsWellFormed (committed opened) opened.base.shape
   store-of stands told = let one = stands told in opened-store (g.reads old) config opened.base.shape (committed opened) opens.allowed (opens.opened told) one.shape one.graph one.stands
 
   -- The names were loaded.

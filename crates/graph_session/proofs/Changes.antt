@@ -16,7 +16,7 @@ use Rattle.rec_bytes.specs.declared.key.Key.{Key}
 use Rattle.rec_bytes.specs.declared.record.Rec.{Rec}
 use Rattle.record_file.specs.Redone.{Redoes}
 use Rattle.store_rules.specs.Graph.{graph_of}
-use Rattle.store_rules.specs.Rules.{IsSparseStore}
+use Rattle.store_rules.specs.Rules.{IsWellFormed}
 use Rattle.graph_session.specs.Answer.{Settles}
 use Rattle.graph_session.specs.Console.{BeginWith, IsAt, SessionView, TellsAll}
 use Rattle.graph_session.specs.Exchange.{CarriesOut, LeavesChange, LeavesOpen, MakesChange, ShowsSome, opening}
@@ -109,7 +109,7 @@ pub record Keeps {D : Type 0} (g : Ghosts D) (old new : SessionView D) (weight :
 
 -- The records are those of a well-formed store, and these are the names of its graph.
 pub record IsGrown (state : State) (records : Key → Rec) (names : List (List ℕ)) : Type 0 where
-  pub store : IsSparseStore records state.shape
+  pub store : IsWellFormed records state.shape
   pub named : names ≡ (graph_of records).names
 
 -- The change is committed.
@@ -166,10 +166,10 @@ module _ {D : Type 0} {g : Ghosts D} {old : SessionView D} {state : State} (at :
   stopped-admitted : (content : Files) → IsAdmitted state content → IsAdmitted (stopped state) content
   stopped-admitted content had = (had.0, stopped-admits had.0 had.1, had.2)
 
-  alone-one : (now : Key → Rec) → (g.tells_reads → IsSparseStore now state.shape) → g.tells_reads → IsOneOf (changed state (graph_of now)) now
+  alone-one : (now : Key → Rec) → (g.tells_reads → IsWellFormed now state.shape) → g.tells_reads → IsOneOf (changed state (graph_of now)) now
   alone-one now store told = own-one (changed state (graph_of now)) now (is_live at live) (store told) refl
 
-  doubt-one : (now : Key → Rec) → (g.tells_reads → IsSparseStore now state.shape) → g.tells_reads → IsOneOf (in_doubt state (graph_of now)) now
+  doubt-one : (now : Key → Rec) → (g.tells_reads → IsWellFormed now state.shape) → g.tells_reads → IsOneOf (in_doubt state (graph_of now)) now
   doubt-one now store told = record { store = store told; admits = (1, omega arith, refl) }
 
 module _ {D : Type 0} {g : Ghosts D} {old new : SessionView D} {state : State} (at : IsAt g old state) (live : old.console.health ≡ healths.Live) where

@@ -7,7 +7,7 @@ use Rattle.plain_graph.specs.Reply.{Broken, DiskFailed, Faulted, NoMemory, Sound
 use Rattle.plain_graph.specs.declared.command.Command.TheVariants as commands
 use Rattle.rec_bytes.specs.declared.damage.Damage.{Damage}
 use Rattle.store_check.specs.declared.verdict.Verdict.TheVariants as verdicts
-use Rattle.store_rules.specs.Rules.{IsSparseStore}
+use Rattle.store_rules.specs.Rules.{IsWellFormed}
 use Rattle.store_rules.specs.Views.{Records}
 use Rattle.graph_session.specs.Answer.{Settles}
 use Rattle.graph_session.specs.Console.{IsAt, SessionView}
@@ -57,7 +57,7 @@ module _ {D : Type 0} {g : Ghosts D} {old new : SessionView D} {state : State} (
       (uses-reads state only tt check-reached stays.beneath.disk)
 
   -- so no rule is broken
-  pub settles-broken : (file id rule : ℕ) → (here : Records) → here ≡ old.console.working → (g.tells_reads → ¬ IsSparseStore here old.console.shape) → Settles g (Whole line) old new state (Broken file id rule)
+  pub settles-broken : (file id rule : ℕ) → (here : Records) → here ≡ old.console.working → (g.tells_reads → ¬ IsWellFormed here old.console.shape) → Settles g (Whole line) old new state (Broken file id rule)
   settles-broken file id rule here is breaks =
       settles-given {line = Whole line} {before = state} (Broken file id rule) state (comes-stays at stays) refl
       (λ told. absurd (breaks told (rw is (named-working at live told).store)))

@@ -14,7 +14,7 @@ use Rattle.rec_bytes.specs.declared.record.Rec.{Rec}
 use Rattle.rec_bytes.specs.declared.shape.Shape.{Shape}
 use Rattle.store_rules.specs.Graph.{graph_of, node_from, node_of}
 use Rattle.store_rules.specs.Properties.{property_records}
-use Rattle.store_rules.specs.Rules.{IsSparseStore}
+use Rattle.store_rules.specs.Rules.{IsWellFormed}
 use Rattle.store_rules.specs.Views.{high, is_live, kind_at, node_in, rec_at}
 use Rattle.store_rules.proofs.Counts.{length-collect}
 use Rattle.store_rules.proofs.GraphRows.{count_edges}
@@ -40,9 +40,9 @@ is_some-node records x = by (nat_eq (kind_at records nodes_file x) 0)
     by false = refl
 
 -- the meta record of the nodes says how many the graph has
-pub count_nodes : (records : Key → Rec) (shape : Shape) → IsSparseStore records shape → (meta_in records nodes_file).live ≡ length (graph_of records).nodes
+pub count_nodes : (records : Key → Rec) (shape : Shape) → IsWellFormed records shape → (meta_in records nodes_file).live ≡ length (graph_of records).nodes
 count_nodes records shape store =
-    let split = store.keeps.split nodes_file refl in
+    let split = store.split nodes_file refl in
     split.1.exact ∙ sym (length-collect _ (node_of records) (is_live records nodes_file) (high records nodes_file) (is_some-node records))
 
 abbrev pub counts_from : ℕ → ℕ → ℕ → ℕ → ℕ → Counts
@@ -59,7 +59,7 @@ counts_in records names =
 
 pub counts-seen : (console : ConsoleView) (state : State) → HoldsGraphs console state → counts_in console.working console.names ≡ counts_of (seen state)
 counts-seen console state held =
-    let keeps = held.working.keeps in
+    let keeps = held.working in
     counts_from-same (count_nodes console.working state.shape held.working) (count_edges console.working state.shape keeps) (count_properties console.working state.shape keeps) (count_blocks console.working state.shape keeps)
     (ap length held.names ∙ ap (λ (graph : Graph). length graph.names) (sym held.working_graph))
     ∙ ap counts_of held.working_graph

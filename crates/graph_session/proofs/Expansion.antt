@@ -115,7 +115,7 @@ pub items-expansion : (records : Records) (shape : Shape) (names : List (List �
 items-expansion records shape names store number label stand direction id rows is =
     ap (items_of label) is
     ∙ items-rows records label (rows_at direction (number ∷ []) id (rows_of records)) (edges_at (graph_of records) direction (label ∷ []) id)
-    (rows_at_are records shape store.store.keeps (number ∷ []) (label ∷ []) stand id direction) (edges_at-labels (graph_of records) label id direction)
+    (rows_at_are records shape store.store (number ∷ []) (label ∷ []) stand id direction) (edges_at-labels (graph_of records) label id direction)
 
 -- what holds of a result's value
 pub ok-then : {T E : Type 0} {P Q : T → Type 0} (result : Result T E) → ((value : T) → P value → Q value) → IfOk result P → IfOk result Q

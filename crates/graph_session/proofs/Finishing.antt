@@ -14,7 +14,7 @@ use Rattle.rec_bytes.specs.declared.key.Key.{Key}
 use Rattle.rec_bytes.specs.declared.record.Rec.{Rec}
 use Rattle.rec_bytes.specs.declared.shape.Shape.{Shape}
 use Rattle.store_rules.specs.Graph.{graph_of, names_of}
-use Rattle.store_rules.specs.Rules.{IsSparseStore}
+use Rattle.store_rules.specs.Rules.{IsWellFormed}
 use Rattle.txn_core.specs.Store.{drafted, state_of, working}
 use Rattle.graph_ops.specs.Store.{graph_in}
 use Rattle.graph_session.specs.Answer.{Settles}
@@ -62,7 +62,7 @@ module _ {D : Type 0} {g : Ghosts D} where
     has-store =
         let none : drafted old.store ≡ working old.store = drafted-none old.store at.no_draft in
         record {
-          store = subst (λ (shape : Shape). IsSparseStore (drafted old.store) shape) at.shape (subst (λ (records : Key → Rec). IsSparseStore records state.shape) (sym none) (held at live told).working);
+          store = subst (λ (shape : Shape). IsWellFormed (drafted old.store) shape) at.shape (subst (λ (records : Key → Rec). IsWellFormed records state.shape) (sym none) (held at live told).working);
           names = names-working at live told ∙ ap names_of (sym none);
         }
 
@@ -161,8 +161,8 @@ module _ {D : Type 0} {g : Ghosts D} where
           settles-kept at live transaction is spelled change (reply_of made.answer) (tells-good made.answer tells) made.weight (keeps-kept made.weight kept)
           (λ told. record {
             store =
-                subst (λ (shape : Shape). IsSparseStore (working new.store) shape) (only.base.shape ∙ sym at.shape)
-                (subst (λ (records : Key → Rec). IsSparseStore records mid.store.base.shape) (sym kept.working) (has-draft told).store.store);
+                subst (λ (shape : Shape). IsWellFormed (working new.store) shape) (only.base.shape ∙ sym at.shape)
+                (subst (λ (records : Key → Rec). IsWellFormed records mid.store.base.shape) (sym kept.working) (has-draft told).store.store);
             named = kept.names ∙ (has-draft told).store.names ∙ ap names_of (sym kept.working);
           })
           (λ told.

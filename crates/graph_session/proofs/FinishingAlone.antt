@@ -13,7 +13,7 @@ use Rattle.rec_bytes.specs.declared.record.Rec.{Rec}
 use Rattle.rec_bytes.specs.declared.shape.Shape.{Shape}
 use Rattle.record_file.specs.Redone.{Redoes}
 use Rattle.store_rules.specs.Graph.{graph_of}
-use Rattle.store_rules.specs.Rules.{IsSparseStore}
+use Rattle.store_rules.specs.Rules.{IsWellFormed}
 use Rattle.txn_core.specs.Base.{SameBeneath}
 use Rattle.txn_core.specs.Store.{committed, drafted, state_of}
 use Rattle.graph_session.specs.Answer.{Settles}
@@ -67,8 +67,8 @@ module _ {D : Type 0} {g : Ghosts D} {begun mid : Session D g} (old new : Sessio
     has-begun : HasStore begun
     has-begun = record {
       store =
-          subst (λ (shape : Shape). IsSparseStore (drafted begun.store) shape) (at.shape ∙ sym same.shape)
-          (subst (λ (records : Key → Rec). IsSparseStore records state.shape) (sym drafted-begun) (held at live told).committed);
+          subst (λ (shape : Shape). IsWellFormed (drafted begun.store) shape) (at.shape ∙ sym same.shape)
+          (subst (λ (records : Key → Rec). IsWellFormed records state.shape) (sym drafted-begun) (held at live told).committed);
       names = names ∙ (held at live told).names ∙ ap (λ (graph : Graph). graph.names) (seen_closed state (is_closed at closed) ∙ sym begun-graph);
     }
 
@@ -160,8 +160,8 @@ module _ {D : Type 0} {g : Ghosts D} {begun mid : Session D g} (old new : Sessio
       alone-draft : g.tells_reads → HasDraft command begun mid made
       alone-draft told = has told (has-begun at told)
 
-      alone-store : g.tells_reads → IsSparseStore (drafted mid.store) state.shape
-      alone-store told = subst (λ (shape : Shape). IsSparseStore (drafted mid.store) shape) (shape-mid ∙ sym at.shape) (alone-draft told).store.store
+      alone-store : g.tells_reads → IsWellFormed (drafted mid.store) state.shape
+      alone-store told = subst (λ (shape : Shape). IsWellFormed (drafted mid.store) shape) (shape-mid ∙ sym at.shape) (alone-draft told).store.store
 
       alone-changes : g.tells_reads → Changes state.shape.limit state.committed command (reply_of made.answer) (graph_of (drafted mid.store))
       alone-changes told =

@@ -61,7 +61,7 @@ module _ {D : Type 0} {g : Ghosts D} where
         none : {state : State} → IsAt g (seen_as s health weight names) state → g.tells_reads → ⊥
         none at told =
             let had = (at.reads told).2 in
-            sound told had.space had.redoes (subst (λ (shape : Shape). finding.IsMade had.space shape) at.shape (record { own = had.store.keeps.ranges.own; metas = had.store.keeps.ranges.metas }))
+            sound told had.space had.redoes (subst (λ (shape : Shape). finding.IsMade had.space shape) at.shape (record { own = had.store.ranges.own; metas = had.store.ranges.metas }))
 
     module _ (own : t.base.own ≡ s.base.own) (no_own : length s.base.own.pairs ≡ 0) (recovered : IsRecovered s.base t.base) (u : Store D g) (reads : OnlyReadsBase t.base u.base) (no_draft : u.draft.pairs ≡ [])
         (later_still : g.faults t.base.disk.now ≤ g.faults u.base.disk.now) where

@@ -16,7 +16,7 @@ use Rattle.record_file.specs.Records.{IsUnmade, record_at}
 use Rattle.record_file.specs.Redone.{Redoes}
 use Rattle.record_file.specs.Unique.{entries_unique}
 use Rattle.store_rules.specs.Graph.{graph_of}
-use Rattle.store_rules.specs.Rules.{IsSparseStore}
+use Rattle.store_rules.specs.Rules.{IsWellFormed}
 use Rattle.graph_session.specs.Console.{TellsAll}
 use Rattle.graph_session.specs.Stands.{AreAdmitted, HoldsAdmitted, IsAdmitted, IsAdmittedByEither, IsMade, Stands}
 use Rattle.graph_session.specs.State.{Admits, Live, Standing, State, graphs_from}
@@ -37,7 +37,7 @@ unmade-not_made content shape graph unmade made =
     let entries : made.redoes.entries ≡ [] = entries_unique made.redoes.entries [] 0 made.redoes.tail 0 content made.redoes.log unmade.log in
     let space : record_at content ≡ made.space = ap (λ (found : List Pairs). redone (record_at content) found) (sym entries) ∙ made.redoes.makes in
     let own : zeros ≡ made.space (meta_key_of meta_file) = sym (unmade.blank meta_file refl) ∙ ap (λ (records : Key → Rec). records (meta_key_of meta_file)) space in
-    none (sym zeros-no_shape ∙ ap shape_of_record own ∙ made.store.keeps.ranges.own)
+    none (sym zeros-no_shape ∙ ap shape_of_record own ∙ made.store.ranges.own)
   where
     none : ¬ (None ≡ Some shape)
     none e = cc
@@ -53,12 +53,12 @@ Stands-only content shape other a b (inr h) (inl k) = absurd (unmade-not_made co
 Stands-only content shape other a b (inr h) (inr k) = IsMade-only content shape other a b h k
 
 -- what redoes to the records of a well-formed store stands for their graph
-pub IsMade-redoes : (content : Files) (space : Key → Rec) (shape : Shape) → Redoes content space → IsSparseStore space shape → IsMade content shape (graph_of space)
+pub IsMade-redoes : (content : Files) (space : Key → Rec) (shape : Shape) → Redoes content space → IsWellFormed space shape → IsMade content shape (graph_of space)
 IsMade-redoes content space shape redoes store = record { space = space; redoes = redoes; store = store; graph_is = refl }
 
 -- the records are those of a well-formed store, and the state admits their graph
 pub record IsOneOf (state : State) (space : Key → Rec) : Type 0 where
-  pub store : IsSparseStore space state.shape
+  pub store : IsWellFormed space state.shape
   pub admits : Admits state (graph_of space)
 
 -- a content that holds an admitted graph stands for it
@@ -99,7 +99,7 @@ admits-only state graph live admits = only (subst (λ (standing : Standing). Con
         sym (subst (λ (k : ℕ). slice_index_or (state.committed ∷ []) k graph ≡ graph) first h.2)
 
 -- the records of a live console's graph
-pub own-one : (state : State) (space : Key → Rec) → state.standing ≡ Live → IsSparseStore space state.shape → graph_of space ≡ state.committed → IsOneOf state space
+pub own-one : (state : State) (space : Key → Rec) → state.standing ≡ Live → IsWellFormed space state.shape → graph_of space ≡ state.committed → IsOneOf state space
 own-one state space live store same = record { store = store; admits = subst (λ (graph : Graph). Admits state graph) (sym same) (admits-own state live) }
 
 -- what is read, and each image, has the fact

@@ -7,7 +7,7 @@ use Rattle.rec_bytes.specs.declared.record.Rec.{Rec}
 use Rattle.rec_bytes.specs.declared.shape.Shape.{Shape}
 use Rattle.plain_graph.specs.Graph.{Graph}
 use Rattle.store_rules.specs.Graph.{graph_of}
-use Rattle.store_rules.specs.Rules.{IsSparseStore}
+use Rattle.store_rules.specs.Rules.{IsWellFormed}
 use Rattle.graph_session.specs.Stands.{AreAdmitted, HoldsAdmitted}
 use Rattle.graph_session.specs.State.{Admits, IsFailed, Live, State, Transaction, health_at, seen}
 use Rattle.graph_session.specs.declared.health.Health.{Health}
@@ -43,9 +43,9 @@ BeginWith names first = (more : List (List ℕ)) × (names ≡ first ++ more)
 -- and those that the open transaction brought.
 pub record HoldsGraphs (console : ConsoleView) (state : State) : Type 0 where
   pub live : IsTrue console.is_live
-  pub committed : IsSparseStore console.committed state.shape
+  pub committed : IsWellFormed console.committed state.shape
   pub committed_graph : graph_of console.committed ≡ state.committed
-  pub working : IsSparseStore console.working state.shape
+  pub working : IsWellFormed console.working state.shape
   pub working_graph : graph_of console.working ≡ seen state
   pub names : console.names ≡ (seen state).names
   pub brought : BeginWith console.names state.committed.names

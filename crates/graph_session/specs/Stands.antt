@@ -8,7 +8,7 @@ use Rattle.rec_bytes.specs.declared.shape.Shape.{Shape}
 use Rattle.record_file.specs.Records.{IsUnmade}
 use Rattle.record_file.specs.Redone.{Redoes}
 use Rattle.store_rules.specs.Graph.{graph_of}
-use Rattle.store_rules.specs.Rules.{IsSparseStore}
+use Rattle.store_rules.specs.Rules.{IsWellFormed}
 use Rattle.graph_session.specs.State.{Admits, State}
 
 -- The entries of the log, laid over the records of the files, make a well-formed store of this
@@ -16,7 +16,7 @@ use Rattle.graph_session.specs.State.{Admits, State}
 pub record IsMade (content : Files) (shape : Shape) (graph : Graph) : Type 0 where
   pub space : Key → Rec
   pub redoes : Redoes content space
-  pub store : IsSparseStore space shape
+  pub store : IsWellFormed space shape
   pub graph_is : graph ≡ graph_of space
 
 -- The content stands for this graph, under this shape; one in which no store was made stands for

@@ -7,7 +7,7 @@ use Rattle.plain_graph.specs.Reply.{Results, Silent, Sound, reply_text}
 use Rattle.rec_bytes.specs.Space.{laid_over}
 use Rattle.rec_bytes.specs.declared.shape.Shape.{Shape}
 use Rattle.store_check.specs.Verdicts.{IsLeastBroken}
-use Rattle.store_rules.specs.Rules.{IsSparseStore}
+use Rattle.store_rules.specs.Rules.{IsWellFormed}
 use Rattle.store_rules.specs.Views.{Records}
 use Rattle.graph_session.specs.Answer.{Gives}
 use Rattle.graph_session.specs.Console.{ConsoleView}
@@ -29,7 +29,7 @@ TellsVerdict records shape (NodeMade id) = ⊥
 TellsVerdict records shape (EdgeMade id) = ⊥
 TellsVerdict records shape (Results results) = ⊥
 TellsVerdict records shape (Counted counts) = ⊥
-TellsVerdict records shape Sound = IsSparseStore records shape
+TellsVerdict records shape Sound = IsWellFormed records shape
 TellsVerdict records shape (Broken file id rule) =
     IsLeastBroken records shape 1 (record { file = file; id = id; rule = rule })
 TellsVerdict records shape (Faulted results fault) = (results ≡ []) × LeavesUnjudged fault

@@ -1,6 +1,5 @@
-//! Scripts that are drawn: nodes, edges and their properties come and go, loops and edges side by side
-//! among them.
-//! Each reply is the one that plain lists foretell.
+//! Scripts that are drawn: nodes, edges and their properties come and go, with loops and edges side
+//! by side. Each reply is the one that plain lists foretell.
 use super::lists::{Console, Element, Given, Line, Pair, Pairs, Way};
 use super::{PLAIN, run_on};
 use crate::Exit;
@@ -14,10 +13,30 @@ const NODES: usize = 6;
 
 const LINES: usize = 600;
 
-/// Numbers of 31 bits, drawn one after another.
+/// The graph of a script: few edges anywhere, or few or many edges of which most are at one node, a
+/// hub.
+#[derive(Clone, Copy, Debug, Drop, PartialEq, Eq)]
+enum Graph {
+    Even,
+    Hub,
+    GreatHub,
+}
+
+impl Graph {
+    /// The limit of the store.
+    fn limit(self) -> u32 {
+        match self {
+            Graph::Even | Graph::Hub => 16,
+            Graph::GreatHub => 80,
+        }
+    }
+}
+
+/// Numbers of 31 bits, drawn one after another, and what is drawn for a graph from them.
 #[derive(Drop)]
 struct Draws {
     state: u64,
+    graph: Graph,
 }
 
 impl Draws {
@@ -29,21 +48,40 @@ impl Draws {
         self.state >> 33
     }
 
+    /// The hub is node 0. Three of four ends are there, so more than half of its edges are loops.
     fn node(&mut self) -> u32 {
+        if self.graph != Graph::Even && self.draw() % 4 > 0 {
+            return 0;
+        }
         (self.draw() % 6) as u32
     }
 
     fn edge(&mut self) -> u32 {
+        if self.graph == Graph::GreatHub {
+            return (self.draw() % 81) as u32;
+        }
         (self.draw() % 17) as u32
     }
 
+    /// One of five names, and of eleven at a hub, whose edges have as many types.
     fn name(&mut self) -> char {
-        match self.draw() % 5 {
+        let drawn = if self.graph == Graph::Even {
+            self.draw() % 5
+        } else {
+            self.draw() % 11
+        };
+        match drawn {
             0 => 'a',
             1 => 'b',
             2 => 't',
             3 => 'u',
-            _ => '_',
+            4 => '_',
+            5 => 'A',
+            6 => 'B',
+            7 => 'C',
+            8 => 'D',
+            9 => 'E',
+            _ => 'F',
         }
     }
 
@@ -107,7 +145,25 @@ impl Draws {
         pairs
     }
 
+    fn new_edge(&mut self, pairs: Pairs) -> Line {
+        let (from, label, to) = (self.node(), self.name(), self.node());
+        Line::Edge {
+            from,
+            label,
+            to,
+            pairs,
+        }
+    }
+
     fn change(&mut self, console: &Console) -> Line {
+        if self.graph == Graph::Even {
+            self.even_change(console)
+        } else {
+            self.hub_change(console)
+        }
+    }
+
+    fn even_change(&mut self, console: &Console) -> Line {
         match self.draw() % 48 {
             0..=3 if console.node_count() < NODES => {
                 let (label, pairs) = (self.name(), self.pairs());
@@ -124,38 +180,63 @@ impl Draws {
                 Line::Unset { element, key }
             }
             _ => {
-                let (from, label, to) = (self.node(), self.name(), self.node());
                 let pairs = self.pairs();
-                Line::Edge {
-                    from,
+                self.new_edge(pairs)
+            }
+        }
+    }
+
+    /// Edges come and go, and little else does.
+    fn hub_change(&mut self, console: &Console) -> Line {
+        match self.draw() % 32 {
+            0 | 1 if console.node_count() < NODES => {
+                let label = self.name();
+                Line::Node {
                     label,
-                    to,
-                    pairs,
+                    pairs: [None, None, None],
                 }
             }
+            0..=2 => Line::Delete(Element::Node(self.node())),
+            3..=12 => Line::Delete(Element::Edge(self.edge())),
+            13 => {
+                let (element, pair) = (self.element(), self.pair());
+                Line::Set { element, pair }
+            }
+            14 => {
+                let pairs = self.pairs();
+                self.new_edge(pairs)
+            }
+            _ => self.new_edge([None, None, None]),
         }
     }
 }
 
-/// How a script is drawn: its seed, the store's threshold, and which share of the words of
-/// transactions stands in it, as one of so many.
+/// How a script is drawn: its seed, its graph, the store's threshold, and which share of the words
+/// of transactions stands in it: one of so many.
 #[derive(Clone, Copy, Debug, Drop)]
 struct Kind {
     seed: u64,
+    graph: Graph,
     threshold: u64,
-    sparse: u64,
+    share: u64,
 }
 
-fn draw_line(draws: &mut Draws, console: &Console, sparse: u64) -> Line {
+fn draw_line(draws: &mut Draws, console: &Console, share: u64) -> Line {
     match draws.draw() % 16 {
         0 | 1 => {
-            if draws.draw().checked_rem(sparse) == Some(0) {
+            if draws.draw().checked_rem(share) == Some(0) {
                 draws.word()
             } else {
                 Line::Stats
             }
         }
-        2 => Line::Vertices,
+        2 => {
+            if draws.draw() % 2 == 0 {
+                Line::Vertices
+            } else {
+                Line::Check
+            }
+        }
         3 | 4 => draws.expansion(),
         _ => draws.change(console),
     }
@@ -163,19 +244,24 @@ fn draw_line(draws: &mut Draws, console: &Console, sparse: u64) -> Line {
 
 /// Checks a script of this kind.
 fn check_drawn(rt: &impl Abort, alloc: Global, kind: Kind) -> Result<(), AllocError> {
-    let mut draws = Draws { state: kind.seed };
-    let mut console = Console::new(alloc, kind.threshold);
+    let limit = kind.graph.limit();
+    let mut draws = Draws {
+        state: kind.seed,
+        graph: kind.graph,
+    };
+    let mut console = Console::new(alloc, kind.threshold, limit as usize);
     let mut input = String::new(alloc);
     let mut want = String::new(alloc);
     for _ in 0..LINES {
-        let line = draw_line(&mut draws, &console, kind.sparse);
+        let line = draw_line(&mut draws, &console, kind.share);
         input.push_str(&line.text(alloc)?)?;
         want.push_str(&console.answer(line)?)?;
     }
     let threshold = kind.threshold;
-    let option = format!(in alloc; "--threshold={threshold}")?;
-    let words: &[&str] = &["nipakeel", "run", "--limit=16", &option];
-    let mut disk = PlainDisk::new(alloc, 16)?;
+    let threshold_option = format!(in alloc; "--threshold={threshold}")?;
+    let limit_option = format!(in alloc; "--limit={limit}")?;
+    let words: &[&str] = &["nipakeel", "run", &limit_option, &threshold_option];
+    let mut disk = PlainDisk::new(alloc, limit)?;
     let ended = run_on(rt, alloc, words, input.as_bytes(), &PLAIN, &mut disk)?;
     assert_eq!(rt; ended.exit, Exit::Done, "{kind:?}");
     assert!(rt;
@@ -188,11 +274,32 @@ fn check_drawn(rt: &impl Abort, alloc: Global, kind: Kind) -> Result<(), AllocEr
 #[test]
 fn drawn_scripts_answer_as_lists_do(rt: HostRuntime) -> Result<(), Fail> {
     for seed in 0..8 {
-        for (threshold, sparse) in [(2, 1), (4, 64), (50, 4)] {
+        for (threshold, share) in [(2, 1), (4, 64), (50, 4)] {
             let kind = Kind {
                 seed,
+                graph: Graph::Even,
                 threshold,
-                sparse,
+                share,
+            };
+            check_drawn(&rt, rt.alloc(), kind)?;
+        }
+    }
+    Ok(())
+}
+
+#[test]
+fn drawn_scripts_of_hubs_answer_as_lists_do(rt: HostRuntime) -> Result<(), Fail> {
+    for seed in 0..4 {
+        for (graph, threshold, share) in [
+            (Graph::Hub, 2, 2),
+            (Graph::Hub, 3, 8),
+            (Graph::GreatHub, 50, 2),
+        ] {
+            let kind = Kind {
+                seed,
+                graph,
+                threshold,
+                share,
             };
             check_drawn(&rt, rt.alloc(), kind)?;
         }

@@ -1,9 +1,6 @@
 //! A console over plain lists, by which the replies to lines are foretold.
 use std::alloc::{AllocError, Global};
 
-/// How many nodes there may be, how many edges, how many properties and how many blocks.
-pub(crate) const LIMIT: usize = 16;
-
 /// What a transaction weighs before its first change, and what it may weigh.
 const LEAST_WEIGHT: u64 = 6;
 
@@ -131,6 +128,7 @@ pub(crate) enum Line {
     Checkpoint,
     Reopen,
     Stats,
+    Check,
     Vertices,
 }
 
@@ -174,6 +172,7 @@ impl Line {
             Line::Checkpoint => String::from_str(alloc, "checkpoint\n"),
             Line::Reopen => String::from_str(alloc, "reopen\n"),
             Line::Stats => String::from_str(alloc, "stats\n"),
+            Line::Check => String::from_str(alloc, "check\n"),
             Line::Vertices => String::from_str(alloc, "g.V()\n"),
         }
     }
@@ -342,12 +341,12 @@ impl Lists {
         )
     }
 
-    /// What a graph with more than the limit of properties or blocks is refused with.
-    fn excess(&self) -> Option<&'static str> {
-        if self.properties.len() > LIMIT {
+    /// What a graph with more than so many properties or blocks is refused with.
+    fn excess(&self, limit: usize) -> Option<&'static str> {
+        if self.properties.len() > limit {
             return Some("error full properties\n");
         }
-        if self.blocks() > LIMIT as u64 {
+        if self.blocks() > limit as u64 {
             return Some("error full strings\n");
         }
         None
@@ -368,13 +367,15 @@ impl Lists {
 pub(crate) struct Console {
     alloc: Global,
     threshold: u64,
+    /// How many nodes there may be, how many edges, how many properties and how many blocks.
+    limit: usize,
     seen: Lists,
     stored: Option<Lists>,
     weight: u64,
 }
 
 impl Console {
-    pub(crate) fn new(alloc: Global, threshold: u64) -> Console {
+    pub(crate) fn new(alloc: Global, threshold: u64, limit: usize) -> Console {
         let seen = Lists {
             nodes: Ids::new(alloc),
             edges: Ids::new(alloc),
@@ -385,6 +386,7 @@ impl Console {
         Console {
             alloc,
             threshold,
+            limit,
             seen,
             stored: None,
             weight: 0,
@@ -414,6 +416,7 @@ impl Console {
             Line::Rollback => self.rollback(),
             Line::Checkpoint | Line::Reopen => self.settle(),
             Line::Stats => self.stats(),
+            Line::Check => self.say("sound\n"),
             Line::Vertices => self.vertices(),
         }
     }
@@ -437,7 +440,7 @@ impl Console {
 
     /// Takes the graph that a change of this weight makes, and answers so; unless it is too much.
     fn take(&mut self, next: Lists, weight: u64, reply: String) -> Result<String, AllocError> {
-        if let Some(refusal) = next.excess() {
+        if let Some(refusal) = next.excess(self.limit) {
             return self.say(refusal);
         }
         if !self.bears(weight) {
@@ -448,7 +451,7 @@ impl Console {
     }
 
     fn make_node(&mut self, label: char, pairs: Pairs) -> Result<String, AllocError> {
-        if self.seen.nodes.live.len() == LIMIT {
+        if self.seen.nodes.live.len() == self.limit {
             return self.say("error full nodes\n");
         }
         let mut next = self.seen.copy()?;
@@ -470,7 +473,7 @@ impl Console {
                 return format!(in self.alloc; "error no node {end}\n");
             }
         }
-        if self.seen.edges.live.len() == LIMIT {
+        if self.seen.edges.live.len() == self.limit {
             return self.say("error full edges\n");
         }
         let ends_weight = self.ends_weight(from, to);

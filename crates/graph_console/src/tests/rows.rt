@@ -34,6 +34,16 @@ pub(crate) type Row<'a> = (&'a [u8], &'a [u8]);
 
 /// The rows' lines are answered so, in one run.
 pub(crate) fn check_rows(rt: &impl Abort, alloc: Global, rows: &[Row]) -> Result<(), AllocError> {
+    check_rows_of(rt, alloc, &["nipakeel", "run"], rows)
+}
+
+/// The same in a run with these words.
+pub(crate) fn check_rows_of(
+    rt: &impl Abort,
+    alloc: Global,
+    words: &[&str],
+    rows: &[Row],
+) -> Result<(), AllocError> {
     let mut input = Vec::new(alloc);
     let mut want = Vec::new(alloc);
     for (line, reply) in rows {
@@ -42,7 +52,7 @@ pub(crate) fn check_rows(rt: &impl Abort, alloc: Global, rows: &[Row]) -> Result
         want.extend_from_slice(reply)?;
         want.push(b'\n')?;
     }
-    check_words(rt, alloc, &["nipakeel", "run"], &input, &want)
+    check_words(rt, alloc, words, &input, &want)
 }
 
 #[test]

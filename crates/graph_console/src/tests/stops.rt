@@ -1,7 +1,7 @@
-//! Scripts that are stopped at each call of the disk: what is opened afterwards is what was answered, with the line in
-//! which the stop came or without it.
+//! Scripts that are stopped at each call of the disk: what is opened afterwards is what was
+//! answered, with the line in which the stop came or without it.
 use super::Ended;
-use super::stored::{CALLS, COUNT, ROOM, plan, run};
+use super::stored::{CALLS, COUNT, ROOM, plan, run, run_words};
 use crate::Exit;
 use disk_model::{Crash, MemoryDisk};
 use std::alloc::{AllocError, Global};
@@ -10,6 +10,14 @@ use std::test::Fail;
 
 /// A line, its reply, and what a later run answers to the probe once the line is stored.
 type Row<'a> = (&'a [u8], &'a [u8], &'a [u8]);
+
+/// The rows of a script, its probe, and what is answered to that where nothing is stored.
+#[derive(Clone, Copy, Drop)]
+struct Script<'a> {
+    rows: &'a [Row<'a>],
+    probe: &'a [u8],
+    nothing: &'a [u8],
+}
 
 /// Counts, and deletes the edge and the node that were made first.
 const PROBE: &[u8] = b"stats\ndelete edge 0\ndelete node 0\n";
@@ -79,6 +87,66 @@ const EDGES: &[Row] = &[
     (b"delete edge 1\n", b"ok\n", BOTH),
 ];
 
+/// Shows the edges of two nodes, and checks the store.
+const EDGES_PROBE: &[u8] = b"g.V(0).bothE()\ng.V(1).bothE()\ncheck\n";
+
+const NO_EDGES: &[u8] = b"end\nend\nsound\n";
+
+/// A loop at node 0, and edge 1 from there to node 1.
+const TWO: &[u8] =
+    b"==>e[0][0-S->0]\n==>e[1][0-A->1]\n==>e[0][0-S->0]\nend\n==>e[1][0-A->1]\nend\nsound\n";
+
+/// Edge 2 besides, back to node 0.
+const THREE: &[u8] =
+    b"==>e[0][0-S->0]\n==>e[1][0-A->1]\n==>e[0][0-S->0]\n==>e[2][1-B->0]\nend\n==>e[2][1-B->0]\n==>e[1][0-A->1]\nend\nsound\n";
+
+/// Edge 2 beside edge 1.
+const DOUBLE: &[u8] =
+    b"==>e[0][0-S->0]\n==>e[1][0-A->1]\n==>e[2][0-A->1]\n==>e[0][0-S->0]\nend\n==>e[1][0-A->1]\n==>e[2][0-A->1]\nend\nsound\n";
+
+/// The same without the loop, with edge 3 back to node 0.
+const LOOPLESS: &[u8] =
+    b"==>e[1][0-A->1]\n==>e[2][0-A->1]\n==>e[3][1-A->0]\nend\n==>e[3][1-A->0]\n==>e[1][0-A->1]\n==>e[2][0-A->1]\nend\nsound\n";
+
+/// Node 0 becomes dense and has a group less again, and then node 1 becomes dense in a transaction.
+/// The last one is open at the end.
+const DENSE: &[Row] = &[
+    (b"begin\n", b"ok\n", NO_EDGES),
+    (b"node a\n", b"node 0\n", NO_EDGES),
+    (b"node a\n", b"node 1\n", NO_EDGES),
+    (b"edge 0 S 0\n", b"edge 0\n", NO_EDGES),
+    (b"edge 0 A 1\n", b"edge 1\n", NO_EDGES),
+    (b"commit\n", b"ok\n", TWO),
+    (b"edge 1 B 0\n", b"edge 2\n", THREE),
+    (b"delete edge 2\n", b"ok\n", TWO),
+    (b"checkpoint\n", b"ok\n", TWO),
+    (b"edge 0 A 1\n", b"edge 2\n", DOUBLE),
+    (b"begin\n", b"ok\n", DOUBLE),
+    (b"edge 1 A 0\n", b"edge 3\n", DOUBLE),
+    (b"delete edge 0\n", b"ok\n", DOUBLE),
+    (b"commit\n", b"ok\n", LOOPLESS),
+    (b"begin\n", b"ok\n", LOOPLESS),
+    (b"delete edge 1\n", b"ok\n", LOOPLESS),
+];
+
+const SCRIPTS: [Script; 3] = [
+    Script {
+        rows: NODES,
+        probe: PROBE,
+        nothing: NOTHING,
+    },
+    Script {
+        rows: EDGES,
+        probe: PROBE,
+        nothing: NOTHING,
+    },
+    Script {
+        rows: DENSE,
+        probe: EDGES_PROBE,
+        nothing: NO_EDGES,
+    },
+];
+
 fn lines_of(alloc: Global, rows: &[Row]) -> Result<Vec<u8>, AllocError> {
     let mut lines = Vec::new(alloc);
     for (line, _, _) in rows {
@@ -97,10 +165,10 @@ fn replies_of(alloc: Global, rows: &[Row]) -> Result<Vec<u8>, AllocError> {
 
 /// What a later run answers to the probe is what was answered, with the line in which the stop came or
 /// without it.
-fn is_kept(rows: &[Row], ended: &Ended, probed: &[u8]) -> bool {
+fn is_kept(script: Script, ended: &Ended, probed: &[u8]) -> bool {
     let mut rest = ended.output.taken();
-    let mut stored = NOTHING;
-    for (_, reply, after) in rows {
+    let mut stored = script.nothing;
+    for (_, reply, after) in script.rows {
         match rest.strip_prefix(reply) {
             Some(later) => {
                 rest = later;
@@ -126,20 +194,20 @@ fn left_of(
 fn check_left(
     rt: &impl Abort,
     alloc: Global,
-    rows: &[Row],
+    script: Script,
     ended: &Ended,
     disk: &MemoryDisk,
     choice: Crash,
 ) -> Result<(), AllocError> {
     let mut left = left_of(alloc, disk, choice, None)?;
-    let again = run(rt, alloc, PROBE, &mut left)?;
+    let again = run(rt, alloc, script.probe, &mut left)?;
     let probed = again.output.taken();
     assert_eq!(rt; again.exit, Exit::Done, "{choice:?}");
-    assert!(rt; is_kept(rows, ended, probed), "{choice:?}: {probed:?}");
+    assert!(rt; is_kept(script, ended, probed), "{choice:?}: {probed:?}");
     Ok(())
 }
 
-/// The lines over a disk that stops at this call.
+/// The lines over a disk that stops at this call. A node with a third edge is dense.
 fn run_stopped(
     rt: &impl Abort,
     alloc: Global,
@@ -147,7 +215,8 @@ fn run_stopped(
     stop: u64,
 ) -> Result<(Ended, MemoryDisk), AllocError> {
     let mut disk = MemoryDisk::new(alloc, 16, ROOM, plan(alloc, &[], Some(stop))?)?;
-    let ended = run(rt, alloc, lines, &mut disk)?;
+    let words = ["nipakeel", "run", "--threshold", "2"];
+    let ended = run_words(rt, alloc, &words, lines, &mut disk)?;
     Ok((ended, disk))
 }
 
@@ -155,14 +224,14 @@ fn run_stopped(
 fn check_script(
     rt: &impl Abort,
     alloc: Global,
-    rows: &[Row],
+    script: Script,
     choice: Crash,
 ) -> Result<(), AllocError> {
-    let lines = lines_of(alloc, rows)?;
-    let replies = replies_of(alloc, rows)?;
+    let lines = lines_of(alloc, script.rows)?;
+    let replies = replies_of(alloc, script.rows)?;
     for stop in 1..=CALLS {
         let (ended, disk) = run_stopped(rt, alloc, &lines, stop)?;
-        check_left(rt, alloc, rows, &ended, &disk, choice)?;
+        check_left(rt, alloc, script, &ended, &disk, choice)?;
         if ended.output.taken() == replies.as_slice() {
             return Ok(());
         }
@@ -172,8 +241,8 @@ fn check_script(
 }
 
 fn check_stops(rt: &impl Abort, alloc: Global, choice: Crash) -> Result<(), AllocError> {
-    for rows in [NODES, EDGES] {
-        check_script(rt, alloc, rows, choice)?;
+    for script in SCRIPTS {
+        check_script(rt, alloc, script, choice)?;
     }
     Ok(())
 }
@@ -209,14 +278,14 @@ fn stops_leave_any_bytes(rt: HostRuntime) -> Result<(), Fail> {
 }
 
 /// Stops the script at each of its calls, and then the opening of what this leaves.
-fn check_openings(rt: &impl Abort, alloc: Global, rows: &[Row]) -> Result<(), AllocError> {
-    let lines = lines_of(alloc, rows)?;
-    let replies = replies_of(alloc, rows)?;
+fn check_openings(rt: &impl Abort, alloc: Global, script: Script) -> Result<(), AllocError> {
+    let lines = lines_of(alloc, script.rows)?;
+    let replies = replies_of(alloc, script.rows)?;
     for stop in 1..=CALLS {
         let (ended, disk) = run_stopped(rt, alloc, &lines, stop)?;
         let mut left = left_of(alloc, &disk, Crash::Fill(1), Some(1 + stop % 32))?;
         let _ = run(rt, alloc, b"stats\n", &mut left)?;
-        check_left(rt, alloc, rows, &ended, &left, Crash::Fill(7))?;
+        check_left(rt, alloc, script, &ended, &left, Crash::Fill(7))?;
         if ended.output.taken() == replies.as_slice() {
             break;
         }
@@ -226,8 +295,8 @@ fn check_openings(rt: &impl Abort, alloc: Global, rows: &[Row]) -> Result<(), Al
 
 #[test]
 fn openings_are_stopped_too(rt: HostRuntime) -> Result<(), Fail> {
-    for rows in [NODES, EDGES] {
-        check_openings(&rt, rt.alloc(), rows)?;
+    for script in SCRIPTS {
+        check_openings(&rt, rt.alloc(), script)?;
     }
     Ok(())
 }

@@ -28,7 +28,7 @@ pub(crate) fn plan(
 }
 
 /// A run of these words over a disk that may hold a store.
-fn run_words<D: Disk>(
+pub(crate) fn run_words<D: Disk>(
     rt: &impl Abort,
     alloc: Global,
     words: &[&str],
