@@ -13,6 +13,8 @@ PROGRAM = ROOT / "crates/graph_console/out/graph_console"
 SECONDS = 60
 # The reply to `check` where the store keeps all its rules.
 SOUND = b"sound\n"
+# The words with which a new store makes a node dense by its third edge.
+DENSE_AT_THREE = "run", "--threshold", "2"
 
 
 class Skipped(Exception):
