@@ -1,0 +1,81 @@
+ghost use Rattle.std.specs.Prelude.{◌≡◌, OnOk};
+ghost use Rattle.fault_count.specs.Cause.{HasCause};
+ghost use Rattle.disk_model.specs.Spans.{OnlyReads};
+ghost use Rattle.rec_bytes.specs.Key.{IsKey};
+ghost use Rattle.page_cache.specs.Pages.{IsPage, page_of, record_in};
+
+use disk_model::Disk;
+use rec_bytes::{DiskFault, Key, RECORD_BYTES, Rec};
+use std::alloc::{AllocError, Global};
+use std::marker::Model;
+
+// How many records a page has, and how many bytes.
+const PAGE_RECORDS: u32 = 64;
+
+const PAGE_BYTES: usize = 4_096;
+
+/// Which page: its file, and its number in the file. Its first record has 64 times that number.
+#[derive(Clone, Copy, Debug, PartialEq, Eq, Hash)]
+pub struct PageKey {
+    pub file: u8,
+    pub number: u32,
+}
+
+impl PageKey {
+    // The page of a record.
+    pub(crate) fn of(key: Key) -> PageKey
+        ensures { result ≡ page_of key }
+    {
+        PageKey {
+            file: key.file,
+            number: key.id / PAGE_RECORDS,
+        }
+    }
+}
+
+/// The bytes of a page. They stand on the heap, so that a cache moves a pointer.
+#[derive(Drop)]
+pub(crate) struct Page {
+    bytes: Box<[u8; PAGE_BYTES]>,
+}
+
+impl Model for Page {
+    ghost use Rattle.std.specs.Prelude.{ℕ, List};
+
+    ghost Value = { List ℕ };
+
+    ghost view = { λ p. p.bytes.value };
+}
+
+impl Page {
+    // Room for a page, of zeros.
+    pub(crate) fn new(alloc: Global) -> Result<Page, AllocError> {
+        Ok(Page {
+            bytes: Box::new(alloc, [0; PAGE_BYTES])?,
+        })
+    }
+
+    // Reads the page of a record.
+    pub(crate) fn read<D: Disk>(&mut self, disk: &mut D, key: Key) -> Result<(), DiskFault>
+        requires { IsKey key }
+        ensures bytes { D.tells_reads
+            → OnOk result (IsPage (D.reads disk.old) (page_of key) self.new) }
+        ensures only_reads { OnlyReads D.Disk disk.old disk.new }
+        ensures cause { HasCause (D.faults disk.old) (D.faults disk.new) result }
+    {
+        let page = PageKey::of(key);
+        let at = PAGE_BYTES as u64 * page.number as u64;
+        disk.read(page.file, at, &mut *self.bytes)
+    }
+
+    // The record of a number, of this page.
+    pub(crate) fn record(&self, id: u32) -> Rec
+        ensures { result ≡ record_in self.now id }
+    {
+        let at = (id % PAGE_RECORDS) as usize * RECORD_BYTES;
+        let mut rec = Rec::ZEROS;
+        rec.bytes
+            .copy_from_slice(&self.bytes[at..at + RECORD_BYTES]);
+        rec
+    }
+}
