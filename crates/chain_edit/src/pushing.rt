@@ -1,4 +1,4 @@
-ghost use Rattle.std.specs.Prelude.{◌≡◌, ◌∷◌, [], ℕ, List, IfErr, OnOk};
+ghost use Rattle.std.specs.Prelude.{◌≡◌, ◌∷◌, [], ℕ, List, IfErr, IfOk, OnOk};
 ghost use Rattle.rec_bytes.specs.Key.{IsKey};
 ghost use Rattle.rec_bytes.specs.Space.{after_get, WritesOnly};
 ghost use Rattle.store_rules.specs.Rules.{first_of};
@@ -12,15 +12,15 @@ use crate::links::{RANGE_RULE, back, set_next, test_link};
 use crate::{ChainFault, Head};
 use rec_bytes::{Damage, Space};
 
-/// Puts a relationship at the front of a chain of the node. The head is damaged where its link
-/// leads nowhere, and then nothing is written.
+/// Puts a relationship at the front of a chain of the node, and answers the one that stood first,
+/// or `NIL`. The head is damaged where its link leads nowhere, and then nothing is written.
 #[tactic(auto, unfolding(crate::specs::Pushing::pushed))]
 pub fn push_front<S: Space>(
     space: &mut S,
     head: Head,
     node: u32,
     rel: u32,
-) -> Result<(), ChainFault>
+) -> Result<u32, ChainFault>
     requires head { IsHead (head_of head) }
     requires rel { IsKey (rel_key rel) }
     ensures chains { S.tells → OnOk result ((xs : List ℕ)
@@ -29,6 +29,8 @@ pub fn push_front<S: Space>(
         rel xs) }
     ensures ok { S.tells
         → OnOk result (S.state space.new ≡ pushed (S.state space.old) (head_of head) node rel) }
+    ensures first { S.tells → IfOk result
+        (λ first. first ≡ first_of (S.state space.old).records (head_of head)) }
     ensures damaged { S.tells → IfErr result (IsPushFault (S.state space.old) (head_of head)) }
     ensures sound { S.tells
         → IsRightLink (S.state space.old) (first_of (S.state space.old).records (head_of head))
@@ -39,6 +41,8 @@ pub fn push_front<S: Space>(
     ensures neighbours { S.tells → WritesOnly (S.state space.old) (S.state space.new)
         (rel_key (first_of (S.state space.old).records (head_of head)) ∷ rel_key rel ∷ head.key
         ∷ []) }
+    ensures wrote { IfOk result (λ first. WritesOnly (S.state space.old) (S.state space.new)
+        (rel_key first ∷ rel_key rel ∷ head.key ∷ [])) }
     ensures writes { (first : ℕ) × WritesOnly (S.state space.old) (S.state space.new)
         (rel_key first ∷ rel_key rel ∷ head.key ∷ []) }
     ensures shape { S.tells → (S.state space.new).shape ≡ (S.state space.old).shape }
@@ -57,5 +61,5 @@ pub fn push_front<S: Space>(
     set_next(space, rel, node, first)?;
     rec.set_number(head.field, rel);
     space.put(head.key, rec)?;
-    Ok(())
+    Ok(first)
 }

@@ -130,13 +130,6 @@ has_degree s names id store there = by (nodes.row_at s.records id) refl
     by None is = absurd (clash (sym there ∙ node_missing s id (sym is)))
     by (Some row) is = record { row = row; found = is; is = found_in s names id row.degree store (record { row = row; found = is; is = refl }) }
 
--- it has one degree
-pub same_degree : (records : Records) (id a b : ℕ) → HasDegree records id a → HasDegree records id b → a ≡ b
-same_degree records id a b p q = sym p.is ∙ ap (λ (r : NodeRow). r.degree) (inner p.row q.row (sym p.found ∙ q.found)) ∙ q.is
-  where
-    inner : (r t : NodeRow) → Some r ≡ Some t → r ≡ t
-    inner r t e = cc
-
 -- it keeps it where the elements stay
 pub degree_kept : (s u : State) (names c : List (List ℕ)) (id n : ℕ) → IsStore s names → KeepsElements s u c → HasDegree s.records id n → HasDegree u.records id n
 degree_kept s u names c id n store kept has =

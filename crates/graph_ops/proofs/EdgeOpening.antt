@@ -31,12 +31,13 @@ one_group h = by (nat_eq h.key.file format.groups_file)
     by true = omega arith
     by false = omega arith
 
-module _ (s : State) (names : List (List ℕ)) (label from from_degree to to_degree : ℕ) (can : CanLink s names label from from_degree to to_degree) where
+module _ (s : State) (names : List (List ℕ)) (threshold label from from_degree to to_degree : ℕ) (can : CanLink s names threshold label from from_degree to to_degree) where
   abbrev row : ℕ → RelRow
   row id = edge_row id label from to
 
-  pub source_can : (side : Side) → side ≡ side_at from from to → (id : ℕ) → CanOpen s from from_degree label side (row id) []
+  pub source_can : (side : Side) → side ≡ side_at from from to → (id : ℕ) → CanOpen s from from_degree threshold label side (row id) []
   source_can side is id = record {
+    limit = can.limit;
     keeps = can.store.store;
     used = found_used s names from from_degree can.store can.leaves;
     counted = sym (found_degree s names from from_degree can.store can.leaves);
@@ -71,8 +72,9 @@ module _ (s : State) (names : List (List ℕ)) (label from from_degree to to_deg
       high_same : (meta_of t format.names_file) ≡ (meta_of s format.names_file)
       high_same = (first 0).regroups.metas format.names_file (λ e. omega arith)
 
-      pub target_can : (side : Side) → side ≡ side_at to from to → (id : ℕ) → CanOpen t to to_degree label side (row id) made
+      pub target_can : (side : Side) → side ≡ side_at to from to → (id : ℕ) → CanOpen t to to_degree threshold label side (row id) made
       target_can side is id = record {
+        limit = can.limit ∙ sym (ap (λ (h : Shape). h.threshold) (first 0).regroups.shape);
         keeps = (first 0).keeps;
         used = λ free. found_used s names to to_degree can.store can.enters (sym ((first 0).regroups.kinds to (λ e. differ (sym e))) ∙ free);
         counted = (first 0).regroups.degrees to ∙ enters_is;

@@ -1,7 +1,10 @@
 -- Which records are written where the ends of a new edge are opened.
-use Rattle.std.proofs.Common.{◌≡◌, ◌≢◌, ℕ, ◌+◌, ◌*◌, ◌≤◌, nat_eq, Bool, true, false, cond, List, ◌∷◌, ◌++◌, Result, Ok, Err, IfOk, inl, inr, ⊎_elim, arith, refl}
+use Rattle.std.proofs.Common.{◌≡◌, ◌≢◌, ℕ, ◌+◌, ◌≤◌, true, List, ◌∷◌, ◌++◌, Result, Ok, Err, inl, inr, ⊎_elim, arith, refl}
 use Rattle.std.specs.Prelude.{OnErr}
+use Rattle.std.proofs.lemmas.Bool.Decides.{nat_tests}
 use Rattle.std.proofs.lemmas.List.{length-append}
+use Rattle.rec_bytes.specs.declared.shape.Shape.{Shape}
+use Rattle.rec_bytes.specs.Shape.{is_allowed}
 use Rattle.store_rules.proofs.NumberLaws.{eq_false, eq_true}
 use Rattle.rec_bytes.specs.declared.key.Key.{Key}
 use Rattle.rec_bytes.specs.Space.{IsAmong, State}
@@ -9,64 +12,25 @@ use Rattle.rec_bytes.proofs.Spaces.{writes_more, writes_then}
 use Rattle.store_rules.specs.Writes.{WritesAtMost, WritesBeside, meta_keys}
 use Rattle.rel_store.specs.RelRecord.{rel_key}
 use Rattle.node_store.specs.NodeRecord.{node_key}
-use Rattle.group_store.specs.Opening.{WritesOpened, dense_writes, moved_writes}
+use Rattle.group_store.specs.Opening.{WritesOpened, moved_writes}
 use Rattle.graph_ops.specs.declared.edge_end.BothEnds.{BothEnds}
 use Rattle.graph_ops.specs.declared.edge_end.EdgeEnd.{EdgeEnd}
-use Rattle.graph_ops.specs.EdgeAdding.{degree_weight, degrees_weight}
 use Rattle.graph_ops.specs.EdgeJoining.{WritesJoined, joined_keys}
 use Rattle.graph_ops.specs.EdgeEnds.{IsEdgeEnd}
-use Rattle.graph_ops.specs.EdgeOpening.{WritesEndsOpened, ends_moved, ends_writes, opened_keys}
+use Rattle.graph_ops.specs.EdgeOpening.{WritesEndsOpened, ends_moved, opened_keys}
 use Rattle.graph_ops.specs.declared.change_fault.ChangeFault.{ChangeFault}
 use Rattle.graph_ops.proofs.JoinWrites.{joined_written}
-use Rattle.store_rules.proofs.WriteLaws.{among_both, among_left, among_right, then_written}
+use Rattle.store_rules.proofs.WriteLaws.{among_both, among_left, among_right, more_written, then_written}
 use Rattle.group_store.proofs.GroupWrites.{own_both}
 
 -- ---- the ends that become dense
 
 -- the writes of both ends are those of each; a loop has one
-pub loop_writes : (threshold from from_degree to to_degree : ℕ) → from ≡ to → ends_writes threshold from from_degree to to_degree ≡ dense_writes threshold from_degree
-loop_writes threshold from from_degree to to_degree loop = rw (eq_true from to loop) (omega arith)
-
-pub pair_writes : (threshold from from_degree to to_degree : ℕ) → from ≢ to → ends_writes threshold from from_degree to to_degree ≡ dense_writes threshold from_degree + dense_writes threshold to_degree
-pair_writes threshold from from_degree to to_degree differ = rw (eq_false from to differ) refl
-
--- an end writes at most twice what it weighs, and nothing where it weighs nothing
-end_double : (threshold degree : ℕ) → dense_writes threshold degree ≤ 2 * degree_weight threshold degree
-end_double threshold degree = by (nat_eq degree threshold)
-  where
-    by : (b : Bool) → cond b (4 * threshold) 0 ≤ 2 * cond b (2 * (threshold + 1)) 0
-    by true = omega arith
-    by false = omega arith
-
-pub ends_double : (threshold from from_degree to to_degree : ℕ) → ends_writes threshold from from_degree to to_degree ≤ 2 * degrees_weight threshold from from_degree to to_degree
-ends_double threshold from from_degree to to_degree = by (nat_eq from to)
-  where
-    by : (b : Bool) → dense_writes threshold from_degree + cond b 0 (dense_writes threshold to_degree) ≤ 2 * (degree_weight threshold from_degree + cond b 0 (degree_weight threshold to_degree))
-    by true = let f = end_double threshold from_degree in omega arith
-    by false = let f = end_double threshold from_degree in let t = end_double threshold to_degree in omega arith
-
--- ---- so where the store keeps the rules
-
 pub loop_moved : (threshold from from_degree to to_degree : ℕ) → from ≡ to → ends_moved threshold from from_degree to to_degree ≡ moved_writes threshold from_degree
 loop_moved threshold from from_degree to to_degree loop = rw (eq_true from to loop) (omega arith)
 
 pub pair_moved : (threshold from from_degree to to_degree : ℕ) → from ≢ to → ends_moved threshold from from_degree to to_degree ≡ moved_writes threshold from_degree + moved_writes threshold to_degree
 pair_moved threshold from from_degree to to_degree differ = rw (eq_false from to differ) refl
-
--- an end writes at most what it weighs
-end_weighs : (threshold degree : ℕ) → moved_writes threshold degree ≤ degree_weight threshold degree
-end_weighs threshold degree = by (nat_eq degree threshold)
-  where
-    by : (b : Bool) → cond b (2 * threshold) 0 ≤ cond b (2 * (threshold + 1)) 0
-    by true = omega arith
-    by false = omega arith
-
-pub ends_weigh : (threshold from from_degree to to_degree : ℕ) → ends_moved threshold from from_degree to to_degree ≤ degrees_weight threshold from from_degree to to_degree
-ends_weigh threshold from from_degree to to_degree = by (nat_eq from to)
-  where
-    by : (b : Bool) → moved_writes threshold from_degree + cond b 0 (moved_writes threshold to_degree) ≤ degree_weight threshold from_degree + cond b 0 (degree_weight threshold to_degree)
-    by true = let f = end_weighs threshold from_degree in omega arith
-    by false = let f = end_weighs threshold from_degree in let t = end_weighs threshold to_degree in omega arith
 
 -- ---- the heads that are opened
 
@@ -146,8 +110,16 @@ module _ (s t u : State) (rel : ℕ) (ends : BothEnds) (count : ℕ) (is_source 
       before_keys : List Key
       before_keys = opened_keys ends.source ++ opened_keys ends.target ++ opened.keys ++ meta_keys
 
--- whether it joined them or not
-pub put_few : (s t u : State) (ends : BothEnds) → IsEdgeEnd ends.source → IsEdgeEnd ends.target → WritesAtMost 1606 s t → (result : Result ℕ ChangeFault) → IfOk result (λ id. WritesJoined t u id ends.source ends.target)
-    → OnErr result ((id : ℕ) × WritesJoined t u id ends.source ends.target) → WritesAtMost 1613 s u
-put_few s t u ends source target few (Ok id) joins failed = then_written few (joined_written t u id ends.source ends.target source.own target.own joins)
-put_few s t u ends source target few (Err fault) joins failed = then_written few (joined_written t u failed.0 ends.source ends.target source.own target.own failed.1)
+-- what is written where it joins none
+pub put_failed : {n : ℕ} (s t u : State) (ends : BothEnds) → IsEdgeEnd ends.source → IsEdgeEnd ends.target → WritesAtMost n s t → (result : Result ℕ ChangeFault) → OnErr result ((id : ℕ) × WritesJoined t u id ends.source ends.target)
+    → OnErr result (WritesAtMost (n + 7) s u)
+put_failed s t u ends source target few (Ok id) failed = tt
+put_failed s t u ends source target few (Err fault) failed = then_written few (joined_written t u failed.0 ends.source ends.target source.own target.own failed.1)
+
+pub err_more : (n m : ℕ) (s t : State) → n ≤ m → (result : Result ℕ ChangeFault) → OnErr result (WritesAtMost n s t) → OnErr result (WritesAtMost m s t)
+err_more n m s t le (Ok id) w = tt
+err_more n m s t le (Err fault) w = more_written le w
+
+-- no store has a greater threshold
+pub most_threshold : (shape : Shape) → is_allowed shape ≡ true → shape.threshold ≤ 200
+most_threshold shape allowed = grind (arith, nat_tests)

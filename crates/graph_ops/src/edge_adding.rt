@@ -1,5 +1,5 @@
 ghost use Rattle.std.specs.Prelude.{◌≡◌, ◌≤◌, ◌<◌, ◌++◌, ◌+◌, ◌-◌, ◌*◌, ◌∷◌, ℕ, List, IfErr, IfOk};
-ghost use Rattle.std.specs.Prelude.{IsErr, OnErr, OnOk, length};
+ghost use Rattle.std.specs.Prelude.{IsErr, OnErr, length};
 ghost use Rattle.plain_graph.specs.Changes.{properties_weight};
 ghost use Rattle.plain_graph.specs.Forms.{HasForm};
 ghost use Rattle.plain_graph.specs.Graph.{UsesNames};
@@ -57,20 +57,9 @@ pub fn add_edge<S: Space>(
     ensures light { IfOk result (λ added. added.weight + 6 ≤ 2048) }
     ensures prefix { (rest : List (List ℕ)) × (names.new.names ≡ names.old.names ++ rest) }
     ensures shape { S.tells → (S.state space.new).shape ≡ (S.state space.old).shape }
-    ensures exact { S.tells → IfOk result (λ added.
-        IsStore (S.state space.old) names.old.names
-        → WritesAtMost added.weight (S.state space.old) (S.state space.new)) }
-    ensures writes { S.tells → IfOk result (λ added.
-        WritesAtMost (2 * added.weight) (S.state space.old) (S.state space.new)) }
-    ensures weighed { S.tells → (from_degree to_degree : ℕ)
-        → HasDegree (S.state space.old).records from from_degree
-        → HasDegree (S.state space.old).records to to_degree
-        → degrees_weight (S.state space.old).shape.threshold from from_degree to to_degree ≡ 0
-        → IfOk result (λ added.
+    ensures writes { IfOk result (λ added.
         WritesAtMost added.weight (S.state space.old) (S.state space.new)) }
-    ensures few_writes { OnOk result (WritesAtMost 2384
-        (S.state space.old) (S.state space.new)) }
-    ensures refused_writes { OnErr result (WritesAtMost 2384
+    ensures refused_writes { OnErr result (WritesAtMost 1584
         (S.state space.old) (S.state space.new)) }
     ensures onward { S.onward space.old space.new }
     ensures cause { HasChangeCause (S.faults space.old) (S.faults space.new) result }
@@ -79,10 +68,11 @@ pub fn add_edge<S: Space>(
     let source = node_degree(space, from)?;
     let target = node_degree(space, to)?;
     test_room(space, RELATIONSHIPS, 1)?;
-    let prepared = prepare(space, names, label, pairs)?;
+    // What is weighed here bounds what the ends write, whatever the space says later.
     let threshold = space.shape().threshold as u32;
     let ends = ends_weight(threshold, from, source, to, target);
-    let id = put_edge(space, prepared.label, from, source, to, target)?;
+    let prepared = prepare(space, names, label, pairs)?;
+    let id = put_edge(space, threshold, prepared.label, from, source, to, target)?;
     put_properties(space, edge_owner(id), &prepared.assigned, pairs)?;
     Ok(Added {
         id,

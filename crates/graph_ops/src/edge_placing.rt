@@ -1,6 +1,6 @@
 //! What a new edge writes: its record, without properties, and the chains of its ends.
 
-ghost use Rattle.std.specs.Prelude.{◌≡◌, ◌+◌, ℕ, List, Some, IfErr, IfOk, slice_get};
+ghost use Rattle.std.specs.Prelude.{◌≡◌, ◌≤◌, ◌+◌, ℕ, List, Some, IfErr, IfOk, OnErr, slice_get};
 ghost use Rattle.plain_graph.specs.declared.command.Target.TheVariants as targets;
 ghost use Rattle.rec_bytes.specs.Format.{nodes_file, relationships_file};
 ghost use Rattle.rec_bytes.specs.Key.{IsKey};
@@ -9,7 +9,7 @@ ghost use Rattle.rel_store.specs.RelRecord.{rel_key};
 ghost use Rattle.store_rules.specs.Views.{key_in};
 ghost use Rattle.store_rules.specs.Writes.{WritesAtMost, WritesBeside};
 ghost use Rattle.graph_ops.specs.ChangeFault.{HasChangeCause, IsOutside, MayComeLate};
-ghost use Rattle.graph_ops.specs.EdgeOpening.{ends_moved, ends_writes};
+ghost use Rattle.graph_ops.specs.EdgeOpening.{ends_moved};
 ghost use Rattle.graph_ops.specs.EdgePlacing.{PutsEdge};
 ghost use Rattle.graph_ops.specs.NodeDeleting.{HasDegree};
 ghost use Rattle.graph_ops.specs.Owners.{IsMissing};
@@ -40,10 +40,11 @@ pub(crate) fn node_degree<R: Reads>(space: &mut R, id: u32) -> Result<u32, Chang
 }
 
 /// Writes the record of a new relationship without properties, puts it into the chains of its ends,
-/// and answers its identifier. The degrees are those before; an end whose degree is the threshold
-/// becomes dense.
+/// and answers its identifier. The degrees are those before; an end whose degree is the threshold,
+/// which is the space's, becomes dense.
 pub(crate) fn put_edge<S: Space>(
     space: &mut S,
+    threshold: u32,
     label: u32,
     from: u32,
     from_degree: u32,
@@ -52,33 +53,31 @@ pub(crate) fn put_edge<S: Space>(
 ) -> Result<u32, ChangeFault>
     requires from { IsKey (key_in nodes_file from) }
     requires to { IsKey (key_in nodes_file to) }
-    ensures put { S.tells → IfOk result (λ id. (names : List (List ℕ)) (text : List ℕ)
+    requires threshold { threshold ≤ 200 }
+    ensures put { S.tells → threshold ≡ (S.state space.old).shape.threshold
+        → IfOk result (λ id. (names : List (List ℕ)) (text : List ℕ)
         → IsStore (S.state space.old) names → slice_get names label ≡ Some text
         → HasDegree (S.state space.old).records from from_degree
         → HasDegree (S.state space.old).records to to_degree
         → PutsEdge (S.state space.old) (S.state space.new) names from text to id) }
-    ensures sound { S.tells → (names : List (List ℕ)) (text : List ℕ)
+    ensures sound { S.tells → threshold ≡ (S.state space.old).shape.threshold
+        → (names : List (List ℕ)) (text : List ℕ)
         → IsStore (S.state space.old) names → slice_get names label ≡ Some text
         → HasDegree (S.state space.old).records from from_degree
         → HasDegree (S.state space.old).records to to_degree
         → HasRoom (S.state space.old) relationships_file 1 → IfErr result IsOutside }
     ensures key { IfOk result (λ id. IsKey (key_in relationships_file id)) }
     ensures shape { S.tells → (S.state space.new).shape ≡ (S.state space.old).shape }
-    ensures exact { S.tells → IfOk result (λ id. (names : List (List ℕ)) (text : List ℕ)
-        → IsStore (S.state space.old) names → slice_get names label ≡ Some text
-        → HasDegree (S.state space.old).records from from_degree
-        → HasDegree (S.state space.old).records to to_degree
-        → WritesBeside (rel_key id)
-        (8 + ends_moved (S.state space.old).shape.threshold from from_degree to to_degree)
+    ensures writes { IfOk result (λ id. WritesBeside (rel_key id)
+        (8 + ends_moved threshold from from_degree to to_degree)
         (S.state space.old) (S.state space.new)) }
-    ensures writes { S.tells → IfOk result (λ id. WritesBeside (rel_key id)
-        (8 + ends_writes (S.state space.old).shape.threshold from from_degree to to_degree)
+    ensures err_writes { OnErr result (WritesAtMost
+        (13 + ends_moved threshold from from_degree to to_degree)
         (S.state space.old) (S.state space.new)) }
-    ensures few_writes { WritesAtMost 1613 (S.state space.old) (S.state space.new) }
     ensures late { IfErr result MayComeLate }
     ensures onward { S.onward space.old space.new }
     ensures cause { HasChangeCause (S.faults space.old) (S.faults space.new) result }
 {
-    let ends = open_ends(space, label, from, from_degree, to, to_degree)?;
+    let ends = open_ends(space, threshold, label, from, from_degree, to, to_degree)?;
     join_edge(space, label, ends.source, ends.target)
 }

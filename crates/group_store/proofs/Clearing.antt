@@ -174,7 +174,7 @@ module _ (s : State) (node most : ℕ) (empty : List ℕ) (keeps : KeepsRules s.
   pub rest : List ℕ
   rest = node_list.members
 
-  at_node : (x : ℕ) (row : RelRow) → rels x ≡ Some row → IsEnd node row → In x rest
+  pub at_node : (x : ℕ) (row : RelRow) → rels x ≡ Some row → IsEnd node row → In x rest
   unfolding rest
   at_node x row is end = node_list.all x (record { row = row; live = is; on = inl (refl, end) })
 

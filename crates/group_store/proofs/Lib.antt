@@ -1,6 +1,7 @@
 pub mod ChainHeads
 pub mod Clearing
 pub mod Closings
+pub mod Comings
 pub mod DropSteps
 pub mod DroppedRules
 pub mod Drops
@@ -19,8 +20,8 @@ pub mod Openings
 pub mod Opens
 pub mod OwnGroups
 pub mod OwnRoom
-pub mod OwnWrites
 pub mod Regrouping
 pub mod Seeks
 pub mod Spreads
+pub mod Turns
 pub mod UnknownKinds

@@ -34,6 +34,7 @@ use Rattle.group_store.specs.declared.side.Side.{Side}
 use Rattle.group_store.specs.declared.side.Side.TheVariants.{Out, In as Into, Loop}
 use Rattle.group_store.specs.GroupChain.{IsGroupOf}
 use Rattle.group_store.specs.GroupRecord.{group_key}
+use Rattle.group_store.specs.Moving.{HasCome}
 use Rattle.group_store.specs.Sides as sides
 use Rattle.group_store.specs.Sides.{group_head, side_at}
 use Rattle.group_store.specs.Spreading.{IsHeadOf, IsLinkedBut, IsSpread, KeepsBut, StandsBut}
@@ -288,9 +289,11 @@ module _ (s : State) (node rel g : ℕ) (row : RelRow) (rest : List ℕ) (most :
     mark = (keeps.others.ranges.metas format.relationships_file refl).high;
   }
 
-  -- it is one at the node
-  pub first_end : (first_of t.records head ≡ format.nil) ⊎ ((q : RelRow) × (rels (first_of t.records head) ≡ Some q) × IsEnd node q)
-  first_end = ⊎_elim (λ none. inl none) (λ k. let a = here.only (first_of t.records head) k in inr (a.stands.row, a.stands.live, end_on kind groups head node a.stands.row (inr owned) a.stands.on)) first_member
+  -- it is one at the node, which came there
+  pub first_end : (first_of t.records head ≡ format.nil) ⊎ HasCome s.records node (rel ∷ rest) (first_of t.records head)
+  first_end = ⊎_elim (λ none. inl none)
+      (λ k. let a = here.only (first_of t.records head) k in
+      inr (record { row = a.stands.row; live = a.stands.live; end = end_on kind groups head node a.stands.row (inr owned) a.stands.on; apart = none_left head (first_of t.records head) owned a })) first_member
 
   -- ---- the first two rules, and rows
   stepped : HasStepped s.records now.records s.shape node

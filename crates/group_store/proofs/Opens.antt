@@ -1,16 +1,14 @@
 -- The head that a new relationship comes to: what opening it leaves of the store.
-use Rattle.std.proofs.Common.{◌≡◌, ◌≢◌, ℕ, ◌+◌, ◌*◌, ◌≤◌, ◌<◌, true, List, [], ◌∷◌, length, refl, sym, ap, ◌∙◌, subst, arith}
-use Rattle.std.proofs.lemmas.Bool.Decides.{nat_tests}
+use Rattle.std.proofs.Common.{◌≡◌, ◌≢◌, ℕ, ◌+◌, ◌*◌, ◌<◌, List, [], ◌∷◌, length, refl, sym, ap, ◌∙◌, subst, arith}
 use Rattle.rec_bytes.specs.declared.key.Key.{Key}
 use Rattle.rec_bytes.specs.declared.meta.Meta.{Meta}
 use Rattle.rec_bytes.specs.declared.shape.Shape.{Shape}
 use Rattle.rec_bytes.specs.Format as format
 use Rattle.rec_bytes.specs.RecordFiles.{room_of}
-use Rattle.rec_bytes.specs.Shape.{is_allowed}
 use Rattle.rec_bytes.specs.Space.{SameButReads, State, meta_of}
 use Rattle.store_rules.specs.Ends.{Regroups}
 use Rattle.store_rules.specs.Rules.{Head, KeepsRules, node_head}
-use Rattle.store_rules.specs.Views.{GroupRow, Records, RelRow, degree, group_at, group_in, kind_at, rec_at, rel_at}
+use Rattle.store_rules.specs.Views.{GroupRow, Records, RelRow, group_at, group_in, kind_at, rec_at, rel_at}
 use Rattle.store_rules.specs.Writes.{WritesBeside}
 use Rattle.store_rules.proofs.NumberLaws.{eq_true}
 use Rattle.store_rules.proofs.ViewLaws.{some_row}
@@ -19,7 +17,7 @@ use Rattle.group_store.specs.declared.side.Side.{Side}
 use Rattle.group_store.specs.Densing.{BecomesDense, CanBecomeDense, HasDenseRoom}
 use Rattle.node_store.specs.NodeRecord.{node_key}
 use Rattle.group_store.specs.GroupChain.{IsDense, IsGroupOf}
-use Rattle.group_store.specs.Opening.{CanOpen, CanOpenGroup, HasGroupRoom, OpensChain, WritesOpened, dense_writes, moved_writes}
+use Rattle.group_store.specs.Opening.{CanOpen, CanOpenGroup, HasGroupRoom, OpensChain, WritesOpened, moved_writes}
 use Rattle.group_store.specs.Sides.{group_head}
 use Rattle.group_store.specs.Spreading.{HasOpened, KeepsBut, StandsBut}
 use Rattle.group_store.proofs.ChainHeads.{at_group, at_node, sparse_unless}
@@ -92,7 +90,7 @@ module _ (s t : State) (node label g : ℕ) (side : Side) (row : RelRow) (empty 
 
 -- ---- a node whose head is opened
 
-module _ (s z : State) (same : SameButReads s z) (node degree_is label : ℕ) (side : Side) (row : RelRow) (empty : List ℕ) (can : CanOpen s node degree_is label side row empty) where
+module _ (s z : State) (same : SameButReads s z) (node degree_is threshold label : ℕ) (side : Side) (row : RelRow) (empty : List ℕ) (can : CanOpen s node degree_is threshold label side row empty) where
   pub group_can : IsDense s.records node → CanOpenGroup z node label side row empty
   group_can dense = subst (λ (q : State). CanOpenGroup q node label side row empty) (sym same) (record { keeps = can.keeps; dense = dense; named = can.named; at = can.at })
 
@@ -106,19 +104,19 @@ module _ (s z : State) (same : SameButReads s z) (node degree_is label : ℕ) (s
     sparse : kind_at s.records format.nodes_file node ≡ format.sparse
     sparse = sparse_unless s.records s.shape node can.keeps.ranges can.used thin
 
-    pub opens_node : degree_is ≢ s.shape.threshold → OpensChain s z (node_head node) node row empty
+    pub opens_node : degree_is ≢ threshold → OpensChain s z (node_head node) node row empty
     opens_node ne = subst (λ (q : State). OpensChain s q (node_head node) node row empty) (sym same) (record {
       keeps = can.keeps;
       stands = at_node s.records s.shape can.keeps node can.used thin row can.at.end;
-      few = λ _. let f = can.keeps.degrees.few node sparse in let e = can.counted in omega arith;
+      few = λ _. let f = can.keeps.degrees.few node sparse in let e = can.counted in let k = can.limit in omega arith;
       regroups = regroups_read s z.reads node;
     })
 
     pub dense_can : CanBecomeDense z node s.shape.threshold empty
     dense_can = subst (λ (q : State). CanBecomeDense q node s.shape.threshold empty) (sym same) (record { keeps = can.keeps; sparse = sparse })
 
-    pub dense_room : HasGroupRoom s empty → HasDenseRoom z node empty
-    dense_room room = subst (λ (q : State). HasDenseRoom q node empty) (sym same) (record { few = can.keeps.degrees.few node sparse; room = omega (arith, room) })
+    pub dense_room : HasGroupRoom s empty → HasDenseRoom z node threshold empty
+    dense_room room = subst (λ (q : State). HasDenseRoom q node threshold empty) (sym same) (record { few = let f = can.keeps.degrees.few node sparse in let k = can.limit in omega arith; room = omega (arith, room) })
 
   -- after it became dense
   module _ (u : State) (becomes : BecomesDense z u node s.shape.threshold empty) where
@@ -145,33 +143,21 @@ module _ (s z : State) (same : SameButReads s z) (node degree_is label : ℕ) (s
 
 -- ---- what is written
 
-most_threshold : (shape : Shape) → is_allowed shape ≡ true → shape.threshold ≤ 200
-most_threshold shape allowed = grind (arith, nat_tests)
-
-module _ (s z t : State) (node degree_is : ℕ) (same : SameButReads s z) where
+module _ (s z t : State) (node threshold degree_is : ℕ) (same : SameButReads s z) where
   -- a group in a node that was dense
-  pub group_opened : (head : Key) → WritesOpened z t node head 1 → WritesOpened s t node head (dense_writes s.shape.threshold degree_is + 1)
+  pub group_opened : (head : Key) → WritesOpened z t node head 1 → WritesOpened s t node head (moved_writes threshold degree_is + 1)
   group_opened head w = opened_more (omega arith) (opened_then s z t node head (none_beside (node_key node) s z same) w)
 
   -- relationships that came into groups
-  module _ (u : State) (e : degree_is ≡ s.shape.threshold) (w : WritesBeside (node_key node) (4 * z.shape.threshold) z u) where
-    count : dense_writes s.shape.threshold degree_is ≡ 4 * s.shape.threshold
-    count = rw (eq_true degree_is s.shape.threshold e) refl
+  module _ (u : State) (e : degree_is ≡ threshold) where
+    count : moved_writes threshold degree_is ≡ 2 * (threshold + 1)
+    count = rw (eq_true degree_is threshold e) refl
 
-    pub dense_beside : (more : ℕ) → more ≤ 2 → WritesBeside (node_key node) more u t → WritesBeside (node_key node) (dense_writes s.shape.threshold degree_is + 2) s t
-    dense_beside more le v = beside_more (let k = ap (λ (q : State). q.shape.threshold) same in let c = count in omega arith) (beside_then (none_beside (node_key node) s z same) (beside_then w v))
+    pub failed_beside : WritesBeside (node_key node) (2 * (threshold + 1) + 2) z u → WritesBeside (node_key node) (moved_writes threshold degree_is + 2) s u
+    failed_beside w = beside_more (let c = count in omega arith) (beside_then (none_beside (node_key node) s z same) w)
 
-    pub dense_opened : (head : Key) → WritesOpened u t node head 1 → WritesOpened s t node head (dense_writes s.shape.threshold degree_is + 1)
-    dense_opened head v = opened_more (let k = ap (λ (q : State). q.shape.threshold) same in let c = count in omega arith) (opened_then s z t node head (none_beside (node_key node) s z same) (opened_then z u t node head w v))
+    pub dense_beside : WritesBeside (node_key node) (2 * (threshold + 1)) z u → WritesBeside (node_key node) 2 u t → WritesBeside (node_key node) (moved_writes threshold degree_is + 2) s t
+    dense_beside w v = beside_more (let c = count in omega arith) (beside_then (none_beside (node_key node) s z same) (beside_then w v))
 
--- where the store keeps the rules
-pub moved_opened : (s z u t : State) (node degree_is : ℕ) (head : Key) → SameButReads s z → degree_is ≡ s.shape.threshold → degree s.records node ≡ degree_is → WritesBeside (node_key node) (2 * degree z.records node) z u → WritesOpened u t node head 1
-    → WritesOpened s t node head (moved_writes s.shape.threshold degree_is + 1)
-moved_opened s z u t node degree_is head same e counted w v =
-    let count : moved_writes s.shape.threshold degree_is ≡ 2 * s.shape.threshold = rw (eq_true degree_is s.shape.threshold e) refl in
-    let k : degree z.records node ≡ degree s.records node = ap (λ (q : State). degree q.records node) same in
-    opened_more (omega arith) (opened_then s z t node head (none_beside (node_key node) s z same) (opened_then z u t node head w v))
-
--- no store has a greater threshold
-pub few_beside : (s z u t : State) (key : Key) → SameButReads s z → is_allowed z.shape ≡ true → WritesBeside key (4 * z.shape.threshold) z u → (more : ℕ) → more ≤ 2 → WritesBeside key more u t → WritesBeside key 802 s t
-few_beside s z u t key same allowed w more le v = beside_more (let k = most_threshold z.shape allowed in omega arith) (beside_then (none_beside key s z same) (beside_then w v))
+    pub dense_opened : (head : Key) → WritesBeside (node_key node) (2 * (threshold + 1)) z u → WritesOpened u t node head 1 → WritesOpened s t node head (moved_writes threshold degree_is + 1)
+    dense_opened head w v = opened_more (let c = count in omega arith) (opened_then s z t node head (none_beside (node_key node) s z same) (opened_then z u t node head w v))

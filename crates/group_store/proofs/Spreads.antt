@@ -1,5 +1,5 @@
 -- The relationships of a node that come into its groups, one after another.
-use Rattle.std.proofs.Common.{◌≡◌, ◌≢◌, ℕ, ◌+◌, ◌≤◌, nat_lt, Bool, true, false, cond, ◌&&◌, Option, None, Some, Err, List, [], ◌∷◌, ◌++◌, length, sym, ap, ◌∙◌, subst, inl, inr, ⊎_elim, arith, refl}
+use Rattle.std.proofs.Common.{◌≡◌, ◌≢◌, ◌⊎◌, ℕ, ◌+◌, ◌≤◌, nat_lt, Bool, true, false, cond, ◌&&◌, Option, None, Some, Err, List, [], ◌∷◌, ◌++◌, length, sym, ap, ◌∙◌, subst, inl, inr, ⊎_elim, arith, refl}
 use Rattle.rec_bytes.specs.declared.key.Key.{Key}
 use Rattle.rec_bytes.specs.declared.meta.Meta.{Meta}
 use Rattle.rec_bytes.specs.declared.record.Rec.{Rec}
@@ -19,7 +19,7 @@ use Rattle.store_rules.specs.Chains.{In, IsWalk, next_in}
 use Rattle.store_rules.specs.Ends.{Regroups}
 use Rattle.store_rules.specs.Rules.{Head, IsEnd, KeepsRules, first_of}
 use Rattle.store_rules.specs.Views as views
-use Rattle.store_rules.specs.Views.{Records, degree, first_link, group_at, kind_at, rec_at, rel_at}
+use Rattle.store_rules.specs.Views.{degree, first_link, group_at, group_in, kind_at, rec_at, rel_at}
 use Rattle.store_rules.specs.Writes.{WritesBeside, meta_keys}
 use Rattle.store_rules.proofs.ChainLaws.{head_once}
 use Rattle.store_rules.proofs.WriteLaws.{among_metas, these_written}
@@ -34,13 +34,16 @@ use Rattle.node_store.specs.Loading as nodes
 use Rattle.node_store.specs.NodeRecord.{node_key}
 use Rattle.node_store.proofs.Rows.{kind-row_at-Some as node_row}
 use Rattle.group_store.specs.Densing.{BecomesDense, CanBecomeDense, HasDenseRoom}
-use Rattle.group_store.specs.GroupChain.{IsDense}
+use Rattle.group_store.specs.declared.moved.Turn.{Turn}
+use Rattle.group_store.specs.GroupChain.{IsDense, IsGroupOf}
 use Rattle.group_store.specs.GroupFault.{of_chain, of_row}
 use Rattle.group_store.specs.GroupRecord.{group_key}
+use Rattle.group_store.specs.Moving.{HasCome, IsOwnTurn}
 use Rattle.group_store.specs.Sides.{group_head, side_at}
 use Rattle.group_store.specs.Spreading.{HasEndRoom, HasOpened, IsSpread, KeepsBut, cleared}
-use Rattle.group_store.proofs.Clearing.{few_left, regroups_cleared, rest, spread_cleared}
+use Rattle.group_store.proofs.Clearing.{at_node, few_left, regroups_cleared, rest, spread_cleared}
 use Rattle.group_store.proofs.GroupCounts.{fewer_groups}
+use Rattle.group_store.proofs.GroupRules.{row_of_group}
 use Rattle.group_store.proofs.GroupWalks.{IsUndamaged}
 use Rattle.group_store.proofs.Moves.{first_right, joined, regroups_joined, spread_joined}
 use Rattle.group_store.proofs.Opens.{but_all}
@@ -129,7 +132,7 @@ pub row_sound : (fault : RowFault) → rows.NotDamaged {T = Option RelRow} (Err 
 row_sound rows_fault.Disk h = tt
 row_sound (rows_fault.Damaged damage) h = h
 
-pub chain_sound : (fault : ChainFault) → chains.NotDamaged {T = Unit {0}} (Err fault) → IsUndamaged (of_chain fault)
+pub chain_sound : (fault : ChainFault) → chains.NotDamaged {T = ℕ} (Err fault) → IsUndamaged (of_chain fault)
 chain_sound chain_fault.Memory h = tt
 chain_sound chain_fault.Disk h = tt
 chain_sound (chain_fault.Damaged damage) h = h
@@ -179,15 +182,27 @@ module _ (s l m t end : State) (same : SameButReads s l) (r k g f n q : Key) (ma
 
 -- ---- those that are left
 
--- The node's relationships from this one on are left, and so many were moved.
-pub record HasLeft (s now : State) (node at count most : ℕ) (empty : List ℕ) : Type 0 where
+-- The node's relationships from this one on are left, and so many were moved. Each is left or among
+-- those that came, and each group of the node is among these.
+pub record HasLeft (s now : State) (node at count most : ℕ) (empty came groups : List ℕ) : Type 0 where
   pub rest : List ℕ
   pub spread : IsSpread now node at rest most empty
   pub regroups : Regroups s now node
   pub few : length rest + count ≤ degree s.records node
+  pub rels : (x : ℕ) (row : views.RelRow) → rel_at s.records x ≡ Some row → IsEnd node row → In x rest ⊎ In x came
+  pub owned : (g : ℕ) → IsGroupOf now.records node g → In g groups
+  pub no_rel : In format.nil came
+  pub no_group : In format.nil groups
 
-pub left_all : (s l t : State) (node : ℕ) (row : NodeRow) (most : ℕ) (empty : List ℕ) → SameButReads s l → Some row ≡ nodes.row_at s.records node → t ≡ cleared l node → CanBecomeDense s node most empty → HasLeft s t node row.first 0 most empty
-left_all s l t node row most empty same is clear can =
+-- a sparse node has no group
+none_owned : (s : State) (node most : ℕ) (empty : List ℕ) → KeepsRules s.records s.shape most empty → kind_at s.records format.nodes_file node ≡ format.sparse → (g : ℕ) → IsGroupOf (cleared s node).records node g → ⊥
+none_owned s node most empty keeps sparse g is =
+    let dense = keeps.grouped.owned g (group_in (rec_at s.records format.groups_file g) g) (row_of_group s.records node g (record { kind = is.kind; owner = is.owner })) in
+    let z = sym (ap (kind_at s.records format.nodes_file) is.owner ∙ sparse) ∙ dense in omega arith
+
+pub left_all : (s l t : State) (node : ℕ) (row : NodeRow) (most : ℕ) (empty came groups : List ℕ) → SameButReads s l → Some row ≡ nodes.row_at s.records node → t ≡ cleared l node → came ≡ format.nil ∷ [] → groups ≡ format.nil ∷ [] → CanBecomeDense s node most empty
+    → HasLeft s t node row.first 0 most empty came groups
+left_all s l t node row most empty came groups same is clear came_is groups_is can =
     let keeps : KeepsRules l.records l.shape most empty = subst (λ (q : State). KeepsRules q.records q.shape most empty) (sym same) can.keeps in
     let sparse : kind_at l.records format.nodes_file node ≡ format.sparse = subst (λ (q : State). kind_at q.records format.nodes_file node ≡ format.sparse) (sym same) can.sparse in
     let first : first_link l.records node ≡ row.first = ap (λ (q : State). first_link q.records node) same ∙ sym (ap (λ (q : NodeRow). q.first) (node_row s.records node row (sym is)).1) in
@@ -198,30 +213,75 @@ left_all s l t node row most empty same is clear can =
           (subst (λ f. IsSpread (cleared l node) node f (rest l node most empty keeps sparse) most empty) first (spread_cleared l node most empty keeps sparse));
       regroups = regroups_both s l t node to_l (subst (λ (q : State). Regroups l q node) (sym clear) (regroups_cleared l node most empty keeps sparse));
       few = let le = few_left l node most empty keeps sparse in let e = to_l.degrees node in omega arith;
+      rels = λ x q live end. inl (at_node l node most empty keeps sparse x q (to_l.rels x ∙ live) end);
+      owned = λ g i. absurd (none_owned l node most empty keeps sparse g (subst (λ (q : State). IsGroupOf q.records node g) clear i));
+      no_rel = subst (λ xs. In format.nil xs) (sym came_is) (inl refl);
+      no_group = subst (λ xs. In format.nil xs) (sym groups_is) (inl refl);
     }
 
-pub left_next : (s now end : State) (node at next count : ℕ) (most : ℕ) (empty : List ℕ) → at ≢ format.nil
-    → ((rest : List ℕ) (most : ℕ) (empty : List ℕ) → IsSpread now node at (at ∷ rest) most empty → IsSpread end node next rest most empty × Regroups now end node)
-    → HasLeft s now node at count most empty → HasLeft s end node next (count + 1) most empty
-left_next s now end node at next count most empty there move left = by left.rest left.spread left.few
-  where
-    by : (later : List ℕ) → IsSpread now node at later most empty → length later + count ≤ degree s.records node → HasLeft s end node next (count + 1) most empty
-    by [] spread few = absurd (there spread.walk)
-    by (x ∷ later) spread few =
-        let one = move later most empty (subst (λ z. IsSpread now node at (z ∷ later) most empty) (sym spread.walk.0) spread) in
-        record { rest = later; spread = one.0; regroups = regroups_both s now end node left.regroups one.1; few = omega arith }
+-- one more moved, and among the identifiers
+pub in_last : (x : ℕ) (xs : List ℕ) → In x (xs ++ x ∷ [])
+in_last x [] = inl refl
+in_last x (y ∷ ys) = inr (in_last x ys)
 
-pub left_none : (s now : State) (node at count most : ℕ) (empty : List ℕ) → at ≡ format.nil → HasLeft s now node at count most empty → BecomesDense s now node most empty
-left_none s now node at count most empty none left = by left.rest left.spread
+pub in_before : (x y : ℕ) (xs : List ℕ) → In x xs → In x (xs ++ y ∷ [])
+in_before x y [] i = elim i [ ]
+in_before x y (z ∷ zs) i = ⊎_elim inl (λ j. inr (in_before x y zs j)) i
+
+-- the relationship that is moved, and what the turn says of it
+module _ (s now end : State) (node at count most : ℕ) (empty came groups : List ℕ) (turn : Turn) (there : at ≢ format.nil)
+    (own : (rest : List ℕ) (most : ℕ) (empty : List ℕ) → IsSpread now node at (at ∷ rest) most empty → IsOwnTurn now end node (at ∷ rest) turn)
+    (left : HasLeft s now node at count most empty came groups) where
+  pub left_next : (xs ys : List ℕ) → xs ≡ came ++ at ∷ [] → ys ≡ groups ++ turn.group ∷ []
+      → ((rest : List ℕ) (most : ℕ) (empty : List ℕ) → IsSpread now node at (at ∷ rest) most empty → IsSpread end node turn.next rest most empty × Regroups now end node)
+      → HasLeft s end node turn.next (count + 1) most empty xs ys
+  left_next xs ys xs_is ys_is move = by left.rest left.spread left.few left.rels
+    where
+      by : (later : List ℕ) → IsSpread now node at later most empty → length later + count ≤ degree s.records node
+          → ((x : ℕ) (row : views.RelRow) → rel_at s.records x ≡ Some row → IsEnd node row → In x later ⊎ In x came) → HasLeft s end node turn.next (count + 1) most empty xs ys
+      by [] spread few rels = absurd (there spread.walk)
+      by (x ∷ later) spread few rels =
+          let here = subst (λ z. IsSpread now node at (z ∷ later) most empty) (sym spread.walk.0) spread in
+          let one = move later most empty here in
+          let turned = own later most empty here in
+          record {
+            rest = later;
+            spread = one.0;
+            regroups = regroups_both s now end node left.regroups one.1;
+            few = omega arith;
+            rels = λ y row live at_end. subst (λ zs. In y later ⊎ In y zs) (sym xs_is)
+                (⊎_elim (λ i. ⊎_elim (λ e. inr (subst (λ z. In z (came ++ at ∷ [])) (spread.walk.0 ∙ sym e) (in_last at came))) inl i) (λ i. inr (in_before y at came i)) (rels y row live at_end));
+            owned = λ g i. subst (λ zs. In g zs) (sym ys_is)
+                (⊎_elim (λ e. subst (λ z. In z (groups ++ turn.group ∷ [])) (sym e) (in_last turn.group groups)) (λ k. in_before g turn.group groups (left.owned g k)) (turned.grows.groups g i));
+            no_rel = subst (λ zs. In format.nil zs) (sym xs_is) (in_before format.nil at came left.no_rel);
+            no_group = subst (λ zs. In format.nil zs) (sym ys_is) (in_before format.nil turn.group groups left.no_group);
+          }
+
+  -- what stood first came there, or is none
+  pub turn_known : In turn.first came × In turn.before groups
+  turn_known = by left.rest left.spread left.rels
+    where
+      by : (later : List ℕ) → IsSpread now node at later most empty → ((x : ℕ) (row : views.RelRow) → rel_at s.records x ≡ Some row → IsEnd node row → In x later ⊎ In x came) → In turn.first came × In turn.before groups
+      by [] spread rels = absurd (there spread.walk)
+      by (x ∷ later) spread rels =
+          let turned = own later most empty (subst (λ z. IsSpread now node at (z ∷ later) most empty) (sym spread.walk.0) spread) in (
+            ⊎_elim (λ e. subst (λ z. In z came) (sym e) left.no_rel)
+                (λ (k : HasCome now.records node (at ∷ later) turn.first). ⊎_elim (λ i. absurd (k.apart (⊎_elim (λ e. inl (e ∙ sym spread.walk.0)) inr i))) (λ i. i)
+                (rels turn.first k.row (sym (left.regroups.rels turn.first) ∙ k.live) k.end)) turned.first,
+            ⊎_elim (λ e. subst (λ z. In z groups) (sym e) left.no_group) (λ k. left.owned turn.before k) turned.grows.first,
+          )
+
+pub left_none : (s now : State) (node at count most : ℕ) (empty came groups : List ℕ) → at ≡ format.nil → HasLeft s now node at count most empty came groups → BecomesDense s now node most empty
+left_none s now node at count most empty came groups none left = by left.rest left.spread
   where
     by : (later : List ℕ) → IsSpread now node at later most empty → BecomesDense s now node most empty
     by [] spread = record { keeps = but_all now.records now.shape node most empty spread.keeps; dense = spread.dense; regroups = left.regroups }
     by (x ∷ later) spread = absurd (spread.walk.1 (sym spread.walk.0 ∙ none))
 
 -- where some are left the next one is the first of them
-pub left_first : {P : Type 0} (s now : State) (node at count most : ℕ) (empty : List ℕ) → at ≢ format.nil → HasLeft s now node at count most empty → HasDenseRoom s node empty
+pub left_first : {P : Type 0} (s now : State) (node at count most threshold : ℕ) (empty came groups : List ℕ) → at ≢ format.nil → HasLeft s now node at count most empty came groups → HasDenseRoom s node threshold empty
     → ((rest : List ℕ) (most : ℕ) (empty : List ℕ) → IsSpread now node at (at ∷ rest) most empty → HasEndRoom now empty → P) → P
-left_first {P} s now node at count most empty there left room found = by left.rest left.spread
+left_first {P} s now node at count most threshold empty came groups there left room found = by left.rest left.spread
   where
     end_room : HasEndRoom now empty
     end_room =
@@ -233,9 +293,9 @@ left_first {P} s now node at count most empty there left room found = by left.re
     by [] spread = absurd (there spread.walk)
     by (x ∷ later) spread = found later most empty (subst (λ z. IsSpread now node at (z ∷ later) most empty) (sym spread.walk.0) spread) end_room
 
--- none is left once as many were moved as a sparse node may have
-pub none_over : (s now : State) (node at count most : ℕ) (empty : List ℕ) → at ≢ format.nil → HasLeft s now node at count most empty → HasDenseRoom s node empty → s.shape.threshold ≤ count → ⊥
-none_over s now node at count most empty there left room all = by left.rest left.spread left.few
+-- none is left once so many were moved
+pub none_over : (s now : State) (node at count most threshold : ℕ) (empty came groups : List ℕ) → at ≢ format.nil → HasLeft s now node at count most empty came groups → HasDenseRoom s node threshold empty → threshold ≤ count → ⊥
+none_over s now node at count most threshold empty came groups there left room all = by left.rest left.spread left.few
   where
     by : (later : List ℕ) → IsSpread now node at later most empty → length later + count ≤ degree s.records node → ⊥
     by [] spread few = there spread.walk

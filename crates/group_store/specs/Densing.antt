@@ -18,9 +18,9 @@ pub record BecomesDense (s t : State) (node most : ℕ) (empty : List ℕ) : Typ
   pub dense : kind_at t.records format.nodes_file node ≡ format.dense
   pub regroups : Regroups s t node
 
--- The node has at most as many relationships as a sparse one may have, and the file of groups has
--- room for one at each end of each relationship besides those that are empty.
-pub record HasDenseRoom (s : State) (node : ℕ) (empty : List ℕ) : Type 0 where
-  pub few : degree s.records node ≤ s.shape.threshold
+-- The node has at most so many relationships, and the file of groups has room for one at each end
+-- of each relationship besides those that are empty.
+pub record HasDenseRoom (s : State) (node threshold : ℕ) (empty : List ℕ) : Type 0 where
+  pub few : degree s.records node ≤ threshold
   pub room : 2 * (meta_of s format.relationships_file).live + length empty
       ≤ room_of s.shape format.groups_file

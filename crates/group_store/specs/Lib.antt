@@ -9,8 +9,8 @@ pub mod GroupRecord
 pub mod Links
 pub mod Loading
 pub mod Making
+pub mod Moving
 pub mod Opening
-pub mod OwnWrites
 pub mod Sides
 pub mod Spreading
 pub mod Walking

@@ -40,9 +40,11 @@ pub record CanOpenGroup (s : State) (node label : ℕ) (side : Side) (row : RelR
   pub named : label < high s.records format.names_file
   pub at : IsAt node label side row
 
--- The node is in use and has this degree, and a new relationship at it would have this row.
-pub record CanOpen (s : State) (node degree_is label : ℕ) (side : Side) (row : RelRow)
+-- The node is in use and has this degree, and a new relationship at it would have this row. A
+-- sparse node may have so many relationships as the threshold.
+pub record CanOpen (s : State) (node degree_is threshold label : ℕ) (side : Side) (row : RelRow)
     (empty : List ℕ) : Type 0 where
+  pub limit : threshold ≡ s.shape.threshold
   pub keeps : KeepsRules s.records s.shape s.shape.threshold empty
   pub used : kind_at s.records format.nodes_file node ≢ format.free_kind
   pub counted : degree s.records node ≡ degree_is
@@ -59,13 +61,11 @@ pub record OpensChain (s t : State) (head : Head) (node : ℕ) (row : RelRow) (e
       → degree t.records node < t.shape.threshold
   pub regroups : Regroups s t node
 
--- how many records of a node that becomes dense are written besides its own
-abbrev pub dense_writes : ℕ → ℕ → ℕ
-dense_writes threshold degree_is = if nat_eq degree_is threshold then 4 * threshold else 0
-
--- how many where the store keeps the rules: its relationships', and a group's for each at most
+-- How many records of a node that becomes dense are written besides its own: its relationships' and
+-- a group's for each at most, and one of each more, for what may stand first.
 abbrev pub moved_writes : ℕ → ℕ → ℕ
-moved_writes threshold degree_is = if nat_eq degree_is threshold then 2 * threshold else 0
+moved_writes threshold degree_is =
+    if nat_eq degree_is threshold then 2 * (threshold + 1) else 0
 
 -- The record of the node, that of the head, and at most so many others became written, meta records
 -- aside.

@@ -1,4 +1,4 @@
-ghost use Rattle.std.specs.Prelude.{◌≡◌, ◌≢◌, ◌∷◌, [], ◌*◌, ℕ, List, IfOk, OnOk};
+ghost use Rattle.std.specs.Prelude.{◌≡◌, ◌≢◌, ◌≤◌, ◌∷◌, [], ◌+◌, ◌*◌, ℕ, List, IfOk, OnOk};
 ghost use Rattle.node_store.specs.NodeRecord.{node_key};
 ghost use Rattle.rec_bytes.specs.Key.{IsKey};
 ghost use Rattle.rec_bytes.specs.RecordFiles.{meta_key_of};
@@ -7,22 +7,22 @@ ghost use Rattle.id_freelist.specs.Taking.{room};
 ghost use Rattle.rec_bytes.specs.Space.{HasCause, WritesOnly, meta_of};
 ghost use Rattle.rel_store.specs.RelRecord.{rel_key};
 ghost use Rattle.store_rules.specs.Ends.{Regroups};
-ghost use Rattle.store_rules.specs.Views.{degree};
 ghost use Rattle.store_rules.specs.Writes.{WritesBeside};
 ghost use Rattle.chain_edit.specs.Links.{prev_set};
 ghost use Rattle.group_store.specs.Densing.{BecomesDense, CanBecomeDense, HasDenseRoom};
 ghost use Rattle.group_store.specs.GroupChain.{IsDense};
 ghost use Rattle.group_store.specs.GroupFault.{HasGroupCause, NotDamaged};
 ghost use Rattle.group_store.specs.GroupRecord.{group_key};
-ghost use Rattle.group_store.specs.OwnWrites.{WritesOwn};
+ghost use Rattle.group_store.specs.Moving.{GrowsBy, IsOwnTurn, turn_keys};
 ghost use Rattle.group_store.specs.Spreading.{HasEndRoom, HasOpened, IsSpread, KeepsBut, cleared};
 ghost use Rattle.group_store.specs.Spreading.{rels_damage};
 
 use crate::finding::find_group;
-use crate::making::make_group;
+use crate::making::{OwnGroup, make_own};
 use crate::members::chain_damage;
+use crate::moved::{Moved, Turn};
 use crate::side::group_head;
-use crate::{GroupFault, GroupRow, Side};
+use crate::{GroupFault, Side};
 use chain_edit::push_front;
 use rec_bytes::{
     DENSE, Damage, KIND, Key, NIL, NODE_FIRST_LINK, NODES, RELATIONSHIPS, Space, SpaceFault,
@@ -33,20 +33,20 @@ use rel_store::{Linked, end_links, place_of};
 const CHAIN_RULE: u8 = 3;
 
 /// Makes a sparse node dense: each of its relationships comes into the group of its type, at the
-/// front of the chain of its direction. The node is damaged where it isn't sparse, or where its
-/// chain leads to no relationship or to more than a sparse node may have.
-pub fn make_dense<S: Space>(space: &mut S, node: u32) -> Result<(), GroupFault>
+/// front of the chain of its direction. The node is damaged where it isn't sparse, where its chain
+/// leads to no relationship or to more than so many, or where what stood first at a group's head or
+/// among the groups didn't come there by this call.
+pub fn make_dense<S: Space>(space: &mut S, node: u32, threshold: u32) -> Result<(), GroupFault>
+    requires { threshold ≤ 200 }
     ensures made { S.tells → OnOk result ((most : ℕ) (empty : List ℕ)
         → CanBecomeDense (S.state space.old) node most empty
         → BecomesDense (S.state space.old) (S.state space.new) node most empty) }
     ensures sound { S.tells → (most : ℕ) (empty : List ℕ)
         → CanBecomeDense (S.state space.old) node most empty
-        → HasDenseRoom (S.state space.old) node empty → NotDamaged result }
-    ensures exact { S.tells → OnOk result ((most : ℕ) (empty : List ℕ)
-        → CanBecomeDense (S.state space.old) node most empty
-        → WritesBeside (node_key node) (2 * degree (S.state space.old).records node)
+        → HasDenseRoom (S.state space.old) node threshold empty → NotDamaged result }
+    ensures wrote { OnOk result (WritesBeside (node_key node) (2 * (threshold + 1))
         (S.state space.old) (S.state space.new)) }
-    ensures writes { WritesBeside (node_key node) (4 * (S.state space.old).shape.threshold)
+    ensures writes { WritesBeside (node_key node) (2 * (threshold + 1) + 2)
         (S.state space.old) (S.state space.new) }
     ensures shape { S.tells → (S.state space.new).shape ≡ (S.state space.old).shape }
     ensures onward { S.onward space.old space.new }
@@ -58,14 +58,19 @@ pub fn make_dense<S: Space>(space: &mut S, node: u32) -> Result<(), GroupFault>
     if row.dense {
         return Err(GroupFault::Damaged(chain_damage(node)));
     }
-    let budget = space.shape().threshold;
     clear(space, node)?;
+    let mut moved = Moved::new();
     let mut at = row.first;
-    for _ in 0..budget {
+    for _ in 0..threshold {
         if at == NIL {
             return Ok(());
         }
-        at = move_one(space, node, at)?;
+        let turn = move_one(space, node, at)?;
+        // What stood first was written too, and the bound counts only what came there.
+        if !moved.note(at, &turn) {
+            return Err(GroupFault::Damaged(rels_damage(node)));
+        }
+        at = turn.next;
     }
     if at != NIL {
         return Err(GroupFault::Damaged(rels_damage(node)));
@@ -102,19 +107,20 @@ fn clear<S: Space>(space: &mut S, node: u32) -> Result<(), SpaceFault>
     Ok(())
 }
 
-/// Moves a relationship of a dense node into the group of its type, and answers which one comes
-/// after it.
-fn move_one<S: Space>(space: &mut S, node: u32, rel: u32) -> Result<u32, GroupFault>
-    ensures moved { S.tells → IfOk result (λ next. (rest : List ℕ) (most : ℕ) (empty : List ℕ)
+/// Moves a relationship of a dense node into the group of its type.
+fn move_one<S: Space>(space: &mut S, node: u32, rel: u32) -> Result<Turn, GroupFault>
+    ensures moved { S.tells → IfOk result (λ turn. (rest : List ℕ) (most : ℕ) (empty : List ℕ)
         → IsSpread (S.state space.old) node rel (rel ∷ rest) most empty
-        → IsSpread (S.state space.new) node next rest most empty
+        → IsSpread (S.state space.new) node turn.next rest most empty
         × Regroups (S.state space.old) (S.state space.new) node) }
     ensures sound { S.tells → (rest : List ℕ) (most : ℕ) (empty : List ℕ)
         → IsSpread (S.state space.old) node rel (rel ∷ rest) most empty
         → HasEndRoom (S.state space.old) empty → NotDamaged result }
-    ensures own { S.tells → OnOk result ((rest : List ℕ) (most : ℕ) (empty : List ℕ)
+    ensures own { S.tells → IfOk result (λ turn. (rest : List ℕ) (most : ℕ) (empty : List ℕ)
         → IsSpread (S.state space.old) node rel (rel ∷ rest) most empty
-        → (made : ℕ) × WritesOwn (S.state space.old) (S.state space.new) node made) }
+        → IsOwnTurn (S.state space.old) (S.state space.new) node (rel ∷ rest) turn) }
+    ensures wrote { IfOk result (λ turn.
+        WritesOnly (S.state space.old) (S.state space.new) (turn_keys node rel turn)) }
     ensures writes { WritesBeside (node_key node) 4 (S.state space.old) (S.state space.new) }
     ensures shape { S.tells → (S.state space.new).shape ≡ (S.state space.old).shape }
     ensures onward { S.onward space.old space.new }
@@ -123,12 +129,17 @@ fn move_one<S: Space>(space: &mut S, node: u32, rel: u32) -> Result<u32, GroupFa
     let Some(row) = rel_store::load(space, rel)? else {
         return Err(GroupFault::Damaged(rels_damage(node)));
     };
-    let group = own_group(space, node, row.label)?;
-    let head = group_head(group.id, Side::at(node, row.from, row.to));
+    let own = own_group(space, node, row.label)?;
+    let head = group_head(own.row.id, Side::at(node, row.from, row.to));
     free_previous(space, node, rel)?;
-    push_front(space, head, node, rel)?;
+    let first = push_front(space, head, node, rel)?;
     let (_, next) = end_links(&row, node);
-    Ok(next)
+    Ok(Turn {
+        next,
+        group: own.row.id,
+        before: own.first,
+        first,
+    })
 }
 
 /// The group of a type at a dense node, which is made where there is none.
@@ -136,25 +147,26 @@ pub(crate) fn own_group<S: Space>(
     space: &mut S,
     node: u32,
     label: u32,
-) -> Result<GroupRow, GroupFault>
-    ensures opened { S.tells → IfOk result (λ row. (rest : List ℕ) (most : ℕ) (empty : List ℕ)
+) -> Result<OwnGroup, GroupFault>
+    ensures opened { S.tells → IfOk result (λ own. (rest : List ℕ) (most : ℕ) (empty : List ℕ)
         → KeepsBut (S.state space.old).records (S.state space.old).shape node rest most empty
         → IsDense (S.state space.old).records node
         → KeepsBut (S.state space.new).records (S.state space.new).shape node rest most
-        (row.id ∷ empty) × HasOpened (S.state space.old) (S.state space.new) node label row.id) }
+        (own.row.id ∷ empty)
+        × HasOpened (S.state space.old) (S.state space.new) node label own.row.id) }
     ensures sound { S.tells → (rest : List ℕ) (most : ℕ) (empty : List ℕ)
         → KeepsBut (S.state space.old).records (S.state space.old).shape node rest most empty
         → IsDense (S.state space.old).records node
         → (meta_of (S.state space.old) groups_file).live ≢ room (S.state space.old) groups_file
         → NotDamaged result }
-    ensures key { IfOk result (λ row. IsKey (group_key row.id)) }
-    ensures own { S.tells → OnOk result ((rest : List ℕ) (most : ℕ) (empty : List ℕ)
+    ensures key { IfOk result (λ own. IsKey (group_key own.row.id)) }
+    ensures grows { S.tells → IfOk result (λ own. (rest : List ℕ) (most : ℕ) (empty : List ℕ)
         → KeepsBut (S.state space.old).records (S.state space.old).shape node rest most empty
         → IsDense (S.state space.old).records node
-        → (made : ℕ) × WritesOwn (S.state space.old) (S.state space.new) node made) }
-    ensures wrote { IfOk result (λ row. (first : ℕ) × WritesOnly (S.state space.old)
-        (S.state space.new) (group_key row.id ∷ group_key first ∷ node_key node
-        ∷ meta_key_of groups_file ∷ [])) }
+        → GrowsBy (S.state space.old) (S.state space.new) node own.row.id own.first) }
+    ensures wrote { IfOk result (λ own. WritesOnly (S.state space.old) (S.state space.new)
+        (group_key own.row.id ∷ group_key own.first ∷ node_key node ∷ meta_key_of groups_file
+        ∷ [])) }
     ensures writes { (first id : ℕ) × WritesOnly (S.state space.old) (S.state space.new)
         (group_key id ∷ group_key first ∷ node_key node ∷ meta_key_of groups_file ∷ []) }
     ensures shape { S.tells → (S.state space.new).shape ≡ (S.state space.old).shape }
@@ -162,8 +174,8 @@ pub(crate) fn own_group<S: Space>(
     ensures cause { HasGroupCause (S.faults space.old) (S.faults space.new) result }
 {
     match find_group(space, node, label)? {
-        Some(row) => Ok(row),
-        None => make_group(space, node, label),
+        Some(row) => Ok(OwnGroup { row, first: NIL }),
+        None => make_own(space, node, label),
     }
 }
 

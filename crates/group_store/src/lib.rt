@@ -15,6 +15,7 @@ mod links;
 mod loading;
 mod making;
 mod members;
+mod moved;
 mod opening;
 mod side;
 mod walking;

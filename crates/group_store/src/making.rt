@@ -6,6 +6,7 @@ ghost use Rattle.rec_bytes.specs.Format.{groups_file};
 ghost use Rattle.rec_bytes.specs.Key.{IsKey};
 ghost use Rattle.rec_bytes.specs.RecordFiles.{meta_key_of};
 ghost use Rattle.rec_bytes.specs.Space.{HasCause, SameButReads, WritesOnly, meta_of};
+ghost use Rattle.store_rules.specs.Views.{first_link};
 ghost use Rattle.group_store.specs.GroupChain.{IsDense, LacksGroup};
 ghost use Rattle.group_store.specs.GroupFault.{HasGroupCause, NotDamaged, OnDamage};
 ghost use Rattle.group_store.specs.GroupRecord.{group_key};
@@ -54,6 +55,54 @@ pub fn make_group<S: Space>(space: &mut S, node: u32, label: u32) -> Result<Grou
     ensures onward { S.onward space.old space.new }
     ensures cause { HasGroupCause (S.faults space.old) (S.faults space.new) result }
 {
+    let own = make_own(space, node, label)?;
+    Ok(own.row)
+}
+
+/// A group of a type at a dense node, and the group that stood first on the node's chain where this
+/// one was made, or `NIL`.
+#[derive(Clone, Copy)]
+pub(crate) struct OwnGroup {
+    pub(crate) row: GroupRow,
+    pub(crate) first: u32,
+}
+
+/// Makes a group as `make_group` does, and answers which one stood first.
+pub(crate) fn make_own<S: Space>(
+    space: &mut S,
+    node: u32,
+    label: u32,
+) -> Result<OwnGroup, GroupFault>
+    ensures made { S.tells → IfOk result (λ own. (free xs : List ℕ)
+        → CanMake (S.state space.old) node label free xs
+        → HasMade (S.state space.old).records (S.state space.new).records node label own.row free
+        xs) }
+    ensures ok { S.tells → OnOk result (S.state space.new ≡ made (S.state space.old) node label) }
+    ensures damaged { S.tells → IfErr result (IsMakeFault (S.state space.old) node) }
+    ensures sound { S.tells → IsReadable (S.state space.old) node → (free xs : List ℕ)
+        → CanMake (S.state space.old) node label free xs → IsDense (S.state space.old).records node
+        → (meta_of (S.state space.old) groups_file).live ≢ room (S.state space.old) groups_file
+        → NotDamaged result }
+    ensures unwritten { OnDamage result (SameButReads (S.state space.old) (S.state space.new)) }
+    ensures key { IfOk result (λ own. IsKey (group_key own.row.id)) }
+    ensures rules { S.tells → IfOk result (λ own. (rest : List ℕ) (most : ℕ) (empty : List ℕ)
+        → KeepsBut (S.state space.old).records (S.state space.old).shape node rest most empty
+        → IsDense (S.state space.old).records node
+        → LacksGroup (S.state space.old).records node label
+        → KeepsBut (S.state space.new).records (S.state space.new).shape node rest most
+        (own.row.id ∷ empty)
+        × HasOpened (S.state space.old) (S.state space.new) node label own.row.id) }
+    ensures shape { S.tells → (S.state space.new).shape ≡ (S.state space.old).shape }
+    ensures first { S.tells
+        → IfOk result (λ own. own.first ≡ first_link (S.state space.old).records node) }
+    ensures wrote { IfOk result (λ own. WritesOnly (S.state space.old) (S.state space.new)
+        (group_key own.row.id ∷ group_key own.first ∷ node_key node ∷ meta_key_of groups_file
+        ∷ [])) }
+    ensures writes { (first id : ℕ) × WritesOnly (S.state space.old) (S.state space.new)
+        (group_key first ∷ group_key id ∷ node_key node ∷ meta_key_of groups_file ∷ []) }
+    ensures onward { S.onward space.old space.new }
+    ensures cause { HasGroupCause (S.faults space.old) (S.faults space.new) result }
+{
     let Some(first) = first_group(space, node)? else {
         return Err(GroupFault::Damaged(chain_damage(node)));
     };
@@ -65,7 +114,10 @@ pub fn make_group<S: Space>(space: &mut S, node: u32, label: u32) -> Result<Grou
     test_link(space, first, leads_nowhere)?;
     let id = take(space, GROUPS)?;
     lead(space, node, first, id, empty_group(node, label, first))?;
-    Ok(empty_row(id, label))
+    Ok(OwnGroup {
+        row: empty_row(id, label),
+        first,
+    })
 }
 
 /// Writes the record of a group, and puts it before the first one of the node.

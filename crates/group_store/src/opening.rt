@@ -1,6 +1,6 @@
 //! The head of the chain that an end of a relationship stands in.
 
-ghost use Rattle.std.specs.Prelude.{◌≡◌, ◌+◌, true, ℕ, List, IfOk};
+ghost use Rattle.std.specs.Prelude.{◌≡◌, ◌≤◌, ◌+◌, true, ℕ, List, IfOk};
 ghost use Rattle.std.specs.Bool.{Decides};
 ghost use Rattle.rec_bytes.specs.Key.{IsKey};
 ghost use Rattle.rec_bytes.specs.RecordFiles.{is_meta_file};
@@ -20,7 +20,6 @@ ghost use Rattle.group_store.specs.Opening.{
   IsEndOf,
   OpensChain,
   WritesOpened,
-  dense_writes,
   moved_writes,
 };
 
@@ -97,40 +96,36 @@ fn open_group<S: Space>(
     ensures onward { S.onward space.old space.new }
     ensures cause { HasGroupCause (S.faults space.old) (S.faults space.new) result }
 {
-    let group = own_group(space, node, label)?;
-    Ok(group_head(group.id, side))
+    let own = own_group(space, node, label)?;
+    Ok(group_head(own.row.id, side))
 }
 
 /// The head of the chain at a node that a new relationship of a type and on a side comes into. The
 /// node, which has this degree, becomes dense where it has as many relationships as a sparse one
-/// may have, and a dense one gets a group of the type where it has none.
+/// may have, and a dense one gets a group of the type where it has none. That number, the threshold
+/// of the store's shape, is what the caller weighed with.
 pub fn open_chain<S: Space>(
     space: &mut S,
     node: u32,
     degree: u32,
+    threshold: u32,
     label: u32,
     side: Side,
 ) -> Result<Head, GroupFault>
-    requires { IsKey (node_key node) }
+    requires node { IsKey (node_key node) }
+    requires threshold { threshold ≤ 200 }
     ensures opened { S.tells → IfOk result (λ head. (row : RelRow) (empty : List ℕ)
-        → CanOpen (S.state space.old) node degree label side row empty
+        → CanOpen (S.state space.old) node degree threshold label side row empty
         → OpensChain (S.state space.old) (S.state space.new) (head_of head) node row empty) }
     ensures sound { S.tells → (row : RelRow) (empty : List ℕ)
-        → CanOpen (S.state space.old) node degree label side row empty
+        → CanOpen (S.state space.old) node degree threshold label side row empty
         → HasGroupRoom (S.state space.old) empty → NotDamaged result }
     ensures head { IfOk result (λ head. IsHead (head_of head)) }
     ensures own { IfOk result (λ head. is_meta_file head.key.file ≡ true) }
-    ensures exact { S.tells → IfOk result (λ head. (row : RelRow) (empty : List ℕ)
-        → CanOpen (S.state space.old) node degree label side row empty
-        → WritesOpened (S.state space.old) (S.state space.new) node head.key
-        (moved_writes (S.state space.old).shape.threshold degree + 1)) }
-    ensures wrote { IfOk result (λ head.
-        WritesOpened (S.state space.old) (S.state space.new) node head.key
-        (dense_writes (S.state space.old).shape.threshold degree + 1)) }
-    ensures writes { WritesBeside (node_key node)
-        (dense_writes (S.state space.old).shape.threshold degree + 2)
+    ensures wrote { IfOk result (λ head. WritesOpened (S.state space.old) (S.state space.new)
+        node head.key (moved_writes threshold degree + 1)) }
+    ensures writes { WritesBeside (node_key node) (moved_writes threshold degree + 2)
         (S.state space.old) (S.state space.new) }
-    ensures few_writes { WritesBeside (node_key node) 802 (S.state space.old) (S.state space.new) }
     ensures shape { S.tells → (S.state space.new).shape ≡ (S.state space.old).shape }
     ensures onward { S.onward space.old space.new }
     ensures cause { HasGroupCause (S.faults space.old) (S.faults space.new) result }
@@ -138,9 +133,9 @@ pub fn open_chain<S: Space>(
     if is_dense(space, node)? {
         return open_group(space, node, label, side);
     }
-    if degree != space.shape().threshold as u32 {
+    if degree != threshold {
         return Ok(node_head(node));
     }
-    make_dense(space, node)?;
+    make_dense(space, node, threshold)?;
     open_group(space, node, label, side)
 }

@@ -88,7 +88,8 @@ fn add_edge(space: &mut MapSpace, id: u32, from: u32, to: u32) -> Result<(), Cha
     };
     rel_store::save(space, &rel)?;
     push_front(space, head_at(from), from, id)?;
-    push_front(space, head_at(to), to, id)
+    push_front(space, head_at(to), to, id)?;
+    Ok(())
 }
 
 // Four nodes, and relationships 0 from node 0 to 1, 1 from 2 to 0 and 2 from 3 to 0.

@@ -3,7 +3,7 @@ ghost use Rattle.rec_bytes.specs.RecordFiles.{is_meta_file};
 ghost use Rattle.chain_edit.specs.Heads.{head_of, IsHead};
 
 use super::*;
-use crate::groups;
+use crate::{GroupRow, groups};
 use chain_edit::{ChainFault, Head, walk};
 use node_store::NodeRow;
 use rec_bytes::{GROUPS, MapSpace, Meta, RELATIONSHIP_SOURCE_NEXT, Shape, change_meta, set_number};
@@ -115,7 +115,7 @@ fn ids_of(alloc: Global, space: &mut MapSpace, first: u32, node: u32) -> Result<
 fn relationships_come_into_groups(rt: HostRuntime) -> Result<(), Fail> {
     let alloc = rt.alloc();
     let mut space = example(alloc)?;
-    assert_eq!(rt; make_dense(&mut space, 1), Ok(()));
+    assert_eq!(rt; make_dense(&mut space, 1, 5), Ok(()));
     let node = NodeRow {
         id: 1,
         label: 0,
@@ -152,8 +152,8 @@ fn relationships_come_into_groups(rt: HostRuntime) -> Result<(), Fail> {
 #[test]
 fn only_a_sparse_node_becomes_dense(rt: HostRuntime) -> Result<(), Fail> {
     let mut space = example(rt.alloc())?;
-    assert_eq!(rt; make_dense(&mut space, 1), Ok(()));
-    assert_eq!(rt; make_dense(&mut space, 1), damaged(4));
+    assert_eq!(rt; make_dense(&mut space, 1, 5), Ok(()));
+    assert_eq!(rt; make_dense(&mut space, 1, 5), damaged(4));
     Ok(())
 }
 
@@ -166,7 +166,7 @@ fn a_chain_that_has_no_end_is_damage(rt: HostRuntime) -> Result<(), Fail> {
             id: 0,
         };
         set_number(&mut space, last, RELATIONSHIP_SOURCE_NEXT, to)?;
-        assert_eq!(rt; make_dense(&mut space, 1), damaged(3));
+        assert_eq!(rt; make_dense(&mut space, 1, 5), damaged(3));
     }
     Ok(())
 }

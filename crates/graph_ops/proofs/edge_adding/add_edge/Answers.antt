@@ -1,5 +1,5 @@
 use Rattle.std.specs.Prelude.{IfErr}
-use Rattle.std.proofs.Common.{◌≡◌, ◌+◌, ◌*◌, ◌≤◌, ℕ, length, ◌∙◌, sym, ap, subst, arith, refl}
+use Rattle.std.proofs.Common.{◌≡◌, ◌+◌, length, ◌∙◌, sym, ap, subst, arith, refl}
 use Rattle.plain_graph.specs.Refusals.{change_reasons}
 use Rattle.plain_graph.specs.Reply.{EdgeMade}
 use Rattle.plain_graph.specs.declared.command.Command.TheVariants as commands
@@ -7,23 +7,22 @@ use Rattle.plain_graph.specs.declared.command.Target.TheVariants as targets
 use Rattle.rec_bytes.specs.Space.{SameButReads, State}
 use Rattle.rec_bytes.specs.declared.shape.Shape.{Shape}
 use Rattle.rel_store.specs.RelRecord.{rel_key}
-use Rattle.store_rules.specs.Writes.{WritesAtMost, WritesBeside}
+use Rattle.store_rules.specs.Writes.{WritesBeside}
 use Rattle.prop_store.specs.declared.owner.Owner.{Owner}
 use Rattle.graph_ops.specs.Assigning.{CanPut, HasPropertyRoom, PutsPairs, assigned_blocks, pairs_of}
 use Rattle.graph_ops.specs.Change.{IsRefusal, MakesChange}
 use Rattle.graph_ops.specs.ChangeFault.{IsOutside, LeavesSpace}
 use Rattle.graph_ops.specs.EdgeAdding.{IsFullOfEdges, degrees_weight}
-use Rattle.graph_ops.specs.EdgeOpening.{ends_moved}
 use Rattle.graph_ops.specs.EdgePlacing.{PutsEdge}
 use Rattle.graph_ops.specs.NodeDeleting.{HasDegree}
 use Rattle.graph_ops.specs.Preparing.{IsPrepared}
 use Rattle.graph_ops.specs.Store.{IsStore, graph_in}
-use Rattle.graph_ops.proofs.EdgeAdded.{can_put, degree_kept, edges_refused, lacks_full, line_refused, made, not_full, put_room, read_both, room_kept, same_degree, source_missing, source_then, store_then, target_missing, target_then}
+use Rattle.graph_ops.proofs.EdgeAdded.{can_put, degree_kept, edges_refused, lacks_full, line_refused, made, not_full, put_room, read_both, room_kept, source_missing, source_then, store_then, target_missing, target_then}
 use Rattle.graph_ops.proofs.Elements.{found_there, same_both}
 use Rattle.graph_ops.proofs.Exits.{fault_exit, late_leaves}
 use Rattle.graph_ops.proofs.Readings.{made_read, refused_read, store_read}
 use Rattle.graph_ops.proofs.Reasons.{outside_refused}
-use Rattle.graph_ops.proofs.OpenWrites.{ends_double, ends_weigh}
+use Rattle.graph_ops.proofs.OpenWrites.{most_threshold}
 use Rattle.store_rules.proofs.WriteLaws.{beside_then, beside_written, more_written, none_written, then_written}
 use Rattle.graph_ops.proofs.Writes.{on_any_err}
 use Rattle.graph_ops.proofs.edge_adding.add_edge.Goals as goal
@@ -117,12 +116,15 @@ module _ (g : Over) (c : In_ok-prepared g) (tells : g.S.Reads.tells) (store : Is
   target_kept : HasDegree (g.S.Reads.state c.prepare.new.space).records c.args.to c.in_ok-target.target
   target_kept = let at = (goal.at.In_ok-prepared g c).In_ok-target in degree_kept (g.S.Reads.state c.node_degree-2.new.space) (g.S.Reads.state c.prepare.new.space) c.args.names.now.names c.prepare.new.names.names c.args.to c.in_ok-target.target (kept g at tells store) at_hand.kept (target_has g at tells store)
 
+  limit_kept : c.shape-threshold.result.threshold ≡ (g.S.Reads.state c.prepare.new.space).shape.threshold
+  limit_kept = ap (λ (h : Shape). h.threshold) (c.shape-threshold.ensures.is ∙ sym at_hand.kept.shape)
+
 -- only the machine can fail
 edge_outside : (g : Over) (c : In_err-id g) → g.S.Reads.tells → IsStore (g.S.Reads.state c.args.space.now) c.args.names.now.names → IsOutside c.in_err-id.field-0.0
 edge_outside g c tells store =
     let at = goal.at.In_err-id g c in
     let hand = at_hand g at.In_ok-prepared tells store in
-    c.in_err-id.ensures.sound tells c.prepare.new.names.names c.args.label.now hand.kept.store hand.label_is (source_kept g at.In_ok-prepared tells store) (target_kept g at.In_ok-prepared tells store)
+    c.in_err-id.ensures.sound tells (limit_kept g at.In_ok-prepared tells store) c.prepare.new.names.names c.args.label.now hand.kept.store hand.label_is (source_kept g at.In_ok-prepared tells store) (target_kept g at.In_ok-prepared tells store)
     (room_kept (g.S.Reads.state c.node_degree-2.new.space) c.args.names.now.names (kept g at.In_ok-target tells store) (g.S.Reads.state c.prepare.new.space) c.prepare.new.names.names hand.kept c.in_ok-test_room.ensures.room)
 
 pub returns-in_err-id-clause-refused : goal.returns-in_err-id-clause-refused
@@ -146,7 +148,9 @@ returns-in_err-id-clause-leaves g c tells =
 pub returns-in_err-id-clause-refused_writes : goal.returns-in_err-id-clause-refused_writes
 returns-in_err-id-clause-refused_writes g c =
     let read = none_written _ _ (ends_read g (goal.at.returns-in_err-id-clause-refused_writes g c).After-prepare) in
-    on_any_err _ _ (more_written (omega arith) (then_written read (then_written c.prepare.ensures.few_writes c.put_edge.ensures.few_writes)))
+    let small = c.ends_weight-ends.ensures.small in
+    let allowed = most_threshold c.shape-threshold.result c.shape-threshold.ensures.allowed in
+    on_any_err _ _ (more_written (omega arith) (then_written read (then_written c.prepare.ensures.few_writes c.in_err-id.ensures.err_writes)))
 
 -- ---- its properties
 puts : (g : Over) (c : In_ok-id g) → g.S.Reads.tells → IsStore (g.S.Reads.state c.args.space.now) c.args.names.now.names
@@ -154,7 +158,7 @@ puts : (g : Over) (c : In_ok-id g) → g.S.Reads.tells → IsStore (g.S.Reads.st
 puts g c tells store =
     let at = (goal.at.In_ok-id g c).In_ok-prepared in
     let hand = at_hand g at tells store in
-    c.in_ok-id.ensures.put tells c.prepare.new.names.names c.args.label.now hand.kept.store hand.label_is (source_kept g at tells store) (target_kept g at tells store)
+    c.in_ok-id.ensures.put tells (limit_kept g at tells store) c.prepare.new.names.names c.args.label.now hand.kept.store hand.label_is (source_kept g at tells store) (target_kept g at tells store)
 
 can : (g : Over) (c : After-put_properties g) → g.S.Reads.tells → IsStore (g.S.Reads.state c.args.space.now) c.args.names.now.names
     → CanPut (g.S.Reads.state c.put_edge.new.space) c.prepare.new.names.names (targets.Edge c.in_ok-id.id) c.as_slice-pairs.result.now c.deref.result.now
@@ -193,8 +197,10 @@ returns-in_err-put_properties-clause-refused_writes g c =
     let blocks = ap (assigned_blocks pairs) c.deref.ensures.0 in
     let weight = c.in_ok-prepared.ensures.weight in
     let light = c.in_ok-prepared.ensures.light in
+    let small = c.ends_weight-ends.ensures.small in
+    let allowed = most_threshold c.shape-threshold.result c.shape-threshold.ensures.allowed in
     let read = none_written _ _ (ends_read g (goal.at.returns-in_err-put_properties-clause-refused_writes g c).After-prepare) in
-    on_any_err _ _ (more_written (omega arith) (then_written read (then_written c.in_ok-prepared.ensures.writes (then_written c.in_ok-id.ensures.few_writes c.in_err-put_properties.ensures.err_writes))))
+    on_any_err _ _ (more_written (omega arith) (then_written read (then_written c.in_ok-prepared.ensures.writes (then_written (beside_written refl c.in_ok-id.ensures.writes) c.in_err-put_properties.ensures.err_writes))))
 
 -- call after call the space goes on
 onward : (g : Over) (c : After-put_properties g) → g.S.Reads.onward c.args.space.now c.put_properties.new.space
@@ -238,7 +244,7 @@ returns-clause-made g c tells store =
     (subst (λ l. MakesChange (commands.Edge c.args.from c.args.label.now c.args.to l) (EdgeMade id) weight n w names) c.as_slice-pairs.ensures
     (made n u v c.args.names.now.names names c.args.from c.args.label.now c.args.to pairs id c.in_ok-prepared.prepared (kept g at.In_ok-target tells store) hand (puts g at.In_ok-id tells store) (c.put_edge.ensures.shape tells)
     w put (room g at.In_ok-test_room tells store) c.in_ok-source.source c.in_ok-target.target (source_has g at.In_ok-target tells store) (target_has g at.In_ok-target tells store) weight c.ends_weight-ends.result refl
-    (c.ends_weight-ends.ensures.is ∙ ap (λ (h : Shape). degrees_weight h.threshold c.args.from c.in_ok-source.source c.args.to c.in_ok-target.target) (c.shape-threshold.ensures.is ∙ hand.kept.shape))))
+    (c.ends_weight-ends.ensures.is ∙ ap (λ (h : Shape). degrees_weight h.threshold c.args.from c.in_ok-source.source c.args.to c.in_ok-target.target) c.shape-threshold.ensures.is)))
 
 -- ---- what is written
 
@@ -248,56 +254,13 @@ owned : (g : Over) (c : In_ok-put_properties g)
 owned g c = subst (λ (o : Owner). WritesBeside o.key (length c.deref.result.now + assigned_blocks c.as_slice-pairs.result.now c.deref.result.now) (g.S.Reads.state c.put_edge.new.space) (g.S.Reads.state c.put_properties.new.space)) c.edge_owner.ensures
     c.in_ok-put_properties.ensures.writes
 
--- what the ends weighed
-weighs : (g : Over) (c : In_ok-put_properties g) → c.ends_weight-ends.result ≡ degrees_weight (g.S.Reads.state c.prepare.new.space).shape.threshold c.args.from c.in_ok-source.source c.args.to c.in_ok-target.target
-weighs g c = c.ends_weight-ends.ensures.is ∙ ap (λ (h : Shape). degrees_weight h.threshold c.args.from c.in_ok-source.source c.args.to c.in_ok-target.target) c.shape-threshold.ensures.is
-
--- the weight but for the ends, and what those that become dense write
-all_written : (g : Over) (c : In_ok-put_properties g) (count most : ℕ) → count ≤ most → WritesBeside (rel_key c.in_ok-id.id) (8 + count) (g.S.Reads.state c.prepare.new.space) (g.S.Reads.state c.put_edge.new.space)
-    → WritesAtMost (9 + c.in_ok-prepared.prepared.weight + most) (g.S.Reads.state c.args.space.now) (g.S.Reads.state c.put_properties.new.space)
-all_written g c count most few put =
+-- the relationship weighs nine, and the ends what those that become dense write
+pub returns-clause-writes : goal.returns-clause-writes
+returns-clause-writes g c =
+    let at = (goal.at.returns-clause-writes g c).In_ok-put_properties in
     let length_is = ap length c.deref.ensures.0 in
     let blocks = ap (assigned_blocks c.as_slice-pairs.result.now) c.deref.ensures.0 in
     let weight = c.in_ok-prepared.ensures.weight in
-    more_written (omega (arith, few)) (then_written (none_written _ _ (ends_read g (goal.at.In_ok-put_properties g c).After-prepare))
-    (then_written c.in_ok-prepared.ensures.writes (beside_written refl (beside_then put (owned g c)))))
-
-pub returns-clause-exact : goal.returns-clause-exact
-returns-clause-exact g c tells store =
-    let at = goal.at.returns-clause-exact g c in
-    let hand = at_hand g at.In_ok-prepared tells store in
-    let ends = weighs g at.In_ok-put_properties in
-    let threshold = (g.S.Reads.state c.prepare.new.space).shape.threshold in
-    let count = ends_moved threshold c.args.from c.in_ok-source.source c.args.to c.in_ok-target.target in
-    let few = ends_weigh threshold c.args.from c.in_ok-source.source c.args.to c.in_ok-target.target in
-    all_written g at.In_ok-put_properties count c.ends_weight-ends.result (omega (arith, ends, few))
-    (c.in_ok-id.ensures.exact tells c.prepare.new.names.names c.args.label.now hand.kept.store hand.label_is (source_kept g at.In_ok-prepared tells store) (target_kept g at.In_ok-prepared tells store))
-
-pub returns-clause-writes : goal.returns-clause-writes
-returns-clause-writes g c tells =
-    let at = (goal.at.returns-clause-writes g c).In_ok-put_properties in
-    let ends = weighs g at in
-    let double = ends_double (g.S.Reads.state c.prepare.new.space).shape.threshold c.args.from c.in_ok-source.source c.args.to c.in_ok-target.target in
-    more_written (omega arith) (all_written g at _ (2 * c.ends_weight-ends.result) (omega arith) (c.in_ok-id.ensures.writes tells))
-
-pub returns-clause-weighed : goal.returns-clause-weighed
-returns-clause-weighed g c tells from_degree to_degree leaves enters light =
-    let at = goal.at.returns-clause-weighed g c in
-    let s = g.S.Reads.state c.args.space.now in
-    let n = g.S.Reads.state c.node_degree-2.new.space in
-    let u = g.S.Reads.state c.prepare.new.space in
-    let source = same_degree s.records c.args.from c.in_ok-source.source from_degree (c.in_ok-source.ensures.found tells) leaves in
-    let target = same_degree s.records c.args.to c.in_ok-target.target to_degree (subst (λ (z : State). HasDegree z.records c.args.to c.in_ok-target.target) c.node_degree.ensures.state (c.in_ok-target.ensures.found tells)) enters in
-    let shape : u.shape ≡ s.shape = c.prepare.ensures.shape tells ∙ ap (λ (z : State). z.shape) (ends_read g at.After-prepare) in
-    let none : degrees_weight u.shape.threshold c.args.from c.in_ok-source.source c.args.to c.in_ok-target.target ≡ 0 = (λ i. degrees_weight (shape i).threshold c.args.from (source i) c.args.to (target i)) ∙ light in
-    let double = ends_double u.shape.threshold c.args.from c.in_ok-source.source c.args.to c.in_ok-target.target in
-    more_written (omega arith) (all_written g at.In_ok-put_properties _ 0 (omega (arith, none, double)) (c.in_ok-id.ensures.writes tells))
-
-pub returns-clause-few_writes : goal.returns-clause-few_writes
-returns-clause-few_writes g c =
-    let at = goal.at.returns-clause-few_writes g c in
-    let count = ap length c.deref.ensures.0 in
-    let blocks = ap (assigned_blocks c.as_slice-pairs.result.now) c.deref.ensures.0 in
-    let weight = c.in_ok-prepared.ensures.weight in
-    let light = c.in_ok-prepared.ensures.light in
-    more_written (omega arith) (then_written (none_written _ _ (ends_read g at.After-prepare)) (then_written c.in_ok-prepared.ensures.writes (then_written c.in_ok-id.ensures.few_writes (beside_written refl (owned g at.In_ok-put_properties)))))
+    let ends = c.ends_weight-ends.ensures.is in
+    more_written (omega arith) (then_written (none_written _ _ (ends_read g (goal.at.In_ok-put_properties g at).After-prepare))
+    (then_written c.in_ok-prepared.ensures.writes (beside_written refl (beside_then c.in_ok-id.ensures.writes (owned g at)))))

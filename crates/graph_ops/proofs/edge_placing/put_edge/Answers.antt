@@ -6,7 +6,7 @@ use Rattle.rel_store.specs.RelRecord.{rel_key}
 use Rattle.store_rules.specs.Writes.{WritesBeside}
 use Rattle.group_store.proofs.OwnGroups.{if_ok}
 use Rattle.graph_ops.specs.ChangeFault.{IsOutside}
-use Rattle.graph_ops.specs.EdgeOpening.{ends_moved, ends_writes}
+use Rattle.graph_ops.specs.EdgeOpening.{ends_moved}
 use Rattle.graph_ops.specs.EdgePlacing.{PutsEdge}
 use Rattle.graph_ops.specs.NodeDeleting.{HasDegree}
 use Rattle.graph_ops.specs.Store.{IsStore}
@@ -14,18 +14,19 @@ use Rattle.graph_ops.proofs.EdgeOpened.{puts_through}
 use Rattle.graph_ops.proofs.ElementRooms.{room_still}
 use Rattle.graph_ops.proofs.Exits.{fault_exit}
 use Rattle.graph_ops.proofs.NodePut.{number_in}
-use Rattle.graph_ops.proofs.OpenWrites.{put_beside, put_few}
-use Rattle.store_rules.proofs.WriteLaws.{beside_more}
+use Rattle.graph_ops.proofs.OpenWrites.{err_more, put_beside, put_failed}
+use Rattle.store_rules.proofs.WriteLaws.{beside_more, more_written}
+use Rattle.graph_ops.proofs.Writes.{on_any_err}
 use Rattle.graph_ops.proofs.edge_placing.put_edge.Goals as goal
 
 pub returns-in_err-ends-clause-sound : goal.returns-in_err-ends-clause-sound
-returns-in_err-ends-clause-sound g c tells names text store at leaves enters room =
+returns-in_err-ends-clause-sound g c tells limit names text store at leaves enters room =
     let s = g.S.Reads.state c.args.space.now in
     fault_exit (λ f. f) IsOutside c.in_err-ends.field-0.0 c.from_residual.result c.from_residual.ensures.1
-    (c.in_err-ends.ensures.sound tells names (record { store = store; named = (number_in s.records names c.args.label text store.names at).0; leaves = leaves; enters = enters }) room)
+    (c.in_err-ends.ensures.sound tells names (record { limit = limit; store = store; named = (number_in s.records names c.args.label text store.names at).0; leaves = leaves; enters = enters }) room)
 
 pub returns-clause-put : goal.returns-clause-put
-returns-clause-put g c tells =
+returns-clause-put g c tells limit =
     let s = g.S.Reads.state c.args.space.now in
     let t = g.S.Reads.state c.open_ends.new.space in
     let u = g.S.Reads.state c.join_edge.new.space in
@@ -34,44 +35,37 @@ returns-clause-put g c tells =
     (λ id. (names : List (List ℕ)) (text : List ℕ) → IsStore s names → slice_get names c.args.label ≡ Some text → HasDegree s.records c.args.from c.args.from_degree → HasDegree s.records c.args.to c.args.to_degree
     → PutsEdge s u names c.args.from text c.args.to id)
     (λ id joined names text store at leaves enters.
-    let opens = c.in_ok-ends.ensures.opened tells names (record { store = store; named = (number_in s.records names c.args.label text store.names at).0; leaves = leaves; enters = enters }) in
+    let opens = c.in_ok-ends.ensures.opened tells names (record { limit = limit; store = store; named = (number_in s.records names c.args.label text store.names at).0; leaves = leaves; enters = enters }) in
     puts_through s t u names c.args.from text c.args.to id opens.keeps
     (subst (λ n. PutsEdge t u names n text c.args.to id) nodes.0 (subst (λ n. PutsEdge t u names c.in_ok-ends.ends.source.node text n id) nodes.1 (joined names text opens.can at))))
     (c.join_edge.ensures.joined tells)
 
 pub returns-clause-sound : goal.returns-clause-sound
-returns-clause-sound g c tells names text store at leaves enters room =
+returns-clause-sound g c tells limit names text store at leaves enters room =
     let s = g.S.Reads.state c.args.space.now in
     let t = g.S.Reads.state c.open_ends.new.space in
-    let opens = c.in_ok-ends.ensures.opened tells names (record { store = store; named = (number_in s.records names c.args.label text store.names at).0; leaves = leaves; enters = enters }) in
+    let opens = c.in_ok-ends.ensures.opened tells names (record { limit = limit; store = store; named = (number_in s.records names c.args.label text store.names at).0; leaves = leaves; enters = enters }) in
     c.join_edge.ensures.sound tells names text opens.can at
     (room_still s t format.relationships_file 1 (ap (λ (m : Meta). m.live) (opens.keeps.metas format.relationships_file (λ e. omega arith))) opens.keeps.shape room)
 
-pub returns-clause-exact : goal.returns-clause-exact
-returns-clause-exact g c tells =
-    let s = g.S.Reads.state c.args.space.now in
-    let t = g.S.Reads.state c.open_ends.new.space in
-    let u = g.S.Reads.state c.join_edge.new.space in
-    let most = ends_moved s.shape.threshold c.args.from c.args.from_degree c.args.to c.args.to_degree in
-    let ends = c.in_ok-ends.ensures.ends in
-    if_ok c.join_edge.result _
-    (λ id. (names : List (List ℕ)) (text : List ℕ) → IsStore s names → slice_get names c.args.label ≡ Some text → HasDegree s.records c.args.from c.args.from_degree → HasDegree s.records c.args.to c.args.to_degree
-    → WritesBeside (rel_key id) (8 + most) s u)
-    (λ id joins names text store at leaves enters.
-    let opened = c.in_ok-ends.ensures.exact tells names (record { store = store; named = (number_in s.records names c.args.label text store.names at).0; leaves = leaves; enters = enters }) in
-    beside_more (omega arith) (put_beside s t u id c.in_ok-ends.ends (2 + most) ends.0 ends.1 opened joins)) c.join_edge.ensures.writes
-
 pub returns-clause-writes : goal.returns-clause-writes
-returns-clause-writes g c tells =
+returns-clause-writes g c =
     let s = g.S.Reads.state c.args.space.now in
     let t = g.S.Reads.state c.open_ends.new.space in
     let u = g.S.Reads.state c.join_edge.new.space in
-    let most = ends_writes s.shape.threshold c.args.from c.args.from_degree c.args.to c.args.to_degree in
+    let most = ends_moved c.args.threshold c.args.from c.args.from_degree c.args.to c.args.to_degree in
     let ends = c.in_ok-ends.ensures.ends in
     if_ok c.join_edge.result _ (λ id. WritesBeside (rel_key id) (8 + most) s u)
-    (λ id joins. beside_more (omega arith) (put_beside s t u id c.in_ok-ends.ends (2 + most) ends.0 ends.1 (c.in_ok-ends.ensures.wrote tells) joins)) c.join_edge.ensures.writes
+    (λ id joins. beside_more (omega arith) (put_beside s t u id c.in_ok-ends.ends (2 + most) ends.0 ends.1 c.in_ok-ends.ensures.wrote joins)) c.join_edge.ensures.writes
 
-pub returns-clause-few_writes : goal.returns-clause-few_writes
-returns-clause-few_writes g c =
+pub returns-in_err-ends-clause-err_writes : goal.returns-in_err-ends-clause-err_writes
+returns-in_err-ends-clause-err_writes g c = on_any_err _ _ (more_written (omega arith) c.open_ends.ensures.writes)
+
+pub returns-clause-err_writes : goal.returns-clause-err_writes
+returns-clause-err_writes g c =
+    let s = g.S.Reads.state c.args.space.now in
+    let u = g.S.Reads.state c.join_edge.new.space in
     let ends = c.in_ok-ends.ensures.ends in
-    put_few _ _ _ c.in_ok-ends.ends ends.0 ends.1 c.in_ok-ends.ensures.few_writes c.join_edge.result c.join_edge.ensures.writes c.join_edge.ensures.err_writes
+    let most = ends_moved c.args.threshold c.args.from c.args.from_degree c.args.to c.args.to_degree in
+    err_more ((6 + most) + 7) (13 + most) s u (omega arith) c.join_edge.result
+    (put_failed s (g.S.Reads.state c.open_ends.new.space) u c.in_ok-ends.ends ends.0 ends.1 c.in_ok-ends.ensures.writes c.join_edge.result c.join_edge.ensures.err_writes)

@@ -1,8 +1,6 @@
-use Rattle.std.proofs.Common.{◌≡◌, ◌*◌, ◌≤◌, ℕ, List}
-use Rattle.node_store.specs.NodeRecord.{node_key}
-use Rattle.store_rules.specs.Writes.{WritesBeside}
+use Rattle.std.proofs.Common.{◌≡◌, ◌+◌, ◌≤◌, ℕ, List, length}
 use Rattle.group_store.specs.Densing.{CanBecomeDense}
-use Rattle.group_store.proofs.OwnWrites.{HasWritten}
+use Rattle.group_store.proofs.Comings.{WritesCome}
 use Rattle.group_store.proofs.Spreads.{HasLeft}
 use Rattle.group_store.proofs.densing.make_dense.Given as goal
 
@@ -11,9 +9,10 @@ abbrev pub invariant-loop : goal.invariant-loop
 invariant-loop g l =
     let s = g.S.Reads.state l.fn.space in
     record {
-      left : g.S.Reads.tells → (most : ℕ) (empty : List ℕ) → CanBecomeDense s l.fn.node most empty → HasLeft s (g.S.Reads.state l.space) l.fn.node l.at l.counter most empty;
-      own : g.S.Reads.tells → (most : ℕ) (empty : List ℕ) → CanBecomeDense s l.fn.node most empty → HasWritten s (g.S.Reads.state l.space) l.fn.node l.counter;
-      writes : WritesBeside (node_key l.fn.node) (4 * l.counter) s (g.S.Reads.state l.space);
+      left : g.S.Reads.tells → (most : ℕ) (empty : List ℕ) → CanBecomeDense s l.fn.node most empty → HasLeft s (g.S.Reads.state l.space) l.fn.node l.at l.counter most empty l.moved.relationships.items l.moved.groups.items;
+      writes : WritesCome s (g.S.Reads.state l.space) l.fn.node l.moved.relationships.items l.moved.groups.items;
+      rels : length l.moved.relationships.items ≡ l.counter + 1;
+      groups : length l.moved.groups.items ≡ l.counter + 1;
       shape : g.S.Reads.tells → (g.S.Reads.state l.space).shape ≡ s.shape;
       onward : g.S.Reads.onward l.fn.space l.space;
       later : g.S.Reads.faults l.fn.space ≤ g.S.Reads.faults l.space;

@@ -16,11 +16,12 @@ use Rattle.group_store.specs.GroupChain.{IsDense}
 use Rattle.group_store.specs.GroupFault.{of_chain, of_row}
 use Rattle.group_store.proofs.GroupWalks.{not_damaged_at}
 use Rattle.group_store.proofs.GroupWrites.{made_writes}
-use Rattle.group_store.specs.declared.group_row.GroupRow.{GroupRow}
+use Rattle.group_store.specs.declared.making.OwnGroup.{OwnGroup}
+use Rattle.group_store.specs.declared.moved.Turn.{Turn}
 use Rattle.group_store.proofs.Openings.{handed}
 use Rattle.group_store.proofs.OwnGroups.{keeps_then, writes_after}
 use Rattle.group_store.proofs.Spreads.{chain_sound, four_written, has_room, moved, only_loads, push_right, rel_there, row_sound, writes_freed, writes_pushed}
-use Rattle.group_store.proofs.OwnWrites.{own_moved}
+use Rattle.group_store.proofs.Turns.{own_turn}
 use Rattle.group_store.proofs.densing.move_one.Goals as goal
 
 pub returns-in_err-row-clause-writes : goal.returns-in_err-row-clause-writes
@@ -35,11 +36,11 @@ returns-in_default-clause-writes g c =
     let l = g.S.Reads.state c.load.new.space in
     beside_more (omega arith) (none_beside (node_key c.args.node) s l (only_loads s l c.args.rel c.load.ensures.state))
 
-pub returns-in_err-group-clause-writes : goal.returns-in_err-group-clause-writes
-returns-in_err-group-clause-writes g c =
+pub returns-in_err-own-clause-writes : goal.returns-in_err-own-clause-writes
+returns-in_err-own-clause-writes g c =
     let s = g.S.Reads.state c.args.space.now in
     let l = g.S.Reads.state c.load.new.space in
-    let made = c.in_err-group.ensures.writes in
+    let made = c.in_err-own.ensures.writes in
     beside_more (omega arith) (made_writes s (g.S.Reads.state c.own_group.new.space) c.args.node made.1 made.0 (writes_after s l (g.S.Reads.state c.own_group.new.space) _ (only_loads s l c.args.rel c.load.ensures.state) made.2))
 
 pub returns-in_err-free_previous-clause-writes : goal.returns-in_err-free_previous-clause-writes
@@ -47,24 +48,37 @@ returns-in_err-free_previous-clause-writes g c =
     let s = g.S.Reads.state c.args.space.now in
     let l = g.S.Reads.state c.load.new.space in
     let t = g.S.Reads.state c.free_previous.new.space in
-    let made = c.in_ok-group.ensures.wrote in
-    four_written s t c.args.node c.args.rel 0 c.in_ok-group.group.id made.0
+    let own = c.in_ok-own.own in
+    four_written s t c.args.node c.args.rel 0 own.row.id own.first
     (writes_freed s l (g.S.Reads.state c.own_group.new.space) t t (only_loads s l c.args.rel c.load.ensures.state)
-    (rel_key c.args.rel) (rel_key 0) (group_key c.in_ok-group.group.id) (group_key made.0) (node_key c.args.node) (meta_key_of groups_file) made.1 c.in_err-free_previous.ensures.writes)
+    (rel_key c.args.rel) (rel_key 0) (group_key own.row.id) (group_key own.first) (node_key c.args.node) (meta_key_of groups_file) c.in_ok-own.ensures.wrote c.in_err-free_previous.ensures.writes)
 
-pub returns-in_err-push_front-clause-writes : goal.returns-in_err-push_front-clause-writes
-returns-in_err-push_front-clause-writes g c =
+pub returns-in_err-first-clause-writes : goal.returns-in_err-first-clause-writes
+returns-in_err-first-clause-writes g c =
     let s = g.S.Reads.state c.args.space.now in
     let l = g.S.Reads.state c.load.new.space in
     let t = g.S.Reads.state c.free_previous.new.space in
     let end = g.S.Reads.state c.push_front.new.space in
-    let made = c.in_ok-group.ensures.wrote in
-    let push = c.in_err-push_front.ensures.writes in
-    let key : c.group_head-head.result.key ≡ group_key c.in_ok-group.group.id = ap (λ (h : Head). h.key) c.group_head-head.ensures.is in
-    four_written s end c.args.node c.args.rel push.0 c.in_ok-group.group.id made.0
+    let own = c.in_ok-own.own in
+    let push = c.in_err-first.ensures.writes in
+    let key : c.group_head-head.result.key ≡ group_key own.row.id = ap (λ (h : Head). h.key) c.group_head-head.ensures.is in
+    four_written s end c.args.node c.args.rel push.0 own.row.id own.first
     (writes_pushed s l (g.S.Reads.state c.own_group.new.space) t end (only_loads s l c.args.rel c.load.ensures.state)
-    (rel_key c.args.rel) (rel_key push.0) (group_key c.in_ok-group.group.id) (group_key made.0) (node_key c.args.node) (meta_key_of groups_file) made.1 c.in_ok-free_previous.ensures.writes
+    (rel_key c.args.rel) (rel_key push.0) (group_key own.row.id) (group_key own.first) (node_key c.args.node) (meta_key_of groups_file) c.in_ok-own.ensures.wrote c.in_ok-free_previous.ensures.writes
     (subst (λ k. WritesOnly t end (rel_key push.0 ∷ rel_key c.args.rel ∷ k ∷ [])) key push.1))
+
+pub returns-clause-wrote : goal.returns-clause-wrote
+returns-clause-wrote g c =
+    let s = g.S.Reads.state c.args.space.now in
+    let l = g.S.Reads.state c.load.new.space in
+    let t = g.S.Reads.state c.free_previous.new.space in
+    let end = g.S.Reads.state c.push_front.new.space in
+    let own = c.in_ok-own.own in
+    let first = c.in_ok-first.first in
+    let key : c.group_head-head.result.key ≡ group_key own.row.id = ap (λ (h : Head). h.key) c.group_head-head.ensures.is in
+    writes_pushed s l (g.S.Reads.state c.own_group.new.space) t end (only_loads s l c.args.rel c.load.ensures.state)
+    (rel_key c.args.rel) (rel_key first) (group_key own.row.id) (group_key own.first) (node_key c.args.node) (meta_key_of groups_file) c.in_ok-own.ensures.wrote c.in_ok-free_previous.ensures.writes
+    (subst (λ k. WritesOnly t end (rel_key first ∷ rel_key c.args.rel ∷ k ∷ [])) key c.in_ok-first.ensures.wrote)
 
 pub returns-clause-writes : goal.returns-clause-writes
 returns-clause-writes g c =
@@ -72,32 +86,32 @@ returns-clause-writes g c =
     let l = g.S.Reads.state c.load.new.space in
     let t = g.S.Reads.state c.free_previous.new.space in
     let end = g.S.Reads.state c.push_front.new.space in
-    let made = c.in_ok-group.ensures.wrote in
-    let push = c.in_ok-push_front.ensures.writes in
-    let key : c.group_head-head.result.key ≡ group_key c.in_ok-group.group.id = ap (λ (h : Head). h.key) c.group_head-head.ensures.is in
-    four_written s end c.args.node c.args.rel push.0 c.in_ok-group.group.id made.0
+    let own = c.in_ok-own.own in
+    let first = c.in_ok-first.first in
+    let key : c.group_head-head.result.key ≡ group_key own.row.id = ap (λ (h : Head). h.key) c.group_head-head.ensures.is in
+    four_written s end c.args.node c.args.rel first own.row.id own.first
     (writes_pushed s l (g.S.Reads.state c.own_group.new.space) t end (only_loads s l c.args.rel c.load.ensures.state)
-    (rel_key c.args.rel) (rel_key push.0) (group_key c.in_ok-group.group.id) (group_key made.0) (node_key c.args.node) (meta_key_of groups_file) made.1 c.in_ok-free_previous.ensures.writes
-    (subst (λ k. WritesOnly t end (rel_key push.0 ∷ rel_key c.args.rel ∷ k ∷ [])) key push.1))
+    (rel_key c.args.rel) (rel_key first) (group_key own.row.id) (group_key own.first) (node_key c.args.node) (meta_key_of groups_file) c.in_ok-own.ensures.wrote c.in_ok-free_previous.ensures.writes
+    (subst (λ k. WritesOnly t end (rel_key first ∷ rel_key c.args.rel ∷ k ∷ [])) key c.in_ok-first.ensures.wrote))
 
 pub returns-clause-moved : goal.returns-clause-moved
 returns-clause-moved g c = λ tells rest most empty spread.
     let s = g.S.Reads.state c.args.space.now in
     let l = g.S.Reads.state c.load.new.space in
-    moved s l (g.S.Reads.state c.own_group.new.space) c.args.node c.args.rel c.in-Some.row c.in_ok-group.group.id (only_loads s l c.args.rel c.load.ensures.state) (sym c.in-Some.is ∙ c.in_ok-row.ensures.found tells)
-    (c.in_ok-group.ensures.opened tells) rest most empty spread (g.S.Reads.state c.free_previous.new.space) (g.S.Reads.state c.push_front.new.space) c.end_links-next.result.1
+    moved s l (g.S.Reads.state c.own_group.new.space) c.args.node c.args.rel c.in-Some.row c.in_ok-own.own.row.id (only_loads s l c.args.rel c.load.ensures.state) (sym c.in-Some.is ∙ c.in_ok-row.ensures.found tells)
+    (c.in_ok-own.ensures.opened tells) rest most empty spread (g.S.Reads.state c.free_previous.new.space) (g.S.Reads.state c.push_front.new.space) c.end_links-next.result.1
     (head_of c.group_head-head.result) (c.in_ok-free_previous.ensures.ok tells)
-    (c.group_head-head.ensures.is ∙ ap (λ (side : Side). group_head c.in_ok-group.group.id side) c.at.ensures) (c.in_ok-push_front.ensures.ok tells)
+    (c.group_head-head.ensures.is ∙ ap (λ (side : Side). group_head c.in_ok-own.own.row.id side) c.at.ensures) (c.in_ok-first.ensures.ok tells)
     (λ rec is. ap (λ (p : ℕ × ℕ). p.1) (c.end_links-next.ensures.of_record rec is))
 
 pub returns-clause-own : goal.returns-clause-own
 returns-clause-own g c = λ tells rest most empty spread.
     let s = g.S.Reads.state c.args.space.now in
     let l = g.S.Reads.state c.load.new.space in
-    own_moved s l (g.S.Reads.state c.own_group.new.space) c.args.node c.args.rel c.in-Some.row c.in_ok-group.group.id (only_loads s l c.args.rel c.load.ensures.state) (sym c.in-Some.is ∙ c.in_ok-row.ensures.found tells)
-    (c.in_ok-group.ensures.opened tells) rest most empty spread (c.in_ok-group.ensures.own tells) (g.S.Reads.state c.free_previous.new.space) (g.S.Reads.state c.push_front.new.space)
-    (head_of c.group_head-head.result) (c.in_ok-free_previous.ensures.ok tells)
-    (c.group_head-head.ensures.is ∙ ap (λ (side : Side). group_head c.in_ok-group.group.id side) c.at.ensures) (c.in_ok-push_front.ensures.ok tells)
+    own_turn s l (g.S.Reads.state c.own_group.new.space) c.args.node c.args.rel c.in-Some.row c.in_ok-own.own.row.id (only_loads s l c.args.rel c.load.ensures.state) (sym c.in-Some.is ∙ c.in_ok-row.ensures.found tells)
+    (c.in_ok-own.ensures.opened tells) rest most empty spread c.in_ok-own.own.first (c.in_ok-own.ensures.grows tells) (g.S.Reads.state c.free_previous.new.space) (g.S.Reads.state c.push_front.new.space)
+    (head_of c.group_head-head.result) c.in_ok-first.first c.end_links-next.result.1 (c.in_ok-free_previous.ensures.ok tells)
+    (c.group_head-head.ensures.is ∙ ap (λ (side : Side). group_head c.in_ok-own.own.row.id side) c.at.ensures) (c.in_ok-first.ensures.ok tells) (c.in_ok-first.ensures.first tells)
 
 pub returns-in_err-row-clause-sound : goal.returns-in_err-row-clause-sound
 returns-in_err-row-clause-sound g c = λ tells rest most empty spread room.
@@ -109,23 +123,23 @@ pub returns-in_default-clause-sound : goal.returns-in_default-clause-sound
 returns-in_default-clause-sound g c = λ tells rest most empty spread room.
     rel_there (g.S.Reads.state c.args.space.now) c.args.node c.args.rel rest most empty spread (sym (c.in_ok-row.ensures.found tells) ∙ c.in_default.is)
 
-pub returns-in_err-group-clause-sound : goal.returns-in_err-group-clause-sound
-returns-in_err-group-clause-sound g c = λ tells rest most empty spread room.
+pub returns-in_err-own-clause-sound : goal.returns-in_err-own-clause-sound
+returns-in_err-own-clause-sound g c = λ tells rest most empty spread room.
     let s = g.S.Reads.state c.args.space.now in
     let l = g.S.Reads.state c.load.new.space in
     let same = only_loads s l c.args.rel c.load.ensures.state in
-    let p = err_from_is_err_and c.from_residual-in_err-group.result c.from_residual-in_err-group.ensures.1 in
-    rw (p.1, p.2) (handed GroupRow ℕ c.in_err-group.field-0.0
-    (c.in_err-group.ensures.sound tells (c.args.rel ∷ rest) most empty (keeps_then s l c.args.node (c.args.rel ∷ rest) most empty same spread.keeps) (subst (λ (q : State). IsDense q.records c.args.node) (sym same) spread.dense)
+    let p = err_from_is_err_and c.from_residual-in_err-own.result c.from_residual-in_err-own.ensures.1 in
+    rw (p.1, p.2) (handed OwnGroup Turn c.in_err-own.field-0.0
+    (c.in_err-own.ensures.sound tells (c.args.rel ∷ rest) most empty (keeps_then s l c.args.node (c.args.rel ∷ rest) most empty same spread.keeps) (subst (λ (q : State). IsDense q.records c.args.node) (sym same) spread.dense)
     (has_room s l c.args.node c.args.rel rest most empty same spread room)))
 
-pub returns-in_err-push_front-clause-sound : goal.returns-in_err-push_front-clause-sound
-returns-in_err-push_front-clause-sound g c = λ tells rest most empty spread room.
+pub returns-in_err-first-clause-sound : goal.returns-in_err-first-clause-sound
+returns-in_err-first-clause-sound g c = λ tells rest most empty spread room.
     let s = g.S.Reads.state c.args.space.now in
     let l = g.S.Reads.state c.load.new.space in
     let t = g.S.Reads.state c.free_previous.new.space in
-    let p = err_from_is_err_and c.from_residual-in_err-push_front.result c.from_residual-in_err-push_front.ensures.1 in
-    not_damaged_at c.from_residual-in_err-push_front.result p.0 (of_chain c.in_err-push_front.field-0.0) p.1 p.2 (chain_sound c.in_err-push_front.field-0.0 (c.in_err-push_front.ensures.sound tells
-    (push_right s l (g.S.Reads.state c.own_group.new.space) c.args.node c.args.rel c.in-Some.row c.in_ok-group.group.id (only_loads s l c.args.rel c.load.ensures.state) (sym c.in-Some.is ∙ c.in_ok-row.ensures.found tells)
-    (c.in_ok-group.ensures.opened tells) rest most empty spread t (head_of c.group_head-head.result) (c.in_ok-free_previous.ensures.ok tells)
-    (c.group_head-head.ensures.is ∙ ap (λ (side : Side). group_head c.in_ok-group.group.id side) c.at.ensures))))
+    let p = err_from_is_err_and c.from_residual-in_err-first.result c.from_residual-in_err-first.ensures.1 in
+    not_damaged_at c.from_residual-in_err-first.result p.0 (of_chain c.in_err-first.field-0.0) p.1 p.2 (chain_sound c.in_err-first.field-0.0 (c.in_err-first.ensures.sound tells
+    (push_right s l (g.S.Reads.state c.own_group.new.space) c.args.node c.args.rel c.in-Some.row c.in_ok-own.own.row.id (only_loads s l c.args.rel c.load.ensures.state) (sym c.in-Some.is ∙ c.in_ok-row.ensures.found tells)
+    (c.in_ok-own.ensures.opened tells) rest most empty spread t (head_of c.group_head-head.result) (c.in_ok-free_previous.ensures.ok tells)
+    (c.group_head-head.ensures.is ∙ ap (λ (side : Side). group_head c.in_ok-own.own.row.id side) c.at.ensures))))

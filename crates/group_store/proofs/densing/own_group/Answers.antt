@@ -4,6 +4,7 @@ use Rattle.rec_bytes.specs.Format.{groups_file}
 use Rattle.rec_bytes.specs.Space.{State, WritesOnly, meta_of}
 use Rattle.node_store.specs.NodeRecord.{node_key}
 use Rattle.group_store.specs.declared.group_row.GroupRow.{GroupRow}
+use Rattle.group_store.specs.declared.making.OwnGroup.{OwnGroup}
 use Rattle.group_store.specs.Finding.{IsFound}
 use Rattle.group_store.specs.GroupChain.{IsDense, LacksGroup}
 use Rattle.group_store.specs.GroupRecord.{group_key}
@@ -14,7 +15,7 @@ use Rattle.std.proofs.lemmas.Result.{err_from_is_err_and}
 use Rattle.group_store.proofs.Openings.{handed}
 use Rattle.group_store.proofs.OwnRoom.{can_make, can_walk, chain_ids, free_ids, node_known}
 use Rattle.group_store.proofs.OwnGroups.{if_ok, keeps_then, none_found, opened_found, opened_made, writes_after}
-use Rattle.group_store.proofs.OwnWrites.{own_none, own_result}
+use Rattle.group_store.proofs.Turns.{found_grows, made_grows}
 use Rattle.group_store.proofs.densing.own_group.Goals as goal
 
 pub returns-in_err-row-clause-writes : goal.returns-in_err-row-clause-writes
@@ -34,17 +35,17 @@ returns-in-Some-clause-opened g c = λ tells rest most empty keeps dense.
     opened_found s now c.args.node c.args.label c.in-Some.row (same_read _ s now c.find_group.ensures.at_most)
     (subst (IsFound s.records c.args.node c.args.label) c.in-Some.is (c.in_ok-row.ensures.found tells)) rest most empty keeps
 
-pub returns-in-Some-clause-own : goal.returns-in-Some-clause-own
-returns-in-Some-clause-own g c = λ tells rest most empty keeps dense.
+pub returns-in-Some-clause-grows : goal.returns-in-Some-clause-grows
+returns-in-Some-clause-grows g c = λ tells rest most empty keeps dense.
     let s = g.S.Reads.state c.args.space.now in
     let now = g.S.Reads.state c.find_group.new.space in
-    (0, own_none s now c.args.node (same_read _ s now c.find_group.ensures.at_most))
+    found_grows s now c.args.node c.in-Some.row.id (same_read _ s now c.find_group.ensures.at_most)
 
 pub returns-in-Some-clause-wrote : goal.returns-in-Some-clause-wrote
 returns-in-Some-clause-wrote g c =
     let s = g.S.Reads.state c.args.space.now in
     let now = g.S.Reads.state c.find_group.new.space in
-    (0, same_writes s now _ (same_read _ s now c.find_group.ensures.at_most))
+    same_writes s now _ (same_read _ s now c.find_group.ensures.at_most)
 
 pub returns-in-Some-clause-writes : goal.returns-in-Some-clause-writes
 returns-in-Some-clause-writes g c =
@@ -60,52 +61,52 @@ pub returns-in-None-clause-opened : goal.returns-in-None-clause-opened
 returns-in-None-clause-opened g c = λ tells.
     let s = g.S.Reads.state c.args.space.now in
     let now = g.S.Reads.state c.find_group.new.space in
-    let end = g.S.Reads.state c.make_group.new.space in
+    let end = g.S.Reads.state c.make_own.new.space in
     let same = same_read _ s now c.find_group.ensures.at_most in
     let node = c.args.node in
     let label = c.args.label in
-    if_ok c.make_group.result _
-    (λ row. (rest : List ℕ) (most : ℕ) (empty : List ℕ) → KeepsBut s.records s.shape node rest most empty → IsDense s.records node → KeepsBut end.records end.shape node rest most (row.id ∷ empty) × HasOpened s end node label row.id)
-    (λ row made rest most empty keeps dense.
+    if_ok c.make_own.result _
+    (λ (own : OwnGroup). (rest : List ℕ) (most : ℕ) (empty : List ℕ) → KeepsBut s.records s.shape node rest most empty → IsDense s.records node → KeepsBut end.records end.shape node rest most (own.row.id ∷ empty) × HasOpened s end node label own.row.id)
+    (λ own made rest most empty keeps dense.
     let lacks = none_found s node label rest most empty keeps dense c.in_ok-row.field-0 c.in-None.is (λ xs chain. c.in_ok-row.ensures.none tells dense xs chain) in
-    opened_made s now end node label row.id rest most empty same
+    opened_made s now end node label own.row.id rest most empty same
     (made rest most empty (keeps_then s now node rest most empty same keeps) (subst (λ (t : State). IsDense t.records node) (sym same) dense) (subst (λ (t : State). LacksGroup t.records node label) (sym same) lacks)))
-    (c.make_group.ensures.rules tells)
+    (c.make_own.ensures.rules tells)
 
-pub returns-in-None-clause-own : goal.returns-in-None-clause-own
-returns-in-None-clause-own g c = λ tells.
+pub returns-in-None-clause-grows : goal.returns-in-None-clause-grows
+returns-in-None-clause-grows g c = λ tells.
     let s = g.S.Reads.state c.args.space.now in
     let now = g.S.Reads.state c.find_group.new.space in
-    own_result c.make_group.result s now (g.S.Reads.state c.make_group.new.space) c.args.node c.args.label (same_read _ s now c.find_group.ensures.at_most)
+    made_grows c.make_own.result s now (g.S.Reads.state c.make_own.new.space) c.args.node c.args.label (same_read _ s now c.find_group.ensures.at_most)
     (λ rest most empty keeps dense. none_found s c.args.node c.args.label rest most empty keeps dense c.in_ok-row.field-0 c.in-None.is (λ xs chain. c.in_ok-row.ensures.none tells dense xs chain))
-    (c.make_group.ensures.made tells) (c.make_group.ensures.ok tells)
+    (c.make_own.ensures.made tells) (c.make_own.ensures.first tells)
 
 pub returns-in-None-clause-wrote : goal.returns-in-None-clause-wrote
 returns-in-None-clause-wrote g c =
     let s = g.S.Reads.state c.args.space.now in
     let now = g.S.Reads.state c.find_group.new.space in
-    let end = g.S.Reads.state c.make_group.new.space in
+    let end = g.S.Reads.state c.make_own.new.space in
     let same = same_read _ s now c.find_group.ensures.at_most in
-    if_ok c.make_group.result _ (λ (row : GroupRow). (first : ℕ) × WritesOnly s end (group_key row.id ∷ group_key first ∷ node_key c.args.node ∷ meta_key_of groups_file ∷ []))
-    (λ row k. (k.0, writes_after s now end _ same k.1)) c.make_group.ensures.wrote
+    if_ok c.make_own.result _ (λ (own : OwnGroup). WritesOnly s end (group_key own.row.id ∷ group_key own.first ∷ node_key c.args.node ∷ meta_key_of groups_file ∷ []))
+    (λ own k. writes_after s now end _ same k) c.make_own.ensures.wrote
 
 pub returns-in-None-clause-writes : goal.returns-in-None-clause-writes
 returns-in-None-clause-writes g c =
     let s = g.S.Reads.state c.args.space.now in
     let now = g.S.Reads.state c.find_group.new.space in
-    let end = g.S.Reads.state c.make_group.new.space in
-    let k = c.make_group.ensures.writes in
+    let end = g.S.Reads.state c.make_own.new.space in
+    let k = c.make_own.ensures.writes in
     (k.1, k.0, writes_after s now end _ (same_read _ s now c.find_group.ensures.at_most) k.2)
 
 pub returns-in-None-clause-shape : goal.returns-in-None-clause-shape
 returns-in-None-clause-shape g c = λ tells.
-    c.make_group.ensures.shape tells ∙ ap (λ (t : State). t.shape) (same_read _ (g.S.Reads.state c.args.space.now) (g.S.Reads.state c.find_group.new.space) c.find_group.ensures.at_most)
+    c.make_own.ensures.shape tells ∙ ap (λ (t : State). t.shape) (same_read _ (g.S.Reads.state c.args.space.now) (g.S.Reads.state c.find_group.new.space) c.find_group.ensures.at_most)
 
 pub returns-in_err-row-clause-sound : goal.returns-in_err-row-clause-sound
 returns-in_err-row-clause-sound g c = λ tells rest most empty keeps dense room.
     let s = g.S.Reads.state c.args.space.now in
     let p = err_from_is_err_and c.from_residual.result c.from_residual.ensures.1 in
-    rw (p.1, p.2) (handed (Option GroupRow) GroupRow c.in_err-row.field-0.0
+    rw (p.1, p.2) (handed (Option GroupRow) OwnGroup c.in_err-row.field-0.0
     (c.in_err-row.ensures.sound tells (node_known s c.args.node rest most empty keeps dense) (chain_ids s c.args.node rest most empty keeps dense) (can_walk s c.args.node rest most empty keeps dense)))
 
 pub returns-in-None-clause-sound : goal.returns-in-None-clause-sound
@@ -117,6 +118,6 @@ returns-in-None-clause-sound g c = λ tells rest most empty keeps dense full.
     let lacks = none_found s node c.args.label rest most empty keeps dense c.in_ok-row.field-0 c.in-None.is (λ xs chain. c.in_ok-row.ensures.none tells dense xs chain) in
     let keeps_now = keeps_then s now node rest most empty same keeps in
     let dense_now = subst (λ (t : State). IsDense t.records node) (sym same) dense in
-    c.make_group.ensures.sound tells (node_known now node rest most empty keeps_now dense_now) (free_ids now node rest most empty keeps_now dense_now) (chain_ids now node rest most empty keeps_now dense_now)
+    c.make_own.ensures.sound tells (node_known now node rest most empty keeps_now dense_now) (free_ids now node rest most empty keeps_now dense_now) (chain_ids now node rest most empty keeps_now dense_now)
     (can_make now node rest most empty keeps_now dense_now c.args.label (subst (λ (t : State). LacksGroup t.records node c.args.label) (sym same) lacks)) dense_now
     (subst (λ (t : State). (meta_of t groups_file).live ≢ room t groups_file) (sym same) full)

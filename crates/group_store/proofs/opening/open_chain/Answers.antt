@@ -1,21 +1,16 @@
-use Rattle.std.proofs.Common.{◌≡◌, ◌+◌, ℕ, true, List, sym, ap, ◌∙◌, subst, arith, refl}
+use Rattle.std.proofs.Common.{◌+◌, ℕ, List, sym, ◌∙◌, subst, arith}
 use Rattle.std.proofs.lemmas.Bool.{false≢true}
 use Rattle.std.proofs.lemmas.Result.{err_from_is_err_and}
-use Rattle.rec_bytes.specs.declared.shape.Shape.{Shape}
-use Rattle.rec_bytes.specs.Shape.{is_allowed}
-use Rattle.rec_bytes.specs.Space.{State}
 use Rattle.store_rules.specs.Rules.{Head}
 use Rattle.store_rules.specs.Views.{RelRow}
-use Rattle.store_rules.proofs.WriteLaws.{beside_more, beside_then, none_beside}
-use Rattle.node_store.specs.NodeRecord.{node_key}
 use Rattle.chain_edit.specs.declared.head.Head.{Head as ChainHead}
 use Rattle.chain_edit.specs.Heads.{head_of}
 use Rattle.group_store.specs.GroupChain.{IsDense}
-use Rattle.group_store.specs.Opening.{CanOpen, OpensChain, WritesOpened, dense_writes, moved_writes}
+use Rattle.group_store.specs.Opening.{CanOpen, OpensChain, WritesOpened, moved_writes}
 use Rattle.group_store.proofs.Openings.{handed}
 use Rattle.group_store.proofs.OwnGroups.{if_ok}
-use Rattle.group_store.proofs.GroupWrites.{opened_more, opened_none, opened_then}
-use Rattle.group_store.proofs.Opens.{dense_beside, dense_can, dense_group_can, dense_group_room, dense_opened, dense_opens, dense_room, few_beside, group_can, group_opened, moved_opened, opens_node, room_same, then_opens}
+use Rattle.group_store.proofs.GroupWrites.{opened_more, opened_none}
+use Rattle.group_store.proofs.Opens.{dense_beside, dense_can, dense_group_can, dense_group_room, dense_opened, dense_opens, dense_room, failed_beside, group_can, group_opened, opens_node, room_same, then_opens}
 use Rattle.group_store.proofs.opening.open_chain.Goals as goal
 
 pub returns-then-branch-clause-opened : goal.returns-then-branch-clause-opened
@@ -25,9 +20,9 @@ returns-then-branch-clause-opened g c = λ tells.
     let t = g.S.Reads.state c.open_group.new.space in
     let same = c.in_ok-is_dense.ensures.state in
     let dense = (c.in_ok-is_dense.ensures.is tells).0 c.if-branch.true in
-    if_ok c.open_group.result _ (λ (head : ChainHead). (row : RelRow) (empty : List ℕ) → CanOpen s c.args.node c.args.degree c.args.label c.args.side row empty → OpensChain s t (head_of head) c.args.node row empty)
-    (λ head f row empty can. then_opens s z same c.args.node c.args.degree c.args.label c.args.side row empty can t (head_of head)
-    (f row empty (group_can s z same c.args.node c.args.degree c.args.label c.args.side row empty can dense))) (c.open_group.ensures.opened tells)
+    if_ok c.open_group.result _ (λ (head : ChainHead). (row : RelRow) (empty : List ℕ) → CanOpen s c.args.node c.args.degree c.args.threshold c.args.label c.args.side row empty → OpensChain s t (head_of head) c.args.node row empty)
+    (λ head f row empty can. then_opens s z same c.args.node c.args.degree c.args.threshold c.args.label c.args.side row empty can t (head_of head)
+    (f row empty (group_can s z same c.args.node c.args.degree c.args.threshold c.args.label c.args.side row empty can dense))) (c.open_group.ensures.opened tells)
 
 pub returns-then-branch-clause-sound : goal.returns-then-branch-clause-sound
 returns-then-branch-clause-sound g c = λ tells row empty can room.
@@ -35,17 +30,16 @@ returns-then-branch-clause-sound g c = λ tells row empty can room.
     let z = g.S.Reads.state c.is_dense.new.space in
     let same = c.in_ok-is_dense.ensures.state in
     let dense = (c.in_ok-is_dense.ensures.is tells).0 c.if-branch.true in
-    c.open_group.ensures.sound tells row empty (group_can s z same c.args.node c.args.degree c.args.label c.args.side row empty can dense) (room_same s z same c.args.node c.args.degree c.args.label c.args.side row empty can room)
+    c.open_group.ensures.sound tells row empty (group_can s z same c.args.node c.args.degree c.args.threshold c.args.label c.args.side row empty can dense) (room_same s z same c.args.node c.args.degree c.args.threshold c.args.label c.args.side row empty can room)
 
-pub returns-then-degree-shape-clause-opened : goal.returns-then-degree-shape-clause-opened
-returns-then-degree-shape-clause-opened g c = λ tells row empty can.
+pub returns-then-degree-threshold-clause-opened : goal.returns-then-degree-threshold-clause-opened
+returns-then-degree-threshold-clause-opened g c = λ tells row empty can.
     let s = g.S.Reads.state c.args.space.now in
     let z = g.S.Reads.state c.is_dense.new.space in
     let same = c.in_ok-is_dense.ensures.state in
     let thin : ¬ IsDense s.records c.args.node = λ d. false≢true (sym c.if-branch.false ∙ (c.in_ok-is_dense.ensures.is tells).1 d) in
-    let shape : c.shape.result ≡ s.shape = c.shape.ensures.is ∙ ap (λ (q : State). q.shape) same in
     subst (λ (h : Head). OpensChain s z h c.args.node row empty) (sym c.node_head.ensures.is)
-    (opens_node s z same c.args.node c.args.degree c.args.label c.args.side row empty can thin (λ e. c.if-degree-shape.true (e ∙ sym (ap (λ (q : Shape). q.threshold) shape))))
+    (opens_node s z same c.args.node c.args.degree c.args.threshold c.args.label c.args.side row empty can thin c.if-degree-threshold.true)
 
 pub returns-in_err-make_dense-clause-sound : goal.returns-in_err-make_dense-clause-sound
 returns-in_err-make_dense-clause-sound g c = λ tells row empty can room.
@@ -55,16 +49,14 @@ returns-in_err-make_dense-clause-sound g c = λ tells row empty can room.
     let thin : ¬ IsDense s.records c.args.node = λ d. false≢true (sym c.if-branch.false ∙ (c.in_ok-is_dense.ensures.is tells).1 d) in
     let p = err_from_is_err_and c.from_residual-in_err-make_dense.result c.from_residual-in_err-make_dense.ensures.1 in
     rw (p.1, p.2) (handed Unit ChainHead c.in_err-make_dense.field-0.0 (c.in_err-make_dense.ensures.sound tells s.shape.threshold empty
-    (dense_can s z same c.args.node c.args.degree c.args.label c.args.side row empty can thin) (dense_room s z same c.args.node c.args.degree c.args.label c.args.side row empty can thin room)))
+    (dense_can s z same c.args.node c.args.degree c.args.threshold c.args.label c.args.side row empty can thin) (dense_room s z same c.args.node c.args.degree c.args.threshold c.args.label c.args.side row empty can thin room)))
 
 pub returns-in_err-make_dense-clause-writes : goal.returns-in_err-make_dense-clause-writes
 returns-in_err-make_dense-clause-writes g c =
     let s = g.S.Reads.state c.args.space.now in
     let z = g.S.Reads.state c.is_dense.new.space in
     let u = g.S.Reads.state c.make_dense.new.space in
-    let same = c.in_ok-is_dense.ensures.state in
-    let shape : c.shape.result ≡ s.shape = c.shape.ensures.is ∙ ap (λ (q : State). q.shape) same in
-    dense_beside s z u c.args.node c.args.degree same u (c.if-degree-shape.false ∙ ap (λ (q : Shape). q.threshold) shape) c.make_dense.ensures.writes 0 (omega arith) (none_beside (node_key c.args.node) u u refl)
+    failed_beside s z u c.args.node c.args.threshold c.args.degree c.in_ok-is_dense.ensures.state u c.if-degree-threshold.false c.make_dense.ensures.writes
 
 pub returns-clause-opened : goal.returns-clause-opened
 returns-clause-opened g c = λ tells.
@@ -74,11 +66,11 @@ returns-clause-opened g c = λ tells.
     let t = g.S.Reads.state c.open_group-2.new.space in
     let same = c.in_ok-is_dense.ensures.state in
     let thin : ¬ IsDense s.records c.args.node = λ d. false≢true (sym c.if-branch.false ∙ (c.in_ok-is_dense.ensures.is tells).1 d) in
-    if_ok c.open_group-2.result _ (λ (head : ChainHead). (row : RelRow) (empty : List ℕ) → CanOpen s c.args.node c.args.degree c.args.label c.args.side row empty → OpensChain s t (head_of head) c.args.node row empty)
+    if_ok c.open_group-2.result _ (λ (head : ChainHead). (row : RelRow) (empty : List ℕ) → CanOpen s c.args.node c.args.degree c.args.threshold c.args.label c.args.side row empty → OpensChain s t (head_of head) c.args.node row empty)
     (λ head f row empty can.
-    let becomes = c.in_ok-make_dense.ensures.made tells s.shape.threshold empty (dense_can s z same c.args.node c.args.degree c.args.label c.args.side row empty can thin) in
-    dense_opens s z same c.args.node c.args.degree c.args.label c.args.side row empty can u becomes t (head_of head)
-    (f row empty (dense_group_can s z same c.args.node c.args.degree c.args.label c.args.side row empty can u becomes))) (c.open_group-2.ensures.opened tells)
+    let becomes = c.in_ok-make_dense.ensures.made tells s.shape.threshold empty (dense_can s z same c.args.node c.args.degree c.args.threshold c.args.label c.args.side row empty can thin) in
+    dense_opens s z same c.args.node c.args.degree c.args.threshold c.args.label c.args.side row empty can u becomes t (head_of head)
+    (f row empty (dense_group_can s z same c.args.node c.args.degree c.args.threshold c.args.label c.args.side row empty can u becomes))) (c.open_group-2.ensures.opened tells)
 
 pub returns-clause-sound : goal.returns-clause-sound
 returns-clause-sound g c = λ tells row empty can room.
@@ -87,46 +79,31 @@ returns-clause-sound g c = λ tells row empty can room.
     let u = g.S.Reads.state c.make_dense.new.space in
     let same = c.in_ok-is_dense.ensures.state in
     let thin : ¬ IsDense s.records c.args.node = λ d. false≢true (sym c.if-branch.false ∙ (c.in_ok-is_dense.ensures.is tells).1 d) in
-    let becomes = c.in_ok-make_dense.ensures.made tells s.shape.threshold empty (dense_can s z same c.args.node c.args.degree c.args.label c.args.side row empty can thin) in
-    c.open_group-2.ensures.sound tells row empty (dense_group_can s z same c.args.node c.args.degree c.args.label c.args.side row empty can u becomes)
-    (dense_group_room s z same c.args.node c.args.degree c.args.label c.args.side row empty can u becomes room)
+    let becomes = c.in_ok-make_dense.ensures.made tells s.shape.threshold empty (dense_can s z same c.args.node c.args.degree c.args.threshold c.args.label c.args.side row empty can thin) in
+    c.open_group-2.ensures.sound tells row empty (dense_group_can s z same c.args.node c.args.degree c.args.threshold c.args.label c.args.side row empty can u becomes)
+    (dense_group_room s z same c.args.node c.args.degree c.args.threshold c.args.label c.args.side row empty can u becomes room)
 
 pub returns-clause-writes : goal.returns-clause-writes
 returns-clause-writes g c =
     let s = g.S.Reads.state c.args.space.now in
     let z = g.S.Reads.state c.is_dense.new.space in
     let u = g.S.Reads.state c.make_dense.new.space in
-    let same = c.in_ok-is_dense.ensures.state in
-    let shape : c.shape.result ≡ s.shape = c.shape.ensures.is ∙ ap (λ (q : State). q.shape) same in
-    dense_beside s z (g.S.Reads.state c.open_group-2.new.space) c.args.node c.args.degree same u (c.if-degree-shape.false ∙ ap (λ (q : Shape). q.threshold) shape) c.make_dense.ensures.writes 2 (omega arith) c.open_group-2.ensures.writes
+    dense_beside s z (g.S.Reads.state c.open_group-2.new.space) c.args.node c.args.threshold c.args.degree c.in_ok-is_dense.ensures.state u c.if-degree-threshold.false c.in_ok-make_dense.ensures.wrote c.open_group-2.ensures.writes
 
--- ---- what is written, by the head's own record, and at most
+-- ---- what is written, by the head's own record
 pub returns-then-branch-clause-wrote : goal.returns-then-branch-clause-wrote
 returns-then-branch-clause-wrote g c =
     let s = g.S.Reads.state c.args.space.now in
     let z = g.S.Reads.state c.is_dense.new.space in
     let t = g.S.Reads.state c.open_group.new.space in
-    if_ok c.open_group.result _ (λ (head : ChainHead). WritesOpened s t c.args.node head.key (dense_writes s.shape.threshold c.args.degree + 1))
-    (λ head w. group_opened s z t c.args.node c.args.degree c.in_ok-is_dense.ensures.state head.key w) c.open_group.ensures.wrote
+    if_ok c.open_group.result _ (λ (head : ChainHead). WritesOpened s t c.args.node head.key (moved_writes c.args.threshold c.args.degree + 1))
+    (λ head w. group_opened s z t c.args.node c.args.threshold c.args.degree c.in_ok-is_dense.ensures.state head.key w) c.open_group.ensures.wrote
 
-pub returns-then-branch-clause-few_writes : goal.returns-then-branch-clause-few_writes
-returns-then-branch-clause-few_writes g c =
-    let s = g.S.Reads.state c.args.space.now in
-    let z = g.S.Reads.state c.is_dense.new.space in
-    beside_more (omega arith) (beside_then (none_beside (node_key c.args.node) s z c.in_ok-is_dense.ensures.state) c.open_group.ensures.writes)
-
-pub returns-then-degree-shape-clause-wrote : goal.returns-then-degree-shape-clause-wrote
-returns-then-degree-shape-clause-wrote g c =
+pub returns-then-degree-threshold-clause-wrote : goal.returns-then-degree-threshold-clause-wrote
+returns-then-degree-threshold-clause-wrote g c =
     let s = g.S.Reads.state c.args.space.now in
     let z = g.S.Reads.state c.is_dense.new.space in
     opened_more (omega arith) (opened_none s z c.args.node c.node_head.result.key c.in_ok-is_dense.ensures.state)
-
-pub returns-in_err-make_dense-clause-few_writes : goal.returns-in_err-make_dense-clause-few_writes
-returns-in_err-make_dense-clause-few_writes g c =
-    let s = g.S.Reads.state c.args.space.now in
-    let z = g.S.Reads.state c.is_dense.new.space in
-    let u = g.S.Reads.state c.make_dense.new.space in
-    few_beside s z u u (node_key c.args.node) c.in_ok-is_dense.ensures.state (subst (λ (h : Shape). is_allowed h ≡ true) c.shape.ensures.is c.shape.ensures.allowed) c.make_dense.ensures.writes 0 (omega arith) (none_beside (node_key c.args.node) u u refl)
 
 pub returns-clause-wrote : goal.returns-clause-wrote
 returns-clause-wrote g c =
@@ -134,44 +111,5 @@ returns-clause-wrote g c =
     let z = g.S.Reads.state c.is_dense.new.space in
     let u = g.S.Reads.state c.make_dense.new.space in
     let t = g.S.Reads.state c.open_group-2.new.space in
-    let same = c.in_ok-is_dense.ensures.state in
-    let shape : c.shape.result ≡ s.shape = c.shape.ensures.is ∙ ap (λ (q : State). q.shape) same in
-    if_ok c.open_group-2.result _ (λ (head : ChainHead). WritesOpened s t c.args.node head.key (dense_writes s.shape.threshold c.args.degree + 1))
-    (λ head w. dense_opened s z t c.args.node c.args.degree same u (c.if-degree-shape.false ∙ ap (λ (q : Shape). q.threshold) shape) c.make_dense.ensures.writes head.key w) c.open_group-2.ensures.wrote
-
-pub returns-clause-few_writes : goal.returns-clause-few_writes
-returns-clause-few_writes g c =
-    let s = g.S.Reads.state c.args.space.now in
-    let z = g.S.Reads.state c.is_dense.new.space in
-    let u = g.S.Reads.state c.make_dense.new.space in
-    few_beside s z u (g.S.Reads.state c.open_group-2.new.space) (node_key c.args.node) c.in_ok-is_dense.ensures.state (subst (λ (h : Shape). is_allowed h ≡ true) c.shape.ensures.is c.shape.ensures.allowed) c.make_dense.ensures.writes 2 (omega arith) c.open_group-2.ensures.writes
-
--- ---- what is written where the store keeps the rules
-pub returns-then-branch-clause-exact : goal.returns-then-branch-clause-exact
-returns-then-branch-clause-exact g c = λ tells.
-    let s = g.S.Reads.state c.args.space.now in
-    let z = g.S.Reads.state c.is_dense.new.space in
-    let t = g.S.Reads.state c.open_group.new.space in
-    let node = c.args.node in
-    if_ok c.open_group.result _ (λ (head : ChainHead). (row : RelRow) (empty : List ℕ) → CanOpen s node c.args.degree c.args.label c.args.side row empty → WritesOpened s t node head.key (moved_writes s.shape.threshold c.args.degree + 1))
-    (λ head w row empty can. opened_more (omega arith) (opened_then s z t node head.key (none_beside (node_key node) s z c.in_ok-is_dense.ensures.state) w)) c.open_group.ensures.wrote
-
-pub returns-then-degree-shape-clause-exact : goal.returns-then-degree-shape-clause-exact
-returns-then-degree-shape-clause-exact g c = λ tells row empty can.
-    let s = g.S.Reads.state c.args.space.now in
-    let z = g.S.Reads.state c.is_dense.new.space in
-    opened_more (omega arith) (opened_none s z c.args.node c.node_head.result.key c.in_ok-is_dense.ensures.state)
-
-pub returns-clause-exact : goal.returns-clause-exact
-returns-clause-exact g c = λ tells.
-    let s = g.S.Reads.state c.args.space.now in
-    let z = g.S.Reads.state c.is_dense.new.space in
-    let u = g.S.Reads.state c.make_dense.new.space in
-    let t = g.S.Reads.state c.open_group-2.new.space in
-    let node = c.args.node in
-    let same = c.in_ok-is_dense.ensures.state in
-    let shape : c.shape.result ≡ s.shape = c.shape.ensures.is ∙ ap (λ (q : State). q.shape) same in
-    let thin : ¬ IsDense s.records node = λ d. false≢true (sym c.if-branch.false ∙ (c.in_ok-is_dense.ensures.is tells).1 d) in
-    if_ok c.open_group-2.result _ (λ (head : ChainHead). (row : RelRow) (empty : List ℕ) → CanOpen s node c.args.degree c.args.label c.args.side row empty → WritesOpened s t node head.key (moved_writes s.shape.threshold c.args.degree + 1))
-    (λ head w row empty can. moved_opened s z u t node c.args.degree head.key same (c.if-degree-shape.false ∙ ap (λ (q : Shape). q.threshold) shape) can.counted
-    (c.in_ok-make_dense.ensures.exact tells s.shape.threshold empty (dense_can s z same node c.args.degree c.args.label c.args.side row empty can thin)) w) c.open_group-2.ensures.wrote
+    if_ok c.open_group-2.result _ (λ (head : ChainHead). WritesOpened s t c.args.node head.key (moved_writes c.args.threshold c.args.degree + 1))
+    (λ head w. dense_opened s z t c.args.node c.args.threshold c.args.degree c.in_ok-is_dense.ensures.state u c.if-degree-threshold.false head.key c.in_ok-make_dense.ensures.wrote w) c.open_group-2.ensures.wrote

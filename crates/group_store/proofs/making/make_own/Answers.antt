@@ -14,7 +14,7 @@ use Rattle.group_store.specs.Making.IsMakeDamage.{NotDense, BadLink}
 use Rattle.group_store.proofs.MakeSteps.{all_writes, link_told, made_has, made_is, node_told, on_damage, right_first, same_read, same_then, same_writes, take_told}
 use Rattle.group_store.proofs.MadeRules.{made_shape, rules_made}
 use Rattle.rec_bytes.specs.Space.{State, WritesOnly, after_get}
-use Rattle.group_store.proofs.making.make_group.Goals as goal
+use Rattle.group_store.proofs.making.make_own.Goals as goal
 
 pub returns-in_err-first-clause-damaged : goal.returns-in_err-first-clause-damaged
 returns-in_err-first-clause-damaged g c = λ tells.
@@ -132,12 +132,15 @@ pub returns-clause-wrote : goal.returns-clause-wrote
 returns-clause-wrote g c =
     let s = g.S.Reads.state c.args.space.now in
     let now = g.S.Reads.state c.first_group.new.space in
-    let id : c.in_ok-id.id ≡ c.empty_row.result.id = sym (ap (λ (r : GroupRow). r.id) c.empty_row.ensures) in (
-      c.in-Some.first,
-      subst (λ k. WritesOnly s (g.S.Reads.state c.lead.new.space) (group_key k ∷ group_key c.in-Some.first ∷ node_key c.args.node ∷ meta_key_of groups_file ∷ [])) id
-          (all_writes s now (g.S.Reads.state c.take.new.space) (g.S.Reads.state c.lead.new.space) (group_key c.in_ok-id.id) (group_key c.in-Some.first) (node_key c.args.node) (meta_key_of groups_file)
-          (same_read 1 s now c.in_ok-first.ensures.at_most) c.in_ok-id.ensures.writes c.in_ok-lead.ensures.writes),
-    )
+    let id : c.in_ok-id.id ≡ c.empty_row.result.id = sym (ap (λ (r : GroupRow). r.id) c.empty_row.ensures) in
+    subst (λ k. WritesOnly s (g.S.Reads.state c.lead.new.space) (group_key k ∷ group_key c.in-Some.first ∷ node_key c.args.node ∷ meta_key_of groups_file ∷ [])) id
+    (all_writes s now (g.S.Reads.state c.take.new.space) (g.S.Reads.state c.lead.new.space) (group_key c.in_ok-id.id) (group_key c.in-Some.first) (node_key c.args.node) (meta_key_of groups_file)
+    (same_read 1 s now c.in_ok-first.ensures.at_most) c.in_ok-id.ensures.writes c.in_ok-lead.ensures.writes)
+
+pub returns-clause-first : goal.returns-clause-first
+returns-clause-first g c = λ tells.
+    let s = g.S.Reads.state c.args.space.now in
+    (subst (IsFirst s.records c.args.node) c.in-Some.is (c.in_ok-first.ensures.first tells)).1
 
 pub returns-in_err-first-clause-shape : goal.returns-in_err-first-clause-shape
 returns-in_err-first-clause-shape g c = λ _.
