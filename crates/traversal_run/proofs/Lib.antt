@@ -1,5 +1,8 @@
 pub mod Asked
 pub mod Begins
+pub mod HeldRows
+pub mod HeldRuns
+pub mod HeldSteps
 pub mod Codes
 pub mod HopEdges
 pub mod LeftRows
@@ -10,8 +13,10 @@ pub mod Nothing
 pub mod OnlyReads
 pub mod Orders
 pub mod Owned
+pub mod Places
 pub mod Ranks
 pub mod Rows
+pub mod Scans
 pub mod Sorting
 pub mod Stops
 pub mod TakenValues

@@ -1,5 +1,5 @@
 -- A limit that is the last step, and how many items it still lets through.
-use Rattle.std.proofs.Common.{◌≡◌, ◌≢◌, ◌<◌, ◌≤◌, ℕ, ◌+◌, ◌-◌, suc, zero, Bool, true, false, not, ◌&&◌, cond, nat_eq, Option, None, Some, List, [], ◌∷◌, ◌++◌, length, take, drop, get_or, set, map, add-one, add-zero, zero-add, refl, sym, ap, ◌∙◌, subst, ⊎_elim, arith}
+use Rattle.std.proofs.Common.{◌≡◌, ◌<◌, ◌≤◌, ℕ, ◌+◌, ◌-◌, suc, zero, Bool, true, false, not, ◌&&◌, cond, Option, None, Some, List, [], ◌∷◌, ◌++◌, length, take, drop, get_or, set, map, add-one, add-zero, zero-add, refl, sym, ap, ◌∙◌, ⊎_elim, arith}
 use borrow.Author.Tests.{eqb-true}
 use Rattle.std.proofs.Math.ListN.{get_or-map}
 use Rattle.std.specs.Bool.{IsTrue}

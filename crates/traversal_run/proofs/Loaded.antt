@@ -3,7 +3,7 @@ use Rattle.std.proofs.Common.{◌≡◌, ◌≢◌, ◌⊎◌, ◌<◌, ℕ, Boo
 use Rattle.std.specs.List.{list_any}
 use Rattle.std.specs.FinMap as maps
 use Rattle.std.specs.FinMap.{get-empty}
-use Rattle.plain_graph.specs.Graph.{Edge, Node, edge_number, edge_properties, node_number, node_properties, properties_at}
+use Rattle.plain_graph.specs.Graph.{edge_number, edge_properties, node_number, node_properties, properties_at}
 use Rattle.plain_graph.specs.Meaning.{label_of, node_label, properties_of}
 use Rattle.plain_graph.specs.Properties.{no_properties}
 use Rattle.plain_graph.specs.Values.{is_text}
@@ -14,9 +14,8 @@ use Rattle.plain_graph.proofs.PropertyLaws.{order}
 use Rattle.rec_bytes.specs.Format as format
 use Rattle.rec_bytes.specs.Space.{State}
 use Rattle.rec_bytes.specs.declared.shape.Shape.{Shape}
-use Rattle.store_rules.specs.Chains.{In}
 use Rattle.store_rules.specs.Graph.{graph_of, node_of}
-use Rattle.store_rules.specs.Properties.{Property, keys_of}
+use Rattle.store_rules.specs.Properties.{Property}
 use Rattle.store_rules.specs.PropertyChange.{property_from, target_in}
 use Rattle.store_rules.specs.Rules.{IsWellFormed}
 use Rattle.store_rules.specs.Views.{Records, high, kind_at, node_in, rec_at}

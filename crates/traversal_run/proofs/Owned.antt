@@ -1,5 +1,5 @@
 -- The properties of an item, as those that its owner has in its records.
-use Rattle.std.proofs.Common.{◌≡◌, ◌≢◌, ◌<◌, ℕ, Bool, true, false, cond, nat_eq, Option, None, Some, List, [], ◌∷◌, map, option_map, inl, inr, refl, sym, ap, ◌∙◌, subst}
+use Rattle.std.proofs.Common.{◌≡◌, ◌<◌, ℕ, Bool, true, false, cond, nat_eq, None, Some, List, [], ◌∷◌, map, option_map, inl, inr, refl, sym, ap, ◌∙◌, subst}
 use Rattle.std.specs.FinMap as maps
 use Rattle.std.specs.Cmp.{eq_by_cmp_equiv}
 use Rattle.std.specs.Cmp.Lexicographic.{nat_list_cmp_total}
@@ -8,7 +8,6 @@ use Rattle.std.proofs.lemmas.Cmp.{nat_eq_equiv}
 use borrow.Author.Tests.{eqb-true}
 use Rattle.plain_graph.specs.Meaning.{properties_of}
 use Rattle.plain_graph.specs.declared.item.Item.{Item}
-use Rattle.plain_graph.specs.declared.value.Value.{Value}
 use Rattle.plain_graph.specs.Properties.{Properties, no_properties}
 use Rattle.plain_graph.specs.Values.{is_text}
 use Rattle.plain_graph.proofs.PropertyLaws.{order, same_key}
@@ -17,7 +16,7 @@ use Rattle.prop_store.specs.Fault as props
 use Rattle.prop_store.specs.Finding.{property_of, value_of}
 use Rattle.prop_store.specs.Reading.{ReadsAtMost, prop_of}
 use Rattle.prop_store.specs.declared.prop.Prop.{Prop}
-use Rattle.prop_store.specs.Owner.{HasProperties, IsOwner, first_of}
+use Rattle.prop_store.specs.Owner.{HasProperties, IsOwner}
 use Rattle.prop_store.specs.declared.owner.Owner.{Owner}
 use Rattle.prop_store.specs.declared.fault.Fault.{Fault as PropFault}
 use Rattle.prop_store.specs.declared.fault.Fault.TheVariants as faults

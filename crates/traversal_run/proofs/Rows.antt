@@ -1,5 +1,5 @@
 -- Rows of steps, cut at a place.
-use Rattle.std.proofs.Common.{◌≡◌, ◌<◌, ◌≤◌, ℕ, ◌+◌, suc, zero, false, List, [], ◌∷◌, ◌++◌, length, take, drop, get_or, set, true, Bool, not, ◌&&◌, ◌||◌, map, add-one, refl, sym, ap, ◌∙◌, subst, arith}
+use Rattle.std.proofs.Common.{◌≡◌, ◌<◌, ℕ, ◌+◌, suc, zero, false, List, [], ◌∷◌, ◌++◌, length, take, drop, get_or, set, true, Bool, not, ◌&&◌, ◌||◌, map, add-one, refl, sym, ap, ◌∙◌, subst, arith}
 use borrow.Author.Tests.{eqb-true}
 use Rattle.std.specs.List.{filter, list_all}
 use Rattle.plain_graph.specs.Graph.{Graph}
@@ -108,7 +108,7 @@ idle_drop [] (suc at) idle = tt
 idle_drop (row ∷ rows) zero idle = idle
 idle_drop (row ∷ rows) (suc at) idle = idle_drop rows at idle.1
 
-idle_at : (rows : List Row) (at : ℕ) (row any : Row) → at < length rows → row ≡ get_or rows at any → AreIdle rows → row.waiting ≡ []
+pub idle_at : (rows : List Row) (at : ℕ) (row any : Row) → at < length rows → row ≡ get_or rows at any → AreIdle rows → row.waiting ≡ []
 idle_at [] at row any lt is idle = absurd (omega arith)
 idle_at (first ∷ rows) zero row any lt is idle = ap (λ (r : Row). r.waiting) is ∙ idle.0
 idle_at (first ∷ rows) (suc at) row any lt is idle = idle_at rows at row any (omega arith) is idle.1

@@ -1,5 +1,5 @@
 -- What a step gives for one more item.
-use Rattle.std.proofs.Common.{◌≡◌, ◌≢◌, ℕ, ◌-◌, suc, zero, [], ◌∷◌, take, refl, ap, arith}
+use Rattle.std.proofs.Common.{◌≢◌, ℕ, ◌-◌, suc, zero, [], ◌∷◌, take, refl, ap, arith}
 use Rattle.plain_graph.specs.Graph.{Graph}
 use Rattle.plain_graph.specs.declared.item.Item.{Item}
 use Rattle.traversal_run.specs.Stage.{Takes}

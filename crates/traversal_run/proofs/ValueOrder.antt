@@ -1,5 +1,5 @@
 -- The values of a map are in the order of their keys, as a sort by the keys leaves them.
-use Rattle.std.proofs.Common.{All, find, nat_eq, ◌≡◌, ◌<◌, ℕ, Bool, true, false, cond, Option, None, Some, List, [], ◌∷◌, map, option_map, inl, inr, refl, sym, ap, ◌∙◌, length, arith}
+use Rattle.std.proofs.Common.{All, find, nat_eq, ◌≡◌, ◌<◌, ℕ, Bool, true, false, cond, None, Some, List, [], ◌∷◌, map, option_map, inl, inr, refl, sym, ap, ◌∙◌, length, arith}
 use Rattle.std.specs.FinMap as maps
 use Rattle.std.specs.FinMap.Entries as entries
 use Rattle.std.specs.Cmp.{IsStrictWeakOrder}
@@ -25,7 +25,7 @@ use Rattle.store_rules.specs.Chains.{In}
 use Rattle.store_rules.specs.Properties.{AreOnce, Property, keys_of, map_of, named_property}
 use Rattle.store_rules.specs.Rules.{AreNames}
 use Rattle.store_rules.specs.Views.{Records, rec_at}
-use Rattle.traversal_run.specs.KeyValues.{entry_below, entry_of, named_entry, row_below}
+use Rattle.traversal_run.specs.KeyValues.{entry_below, named_entry, row_below}
 use Rattle.traversal_run.specs.declared.key_values.Named.{Named}
 use Rattle.traversal_run.proofs.Owned.{find-named}
 use Rattle.traversal_run.proofs.Ranks.{map-sorted}

@@ -3,12 +3,14 @@ pub mod EdgeItems
 pub mod Elements
 pub mod Fault
 pub mod Finding
+pub mod Held
 pub mod KeyValues
 pub mod Kept
 pub mod Naming
 pub mod Reading
 pub mod Row
 pub mod Run
+pub mod Scan
 pub mod Seen
 pub mod Source
 pub mod Stage

@@ -1,11 +1,10 @@
 -- What a run still gives.
-use Rattle.std.specs.Prelude.{◌≡◌, ℕ, ◌+◌, Bool, true, false, cond, Option, None, Some, List, []}
-use Rattle.std.specs.Prelude.{◌∷◌, ◌++◌, length}
+use Rattle.std.specs.Prelude.{◌≡◌, ℕ, Bool, true, cond, Option, None, Some, List, []}
+use Rattle.std.specs.Prelude.{◌∷◌, length}
 use Rattle.plain_graph.specs.Graph.{Graph}
 use Rattle.plain_graph.specs.Meaning.{after_steps, counts_past_in, source_of}
 use Rattle.plain_graph.specs.declared.item.Item.{Item}
 use Rattle.plain_graph.specs.declared.query.Query.{Query}
-use Rattle.rec_bytes.specs.declared.damage.Damage.{Damage}
 use Rattle.traversal_run.specs.Row.{Stream, have_no_count, last_limit, stages_of, stream, through}
 use Rattle.traversal_run.specs.Row.{with_first}
 use Rattle.traversal_run.specs.Source.{is_over, left_of}

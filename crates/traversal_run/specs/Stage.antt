@@ -1,5 +1,5 @@
 -- A step under way, and what it makes of the items that are still to come to it.
-use Rattle.std.specs.Prelude.{◌≡◌, ℕ, ◌+◌, pos, Bool, true, false, not, ◌&&◌, nat_lt, nat_eq, cond}
+use Rattle.std.specs.Prelude.{◌≡◌, ℕ, ◌+◌, pos, Bool, true, false, not, ◌&&◌, nat_lt, nat_eq}
 use Rattle.std.specs.Prelude.{Option, Some, None, List, [], ◌∷◌, ◌++◌, length, take, map}
 use Rattle.std.specs.FinMap as maps
 use Rattle.std.specs.List.{filter, filter_map, flat_map}

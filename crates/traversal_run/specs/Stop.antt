@@ -1,5 +1,5 @@
 -- Why a run gives nothing more.
-use Rattle.std.specs.Prelude.{◌≡◌, ℕ, ◌≤◌, Result, Ok, Err, IsErrOf}
+use Rattle.std.specs.Prelude.{ℕ, ◌≤◌, Result, IsErrOf}
 use Rattle.fault_count.specs.Cause.{Rose}
 use Rattle.traversal_run.specs.declared.fault.Fault.{Fault}
 use Rattle.traversal_run.specs.declared.fault.Fault.TheVariants as faults

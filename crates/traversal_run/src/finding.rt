@@ -1,6 +1,7 @@
 //! Elements that are read by their identifiers.
 
-ghost use Rattle.std.specs.Prelude.{◌≡◌, IfOk, false, true};
+ghost use Rattle.std.specs.Prelude.{◌≡◌, ◌≤◌, ◌+◌, IfOk, IfSome, false, true};
+ghost use Rattle.plain_graph.specs.declared.item.Item.TheVariants as items;
 ghost use Rattle.store_rules.specs.Rules.{IsWellFormed};
 ghost use Rattle.traversal_run.specs.Finding.{element_at, element_mark};
 ghost use Rattle.traversal_run.specs.Fault.{HasFaultCause, NotDamaged};
@@ -36,6 +37,9 @@ pub(crate) fn element_at<R: Reads>(
     ensures is { R.tells
         → IsNamedStore (R.state space.old).records (R.state space.old).shape names.now.names
         → IfOk result (λ item. item ≡ element_at (R.state space.old).records edges id) }
+    ensures vertex { edges ≡ false
+        → IfOk result (λ item. IfSome item (λ found. found ≡ items.Vertex id)) }
+    ensures reads { (R.state space.new).reads ≤ (R.state space.old).reads + 1 }
     ensures sound { R.tells
         → IsNamedStore (R.state space.old).records (R.state space.old).shape names.now.names
         → NotDamaged result }
@@ -52,6 +56,8 @@ pub(crate) fn element_at<R: Reads>(
 fn vertex_at<R: Reads>(space: &mut R, id: u32) -> Result<Option<Shown>, Fault>
     ensures is { R.tells
         → IfOk result (λ item. item ≡ element_at (R.state space.old).records false id) }
+    ensures vertex { IfOk result (λ item. IfSome item (λ found. found ≡ items.Vertex id)) }
+    ensures reads { (R.state space.new).reads ≤ (R.state space.old).reads + 1 }
     ensures sound { R.tells → IsWellFormed (R.state space.old).records (R.state space.old).shape
         → NotDamaged result }
     ensures read { IsRead R.Reads space.old space.new }
@@ -72,6 +78,7 @@ fn edge_at<R: Reads>(
     ensures is { R.tells
         → IsNamedStore (R.state space.old).records (R.state space.old).shape names.now.names
         → IfOk result (λ item. item ≡ element_at (R.state space.old).records true id) }
+    ensures reads { (R.state space.new).reads ≤ (R.state space.old).reads + 1 }
     ensures sound { R.tells
         → IsNamedStore (R.state space.old).records (R.state space.old).shape names.now.names
         → NotDamaged result }

@@ -1,9 +1,11 @@
 ghost use Rattle.std.specs.Prelude.{◌≡◌, [], ◌+◌, ◌<◌, ◌≤◌, List, length, take, drop, IfErr};
 ghost use Rattle.std.specs.Prelude.{IfNone, IfOk, IfSome, not};
+ghost use Rattle.std.specs.Prelude.{◌-◌, ◌∷◌, ℕ, get_or, set, true};
 ghost use Rattle.std.specs.List.{list_all};
 ghost use Rattle.plain_graph.specs.Graph.{Graph};
 ghost use Rattle.plain_graph.specs.declared.item.Item.{Item};
 ghost use Rattle.store_rules.specs.Graph.{graph_of};
+ghost use Rattle.traversal_run.specs.Held.{HasDegreesUpTo, IsBatch, is_hop, is_plain};
 ghost use Rattle.traversal_run.specs.Reading.{IsNamedStore, IsRead};
 ghost use Rattle.traversal_run.specs.Row.{
   Advances,
@@ -15,7 +17,8 @@ ghost use Rattle.traversal_run.specs.Row.{
   through,
   with_first,
 };
-ghost use Rattle.traversal_run.specs.Stage.{is_count, limit_left, with_more};
+ghost use Rattle.traversal_run.specs.Scan.{limit_row};
+ghost use Rattle.traversal_run.specs.Stage.{is_count, is_open, limit_left, with_more};
 ghost use Rattle.traversal_run.specs.Stop.{HasStopCause, MayStop};
 
 use crate::stage::Stage;
@@ -50,6 +53,18 @@ impl Row {
         ensures limits { IfOk result (λ outs.
             with_more (limit_left self.new.stage) (length outs) ≡ limit_left self.old.stage) }
         ensures counts { is_count self.new.stage ≡ is_count self.old.stage }
+        ensures hops { is_hop self.new.stage ≡ is_hop self.old.stage }
+        ensures plain { is_plain self.new.stage ≡ is_plain self.old.stage }
+        ensures rest { self.new.waiting ≡ drop 1 self.old.waiting }
+        ensures idle { self.old.waiting ≡ [] → IfOk result (λ outs. outs ≡ []) }
+        ensures few { R.tells
+            → IsNamedStore (R.state space.old).records (R.state space.old).shape names.now.names
+            → (d : ℕ) → HasDegreesUpTo (graph_of (R.state space.old).records) d
+            → is_plain self.old.stage ≡ true
+            → IfOk result (λ outs. IsBatch d (is_hop self.old.stage) outs) }
+        ensures limit { (most : ℕ) (item : Item) → self.old ≡ limit_row most (item ∷ [])
+            → IfOk result (λ outs. (outs ≡ take most (item ∷ []))
+            × (self.new ≡ limit_row (most - 1) []) × (space.new ≡ space.old)) }
         ensures read { IsRead R.Reads space.old space.new }
         ensures cause { HasStopCause (R.faults space.old) (R.faults space.new) result }
     {
@@ -64,6 +79,7 @@ impl Row {
 #[tactic(auto, using(crate::proofs::Rows::idle_more))]
 pub(crate) fn last_waiting(rows: &[Row]) -> Option<usize>
     ensures some { IfSome result (λ at. (at < length rows.now) × AreIdle (drop (at + 1) rows.now)) }
+    ensures waits { IfSome result (λ at. (any : Row) → ¬ ((get_or rows.now at any).waiting ≡ [])) }
     ensures none { IfNone result (AreIdle rows.now) }
 {
     let mut at = rows.len();
@@ -80,6 +96,8 @@ pub(crate) fn last_waiting(rows: &[Row]) -> Option<usize>
 #[tactic(auto, using(crate::proofs::Rows::quiet_more))]
 pub(crate) fn first_open(rows: &[Row]) -> Option<usize>
     ensures some { IfSome result (λ at. (at < length rows.now) × AreQuiet (take at rows.now)) }
+    ensures opens { IfSome result (λ at. (any : Row)
+        → is_open (get_or rows.now at any).stage ≡ true) }
     ensures none { IfNone result (AreQuiet rows.now) }
 {
     for (at, row) in rows.iter().enumerate() {
@@ -101,6 +119,8 @@ pub(crate) fn have_no_count(rows: &[Row]) -> bool
 pub(crate) fn put(rows: &mut [Row], ready: &mut Waiting, at: usize, outs: Waiting)
     requires idle { AreIdle (drop at rows.old) }
     requires none { ready.old ≡ [] }
+    ensures rows { (any : Row)
+        → rows.new ≡ set rows.old at (record (get_or rows.old at any) { waiting = outs }) }
     ensures stages { stages_of rows.new ≡ stages_of rows.old }
     ensures passed { at < length rows.old → ready.new ≡ [] }
     ensures given { length rows.old ≤ at → ready.new ≡ outs }

@@ -4,6 +4,17 @@ ghost use Rattle.std.specs.Prelude.{IfOk, OnOk};
 ghost use Rattle.plain_graph.specs.Forms.{IsShown};
 ghost use Rattle.plain_graph.specs.Graph.{Graph};
 ghost use Rattle.store_rules.specs.Graph.{graph_of};
+ghost use Rattle.std.specs.Prelude.{◌⊎◌, ◌-◌, List, false};
+ghost use Rattle.plain_graph.specs.declared.query.Step.TheVariants as steps;
+ghost use Rattle.traversal_run.specs.Held.{
+  ArePlainSteps,
+  HasDegreesUpTo,
+  IsNear,
+  IsWithin,
+  as_size,
+  held,
+  hops_of,
+};
 ghost use Rattle.traversal_run.specs.Reading.{IsNamedStore, IsRead};
 ghost use Rattle.traversal_run.specs.Row.{AreIdle, AreQuiet, Stream, stages_of, stream};
 ghost use Rattle.traversal_run.specs.Row.{through, with_first};
@@ -20,6 +31,15 @@ ghost use Rattle.traversal_run.specs.Run.{
   stopped_by,
   to_come,
 };
+ghost use Rattle.traversal_run.specs.Scan.{
+  IsScan,
+  IsScanReady,
+  IsScanWith,
+  IsScanned,
+  TakesVertex,
+  limit_row,
+};
+ghost use Rattle.traversal_run.specs.Source.{is_over};
 ghost use Rattle.traversal_run.specs.Stage.{with_more};
 ghost use Rattle.traversal_run.specs.Starting.{limit_of};
 ghost use Rattle.traversal_run.specs.Stop.{HasStopCause, MayStop};
@@ -82,6 +102,13 @@ fn advance_row<R: Reads>(
         → IsNamedStore (R.state space.old).records (R.state space.old).shape names.now.names
         → IfErr result (MayStop ⊥ ((coming : Stream)
         → (through (graph_of (R.state space.old).records) rows.old coming).past ≡ true)) }
+    ensures near { R.tells
+        → IsNamedStore (R.state space.old).records (R.state space.old).shape names.now.names
+        → (d most : ℕ) → HasDegreesUpTo (graph_of (R.state space.old).records) d
+        → IsNear d most rows.old ready.old → OnOk result (IsNear d most rows.new ready.new) }
+    ensures limit { (most : ℕ) (item : Item) → rows.old ≡ limit_row most (item ∷ []) ∷ []
+        → OnOk result ((rows.new ≡ limit_row (most - 1) [] ∷ [])
+        × (ready.new ≡ take most (item ∷ [])) × (space.new ≡ space.old)) }
     ensures allowed { OnOk result ((over : Bool)
         → allowed_by over (stages_of rows.new) (length ready.new)
         ≡ allowed_by over (stages_of rows.old) 0) }
@@ -134,6 +161,13 @@ impl Run {
         ensures allowed { IfOk result (λ run. (most : ℕ)
             → limit_of query.now.steps ≡ Some most → still_allowed run ≡ Some most) }
         ensures stopped { IfOk result (λ run. stopped_by run ≡ None) }
+        // Where no step is an order, a dedup or a count, it is within a bound that `next` keeps:
+        // for each step that gives neighbours or edges twice the greatest degree.
+        ensures within { ArePlainSteps query.now.steps
+            → IfOk result (λ run. (d : ℕ) → IsWithin d (hops_of query.now.steps) run) }
+        // A limit over all vertices begins before the first.
+        ensures scan { query.now.edges ≡ false → query.now.ids ≡ [] → (most : ℕ)
+            → query.now.steps ≡ steps.Limit most ∷ [] → IfOk result (λ run. IsScan run 0) }
     {
         let source = Source::new(alloc, query.edges, query.ids.as_slice())?;
         let rows = rows_of(alloc, query.steps.as_slice())?;
@@ -144,6 +178,18 @@ impl Run {
             ready: Waiting::new(alloc),
             stopped: None,
         })
+    }
+
+    /// How many vertices and edges it holds: those that wait for each step, and those that are
+    /// ready. It takes no memory.
+    pub fn held(&self) -> usize
+        ensures { result ≡ as_size (held self.now) }
+    {
+        let mut count = self.ready.elements();
+        for row in &self.rows {
+            count = count.saturating_add(row.waiting.elements());
+        }
+        count
     }
 
     /// Whether no result is left, since the last step is a limit that has let all of its items
@@ -166,6 +212,11 @@ impl Run {
         requires { at < vec_len self.old.rows }
         ensures same { (graph : Graph) → to_come graph self.new ≡ to_come graph self.old }
         ensures allowed { still_allowed self.new ≡ still_allowed self.old }
+        ensures near { (d most : ℕ) → IsNear d most self.old.rows.items self.old.ready
+            → IsNear d most self.new.rows.items self.new.ready }
+        ensures either { (self.new ≡ self.old)
+            ⊎ ((self.new.rows.items ≡ drop (at + 1) self.old.rows.items)
+            × (is_over self.new.source.left ≡ true) × (self.new.ready ≡ self.old.ready)) }
         ensures stopped { self.new.stopped ≡ self.old.stopped }
     {
         if self.rows[at].stage.is_spent() && have_no_count(&self.rows[..at]) {
@@ -185,6 +236,18 @@ impl Run {
             → IsNamedStore (R.state space.old).records (R.state space.old).shape names.now.names
             → IfErr result (IsStopOf (to_come (graph_of (R.state space.old).records) self.old)) }
         ensures allowed { OnOk result (still_allowed self.new ≡ still_allowed self.old) }
+        ensures near { R.tells
+            → IsNamedStore (R.state space.old).records (R.state space.old).shape names.now.names
+            → (d most : ℕ) → HasDegreesUpTo (graph_of (R.state space.old).records) d
+            → IsNear d most self.old.rows.items self.old.ready
+            → OnOk result (IsNear d most self.new.rows.items self.new.ready) }
+        ensures scan { (at most : ℕ) → IsScanWith self.old at most [] []
+            → OnOk result ((item : Item) × TakesVertex at (R.state space.old).reads
+            (R.state space.new).reads item self.new.source
+            × (self.new.rows.items ≡ limit_row most (item ∷ []) ∷ []) × (self.new.ready ≡ [])) }
+        ensures limit { (from most : ℕ) (item : Item)
+            → IsScanWith self.old from (most + 1) (item ∷ []) []
+            → OnOk result ((space.new ≡ space.old) × IsScanReady self.new from most item) }
         ensures stopped { self.new.stopped ≡ self.old.stopped }
         ensures read { IsRead R.Reads space.old space.new }
         ensures cause { HasStopCause (R.faults space.old) (R.faults space.new) result }
@@ -242,6 +305,12 @@ impl Run {
             → IsNamedStore (R.state space.old).records (R.state space.old).shape names.now.names
             → IfErr result (IsStopOf (to_come (graph_of (R.state space.old).records) self.old)) }
         ensures shown { IfOk result IsShown }
+        ensures within { R.tells
+            → IsNamedStore (R.state space.old).records (R.state space.old).shape names.now.names
+            → (d most : ℕ) → HasDegreesUpTo (graph_of (R.state space.old).records) d
+            → IsWithin d most self.old → OnOk result (IsWithin d most self.new) }
+        ensures scan { (at : ℕ) → IsScan self.old at → IfOk result (λ item.
+            IsScanned at (R.state space.old).reads (R.state space.new).reads item self.new) }
         ensures allowed { OnOk result (still_allowed self.old
             ≡ with_more (still_allowed self.new) 1) }
         ensures no_read { still_allowed self.old ≡ Some 0
@@ -267,6 +336,7 @@ impl Run {
         ensures answer { result ≡ answer_of stop }
         ensures stopped { self.new.stopped ≡ Some stop }
         ensures nothing { (graph : Graph) → to_come graph self.new ≡ stream [] }
+        ensures within { (d most : ℕ) → IsWithin d most self.new }
     {
         self.source.end();
         self.rows.clear();
@@ -312,6 +382,16 @@ impl Run {
         ensures no_read { stopped_by self.old ≡ None → still_allowed self.old ≡ Some 0
             → (result ≡ Next.End) × (space.new ≡ space.old) }
 
+        // Where no node has more than d edges, the bound on what it holds stays, whatever is
+        // answered.
+        ensures within { R.tells
+            → IsNamedStore (R.state space.old).records (R.state space.old).shape names.now.names
+            → (d most : ℕ) → HasDegreesUpTo (graph_of (R.state space.old).records) d
+            → IsWithin d most self.old → IsWithin d most self.new }
+        // A limit over all vertices reads no more than each identifier up to that of its result.
+        ensures scan { (at : ℕ) → IsScan self.old at → IfItem result (λ item.
+            IsScanned at (R.state space.old).reads (R.state space.new).reads item self.new) }
+
         ensures read { IsRead R.Reads space.old space.new }
     {
         if let Some(stop) = self.stopped {
@@ -323,3 +403,6 @@ impl Run {
         }
     }
 }
+
+#[cfg(test)]
+mod tests;

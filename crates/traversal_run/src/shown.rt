@@ -2,6 +2,7 @@ ghost use Rattle.std.specs.Prelude.{◌≡◌, ◌≤◌, length};
 ghost use Rattle.plain_graph.specs.Forms.{IsKept, IsShown};
 ghost use Rattle.plain_graph.specs.declared.item.Item.TheVariants as items;
 ghost use Rattle.plain_graph.specs.declared.value.Value.TheVariants as values;
+ghost use Rattle.traversal_run.specs.Held.{is_element};
 
 use plain_graph::{Item, Text, Value};
 use std::marker::Model;
@@ -73,6 +74,13 @@ impl Shown {
         ensures shown { IsShown result.now }
     {
         &self.item
+    }
+
+    /// Whether it is a vertex or an edge.
+    pub(crate) fn is_element(&self) -> bool
+        ensures { result ≡ is_element self.now }
+    {
+        !matches!(self.item, Item::Value(_))
     }
 
     /// Gives the item back.

@@ -1,9 +1,10 @@
-ghost use Rattle.std.specs.Prelude.{◌≡◌, ◌<◌, IfNone, IfOk, IfSome, None, false, true};
+ghost use Rattle.std.specs.Prelude.{◌≡◌, ◌<◌, ◌+◌, ℕ, [], IfNone, IfOk, IfSome, None, false, true};
 ghost use Rattle.plain_graph.specs.Graph.{Graph};
 ghost use Rattle.plain_graph.specs.Meaning.{source_of};
 ghost use Rattle.store_rules.specs.Graph.{graph_of};
 ghost use Rattle.traversal_run.specs.Fault.{HasFaultCause, NotDamaged};
 ghost use Rattle.traversal_run.specs.Reading.{IsNamedStore, IsRead};
+ghost use Rattle.traversal_run.specs.Scan.{TakesVertex, vertices_from};
 ghost use Rattle.traversal_run.specs.Source.{
   GivesFirst,
   HasNoneBelow,
@@ -37,6 +38,8 @@ impl Left {
     fn take_first(&mut self, mark: u32) -> Option<u32>
         ensures some { IfSome result (λ id. TakesId self.old id self.new) }
         ensures none { IfNone result (HasNoneBelow mark self.old × (self.new ≡ self.old)) }
+        ensures from { (at : ℕ) → self.old ≡ Left.From at
+            → IfSome result (λ id. (id ≡ at) × (self.new ≡ Left.From (at + 1))) }
         ensures over { is_over self.new ≡ is_over self.old }
         ensures nothing { is_over self.old ≡ true → result ≡ None }
         ensures fewer { IfSome result (λ id. left_count mark self.new < left_count mark self.old) }
@@ -69,6 +72,8 @@ impl Source {
     pub(crate) fn new(alloc: Global, edges: bool, ids: &[u32]) -> Result<Source, AllocError>
         ensures all { IfOk result (λ source. (graph : Graph)
             → left_of graph source ≡ source_of graph edges ids.now) }
+        ensures from { edges ≡ false → ids.now ≡ []
+            → IfOk result (λ source. source ≡ vertices_from 0) }
         ensures over { IfOk result (λ source. is_over source.left ≡ false) }
     {
         let left = if ids.is_empty() {
@@ -94,6 +99,10 @@ impl Source {
         ensures sound { R.tells
             → IsNamedStore (R.state space.old).records (R.state space.old).shape names.now.names
             → NotDamaged result }
+        // Of all vertices it costs a read for each identifier up to that of the one it gives.
+        ensures vertex { (at : ℕ) → self.old ≡ vertices_from at
+            → IfOk result (λ item. IfSome item (λ found. TakesVertex at
+            (R.state space.old).reads (R.state space.new).reads found self.new)) }
         ensures over { is_over self.new.left ≡ is_over self.old.left }
         ensures none { is_over self.old.left ≡ true → IfOk result (λ item. item ≡ None) }
         ensures read { IsRead R.Reads space.old space.new }

@@ -1,10 +1,12 @@
 ghost use Rattle.std.specs.Prelude.{◌≡◌, [], ◌++◌, IfErr, IfOk, OnOk, length};
+ghost use Rattle.std.specs.Prelude.{◌-◌, ◌∷◌, ℕ, take};
 ghost use Rattle.plain_graph.specs.Graph.{Graph};
 ghost use Rattle.plain_graph.specs.Meaning.{identifier, in_vertex, out_vertex, ranked};
 ghost use Rattle.plain_graph.specs.declared.item.Item.TheVariants as items;
 ghost use Rattle.std.specs.List.{cons_option};
 ghost use Rattle.store_rules.specs.Graph.{graph_of};
 ghost use Rattle.traversal_run.specs.Fault.{HasFaultCause, NotDamaged};
+ghost use Rattle.traversal_run.specs.Held.{is_hop, is_plain};
 ghost use Rattle.traversal_run.specs.Reading.{IsNamedStore, IsRead};
 ghost use Rattle.traversal_run.specs.Stage.{
   Finishes,
@@ -84,6 +86,12 @@ impl Stage {
         ensures limits { IfOk result (λ outs.
             with_more (limit_left self.new) (length outs) ≡ limit_left self.old) }
         ensures counts { is_count self.new ≡ is_count self.old }
+        ensures hops { is_hop self.new ≡ is_hop self.old }
+        ensures plain { is_plain self.new ≡ is_plain self.old }
+        // A limit reads nothing.
+        ensures limit { (most : ℕ) → self.old ≡ Stage.Limit most → IfOk result (λ outs.
+            (outs ≡ take most (item ∷ [])) × (self.new ≡ Stage.Limit (most - 1))
+            × (space.new ≡ space.old)) }
         ensures read { IsRead R.Reads space.old space.new }
         ensures cause { HasStopCause (R.faults space.old) (R.faults space.new) result }
     {

@@ -1,4 +1,5 @@
 ghost use Rattle.std.specs.Prelude.{◌≡◌, ◌++◌, [], ◌∷◌, true, IfNone, IfOk, IfSome, OnOk};
+ghost use Rattle.traversal_run.specs.Held.{elements_in};
 
 use crate::shown::Shown;
 use std::alloc::{AllocError, Global};
@@ -54,6 +55,13 @@ impl Waiting {
     {
         self.items.push_back(item)?;
         Ok(())
+    }
+
+    /// How many of them are vertices or edges.
+    pub(crate) fn elements(&self) -> usize
+        ensures { result ≡ elements_in self.now }
+    {
+        self.items.iter().filter(|item| item.is_element()).count()
     }
 
     /// Whether no item waits.

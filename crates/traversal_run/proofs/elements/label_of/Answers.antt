@@ -1,7 +1,6 @@
 use Rattle.std.specs.Prelude.{IfOk}
-use Rattle.std.proofs.Common.{◌≡◌, ◌∙◌, List, [], ap, sym, subst, Bor, ℕ, arith}
+use Rattle.std.proofs.Common.{◌≡◌, ◌∙◌, List, ap, sym, subst, Bor, ℕ, arith}
 use Rattle.plain_graph.specs.Meaning.{label_of}
-use Rattle.plain_graph.specs.declared.item.Item.{Item}
 use Rattle.store_rules.specs.Graph.{graph_of}
 use Rattle.traversal_run.proofs.Loaded.{label_known, no_node_label, node_label-is}
 use Rattle.traversal_run.proofs.elements.label_of.Goals as goal

@@ -1,4 +1,4 @@
-use Rattle.std.proofs.Common.{◌≡◌, sym, ◌∙◌, None, subst}
+use Rattle.std.proofs.Common.{sym, ◌∙◌, None, subst}
 use Rattle.plain_graph.specs.declared.item.Item.{Item}
 use Rattle.traversal_run.specs.Elements.{IsOwnerOf}
 use Rattle.traversal_run.proofs.Loaded.{edge_unowned, node_unowned}

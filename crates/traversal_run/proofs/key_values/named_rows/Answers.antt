@@ -1,9 +1,8 @@
-use Rattle.std.proofs.Common.{◌≡◌, ◌<◌, ℕ, List, All, map, ◌++◌, ◌∷◌, [], ap, ◌∙◌, sym, subst, rules}
+use Rattle.std.proofs.Common.{◌≡◌, ◌<◌, map, ◌++◌, ◌∷◌, [], ap, ◌∙◌, sym, subst, rules}
 use Rattle.std.proofs.lemmas.Iterator.Adapters.{YieldsList-from_vec}
 use Rattle.std.proofs.lemmas.Iterator.Consumers.{YieldsList-end, YieldsList-turn}
 use Rattle.std.proofs.lemmas.List.{map-append, map-id}
 use Rattle.std.proofs.lemmas.Result.{err_from_is_err_and}
-use Rattle.plain_graph.specs.declared.item.Item.{Item}
 use Rattle.plain_graph.specs.declared.item.Item.TheVariants as items
 use Rattle.prop_store.specs.declared.prop.Prop.{Prop as PropRow}
 use Rattle.traversal_run.specs.KeyValues.{entry_of, named_entry}

@@ -1,4 +1,4 @@
-use Rattle.std.proofs.Common.{◌≡◌, ◌<◌, List, All, map}
+use Rattle.std.proofs.Common.{◌≡◌, ◌<◌, All, map}
 use Rattle.prop_store.specs.declared.prop.Prop.{Prop as PropRow}
 use Rattle.rec_bytes.specs.declared.shape.Shape.{Shape}
 use Rattle.store_rules.specs.Views.{Records}

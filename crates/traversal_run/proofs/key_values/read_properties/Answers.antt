@@ -1,5 +1,5 @@
 use Rattle.std.specs.Prelude.{IfSome}
-use Rattle.std.proofs.Common.{◌∙◌, Option, ap, sym, subst, arith, rules}
+use Rattle.std.proofs.Common.{Option, subst, arith, rules}
 use Rattle.std.proofs.lemmas.Result.{err_from_is_err_and}
 use Rattle.prop_store.specs.Owner.{IsOwner}
 use Rattle.prop_store.specs.declared.owner.Owner.{Owner}

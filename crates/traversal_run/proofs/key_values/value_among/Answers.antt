@@ -1,6 +1,5 @@
 use Rattle.std.specs.Prelude.{IfOk}
 use Rattle.std.proofs.Common.{◌≡◌, ◌∙◌, Option, List, ap, find, nat_eq, sym, subst, option_map}
-use Rattle.std.specs.FinMap as maps
 use Rattle.plain_graph.specs.declared.value.Value.{Value}
 use Rattle.prop_store.specs.declared.prop.Prop.{Prop as PropRow}
 use Rattle.traversal_run.proofs.Owned.{value_is, value_none}

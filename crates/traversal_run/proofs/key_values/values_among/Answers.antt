@@ -1,7 +1,5 @@
-use Rattle.std.proofs.Common.{◌≡◌, ◌∙◌, ◌++◌, ◌∷◌, [], ◌+◌, Option, None, Some, List, ap, map, sym, take, get_or, arith}
+use Rattle.std.proofs.Common.{◌≡◌, ◌∙◌, ◌++◌, ◌∷◌, [], Option, ap, sym, arith}
 use Rattle.std.specs.FinMap as maps
-use Rattle.std.specs.List.{filter_map}
-use Rattle.plain_graph.specs.declared.item.Item.TheVariants as items
 use Rattle.std.proofs.lemmas.List.{append-nil}
 use Rattle.plain_graph.specs.declared.value.Value.{Value}
 use Rattle.traversal_run.proofs.TakenValues.{first_values, item_if, more_values, whole_values}

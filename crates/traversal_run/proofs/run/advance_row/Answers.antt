@@ -1,9 +1,13 @@
-use Rattle.std.proofs.Common.{◌≡◌, true, take, get_or, refl}
+use Rattle.std.proofs.Common.{◌≡◌, List, true, take, get_or, refl, subst}
 use Rattle.std.proofs.lemmas.Result.{err_from_is_err_and}
+use Rattle.plain_graph.specs.declared.item.Item.{Item}
 use Rattle.store_rules.specs.Graph.{graph_of}
+use Rattle.traversal_run.specs.Held.{IsNear}
 use Rattle.traversal_run.specs.Row.{PassesAt, Stream, through}
+use Rattle.traversal_run.proofs.HeldRows.{near-advanced, plain_at}
 use Rattle.traversal_run.proofs.Limits.{allowed-row}
 use Rattle.traversal_run.proofs.Rows.{advanced, passes_through}
+use Rattle.traversal_run.proofs.Scans.{limit_advanced}
 use Rattle.traversal_run.proofs.Stops.{may_stop}
 use Rattle.traversal_run.proofs.run.advance_row.Goals as goal
 
@@ -27,3 +31,19 @@ pub returns-clause-allowed : goal.returns-clause-allowed
 returns-clause-allowed g c = λ over.
     let any = c.index-rows-at.result in
     allowed-row c.args.rows.now c.put.new.rows c.args.at (get_or c.args.rows.now c.args.at any) c.advance.new.self any c.in_ok-outs.outs c.put.new.ready c.requires.within refl c.in_ok-outs.ensures.limits c.in_ok-outs.ensures.counts c.put.ensures.stages c.put.ensures.passed c.put.ensures.given over
+
+pub returns-clause-near : goal.returns-clause-near
+returns-clause-near g c = λ tells store d most degrees near.
+    let rows = c.args.rows.now in
+    let any = c.index-rows-at.result in
+    let out = c.in_ok-outs.ensures in
+    let row = get_or rows c.args.at any in
+    near-advanced d most rows c.put.new.rows c.args.at row c.advance.new.self any c.in_ok-outs.outs c.put.new.ready c.requires.within refl out.hops out.plain out.rest out.idle
+    (out.few tells store d degrees (plain_at rows c.args.at any c.requires.within near.plain)) c.requires.idle c.put.ensures.passed c.put.ensures.given c.put.ensures.rows
+    (subst (λ (ready : List Item). IsNear d most rows ready) c.requires.none near)
+
+pub returns-clause-limit : goal.returns-clause-limit
+returns-clause-limit g c = λ most item only.
+    let rows = c.args.rows.now in
+    let any = c.index-rows-at.result in
+    limit_advanced _ rows c.put.new.rows c.args.at (get_or rows c.args.at any) c.advance.new.self any c.in_ok-outs.outs c.put.new.ready most item c.requires.within refl only (c.in_ok-outs.ensures.limit most item) c.put.ensures.rows c.put.ensures.given

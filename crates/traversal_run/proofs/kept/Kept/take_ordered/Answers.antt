@@ -2,7 +2,7 @@ use Rattle.std.proofs.Common.{◌≡◌, ap, ◌∙◌, List, map, IfOk, subst, 
 use Rattle.std.specs.declared.alloc.Global.{Global}
 use Rattle.plain_graph.specs.Meaning as meaning
 use Rattle.plain_graph.specs.Sorting.{sorted}
-use Rattle.traversal_run.specs.Kept.{place_of, row_ranks_below}
+use Rattle.traversal_run.specs.Kept.{place_of}
 use Rattle.traversal_run.specs.declared.kept.Ranked.{Ranked}
 use Rattle.traversal_run.proofs.Ranks.{places_sorted}
 use Rattle.traversal_run.proofs.kept.Kept.take_ordered.Goals as goal

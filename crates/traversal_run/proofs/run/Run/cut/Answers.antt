@@ -1,11 +1,12 @@
-use Rattle.std.proofs.Common.{◌≡◌, ◌+◌, true, not, take, drop, length, List, ap, sym, ◌∙◌, arith}
+use Rattle.std.proofs.Common.{◌≡◌, true, not, take, length, ap, sym, ◌∙◌, arith}
 use Rattle.std.specs.List.{list_all}
 use Rattle.traversal_run.specs.Row.{stages_of, stream, through, with_first}
 use Rattle.traversal_run.specs.Run.{allowed_by}
 use Rattle.traversal_run.specs.Source.{is_over, left_of}
-use Rattle.traversal_run.specs.Stage.{is_count, is_spent}
+use Rattle.traversal_run.specs.Stage.{is_count}
 use Rattle.traversal_run.specs.declared.row.Row.{Row}
 use Rattle.traversal_run.specs.declared.source.Source.{Source}
+use Rattle.traversal_run.proofs.HeldRuns.{near-cut}
 use Rattle.traversal_run.proofs.Limits.{allowed-cut}
 use Rattle.traversal_run.proofs.Rows.{left_of-over, through-cut}
 use Rattle.traversal_run.proofs.run.Run.cut.Goals as goal
@@ -28,3 +29,9 @@ returns-then-have_no_count-clause-allowed c =
     let none : list_all (λ (r : Row). not (is_count r.stage)) (take c.args.at rows) ≡ true = sym (ap (λ rs. list_all (λ (r : Row). not (is_count r.stage)) (take c.args.at rs)) c.deref.ensures.value) ∙ sym c.have_no_count.ensures ∙ c.if-have_no_count.true in
     (λ i. allowed_by (is_over (ap (λ (s : Source). s.left) c.end.ensures i)) (stages_of (c.drop_rows.ensures i)) (length run.ready))
     ∙ allowed-cut (is_over run.source.left) rows c.args.at row row (length run.ready) (omega (arith, c.requires, run.rows.ok.0)) c.index.ensures (sym c.is_spent.ensures ∙ c.if-is_spent.true) none
+
+pub returns-then-have_no_count-clause-near : goal.returns-then-have_no_count-clause-near
+returns-then-have_no_count-clause-near c = λ d most near.
+    let run = c.args.self.now in
+    let row = c.index.result.now in
+    near-cut d most run.rows.items _ run.ready c.args.at row row (omega (arith, c.requires, run.rows.ok.0)) c.index.ensures (sym c.is_spent.ensures ∙ c.if-is_spent.true) c.drop_rows.ensures near

@@ -1,8 +1,75 @@
+use Rattle.std.proofs.Common.{◌≡◌, ◌∷◌, List, Bool, true, false, sym, refl, ap, ◌∙◌, subst, arith}
+use Rattle.plain_graph.specs.declared.item.Item.{Item}
+use Rattle.rec_bytes.specs.Space.{State}
 use Rattle.store_rules.specs.Graph.{graph_of}
+use Rattle.traversal_run.specs.Held.{HasDegreesUpTo, IsNear}
+use Rattle.traversal_run.specs.Run.{still_allowed, to_come}
+use Rattle.traversal_run.specs.declared.run.Run.{Run}
+use Rattle.traversal_run.proofs.HeldRuns.{near_begins, within-taken}
 use Rattle.traversal_run.proofs.Nothing.{spent-to_come}
+use Rattle.traversal_run.proofs.OnlyReads.{is_read-on, named-read}
+use Rattle.traversal_run.proofs.Scans.{ScanState, scan_gives, scan_starts, scan_turns}
 use Rattle.traversal_run.proofs.run.Run.go_on.Goals as goal
 
 pub returns-then-is_spent-clause-stops : goal.returns-then-is_spent-clause-stops
 returns-then-is_spent-clause-stops g c = λ tells store.
     let run = c.args.self.now in
     spent-to_come (graph_of (g.R.Reads.state c.args.space.now).records) run.ready run.rows.items run.source.edges run.source.left (c.is_spent.ensures.0 c.if-is_spent.true)
+
+clash : (b : Bool) → b ≡ true → b ≡ false → ⊥
+clash b on off = cc
+
+pub loop-init : goal.loop-init
+loop-init g c =
+    let run = c.args.self.now in
+    record {
+      same = λ tells store. refl;
+      allowed = refl;
+      near = λ tells store d most degrees within. near_begins d most run within;
+      scan = λ at scan. scan_starts run at scan (λ none. clash c.is_spent.result (c.is_spent.ensures.1 none) c.if-is_spent.false) (g.R.Reads.state c.args.space.now).reads;
+      stopped = refl;
+      read = record { same = refl; onward = g.met.R.Reads.stays_onward c.args.space.now; later = omega arith };
+    }
+
+pub loop-preserved : goal.loop-preserved
+loop-preserved g c =
+    let space = g.R.Reads in
+    let first = c.args.space.now in
+    let now = c.loop.space in
+    let inv = c.loop.invariant in
+    let run : Run = c.loop.self in
+    let old : Run = record run { ready = c.take_first.new.self } in
+    let none = c.in_default.ensures.none in
+    let same_ready : run.ready ≡ old.ready = none.0 ∙ sym none.1 in
+    let turn = c.in_ok-turn.ensures in
+    record {
+      same = λ tells store.
+          let again = turn.same tells (named-read space first now c.args.names.now.names inv.read store) in
+          subst (λ (t : State). to_come (graph_of t.records) c.turn.new.self ≡ to_come (graph_of t.records) old) inv.read.same again
+          ∙ ap (λ (ready : List Item). to_come (graph_of (space.state first).records) (record run { ready = ready })) (sym same_ready)
+          ∙ inv.same tells store;
+      allowed = turn.allowed ∙ ap (λ (ready : List Item). still_allowed (record run { ready = ready })) (sym same_ready) ∙ inv.allowed;
+      near = λ tells store d most degrees within.
+          turn.near tells (named-read space first now c.args.names.now.names inv.read store) d most
+          (subst (λ (t : State). HasDegreesUpTo (graph_of t.records) d) (sym inv.read.same) degrees)
+          (subst (λ (ready : List Item). IsNear d most run.rows.items ready) same_ready (inv.near tells store d most degrees within));
+      scan = λ at scan.
+          scan_turns at (space.state first).reads (space.state now).reads (space.state c.turn.new.space).reads old c.turn.new.self none.1 turn.scan
+          (λ from most item w. let l = turn.limit from most item w in (ap (λ (s : g.row.R.Denot). (space.state s).reads) l.0, l.1))
+          (subst (λ (ready : List Item). ScanState at (space.state first).reads (space.state now).reads (record run { ready = ready })) same_ready (inv.scan at scan));
+      stopped = c.turn.ensures.stopped ∙ inv.stopped;
+      read = is_read-on space g.met.R.Reads.further_onward first now c.turn.new.space inv.read c.turn.ensures.read;
+    }
+
+pub returns-in-Some-clause-within : goal.returns-in-Some-clause-within
+returns-in-Some-clause-within g c = λ tells store d most degrees within.
+    let run : Run = c.loop.self in
+    within-taken d most (record run { ready = c.take_first.new.self }) c.in-Some.item run.ready c.in-Some.ensures.some (c.loop.invariant.near tells store d most degrees within)
+
+pub returns-in-Some-clause-scan : goal.returns-in-Some-clause-scan
+returns-in-Some-clause-scan g c = λ at scan.
+    let space = g.R.Reads in
+    let run : Run = c.loop.self in
+    let takes : run.ready ≡ c.into_item.result ∷ c.take_first.new.self = c.in-Some.ensures.some ∙ ap (λ (item : Item). item ∷ c.take_first.new.self) (sym c.into_item.ensures.is) in
+    scan_gives at (space.state c.args.space.now).reads (space.state c.loop.space).reads run (record run { ready = c.take_first.new.self }) c.into_item.result takes refl refl
+    (c.loop.invariant.stopped ∙ scan.going) (c.loop.invariant.scan at scan)

@@ -1,4 +1,4 @@
-use Rattle.std.proofs.Common.{◌≡◌, ◌-◌, not, length, slice_get, Some, ap, sym, ◌∙◌, refl, arith}
+use Rattle.std.proofs.Common.{◌-◌, not, length, slice_get, ap, sym, ◌∙◌}
 use Rattle.std.specs.List.{list_all}
 use Rattle.traversal_run.specs.Row.{stages_of}
 use Rattle.traversal_run.specs.Source.{is_over}

@@ -1,13 +1,13 @@
-use Rattle.std.proofs.Common.{◌≡◌, ◌∙◌, Bool, List, length, ap, sym}
+use Rattle.std.proofs.Common.{◌≡◌, ◌∙◌, length, ap, refl}
 use Rattle.plain_graph.specs.Meaning.{source_of}
-use Rattle.plain_graph.specs.declared.item.Item.{Item}
 use Rattle.traversal_run.specs.Row.{stages_of, stream, through, with_first}
 use Rattle.traversal_run.specs.Run.{allowed_by}
 use Rattle.traversal_run.specs.Source.{left_of}
 use Rattle.traversal_run.specs.Starting.{rows_of}
-use Rattle.traversal_run.specs.declared.row.Row.{Row}
 use Rattle.traversal_run.proofs.Begins.{through_steps}
+use Rattle.traversal_run.proofs.HeldRuns.{within-begins}
 use Rattle.traversal_run.proofs.Limits.{allowed-rows_of}
+use Rattle.traversal_run.proofs.Scans.{scan_begins}
 use Rattle.traversal_run.proofs.run.Run.new.Goals as goal
 
 pub returns-clause-begins : goal.returns-clause-begins
@@ -22,3 +22,15 @@ returns-clause-allowed c = λ most is.
     let query = c.args.query.now in
     let rows : c.in_ok-rows.rows.items ≡ rows_of query.steps = c.in_ok-rows.ensures ∙ ap rows_of c.as_slice-2.ensures in
     (λ i. allowed_by (c.in_ok-source.ensures.over i) (stages_of (rows i)) (length (c.new-2.ensures i))) ∙ allowed-rows_of query.steps most is
+
+pub returns-clause-within : goal.returns-clause-within
+returns-clause-within c = λ plain d.
+    let query = c.args.query.now in
+    let rows : c.in_ok-rows.rows.items ≡ rows_of query.steps = c.in_ok-rows.ensures ∙ ap rows_of c.as_slice-2.ensures in
+    within-begins d query.steps _ plain rows c.new-2.ensures
+
+pub returns-clause-scan : goal.returns-clause-scan
+returns-clause-scan c = λ vertices none most one.
+    let query = c.args.query.now in
+    let rows : c.in_ok-rows.rows.items ≡ rows_of query.steps = c.in_ok-rows.ensures ∙ ap rows_of c.as_slice-2.ensures in
+    scan_begins _ query.steps most one (c.in_ok-source.ensures.from vertices (c.as_slice.ensures ∙ none)) rows c.new-2.ensures refl

@@ -1,8 +1,18 @@
-use Rattle.std.proofs.Common.{[], ◌≡◌, subst}
+use Rattle.std.proofs.Common.{[], ◌∷◌, ◌≡◌, ◌<◌, ◌+◌, List, Option, Bool, true, false, get_or, length, set, sym, ap, ◌∙◌, subst, arith}
+use Rattle.std.specs.Option.{IfSome}
+use Rattle.plain_graph.specs.declared.item.Item.{Item}
 use Rattle.store_rules.specs.Graph.{graph_of}
+use Rattle.traversal_run.specs.Held.{ArePlain, IsNear}
 use Rattle.traversal_run.specs.Row.{AreIdle, AreQuiet}
+use Rattle.traversal_run.specs.Scan.{TakesVertex, limit_row}
 use Rattle.traversal_run.specs.Source.{GivesFirst, left_of}
+use Rattle.traversal_run.specs.Stage.{is_open}
+use Rattle.traversal_run.specs.declared.row.Row.{Row}
+use Rattle.traversal_run.proofs.HeldRows.{near-sourced, plain_at}
+use Rattle.traversal_run.proofs.HeldSteps.{plain_quiet}
+use Rattle.traversal_run.proofs.Places.{written_back}
 use Rattle.traversal_run.proofs.Rows.{ends_at}
+use Rattle.traversal_run.proofs.Scans.{cut_scan, idle_scan, quiet_scan}
 use Rattle.traversal_run.proofs.run.Run.turn.Goals as goal
 
 pub returns-clause-stops : goal.returns-clause-stops
@@ -13,3 +23,66 @@ returns-clause-stops g c = λ tells store.
     let idle = subst AreIdle c.deref.ensures.value c.in_default.ensures.none in
     let quiet = subst AreQuiet c.deref-2.ensures.value c.in_default-first_open.ensures.none in
     ends_at graph run.ready (left_of graph run.source) run.rows.items c.requires none.0 idle quiet
+
+clash : (b : Bool) → b ≡ true → b ≡ false → ⊥
+clash b on off = cc
+
+pub returns-in-Some-clause-near : goal.returns-in-Some-clause-near
+returns-in-Some-clause-near g c = λ tells store d most degrees near.
+    let run = c.args.self.now in
+    let rows : c.deref_mut.result.now ≡ run.rows.items = c.deref_mut.ensures.value in
+    let back = written_back c.advance_row.new.rows run.rows.items run.rows.len (omega (arith, c.advance_row.auto.rows, ap length rows)) run.rows.ok.0 in
+    c.cut.ensures.near d most (subst (λ (rs : List Row). IsNear d most rs c.advance_row.new.ready) (sym back)
+    (c.in_ok-advance_row.ensures.near tells store d most degrees (subst (λ (rs : List Row). IsNear d most rs run.ready) (sym rows) near)))
+
+pub returns-in-Some-clause-limit : goal.returns-in-Some-clause-limit
+returns-in-Some-clause-limit g c = λ from most item scan.
+    let run = c.args.self.now in
+    let rows : c.deref_mut.result.now ≡ run.rows.items = c.deref_mut.ensures.value in
+    let back = written_back c.advance_row.new.rows run.rows.items run.rows.len (omega (arith, c.advance_row.auto.rows, ap length rows)) run.rows.ok.0 in
+    let step = c.in_ok-advance_row.ensures.limit (most + 1) item (rows ∙ scan.rows) in
+    let lt : c.in-Some.at < 1 = subst (λ (rs : List Row). c.in-Some.at < length rs) (c.deref.ensures.value ∙ scan.rows) c.in-Some.ensures.some.0 in
+    (step.2, cut_scan _ c.cut.new.self c.in-Some.at from most item lt scan.source (back ∙ step.0) step.1 c.cut.ensures.either)
+
+pub returns-in-Some-clause-scan : goal.returns-in-Some-clause-scan
+returns-in-Some-clause-scan g c = λ at most scan.
+    absurd (idle_scan c.deref.result.now most c.in-Some.at (limit_row most []) (c.deref.ensures.value ∙ scan.rows) c.in-Some.ensures.some.0 (c.in-Some.ensures.waits (limit_row most [])))
+
+pub returns-in-Some-2-clause-near : goal.returns-in-Some-2-clause-near
+returns-in-Some-2-clause-near g c = λ tells store d most degrees near.
+    let run = c.args.self.now in
+    let old = c.deref_mut-in-Some-2.result.now in
+    let rows : old ≡ run.rows.items = c.deref_mut-in-Some-2.ensures.value in
+    let back = written_back c.put.new.rows run.rows.items run.rows.len (omega (arith, c.put.auto.rows, ap length rows)) run.rows.ok.0 in
+    let idle : AreIdle old = subst AreIdle (c.deref.ensures.value ∙ sym rows) c.in_default.ensures.none in
+    let before : IsNear d most old [] = subst (λ (rs : List Row). IsNear d most rs []) (sym rows) (subst (λ (ready : List Item). IsNear d most run.rows.items ready) c.requires near) in
+    subst (λ (rs : List Row). IsNear d most rs c.put.new.ready) (sym back)
+    (near-sourced d most old c.put.new.rows c.in-Some-2.item c.in_ok-outs.outs c.put.new.ready c.in_ok-outs.ensures idle c.put.ensures.passed c.put.ensures.given c.put.ensures.rows before)
+
+pub returns-in-Some-2-clause-scan : goal.returns-in-Some-2-clause-scan
+returns-in-Some-2-clause-scan g c = λ at most scan.
+    let space = g.R.Reads in
+    let run = c.args.self.now in
+    let any = limit_row most [] in
+    let old = c.deref_mut-in-Some-2.result.now in
+    let rows : old ≡ run.rows.items = c.deref_mut-in-Some-2.ensures.value in
+    let only : old ≡ any ∷ [] = rows ∙ scan.rows in
+    let back = written_back c.put.new.rows run.rows.items run.rows.len (omega (arith, c.put.auto.rows, ap length rows)) run.rows.ok.0 in
+    let takes = subst (λ (found : Option Item). IfSome found (λ item. TakesVertex at (space.state c.args.space.now).reads (space.state c.next.new.space).reads item c.next.new.self)) c.in-Some-2.is
+    (c.in_ok-item.ensures.vertex at scan.source) in
+    let outs : c.in_ok-outs.outs ≡ c.in-Some-2.item ∷ [] = c.in_ok-outs.ensures in
+    let one : length old ≡ 1 = ap length only in
+    (c.in-Some-2.item, takes, back ∙ c.put.ensures.rows any ∙ (λ i. set (only i) 0 (record (get_or (only i) 0 any) { waiting = outs i })), c.put.ensures.passed (omega arith))
+
+pub returns-in-Some-first_open-clause-near : goal.returns-in-Some-first_open-clause-near
+returns-in-Some-first_open-clause-near g c = λ tells store d most degrees near.
+    let any = limit_row 0 [] in
+    let rows = c.deref-2.result.now in
+    let at = c.in-Some-first_open.at in
+    let plain : ArePlain rows = subst ArePlain (sym c.deref-2.ensures.value) near.plain in
+    let opens : is_open (get_or rows at any).stage ≡ true = c.in-Some-first_open.ensures.opens any in
+    absurd (clash (is_open (get_or rows at any).stage) opens (plain_quiet (get_or rows at any).stage (plain_at rows at any c.in-Some-first_open.ensures.some.0 plain)))
+
+pub returns-in-Some-first_open-clause-scan : goal.returns-in-Some-first_open-clause-scan
+returns-in-Some-first_open-clause-scan g c = λ at most scan.
+    absurd (quiet_scan c.deref-2.result.now most c.in-Some-first_open.at (limit_row most []) (c.deref-2.ensures.value ∙ scan.rows) c.in-Some-first_open.ensures.some.0 (c.in-Some-first_open.ensures.opens (limit_row most [])))

@@ -1,9 +1,9 @@
-use Rattle.std.proofs.Common.{◌≡◌, ◌++◌, ◌∷◌, [], Bool, true, false, cond, not, nat_eq, List, ℕ, ap, sym, ◌∙◌, subst}
+use Rattle.std.proofs.Common.{◌≡◌, ◌++◌, ◌∷◌, [], cond, not, nat_eq, List, ℕ, ap, sym, ◌∙◌, subst}
 use Rattle.std.specs.List.{list_any}
 use Rattle.std.specs.Cmp.Lexicographic.{pointwise}
 use Rattle.plain_graph.specs.Meaning.{unseen}
 use Rattle.plain_graph.specs.declared.item.Item.{Item}
-use Rattle.traversal_run.specs.Seen.{AreCodes, code_of, items_of}
+use Rattle.traversal_run.specs.Seen.{AreCodes, code_of}
 use Rattle.traversal_run.proofs.Codes.{codes-kept, unseen-more}
 use Rattle.traversal_run.proofs.seen.Seen.add.Goals as goal
 

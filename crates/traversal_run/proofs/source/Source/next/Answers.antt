@@ -1,13 +1,26 @@
-use Rattle.std.proofs.Common.{◌++◌, ap, sym, ◌∙◌, subst}
+use Rattle.std.proofs.Common.{◌≡◌, ◌++◌, ◌+◌, false, ap, sym, ◌∙◌, subst, arith}
 use Rattle.rec_bytes.specs.Space.{State}
 use Rattle.store_rules.specs.Graph.{graph_of}
 use Rattle.store_rules.specs.Rows.{option_list}
 use Rattle.traversal_run.specs.Finding.{element_at, element_mark}
+use Rattle.traversal_run.specs.Scan.{vertices_from}
 use Rattle.traversal_run.specs.Source.{HasNoneBelow, elements_left, left_of}
 use Rattle.traversal_run.specs.declared.source.Source.{Source}
 use Rattle.traversal_run.proofs.LeftRows.{gives-later, gives-some, left-none, left-takes}
 use Rattle.traversal_run.proofs.OnlyReads.{is_read-on, named-read}
+use Rattle.traversal_run.proofs.Scans.{scan_found}
 use Rattle.traversal_run.proofs.source.Source.next.Goals as goal
+
+pub returns-then-is_some-clause-vertex : goal.returns-then-is_some-clause-vertex
+returns-then-is_some-clause-vertex g c = λ at is.
+    let space = g.R.Reads in
+    let v = c.loop-id.invariant.vertex at is in
+    let take = c.in-Some.ensures.from v.0 v.2 in
+    let edges : c.loop-id.self.edges ≡ false = c.loop-id.invariant.edges ∙ ap (λ (s : Source). s.edges) is in
+    let new : Source = record { edges = c.loop-id.self.edges; left = c.take_first.new.self } in
+    let source : new ≡ vertices_from (v.0 + 1) = λ i. record { edges = edges i; left = take.1 i } in
+    scan_found at v.0 (space.state c.args.space.now).reads (space.state c.loop-id.space).reads (space.state c.element_at.new.space).reads c.in-Some.id c.in_ok-item.item new
+    v.1 v.3 c.element_at.ensures.reads take.0 source (c.in_ok-item.ensures.vertex edges)
 
 pub returns-then-is_some-clause-first : goal.returns-then-is_some-clause-first
 returns-then-is_some-clause-first g c = λ tells store.
@@ -38,6 +51,13 @@ loop-id-preserved g c =
           (takes ∙ ap (λ found. option_list found ++ left_of (graph_of s.records) new) (sym item));
       edges = c.loop-id.invariant.edges;
       over = c.take_first.ensures.over ∙ c.loop-id.invariant.over;
+      vertex = λ at is.
+          let v = c.loop-id.invariant.vertex at is in
+          let take = c.in-Some.ensures.from v.0 v.2 in
+          let more = c.element_at.ensures.reads in
+          let later = v.1 in
+          let before = v.3 in
+          (v.0 + 1, omega arith, take.1, omega arith);
       mark = c.loop-id.invariant.mark;
       read = is_read-on space g.met.R.Reads.further_onward c.args.space.now c.loop-id.space c.element_at.new.space read c.element_at.ensures.read;
     }

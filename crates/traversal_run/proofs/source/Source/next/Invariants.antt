@@ -1,8 +1,10 @@
-use Rattle.std.proofs.Common.{◌≡◌}
+use Rattle.std.proofs.Common.{◌≡◌, ◌≤◌, ◌+◌, ◌-◌, ℕ}
 use Rattle.store_rules.specs.Graph.{graph_of}
 use Rattle.traversal_run.specs.Finding.{element_mark}
 use Rattle.traversal_run.specs.Reading.{IsNamedStore, IsRead}
+use Rattle.traversal_run.specs.Scan.{vertices_from}
 use Rattle.traversal_run.specs.Source.{is_over, left_count, left_of}
+use Rattle.traversal_run.specs.declared.source.Left.TheVariants.{From}
 use Rattle.traversal_run.proofs.source.Source.next.Given as goal
 
 abbrev pub invariant-loop-id : goal.invariant-loop-id
@@ -12,6 +14,7 @@ invariant-loop-id g l =
       same : g.R.Reads.tells → IsNamedStore old.records old.shape l.names.names → left_of (graph_of old.records) l.self ≡ left_of (graph_of old.records) l.fn.self;
       edges : l.self.edges ≡ l.fn.self.edges;
       over : is_over l.self.left ≡ is_over l.fn.self.left;
+      vertex : (at : ℕ) → l.fn.self ≡ vertices_from at → (next : ℕ) × (at ≤ next) × (l.self.left ≡ From next) × ((g.R.Reads.state l.space).reads ≤ old.reads + (next - at));
       mark : l.mark ≡ element_mark old.records l.fn.self.edges;
       read : IsRead g.R.Reads l.fn.space l.space;
     }

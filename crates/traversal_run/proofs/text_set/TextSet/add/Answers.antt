@@ -1,4 +1,4 @@
-use Rattle.std.proofs.Common.{◌≡◌, ap, sym, ◌∙◌, not, nat_eq, cond, ◌∷◌, [], ◌++◌, List, ℕ}
+use Rattle.std.proofs.Common.{ap, sym, ◌∙◌, not, nat_eq, cond, ◌∷◌, [], ◌++◌, List, ℕ}
 use Rattle.std.specs.List.{list_any}
 use Rattle.std.specs.Cmp.Lexicographic.{pointwise}
 use Rattle.traversal_run.specs.TextSet.{bytes_of}
