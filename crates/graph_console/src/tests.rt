@@ -6,6 +6,7 @@ mod generated;
 mod lists;
 mod properties;
 mod queries;
+mod reading;
 mod rows;
 mod samples;
 mod steps;

@@ -58,6 +58,20 @@ agrees_put content cache page bytes agrees is = record {
       (Contains-put_entries page_eq cache page bytes (page_of key, held) i);
 }
 
+-- the page of a record was taken out, so it is not there
+pub gone_forgotten : (key : Key) (page : PageKey) (before after : Pages) → page ≡ page_of key
+    → IsDistinct page_eq (keys_of before.entries) → IsDistinct page_eq (keys_of after.entries) → after.entries ≡ remove_entry (page_eq page) before.entries → (bytes : List ℕ) → ¬ Contains after.entries (page_of key, bytes)
+gone_forgotten key page before after its once then is bytes i =
+    let found : lookup (page_eq (page_of key)) after.entries ≡ Some bytes = lookup-from_Contains page_laws (page_of key) bytes after.entries then i in
+    let gone : lookup (page_eq (page_of key)) after.entries ≡ cond (page_eq page (page_of key)) None (lookup (page_eq (page_of key)) before.entries)
+    = ap (lookup (page_eq (page_of key))) is ∙ lookup-remove_entry page_laws (page_eq page) (λ x y e. ap (λ w. page_eq w y) (page_eq-true page x e)) (page_of key) before.entries once in
+    let same : page_eq page (page_of key) ≡ true = ap (λ p. page_eq p (page_of key)) its ∙ page_eq-same (page_of key) in
+    absurd (none_there (page_eq page (page_of key)) (lookup (page_eq (page_of key)) before.entries) bytes same (sym gone ∙ found))
+  where
+    none_there : {X : Type 0} (b : Bool) (o : Option X) (x : X) → b ≡ true → cond b None o ≡ Some x → ⊥
+    none_there true o x t e = absurd (cc)
+    none_there false o x t e = absurd (cc)
+
 -- the page of a record was taken out, and the record written
 pub agrees_forgotten : (old new : Files) (key : Key) (page : PageKey) (before after : Pages) → page ≡ page_of key → SameButRecord key old new
     → IsDistinct page_eq (keys_of before.entries) → IsDistinct page_eq (keys_of after.entries) → after.entries ≡ remove_entry (page_eq page) before.entries → Agrees old before → Agrees new after

@@ -1,5 +1,5 @@
 -- Pages of records that are kept, and when they agree with a content of the disk.
-use Rattle.std.specs.Prelude.{◌≡◌, ◌⊎◌, ◌*◌, ◌/◌, ◌%◌, ◌&&◌, ℕ, Bool, List, Contains, Option, nat_eq, length, take, drop}
+use Rattle.std.specs.Prelude.{◌≡◌, ◌⊎◌, ◌*◌, ◌/◌, ◌%◌, ◌&&◌, ℕ, Bool, List, [], ◌∷◌, Contains, Option, nat_eq, length, take, drop}
 use Rattle.std.specs.Map.{lookup, remove_entry}
 use Rattle.lru.specs.LruCache.{LruCache, promoted, put_entries}
 use Rattle.disk_model.specs.Contents.{Files, Holds}
@@ -7,6 +7,7 @@ use Rattle.rec_bytes.specs.declared.key.Key.{Key}
 use Rattle.rec_bytes.specs.declared.record.Rec.{Rec}
 use Rattle.rec_bytes.specs.Format.{record_bytes}
 use Rattle.rec_bytes.specs.Key.{IsKey}
+use Rattle.rec_bytes.specs.Pairs.{Pairs}
 use Rattle.record_file.specs.Records.{record_at}
 use Rattle.page_cache.specs.declared.page.PageKey.{PageKey}
 
@@ -48,6 +49,11 @@ with_page key bytes pages =
 abbrev pub without_page : Key → Pages → Pages
 without_page key pages =
     record pages { entries = remove_entry (page_eq (page_of key)) pages.entries }
+
+-- the same pages but for those of these records
+abbrev pub without_pages : Pairs → Pages → Pages
+without_pages [] pages = pages
+without_pages (pair ∷ rest) pages = without_pages rest (without_page pair.0 pages)
 
 -- the page of a record was put in, or no page changed
 abbrev pub KeepsPage : Key → Pages → Pages → Type 0

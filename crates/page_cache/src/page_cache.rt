@@ -1,17 +1,19 @@
-ghost use Rattle.std.specs.Prelude.{◌≡◌, ◌*◌, [], IfOk, IfSome, IsOk, IsSome, is_some};
+ghost use Rattle.std.specs.Prelude.{◌≡◌, ◌*◌, [], ℕ, List, Contains, IfOk, IfSome, IsOk, IsSome};
+ghost use Rattle.std.specs.Prelude.{is_some};
 ghost use Rattle.fault_count.specs.Cause.{HasCause};
 ghost use Rattle.disk_model.specs.Contents.{Files};
 ghost use Rattle.disk_model.specs.Spans.{OnlyReads};
 ghost use Rattle.rec_bytes.specs.Key.{IsKey};
-ghost use Rattle.record_file.specs.Records.{SameButRecord, record_at};
+ghost use Rattle.record_file.specs.Records.{KeepsOthers, SameButRecord, record_at};
 ghost use Rattle.lru.specs.LruCache.{lru_cache};
 ghost use Rattle.std.specs.NonZero.{non_zero_usize_get};
-ghost use Rattle.page_cache.specs.Pages.{Agrees, KeepsPage, kept_page, used_last, without_page};
+ghost use Rattle.page_cache.specs.Pages.{Agrees, KeepsPage, kept_page, page_of, used_last};
+ghost use Rattle.page_cache.specs.Pages.{without_page, without_pages};
 
 use crate::page::{Page, PageKey};
 use disk_model::Disk;
 use lru::LruCache;
-use rec_bytes::{DiskFault, Key, Rec};
+use rec_bytes::{DiskFault, Key, Rec, WriteSet};
 use record_file::read_record;
 use std::alloc::{AllocError, Global};
 use std::marker::Model;
@@ -21,6 +23,8 @@ use std::num::NonZeroUsize;
 #[derive(Drop)]
 pub struct PageCache {
     pages: LruCache<PageKey, Page>,
+    // The memory of a page that went, for the next one.
+    spare: Option<Page>,
     alloc: Global,
 }
 
@@ -39,7 +43,11 @@ impl PageCache {
         ensures agrees { IfOk result (λ cache. (content : Files) → Agrees content cache) }
     {
         let pages = LruCache::new(alloc, pages)?;
-        Ok(PageCache { pages, alloc })
+        Ok(PageCache {
+            pages,
+            spare: None,
+            alloc,
+        })
     }
 
     /// The record at a key, as it stands in its file. If its page is kept, no call of the disk is
@@ -60,9 +68,28 @@ impl PageCache {
         if let Some(rec) = self.find(key) {
             return Ok(rec);
         }
-        match Page::new(self.alloc) {
+        match self.spare_page() {
             Ok(page) => self.load(disk, key, page),
             Err(_) => read_record(disk, key),
+        }
+    }
+
+    // Keeps the memory of a page that went, if one did.
+    fn keep_memory(&mut self, gone: Option<(PageKey, Page)>)
+        ensures { self.new ≡ self.old }
+    {
+        if let Some((_, page)) = gone {
+            self.spare = Some(page);
+        }
+    }
+
+    // Memory for a page: that of one that went, or else new.
+    fn spare_page(&mut self) -> Result<Page, AllocError>
+        ensures { self.new ≡ self.old }
+    {
+        match self.spare.take() {
+            Some(page) => Ok(page),
+            None => Page::new(self.alloc),
         }
     }
 
@@ -71,11 +98,24 @@ impl PageCache {
         ensures agrees { (old new : Files) → SameButRecord key old new → Agrees old self.old
             → Agrees new self.new }
         ensures pages { self.new ≡ without_page key self.old }
+        ensures gone { (bytes : List ℕ) → ¬ Contains self.new.entries (page_of key, bytes) }
     {
         // The contract of `len` says that no page is kept twice; the proof stands on that.
         let _before = self.pages.len();
         drop(self.pages.pop(&PageKey::of(key)));
         let _after = self.pages.len();
+    }
+
+    /// Drops the pages of these records, after they were written.
+    pub fn forget_all(&mut self, written: &WriteSet)
+        ensures agrees { (old new : Files) → KeepsOthers written.now.pairs old new
+            → Agrees old self.old → Agrees new self.new }
+        ensures pages { self.new ≡ without_pages written.now.pairs self.old }
+    {
+        for i in 0..written.len() {
+            let (key, _) = written.at(i);
+            self.forget(key);
+        }
     }
 
     /// Drops all pages.
@@ -114,8 +154,8 @@ impl PageCache {
     {
         page.read(disk, key)?;
         let rec = page.record(key.id);
-        match self.pages.put(PageKey::of(key), page) {
-            Ok(replaced) => drop(replaced),
+        match self.pages.push(PageKey::of(key), page) {
+            Ok(gone) => self.keep_memory(gone),
             Err(refused) => drop(refused),
         }
         Ok(rec)

@@ -21,10 +21,14 @@ record_at content key = if is_record_file key.file then (record { bytes = bytes_
 abbrev pub SameButRecord : Key → Files → Files → Type 0
 SameButRecord key old new = SameOutside key.file (record_place key) record_bytes old new
 
+-- the same record at each key that is none of these
+abbrev pub KeepsOthers : Pairs → Files → Files → Type 0
+KeepsOthers written old new = (key : Key) → find_pair written key ≡ None → record_at new key ≡ record_at old key
+
 -- The same log, and the same record at each key that is none of these.
 pub record SameButRecords (written : Pairs) (old new : Files) : Type 0 where
   pub log : (place : ℕ) → new log_file place ≡ old log_file place
-  pub others : (key : Key) → find_pair written key ≡ None → record_at new key ≡ record_at old key
+  pub others : KeepsOthers written old new
 
 -- a content from before, but for these records
 abbrev pub IsTornInRecords : (Files → Type 0) → Pairs → Files → Type 0

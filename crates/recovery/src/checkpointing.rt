@@ -3,7 +3,7 @@ ghost use Rattle.fault_count.specs.Cause.{HasCause};
 ghost use Rattle.disk_model.specs.Spans.{AtEachMoment, IsAllSettled};
 ghost use Rattle.rec_bytes.specs.Space.{laid_over};
 ghost use Rattle.redo_log.specs.Entries.{HasEntries};
-ghost use Rattle.record_file.specs.Records.{record_at};
+ghost use Rattle.record_file.specs.Records.{KeepsOthers, record_at};
 ghost use Rattle.record_file.specs.Redone.{AreAlike, IsLogged, Redoes};
 
 use crate::syncing::sync_record_files;
@@ -26,6 +26,9 @@ pub fn checkpoint<D: Disk>(disk: &mut D, changed: &WriteSet) -> Result<(), DiskF
     ensures space { D.tells_reads → OnOk result (record_at (D.reads disk.new) ≡ laid_over (record_at (D.reads disk.old)) changed.now.pairs) }
     ensures emptied { D.tells_reads → OnOk result (HasEntries (D.reads disk.new) [] 0) }
     ensures settled { D.tells_reads → D.tells_images → OnOk result (IsAllSettled D.Disk disk.new) }
+
+    // No other record is written.
+    ensures elsewhere { KeepsOthers changed.now.pairs (D.reads disk.old) (D.reads disk.new) }
 
     ensures cause { HasCause (D.faults disk.old) (D.faults disk.new) result }
 {

@@ -17,6 +17,8 @@ use Rattle.record_file.specs.Records.{record_at}
 use Rattle.record_file.specs.Redone.{AreAlike, IsLogged, Redoes}
 use Rattle.record_file.proofs.Redone.{AllHaveEntries-redo, AllRedoBy, AllRedoBy-alike, AreAlike-more, AreAlike-settled, IsLogged-more, IsLogged-none, Redoes-appended, Redoes-by, RedoesBy, RedoesBy-logged, space-merged}
 use Rattle.record_file.proofs.Records.{record_at-kept, record_at-log}
+use Rattle.page_cache.specs.Pages.{Agrees, Pages}
+use Rattle.page_cache.proofs.Agreement.{agrees_same}
 use Rattle.txn_core.specs.Kept.{IsKept, IsOnDisk}
 use Rattle.txn_core.specs.MetaRecords.{AreMetasOf, with_metas}
 use Rattle.txn_core.proofs.Metas.{with_metas-same}
@@ -114,6 +116,10 @@ on_disk_at g first disk P counts read crash = record {
   read = read;
   images = λ reads images image left. at_each_moment_now g first disk P counts images (crash reads images) image left;
 }
+
+-- kept pages have no byte of the log
+pub cached_appended : {D : Type 0} (g : Ghosts D) (first now : D) (cache : Pages) (own : Pairs) (tail : ℕ) → SameButEntry tail own (g.reads first) (g.reads now) → Agrees (g.reads first) cache → Agrees (g.reads now) cache
+cached_appended g first now cache own tail elsewhere = agrees_same (g.reads first) (g.reads now) cache (λ key. record_at-log key tail (entry_bytes (length own) + 1) (g.reads first) (g.reads now) elsewhere)
 
 -- an entry more
 pub kept_appended : {D : Type 0} (g : Ghosts D) (first now : D) (metas : List Rec) (changed own merged : Pairs) (tail next : ℕ) → CountsNow g → IsKept g first metas changed tail → FindsMerged changed own merged

@@ -1,10 +1,12 @@
 ghost use Rattle.std.specs.Prelude.{◌≡◌, IsTrue, true};
 ghost use Rattle.rec_bytes.specs.Shape.{is_allowed};
 ghost use Rattle.txn_core.specs.Kept.{AreBounded, IsKept};
-ghost use Rattle.txn_core.specs.Unique.{AreBounded-prop, IsKept-prop};
+ghost use Rattle.txn_core.specs.Unique.{AreBounded-prop, IsCached-prop, IsKept-prop};
+ghost use Rattle.page_cache.specs.Pages.{Agrees};
 
 use crate::meta_records::MetaRecords;
 use disk_model::Disk;
+use page_cache::PageCache;
 use rec_bytes::{Shape, WriteSet};
 
 /// How many records may be changed between two checkpoints.
@@ -13,11 +15,15 @@ pub(crate) const MOST_CHANGED: usize = 8_192;
 /// How many records a transaction may write.
 pub(crate) const MOST_OWN: usize = 2_048;
 
-/// What lies beneath the draft of a store: its disk, and in memory the meta records as the files have them, the records
-/// changed since the last checkpoint, and those that the open transaction has written.
+/// How many pages of records are kept.
+pub(crate) const KEPT_PAGES: usize = 256;
+
+/// What lies beneath the draft of a store: its disk, and in memory the pages of it that were used last, the meta records as
+/// the files have them, the records changed since the last checkpoint, and those that the open transaction has written.
 #[derive(Drop)]
 pub struct Base<'d, D: Disk> {
     pub(crate) disk: &'d mut D,
+    pub(crate) cache: PageCache,
     pub(crate) shape: Shape,
     pub(crate) metas: MetaRecords,
     pub(crate) changed: WriteSet,
@@ -28,6 +34,9 @@ pub struct Base<'d, D: Disk> {
     /// Whether a transaction is open.
     pub(crate) in_transaction: bool,
     ghost allowed: { is_allowed shape ≡ true },
+
+    // Each record of a kept page is what is read.
+    ghost cached: { D.tells_reads → Agrees (D.reads disk.now) cache } by { IsCached-prop D.Disk disk.now cache },
     ghost bounded: { AreBounded in_transaction changed own } by { AreBounded-prop in_transaction changed own },
 
     // While the store is live, its log is what is read, and each image is that but for the changed records.
@@ -42,6 +51,7 @@ impl<'d, D: Disk> Base<'d, D> {
     {
         let Base {
             disk,
+            cache: _,
             shape: _,
             metas: _,
             changed: _,

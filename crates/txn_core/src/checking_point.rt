@@ -23,6 +23,7 @@ impl<'d, D: Disk> Base<'d, D> {
         ensures cause { HasCause (D.faults self.old.disk.now) (D.faults self.new.disk.now) result }
     {
         self.live = false;
+        self.cache.forget_all(&self.changed); // Their pages are to be read anew.
         recovery::checkpoint(self.disk, &self.changed)?;
         self.metas.refresh(&self.changed);
         self.changed.clear();

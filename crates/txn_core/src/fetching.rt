@@ -1,20 +1,22 @@
-ghost use Rattle.std.specs.Prelude.{◌≡◌, IfOk, length, true};
+ghost use Rattle.std.specs.Prelude.{◌≡◌, ◌*◌, IfOk, IsOk, IsSome, length, true};
 ghost use Rattle.fault_count.specs.Cause.{HasCause};
 ghost use Rattle.rec_bytes.specs.Key.{IsKey};
 ghost use Rattle.rec_bytes.specs.RecordFiles.{is_meta_file, meta_key_of};
+ghost use Rattle.page_cache.specs.Pages.{kept_page};
 ghost use Rattle.txn_core.specs.Base.{OnlyReadsBase, working};
 
 use crate::base::Base;
 use disk_model::Disk;
 use rec_bytes::{DiskFault, Key, Rec, meta_key};
-use record_file::read_record;
 
 impl<'d, D: Disk> Base<'d, D> {
-    // The record at a key as the open transaction has it: at most one call of the disk.
+    // The record at a key as the open transaction has it. If it is in memory, or its page is, the disk isn't called;
+    // else it is called once.
     pub(crate) fn fetch(&mut self, key: Key) -> Result<Rec, DiskFault>
         requires { IsKey key }
         ensures got { D.tells_reads → IfOk result (λ rec. rec ≡ working self.old key) }
         ensures whole { IfOk result (λ rec. length rec.bytes ≡ 64) }
+        ensures hit { IsSome (kept_page key self.old.cache) → IsOk result × (self.new.disk.now ≡ self.old.disk.now) }
         ensures records { working self.new ≡ working self.old }
         ensures onward { OnlyReadsBase self.old self.new }
         ensures cause { HasCause (D.faults self.old.disk.now) (D.faults self.new.disk.now) result }
@@ -28,7 +30,7 @@ impl<'d, D: Disk> Base<'d, D> {
         if let Some(rec) = self.metas.find(key) {
             return Ok(rec);
         }
-        read_record(self.disk, key)
+        self.cache.get(self.disk, key)
     }
 
     // The meta record of a file, which is in memory.

@@ -1,6 +1,8 @@
 ghost use Rattle.std.specs.Prelude.{◌≡◌, ◌⊎◌, ◌≤◌, ◌+◌, [], Err, IsTrue, IfErr, IfOk, OnErr, OnOk, false, true, length};
 ghost use Rattle.fault_count.specs.Cause.{HasCause, Rose};
+ghost use Rattle.disk_model.specs.Contents.{Files};
 ghost use Rattle.disk_model.specs.Spans.{AtEachMoment, IsAllSettled, OnlyReads};
+ghost use Rattle.page_cache.specs.Pages.{Agrees};
 ghost use Rattle.rec_bytes.specs.Creation.{creation_pairs};
 ghost use Rattle.rec_bytes.specs.Shape.{is_allowed};
 ghost use Rattle.rec_bytes.specs.Space.{laid_over};
@@ -17,14 +19,16 @@ ghost use Rattle.txn_core.specs.Kept.{IsKept, most_changed};
 ghost use Rattle.txn_core.specs.MetaRecords.{AreMetasOf, with_metas};
 ghost use Rattle.txn_core.specs.Opening.{IsOldOrNew, IsRefusal, IsWant, OnlyDiffers, Opens, RefusesOpening, made_over};
 
-use crate::base::{Base, MOST_CHANGED};
+use crate::base::{Base, KEPT_PAGES, MOST_CHANGED};
 use crate::meta_records::MetaRecords;
 use crate::{Config, NotOpened, OpenFault};
 use disk_model::Disk;
+use page_cache::PageCache;
 use rec_bytes::{DiskFault, Shape, WriteSet, creation};
 use recovery::{Found, RecoverFault, recover};
 use redo_log::append;
 use std::alloc::{AllocError, Global};
+use std::num::NonZeroUsize;
 
 // What a store begins with.
 #[derive(Clone, Copy)]
@@ -34,11 +38,12 @@ struct Start {
     tail: u64,
 }
 
-// The sets of a store that is being opened.
+// What a store takes memory for while it is opened.
 #[derive(Drop)]
 struct Sets {
     changed: WriteSet,
     creation: WriteSet,
+    cache: PageCache,
 }
 
 impl<'d, D: Disk> Base<'d, D> {
@@ -76,6 +81,7 @@ impl<'d, D: Disk> Base<'d, D> {
             Sets {
                 mut changed,
                 creation,
+                cache,
             },
         ) = Sets::new(alloc, config)
         else {
@@ -87,6 +93,7 @@ impl<'d, D: Disk> Base<'d, D> {
         match find_or_make(disk, config, &creation, &mut changed) {
             Ok(Start { shape, metas, tail }) => Ok(Base {
                 disk,
+                cache,
                 shape,
                 metas,
                 changed,
@@ -106,12 +113,14 @@ impl Sets {
         ensures changed { IfOk result (λ sets. sets.changed.pairs ≡ []) }
         ensures room { IfOk result (λ sets. 8192 ≤ sets.changed.room) }
         ensures creation { IfOk result (λ sets. sets.creation.pairs ≡ creation_pairs (shape_of config)) }
+        ensures cache { IfOk result (λ sets. (content : Files) → Agrees content sets.cache) }
     {
         let mut changed = WriteSet::new(alloc);
         changed.reserve(MOST_CHANGED)?;
         Ok(Sets {
             changed,
             creation: creation(alloc, config.shape())?,
+            cache: PageCache::new(alloc, NonZeroUsize::new(KEPT_PAGES).unwrap())?,
         })
     }
 }

@@ -43,6 +43,7 @@ impl<'d, D: Disk> Base<'d, D> {
         ensures later { D.faults self.old.disk.now ≤ D.faults self.new.disk.now }
     {
         self.live = false;
+        self.cache.clear();
         self.metas = find_again(self.disk, self.shape)?;
         self.changed.clear();
         self.tail = 0;

@@ -43,20 +43,20 @@ fn check_line<D: Disk>(
     session: &mut Session<'_, D>,
     line: &[u8],
     want: &[u8],
-) -> Result<(), AllocError> {
-    let mut page = Page::new(alloc, 100, Vec::new(alloc))?;
+) {
+    let mut page = Page::new(alloc, 100, Vec::new(alloc)).expect(rt, "a page");
     assert_eq!(rt; session.step(line, &mut page), Turn::Go, "line {line:?}");
     assert_eq!(rt; page.taken(), want, "line {line:?}");
-    Ok(())
 }
 
 // How many calls of the disk an opening makes, and a node after it.
 fn calls_of_a_node(alloc: Global) -> Result<u64, AllocError> {
     for stop in 1..=CALLS {
         let mut disk = disk_until(alloc, Some(stop))?;
+        let mut page = Page::new(alloc, 100, Vec::new(alloc))?;
         if let Ok(mut session) = open(alloc, &mut disk) {
-            let mut page = Page::new(alloc, 100, Vec::new(alloc))?;
             session.step(b"node a", &mut page);
+            let _ = session.close();
             if page.taken() == b"node 0\n".as_slice() {
                 return Ok(stop - 1);
             }
@@ -95,18 +95,19 @@ fn each_line_gets_its_reply(rt: HostRuntime) -> Result<(), Fail> {
     ];
     let alloc = rt.alloc();
     let mut disk = disk_until(alloc, None)?;
+    let mut page = Page::new(alloc, 100, Vec::new(alloc))?;
     let mut session = open(alloc, &mut disk)?;
     for (line, want) in cases {
-        check_line(&rt, alloc, &mut session, line, want)?;
+        check_line(&rt, alloc, &mut session, line, want);
     }
-    let mut page = Page::new(alloc, 100, Vec::new(alloc))?;
     assert_eq!(rt; session.too_long(&mut page), Turn::Go);
     assert_eq!(rt; session.step(b"quit", &mut page), Turn::Quit);
     assert_eq!(rt; page.taken(), b"error line\n".as_slice());
     assert_eq!(rt; session.health(), Health::Live);
     let again = session.close();
     let mut session = open(alloc, again)?;
-    check_line(&rt, alloc, &mut session, b"g.V()", b"==>v[1]\nend\n")?;
+    check_line(&rt, alloc, &mut session, b"g.V()", b"==>v[1]\nend\n");
+    let _ = session.close();
     Ok(())
 }
 
@@ -133,10 +134,11 @@ fn lines_that_need_no_disk_make_no_call(rt: HostRuntime) -> Result<(), Fail> {
     assert!(rt; made < CALLS);
     let mut disk = disk_until(alloc, Some(made + 1))?;
     let mut session = open(alloc, &mut disk)?;
-    check_line(&rt, alloc, &mut session, b"node a", b"node 0\n")?;
+    check_line(&rt, alloc, &mut session, b"node a", b"node 0\n");
     for (line, want) in cases {
-        check_line(&rt, alloc, &mut session, line, want)?;
+        check_line(&rt, alloc, &mut session, line, want);
     }
     assert_eq!(rt; session.health(), Health::Failed);
+    let _ = session.close();
     Ok(())
 }

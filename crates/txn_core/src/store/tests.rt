@@ -210,6 +210,7 @@ fn check_stops(rt: &impl Abort, alloc: Global, choice: Crash, first: u64) -> Res
             Some(count),
             "{choice:?} at call {stop}"
         );
+        let _ = store.close();
     }
     Ok(())
 }
@@ -236,11 +237,11 @@ fn a_stopped_commit_is_whole_or_nothing(rt: HostRuntime) -> Result<(), Fail> {
 fn disk_with_old_gate(rt: &impl Abort, alloc: Global) -> Result<MemoryDisk, Fail> {
     let mut disk = new_disk(alloc, &[], None)?;
     let mut store = open(alloc, &mut disk)?;
-    change(rt, &mut store, 1, FOUR)?;
-    checkpoint(rt, &mut store)?;
-    change(rt, &mut store, 2, SEVEN)?;
+    assert_eq!(rt; change(rt, &mut store, 1, FOUR), Ok(()));
+    assert_eq!(rt; checkpoint(rt, &mut store), Ok(()));
+    assert_eq!(rt; change(rt, &mut store, 2, SEVEN), Ok(()));
     assert_eq!(rt; shown(rt, &mut store, SEVEN), Some(2));
-    drop(store);
+    let _ = store.close();
     Ok(disk)
 }
 
@@ -272,6 +273,7 @@ fn an_entry_is_closed_over_an_old_gate(rt: HostRuntime) -> Result<(), Fail> {
         match open(rt.alloc(), &mut disk) {
             Ok(mut store) => {
                 assert_eq!(rt; (shown(&rt, &mut store, SEVEN), stop), (Some(2), None));
+                let _ = store.close();
             }
             Err(fault) => assert_eq!(rt; (fault, stop.is_some()), (OpenFault::Disk, true)),
         }
@@ -298,9 +300,16 @@ fn has_failed<E>(
 /// Opens a store whose disk fails in this call, and then again. Says whether the first opening failed.
 fn try_opening(rt: &impl Abort, alloc: Global, call: u64) -> Result<bool, Fail> {
     let mut disk = new_disk(alloc, &[call], None)?;
-    let failed = open(alloc, &mut disk).is_err();
+    let failed = match open(alloc, &mut disk) {
+        Ok(store) => {
+            let _ = store.close();
+            false
+        }
+        Err(_) => true,
+    };
     let mut store = open(alloc, &mut disk)?;
     assert_eq!(rt; shown(rt, &mut store, FOUR), Some(0), "call {call}");
+    let _ = store.close();
     Ok(failed)
 }
 
@@ -319,6 +328,7 @@ fn try_failing(rt: &impl Abort, alloc: Global, call: u64) -> Result<([bool; 3], 
     assert_eq!(rt; shown(rt, &mut store, FOUR), count, "call {call}");
     let mut store = open(alloc, store.close())?;
     assert_eq!(rt; shown(rt, &mut store, FOUR), count, "call {call}");
+    let _ = store.close();
     Ok(([committing, checking, recovering], count))
 }
 
@@ -396,6 +406,7 @@ fn only_a_commit_of_records_calls_the_disk(rt: HostRuntime) -> Result<(), Fail> 
             "{course:?}"
         );
     }
+    let _ = store.close();
     Ok(())
 }
 
@@ -451,6 +462,7 @@ fn poke_disk(rt: &impl Abort, disk: &mut MemoryDisk, pokes: &[(u8, u64, u8)]) {
 /// Puts them on the disk of a store that has failed.
 fn poke_all(rt: &impl Abort, base: &mut Base<'_, MemoryDisk>, pokes: &[(u8, u64, u8)]) {
     assert!(rt; !base.live);
+    base.cache.clear();
     poke_disk(rt, base.disk, pokes);
 }
 
@@ -463,10 +475,11 @@ fn recover_poked(
     // The calls of the opening and of a checkpoint of seven records. The next one fails.
     let mut disk = new_disk(alloc, &[42], None)?;
     let mut store = open(alloc, &mut disk)?;
-    checkpoint(rt, &mut store)?;
+    assert_eq!(rt; checkpoint(rt, &mut store), Ok(()));
     assert!(rt; change(rt, &mut store, 1, FOUR).is_err());
     poke_all(rt, &mut store.base, pokes);
     let answer = recover_again(rt, &mut store);
+    let _ = store.close();
     Ok(answer)
 }
 

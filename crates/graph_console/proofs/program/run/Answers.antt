@@ -36,14 +36,7 @@ returns-in-Ok-open-clause-serves g c = λ holds s k.
 
 pub returns-in-Ok-open-clause-store_failed : goal.returns-in-Ok-open-clause-store_failed
 returns-in-Ok-open-clause-store_failed g c = λ told stands s k is.
-    let config_is : c.config_of.result ≡ config_for c.args.options = c.config_of.ensures in
-    let opens = subst (λ (config : Config). Opens g.D.Disk config c.args.disk.now (view c.in-Ok-open.session)) config_is c.in-Ok-open.ensures.opened in
-    let begins = opens.begins (λ _. stands) in
-    at_equal (λ (disk : g.row.D.Denot). Rose (g.D.Disk.faults c.args.disk.now) (g.D.Disk.faults disk)) (view c.serve-exit.new.session).disk _
-    (failed_rose g.D.Disk c.args.options c.args.disk.now (view c.serve-exit.new.session).disk told c.serve-exit.result _ _ _ _
-    (serves_opened g.D.Disk c.args.options c.args.disk.now (view c.in-Ok-open.session) (view c.serve-exit.new.session).disk opens (λ _. stands) begins.0 begins.1 begins.2 c.serve-exit.result _ _ _ _
-    (c.serve-exit.ensures.serves begins.0 begins.2 s k)) is)
-    (search rules)
+    failed_rose g.D.Disk c.args.options c.args.disk.now _ told c.serve-exit.result _ _ _ _ (returns-in-Ok-open-clause-serves g c (λ _. stands) s k) is
 
 pub returns-clause-serves : goal.returns-clause-serves
 returns-clause-serves g c = λ holds s k.

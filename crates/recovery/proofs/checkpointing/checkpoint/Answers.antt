@@ -93,3 +93,10 @@ pub returns-clause-space : goal.returns-clause-space
 returns-clause-space g c reads =
     let gate : record_at (g.D.Disk.reads c.reset.new.disk) ≡ record_at (g.D.Disk.reads c.sync_record_files.new.disk) = λ i key. record_at-log key 0 1 _ _ c.reset.ensures.elsewhere i in
     on_ok_weaker {P = HasEntries (g.D.Disk.reads c.reset.new.disk) [] 0} c.reset.result (λ _. gate ∙ space_read g c reads) (c.reset.ensures.emptied reads)
+
+pub returns-clause-elsewhere : goal.returns-clause-elsewhere
+returns-clause-elsewhere g c key none =
+    let disk = g.D.Disk in
+    record_at-log key 0 1 (disk.reads c.sync_record_files.new.disk) (disk.reads c.reset.new.disk) c.reset.ensures.elsewhere
+    ∙ record_at-kept key (disk.reads c.write_records.new.disk) (disk.reads c.sync_record_files.new.disk) c.sync_record_files.ensures.only_reads.keeps
+    ∙ c.write_records.ensures.elsewhere.others key none

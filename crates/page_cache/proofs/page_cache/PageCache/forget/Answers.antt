@@ -2,7 +2,7 @@ use Rattle.std.proofs.Common.{ap, sym, subst, List, ℕ}
 use Rattle.lru.specs.LruCache.{LruCache}
 use Rattle.page_cache.specs.declared.page.PageKey.{PageKey}
 use Rattle.page_cache.specs.Pages.{Agrees}
-use Rattle.page_cache.proofs.Agreement.{agrees_forgotten}
+use Rattle.page_cache.proofs.Agreement.{agrees_forgotten, gone_forgotten}
 use Rattle.page_cache.proofs.page_cache.PageCache.forget.Goals as goal
 
 pub returns-clause-agrees : goal.returns-clause-agrees
@@ -10,3 +10,8 @@ returns-clause-agrees c old new same agrees =
     agrees_forgotten old new c.args.key c.of.result c.self.inside.pages c.pop.new.self c.of.ensures same c.len-before.ensures.valid.0 c.len-after.ensures.valid.0
     (ap (λ (cache : LruCache PageKey (List ℕ)). cache.entries) c.pop.ensures.entries)
     (subst (Agrees old) (sym c.self.view_is) agrees)
+
+pub returns-clause-gone : goal.returns-clause-gone
+returns-clause-gone c bytes =
+    gone_forgotten c.args.key c.of.result c.self.inside.pages c.pop.new.self c.of.ensures c.len-before.ensures.valid.0 c.len-after.ensures.valid.0
+    (ap (λ (cache : LruCache PageKey (List ℕ)). cache.entries) c.pop.ensures.entries) bytes

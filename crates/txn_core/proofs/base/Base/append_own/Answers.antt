@@ -1,7 +1,8 @@
 use Rattle.std.proofs.Common.{rules, refl, arith, ap, length}
 use Rattle.rec_bytes.specs.Pairs.{Pairs}
+use Rattle.std.proofs.lemmas.Bool.{false≢true}
 use Rattle.std.proofs.lemmas.Result.{err_from_is_err_and}
-use Rattle.txn_core.proofs.Kept.{appended_space, before_or_after, kept_appended, on_disk, on_disk_at, read_before_or_after}
+use Rattle.txn_core.proofs.Kept.{appended_space, before_or_after, cached_appended, kept_appended, on_disk, on_disk_at, read_before_or_after}
 use Rattle.txn_core.proofs.base.Base.append_own.Goals as goal
 
 pub returns-in_err-self-clause-crash : goal.returns-in_err-self-clause-crash
@@ -31,6 +32,7 @@ invariant_of-self-2 g c =
     let b = c.args.self.now in
     record {
       allowed = b.allowed;
+      cached = λ reads. cached_appended g.D.Disk b.disk.now c.append.new.disk b.cache b.own.pairs b.tail (c.append.ensures.elsewhere reads) (b.cached reads);
       bounded = record { room = omega (arith, c.merge.ensures.room, b.bounded.room); few = b.bounded.few; closed = b.bounded.closed; most = omega (arith, ap (λ (pairs : Pairs). length pairs) c.merge.ensures.pairs, c.requires.few) };
       kept = λ live.
           kept_appended g.D.Disk b.disk.now c.append.new.disk b.metas.records b.changed.pairs b.own.pairs c.merge.new.self.pairs b.tail c.in_ok-self.field-0 g.met.D.Disk.counts_now (b.kept c.requires.live) c.merge.ensures.finds
@@ -50,4 +52,14 @@ returns-clause-done g c =
       space = space;
       stored = on_disk g.D.Disk c.append.new.disk b.metas.records c.merge.new.self.pairs c.in_ok-self.field-0 _ now space;
       live = search rules;
+    }
+
+pub invariant_of-self : goal.invariant_of-self
+invariant_of-self g c =
+    let b = c.args.self.now in
+    record {
+      allowed = b.allowed;
+      cached = λ reads. cached_appended g.D.Disk b.disk.now c.append.new.disk b.cache b.own.pairs b.tail (c.append.ensures.elsewhere reads) (b.cached reads);
+      bounded = b.bounded;
+      kept = λ live. absurd (false≢true live);
     }

@@ -32,6 +32,7 @@ invariant_of-self-2 g c =
     let disk = g.D.Disk in
     record {
       allowed = b.allowed;
+      cached = λ reads. c.forget_all.ensures.agrees (disk.reads b.disk.now) (disk.reads c.checkpoint.new.disk) c.checkpoint.ensures.elsewhere (b.cached reads);
       bounded = record { room = omega (arith, c.clear.ensures.room, ap (λ (pairs : Pairs). length pairs) c.clear.ensures.pairs, b.bounded.room); few = b.bounded.few; closed = b.bounded.closed; most = omega (arith, ap (λ (pairs : Pairs). length pairs) c.clear.ensures.pairs) };
       kept = λ live.
           kept_settled disk c.checkpoint.new.disk c.refresh.new.self.records c.clear.new.self.pairs c.clear.ensures.pairs c.in_ok-checkpoint.ensures.emptied c.in_ok-checkpoint.ensures.settled

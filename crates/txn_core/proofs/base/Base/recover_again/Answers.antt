@@ -10,24 +10,25 @@ invariant_of-self-2 g c =
     let b = c.args.self.now in
     record {
       allowed = b.allowed;
-      bounded = record { room = omega (arith, c.clear.ensures.room, ap (λ (pairs : Pairs). length pairs) c.clear.ensures.pairs, b.bounded.room); few = b.bounded.few; closed = b.bounded.closed; most = omega (arith, ap (λ (pairs : Pairs). length pairs) c.clear.ensures.pairs) };
-      kept = λ live. kept_settled g.D.Disk c.find_again.new.disk c.in_ok-self.field-0.records c.clear.new.self.pairs c.clear.ensures.pairs c.in_ok-self.ensures.emptied c.in_ok-self.ensures.settled c.in_ok-self.ensures.metas;
+      cached = λ reads. c.clear.ensures.agrees (g.D.Disk.reads c.find_again.new.disk);
+      bounded = record { room = omega (arith, c.clear-2.ensures.room, ap (λ (pairs : Pairs). length pairs) c.clear-2.ensures.pairs, b.bounded.room); few = b.bounded.few; closed = b.bounded.closed; most = omega (arith, ap (λ (pairs : Pairs). length pairs) c.clear-2.ensures.pairs) };
+      kept = λ live. kept_settled g.D.Disk c.find_again.new.disk c.in_ok-self.field-0.records c.clear-2.new.self.pairs c.clear-2.ensures.pairs c.in_ok-self.ensures.emptied c.in_ok-self.ensures.settled c.in_ok-self.ensures.metas;
     }
 
 pub returns-clause-done : goal.returns-clause-done
 returns-clause-done g c =
     let disk = g.D.Disk in
-    let now = kept_settled disk c.find_again.new.disk c.in_ok-self.field-0.records c.clear.new.self.pairs c.clear.ensures.pairs c.in_ok-self.ensures.emptied c.in_ok-self.ensures.settled c.in_ok-self.ensures.metas in
+    let now = kept_settled disk c.find_again.new.disk c.in_ok-self.field-0.records c.clear-2.new.self.pairs c.clear-2.ensures.pairs c.in_ok-self.ensures.emptied c.in_ok-self.ensures.settled c.in_ok-self.ensures.metas in
     record {
       space = λ reads space redoes.
-          plain_space disk c.find_again.new.disk c.in_ok-self.field-0.records c.clear.new.self.pairs 0 now reads
-          ∙ ap (laid_over (record_at (disk.reads c.find_again.new.disk))) c.clear.ensures.pairs
+          plain_space disk c.find_again.new.disk c.in_ok-self.field-0.records c.clear-2.new.self.pairs 0 now reads
+          ∙ ap (laid_over (record_at (disk.reads c.find_again.new.disk))) c.clear-2.ensures.pairs
           ∙ c.in_ok-self.ensures.space reads space redoes;
       store = c.in_ok-self.ensures.store;
-      changed = c.clear.ensures.pairs;
+      changed = c.clear-2.ensures.pairs;
       tail = refl;
       no_entry = c.in_ok-self.ensures.emptied;
       settled = c.in_ok-self.ensures.settled;
-      stored = on_disk disk c.find_again.new.disk c.in_ok-self.field-0.records c.clear.new.self.pairs 0 _ now (λ reads. refl);
+      stored = on_disk disk c.find_again.new.disk c.in_ok-self.field-0.records c.clear-2.new.self.pairs 0 _ now (λ reads. refl);
       live = search rules;
     }
