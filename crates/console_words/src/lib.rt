@@ -6,8 +6,6 @@ mod asked;
 mod command;
 mod run_options;
 mod sample_options;
-#[cfg(test)]
-mod tests;
 mod words;
 mod words_fault;
 

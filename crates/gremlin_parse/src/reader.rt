@@ -60,6 +60,3 @@ fn fault_of(stop: Stop, len: usize) -> LineFault
         },
     }
 }
-
-#[cfg(test)]
-mod tests;

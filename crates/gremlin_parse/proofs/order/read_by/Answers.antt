@@ -1,4 +1,4 @@
-use Rattle.std.proofs.Common.{sym, ◌∙◌}
+use Rattle.std.proofs.Common.{rules, sym, ◌∙◌}
 use Rattle.std.proofs.lemmas.Result.{err_from_is_err_and}
 use Rattle.gremlin_parse.proofs.OrderReads.{empty_by_read, stop_in_direction, keyless_read}
 use Rattle.gremlin_parse.proofs.order.read_by.Goals as goal
@@ -13,3 +13,6 @@ returns-in_err-descending-clause-err c =
 
 pub returns-clause-ok : goal.returns-clause-ok
 returns-clause-ok c = keyless_read c.args.bytes.now c.in_ok-descending.rest.now c.in_ok-descending.descending (sym c.starts_quote.ensures ∙ c.if-starts_quote.false) c.in_default.ensures.none c.in_ok-descending.ensures.ok
+
+pub returns-then-starts_quote-clause-ok : goal.returns-then-starts_quote-clause-ok
+returns-then-starts_quote-clause-ok c = search rules
