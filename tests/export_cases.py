@@ -1,6 +1,12 @@
 """What tests/tools tries of the tools that ask a store: tools/export, tools/draw and examples/questions."""
 
 import collections
+import contextlib
+import functools
+import gzip
+import importlib.machinery
+import importlib.util
+import io
 import json
 import os
 import pathlib
@@ -16,9 +22,11 @@ sys.dont_write_bytecode = True
 from driver import NIPAKEEL, ROOT, SECONDS, Skipped, call
 
 sys.path.append(str(ROOT / "tools"))
-import asking
-from program import Program
-from rows import MOST_LINE, spell_text, to_bytes
+from nipakeel_tools import query
+from nipakeel_tools.client import Program
+from nipakeel_tools.command import status_of
+from nipakeel_tools.limits import MOST_LINE
+from nipakeel_tools.values import spell_text, to_bytes
 
 IMPORT, EXPORT, DRAW = ROOT / "tools/import", ROOT / "tools/export", ROOT / "tools/draw"
 PACKAGES, QUESTIONS = ROOT / "examples/packages", ROOT / "examples/questions"
@@ -56,6 +64,33 @@ def runs(tool, folder, words, status=DONE, says="", **how):
     assert ran.status == status, f"{ran}, and not status {status}"
     assert says in said if says else not said, f"it says {said!r}, and not {says!r}"
     return ran.out
+
+
+@functools.lru_cache
+def module_of(tool):
+    """A tool as a module."""
+    loader = importlib.machinery.SourceFileLoader(f"{tool.name}_tool", str(tool))
+    module = importlib.util.module_from_spec(importlib.util.spec_from_loader(loader.name, loader))
+    loader.exec_module(module)
+    return module
+
+
+def refuses(tool, folder, words, status, says):
+    """Fails unless a tool that writes nothing ends so and says this. It runs in this process, which saves a start."""
+    before, module = os.getcwd(), module_of(tool)
+    os.chdir(folder)
+    try:
+        with contextlib.redirect_stderr(io.StringIO()) as said:
+            ended = status_of(module.TOOL, module.main, [*map(str, words)])
+    except SystemExit as ending:
+        ended = ending.code
+    finally:
+        os.chdir(before)
+    assert ended == status and says in said.getvalue(), f"{ended}: {said.getvalue()!r}, and not {status}: {says!r}"
+
+
+def exports_not(folder, words, status, says, program=PROGRAM):
+    refuses(EXPORT, folder, ["--quiet", "--program", program, *words], status, says)
 
 
 def exports(folder, words, status=DONE, says="", program=PROGRAM, **how):
@@ -104,7 +139,8 @@ def json_lines(folder):
 
 def empty_graph(folder):
     graph(folder, "")
-    exports(folder, ["--nodes", "n.csv", "--edges", "e.csv", "--graphml", "g.xml", "--jsonl", "j", "--dot", "g.dot"])
+    words = ["--nodes", "n.csv", "--edges", "e.csv", "--graphml", "g.xml", "--jsonl", "j", "--lines", "l", "--dot", "g.dot"]
+    exports(folder, words if PROGRAM != STAND_IN else [*words, *KEYS])
     assert (folder / "n.csv").read_text() == "id,label\n" and (folder / "e.csv").read_text() == "from,to,type\n"
     assert (folder / "j").read_text() == ""
     graph(folder / "other")
@@ -226,10 +262,10 @@ def questions_fit(folder):
     """Each question fits in a line, and has no more elements than a page."""
     for first in (0, 2**24 - 5_000, 2**32 - 5_000):
         for room in (0, 3_000):
-            made = list(asking.pages(range(first, first + 5_000), room))
-            longest = max(len(asking.source("V", it)) + room + len(".has('')") + 48 for it in made)
-            assert sum(map(len, made)) == 5_000 and max(map(len, made)) <= asking.PAGE and longest <= MOST_LINE
-    assert list(asking.pages([])) == []
+            made = list(query.pages(range(first, first + 5_000), room))
+            longest = max(len(query.source("V", it)) + room + len(".has('')") + 48 for it in made)
+            assert sum(map(len, made)) == 5_000 and max(map(len, made)) <= query.PAGE and longest <= MOST_LINE
+    assert list(query.pages([])) == []
 
 
 def gaps(folder):
@@ -270,6 +306,26 @@ def keys_of_tables(folder):
     exports(folder, ["--jsonl", "-", "--keys-of", "none.csv"], BAD_FILES, "tools/export: none.csv: No such file")
 
 
+def keys_of_the_store(folder):
+    """Without --keys all keys of the store are there, and a file may be packed."""
+    if PROGRAM == STAND_IN:
+        raise Skipped("the stand-in has no files of a store")
+    graph(folder)
+    wanted = exports(folder, ["--jsonl", "-", *KEYS])
+    assert exports(folder, ["--jsonl", "-"]) == wanted
+    exports(folder, ["--jsonl", "j.gz", "--nodes", "n.csv"])
+    assert gzip.decompress((folder / "j.gz").read_bytes()) == wanted
+    exports(folder, ["--jsonl", "-", "--leave-out"], WRONG_WORDS, "--leave-out goes with --keys")
+    # A second program in the folder is told.
+    started = subprocess.Popen([NIPAKEEL, "run"], cwd=folder, stdin=subprocess.PIPE, stdout=subprocess.PIPE)
+    started.stdin.write(b"stats\n")
+    started.stdin.flush()
+    started.stdout.readline()
+    if shutil.which("flock"):
+        exports(folder, ["--jsonl", "-"], PROGRAM_FAILED, "status 75 (another program uses the store)")
+    started.communicate()
+
+
 # --- refusals
 
 
@@ -299,28 +355,28 @@ def refused_queries(folder):
         ("g.V().values('name')", "'marko' is no vertex"),
         ("g.V().count()", "6 is no vertex"),
     ):
-        exports(folder, ["--jsonl", "j", "--from", query], REFUSED, says)
-        runs(DRAW, folder, ["--program", PROGRAM, "--from", query, "p.dot"], REFUSED, says)
+        exports_not(folder, ["--jsonl", "j", "--from", query, *KEYS], REFUSED, says)
+        refuses(DRAW, folder, ["--program", PROGRAM, "--from", query, "p.dot"], REFUSED, says)
     assert not (folder / "j").exists() and not (folder / "p.dot").exists()
 
 
 def wrong_words(folder):
     graph(folder)
-    exports(folder, [], WRONG_WORDS, "nothing to write")
-    exports(folder, ["--walk"], WRONG_WORDS, "--walk")
-    exports(folder, ["--nodes", "x", "--edges", "./x"], WRONG_WORDS, "each form goes to a file of its own")
-    exports(folder, ["--jsonl", "-", "--steps", "2"], WRONG_WORDS, "--steps and --types go with --from")
-    exports(folder, ["--jsonl", "-", "--from", "g.V()", "--steps", "-1"], WRONG_WORDS, "--steps takes a number")
+    exports_not(folder, [], WRONG_WORDS, "nothing to write")
+    exports_not(folder, ["--walk"], WRONG_WORDS, "--walk")
+    exports_not(folder, ["--nodes", "x", "--edges", "./x"], WRONG_WORDS, "each form goes to a file of its own")
+    exports_not(folder, ["--jsonl", "-", "--steps", "2"], WRONG_WORDS, "--steps and --types go with --from")
+    exports_not(folder, ["--jsonl", "-", "--from", "g.V()", "--steps", "-1"], WRONG_WORDS, "--steps takes a number")
     for query in ("delete node 0", "", "g.V()\ndelete node 0", "quit"):
-        exports(folder, ["--jsonl", "-", "--from", query], WRONG_WORDS, "--from takes a query")
-    exports(folder, ["--jsonl", "-", "--keys", "a b"], WRONG_WORDS, "'a b' is no name")
-    exports(folder, ["--jsonl", "-", "--keys", "x" * 49], WRONG_WORDS, "has 49 bytes")
-    exports(folder, ["--jsonl", "-", "--from", "g.V()", "--types", "a'"], WRONG_WORDS, "is no name")
-    exports(folder, ["--jsonl", "-", "--from", "g.V()", "--direction", "up"], WRONG_WORDS, "--direction")
-    exports(folder, ["--jsonl", "-", "--folder", "none"], BAD_FILES, "none")
-    exports(folder, ["--jsonl", "-"], BAD_FILES, "No such file", program="none")
-    exports(folder, ["--jsonl", "none/j", *KEYS], BAD_FILES, "none/j.part: No such file or directory")
-    exports(folder, ["--jsonl", "/dev/full", *KEYS], BAD_FILES, "No space left on device")
+        exports_not(folder, ["--jsonl", "-", "--from", query], WRONG_WORDS, "--from takes a query")
+    exports_not(folder, ["--jsonl", "-", "--keys", "a b"], WRONG_WORDS, "'a b' is no name")
+    exports_not(folder, ["--jsonl", "-", "--keys", "x" * 49], WRONG_WORDS, "has 49 bytes")
+    exports_not(folder, ["--jsonl", "-", "--from", "g.V()", "--types", "a'"], WRONG_WORDS, "is no name")
+    exports_not(folder, ["--jsonl", "-", "--from", "g.V()", "--direction", "up"], WRONG_WORDS, "--direction")
+    exports_not(folder, ["--jsonl", "-", "--folder", "none"], BAD_FILES, "none")
+    exports_not(folder, ["--jsonl", "-"], BAD_FILES, "No such file", program="none")
+    exports_not(folder, ["--jsonl", "none/j", *KEYS], BAD_FILES, "none/j.part: No such file or directory")
+    exports_not(folder, ["--jsonl", "/dev/full", *KEYS], BAD_FILES, "No space left on device")
     assert len(elements(folder)[0]) == 6
 
 
@@ -345,7 +401,7 @@ def each_ending(folder):
         says = f"is answered: {reply.removeprefix('first=')}"
         exports(folder, [*words, "--", "--answer", f"{number}={reply}"], status, says, program=STAND_IN)
         assert (folder / "n.csv").read_text() == "as it was" and not list(folder.glob("*.part")), f"{number}"
-    for status in [*range(10), 70, -9]:
+    for status in [*range(10), 70, 72, 75, -9]:
         how = f"status {status}" if status >= 0 else "signal 9"
         ended = ["--", "--end", f"1={status}=why"]
         exports(folder, [*words, *ended], PROGRAM_FAILED, how, program=STAND_IN)
@@ -363,33 +419,33 @@ class Nothing:
 
 def counts_that_lie(folder):
     """A store that counts more than it has: the pages come to an end."""
-    most, asking.MOST_ELEMENTS = asking.MOST_ELEMENTS, 3_000
+    most, query.MOST_ELEMENTS = query.MOST_ELEMENTS, 3_000
     try:
-        list(asking.Asking(Nothing).every("E", 3))
-    except asking.Unfit as error:
+        list(query.Asking(Nothing).every("E", 3))
+    except query.Unfit as error:
         assert str(error) == "stats counts 3 more edges than are there", f"{error}"
     else:
         raise AssertionError("it takes no end")
     finally:
-        asking.MOST_ELEMENTS = most
+        query.MOST_ELEMENTS = most
 
 
 def many_runs(folder):
     """A new run of the program begins before one has taken all the input that it may."""
     graph(folder)
-    most, asking.MOST_INPUT, started = asking.MOST_INPUT, 1, []
+    most, query.MOST_INPUT, started = query.MOST_INPUT, 1, []
 
     def start():
         started.append(Program(folder, (), PROGRAM))
         return started[-1]
 
-    asked = asking.Asking(start, ["name", "age", "lang", "since", "close"])
+    asked = query.Asking(start, ["name", "age", "lang", "since", "close"])
     try:
         asked.begin()
         found = [it.properties for kind in "VE" for page in asked.every(kind, 6) for it in page]
         reached = asked.reached("g.V(4)", 2, "both", ["created"])
     finally:
-        asking.MOST_INPUT = most
+        query.MOST_INPUT = most
         asked.end()
     assert found[0] == {"age": 29, "name": "marko"} and found[7] == {"close": True, "since": 2009}, f"{found}"
     assert list(reached) == [2, 3, 4] and len(started) > 9 and len({it.started.pid for it in started}) == len(started)
@@ -479,7 +535,7 @@ def with_graphviz(folder, *layouts, **more):
     """Words for the environment in which these layouts of graphviz are there, which are a script, and no others."""
     path = folder / "path"
     path.mkdir(exist_ok=True)
-    for name in ("sh", "dirname", "readlink", "find"):
+    for name in ("sh", "dirname", "readlink", "find", "flock", "od", "tr"):
         if not (path / name).exists():
             (path / name).symlink_to(shutil.which(name))
     if not (path / "python3").exists():
@@ -539,11 +595,11 @@ def too_large(folder):
 
 
 def wrong_words_of_draw(folder):
-    draws(folder, [], WRONG_WORDS, "PICTURE")
-    draws(folder, ["p.jpg"], WRONG_WORDS, "p.jpg: a picture ends in .svg or .png, and its text in .dot or .gv")
-    draws(folder, ["p.dot", "--layout", "heap"], WRONG_WORDS, "--layout")
-    draws(folder, ["p.dot", "--text", "a b"], WRONG_WORDS, "'a b' is no name")
-    draws(folder, ["p.dot", "--from", "node a"], WRONG_WORDS, "--from takes a query")
+    refuses(DRAW, folder, ["--program", PROGRAM], WRONG_WORDS, "PICTURE")
+    refuses(DRAW, folder, ["--program", PROGRAM, "p.jpg"], WRONG_WORDS, "p.jpg: a picture ends in .svg or .png, and its text in .dot or .gv")
+    refuses(DRAW, folder, ["--program", PROGRAM, "p.dot", "--layout", "heap"], WRONG_WORDS, "--layout")
+    refuses(DRAW, folder, ["--program", PROGRAM, "p.dot", "--text", "a b"], WRONG_WORDS, "'a b' is no name")
+    refuses(DRAW, folder, ["--program", PROGRAM, "p.dot", "--from", "node a"], WRONG_WORDS, "--from takes a query")
     assert not list(folder.iterdir()), f"{list(folder.iterdir())}"
 
 
@@ -654,6 +710,7 @@ CASES = {
     "export: gaps between identifiers": gaps,
     "export: a key that isn't given": missing_keys,
     "export: keys of tables": keys_of_tables,
+    "export: keys of the store": keys_of_the_store,
     "export: values that a form can't have": forms_that_cannot,
     "export: queries that are refused": refused_queries,
     "export: wrong words": wrong_words,

@@ -1,11 +1,15 @@
 """Runs the program on a folder, and speaks with it by its lines alone: lines in, replies out."""
 
+from __future__ import annotations
+
 import os
 import pathlib
 import select
 import subprocess
+from typing import Iterator, List, Sequence, Tuple
 
-NIPAKEEL = pathlib.Path(__file__).resolve().parent.parent / "nipakeel"
+# The launcher, which keeps two programs in one folder apart.
+NIPAKEEL = pathlib.Path(__file__).resolve().parent.parent.parent / "nipakeel"
 CHUNK = 65_536
 ARROW = b"==>"
 # How a reply to a query begins that has a fault in it.
@@ -23,13 +27,15 @@ STATUSES = {
     8: "the disk failed while the store was opened",
     9: "it has taken all the input that a run may take",
     70: "it could not be built",
+    72: "a file of the store was lost",
+    75: "another program uses the store",
 }
 
 
 class Ended(Exception):
     """The program ended before it had answered, with this status, and said this last."""
 
-    def __init__(self, status, said=b""):
+    def __init__(self, status: int, said: bytes = b"") -> None:
         self.status, self.said = status, said
         super().__init__(ending(status, said))
 
@@ -37,13 +43,13 @@ class Ended(Exception):
 class NotAnswered(Exception):
     """A query whose reply ends in this line, and not in `end`."""
 
-    def __init__(self, line, reply):
+    def __init__(self, line: bytes, reply: bytes) -> None:
         self.line, self.reply = line, reply
         asked = line if len(line) <= 100 else line[:97] + b"..."
         super().__init__(f"{asked.decode(errors='replace')} is answered: {reply.decode(errors='replace')}")
 
 
-def ending(status, said=b""):
+def ending(status: int, said: bytes = b"") -> str:
     """How the program ended, in a line."""
     lines = said.decode(errors="replace").split("\n")
     told = next((it for it in reversed(lines) if it), "")
@@ -56,7 +62,13 @@ def ending(status, said=b""):
 class Program:
     """A run of the program. What is sent is written while replies are read, so neither side waits for the other."""
 
-    def __init__(self, folder, words=(), program=NIPAKEEL, keep=()):
+    def __init__(
+        self,
+        folder: str | os.PathLike[str],
+        words: Sequence[str] = (),
+        program: str | os.PathLike[str] = NIPAKEEL,
+        keep: Sequence[int] = (),
+    ) -> None:
         """Starts it. The descriptors of `keep` stay open in it."""
         # A group of its own, so that Ctrl-C at a terminal is for the tool alone.
         self.started = subprocess.Popen(
@@ -68,18 +80,19 @@ class Program:
             start_new_session=True,
             pass_fds=keep,
         )
+        assert self.started.stdin and self.started.stdout
         self.input, self.output = self.started.stdin.fileno(), self.started.stdout.fileno()
         os.set_blocking(self.input, False)
         self.to_write, self.held, self.held_lines = b"", b"", 0
         self.sent = 0
 
-    def send(self, lines):
+    def send(self, lines: bytes) -> None:
         """Gives the program these whole lines, as far as it takes them now. The rest goes with later calls."""
         self.sent += len(lines)
         self.to_write += lines
         self.write()
 
-    def write(self):
+    def write(self) -> None:
         try:
             while self.to_write:
                 self.to_write = self.to_write[os.write(self.input, self.to_write) :]
@@ -89,7 +102,7 @@ class Program:
             # It has ended, which the end of its output tells with all that it said.
             self.to_write = b""
 
-    def read(self):
+    def read(self) -> None:
         """Waits for output and takes it. Raises `Ended` where there is no more."""
         while self.to_write:
             readable, writable, _ = select.select([self.output], [self.input], [])
@@ -103,7 +116,7 @@ class Program:
         self.held += chunk
         self.held_lines += chunk.count(b"\n")
 
-    def replies(self, count):
+    def replies(self, count: int) -> List[bytes]:
         """The next so many lines of output, without their newlines."""
         while self.held_lines < count:
             self.read()
@@ -111,12 +124,12 @@ class Program:
         self.held_lines -= count
         return lines
 
-    def ask(self, line):
+    def ask(self, line: bytes) -> bytes:
         """Sends a line whose reply is one line, and returns that."""
         self.send(line + b"\n")
         return self.replies(1)[0]
 
-    def results(self, line):
+    def results(self, line: bytes) -> Iterator[bytes]:
         """Sends a query, and gives its results as they come, without their arrows. Raises `NotAnswered` where the reply
         doesn't end as it should. They are to be taken to the end before the next line."""
         self.send(line + b"\n")
@@ -130,7 +143,7 @@ class Program:
             if last is not None:
                 raise NotAnswered(line, last) if last.startswith(FAULTS) else self.refuses(last)
 
-    def counts(self):
+    def counts(self) -> Tuple[int, int]:
         """How many nodes and edges `stats` tells."""
         reply = self.ask(b"stats")
         words = reply.split()
@@ -138,13 +151,14 @@ class Program:
             raise self.refuses(reply)
         return int(words[1]), int(words[3])
 
-    def refuses(self, reply):
+    def refuses(self, reply: bytes) -> Ended:
         """The fault for a reply that tells why the program serves no line, or that it never gives."""
         return Ended(self.end(), reply)
 
-    def end(self):
+    def end(self) -> int:
         """Ends the input, waits for the program, and returns its status. An open transaction is dropped."""
         self.to_write = b""
+        assert self.started.stdin and self.started.stdout
         self.started.stdin.close()
         while os.read(self.output, CHUNK):
             pass

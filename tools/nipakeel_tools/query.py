@@ -6,18 +6,21 @@ values, and one for each key brings those who have it. When as many values are a
 whole, and no more keys are asked for. Where some are left after the last key, an element has a key that isn't given.
 """
 
+from __future__ import annotations
+
 import array
 import re
+from typing import Callable, Dict, Iterable, Iterator, List, Sequence, Tuple, TypeVar, Union
 
-from program import Ended
-from rows import MOST_LINE, MOST_NAME, to_bytes, unquoted
+from nipakeel_tools import limits
+from nipakeel_tools.client import Ended, Program
+from nipakeel_tools.limits import MOST_ELEMENTS, MOST_LINE, MOST_NAME
+from nipakeel_tools.values import Value, text_of, to_bytes, value_of
 
 # Elements in a page, whose values are in memory at once.
 PAGE = 500
-# The greatest limit of a store. Its identifiers are below it.
-MOST_ELEMENTS = 2**24
-# A run takes 2^30 bytes of input. A new one begins while the longest line still fits.
-MOST_INPUT = 2**30 - MOST_LINE - 1
+# A new run begins while the longest line still fits.
+MOST_INPUT = limits.MOST_INPUT - MOST_LINE - 1
 # What a question has besides identifiers and names: a source, a step and its argument, `dedup`.
 ROOM = 60 + MOST_NAME
 VERTEX = re.compile(rb"v\[([0-9]+)\]")
@@ -33,22 +36,22 @@ class Unfit(Exception):
 class Ids:
     """Identifiers, each once, by a byte for each up to the greatest."""
 
-    def __init__(self):
+    def __init__(self) -> None:
         self.flags, self.count = bytearray(), 0
 
-    def add(self, id):
+    def add(self, id: int) -> bool:
         """Takes it, and tells whether it wasn't there."""
         if id >= len(self.flags):
             self.flags.extend(bytes(id + 1 - len(self.flags)))
-        is_new = not self.flags[id]
+        is_new = self.flags[id] == 0
         self.flags[id] = 1
         self.count += is_new
         return is_new
 
-    def __contains__(self, id):
+    def __contains__(self, id: int) -> bool:
         return id < len(self.flags) and self.flags[id] == 1
 
-    def __iter__(self):
+    def __iter__(self) -> Iterator[int]:
         return (id for id, there in enumerate(self.flags) if there)
 
 
@@ -58,8 +61,9 @@ class Node:
     __slots__ = "id", "label", "properties"
     said = "node"
 
-    def __init__(self, result):
-        self.id, self.label, self.properties = number_of(VERTEX, result), "", {}
+    def __init__(self, result: bytes) -> None:
+        self.id, self.label = number_of(VERTEX, result), ""
+        self.properties: Dict[str, Value] = {}
 
 
 class Edge:
@@ -68,52 +72,50 @@ class Edge:
     __slots__ = "id", "source", "label", "target", "properties"
     said = "edge"
 
-    def __init__(self, result):
+    def __init__(self, result: bytes) -> None:
         found = EDGE.fullmatch(result)
         if not found:
             raise Unfit(f"{text_of(result)} is no edge")
         self.id, self.source, self.target = int(found[1]), int(found[2]), int(found[4])
-        self.label, self.properties = found[3].decode(), {}
+        self.label = found[3].decode()
+        self.properties: Dict[str, Value] = {}
 
 
-def number_of(form, result):
+Element = Union[Node, Edge]
+T = TypeVar("T")
+
+
+def number_of(form: re.Pattern[bytes], result: bytes) -> int:
     found = form.fullmatch(result)
     if not found:
         raise Unfit(f"{text_of(result)} is no vertex")
     return int(found[1])
 
 
-def text_of(result):
-    """Bytes of a reply as a text, with escapes for those that are no UTF-8."""
-    return result.decode("utf-8", "surrogateescape")
-
-
-def value_of(result):
-    """The value that a result shows."""
-    if result.startswith(b"'"):
-        return unquoted(text_of(result))
-    return result == b"true" if result in (b"true", b"false") else int(result)
-
-
 class Asking:
     """Questions to runs of the program. Where it leaves out, it asks for no value of a key that isn't given."""
 
-    def __init__(self, start, keys=(), leaves_out=False):
+    def __init__(self, start: Callable[[], Program], keys: Iterable[str] = (), leaves_out: bool = False) -> None:
         """`start` begins a run."""
         self.start, self.leaves_out = start, leaves_out
-        self.program, self.counts = start(), None
+        self.program = start()
+        self.counts = 0, 0
         # By kind how many elements of a page had a key when it was last asked for. Frequent ones are asked first.
-        self.uses = {"V": dict.fromkeys(keys, 0), "E": dict.fromkeys(keys, 0)}
+        self.knows(keys)
 
-    def begin(self):
+    def begin(self) -> None:
         """Takes note of how many nodes and edges there are. Fails where no store is served."""
         self.counts = self.program.counts()
 
-    def end(self):
+    def end(self) -> None:
         if self.program.started.poll() is None:
             self.program.end()
 
-    def ask(self, query):
+    def knows(self, keys: Iterable[str]) -> None:
+        """From now on these are the keys that elements may have."""
+        self.uses = {"V": dict.fromkeys(keys, 0), "E": dict.fromkeys(keys, 0)}
+
+    def ask(self, query: str) -> Iterator[bytes]:
         """The results of a query, which are to be taken to the end before the next one is asked."""
         if self.program.sent > MOST_INPUT:
             status = self.program.end()
@@ -124,7 +126,7 @@ class Asking:
 
     # --- pages
 
-    def every(self, kind, count):
+    def every(self, kind: str, count: int) -> Iterator[List[Element]]:
         """All elements of a kind, which `stats` counts, in pages. Each page asks for a run of identifiers."""
         for first in range(0, MOST_ELEMENTS, PAGE):
             if count <= 0:
@@ -135,40 +137,40 @@ class Asking:
         if count > 0:
             raise Unfit(f"stats counts {count} more {'edges' if kind == 'E' else 'nodes'} than are there")
 
-    def some(self, kind, ids):
+    def some(self, kind: str, ids: Iterable[int]) -> Iterator[List[Element]]:
         """The elements with these identifiers, in pages."""
         for page in pages(ids):
             yield self.elements(kind, page)
 
-    def elements(self, kind, ids):
+    def elements(self, kind: str, ids: Iterable[int]) -> List[Element]:
         """The elements that have one of these identifiers."""
-        made = Edge if kind == "E" else Node
-        found = [made(it) for it in self.ask(source(kind, ids))]
+        results = self.ask(source(kind, ids))
+        found: List[Element] = [Edge(it) if kind == "E" else Node(it) for it in results]
         if found:
             ids = [it.id for it in found]
             if kind == "V":
                 for it, label in self.matched(found, source(kind, ids) + ".label()"):
-                    it.label = value_of(label)
+                    it.label = str(value_of(label))
             self.add_properties(kind, found, ids)
         return found
 
-    def matched(self, things, query):
+    def matched(self, things: Sequence[T], query: str) -> Iterator[Tuple[T, bytes]]:
         """Each of these things with its result of a query that gives one for each."""
         results = list(self.ask(query))
         if len(results) != len(things):
             raise Unfit(f"{query[:60]}.. has {len(results)} results, and {len(things)} are wanted")
-        return zip(things, results)
+        return iter(zip(things, results))
 
     # --- properties
 
-    def add_properties(self, kind, elements, ids):
+    def add_properties(self, kind: str, elements: List[Element], ids: List[int]) -> None:
         asked, places = source(kind, ids), {it: at for at, it in enumerate(ids)}
         if self.leaves_out:
             self.add_named(kind, elements, asked, places)
         else:
             self.add_all(kind, elements, asked, places)
 
-    def add_named(self, kind, elements, asked, places):
+    def add_named(self, kind: str, elements: List[Element], asked: str, places: Dict[int, int]) -> None:
         """Adds the properties of the keys that are given."""
         for key in sorted(self.uses[kind]):
             having = self.having(kind, asked, key, places)
@@ -176,10 +178,11 @@ class Asking:
                 for at, value in self.matched(having, f"{asked}.values('{key}')"):
                     elements[at].properties[key] = value_of(value)
 
-    def add_all(self, kind, elements, asked, places):
+    def add_all(self, kind: str, elements: List[Element], asked: str, places: Dict[int, int]) -> None:
         """Adds all properties, which need all keys."""
         values = [value_of(it) for it in self.ask(asked + ".values()")]
-        keys, left = [[] for _ in elements], len(values)
+        keys: List[List[str]] = [[] for _ in elements]
+        left = len(values)
         for key in sorted(self.uses[kind], key=lambda it: -self.uses[kind][it]):
             if not left:
                 break
@@ -189,17 +192,17 @@ class Asking:
         if left:
             self.tell_missing(kind, elements, keys)
         # The values of an element come by ascending keys.
-        values = iter(values)
+        rest = iter(values)
         for it, its_keys in zip(elements, keys):
-            it.properties = {key: next(values) for key in sorted(its_keys)}
+            it.properties = {key: next(rest) for key in sorted(its_keys)}
 
-    def having(self, kind, asked, key, places):
+    def having(self, kind: str, asked: str, key: str, places: Dict[int, int]) -> List[int]:
         """The places of the elements that have a key, in order."""
         found = [places[number_of(HAVING, it)] for it in self.ask(f"{asked}.has('{key}')")]
         self.uses[kind][key] = len(found)
         return found
 
-    def tell_missing(self, kind, elements, keys):
+    def tell_missing(self, kind: str, elements: List[Element], keys: List[List[str]]) -> None:
         """Tells the first element that has more values than keys."""
         for it, its_keys in zip(elements, keys):
             values = list(self.ask(f"g.{kind}({it.id}).values()"))
@@ -211,7 +214,7 @@ class Asking:
 
     # --- parts of a graph
 
-    def reached(self, query, steps, direction, types):
+    def reached(self, query: str, steps: int, direction: str, types: Sequence[str]) -> Ids:
         """The identifiers of the vertices that a query gives, and of those that edges of these types lead to from them
         in at most so many steps."""
         found = Ids()
@@ -222,10 +225,10 @@ class Asking:
             layer = array.array("I", filter(found.add, ends))
         return found
 
-    def vertices(self, query):
+    def vertices(self, query: str) -> Iterator[int]:
         return (number_of(VERTEX, it) for it in self.ask(query))
 
-    def between(self, vertices, types):
+    def between(self, vertices: Ids, types: Sequence[str]) -> Ids:
         """The identifiers of the edges of these types that lead from one of these vertices to another."""
         found, hop = Ids(), f".outE({quoted(types)})"
         for page in pages(vertices, len(hop)):
@@ -235,17 +238,18 @@ class Asking:
         return found
 
 
-def source(kind, ids):
+def source(kind: str, ids: Iterable[int]) -> str:
     return f"g.{kind}({','.join(map(str, ids))})"
 
 
-def quoted(names):
+def quoted(names: Iterable[str]) -> str:
     return ",".join(f"'{it}'" for it in names)
 
 
-def pages(ids, room=0):
+def pages(ids: Iterable[int], room: int = 0) -> Iterator[List[int]]:
     """The identifiers in groups, each as a line can ask for it that has so many bytes besides."""
-    page, size = [], ROOM + room
+    page: List[int] = []
+    size = ROOM + room
     for id in ids:
         width = len(str(id)) + 1
         if page and (len(page) == PAGE or size + width > MOST_LINE):

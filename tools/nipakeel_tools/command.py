@@ -1,4 +1,6 @@
-"""The words of the tools that ask a store: which part of it, which keys, and the status at the end."""
+"""The words of the tools, which part of a store they ask for, how they tell an error, and the status at the end."""
+
+from __future__ import annotations
 
 import argparse
 import contextlib
@@ -6,22 +8,35 @@ import os
 import pathlib
 import signal
 import sys
+from typing import Any, Callable, Iterable, Iterator, List, Optional, Sequence, Tuple
 
-from asking import DIRECTIONS, Asking, Unfit
-from program import NIPAKEEL, Ended, NotAnswered, Program
-from rows import Bad, Refused, name
-from tables import Choices, CsvTable
+from nipakeel_tools import INTERRUPTED
+from nipakeel_tools.client import NIPAKEEL, Ended, NotAnswered, Program
+from nipakeel_tools.journal import BadJournal
+from nipakeel_tools.query import DIRECTIONS, Asking, Element, Unfit
+from nipakeel_tools.readers import Choices, CsvTable, Source
+from nipakeel_tools.rows import Refused
+from nipakeel_tools.values import Bad, name
 
-REFUSED, WRONG_WORDS, BAD_FILES, PROGRAM_FAILED, INTERRUPTED = 1, 2, 3, 4, 130
+DONE, REFUSED, WRONG_WORDS, BAD_FILES, PROGRAM_FAILED = range(5)
 # Replies to a query that blame the program's disk or memory, and no line of the user.
 FAILURES = (b"fault disk", b"error memory", b"error failed", b"damaged")
+Options = argparse.Namespace
+Pages = Iterator[List[Element]]
 
 
 class Unusable(Exception):
     """A file or a program besides the store's that can't be used."""
 
 
-def reader_of(tool, text):
+class DiskFailed(Exception):
+    """The disk failed in the program."""
+
+
+# --- words
+
+
+def reader_of(tool: str, text: str) -> argparse.ArgumentParser:
     """The reader of a tool's words, whose help is the text that stands at its head."""
     lines = text.split("\n\n")
     reader = argparse.ArgumentParser(
@@ -32,34 +47,48 @@ def reader_of(tool, text):
         formatter_class=argparse.RawDescriptionHelpFormatter,
         allow_abbrev=False,
     )
-    add = reader.add_argument
-    here = pathlib.Path()
+    add, here = reader.add_argument, pathlib.Path()
     add("--folder", metavar="DIR", type=pathlib.Path, default=here, help="the store's folder; this one where left out")
-    add("--from", metavar="QUERY", dest="query", help="only the vertices that this query gives, and those they reach")
-    add("--steps", metavar="N", type=int, default=0, help="in how many steps they reach others; 0 where left out")
-    add("--direction", choices=DIRECTIONS, default="out", help="the way of a step along an edge; out where left out")
-    add("--types", metavar="T,..", type=names_of, default=[], help="only edges of these types; all where left out")
     add("--program", metavar="PATH", default=NIPAKEEL, help="the program; nipakeel beside tools/ where left out")
     return reader
 
 
-def read_options(reader, words):
+def takes_part(reader: argparse.ArgumentParser) -> None:
+    """Adds the words that name a part of the graph."""
+    add = reader.add_argument
+    add("--from", metavar="QUERY", dest="query", help="only the vertices that this query gives, and those they reach")
+    add("--steps", metavar="N", type=int, default=0, help="in how many steps they reach others; 0 where left out")
+    add("--direction", choices=DIRECTIONS, default="out", help="the way of a step along an edge; out where left out")
+    add("--types", metavar="T,..", type=names_of, default=[], help="only edges of these types; all where left out")
+
+
+def read_options(reader: argparse.ArgumentParser, words: Sequence[str]) -> Options:
     """The options, and the program's own after --."""
+    words = list(words)
     at = words.index("--") if "--" in words else len(words)
     options = reader.parse_args(words[:at])
     options.words = words[at + 1 :]
     options.program = os.path.abspath(options.program)
+    if "query" in options:
+        fits_part(reader, options)
+    return options
+
+
+def fits_part(reader: argparse.ArgumentParser, options: Options) -> None:
     if options.query is None and (options.steps or options.types):
         reader.error("--steps and --types go with --from")
     if options.steps < 0:
         reader.error("--steps takes a number from 0 on")
-    # A line of another word might change the store.
-    if options.query is not None and (not options.query.strip(" \t").startswith("g") or "\n" in options.query):
+    if options.query is not None and not is_query(options.query):
         reader.error("--from takes a query, such as g.V().has('name','Ada')")
-    return options
 
 
-def names_of(word):
+def is_query(line: str) -> bool:
+    """Whether it is one line with a query. A line of another word might change the store."""
+    return line.strip(" \t").startswith("g") and "\n" not in line
+
+
+def names_of(word: str) -> List[str]:
     """Names with commas between them."""
     found = [it.strip() for it in word.split(",") if it.strip()]
     try:
@@ -68,23 +97,26 @@ def names_of(word):
         raise argparse.ArgumentTypeError(bad.why) from None
 
 
-def keys_in(path):
+def keys_in(path: str) -> List[str]:
     """The keys of properties in the header of a table of nodes or of edges."""
+    faults: List[Refused] = []
     for kind in ("nodes", "edges"):
-        table = CsvTable(path, kind, Choices("label", "type"))
+        table = CsvTable(Source(path), kind, Choices("label", "type"))
         try:
             table.prepare()
+            return [it.key for _, it in table.columns]
         except Refused as fault:
-            first = fault if kind == "nodes" else first
-            continue
+            faults.append(fault)
         finally:
             table.file.close()
-        return [it.key for _, it in table.columns]
-    raise first
+    raise faults[0]
+
+
+# --- the store
 
 
 @contextlib.contextmanager
-def asking(options, keys, leaves_out=False):
+def asking(options: Options, keys: Iterable[str] = (), leaves_out: bool = False) -> Iterator[Asking]:
     """Questions to the program, which ends after them."""
     asked = Asking(lambda: Program(options.folder, options.words, options.program), keys, leaves_out)
     try:
@@ -94,45 +126,54 @@ def asking(options, keys, leaves_out=False):
         asked.end()
 
 
-def part_of(asked, options):
+def part_of(asked: Asking, options: Options) -> Tuple[Pages, Pages, Tuple[int, int]]:
     """The nodes and then the edges that are asked for, each in pages, and how many there are of both. The pages are to
     be taken in this order."""
     if options.query is None:
         nodes, edges = asked.counts
         return asked.every("V", nodes), asked.every("E", edges), (nodes, edges)
     vertices = asked.reached(options.query, options.steps, options.direction, options.types)
-    edges = asked.between(vertices, options.types)
-    return asked.some("V", vertices), asked.some("E", edges), (vertices.count, edges.count)
+    between = asked.between(vertices, options.types)
+    return asked.some("V", vertices), asked.some("E", between), (vertices.count, between.count)
 
 
-def complain(tool, error):
+# --- ends
+
+
+def complain(tool: str, error: object) -> None:
     said = f"{error.filename}: {error.strerror}" if isinstance(error, OSError) and error.filename else error
     print(f"{tool}: {said}", file=sys.stderr)
 
 
-def interrupt(*_):
+def interrupt(*_: Any) -> None:
     """What a signal does that ends a tool as Ctrl-C does. Ctrl-C itself may be ignored, as in a background job."""
     raise KeyboardInterrupt
 
 
-def status_of(tool, main, words):
+def status_of(
+    tool: str, main: Callable[[Sequence[str]], Optional[int]], words: Sequence[str], stopped: str = "stopped"
+) -> int:
     """Runs a tool and tells what ended it."""
     signal.signal(signal.SIGTERM, interrupt)
     try:
-        main(words)
-        return 0
+        return main(words) or DONE
     except (Refused, Unfit) as error:
         complain(tool, error)
         return REFUSED
     except NotAnswered as error:
         complain(tool, error)
         return PROGRAM_FAILED if error.reply.startswith(FAILURES) else REFUSED
-    except (OSError, Unusable) as error:
+    except BrokenPipeError:
+        complain(tool, "the output was closed")
+        os.dup2(os.open(os.devnull, os.O_WRONLY), sys.stdout.fileno())
+        return BAD_FILES
+    except (OSError, Unusable, BadJournal) as error:
         complain(tool, error)
         return BAD_FILES
-    except Ended as error:
+    except (Ended, DiskFailed) as error:
         complain(tool, error)
         return PROGRAM_FAILED
     except KeyboardInterrupt:
-        complain(tool, "stopped")
+        signal.signal(signal.SIGINT, signal.SIG_IGN)
+        complain(tool, stopped)
         return INTERRUPTED

@@ -1,6 +1,12 @@
 """Writes a graph in DOT, the language of graphviz."""
 
+from __future__ import annotations
+
 import re
+from typing import Any, Dict, List, Sequence, TextIO
+
+from nipakeel_tools.values import Value, plain
+from nipakeel_tools.writers import Kept
 
 # Light colours, on which black is read. After the last one they begin anew.
 COLOURS = (
@@ -17,54 +23,48 @@ ESCAPES = str.maketrans({"\\": "\\\\", '"': '\\"', "&": "&amp;", "\n": "\\n", "\
 class Colours:
     """A colour for each label, in the order in which they are met."""
 
-    def __init__(self):
-        self.met = {}
+    def __init__(self) -> None:
+        self.met: Dict[str, str] = {}
 
-    def of(self, label):
+    def of(self, label: str) -> str:
         return self.met.setdefault(label, COLOURS[len(self.met) % len(COLOURS)])
 
 
-def begin(file):
+def begin(file: TextIO) -> None:
     file.write("digraph nipakeel {\n")
     file.write('  node [shape=box, style="rounded,filled", fontname="Helvetica", fontsize=11];\n')
     file.write('  edge [fontname="Helvetica", fontsize=9, color="#555555"];\n')
 
 
-def end(file):
+def end(file: TextIO) -> None:
     file.write("}\n")
 
 
-def node(file, id, lines, colour):
+def node(file: TextIO, id: int, lines: Sequence[Value], colour: str) -> None:
     file.write(f'  {id} [label="{text(lines)}", fillcolor="{colour}"];\n')
 
 
-def edge(file, source, target, lines):
+def edge(file: TextIO, source: int, target: int, lines: Sequence[Value]) -> None:
     file.write(f'  {source} -> {target} [label="{text(lines)}"];\n')
 
 
-def text(lines):
+def text(lines: Sequence[Value]) -> str:
     return "\\n".join(map(shown, lines))
 
 
-def shown(value):
+def shown(value: Value) -> str:
     """A value as a picture has it."""
-    if isinstance(value, bool):
-        return "true" if value else "false"
-    said = str(value)
+    said = plain(value)
     said = said if len(said) <= MOST_TEXT else said[: MOST_TEXT - 2] + ".."
     return NOT_SHOWN.sub("\ufffd", said.replace("\r\n", "\n")).translate(ESCAPES)
 
 
-def all_of(it, label):
+def all_of(it: Dict[str, Any], label: str) -> List[Value]:
     """The lines of an element with all of its properties."""
-    return [label, *(f"{key}: {value_text(value)}" for key, value in it["properties"].items())]
+    return [label, *(f"{key}: {plain(value)}" for key, value in it["properties"].items())]
 
 
-def value_text(value):
-    return ("true" if value else "false") if isinstance(value, bool) else value
-
-
-def write_dot(file, nodes, edges):
+def write_dot(file: TextIO, nodes: Kept, edges: Kept) -> None:
     """All elements, with their properties."""
     colours = Colours()
     begin(file)

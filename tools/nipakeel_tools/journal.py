@@ -1,17 +1,25 @@
 """Packs rows into transactions, and keeps the journal that says which of them were brought in."""
 
+from __future__ import annotations
+
 import dataclasses
 import fcntl
 import functools
 import hashlib
 import json
 import os
+import pathlib
 import zlib
+from typing import Any, Iterable, Iterator, List, Optional, Sequence, Tuple
 
-from rows import to_bytes
+from nipakeel_tools.limits import LEAST_WEIGHT, MOST_WEIGHT
+from nipakeel_tools.readers import Table
+from nipakeel_tools.rows import Row
+from nipakeel_tools.values import to_bytes
 
-MOST_WEIGHT, LEAST_WEIGHT = 2_048, 6
 FORM = 1
+# The program gets the journal as a descriptor from here on, above those that the launcher takes for its locks.
+LEAST_KEPT = 20
 # How a journal begins.
 BEGINNING = b'{"form":'
 
@@ -24,26 +32,27 @@ class BadJournal(Exception):
 class Transaction:
     """Some rows of a table in order, and the number of its entry, once the journal has one."""
 
-    table: object
-    rows: list
-    entry: int = None
+    table: Table
+    rows: List[Row]
+    entry: Optional[int] = None
 
     @functools.cached_property
-    def lines(self):
+    def lines(self) -> bytes:
         return to_bytes("".join(row.text + "\n" for row in self.rows))
 
-    def part(self, *bounds):
-        return Transaction(self.table, self.rows[slice(*bounds)])
+    def part(self, first: int, end: Optional[int] = None) -> Transaction:
+        return Transaction(self.table, self.rows[first:end])
 
     @property
-    def is_nodes(self):
+    def is_nodes(self) -> bool:
         return self.table.kind == "nodes"
 
     @property
-    def identifiers(self):
+    def identifiers(self) -> List[List[int]]:
         """The identifiers of nodes, as pairs of the first and the last of runs."""
-        runs = []
+        runs: List[List[int]] = []
         for row in self.rows if self.is_nodes else []:
+            assert row.node and row.node.identifier is not None
             it = row.node.identifier
             if runs and runs[-1][1] == it - 1:
                 runs[-1][1] = it
@@ -51,7 +60,7 @@ class Transaction:
                 runs.append([it, it])
         return runs
 
-    def digest(self):
+    def digest(self) -> str:
         """A sum over the lines, and over the outer ids of nodes."""
         made = hashlib.blake2b(self.lines, digest_size=16)
         for row in self.rows if self.is_nodes else []:
@@ -59,17 +68,23 @@ class Transaction:
         return made.hexdigest()
 
 
-def packed(table, rows, most=MOST_WEIGHT):
-    """The rows in transactions, each as full as it may be. One that a refused row would be in is dropped."""
-    held, weight = [], LEAST_WEIGHT
+def packed(table: Table, rows: Iterable[Row]) -> Iterator[Transaction]:
+    """The rows in transactions. One that a refused row would be in is dropped."""
+    return (Transaction(table, held) for held in groups(rows))
+
+
+def groups(rows: Iterable[Row], most: int = MOST_WEIGHT) -> Iterator[List[Row]]:
+    """The rows as transactions have them, each as full as it may be."""
+    held: List[Row] = []
+    weight = LEAST_WEIGHT
     for row in rows:
         if held and weight + row.weight > most:
-            yield Transaction(table, held)
+            yield held
             held, weight = [], LEAST_WEIGHT
         held.append(row)
         weight += row.weight
     if held:
-        yield Transaction(table, held)
+        yield held
 
 
 @dataclasses.dataclass
@@ -80,9 +95,9 @@ class Entry:
     table: int
     rows: int
     digest: str
-    identifiers: list
+    identifiers: List[List[int]]
 
-    def numbers(self):
+    def numbers(self) -> List[int]:
         return [it for first, last in self.identifiers for it in range(first, last + 1)]
 
 
@@ -93,7 +108,7 @@ class Journal:
     The file is locked, and the program holds the lock too until it has ended: no second import begins before.
     """
 
-    def __init__(self, path, anew=False):
+    def __init__(self, path: pathlib.Path, anew: bool = False) -> None:
         self.path = path
         new = not path.exists()
         self.file = open(path, "a+b", buffering=0)
@@ -101,42 +116,49 @@ class Journal:
             fcntl.flock(self.file, fcntl.LOCK_EX | fcntl.LOCK_NB)
         except BlockingIOError:
             raise BadJournal(f"{path}: another import is at work, or its program hasn't ended yet") from None
+        self.kept = fcntl.fcntl(self.file, fcntl.F_DUPFD_CLOEXEC, LEAST_KEPT)
         if new:
             sync_folder(path.parent)
-        self.base, self.entries = None, []
+        self.base: Optional[Tuple[int, int]] = None
+        self.entries: List[Entry] = []
+        # Whether it was there, and had nothing: then it says nothing of what the store has.
+        self.is_empty = not new and not anew and not os.path.getsize(path)
         self.load(anew)
 
-    def load(self, anew):
+    def load(self, anew: bool) -> None:
         self.file.seek(0)
         held = self.file.read()
         if not held.startswith(BEGINNING[: len(held)]):
             raise BadJournal(f"{self.path}: it is no journal of an import")
         if anew:
             held = b""
-        self.whole = 0
+        self.whole: Optional[int] = 0
+        whole = 0
         for line in held.splitlines(keepends=True):
             said, _, sum = line.rpartition(b" ")
             if not line.endswith(b"\n") or sum.strip() != b"%08x" % zlib.crc32(said):
                 break
-            self.whole += len(line)
+            whole += len(line)
             self.take(json.loads(said))
-        rest = held[self.whole :]
+        self.whole = whole
+        rest = held[whole:]
         # The first line is synced before a second one is written.
         if self.base is None and rest.count(b"\n") > 1:
             raise BadJournal(f"{self.path}: its first line is damaged; --anew forgets the journal")
         self.is_cut = bool(rest)
 
-    def take(self, it):
+    def take(self, it: Any) -> None:
         if "form" in it:
             if it["form"] != FORM:
                 raise BadJournal(f"{self.path}: of another version of this tool")
-            self.base = tuple(it["base"])
+            nodes, edges = it["base"]
+            self.base = nodes, edges
         elif "keep" in it:
             del self.entries[it["keep"] :]
         else:
             self.entries.append(Entry(**it))
 
-    def write(self, *lines):
+    def write(self, *lines: Any) -> None:
         """Writes and syncs lines. What a stop has left after the last whole line goes first."""
         if self.whole is not None:
             self.file.truncate(self.whole)
@@ -147,26 +169,32 @@ class Journal:
             left = left[self.file.write(left) :]
         os.fdatasync(self.file.fileno())
 
-    def begin(self, base):
+    def begin(self, base: Tuple[int, int]) -> None:
         """Takes note of the store's counts before the import, unless something of one may be there."""
+        if self.is_empty and base != (0, 0):
+            raise BadJournal(
+                f"{self.path}: it is empty, and the store has {base[0]} nodes and {base[1]} edges. Where they came by"
+                " this import, bring the journal back; --anew brings in all rows besides"
+            )
         is_new = self.base is None or not self.entries and not self.is_cut
         if is_new and self.base != base:
             self.base = base
             self.write({"form": FORM, "base": base})
 
-    def add(self, entries):
+    def add(self, entries: List[Entry]) -> None:
         """Writes and syncs entries of transactions that come in this order."""
         self.entries += entries
         self.write(*map(dataclasses.asdict, entries))
 
-    def keep(self, count):
+    def keep(self, count: int) -> None:
         """Says that only the first so many of its transactions are in the store."""
         if count < len(self.entries):
             del self.entries[count:]
             self.write({"keep": count})
 
-    def stored(self, counts):
+    def stored(self, counts: Tuple[int, int]) -> int:
         """How many of its transactions are in a store of these counts of nodes and edges: each adds some."""
+        assert self.base
         nodes, edges = self.base
         at = [(nodes, edges)]
         for it in self.entries:
@@ -180,7 +208,7 @@ class Journal:
         return at.index(counts)
 
 
-def sync_folder(path):
+def sync_folder(path: pathlib.Path) -> None:
     folder = os.open(path, os.O_RDONLY | os.O_DIRECTORY)
     try:
         os.fsync(folder)
@@ -188,8 +216,9 @@ def sync_folder(path):
         os.close(folder)
 
 
-def again(table, rows, entries):
-    """Takes the rows that these entries of the table have, and gives nodes the identifiers that they got."""
+def again(table: Table, rows: Iterator[Row], entries: Sequence[Entry]) -> Iterator[Entry]:
+    """Takes the rows that these entries of the table have, gives nodes the identifiers that they got, and then gives
+    each entry."""
     for entry in entries:
         got = Transaction(table, [])
         for _ in range(entry.rows):
@@ -198,6 +227,7 @@ def again(table, rows, entries):
                 raise BadJournal(f"{table.path}: it has fewer rows than are in; --anew forgets the journal")
             got.rows.append(row)
         for row, it in zip(got.rows, entry.numbers()):
+            assert row.node
             row.node.identifier = it
         if got.digest() != entry.digest:
             first, last = got.rows[0].at, got.rows[-1].at
@@ -205,3 +235,4 @@ def again(table, rows, entries):
                 f"{table.path}:{first} to {last}: these rows were brought in with other contents; --anew forgets the"
                 " journal, and brings in all rows besides"
             )
+        yield entry

@@ -1,19 +1,26 @@
-"""The forms in which a graph is written: tables of CSV for tools/import, GraphML, and JSON lines."""
+"""The forms in which a graph is written: tables of CSV for tools/import, GraphML, JSON lines, and the
+program's own."""
+
+from __future__ import annotations
 
 import json
 import re
+from typing import IO, Any, Callable, Dict, Iterable, Iterator, Sequence, Set, TextIO, Tuple
 from xml.sax.saxutils import escape, quoteattr
 
-from asking import Unfit
-from rows import spell_text
+from nipakeel_tools.journal import groups
+from nipakeel_tools.query import Edge, Element, Unfit
+from nipakeel_tools.readers import fields_of
+from nipakeel_tools.rows import Builder, Row
+from nipakeel_tools.values import plain, spelled
 
 # How text is written: bytes that are no UTF-8 as they are, and each newline as it stands.
-WRITTEN = {"encoding": "utf-8", "errors": "surrogateescape", "newline": ""}
+WRITTEN: Dict[str, str] = {"encoding": "utf-8", "errors": "surrogateescape", "newline": ""}
 QUOTED_FIELD = re.compile(r'[",\r\n]')
 # Characters that no XML has, among them what stands for bytes that are no UTF-8.
 NO_XML = re.compile("[^\t\n\r -\ud7ff\ue000-\ufffd\U00010000-\U0010ffff]")
 # Columns of a table besides properties, and keys of GraphML that have a label or a type.
-COLUMNS = {"nodes": ("id", "label"), "edges": ("from", "to", "type")}
+COLUMNS: Dict[str, Tuple[str, ...]] = {"nodes": ("id", "label"), "edges": ("from", "to", "type")}
 WORDS = {"nodes": ("labelV", "labels"), "edges": ("labelE", "label")}
 TYPES = {bool: "boolean", int: "long", str: "string"}
 
@@ -21,13 +28,14 @@ TYPES = {bool: "boolean", int: "long", str: "string"}
 class Kept:
     """Elements of a kind in a file of JSON lines, with what is to be known before they are written in another form."""
 
-    def __init__(self, kind, file):
+    def __init__(self, kind: str, file: IO[bytes]) -> None:
         self.kind, self.file = kind, file
         self.count = 0
         # By key the types of its values, and whether an empty text is among them.
-        self.types, self.empty = {}, set()
+        self.types: Dict[str, Set[type]] = {}
+        self.empty: Set[str] = set()
 
-    def add(self, elements):
+    def add(self, elements: Sequence[Element]) -> None:
         for it in elements:
             for key, value in it.properties.items():
                 self.types.setdefault(key, set()).add(type(value))
@@ -36,48 +44,61 @@ class Kept:
             self.file.write(json_line(it).encode())
         self.count += len(elements)
 
-    def lines(self):
+    def lines(self) -> Iterable[bytes]:
         self.file.seek(0)
         return self.file
 
-    def elements(self):
+    def elements(self) -> Iterator[Dict[str, Any]]:
         return map(json.loads, self.lines())
 
 
-def json_line(it):
+def json_line(it: Element) -> str:
     """A line of JSON. A byte that is no UTF-8 is there as `\\udcXX`."""
-    words = {"node": it.id, "label": it.label}
-    if it.said == "edge":
+    words: Dict[str, Any] = {"node": it.id, "label": it.label}
+    if isinstance(it, Edge):
         words = {"edge": it.id, "from": it.source, "type": it.label, "to": it.target}
     return json.dumps(words | {"properties": it.properties}, separators=(",", ":")) + "\n"
 
 
-def write_json_lines(file, nodes, edges):
+def write_json_lines(file: TextIO, nodes: Kept, edges: Kept) -> None:
     for kept in (nodes, edges):
         for line in kept.lines():
             file.write(line.decode())
 
 
+# --- lines of the program
+
+
+def write_lines(file: TextIO, nodes: Kept, edges: Kept) -> None:
+    """The lines that make the graph in a new store, where nodes get the identifiers from 0 on."""
+    builder = Builder()
+    known = builder.space("")
+    node_rows = (builder.node(0, str(it["node"]), it["label"], fields_of(it["properties"]), known) for it in nodes.elements())
+    write_groups(file, numbered(filter(None, node_rows)))
+    ends = ((it, (str(it["from"]), str(it["to"]))) for it in edges.elements())
+    write_groups(file, (builder.edge(0, at, it["type"], fields_of(it["properties"]), known, known) for it, at in ends))
+
+
+def numbered(rows: Iterable[Row]) -> Iterator[Row]:
+    for identifier, row in enumerate(rows):
+        assert row.node
+        row.node.identifier = identifier
+        yield row
+
+
+def write_groups(file: TextIO, rows: Iterable[Row]) -> None:
+    for held in groups(rows):
+        file.writelines(["begin\n", *(row.text + "\n" for row in held), "commit\n"])
+
+
 # --- CSV
 
 
-def field(text):
+def field(text: str) -> str:
     return '"' + text.replace('"', '""') + '"' if QUOTED_FIELD.search(text) else text
 
 
-def plain(value):
-    """A value in a column of its type."""
-    if isinstance(value, bool):
-        return "true" if value else "false"
-    return str(value)
-
-
-def spelled(value):
-    """A value in a column of all types, as a line of the program has it."""
-    return spell_text(value)[0] if isinstance(value, str) else plain(value)
-
-
-def columns(kept):
+def columns(kept: Kept) -> Iterator[Tuple[str, str, Callable[[Any], str]]]:
     """The columns of properties, as key, header and how a value is put. A field without characters is no property, so
     an empty text needs a column of all types."""
     for key in sorted(kept.types):
@@ -90,8 +111,8 @@ def columns(kept):
             yield key, f"{key}:{'bool' if types == {bool} else 'int'}", plain
 
 
-def write_table(file, kept):
-    words = ("node", "label") if kept.kind == "nodes" else ("from", "to", "type")
+def write_table(file: TextIO, kept: Kept) -> None:
+    words = ("node", *COLUMNS["nodes"][1:]) if kept.kind == "nodes" else COLUMNS["edges"]
     made = list(columns(kept))
     file.write(",".join([*COLUMNS[kept.kind], *(header for _, header, _ in made)]) + "\n")
     for it in kept.elements():
@@ -104,7 +125,7 @@ def write_table(file, kept):
 # --- GraphML
 
 
-def write_graphml(file, nodes, edges):
+def write_graphml(file: TextIO, nodes: Kept, edges: Kept) -> None:
     keys = {kept.kind: graphml_keys(kept) for kept in (nodes, edges)}
     file.write('<?xml version="1.0" encoding="UTF-8"?>\n<graphml xmlns="http://graphml.graphdrawing.org/xmlns">\n')
     for kind, word in (("nodes", "labelV"), ("edges", "labelE")):
@@ -124,7 +145,7 @@ def write_graphml(file, nodes, edges):
     file.write("</graph>\n</graphml>\n")
 
 
-def graphml_keys(kept):
+def graphml_keys(kept: Kept) -> Dict[Tuple[str, type], str]:
     """By key and type of value the identifier of a key of GraphML, which has one type."""
     for key in WORDS[kept.kind]:
         if key in kept.types:
@@ -133,11 +154,11 @@ def graphml_keys(kept):
     return {pair: f"{kept.kind}{at}" for at, pair in enumerate(pairs)}
 
 
-def write_key(file, id, kind, title, of):
+def write_key(file: TextIO, id: str, kind: str, title: str, of: str) -> None:
     file.write(f'<key id="{id}" for="{kind[:-1]}" attr.name={quoteattr(title)} attr.type="{of}"/>\n')
 
 
-def write_data(file, it, said, ids):
+def write_data(file: TextIO, it: Dict[str, Any], said: str, ids: Dict[Tuple[str, type], str]) -> None:
     for key, value in it["properties"].items():
         text = plain(value)
         found = NO_XML.search(text)

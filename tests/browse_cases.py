@@ -1,0 +1,184 @@
+"""What tests/tools tries of tools/browse: who gets an answer, what is answered, and the page in a headless Chromium."""
+
+import contextlib
+import http.client
+import json
+import signal
+import subprocess
+import sys
+import urllib.parse
+
+sys.dont_write_bytecode = True
+from chromium import Page
+from driver import ROOT, SECONDS, Skipped, call
+
+sys.path.append(str(ROOT / "tools"))
+from nipakeel_tools.browsing import D3
+
+BROWSE = ROOT / "tools/browse"
+WRONG_WORDS, BAD_FILES, PROGRAM_FAILED, INTERRUPTED = 2, 3, 4, 130
+# A text that would be markup, were it not put in as a text.
+MARKUP = "<img src=x onerror=alert(1)>"
+MODERN = f"""node person name='marko' age=29
+node person name='vadas'
+node software name='{MARKUP}'
+edge 0 knows 1 since=2009
+edge 0 created 2
+edge 1 created 2
+"""
+
+
+@contextlib.contextmanager
+def served(folder, *words, status=INTERRUPTED):
+    """The address of a page on the store of the folder."""
+    if not D3.exists():
+        raise Skipped("there is no libjs-d3")
+    assert call(folder, MODERN.encode()).status == 0
+    started = subprocess.Popen([BROWSE, *words], cwd=folder, stdout=subprocess.PIPE, stderr=subprocess.PIPE)
+    try:
+        address = started.stdout.readline().decode().strip()
+        assert address.startswith("http://127.0.0.1:"), f"{address} {started.stderr.read()}"
+        yield address
+    finally:
+        if status == INTERRUPTED:
+            started.send_signal(signal.SIGTERM)
+        out, said = started.communicate(timeout=SECONDS)
+    assert started.returncode == status, f"{started.returncode}: {said}"
+
+
+def gets(address, path="", method="GET", body=None, **headers):
+    """The status and the content of an answer."""
+    parts = urllib.parse.urlsplit(address)
+    connection = http.client.HTTPConnection(parts.hostname, parts.port, timeout=SECONDS)
+    connection.request(method, urllib.parse.urljoin(parts.path, path), body, headers)
+    answer = connection.getresponse()
+    content = answer.read()
+    connection.close()
+    return answer.status, content, answer.headers
+
+
+def asks(address, what, **words):
+    headers = {"Content-Type": "application/json"}
+    status, content, _ = gets(address, what, "POST", json.dumps(words), **headers)
+    return status, json.loads(content)
+
+
+def who_is_served(folder):
+    with served(folder) as address:
+        status, content, headers = gets(address)
+        assert status == 200 and b"<title>Nipakeel</title>" in content, f"{content}"
+        assert "default-src 'none'" in headers["Content-Security-Policy"], f"{headers}"
+        for path in ("page.js", "page.css", "d3.js"):
+            assert gets(address, path)[0] == 200, path
+        for path in ("../", "/", "/other/page.js", "/other/ask"):
+            assert gets(address, path)[0] == 403, path
+        for path in ("../../etc/passwd", "none", "%2e%2e/browsing.py"):
+            assert gets(address, path)[0] in (403, 404), path
+        # A page of another host that leads here has another Host, or asks in another form.
+        assert gets(address, Host="evil.example")[0] == 403
+        assert gets(address, "ask", "POST", '{"line":"stats"}', Host="evil.example")[0] == 403
+        assert gets(address, "ask", "POST", '{"line":"stats"}', **{"Content-Type": "text/plain"})[0] == 400
+        assert gets(address, "ask", "POST", "{", **{"Content-Type": "application/json"})[0] == 400
+        assert gets(address, "ask", "POST", "x" * 70_000, **{"Content-Type": "application/json"})[0] == 400
+        parts = urllib.parse.urlsplit(address)
+        assert subprocess.run(["ss", "-ltnH", f"sport = :{parts.port}"], capture_output=True).stdout.split()[3:4] in (
+            [], [f"127.0.0.1:{parts.port}".encode()]
+        )
+
+
+def what_is_answered(folder):
+    with served(folder) as address:
+        status, found = asks(address, "ask", line="g.V(0).outE()")
+        assert status == 200 and found["columns"] == ["edge", "from", "type", "to"] and found["count"] == 2, f"{found}"
+        assert [it["node"] for it in found["graph"]["nodes"]] == [0, 1, 2], f"{found}"
+        assert found["graph"]["nodes"][0] == {"node": 0, "label": "person", "properties": {"age": 29, "name": "marko"}}
+        found = asks(address, "ask", line="g.V().values('name','age')")[1]
+        assert found["columns"] == ["name", "age"] and found["rows"][2] == {"name": MARKUP}, f"{found}"
+        assert asks(address, "ask", line="g.V(")[1]["place"] == 4
+        assert asks(address, "ask", line="stats")[1]["reply"].startswith("nodes 3 edges 3")
+        assert asks(address, "around", id=2)[1]["count"] == 2
+        assert asks(address, "edge", id=0)[1]["edges"][0]["properties"] == {"since": 2009}
+        for line in ("node a", "delete edge 0", "begin", "checkpoint", "quit", "g.V()\nnode a", "", "x" * 9_000):
+            status, found = asks(address, "ask", line=line)
+            assert status == 400 and found["fault"], f"{line}: {found}"
+        for words in ({"ids": [-1]}, {"ids": "0"}, {"ids": [True]}, {}):
+            assert asks(address, "nodes", **words)[0] == 400, f"{words}"
+        assert asks(address, "drop")[0] == 400
+        assert asks(address, "ask", line="g.V().count()")[1]["rows"] == [{"value": 3}]
+
+
+def what_is_written(folder):
+    """With --write, and a key that is new is found."""
+    with served(folder, "--write") as address:
+        assert asks(address, "ask", line="node person nick='Z'")[1]["reply"] == "node 3"
+        assert asks(address, "ask", line="g.V(3)")[1]["graph"]["nodes"][0]["properties"] == {"nick": "Z"}
+        asks(address, "ask", line="begin")
+        assert asks(address, "ask", line="set node 3 fresh 1")[1]["reply"] == "ok"
+        assert asks(address, "ask", line="g.V(3)")[1]["graph"]["nodes"][0]["properties"] == {"nick": "Z"}
+        assert asks(address, "ask", line="commit")[1]["reply"] == "ok"
+    assert b"==>4" in call(folder, b"g.V().count()\n").out
+
+
+def endings(folder):
+    ran = call(folder, words=["--port", "70000"], program=BROWSE)
+    assert ran.status == WRONG_WORDS, f"{ran}"
+    ran = call(folder, words=["--d3", "none"], program=BROWSE)
+    assert ran.status == BAD_FILES and b"none: no library d3 is there" in ran.err, f"{ran}"
+    stand_in = ROOT / "tests/stand_in.py"
+    with served(folder, "--program", stand_in, "--", "--end", "2=1=why", status=PROGRAM_FAILED) as address:
+        assert "status 1" in asks(address, "ask", line="g.V().count()")[1]["fault"]
+
+
+def page(folder):
+    """The page: a table, a picture that a click opens further, properties, the queries before, and no markup."""
+    with served(folder) as address:
+        it = Page(address + "#" + urllib.parse.quote("g.V(0)"))
+        try:
+            it.until("document.querySelectorAll('.node').length == 1")
+            assert it.value("document.querySelector('#results td').textContent") == "0"
+            click = "document.querySelector('.node').dispatchEvent(new MouseEvent('click', {bubbles: true}))"
+            it.value(click)
+            it.until("document.querySelectorAll('#picked button').length == 2")
+            assert "marko" in it.value("document.querySelector('#picked').innerText")
+            buttons = it.value("[...document.querySelectorAll('#picked button')].map(it => it.textContent)")
+            assert buttons == ["created out: 1", "knows out: 1"], f"{buttons}"
+            it.value("document.querySelectorAll('#picked button').forEach(it => it.click())")
+            it.until("document.querySelectorAll('.node').length == 3 && document.querySelectorAll('.edge').length == 2")
+            it.value("document.querySelector('.edge').dispatchEvent(new MouseEvent('click', {bubbles: true}))")
+            it.until("document.querySelector('#picked').innerText.includes('edge')")
+            zooms_and_drags(it)
+            it.value("document.querySelector('#line').value = \"g.V().values('name','age')\"")
+            it.value("document.querySelector('#asking button').click()")
+            it.until("document.querySelectorAll('#results tr').length == 4")
+            assert it.value("document.querySelectorAll('#history li').length") == 2
+            assert MARKUP in it.value("document.querySelector('#results').innerText")
+            assert it.value("document.querySelectorAll('img').length") == 0, "a text was taken for markup"
+            it.value("document.querySelector('#line').value = 'node a'")
+            it.value("document.querySelector('#asking button').click()")
+            it.until("document.querySelector('#reply').textContent.includes('--write')")
+        finally:
+            it.close()
+
+
+def zooms_and_drags(it):
+    """A wheel zooms the picture, and a node goes where it is dragged."""
+    it.until("force.alpha() === 0")
+    wheel = "new WheelEvent('wheel', {deltaY: -100, clientX: 300, clientY: 200, bubbles: true})"
+    it.value(f"document.querySelector('#picture').dispatchEvent({wheel})")
+    it.until("zoom.scale() > 1 && document.querySelector('#picture > g').getAttribute('transform').includes('scale')")
+    it.value("box = document.querySelector('.node circle').getBoundingClientRect(); before = graph.nodes.get(0).x; 0")
+    x, y = (it.value(f"(box.{low} + box.{high}) / 2") for low, high in (("left", "right"), ("top", "bottom")))
+    it.calls("Input.dispatchMouseEvent", type="mousePressed", x=x, y=y, button="left", buttons=1, clickCount=1)
+    for by in (20, 60, 100):
+        it.calls("Input.dispatchMouseEvent", type="mouseMoved", x=x + by, y=y, button="left", buttons=1)
+    it.until("graph.nodes.get(0).x > before + 40")
+    it.calls("Input.dispatchMouseEvent", type="mouseReleased", x=x + 100, y=y, button="left", clickCount=1)
+
+
+CASES = {
+    "browse: who is served": who_is_served,
+    "browse: what is answered": what_is_answered,
+    "browse: lines that change something": what_is_written,
+    "browse: endings": endings,
+    "browse: the page in a browser": page,
+}

@@ -1,0 +1,180 @@
+"""What tests/tools tries of the shell's own lines, of its forms of results and its completion, and of tools/backup."""
+
+import json
+import sys
+
+sys.dont_write_bytecode = True
+from driver import ROOT, SOUND, answer, call, stats, wants
+
+sys.path.append(str(ROOT / "tools"))
+from nipakeel_tools.lines import completions
+
+SHELL, BACKUP, EXPORT = ROOT / "tools/shell", ROOT / "tools/backup", ROOT / "tools/export"
+DONE, REFUSED, WRONG_WORDS, BAD_FILES = 0, 1, 2, 3
+MODERN = """node person name='marko' age=29
+node person name='vadas'
+node software name='lop' lang='java' free=true
+edge 0 knows 1 since=2009
+edge 0 created 2
+edge 0 likes 0
+"""
+
+
+def graph(folder, lines=MODERN):
+    folder.mkdir(exist_ok=True)
+    ran = call(folder, lines.encode())
+    assert ran.status == 0 and b"error" not in ran.out, f"{ran}"
+
+
+def says(folder, *lines, status=DONE, words=(), **how):
+    """What the shell shows for these lines."""
+    given = [it for line in lines for it in ("-c", line)]
+    ran = call(folder, words=[*given, *words], program=SHELL, **how)
+    assert ran.status == status and not ran.err, f"{ran}, and not status {status}"
+    return ran.out.decode()
+
+
+def lines_of_words(folder):
+    assert says(folder, "node a", "g.V()") == "node 0\n==>v[0]\nend\n"
+    assert says(folder, "node", "stats", status=REFUSED) == "error syntax 4\nnodes 1 edges 0 properties 0 blocks 0 names 1\n"
+    assert says(folder, "", "node a", ".quit", "node a") == "node 1\n"
+    assert "makes a node" in says(folder, "help node") and ".dump FILE" in says(folder, ".help")
+    faults = {
+        ".walk": "there is no .walk",
+        ".mode heap": "a mode is one of lines, table, csv, json",
+        ".timer": "it is .timer on|off",
+        ".timer up": "it is .timer on or .timer off",
+        ".read none": "none: No such file or directory",
+        ".drop a": "it is .drop ID",
+        ".read 'a": "No closing quotation",
+    }
+    said = says(folder, *faults, status=REFUSED).splitlines()
+    assert len(said) == len(faults) and all(map(str.startswith, said, faults.values())), f"{said}"
+    assert call(folder, words=["--mode", "heap"], program=SHELL).status == WRONG_WORDS
+    timed = says(folder, ".timer on", "stats").splitlines()
+    assert timed[-1].endswith(" s") and float(timed[-1].removesuffix(" s")) < 60, f"{timed}"
+
+
+TABLE = """name   age  lang
+-----  ---  ----
+marko   29
+vadas
+lop         java
+"""
+
+
+def modes(folder):
+    graph(folder)
+    asked = "g.V().values('name','age','lang')"
+    assert says(folder, ".mode table", asked) == TABLE
+    assert says(folder, asked, words=["--mode", "csv"]) == "name,age,lang\nmarko,29,\nvadas,,\nlop,,java\n"
+    found = [json.loads(it) for it in says(folder, asked, words=["--mode", "json"]).splitlines()]
+    assert found == [{"name": "marko", "age": 29}, {"name": "vadas"}, {"name": "lop", "lang": "java"}], f"{found}"
+    edges = "edge  from  type   to\n----  ----  -----  --\n   0     0  knows   1\n"
+    assert says(folder, ".mode table", "g.E().limit(1)", "expand 0 out knows") == edges * 2
+    assert says(folder, ".mode table", "g.E().values('since','none')") == "since  none\n-----  ----\n 2009\n"
+    assert says(folder, ".mode csv", "g.V().has('age').values('age')", "g.V(9)", "g.V().count()") == "value\n29\nvalue\n3\n"
+    assert says(folder, ".mode json", "g.V(2).values()") == '{"value": true}\n{"value": "java"}\n{"value": "lop"}\n'
+    assert says(folder, ".mode table", "g.V(", "node a", status=REFUSED) == "error syntax 4\nnode 3\n"
+
+
+NAMES = """name      used as
+--------  -------
+age       key
+created   type
+free      key
+knows     type
+lang      key
+likes     type
+marko     none
+name      key
+person    label
+since     key
+software  label
+"""
+
+
+def names(folder):
+    """Names stand in the files after a checkpoint, with what they are in use for."""
+    graph(folder, MODERN + "node marko\ndelete node 3\n")
+    assert says(folder, ".names") == NAMES
+    assert says(folder, "begin", ".names", status=REFUSED) == "ok\nerror transaction open\n"
+    (folder / "new").mkdir()
+    assert says(folder / "new", ".names", "node a", ".names") == "no names\nnode 0\nname  used as\n----  -------\na     label\n"
+
+
+def drop(folder):
+    graph(folder)
+    assert says(folder, ".drop 0", "stats") == "node 0 and 3 edges are deleted\n" + stats(2, 10, properties=4).decode()
+    assert says(folder, ".drop 7", status=REFUSED) == "delete node 7 is answered: error no node 7; nothing is changed\n"
+    assert says(folder, "edge 1 t 2", "begin", ".drop 1", "rollback", "g.E().count()").endswith("ok\n==>1\nend\n")
+    many = "begin\n" + "edge 1 t 2\n" * 200 + "commit\n"
+    graph(folder, many)
+    full = says(folder, ".drop 1", "g.E().count()", status=REFUSED)
+    assert "error transaction full; nothing is changed" in full and full.endswith("==>201\nend\n"), full
+
+
+def dump_and_read(folder):
+    """The lines of a dump make the graph again, in a new store."""
+    gone = "node x t='it\\'s \\n'\nnode gone\nnode y\nedge 5 t 3\ndelete node 4\ndelete edge 0\nset edge 1 w -1\n"
+    graph(folder / "one", MODERN + gone)
+    text = says(folder / "one", ".dump", ".dump lines")
+    assert text == (folder / "one/lines").read_text() and "edge 4 t 3\n" in text, text
+    (folder / "two").mkdir()
+    assert says(folder / "two", ".read ../one/lines", ".dump").endswith(text)
+    (folder / "loop").write_text(f".read {folder}/loop\n")
+    assert "files are read at most 8 deep" in says(folder, f".read {folder}/loop", status=REFUSED)
+    ran = call(folder / "one", words=["--quiet", "--lines", "-"], program=EXPORT)
+    assert ran.out.decode() == text and ran.status == 0, f"{ran}"
+
+
+def backup(folder):
+    graph(folder / "one")
+    counts = "nodes 3 edges 3 properties 7 blocks 0 names 10"
+    ran = call(folder, words=["--folder", "one", "two"], program=BACKUP)
+    assert ran.status == 0 and ran.err.decode() == f"two: sound, {counts}\n" and not ran.out, f"{ran}"
+    wants(call(folder / "two", b"check\ng.V().count()\n"), SOUND + answer(b"3"))
+    assert says(folder / "one", ".backup ../three") == f"../three: sound, {counts}\n"
+    ran = call(folder, words=["--folder", "one", "two"], program=BACKUP)
+    assert ran.status == BAD_FILES and b"two: it is there, and isn't an empty folder" in ran.err, f"{ran}"
+    ran = call(folder, words=["--folder", "one", "none/copy"], program=BACKUP)
+    assert ran.status == BAD_FILES and b"none/copy.part: No such file" in ran.err, f"{ran}"
+    # A store that isn't sound has no backup: the counts of its nodes are wrong.
+    with open(folder / "one/graph.0", "r+b") as file:
+        file.seek(72)
+        file.write(b"\x09")
+    ran = call(folder, words=["--folder", "one", "four"], program=BACKUP)
+    assert ran.status == REFUSED and b"check is answered: broken meta 1 2" in ran.err, f"{ran}"
+    assert not list(folder.glob("four*")), f"{list(folder.iterdir())}"
+
+
+COMPLETED = (
+    ("", "no", ["node"]),
+    ("", "g", ["g.V()", "g.E()"]),
+    (".", "ti", ["timer"]),
+    ("g.V().", "ha", ["has(", "hasLabel("]),
+    ("g.V().repeat(", "ou", ["out(", "outE(", "outV("]),
+    ("g.V().has('", "na", ["name"]),
+    ("g.V().has('name',\"", "k", ["knows"]),
+    ("g.V().has('it\\'s',", "na", []),
+    ("delete ", "", ["node", "edge", "knows", "name"]),
+    ("node ", "kn", ["knows"]),
+    ("expand 0 ", "o", ["out"]),
+)
+
+
+def completion(folder):
+    for before, begun, wanted in COMPLETED:
+        found = completions(before, begun, ["knows", "name"])
+        assert sorted(found) == sorted(wanted), f"{before}{begun}: {found}"
+
+
+CASES = {
+    "shell: lines of -c": lines_of_words,
+    "shell: results as a table, as CSV and as JSON": modes,
+    "shell: names": names,
+    "shell: a node with its edges": drop,
+    "shell: dump and read": dump_and_read,
+    "shell: completion": completion,
+    "backup": backup,
+}

@@ -1,0 +1,93 @@
+"""Copies a store that a run of the program serves, and checks the copy."""
+
+from __future__ import annotations
+
+import os
+import pathlib
+import shutil
+import sys
+import time
+from typing import Sequence
+
+from nipakeel_tools.client import NotAnswered, Program
+from nipakeel_tools.command import Unusable
+from nipakeel_tools.journal import sync_folder
+from nipakeel_tools.limits import FILES
+from nipakeel_tools.query import Unfit
+
+CHUNK = 2**20
+# Seconds between two lines of progress at a terminal.
+OFTEN = 0.2
+
+
+class Progress:
+    """Tells on standard error how much is copied, at a terminal."""
+
+    def __init__(self, size: int, quiet: bool) -> None:
+        self.size, self.copied, self.told = size, 0, time.monotonic()
+        self.tells = sys.stderr.isatty() and not quiet
+
+    def has(self, size: int) -> None:
+        self.copied += size
+        now = time.monotonic()
+        if now - self.told >= OFTEN:
+            self.told = now
+            self.says(f"{self.copied / CHUNK:,.0f} of {self.size / CHUNK:,.0f} MiB")
+
+    def says(self, text: str) -> None:
+        if self.tells:
+            print(f"\r{text}\x1b[K", end="", file=sys.stderr, flush=True)
+
+
+def answered(program: Program, line: bytes, wanted: bytes) -> None:
+    reply = program.ask(line)
+    if reply != wanted:
+        raise NotAnswered(line, reply)
+
+
+def copy_files(files: Sequence[pathlib.Path], folder: pathlib.Path, progress: Progress) -> None:
+    """Copies the files, and syncs them and the folder."""
+    for path in files:
+        with open(path, "rb") as file, open(folder / path.name, "xb") as made:
+            for chunk in iter(lambda: file.read(CHUNK), b""):
+                made.write(chunk)
+                progress.has(len(chunk))
+            made.flush()
+            os.fsync(made.fileno())
+    sync_folder(folder)
+
+
+def check(folder: pathlib.Path, path: str, counts: bytes) -> None:
+    """Fails unless the copy is sound and has the counts of the store."""
+    checked = Program(folder, (), path)
+    try:
+        answered(checked, b"check", b"sound")
+        if checked.ask(b"stats") != counts:
+            raise Unfit("the copy has other counts than the store")
+    finally:
+        if checked.started.poll() is None:
+            checked.end()
+
+
+def back_up(program: Program, folder: pathlib.Path, copy: pathlib.Path, path: str, quiet: bool = False) -> str:
+    """Copies the store of a folder, which this run serves, and returns what `stats` says. The copy is there as a whole
+    or not at all. It is checked by the program of this path."""
+    if copy.exists() and (not copy.is_dir() or any(copy.iterdir())):
+        raise Unusable(f"{copy}: it is there, and isn't an empty folder")
+    made = copy.with_name(copy.name + ".part")
+    made.mkdir()
+    try:
+        answered(program, b"checkpoint", b"ok")
+        counts = program.ask(b"stats")
+        files = [it for it in (folder / name for name in FILES) if it.exists()]
+        progress = Progress(sum(it.stat().st_size for it in files), quiet)
+        copy_files(files, made, progress)
+        progress.says("checking the copy")
+        check(made, path, counts)
+        os.replace(made, copy)
+        sync_folder(copy.absolute().parent)
+        progress.says("")
+    except BaseException:
+        shutil.rmtree(made, ignore_errors=True)
+        raise
+    return counts.decode()

@@ -1,0 +1,217 @@
+"""The page of tools/browse: answers its questions by lines of the program, to who knows its address.
+
+What the page gets is JSON and files of this folder, and what it asks has the form of JSON. The address has a secret, and
+the header Host has to be that of the address, so no other page that a browser shows can ask.
+"""
+
+from __future__ import annotations
+
+import contextlib
+import http.server
+import json
+import pathlib
+import secrets
+import sys
+import threading
+import time
+from typing import Any, Dict, List, Optional, Sequence
+
+from nipakeel_tools.client import Ended, NotAnswered
+from nipakeel_tools.limits import MOST_LINE
+from nipakeel_tools.lines import State, place_of
+from nipakeel_tools.names import keys_of_store, names_in
+from nipakeel_tools.query import Asking, Element, Unfit, pages
+from nipakeel_tools.showing import header_of, keyed, keyed_rows, rows_of
+from nipakeel_tools.values import to_bytes
+
+HOST, D3 = "127.0.0.1", pathlib.Path("/usr/share/javascript/d3/d3.min.js")
+PAGE = pathlib.Path(__file__).parent / "page"
+# Results in a table, and nodes in a picture, that are sent at once. The rest is counted.
+MOST_ROWS, MOST_NODES = 1_000, 300
+MOST_ASKED = 65_536
+QUESTIONS = ("g", "expand", "stats", "check")
+HEADERS = {
+    "Content-Security-Policy": "default-src 'none'; script-src 'self'; style-src 'self'; connect-src 'self'",
+    "X-Content-Type-Options": "nosniff",
+    "Referrer-Policy": "no-referrer",
+    "Cache-Control": "no-store",
+}
+TYPES = {".html": "text/html", ".js": "text/javascript", ".css": "text/css"}
+
+
+class Wrong(Exception):
+    """What the page asks for and doesn't get, and why."""
+
+
+class Browsing:
+    """Answers what the page asks, one question at a time."""
+
+    def __init__(self, asked: Asking, folder: pathlib.Path, writes: bool) -> None:
+        self.asked, self.folder, self.writes = asked, folder, writes
+        self.lock, self.state = threading.Lock(), State()
+        # How the program ended, when it has.
+        self.ended: Optional[Ended] = None
+        # Keys that the store had when it was opened are in its files. Later ones need a checkpoint.
+        with contextlib.suppress(OSError, Unfit):
+            asked.knows(names_in(folder).keys)
+
+    def answer(self, what: str, words: Dict[str, Any]) -> Dict[str, Any]:
+        with self.lock:
+            if what == "ask":
+                return self.line(str(words.get("line", "")))
+            if what == "nodes":
+                return {"nodes": self.nodes(numbers(words.get("ids")))}
+            if what == "edge":
+                return {"edges": [shown(it) for it in self.elements("E", numbers([words.get("id")]))]}
+            if what == "around":
+                (id,) = numbers([words.get("id")])
+                edges = list(rows_of(self.asked.ask(f"g.V({id}).bothE().dedup()")))
+                return {"edges": edges[:MOST_ROWS], "count": len(edges)}
+        raise Wrong("there is no such question")
+
+    def line(self, line: str) -> Dict[str, Any]:
+        """The reply to a line, and the part of the graph that its results show."""
+        given, word = to_bytes(line), (line.split() or [""])[0]
+        if b"\n" in given or len(given) > MOST_LINE or word == "quit" or not word:
+            raise Wrong("it is no line")
+        if not self.writes and not word.startswith("g") and word not in QUESTIONS:
+            raise Wrong("the page was begun without --write, and takes no line that may change something")
+        begun = time.monotonic()
+        try:
+            found = self.results(line) if word.startswith("g") or word == "expand" else self.reply(given)
+        except NotAnswered as error:
+            found = {"reply": error.reply.decode(errors="replace"), "place": place_of(error.reply)}
+        return {**found, "seconds": time.monotonic() - begun}
+
+    def reply(self, given: bytes) -> Dict[str, Any]:
+        reply = self.asked.program.ask(given)
+        self.state.follows(given, reply)
+        return {"reply": reply.decode(errors="replace"), "place": place_of(reply)}
+
+    def results(self, line: str) -> Dict[str, Any]:
+        columns = keyed(line)
+        if columns and len(columns[1]) > 1:
+            rows = [it for it in keyed_rows(self.asked.program, *columns) if it]
+            count, keys = len(rows), columns[1]
+        else:
+            rows, count, keys = [], 0, []
+            for it in rows_of(self.asked.ask(line)):
+                count += 1
+                if len(rows) < MOST_ROWS:
+                    rows.append(it)
+        rows = rows[:MOST_ROWS]
+        graph = {"nodes": self.nodes(ends_of(rows)[:MOST_NODES]), "edges": [it for it in rows if "edge" in it]}
+        return {"columns": header_of(rows, keys), "rows": rows, "count": count, "graph": graph, "reply": "end"}
+
+    def nodes(self, ids: Sequence[int]) -> List[Dict[str, Any]]:
+        return [shown(it) for it in self.elements("V", ids)]
+
+    def elements(self, kind: str, ids: Sequence[int]) -> List[Element]:
+        """The elements with all properties, also those of keys that are new."""
+        try:
+            return [it for page in pages(ids) for it in self.asked.elements(kind, page)]
+        except Unfit:
+            if self.state.now == "live":
+                self.asked.knows(keys_of_store(self.asked, self.folder))
+            else:
+                self.asked.leaves_out = True
+            found = [it for page in pages(ids) for it in self.asked.elements(kind, page)]
+            self.asked.leaves_out = False
+            return found
+
+
+def numbers(words: Any) -> List[int]:
+    if not isinstance(words, list) or not all(isinstance(it, int) and not isinstance(it, bool) and it >= 0 for it in words):
+        raise Wrong("these are no identifiers")
+    return words[:MOST_NODES]
+
+
+def ends_of(rows: Sequence[Dict[str, Any]]) -> List[int]:
+    """The nodes that results show, each once."""
+    found = (it[word] for it in rows for word in ("node", "from", "to") if ("edge" in it) == (word != "node") and word in it)
+    return list(dict.fromkeys(found))
+
+
+def shown(it: Element) -> Dict[str, Any]:
+    return {it.said: it.id, "label": it.label, "properties": it.properties}
+
+
+class Handler(http.server.BaseHTTPRequestHandler):
+    """Serves the page and its questions under /SECRET/."""
+
+    browsing: Browsing
+    secret: str
+    files: Dict[str, pathlib.Path]
+    server: http.server.ThreadingHTTPServer
+
+    def do_GET(self) -> None:
+        name = self.asked_for()
+        if name is None:
+            return
+        path = self.files.get(name or "page.html")
+        if path is None:
+            self.gives(404, "text/plain", b"there is no such page\n")
+        else:
+            self.gives(200, TYPES[path.suffix], path.read_bytes())
+
+    def do_POST(self) -> None:
+        name = self.asked_for()
+        if name is None:
+            return
+        size = self.headers.get("Content-Length", "")
+        if self.headers.get("Content-Type") != "application/json" or not size.isdecimal() or int(size) > MOST_ASKED:
+            self.gives(400, "text/plain", b"a question is JSON\n")
+            return
+        status, answer = self.answered(name, self.rfile.read(int(size)))
+        self.gives(status, "application/json", json.dumps(answer).encode())
+
+    def answered(self, name: str, given: bytes) -> Any:
+        try:
+            words = json.loads(given)
+            return 200, self.browsing.answer(name, words if isinstance(words, dict) else {})
+        except (Wrong, Unfit) as error:
+            return 400, {"fault": str(error)}
+        except (ValueError, RecursionError):
+            return 400, {"fault": "the question is no JSON"}
+        except NotAnswered as error:
+            return 500, {"fault": str(error)}
+        except Ended as error:
+            threading.Thread(target=self.ends, args=(error,)).start()
+            return 500, {"fault": str(error)}
+
+    def ends(self, error: Ended) -> None:
+        self.browsing.ended = error
+        self.server.shutdown()
+
+    def asked_for(self) -> Optional[str]:
+        """What comes after the secret in the address. Without it, or by another name of this machine, nothing is served."""
+        _, secret, *rest = [*self.path.split("/", 2), ""]
+        is_host = self.headers.get("Host") == f"{HOST}:{self.server.server_port}"
+        if is_host and secrets.compare_digest(secret.encode(), self.secret.encode()):
+            return rest[0]
+        self.gives(403, "text/plain", b"this is not the address that tools/browse has printed\n")
+        return None
+
+    def gives(self, status: int, kind: str, content: bytes) -> None:
+        self.send_response(status)
+        for name, value in {**HEADERS, "Content-Type": f"{kind}; charset=utf-8", "Content-Length": str(len(content))}.items():
+            self.send_header(name, value)
+        self.end_headers()
+        self.wfile.write(content)
+
+    def log_message(self, *_: Any) -> None:
+        """Nothing is logged, since the address is secret."""
+
+
+def serve(browsing: Browsing, port: int, d3: pathlib.Path) -> None:
+    """Serves until the program ends, or a signal comes."""
+    files = {**{it.name: it for it in PAGE.iterdir()}, "d3.js": d3}
+    members = {"browsing": browsing, "secret": secrets.token_urlsafe(16), "files": files}
+    handler = type("PageHandler", (Handler,), members)
+    with http.server.ThreadingHTTPServer((HOST, port), handler) as server:
+        server.daemon_threads = True
+        print(f"http://{HOST}:{server.server_port}/{members['secret']}/", flush=True)
+        print("Ctrl-C ends it", file=sys.stderr)
+        server.serve_forever()
+    if browsing.ended:
+        raise browsing.ended

@@ -1,0 +1,147 @@
+"""What the shell knows of the program's lines: its help, the state of a session, and where a fault is."""
+
+from __future__ import annotations
+
+import re
+import unicodedata
+from typing import List, Optional, Sequence
+
+PROMPTS = {"live": "nipakeel> ", "open": "nipakeel (open)> ", "failed": "nipakeel (failed)> "}
+# Faults that have a place, which is the last word of the reply.
+PLACED = re.compile(rb"error (?:syntax|name length|text length|number range|step kind|too many steps|times range) ([0-9]+)")
+CHANGES = (b"node", b"edge", b"set", b"unset", b"delete")
+HELP = [
+    ("node LABEL KEY=VALUE ..", "makes a node with these properties"),
+    ("edge A TYPE B KEY=VALUE ..", "makes an edge from node A to node B"),
+    ("set node ID KEY VALUE", "gives a key of a node a value; set edge does so for an edge"),
+    ("unset node ID KEY", "takes a key of a node away; unset edge does so for an edge"),
+    ("delete node ID", "deletes a node that has no edges"),
+    ("delete edge ID", "deletes an edge"),
+    ("begin", "opens a transaction"),
+    ("commit", "stores all changes of the transaction"),
+    ("rollback", "drops them"),
+    ("expand ID out TYPE", "lists the edges of a type out of a node; in, those into it; both"),
+    ("g.V()", "a query: all nodes; g.V(3,1) has those of these identifiers"),
+    ("g.E()", "all edges; steps may follow, and docs/QUERIES.md has them all"),
+    (".out('TYPE')", "to where edges lead; .in goes back; .both; of any type: .out()"),
+    (".outE('TYPE')", "to the edges themselves; .inE; .bothE"),
+    (".outV()", "to the node that an edge leaves; .inV() to the one it enters"),
+    (".hasLabel('LABEL')", "those of one of these labels or types"),
+    (".has('KEY')", "those that have the key; .has('KEY',VALUE) with this value"),
+    (".has('KEY',gt(VALUE))", "with a greater one; gte, lt, lte, eq, neq"),
+    (".values('KEY')", "the values of these keys; of all: .values()"),
+    (".id()", "their identifiers"),
+    (".label()", "their labels or types"),
+    (".dedup()", "each once"),
+    (".order().by('KEY')", "by the value of a key; .by('KEY',desc) down; .order() by themselves"),
+    (".repeat(out()).times(N)", "the steps between the parentheses N times, 1 to 16"),
+    (".limit(N)", "the first N of them"),
+    (".count()", "how many there are"),
+    ("stats", "counts nodes, edges, properties, blocks and names"),
+    ("check", "tests the whole store: sound, or a record that breaks a rule"),
+    ("checkpoint", "empties the redo log"),
+    ("reopen", "finds out what is stored, after the disk has failed"),
+    ("quit", "leaves"),
+]
+DOTS = [
+    (".help WORD", "this list, or its lines with the word"),
+    (".names", "the labels, types and keys of the store"),
+    (".mode table", "how results are shown: table, csv, json, or lines as the program has them"),
+    (".timer on", "tells after each line how long it took; off"),
+    (".pager off", "shows long results without a pager; on"),
+    (".read FILE", "the lines of a file"),
+    (".dump FILE", "lines that make this graph in a new store; without FILE they are shown"),
+    (".backup FOLDER", "a checked copy of the store in a new folder"),
+    (".drop ID", "deletes a node with its edges, in one transaction"),
+    (".quit", "leaves"),
+]
+VALUES = "A value is a number, true, false, or a text between two ' or two \". docs/CONSOLE.md says more."
+# Steps and words, for completion.
+STEP = re.compile(r"\.([A-Za-z]+)\(")
+STEPS = sorted({*STEP.findall(" ".join(line for line, _ in HELP)), "in", "both", "inE", "bothE", "inV"} - {"V", "E"})
+WORDS_AFTER = {
+    "set": ["node", "edge"], "unset": ["node", "edge"], "delete": ["node", "edge"], "expand": ["out", "in", "both"],
+}
+
+
+class State:
+    """What the prompt shows: whether a transaction is open, and whether the session has failed."""
+
+    def __init__(self) -> None:
+        self.now = "live"
+
+    def follows(self, line: bytes, reply: bytes) -> None:
+        """Takes note of a line and the last line of its reply."""
+        word = line.split()[0] if line.split() else b""
+        if reply == b"error failed":
+            self.now = "failed"
+        elif word == b"reopen" and (reply == b"ok" or reply == b"fault disk" or reply.startswith(b"damaged")):
+            self.now = "live" if reply == b"ok" else "failed"
+        elif reply == b"fault disk":
+            if word in (b"commit", b"checkpoint") or word in CHANGES and self.now == "live":
+                self.now = "failed"
+        elif reply == b"ok" and word in (b"begin", b"commit", b"rollback"):
+            self.now = "open" if word == b"begin" else "live"
+        elif reply == b"error transaction open":
+            self.now = "open"
+
+
+def help_lines(word: str) -> List[str]:
+    """The help, its lines with the word alone where one is given."""
+    found = [(line, does) for line, does in HELP + DOTS if word in line or word in does]
+    told = [f"  {line:<28}{does}" for line, does in found]
+    return [*told, VALUES] if found else [f"  no line has {word!r}; .help alone tells all"]
+
+
+# --- places of faults
+
+
+def columns(text: str) -> int:
+    """How many columns of a terminal a text takes."""
+    return sum(0 if unicodedata.combining(it) else 2 if unicodedata.east_asian_width(it) in "WF" else 1 for it in text)
+
+
+def place_of(reply: bytes) -> Optional[int]:
+    found = PLACED.fullmatch(reply)
+    return int(found[1]) if found else None
+
+
+def under(line: bytes, at: int, prompt: str, width: int) -> str:
+    """What to show under a typed line for the fault at this byte: a caret, and above it the piece of the line there,
+    unless that stands above it as it was typed."""
+    before, rest = (it.decode(errors="replace") for it in (line[:at], line[at:]))
+    place = len(prompt) + columns(before)
+    if (before + rest).isprintable() and len(prompt) + columns(before + rest) < width:
+        return " " * place + "^"
+    before, start = before[-width:], "  " if len(before) <= width else "  .."
+    while columns(before) > width // 2:
+        before, start = before[1:], "  .."
+    shown = "".join(it if it.isprintable() else "\N{REPLACEMENT CHARACTER}" for it in before.replace("\t", " "))
+    rest = "".join(it if it.isprintable() else " " for it in rest)[: width // 4]
+    return f"{start}{shown}{rest}\n{' ' * (len(start) + columns(shown))}^"
+
+
+# --- completion
+
+
+def is_in_quotes(before: str) -> bool:
+    quote = ""
+    for it in re.sub(r"\\.", "", before):
+        quote = it if not quote and it in "'\"" else "" if it == quote else quote
+    return bool(quote)
+
+
+def completions(before: str, begun: str, names: Sequence[str]) -> List[str]:
+    """What may follow: `begun` is the word at the cursor, and `before` the line up to it."""
+    first, words = before.lstrip(), before.split()
+    if is_in_quotes(before):
+        found = list(names)
+    elif not first:
+        found = sorted({line.split()[0] for line, _ in HELP if line[0] != "."})
+    elif first == ".":
+        found = [line.split()[0][1:] for line, _ in DOTS]
+    elif first.startswith("g"):
+        found = [it + "(" for it in STEPS] if before.rstrip().endswith((".", "(")) else []
+    else:
+        found = [*(WORDS_AFTER.get(words[0], []) if len(words) == 1 or words[0] == "expand" else []), *names]
+    return [it for it in found if it.startswith(begun)]

@@ -1,0 +1,143 @@
+"""Shows the results of lines: as the program has them, as a table, as CSV or as JSON, and long ones by a pager."""
+
+from __future__ import annotations
+
+import json
+import os
+import re
+import shutil
+import subprocess
+import sys
+from typing import Any, Dict, Iterable, Iterator, List, Optional, Sequence, Tuple
+
+from nipakeel_tools.client import Program
+from nipakeel_tools.lines import columns
+from nipakeel_tools.query import EDGE, VERTEX, Asking, pages
+from nipakeel_tools.values import Value, plain, to_bytes, value_of
+from nipakeel_tools.writers import field
+
+MODES = ("lines", "table", "csv", "json")
+# A value in a table has at most so many columns.
+WIDEST = 60
+# How a query ends whose results are values of keys that it names.
+KEYED = re.compile(r"(?P<elements>[ \t]*g.*?)\.[ \t]*values[ \t]*\([ \t]*(?P<keys>'\w+'(?:[ \t]*,[ \t]*'\w+')*)[ \t]*\)[ \t]*", re.S)
+# A row of a table: values by the names of their columns.
+Shown = Dict[str, Value]
+
+
+class Output:
+    """Where replies go: standard output, and a pager once they are longer than the terminal is high."""
+
+    def __init__(self) -> None:
+        self.words = os.environ.get("PAGER") or (shutil.which("less") and "less -S") or ""
+        self.pages = bool(self.words) and sys.stdout.isatty() and os.environ.get("TERM", "dumb") != "dumb"
+        self.pager: Optional[subprocess.Popen[bytes]] = None
+        self.held: List[str] = []
+
+    def writes(self, lines: Sequence[str]) -> None:
+        """Shows lines. Raises `BrokenPipeError` where the pager was left."""
+        if self.pager is None:
+            print("\n".join(lines), flush=True)
+            self.held += lines if self.pages else []
+            if self.pages and len(self.held) >= shutil.get_terminal_size().lines:
+                self.begins_pager()
+        else:
+            self.feeds(lines)
+
+    def begins_pager(self) -> None:
+        self.pager = subprocess.Popen(self.words, shell=True, stdin=subprocess.PIPE)
+        self.feeds(self.held)
+
+    def feeds(self, lines: Sequence[str]) -> None:
+        assert self.pager and self.pager.stdin
+        self.pager.stdin.write("".join(it + "\n" for it in lines).encode(errors="replace"))
+        self.pager.stdin.flush()
+
+    def ends(self) -> None:
+        """Waits until the pager is left."""
+        self.held = []
+        if self.pager is not None:
+            try:
+                self.pager.communicate()
+            except BrokenPipeError:
+                pass
+            self.pager.wait()
+            self.pager = None
+
+
+# --- rows
+
+
+def rows_of(results: Iterable[bytes]) -> Iterator[Shown]:
+    """The results of any query: vertices, edges or values."""
+    for it in results:
+        vertex, edge = VERTEX.fullmatch(it), EDGE.fullmatch(it)
+        if vertex:
+            yield {"node": int(vertex[1])}
+        elif edge:
+            yield {"edge": int(edge[1]), "from": int(edge[2]), "type": edge[3].decode(), "to": int(edge[4])}
+        else:
+            yield {"value": value_of(it)}
+
+
+def keyed_rows(program: Program, elements: str, keys: Sequence[str]) -> List[Shown]:
+    """For each element that a query gives, its values of these keys, each in its column."""
+    results = list(program.results(to_bytes(elements)))
+    asked = Asking(lambda: program, keys, leaves_out=True)
+    found: Dict[bytes, Shown] = {}
+    for kind, form in (("V", VERTEX), ("E", EDGE)):
+        named = {int(at[1]): it for it in results if (at := form.fullmatch(it))}
+        for page in pages(named):
+            for it in asked.elements(kind, page):
+                found[named[it.id]] = it.properties
+    return [{key: found[it][key] for key in keys if key in found[it]} for it in results]
+
+
+def keyed(line: str) -> Optional[Tuple[str, List[str]]]:
+    """The elements and the keys of a query whose results are values of keys that it names."""
+    match = KEYED.fullmatch(line)
+    return (match["elements"], list(dict.fromkeys(re.findall(r"\w+", match["keys"])))) if match else None
+
+
+# --- forms
+
+
+def header_of(rows: Sequence[Shown], keys: Sequence[str]) -> List[str]:
+    return list(keys) or list(dict.fromkeys(key for it in rows for key in it))
+
+
+def as_table(rows: Sequence[Shown], keys: Sequence[str]) -> List[str]:
+    """Columns as wide as their values, numbers to the right."""
+    header = header_of(rows, keys)
+    cells = [[cell(it[key]) if key in it else "" for key in header] for it in rows]
+    widths = [max([columns(key), *(columns(it[at]) for it in cells)]) for at, key in enumerate(header)]
+    right = [all(is_number(it.get(key, 0)) for it in rows) for key in header]
+    lines = [header, ["-" * width for width in widths], *cells]
+    return ["  ".join(padded(*it) for it in zip(line, widths, right)).rstrip() for line in lines] if header else []
+
+
+def is_number(value: Value) -> bool:
+    return isinstance(value, int) and not isinstance(value, bool)
+
+
+def cell(value: Value) -> str:
+    said = "".join(it if it.isprintable() else "\N{REPLACEMENT CHARACTER}" for it in plain(value))
+    return said if len(said) <= WIDEST else said[: WIDEST - 2] + ".."
+
+
+def padded(text: str, width: int, right: bool) -> str:
+    blanks = " " * (width - columns(text))
+    return blanks + text if right else text + blanks
+
+
+def as_csv(rows: Sequence[Shown], keys: Sequence[str]) -> List[str]:
+    header = header_of(rows, keys)
+    lines = [[field(plain(it[key])) if key in it else "" for key in header] for it in rows]
+    return [",".join(line) for line in [header, *lines]] if header else []
+
+
+def as_json(rows: Sequence[Shown], keys: Sequence[str]) -> List[str]:
+    return [json.dumps(it) for it in rows]
+
+
+FORMS: Dict[str, Any] = {"table": as_table, "csv": as_csv, "json": as_json}
