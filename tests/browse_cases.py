@@ -3,6 +3,7 @@
 import contextlib
 import http.client
 import json
+import pathlib
 import signal
 import subprocess
 import sys
@@ -80,10 +81,13 @@ def who_is_served(folder):
         assert gets(address, "ask", "POST", '{"line":"stats"}', **{"Content-Type": "text/plain"})[0] == 400
         assert gets(address, "ask", "POST", "{", **{"Content-Type": "application/json"})[0] == 400
         assert gets(address, "ask", "POST", "x" * 70_000, **{"Content-Type": "application/json"})[0] == 400
-        parts = urllib.parse.urlsplit(address)
-        assert subprocess.run(["ss", "-ltnH", f"sport = :{parts.port}"], capture_output=True).stdout.split()[3:4] in (
-            [], [f"127.0.0.1:{parts.port}".encode()]
-        )
+        assert listening(urllib.parse.urlsplit(address).port) == ["0100007F"], "the loopback address alone"
+
+
+def listening(port):
+    """The addresses at which something listens on a port, as the system writes them."""
+    lines = [it.split() for it in pathlib.Path("/proc/net/tcp").read_text().splitlines()[1:]]
+    return [it[1].split(":")[0] for it in lines if it[3] == "0A" and it[1].endswith(f":{port:04X}")]
 
 
 def what_is_answered(folder):
