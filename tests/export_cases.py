@@ -341,7 +341,7 @@ def forms_that_cannot(folder):
         here = folder / str(number)
         graph(here, lines)
         words = ["--nodes", "n.csv", "--graphml", "g.xml", "--keys", "note,label,labelV"]
-        exports(here, words, REFUSED, says)
+        exports_not(here, words, REFUSED, says)
         assert not list(here.glob("*.csv*")) + list(here.glob("*.xml*")), f"{list(here.iterdir())}"
         exports(here, words[:2] + words[4:])
 

@@ -87,6 +87,7 @@ class Import:
     def run(self) -> None:
         with contextlib.ExitStack() as after:
             self.journal = Journal(self.options.journal, self.options.anew)
+            after.callback(self.journal.close)
             self.start()
             after.callback(self.stop)
             counts = self.program.counts()

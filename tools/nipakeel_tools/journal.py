@@ -125,6 +125,11 @@ class Journal:
         self.is_empty = not new and not anew and not os.path.getsize(path)
         self.load(anew)
 
+    def close(self) -> None:
+        """Gives the lock back, once the program has ended."""
+        self.file.close()
+        os.close(self.kept)
+
     def load(self, anew: bool) -> None:
         self.file.seek(0)
         held = self.file.read()

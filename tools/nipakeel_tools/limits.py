@@ -11,9 +11,9 @@ SHORT_TEXT, BLOCK = 40, 48
 DEFAULT_THRESHOLD = 50
 
 # The weights: the most of a transaction, that of one with no change, and of the changes that an import makes.
-MOST_WEIGHT, LEAST_WEIGHT = 2_048, 6
+MOST_WEIGHT, LEAST_WEIGHT = 2_048, 7
 NODE_WEIGHT, EDGE_WEIGHT = 1, 9
 
 # The files of a store. Records are of 64 bytes; those of names have their length and their bytes in these places.
-FILES = tuple(f"graph.{number}" for number in range(8))
+FILES = tuple(f"graph.{number}" for number in range(9))
 NAMES_FILE, RECORD, NAMED, NAME_LENGTH, NAME_TEXT = "graph.6", 64, 1, 1, 8

@@ -1,4 +1,3 @@
-pub mod ChainFault
 pub mod Chains
 pub mod Heads
 pub mod Links

@@ -11,8 +11,8 @@ use Rattle.store_rules.specs.Views.{Records}
 use Rattle.chain_edit.specs.Chains.{ChangeOnly, IsChainAt, IsChainFrom, ShareNoLink, next_place}
 use Rattle.chain_edit.specs.Chains.{prev_of, prev_place}
 use Rattle.chain_edit.specs.Links.{IsLinkDamage, backed, next_set}
-use Rattle.chain_edit.specs.declared.chain_fault.ChainFault.{ChainFault}
-use Rattle.chain_edit.specs.declared.chain_fault.ChainFault.TheVariants.{Memory, Disk, Damaged}
+use Rattle.rec_bytes.specs.declared.fault.Fault.{Fault}
+use Rattle.rec_bytes.specs.declared.fault.Fault.TheVariants.{Memory, Disk, Damaged}
 
 -- the relationship leads to the old first one, which leads back to it, and the head leads to it
 unfoldable pub pushed : State → Head → ℕ → ℕ → State
@@ -40,7 +40,7 @@ abbrev pub first_damage : Key → Damage
 first_damage key = record { file = key.file; id = key.id; rule = 1 }
 
 -- a head that is said to be damaged leads nowhere
-abbrev pub IsPushFault : State → Head → ChainFault → Type 0
+abbrev pub IsPushFault : State → Head → Fault → Type 0
 IsPushFault s head Memory = Unit {0}
 IsPushFault s head Disk = Unit {0}
 IsPushFault s head (Damaged damage) =

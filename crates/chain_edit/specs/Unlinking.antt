@@ -11,8 +11,8 @@ use Rattle.rel_store.specs.RelRecord.{range_damage, rel_key}
 use Rattle.chain_edit.specs.Chains.{ChangeOnly, IsChainAt, IsChainFrom, ShareNoLink, next_of}
 use Rattle.chain_edit.specs.Chains.{next_place, prev_of, prev_place, without}
 use Rattle.chain_edit.specs.Links.{IsLinkDamage, backed, next_set, number_set}
-use Rattle.chain_edit.specs.declared.chain_fault.ChainFault.{ChainFault}
-use Rattle.chain_edit.specs.declared.chain_fault.ChainFault.TheVariants.{Memory, Disk, Damaged}
+use Rattle.rec_bytes.specs.declared.fault.Fault.{Fault}
+use Rattle.rec_bytes.specs.declared.fault.Fault.TheVariants.{Memory, Disk, Damaged}
 
 -- the relationship with none before it and none after it
 abbrev pub alone : Rec → ℕ → Rec
@@ -56,7 +56,7 @@ pub record HasUnlinked (old new : Records) (head : Head) (node rel : ℕ) (xs : 
       ∷ prev_place old node (next_of old node rel) ∷ [])
 
 -- a relationship that is said to be damaged has a link that leads nowhere
-abbrev pub IsUnlinkFault : State → ℕ → ℕ → ChainFault → Type 0
+abbrev pub IsUnlinkFault : State → ℕ → ℕ → Fault → Type 0
 IsUnlinkFault s node rel Memory = Unit {0}
 IsUnlinkFault s node rel Disk = Unit {0}
 IsUnlinkFault s node rel (Damaged damage) =

@@ -9,8 +9,8 @@ use Rattle.rel_store.specs.declared.edge_row.EdgeRow.{EdgeRow}
 use Rattle.rel_store.specs.Loading.{mark_damage, rel_mark, rel_room}
 use Rattle.rel_store.specs.RelRecord.{edge_of}
 use Rattle.chain_edit.specs.Chains.{next_of}
-use Rattle.chain_edit.specs.declared.chain_fault.ChainFault.{ChainFault}
-use Rattle.chain_edit.specs.declared.chain_fault.ChainFault.TheVariants.{Memory, Disk, Damaged}
+use Rattle.rec_bytes.specs.declared.fault.Fault.{Fault}
+use Rattle.rec_bytes.specs.declared.fault.Fault.TheVariants.{Memory, Disk, Damaged}
 
 -- the row of a relationship's record
 abbrev pub edge_at : Records → ℕ → EdgeRow
@@ -45,7 +45,7 @@ pub data IsWalkDamage (s : State) (first node budget : ℕ) : Damage → Type 0 
       → IsWalkDamage s first node budget (chain_damage node)
   HighMark : rel_room s < rel_mark s → IsWalkDamage s first node budget mark_damage
 
-abbrev pub IsWalkFault : State → ℕ → ℕ → ℕ → ChainFault → Type 0
+abbrev pub IsWalkFault : State → ℕ → ℕ → ℕ → Fault → Type 0
 IsWalkFault s first node budget Memory = Unit {0}
 IsWalkFault s first node budget Disk = Unit {0}
 IsWalkFault s first node budget (Damaged damage) = IsWalkDamage s first node budget damage

@@ -3,14 +3,12 @@
 //! Only a walk takes memory of its own, for its rows.
 #![tactic(auto)]
 
-mod chain_fault;
 mod head;
 mod links;
 mod pushing;
 mod unlinking;
 mod walking;
 
-pub use chain_fault::ChainFault;
 pub use head::Head;
 pub use pushing::push_front;
 pub use unlinking::unlink;

@@ -7,11 +7,10 @@ ghost use Rattle.rel_store.specs.RelRecord.{rel_key};
 ghost use Rattle.chain_edit.specs.Links.{IsKnownLink, IsLinkDamage, IsRightLink, backed, next_set};
 ghost use Rattle.chain_edit.specs.Links.{prev_set};
 
-use rec_bytes::{Damage, Key, META, NIL, RELATIONSHIPS, Reads, Space, SpaceFault, room_of};
+use rec_bytes::{
+    Damage, Key, META, NIL, RANGE_RULE, RELATIONSHIPS, Reads, Space, SpaceFault, room_of,
+};
 use rel_store::{Linked, place_of};
-
-/// The rule that the numbers of a record are ones that may stand there.
-pub(crate) const RANGE_RULE: u8 = 1;
 
 /// Tests a link. It is none, or it leads to a relationship below the mark, and there is room for as
 /// many. Where it leads nowhere, the damage is the one that is named.
@@ -49,7 +48,6 @@ pub(crate) fn set_next<S: Space>(
         → OnOk result (S.state space.new ≡ next_set (S.state space.old) node id to) }
     ensures err { OnErr result (S.state space.new ≡ after_get (S.state space.old)) }
     ensures writes { WritesOnly (S.state space.old) (S.state space.new) (rel_key id ∷ []) }
-    ensures shape { S.tells → (S.state space.new).shape ≡ (S.state space.old).shape }
     ensures onward { S.onward space.old space.new }
     ensures cause { HasCause (S.faults space.old) (S.faults space.new) result }
 {
@@ -69,7 +67,6 @@ fn set_previous<S: Space>(space: &mut S, id: u32, node: u32, to: u32) -> Result<
         → OnOk result (S.state space.new ≡ prev_set (S.state space.old) node id to) }
     ensures err { OnErr result (S.state space.new ≡ after_get (S.state space.old)) }
     ensures writes { WritesOnly (S.state space.old) (S.state space.new) (rel_key id ∷ []) }
-    ensures shape { S.tells → (S.state space.new).shape ≡ (S.state space.old).shape }
     ensures onward { S.onward space.old space.new }
     ensures cause { HasCause (S.faults space.old) (S.faults space.new) result }
 {
@@ -88,7 +85,6 @@ pub(crate) fn back<S: Space>(space: &mut S, id: u32, node: u32, to: u32) -> Resu
     requires { id ≢ NIL → IsKey (rel_key id) }
     ensures ok { S.tells → OnOk result (S.state space.new ≡ backed (S.state space.old) node id to) }
     ensures writes { WritesOnly (S.state space.old) (S.state space.new) (rel_key id ∷ []) }
-    ensures shape { S.tells → (S.state space.new).shape ≡ (S.state space.old).shape }
     ensures onward { S.onward space.old space.new }
     ensures cause { HasCause (S.faults space.old) (S.faults space.new) result }
 {

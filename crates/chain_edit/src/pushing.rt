@@ -3,24 +3,19 @@ ghost use Rattle.rec_bytes.specs.Key.{IsKey};
 ghost use Rattle.rec_bytes.specs.Space.{after_get, WritesOnly};
 ghost use Rattle.store_rules.specs.Rules.{first_of};
 ghost use Rattle.rel_store.specs.RelRecord.{rel_key};
-ghost use Rattle.chain_edit.specs.ChainFault.{HasChainCause, NotDamaged, OnDamage};
+ghost use Rattle.rec_bytes.specs.Fault.{HasFaultCause, NotDamaged, OnDamage};
 ghost use Rattle.chain_edit.specs.Heads.{head_of, IsHead};
 ghost use Rattle.chain_edit.specs.Links.{IsKnownLink, IsRightLink};
 ghost use Rattle.chain_edit.specs.Pushing.{CanPush, HasPushed, IsPushFault, pushed};
 
-use crate::links::{RANGE_RULE, back, set_next, test_link};
-use crate::{ChainFault, Head};
-use rec_bytes::{Damage, Space};
+use crate::Head;
+use crate::links::{back, set_next, test_link};
+use rec_bytes::{Damage, Fault, RANGE_RULE, Space};
 
 /// Puts a relationship at the front of a chain of the node, and answers the one that stood first,
 /// or `NIL`. The head is damaged where its link leads nowhere, and then nothing is written.
 #[tactic(auto, unfolding(crate::specs::Pushing::pushed))]
-pub fn push_front<S: Space>(
-    space: &mut S,
-    head: Head,
-    node: u32,
-    rel: u32,
-) -> Result<u32, ChainFault>
+pub fn push_front<S: Space>(space: &mut S, head: Head, node: u32, rel: u32) -> Result<u32, Fault>
     requires head { IsHead (head_of head) }
     requires rel { IsKey (rel_key rel) }
     ensures chains { S.tells → OnOk result ((xs : List ℕ)
@@ -45,9 +40,8 @@ pub fn push_front<S: Space>(
         (rel_key first ∷ rel_key rel ∷ head.key ∷ [])) }
     ensures writes { (first : ℕ) × WritesOnly (S.state space.old) (S.state space.new)
         (rel_key first ∷ rel_key rel ∷ head.key ∷ []) }
-    ensures shape { S.tells → (S.state space.new).shape ≡ (S.state space.old).shape }
     ensures onward { S.onward space.old space.new }
-    ensures cause { HasChainCause (S.faults space.old) (S.faults space.new) result }
+    ensures cause { HasFaultCause (S.faults space.old) (S.faults space.new) result }
 {
     let mut rec = space.get(head.key)?;
     let first = rec.number(head.field);

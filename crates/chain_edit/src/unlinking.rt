@@ -2,21 +2,23 @@ ghost use Rattle.std.specs.Prelude.{◌≡◌, ◌≢◌, ◌∷◌, [], ℕ, Li
 ghost use Rattle.rec_bytes.specs.Key.{IsKey};
 ghost use Rattle.rec_bytes.specs.Space.{after_get, HasCause, WritesOnly};
 ghost use Rattle.rel_store.specs.RelRecord.{rel_key};
-ghost use Rattle.chain_edit.specs.ChainFault.{HasChainCause, NotDamaged, OnDamage};
+ghost use Rattle.rec_bytes.specs.Fault.{HasFaultCause, NotDamaged, OnDamage};
 ghost use Rattle.chain_edit.specs.Chains.{next_of, prev_of};
 ghost use Rattle.chain_edit.specs.Heads.{head_of, IsHead};
 ghost use Rattle.chain_edit.specs.Links.{IsKnownLink, IsRightLink};
 ghost use Rattle.chain_edit.specs.Unlinking.{CanUnlink, HasUnlinked, IsUnlinkFault, led, unlinked};
 
-use crate::links::{RANGE_RULE, back, set_next, test_link};
-use crate::{ChainFault, Head};
-use rec_bytes::{Damage, Key, NIL, RELATIONSHIPS, Space, SpaceFault, set_number};
+use crate::Head;
+use crate::links::{back, set_next, test_link};
+use rec_bytes::{
+    Damage, Fault, Key, NIL, RANGE_RULE, RELATIONSHIPS, Space, SpaceFault, set_number,
+};
 use rel_store::{Linked, place_of};
 
 /// Takes a relationship out of a chain of the node. It is damaged where a link of it leads nowhere,
 /// and then nothing is written.
 #[tactic(auto, unfolding(crate::specs::Unlinking::unlinked))]
-pub fn unlink<S: Space>(space: &mut S, head: Head, node: u32, rel: u32) -> Result<(), ChainFault>
+pub fn unlink<S: Space>(space: &mut S, head: Head, node: u32, rel: u32) -> Result<(), Fault>
     requires head { IsHead (head_of head) }
     requires rel { IsKey (rel_key rel) }
     ensures chains { S.tells → OnOk result ((xs : List ℕ)
@@ -40,9 +42,8 @@ pub fn unlink<S: Space>(space: &mut S, head: Head, node: u32, rel: u32) -> Resul
         ∷ rel_key (next_of (S.state space.old).records node rel) ∷ head.key ∷ []) }
     ensures writes { (before after : ℕ) × WritesOnly (S.state space.old) (S.state space.new)
         (rel_key before ∷ rel_key rel ∷ rel_key after ∷ head.key ∷ []) }
-    ensures shape { S.tells → (S.state space.new).shape ≡ (S.state space.old).shape }
     ensures onward { S.onward space.old space.new }
-    ensures cause { HasChainCause (S.faults space.old) (S.faults space.new) result }
+    ensures cause { HasFaultCause (S.faults space.old) (S.faults space.new) result }
 {
     let key = Key {
         file: RELATIONSHIPS,
@@ -83,7 +84,6 @@ fn lead<S: Space>(
         (S.state space.new ≡ led (S.state space.old) (head_of head) node before after) }
     ensures writes { WritesOnly (S.state space.old) (S.state space.new)
         (rel_key before ∷ head.key ∷ []) }
-    ensures shape { S.tells → (S.state space.new).shape ≡ (S.state space.old).shape }
     ensures onward { S.onward space.old space.new }
     ensures cause { HasCause (S.faults space.old) (S.faults space.new) result }
 {

@@ -1,17 +1,13 @@
 ghost use Rattle.std.specs.Prelude.{◌≡◌, ◌≤◌, ℕ, List, length, IfErr, IfOk};
 ghost use Rattle.rec_bytes.specs.Space.{after_gets};
 ghost use Rattle.rel_store.specs.Loading.{rel_mark, rel_room};
-ghost use Rattle.chain_edit.specs.ChainFault.{HasChainCause, NotDamaged};
+ghost use Rattle.rec_bytes.specs.Fault.{HasFaultCause, NotDamaged};
 ghost use Rattle.chain_edit.specs.Walking.{HasWalked, IsSoundWalk, IsWalkFault, ReadsAtMost};
 
-use crate::ChainFault;
 use crate::links::test_link;
-use rec_bytes::{Damage, Key, NIL, NODES, RELATIONSHIPS, Reads};
+use rec_bytes::{CHAIN_RULE, Damage, Fault, Key, NIL, NODES, RELATIONSHIPS, Reads};
 use rel_store::{EdgeRow, Linked, place_of};
 use std::alloc::Global;
-
-/// The rule that the chains of a node end, and list the relationships at it.
-const CHAIN_RULE: u8 = 3;
 
 /// The relationships of a chain of the node from one on, in order. The node is damaged where the
 /// chain has more than so many or leads nowhere.
@@ -21,7 +17,7 @@ pub fn walk<R: Reads>(
     first: u32,
     node: u32,
     budget: u32,
-) -> Result<Vec<EdgeRow>, ChainFault>
+) -> Result<Vec<EdgeRow>, Fault>
     ensures rows { R.tells → IfOk result
         (λ rows. HasWalked (R.state space.old) first node budget rows.items) }
     ensures reads { IfOk result
@@ -32,7 +28,7 @@ pub fn walk<R: Reads>(
         → (xs : List ℕ) → IsSoundWalk (R.state space.old) first node budget xs
         → NotDamaged result }
     ensures onward { R.onward space.old space.new }
-    ensures cause { HasChainCause (R.faults space.old) (R.faults space.new) result }
+    ensures cause { HasFaultCause (R.faults space.old) (R.faults space.new) result }
 {
     let broken = Damage {
         file: NODES,
@@ -54,10 +50,7 @@ pub fn walk<R: Reads>(
         at = rec.link(place_of(&rec, node) + 4);
     }
     if at != NIL {
-        return Err(ChainFault::Damaged(broken));
+        return Err(Fault::Damaged(broken));
     }
     Ok(rows)
 }
-
-#[cfg(test)]
-mod tests;

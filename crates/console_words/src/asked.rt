@@ -1,7 +1,7 @@
 use crate::{RunOptions, SampleOptions};
 
 /// What the words ask for.
-#[derive(Clone, Copy, Debug, PartialEq, Eq)]
+#[derive(Clone, Copy)]
 pub enum Asked {
     /// A run over the store.
     Run(RunOptions),

@@ -1,5 +1,5 @@
 /// The options of a run; those that aren't given are left open.
-#[derive(Clone, Copy, Debug, PartialEq, Eq)]
+#[derive(Clone, Copy)]
 pub struct RunOptions {
     /// The number behind `--threshold`, 2 to 200.
     pub threshold: Option<u16>,

@@ -7,6 +7,7 @@ use Rattle.disk_model.specs.declared.call_log.KeptCall.{KeptCall}
 use Rattle.disk_model.specs.declared.call_log.KeptCall.TheVariants as kept
 use Rattle.disk_model.specs.Calls.{Call, Wrote, Tore, Synced, bytes_kept}
 use Rattle.disk_model.specs.CallLog.{call_of, calls_of, IsKeptWithin, IsLog}
+use Rattle.disk_model.specs.Contents.{IsFile}
 
 part-more : (bytes more : List ℕ) (start len : ℕ) → start + len ≤ length bytes → take len (drop start (bytes ++ more)) ≡ take len (drop start bytes)
 part-more bytes more start len within = grind (arith, common_steps)
@@ -49,20 +50,20 @@ calls_of-wrote calls bytes more file at log =
     ∙ ap (λ cs. cs ++ Wrote file at (take (length more) (drop (length bytes) (bytes ++ more))) ∷ []) (calls_of-more bytes more calls log.within)
     ∙ ap (λ part. calls_of calls bytes ++ Wrote file at part ∷ []) (last-part bytes more)
 
-pub IsLog-wrote : (calls : List KeptCall) (bytes more : List ℕ) (file at : ℕ) → file ≤ 7 → IsLog calls bytes → IsLog (calls ++ kept.Wrote file at (length bytes) (length more) ∷ []) (bytes ++ more)
+pub IsLog-wrote : (calls : List KeptCall) (bytes more : List ℕ) (file at : ℕ) → IsFile file → IsLog calls bytes → IsLog (calls ++ kept.Wrote file at (length bytes) (length more) ∷ []) (bytes ++ more)
 IsLog-wrote calls bytes more file at known log = record {
   within = within-push (length bytes) (length (bytes ++ more)) calls (kept.Wrote file at (length bytes) (length more)) (omega (arith, length-append bytes more)) log.within (known, omega (arith, length-append bytes more));
   count = ap bytes_kept (calls_of-wrote calls bytes more file at log) ∙ bytes_kept-push (calls_of calls bytes) (Wrote file at more) ∙ omega (arith, log.count, length-append bytes more);
 }
 
 -- a failed write or a sync more
-pub IsLog-tore : (calls : List KeptCall) (bytes : List ℕ) (file at len : ℕ) → file ≤ 7 → IsLog calls bytes → IsLog (calls ++ kept.Tore file at len ∷ []) bytes
+pub IsLog-tore : (calls : List KeptCall) (bytes : List ℕ) (file at len : ℕ) → IsFile file → IsLog calls bytes → IsLog (calls ++ kept.Tore file at len ∷ []) bytes
 IsLog-tore calls bytes file at len known log = record {
   within = within-push (length bytes) (length bytes) calls (kept.Tore file at len) (omega arith) log.within known;
   count = ap bytes_kept (calls_of-push bytes calls (kept.Tore file at len)) ∙ bytes_kept-push (calls_of calls bytes) (Tore file at len) ∙ omega (arith, log.count);
 }
 
-pub IsLog-synced : (calls : List KeptCall) (bytes : List ℕ) (file : ℕ) → file ≤ 7 → IsLog calls bytes → IsLog (calls ++ kept.Synced file ∷ []) bytes
+pub IsLog-synced : (calls : List KeptCall) (bytes : List ℕ) (file : ℕ) → IsFile file → IsLog calls bytes → IsLog (calls ++ kept.Synced file ∷ []) bytes
 IsLog-synced calls bytes file known log = record {
   within = within-push (length bytes) (length bytes) calls (kept.Synced file) (omega arith) log.within known;
   count = ap bytes_kept (calls_of-push bytes calls (kept.Synced file)) ∙ bytes_kept-push (calls_of calls bytes) (Synced file) ∙ omega (arith, log.count);

@@ -3,7 +3,7 @@ use Rattle.std.proofs.Common.{◌≡◌, ⊎_elim, ℕ, ◌+◌, ◌-◌, ◌<�
 use Rattle.std.proofs.lemmas.Bool.{cases_eq, cases_lt, cond-false, and_from, and_left, and_right, eq-eqb, ne_eqb, le-leb, lt-leb, lt-ltb, le-ltb}
 use Rattle.std.proofs.lemmas.List.{get_or_read}
 use Rattle.disk_model.specs.Calls.{Call, Wrote, in_range, laid, content_after}
-use Rattle.disk_model.specs.Contents.{Files, poked}
+use Rattle.disk_model.specs.Contents.{Files, poked, IsFile}
 use Rattle.disk_model.specs.MemoryDisk.{IsRead}
 use Rattle.disk_model.specs.PlainDisk.{file_of, rooms_of, contents}
 use Rattle.disk_model.proofs.Files.{overwritten, rooms_of-write}
@@ -40,7 +40,7 @@ pub record WritesByte (files : List (List ℕ)) (file at byte : ℕ) (new : List
   pub fits : at + 1 ≤ length (file_of files file)
   pub is : new ≡ overwritten (file_of files file) at (byte ∷ [])
 
-pub WritesByte-poke : (base files : List (List ℕ)) (calls : List Call) (file at byte : ℕ) (old new : List ℕ) → IsRead base files calls → file ≤ 7 → at < length (file_of base file) → old ≡ get_or files file old → new ≡ overwritten old at (byte ∷ [])
+pub WritesByte-poke : (base files : List (List ℕ)) (calls : List Call) (file at byte : ℕ) (old new : List ℕ) → IsRead base files calls → IsFile file → at < length (file_of base file) → old ≡ get_or files file old → new ≡ overwritten old at (byte ∷ [])
     → WritesByte files file at byte new
 WritesByte-poke base files calls file at byte old new read file_known within old_is is =
     let known : file < length files = omega (arith, same_count files base read.same_rooms, read.count) in
@@ -51,7 +51,7 @@ WritesByte-poke base files calls file at byte old new read file_known within old
     }
 
 -- the byte has room in the file as it is read
-pub poke_fits : (base files : List (List ℕ)) (calls : List Call) (file at : ℕ) (old : List ℕ) → IsRead base files calls → file ≤ 7 → at < length (file_of base file) → old ≡ get_or files file old → at + 1 ≤ length old
+pub poke_fits : (base files : List (List ℕ)) (calls : List Call) (file at : ℕ) (old : List ℕ) → IsRead base files calls → IsFile file → at < length (file_of base file) → old ≡ get_or files file old → at + 1 ≤ length old
 poke_fits base files calls file at old read file_known within old_is =
     let known : file < length files = omega (arith, same_count files base read.same_rooms, read.count) in
     omega (arith, ap length (get_or_read files file old known old_is []), same_room files base file read.same_rooms)

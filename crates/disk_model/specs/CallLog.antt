@@ -1,8 +1,28 @@
 -- The kept calls as they lie in memory: each write names its range of one vector of bytes.
-use Rattle.std.specs.Prelude.{◌≡◌, ℕ, ◌+◌, ◌≤◌, List, length, map, take, drop, Bool, if◌then◌else◌, false, not, ◌&&◌, ◌||◌, ◌==◌, [], ◌∷◌}
+use Rattle.std.specs.Prelude.{
+  ◌≡◌,
+  ℕ,
+  ◌+◌,
+  ◌≤◌,
+  List,
+  length,
+  map,
+  take,
+  drop,
+  Bool,
+  if◌then◌else◌,
+  false,
+  not,
+  ◌&&◌,
+  ◌||◌,
+  ◌==◌,
+  [],
+  ◌∷◌,
+}
 use Rattle.disk_model.specs.declared.call_log.KeptCall.{KeptCall}
 use Rattle.disk_model.specs.declared.call_log.KeptCall.TheVariants as kept
 use Rattle.std.specs.List.{AllByRecursion}
+use Rattle.disk_model.specs.Contents.{IsFile}
 use Rattle.disk_model.specs.Calls.{Call, Wrote, Tore, Synced, bytes_kept, in_range}
 
 -- the kept calls, the oldest first, how many there may be, and how many bytes their writes may have
@@ -17,11 +37,11 @@ call_of bytes (kept.Wrote file at start len) = Wrote file at (take len (drop sta
 call_of bytes (kept.Tore file at len) = Tore file at len
 call_of bytes (kept.Synced file) = Synced file
 
--- the file is one of the eight, and a write's range lies within so many bytes
+-- the file is one of the disk's, and a write's range lies within so many bytes
 abbrev pub IsKeptWithin : ℕ → KeptCall → Type 0
-IsKeptWithin n (kept.Wrote file at start len) = (file ≤ 7) × (start + len ≤ n)
-IsKeptWithin n (kept.Tore file at len) = file ≤ 7
-IsKeptWithin n (kept.Synced file) = file ≤ 7
+IsKeptWithin n (kept.Wrote file at start len) = IsFile file × (start + len ≤ n)
+IsKeptWithin n (kept.Tore file at len) = IsFile file
+IsKeptWithin n (kept.Synced file) = IsFile file
 
 -- the file of a kept call
 abbrev pub kept_file : KeptCall → ℕ
@@ -49,7 +69,8 @@ kept_synced (call ∷ calls) file = kept_syncs call file || kept_synced calls fi
 -- whether one of the kept calls covers the place and no later one synced the file
 abbrev pub kept_pending : List KeptCall → ℕ → ℕ → Bool
 kept_pending [] file place = false
-kept_pending (call ∷ calls) file place = kept_pending calls file place || (kept_covers call file place && not (kept_synced calls file))
+kept_pending (call ∷ calls) file place =
+    kept_pending calls file place || (kept_covers call file place && not (kept_synced calls file))
 
 -- how many of the kept calls synced the file
 abbrev pub sync_count : List KeptCall → ℕ → ℕ

@@ -1,6 +1,27 @@
--- The calls that a disk in memory keeps, and the contents that they leave. A place of a file is pending where some call
--- wrote to it, or failed to, and no later call synced the file.
-use Rattle.std.specs.Prelude.{◌≡◌, ℕ, ◌+◌, ◌-◌, Bool, false, not, ◌&&◌, ◌||◌, if◌then◌else◌, nat_le, nat_lt, ◌==◌, List, [], ◌∷◌, ◌≤◌, ⊤, length, slice_index}
+-- The calls that a disk in memory keeps, and the contents that they leave. A place of a file is
+-- pending where some call wrote to it, or failed to, and no later call synced the file.
+use Rattle.std.specs.Prelude.{
+  ◌≡◌,
+  ℕ,
+  ◌+◌,
+  ◌-◌,
+  Bool,
+  false,
+  not,
+  ◌&&◌,
+  ◌||◌,
+  if◌then◌else◌,
+  nat_le,
+  nat_lt,
+  ◌==◌,
+  List,
+  [],
+  ◌∷◌,
+  ◌≤◌,
+  ⊤,
+  length,
+  slice_index,
+}
 use Rattle.disk_model.specs.Contents.{Files}
 use Rattle.disk_model.specs.PlainDisk.{file_of}
 
@@ -31,14 +52,18 @@ abbrev pub is_synced : List Call → ℕ → Bool
 is_synced [] file = false
 is_synced (call ∷ calls) file = syncs call file || is_synced calls file
 
--- whether one of the calls, which are oldest first, covers the place and no later one synced the file
+-- whether one of the calls, which are oldest first, covers the place and no later one synced the
+-- file
 abbrev pub is_pending : List Call → ℕ → ℕ → Bool
 is_pending [] file place = false
-is_pending (call ∷ calls) file place = is_pending calls file place || (covers call file place && not (is_synced calls file))
+is_pending (call ∷ calls) file place =
+    is_pending calls file place || (covers call file place && not (is_synced calls file))
 
 -- a content with the bytes of a write that succeeded laid over it
 abbrev pub laid : Call → Files → Files
-laid (Wrote file at bytes) content other place = if in_range file at (length bytes) other place then slice_index bytes (place - at) else content other place
+laid (Wrote file at bytes) content other place =
+    if in_range file at (length bytes) other place then slice_index bytes (place - at)
+    else content other place
 laid (Tore file at len) content other place = content other place
 laid (Synced file) content other place = content other place
 
@@ -49,7 +74,9 @@ content_after base (call ∷ calls) = content_after (laid call base) calls
 
 -- an image has, at each place that is not pending, the byte that a read gives
 abbrev pub Allows : Files → List Call → Files → Type 0
-Allows base calls image = (file place : ℕ) → is_pending calls file place ≡ false → image file place ≡ content_after base calls file place
+Allows base calls image =
+    (file place : ℕ) → is_pending calls file place ≡ false
+    → image file place ≡ content_after base calls file place
 
 -- how many bytes the writes that succeeded had
 abbrev pub bytes_kept : List Call → ℕ
@@ -61,7 +88,9 @@ bytes_kept (Synced file ∷ calls) = bytes_kept calls
 -- a content with the bytes of each write laid over it that a later call synced
 abbrev pub synced_content : Files → List Call → Files
 synced_content base [] = base
-synced_content base (call ∷ calls) = synced_content (λ file place. if is_synced calls file then laid call base file place else base file place) calls
+synced_content base (call ∷ calls) =
+    synced_content (λ file place. if is_synced calls file then laid call base file place
+    else base file place) calls
 
 -- a call's range lies within its file
 abbrev pub FitsFile : List (List ℕ) → Call → Type 0

@@ -9,13 +9,20 @@ use Rattle.disk_model.specs.PlainDisk.{contents}
 use Rattle.disk_model.specs.Places.{count_before}
 use Rattle.disk_model.specs.MemoryDisk.{MemoryDiskState, content_of}
 
--- how many pending places come before this one: all of the files before, and the lower ones of its own file
+-- how many pending places come before this one: all of the files before, and the lower ones of its
+-- own file
 abbrev pub pending_before : MemoryDiskState → ℕ → ℕ → ℕ
 pending_before disk file place = count_before (is_pending disk.calls) disk.base file place
 
--- the image of this choice: at a place that is not pending what a read gives, at a pending one what the choice says
+-- the image of this choice: at a place that is not pending what a read gives, at a pending one what
+-- the choice says
 abbrev pub left_by : Crash → MemoryDiskState → Files
-left_by Old disk file place = if is_pending disk.calls file place then synced_content (contents disk.base) disk.calls file place else content_of disk file place
+left_by Old disk file place =
+    if is_pending disk.calls file place
+    then synced_content (contents disk.base) disk.calls file place else content_of disk file place
 left_by New disk file place = content_of disk file place
-left_by (Fill byte) disk file place = if is_pending disk.calls file place then byte else content_of disk file place
-left_by (Mixed seed) disk file place = if is_pending disk.calls file place then drawn seed (pending_before disk file place) % 256 else content_of disk file place
+left_by (Fill byte) disk file place =
+    if is_pending disk.calls file place then byte else content_of disk file place
+left_by (Mixed seed) disk file place =
+    if is_pending disk.calls file place then drawn seed (pending_before disk file place) % 256
+    else content_of disk file place

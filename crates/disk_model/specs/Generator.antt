@@ -1,4 +1,5 @@
--- Numbers that are drawn one after another, each from a state of 64 bits. The seed is the first state.
+-- Numbers that are drawn one after another, each from a state of 64 bits. The seed is the first
+-- state.
 use Rattle.std.specs.Prelude.{ℕ, ◌+◌, ◌*◌, ◌/◌, ◌%◌, ◌^◌, zero, suc}
 
 -- the state after one draw more

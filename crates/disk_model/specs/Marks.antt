@@ -15,4 +15,7 @@ is_marked_in marks file place = is_marked (file_of marks file) place
 
 -- a content with the next byte drawn from the seed at each marked place, in order
 abbrev pub with_draws : ℕ → List (List ℕ) → Files → Files
-with_draws seed marks content file place = if is_marked_in marks file place then drawn seed (count_before (is_marked_in marks) marks file place) % 256 else content file place
+with_draws seed marks content file place =
+    if is_marked_in marks file place
+    then drawn seed (count_before (is_marked_in marks) marks file place) % 256
+    else content file place

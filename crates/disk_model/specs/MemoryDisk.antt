@@ -1,5 +1,23 @@
--- A disk in memory that can fail and can lose power: its state, when a call fails, and what a loss of power leaves.
-use Rattle.std.specs.Prelude.{◌≡◌, ◌⊎◌, ℕ, ◌+◌, ◌≤◌, ◌<◌, List, [], ◌∷◌, ◌++◌, length, take, Option, Some, None, refl}
+-- A disk in memory that can fail and can lose power: its state, when a call fails, and what a loss
+-- of power leaves.
+use Rattle.std.specs.Prelude.{
+  ◌≡◌,
+  ◌⊎◌,
+  ℕ,
+  ◌+◌,
+  ◌≤◌,
+  ◌<◌,
+  List,
+  [],
+  ◌∷◌,
+  ◌++◌,
+  length,
+  take,
+  Option,
+  Some,
+  None,
+  refl,
+}
 use Rattle.std.specs.List.{AllByRecursion, Contains}
 use Rattle.std.proofs.Common.{sym, subst}
 use Rattle.std.proofs.Math.Nat.{le_refl, le_antisymm}
@@ -9,9 +27,9 @@ use Rattle.disk_model.specs.Contents.{Files, Same}
 use Rattle.disk_model.specs.PlainDisk.{file_of, rooms_of, contents, rooms}
 use Rattle.disk_model.specs.Calls.{Call, Tore, FitsFile, Allows, content_after, bytes_kept}
 
--- The files as they were on the disk at first, and the kept calls since, the oldest first. The plan of faults: the
--- numbers of the calls that fail, and the number from which all fail. How many calls and bytes of writes have room, and
--- how many calls were made and how many failed.
+-- The files as they were on the disk at first, and the kept calls since, the oldest first. The plan
+-- of faults: the numbers of the calls that fail, and the number from which all fail. How many calls
+-- and bytes of writes have room, and how many calls were made and how many failed.
 pub record MemoryDiskState : Type 0 where
   pub base : List (List ℕ)
   pub calls : List Call
@@ -32,7 +50,9 @@ MayLeave disk image = Allows (contents disk.base) disk.calls image
 
 -- the contents that a loss of power may have left at some moment since t calls were kept
 abbrev pub LeftSince : MemoryDiskState → ℕ → Files → Type 0
-LeftSince disk t image = (k : ℕ) × (t ≤ k) × (k ≤ length disk.calls) × Allows (contents disk.base) (take k disk.calls) image
+LeftSince disk t image =
+    (k : ℕ) × (t ≤ k) × (k ≤ length disk.calls)
+    × Allows (contents disk.base) (take k disk.calls) image
 
 -- the call's number is this one or a later one
 abbrev pub IsStopped : Option ℕ → ℕ → Type 0
@@ -59,14 +79,21 @@ IsFull disk = disk.most_calls ≤ length disk.calls
 abbrev pub PassesBytes : MemoryDiskState → ℕ → Type 0
 PassesBytes disk n = disk.most_bytes < bytes_kept disk.calls + n
 
--- After a failing write: it is kept where the plan made it fail, its bytes don't pass the file's room, and one more call
--- has room; otherwise nothing changes but the counts.
+-- After a failing write: it is kept where the plan made it fail, its bytes don't pass the file's
+-- room, and one more call has room; otherwise nothing changes but the counts.
 abbrev pub IsAfterFailedWrite : MemoryDiskState → ℕ → ℕ → ℕ → MemoryDiskState → Type 0
 IsAfterFailedWrite old file at n new =
-    (NextFails old × (¬ PassesFile old file at n) × (¬ IsFull old) × (new ≡ record old { calls = old.calls ++ Tore file at n ∷ []; made = raised old.made; faults = raised old.faults }))
-    ⊎ ((¬ NextFails old ⊎ (PassesFile old file at n ⊎ IsFull old)) × (new ≡ record old { made = raised old.made; faults = raised old.faults }))
+    (NextFails old × (¬ PassesFile old file at n) × (¬ IsFull old) × (new ≡ record old {
+      calls =
+          old.calls ++ Tore file at n ∷ [];
+      made = raised old.made;
+      faults = raised old.faults;
+    }))
+    ⊎ ((¬ NextFails old ⊎ (PassesFile old file at n ⊎ IsFull old))
+    × (new ≡ record old { made = raised old.made; faults = raised old.faults }))
 
--- These files are what a read gives. Each has the room that it had in the base, and no kept call passes it.
+-- These files are what a read gives. Each has the room that it had in the base, and no kept call
+-- passes it.
 pub record IsRead (base files : List (List ℕ)) (calls : List Call) : Type 0 where
   pub count : length base ≡ length (rooms 0)
   pub same_rooms : rooms_of files ≡ rooms_of base
@@ -78,12 +105,20 @@ pub reads_image : (disk : MemoryDiskState) → MayLeave disk (content_of disk)
 reads_image disk file place settled = refl
 
 -- an image of now is one since each earlier moment
-pub image_counts : (disk : MemoryDiskState) (t : ℕ) (image : Files) → t ≤ length disk.calls → MayLeave disk image → LeftSince disk t image
-image_counts disk t image earlier leaves =
-    (length disk.calls, earlier, le_refl (length disk.calls), subst (λ calls. Allows (contents disk.base) calls image) (sym (take-length disk.calls)) leaves)
+pub image_counts : (disk : MemoryDiskState) (t : ℕ) (image : Files) → t ≤ length disk.calls
+    → MayLeave disk image → LeftSince disk t image
+image_counts disk t image earlier leaves = (
+  length disk.calls,
+  earlier,
+  le_refl (length disk.calls),
+  subst
+      (λ calls. Allows (contents disk.base) calls image) (sym (take-length disk.calls)) leaves,
+)
 
 -- since now there are the images of now alone
-pub image_only : (disk : MemoryDiskState) (image : Files) → LeftSince disk (length disk.calls) image → MayLeave disk image
+pub image_only : (disk : MemoryDiskState) (image : Files) → LeftSince disk (length disk.calls) image
+    → MayLeave disk image
 image_only disk image since =
     let is_now : since.0 ≡ length disk.calls = le_antisymm since.2 since.1 in
-    subst (λ calls. Allows (contents disk.base) calls image) (take-length disk.calls) (subst (λ k. Allows (contents disk.base) (take k disk.calls) image) is_now since.3)
+    subst (λ calls. Allows (contents disk.base) calls image) (take-length disk.calls)
+    (subst (λ k. Allows (contents disk.base) (take k disk.calls) image) is_now since.3)

@@ -10,7 +10,8 @@ count_below test (suc n) = count_below test n + (if test n then 1 else 0)
 -- how many places of the files before this one pass the test
 abbrev pub count_in_files : (ℕ → ℕ → Bool) → List (List ℕ) → ℕ → ℕ
 count_in_files test files zero = 0
-count_in_files test files (suc file) = count_in_files test files file + count_below (test file) (length (file_of files file))
+count_in_files test files (suc file) =
+    count_in_files test files file + count_below (test file) (length (file_of files file))
 
 -- how many places before this one pass the test
 abbrev pub count_before : (ℕ → ℕ → Bool) → List (List ℕ) → ℕ → ℕ → ℕ

@@ -9,7 +9,9 @@ pub record PlainDiskState : Type 0 where
 
 -- how many bytes each file has room for, in a store of at most `limit` records of each kind
 abbrev pub rooms : ℕ → List ℕ
-rooms limit = 448 ∷ (64 * limit) ∷ (64 * limit) ∷ (128 * limit) ∷ (64 * limit) ∷ (64 * limit) ∷ 262144 ∷ 1048576 ∷ []
+rooms limit =
+    576 ∷ (64 * limit) ∷ (64 * limit) ∷ (128 * limit) ∷ (64 * limit) ∷ (64 * limit) ∷ 262144
+    ∷ 1048576 ∷ (128 * limit) ∷ []
 
 -- the bytes of a file
 abbrev pub file_of : List (List ℕ) → ℕ → List ℕ

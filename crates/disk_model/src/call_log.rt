@@ -1,8 +1,51 @@
-ghost use Rattle.std.specs.Prelude.{◌≡◌, ◌≤◌, ◌<◌, ◌+◌, ◌++◌, ◌↔◌, ◌∷◌, [], ℕ, false, not, ◌&&◌, ◌||◌, if◌then◌else◌, nat_lt, length, slice_index, slice_index_or, ◌-◌, ◌^◌, IfOk, IsTrue};
+ghost use Rattle.std.specs.Prelude.{
+  ◌≡◌,
+  ◌≤◌,
+  ◌<◌,
+  ◌+◌,
+  ◌++◌,
+  ◌↔◌,
+  ◌∷◌,
+  [],
+  ℕ,
+  false,
+  not,
+  ◌&&◌,
+  ◌||◌,
+  if◌then◌else◌,
+  nat_lt,
+  length,
+  slice_index,
+  slice_index_or,
+  ◌-◌,
+  ◌^◌,
+  IfOk,
+  IsTrue,
+};
 ghost use Rattle.std.specs.List.{All, AllByRecursion};
-ghost use Rattle.disk_model.specs.CallLog.{kept_file, kept_covers, kept_syncs, kept_pending, call_of, calls_of, sync_count, IsKeptWithin};
-ghost use Rattle.disk_model.specs.Calls.{Wrote, Tore, Synced, bytes_kept, in_range, is_pending, laid, synced_content, FitsFile};
+ghost use Rattle.disk_model.specs.CallLog.{
+  kept_file,
+  kept_covers,
+  kept_syncs,
+  kept_pending,
+  call_of,
+  calls_of,
+  sync_count,
+  IsKeptWithin,
+};
+ghost use Rattle.disk_model.specs.Calls.{
+  Wrote,
+  Tore,
+  Synced,
+  bytes_kept,
+  in_range,
+  is_pending,
+  laid,
+  synced_content,
+  FitsFile,
+};
 ghost use Rattle.disk_model.specs.PlainDisk.{file_of, rooms_of, contents};
+ghost use Rattle.disk_model.specs.Contents.{IsFile, number_of_files};
 
 use crate::plain_file::PlainFile;
 use crate::rooms::FILES;
@@ -51,7 +94,11 @@ impl Model for CallLog {
 
     ghost Value = { CallLogState };
 
-    ghost view = { λ l. record { calls = calls_of l.calls.items l.bytes.items; most_calls = l.room.calls; most_bytes = l.room.bytes } };
+    ghost view = { λ l. record {
+      calls = calls_of l.calls.items l.bytes.items;
+      most_calls = l.room.calls;
+      most_bytes = l.room.bytes;
+    } };
 
     ghost invariant = { λ l. IsLog l.calls.items l.bytes.items
         × (vec_len l.calls ≤ l.room.calls) × (l.room.calls ≤ vec_capacity l.calls)
@@ -61,7 +108,8 @@ impl Model for CallLog {
 impl CallLog {
     /// A log of no call.
     pub(crate) fn new(alloc: Global, room: Room) -> Result<CallLog, AllocError>
-        ensures { IfOk result (λ log. log ≡ record { calls = []; most_calls = room.calls; most_bytes = room.bytes }) }
+        ensures { IfOk result (λ log. log
+            ≡ record { calls = []; most_calls = room.calls; most_bytes = room.bytes }) }
     {
         Ok(CallLog {
             calls: Vec::with_capacity(alloc, room.calls as usize)?,
@@ -79,7 +127,8 @@ impl CallLog {
 
     /// Whether one more call has room, with so many bytes.
     pub(crate) fn has_room(&self, len: usize) -> bool
-        ensures { IsTrue result ↔ ((length self.now.calls < self.now.most_calls) × (bytes_kept self.now.calls + len ≤ self.now.most_bytes)) }
+        ensures { IsTrue result ↔ ((length self.now.calls < self.now.most_calls)
+            × (bytes_kept self.now.calls + len ≤ self.now.most_bytes)) }
     {
         self.calls.len() < self.room.calls as usize
             && len <= self.room.bytes as usize - self.bytes.len()
@@ -87,10 +136,13 @@ impl CallLog {
 
     /// Keeps a write that succeeded.
     pub(crate) fn wrote(&mut self, file: u8, at: u64, bytes: &[u8])
-        requires file { file ≤ 7 }
+        requires file { IsFile file }
         requires calls { length self.old.calls < self.old.most_calls }
         requires bytes { bytes_kept self.old.calls + length bytes.now ≤ self.old.most_bytes }
-        ensures { self.new ≡ record self.old { calls = self.old.calls ++ Wrote file at bytes.now ∷ [] } }
+        ensures { self.new ≡ record self.old {
+          calls = self.old.calls ++ Wrote file at bytes.now
+              ∷ [];
+        } }
     {
         let start = self.bytes.len();
         self.bytes.extend_from_slice(bytes).unwrap();
@@ -106,7 +158,7 @@ impl CallLog {
 
     /// Keeps a write that failed by the plan.
     pub(crate) fn tore(&mut self, file: u8, at: u64, len: usize)
-        requires file { file ≤ 7 }
+        requires file { IsFile file }
         requires room { length self.old.calls < self.old.most_calls }
         ensures { self.new ≡ record self.old { calls = self.old.calls ++ Tore file at len ∷ [] } }
     {
@@ -115,7 +167,7 @@ impl CallLog {
 
     /// Keeps a sync that succeeded.
     pub(crate) fn synced(&mut self, file: u8)
-        requires file { file ≤ 7 }
+        requires file { IsFile file }
         requires room { length self.old.calls < self.old.most_calls }
         ensures { self.new ≡ record self.old { calls = self.old.calls ++ Synced file ∷ [] } }
     {
@@ -132,19 +184,24 @@ impl CallLog {
 
     /// Puts this byte at each place of the files that is pending.
     pub(crate) fn fill(&self, files: &mut [PlainFile], byte: u8)
-        requires { length files.old ≡ 8 }
+        requires { length files.old ≡ number_of_files }
         ensures rooms { rooms_of files.new ≡ rooms_of files.old }
-        ensures bytes { (file place : ℕ) → contents files.new file place ≡ (if is_pending self.now.calls file place && nat_lt place (length (file_of files.old file)) then byte else contents files.old file place) }
+        ensures bytes { (file place : ℕ)
+            → contents files.new file place
+            ≡ (if is_pending self.now.calls file place && nat_lt place
+            (length (file_of files.old file)) then byte else contents files.old file place) }
     {
         fill_pending(&self.calls, files, byte);
     }
 
     /// Lays over the files the bytes of each write that a later call synced.
     pub(crate) fn lay_synced(&self, files: &mut [PlainFile])
-        requires files { length files.old ≡ 8 }
+        requires files { length files.old ≡ number_of_files }
         requires fits { AllByRecursion (FitsFile files.old) self.now.calls }
         ensures rooms { rooms_of files.new ≡ rooms_of files.old }
-        ensures bytes { (file place : ℕ) → contents files.new file place ≡ synced_content (contents files.old) self.now.calls file place }
+        ensures bytes { (file place : ℕ)
+            → contents files.new file place
+            ≡ synced_content (contents files.old) self.now.calls file place }
     {
         lay_all(&self.calls, &self.bytes, files);
     }
@@ -152,7 +209,7 @@ impl CallLog {
 
 // How many of the calls synced each file.
 fn sync_counts(calls: &[KeptCall]) -> [usize; FILES]
-    requires { All (λ call. kept_file call ≤ 7) calls.now }
+    requires { All (λ call. IsFile (kept_file call)) calls.now }
     ensures { (file : ℕ) → slice_index result file ≡ sync_count calls.now file }
 {
     let mut counts = [0; FILES];
@@ -166,9 +223,10 @@ fn sync_counts(calls: &[KeptCall]) -> [usize; FILES]
 
 // Counts a sync.
 fn count_sync(call: KeptCall, counts: &mut [usize; FILES])
-    requires call { kept_file call ≤ 7 }
+    requires call { IsFile (kept_file call) }
     requires counts { (file : ℕ) → slice_index counts.old file < 2 ^ 64 - 1 }
-    ensures { (file : ℕ) → slice_index counts.new file ≡ (if kept_syncs call file then 1 else 0) + slice_index counts.old file }
+    ensures { (file : ℕ) → slice_index counts.new file
+        ≡ (if kept_syncs call file then 1 else 0) + slice_index counts.old file }
 {
     if let KeptCall::Synced { file } = call {
         counts[file as usize] += 1;
@@ -177,12 +235,14 @@ fn count_sync(call: KeptCall, counts: &mut [usize; FILES])
 
 // Lays over the files the bytes of each write that a later call synced.
 fn lay_all(calls: &[KeptCall], bytes: &[u8], files: &mut [PlainFile])
-    requires calls { All (λ call. kept_file call ≤ 7) calls.now }
+    requires calls { All (λ call. IsFile (kept_file call)) calls.now }
     requires within { AllByRecursion (IsKeptWithin (length bytes.now)) calls.now }
     requires fits { AllByRecursion (FitsFile files.old) (calls_of calls.now bytes.now) }
-    requires files { length files.old ≡ 8 }
+    requires files { length files.old ≡ number_of_files }
     ensures rooms { rooms_of files.new ≡ rooms_of files.old }
-    ensures bytes { (file place : ℕ) → contents files.new file place ≡ synced_content (contents files.old) (calls_of calls.now bytes.now) file place }
+    ensures bytes { (file place : ℕ)
+        → contents files.new file place
+        ≡ synced_content (contents files.old) (calls_of calls.now bytes.now) file place }
 {
     let mut counts = sync_counts(calls);
     for i in 0..calls.len() {
@@ -190,15 +250,21 @@ fn lay_all(calls: &[KeptCall], bytes: &[u8], files: &mut [PlainFile])
     }
 }
 
-// Lays the bytes of a write over its file where a later call syncs it, or takes a sync off the count.
+// Lays the bytes of a write over its file where a later call syncs it, or takes a sync off the
+// count.
 fn lay_call(call: KeptCall, bytes: &[u8], counts: &mut [usize; FILES], files: &mut [PlainFile])
     requires within { IsKeptWithin (length bytes.now) call }
     requires fits { FitsFile files.old (call_of bytes.now call) }
-    requires files { length files.old ≡ 8 }
+    requires files { length files.old ≡ number_of_files }
     requires counts { (file : ℕ) → IsTrue (kept_syncs call file) → 0 < slice_index counts.old file }
-    ensures counts { (file : ℕ) → slice_index counts.old file ≡ (if kept_syncs call file then 1 else 0) + slice_index counts.new file }
+    ensures counts { (file : ℕ) → slice_index counts.old file
+        ≡ (if kept_syncs call file then 1 else 0) + slice_index counts.new file }
     ensures rooms { rooms_of files.new ≡ rooms_of files.old }
-    ensures bytes { (file place : ℕ) → contents files.new file place ≡ (if nat_lt 0 (slice_index counts.new file) then laid (call_of bytes.now call) (contents files.old) file place else contents files.old file place) }
+    ensures bytes { (file place : ℕ)
+        → contents files.new file place
+        ≡ (if nat_lt 0 (slice_index counts.new file)
+        then laid (call_of bytes.now call) (contents files.old) file place
+        else contents files.old file place) }
 {
     match call {
         KeptCall::Wrote {
@@ -214,11 +280,15 @@ fn lay_call(call: KeptCall, bytes: &[u8], counts: &mut [usize; FILES], files: &m
 
 // Lays the bytes of a write over its file, where a later call syncs it.
 fn lay_write(file: u8, at: u64, part: &[u8], counts: &[usize; FILES], files: &mut [PlainFile])
-    requires file { file ≤ 7 }
+    requires file { IsFile file }
     requires fits { at + length part.now ≤ length (file_of files.old file) }
-    requires files { length files.old ≡ 8 }
+    requires files { length files.old ≡ number_of_files }
     ensures rooms { rooms_of files.new ≡ rooms_of files.old }
-    ensures bytes { (other place : ℕ) → contents files.new other place ≡ (if nat_lt 0 (slice_index counts.now other) then laid (Wrote file at part.now) (contents files.old) other place else contents files.old other place) }
+    ensures bytes { (other place : ℕ)
+        → contents files.new other place
+        ≡ (if nat_lt 0 (slice_index counts.now other)
+        then laid (Wrote file at part.now) (contents files.old) other place
+        else contents files.old other place) }
 {
     if counts[file as usize] > 0 {
         files[file as usize].write(at as usize, part);
@@ -227,10 +297,13 @@ fn lay_write(file: u8, at: u64, part: &[u8], counts: &[usize; FILES], files: &mu
 
 // Fills each range that no later call synced, from the newest call to the oldest.
 fn fill_pending(calls: &[KeptCall], files: &mut [PlainFile], byte: u8)
-    requires calls { All (λ call. kept_file call ≤ 7) calls.now }
-    requires files { length files.old ≡ 8 }
+    requires calls { All (λ call. IsFile (kept_file call)) calls.now }
+    requires files { length files.old ≡ number_of_files }
     ensures rooms { rooms_of files.new ≡ rooms_of files.old }
-    ensures bytes { (file place : ℕ) → contents files.new file place ≡ (if kept_pending calls.now file place && nat_lt place (length (file_of files.old file)) then byte else contents files.old file place) }
+    ensures bytes { (file place : ℕ)
+        → contents files.new file place
+        ≡ (if kept_pending calls.now file place && nat_lt place (length (file_of files.old file))
+        then byte else contents files.old file place) }
 {
     let mut synced = [false; FILES];
     let mut i = calls.len();
@@ -242,11 +315,16 @@ fn fill_pending(calls: &[KeptCall], files: &mut [PlainFile], byte: u8)
 
 // Fills the range of a kept call, where no later call synced its file, or notes its sync.
 fn fill_call(call: KeptCall, synced: &mut [bool; FILES], files: &mut [PlainFile], byte: u8)
-    requires call { kept_file call ≤ 7 }
-    requires files { length files.old ≡ 8 }
-    ensures synced { (file : ℕ) → slice_index_or synced.new file false ≡ (kept_syncs call file || slice_index_or synced.old file false) }
+    requires call { IsFile (kept_file call) }
+    requires files { length files.old ≡ number_of_files }
+    ensures synced { (file : ℕ) → slice_index_or synced.new file false
+        ≡ (kept_syncs call file || slice_index_or synced.old file false) }
     ensures rooms { rooms_of files.new ≡ rooms_of files.old }
-    ensures bytes { (file place : ℕ) → contents files.new file place ≡ (if (kept_covers call file place && not (slice_index_or synced.old file false)) && nat_lt place (length (file_of files.old file)) then byte else contents files.old file place) }
+    ensures bytes { (file place : ℕ)
+        → contents files.new file place
+        ≡ (if (kept_covers call file place && not
+        (slice_index_or synced.old file false)) && nat_lt place (length (file_of files.old file))
+        then byte else contents files.old file place) }
 {
     match call {
         KeptCall::Wrote { file, at, len, .. } => fill_range(file, at, len, synced, files, byte),
@@ -264,10 +342,14 @@ fn fill_range(
     files: &mut [PlainFile],
     byte: u8,
 )
-    requires file { file ≤ 7 }
-    requires files { length files.old ≡ 8 }
+    requires file { IsFile file }
+    requires files { length files.old ≡ number_of_files }
     ensures rooms { rooms_of files.new ≡ rooms_of files.old }
-    ensures bytes { (other place : ℕ) → contents files.new other place ≡ (if (in_range file at len other place && not (slice_index_or synced.now other false)) && nat_lt place (length (file_of files.old other)) then byte else contents files.old other place) }
+    ensures bytes { (other place : ℕ)
+        → contents files.new other place
+        ≡ (if (in_range file at len other place && not
+        (slice_index_or synced.now other false)) && nat_lt place (length (file_of files.old other))
+        then byte else contents files.old other place) }
 {
     if synced[file as usize] {
         return;

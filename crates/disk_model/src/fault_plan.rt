@@ -4,8 +4,8 @@ ghost use Rattle.disk_model.specs.MemoryDisk.{FailsAt, IsStopped};
 
 use fault_count::Count;
 
-/// Which calls of a disk in memory fail: those whose numbers are in `fails`, and all from the number
-/// `stop` on. The first call has the number 1.
+/// Which calls of a disk in memory fail: those whose numbers are in `fails`, and all from the
+/// number `stop` on. The first call has the number 1.
 #[derive(Drop)]
 pub struct FaultPlan {
     /// The numbers of calls that fail.

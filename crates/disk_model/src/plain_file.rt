@@ -1,4 +1,23 @@
-ghost use Rattle.std.specs.Prelude.{◌≡◌, ◌+◌, ◌≤◌, ◌<◌, ◌%◌, ℕ, List, length, slice_index, take, drop, ◌++◌, replicate, IfOk, nat_le, nat_lt, ◌&&◌, if◌then◌else◌};
+ghost use Rattle.std.specs.Prelude.{
+  ◌≡◌,
+  ◌+◌,
+  ◌≤◌,
+  ◌<◌,
+  ◌%◌,
+  ℕ,
+  List,
+  length,
+  slice_index,
+  take,
+  drop,
+  ◌++◌,
+  replicate,
+  IfOk,
+  nat_le,
+  nat_lt,
+  ◌&&◌,
+  if◌then◌else◌,
+};
 ghost use Rattle.disk_model.specs.Generator.{drawn, state_after};
 ghost use Rattle.disk_model.specs.Marks.{is_marked};
 ghost use Rattle.disk_model.specs.Places.{count_below};
@@ -39,7 +58,8 @@ impl PlainFile {
 
     /// Fills `out` with the bytes from `at` on, zeros past the end.
     pub(crate) fn read(&self, at: usize, out: &mut [u8])
-        ensures { (i : ℕ) → i < length out.old → slice_index out.new i ≡ slice_index self.now (at + i) }
+        ensures { (i : ℕ) → i < length out.old
+            → slice_index out.new i ≡ slice_index self.now (at + i) }
     {
         let start = at.min(self.bytes.len());
         let count = out.len().min(self.bytes.len() - start);
@@ -51,7 +71,8 @@ impl PlainFile {
     /// Puts the bytes in the place of those from `at` on.
     pub(crate) fn write(&mut self, at: usize, bytes: &[u8])
         requires { at + length bytes.now ≤ length self.old }
-        ensures { self.new ≡ take at self.old ++ bytes.now ++ drop (at + length bytes.now) self.old }
+        ensures { self.new ≡ take at self.old ++ bytes.now ++ drop
+            (at + length bytes.now) self.old }
     {
         self.bytes[at..at + bytes.len()].copy_from_slice(bytes);
     }
@@ -59,7 +80,9 @@ impl PlainFile {
     /// Puts this byte at each place from `at` on, up to `len` of them or the end.
     pub(crate) fn fill(&mut self, at: usize, len: usize, byte: u8)
         ensures room { length self.new ≡ length self.old }
-        ensures bytes { (i : ℕ) → slice_index self.new i ≡ (if (nat_le at i && nat_lt i (at + len)) && nat_lt i (length self.old) then byte else slice_index self.old i) }
+        ensures bytes { (i : ℕ) → slice_index self.new i
+            ≡ (if (nat_le at i && nat_lt i (at + len)) && nat_lt i (length self.old) then byte
+            else slice_index self.old i) }
     {
         let start = at.min(self.bytes.len());
         let count = len.min(self.bytes.len() - start);
@@ -69,7 +92,8 @@ impl PlainFile {
     // Puts this byte in the place of those from `at` on, `count` of them.
     fn put_copies(&mut self, at: usize, count: usize, byte: u8)
         requires { at + count ≤ length self.old }
-        ensures { self.new ≡ take at self.old ++ replicate count byte ++ drop (at + count) self.old }
+        ensures { self.new ≡ take at self.old ++ replicate count byte ++ drop
+            (at + count) self.old }
     {
         self.bytes[at..at + count].fill(byte);
     }
@@ -78,8 +102,12 @@ impl PlainFile {
     pub(crate) fn draw_marked(&mut self, marks: &PlainFile, generator: &mut Generator)
         requires { length marks.now ≡ length self.old }
         ensures room { length self.new ≡ length self.old }
-        ensures bytes { (i : ℕ) → slice_index self.new i ≡ (if is_marked marks.now i then drawn generator.old (count_below (is_marked marks.now) i) % 256 else slice_index self.old i) }
-        ensures draws { generator.new ≡ state_after generator.old (count_below (is_marked marks.now) (length marks.now)) }
+        ensures bytes { (i : ℕ) → slice_index self.new i
+            ≡ (if is_marked marks.now i
+            then drawn generator.old (count_below (is_marked marks.now) i) % 256
+            else slice_index self.old i) }
+        ensures draws { generator.new
+            ≡ state_after generator.old (count_below (is_marked marks.now) (length marks.now)) }
     {
         draw_bytes(&mut self.bytes, &marks.bytes, generator);
     }
@@ -105,8 +133,11 @@ impl PlainFile {
 // Puts the next drawn byte at each place that is marked.
 fn draw_bytes(bytes: &mut [u8], marks: &[u8], generator: &mut Generator)
     requires { length marks.now ≡ length bytes.old }
-    ensures bytes { (i : ℕ) → slice_index bytes.new i ≡ (if is_marked marks.now i then drawn generator.old (count_below (is_marked marks.now) i) % 256 else slice_index bytes.old i) }
-    ensures draws { generator.new ≡ state_after generator.old (count_below (is_marked marks.now) (length marks.now)) }
+    ensures bytes { (i : ℕ) → slice_index bytes.new i
+        ≡ (if is_marked marks.now i then drawn generator.old
+        (count_below (is_marked marks.now) i) % 256 else slice_index bytes.old i) }
+    ensures draws { generator.new
+        ≡ state_after generator.old (count_below (is_marked marks.now) (length marks.now)) }
 {
     for i in 0..bytes.len() {
         if marks[i] > 0 {

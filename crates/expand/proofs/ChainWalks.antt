@@ -16,15 +16,15 @@ use Rattle.store_rules.specs.Views.{Records}
 use Rattle.store_rules.proofs.OnceLaws.{in_left, in_right}
 use Rattle.rel_store.specs.declared.edge_row.EdgeRow.{EdgeRow}
 use Rattle.rel_store.specs.Loading.{rel_mark, rel_room}
-use Rattle.chain_edit.specs.declared.chain_fault.ChainFault.{ChainFault}
-use Rattle.chain_edit.specs.declared.chain_fault.ChainFault.TheVariants as chain
-use Rattle.chain_edit.specs.ChainFault as chains
+use Rattle.rec_bytes.specs.declared.fault.Fault.{Fault}
+use Rattle.rec_bytes.specs.declared.fault.Fault.TheVariants as chain
+use Rattle.rec_bytes.specs.Fault as chains
 use Rattle.chain_edit.specs.Chains.{next_of}
 use Rattle.chain_edit.specs.Walking.{HasWalked, IsSoundWalk, IsWalkDamage, IsWalkFault, ReadsAtMost, edge_at}
 use Rattle.chain_edit.specs.Walking.IsWalkDamage.{HighMark as HighOne, NoWalk}
 use Rattle.chain_edit.proofs.Walks.{mark_then, walk_is}
 use Rattle.group_store.proofs.GroupWalks.{gets_add, records_then}
-use Rattle.expand.specs.ExpandFault.{NotDamaged, of_chain}
+use Rattle.expand.specs.ExpandFault.{NotDamaged, of_fault}
 use Rattle.expand.specs.Walking.{AreSoundWalks, AreWalks, AreWalksFault, HaveWalked}
 use Rattle.expand.specs.Walking.AreWalksDamage.{HighMark, NoWalks}
 
@@ -141,18 +141,18 @@ room_then s now n reads = ap rel_room reads ∙ ap (λ (shape : Shape). room_of 
 -- ---- damage
 
 -- a fault of the next chain
-pub chain_fault : (s now : State) (n node first budget : ℕ) (firsts left : List ℕ) (fault : ChainFault) → now ≡ after_gets n s → rel_room now ≡ rel_room s
-    → ((xs : List ℕ) → AreSoundWalks s node firsts (rel_mark s) xs → AreLeft s node (first ∷ left) budget) → IsWalkFault now first node budget fault → AreWalksFault s node firsts (of_chain fault)
+pub chain_fault : (s now : State) (n node first budget : ℕ) (firsts left : List ℕ) (fault : Fault) → now ≡ after_gets n s → rel_room now ≡ rel_room s
+    → ((xs : List ℕ) → AreSoundWalks s node firsts (rel_mark s) xs → AreLeft s node (first ∷ left) budget) → IsWalkFault now first node budget fault → AreWalksFault s node firsts (of_fault fault)
 chain_fault s now n node first budget firsts left chain.Memory reads room rest told = tt
 chain_fault s now n node first budget firsts left chain.Disk reads room rest told = tt
 chain_fault s now n node first budget firsts left (chain.Damaged damage) reads room rest told = by damage told
   where
-    by : (damage : Damage) → IsWalkDamage now first node budget damage → AreWalksFault s node firsts (of_chain (chain.Damaged damage))
+    by : (damage : Damage) → IsWalkDamage now first node budget damage → AreWalksFault s node firsts (of_fault (chain.Damaged damage))
     by damage (NoWalk none) = NoWalks (λ xs sound. let next = chain_left s now n node first budget left reads (rest xs sound) in none next.0 next.1)
     by damage (HighOne above) = HighMark (let mark = mark_then s now n reads in omega arith)
 
 -- a walk that calls no record damaged
-pub chain_sound : (fault : ChainFault) → chains.NotDamaged {T = Rows} (Err fault) → NotDamaged {T = Rows} (Err (of_chain fault))
+pub chain_sound : (fault : Fault) → chains.NotDamaged {T = Rows} (Err fault) → NotDamaged {T = Rows} (Err (of_fault fault))
 chain_sound chain.Memory told = tt
 chain_sound chain.Disk told = tt
 chain_sound (chain.Damaged damage) told = told

@@ -10,8 +10,8 @@ use Rattle.rel_store.specs.Loading.{rel_mark, rel_room}
 use Rattle.chain_edit.specs.Chains.{next_of}
 use Rattle.chain_edit.specs.Walking.{edge_at}
 use Rattle.chain_edit.proofs.Walks.{mark_then, walk_is}
-use Rattle.group_store.specs.declared.group_fault.GroupFault.{GroupFault}
-use Rattle.group_store.specs.declared.group_fault.GroupFault.TheVariants as group
+use Rattle.rec_bytes.specs.declared.fault.Fault.{Fault}
+use Rattle.rec_bytes.specs.declared.fault.Fault.TheVariants as group
 use Rattle.group_store.specs.declared.group_row.GroupRow.{GroupRow}
 use Rattle.group_store.specs.GroupChain.{next_group}
 use Rattle.group_store.specs.Walking as groups
@@ -19,7 +19,7 @@ use Rattle.group_store.specs.Walking.{HasGroupRows, group_row_at}
 use Rattle.group_store.proofs.GroupWalks.{gets_add, records_then}
 use Rattle.expand.specs.declared.expand_fault.ExpandFault.{ExpandFault}
 use Rattle.expand.specs.declared.expand_fault.ExpandFault.TheVariants.{Damaged, Disk, Memory, NoNode}
-use Rattle.expand.specs.ExpandFault.{of_group}
+use Rattle.expand.specs.ExpandFault.{of_fault}
 use Rattle.expand.specs.Expanding.{CanWalkGroups, HasDenseRows, IsDenseFault}
 use Rattle.expand.specs.Expanding.IsDenseDamage.{OfGroupChains, OfGroups}
 use Rattle.expand.specs.FirstLinks.{first_links}
@@ -28,7 +28,7 @@ use Rattle.expand.specs.Walking.AreWalksDamage.{HighMark, NoWalks}
 use Rattle.expand.proofs.ChainWalks.{room_then}
 
 -- a fault of the groups
-pub group_fault : (s : State) (row : NodeRow) (fault : GroupFault) → groups.IsWalkFault s row.id row.first fault → IsDenseFault s row (of_group fault)
+pub group_fault : (s : State) (row : NodeRow) (fault : Fault) → groups.IsWalkFault s row.id row.first fault → IsDenseFault s row (of_fault fault)
 group_fault s row group.Memory told = tt
 group_fault s row group.Disk told = tt
 group_fault s row (group.Damaged damage) told = OfGroups told

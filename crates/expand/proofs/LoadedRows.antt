@@ -22,8 +22,8 @@ use Rattle.node_store.specs.NodeRecord.{row_of}
 use Rattle.node_store.proofs.Rows.{kind-row_at-None, kind-row_at-Some}
 use Rattle.rel_store.specs.declared.edge_row.EdgeRow.{EdgeRow}
 use Rattle.rel_store.specs.Loading.{rel_mark, rel_room}
-use Rattle.chain_edit.specs.declared.chain_fault.ChainFault.{ChainFault}
-use Rattle.chain_edit.specs.declared.chain_fault.ChainFault.TheVariants as chain
+use Rattle.rec_bytes.specs.declared.fault.Fault.{Fault}
+use Rattle.rec_bytes.specs.declared.fault.Fault.TheVariants as chain
 use Rattle.chain_edit.specs.Chains.{next_of}
 use Rattle.chain_edit.specs.Walking.{HasWalked, IsSoundWalk, IsWalkDamage, IsWalkFault, ReadsAtMost, edge_at}
 use Rattle.chain_edit.proofs.Walks as walks
@@ -33,7 +33,7 @@ use Rattle.group_store.proofs.ChainHeads.{sparse_unless}
 use Rattle.expand.specs.declared.expand_fault.ExpandFault.{ExpandFault}
 use Rattle.expand.specs.declared.expand_fault.ExpandFault.TheVariants.{Damaged, Disk, Memory, NoNode}
 use Rattle.expand.specs.Costs.{dense_reads, met_count, most_reads, type_count}
-use Rattle.expand.specs.ExpandFault.{of_chain, of_row}
+use Rattle.expand.specs.ExpandFault.{of_fault, of_row}
 use Rattle.expand.specs.Expanding.{CanWalkGroups, HasDenseRows, IsDenseDamage, IsDenseFault, IsExpandFault, IsStore, TellsNode, graph_in, name_of, rows_of}
 use Rattle.expand.specs.Expanding.IsExpandDamage.{OfChain, OfDense, OfNode}
 use Rattle.expand.specs.Matching.{IsPart, is_at, is_met}
@@ -102,7 +102,7 @@ module _ (s : State) (n : ℕ) (row : NodeRow) (found : Some row ≡ row_at s.re
 
     module _ (mark : ℕ) (marked : mark ≡ rel_mark s) (thin : row.dense ≡ false) where
       -- a record that the walk calls damaged breaks a rule of the chain
-      pub chain_fault : (fault : ChainFault) → IsWalkFault mid row.first n mark fault → IsExpandFault s n (of_chain fault)
+      pub chain_fault : (fault : Fault) → IsWalkFault mid row.first n mark fault → IsExpandFault s n (of_fault fault)
       chain_fault chain.Memory told = tt
       chain_fault chain.Disk told = tt
       chain_fault (chain.Damaged damage) told = OfChain row (sym found) thin (subst (λ m. IsWalkDamage (after_load s n) row.first n m damage) marked (subst (λ t. IsWalkDamage t row.first n mark damage) loaded told))
@@ -224,7 +224,7 @@ sparse_at_most s n mid new loaded more =
     reads_then s mid new n (group_mark s + rel_mark s) loaded (record { count = more.count; within = let few = more.within in omega arith; is = more.is })
 
 -- a fault of the walk says that the node is there
-pub chain_tells : (s : State) (n : ℕ) → has_node (graph_in s) n ≡ true → (fault : ChainFault) → TellsNode {T = Rows} (Err (of_chain fault)) n (has_node (graph_in s) n)
+pub chain_tells : (s : State) (n : ℕ) → has_node (graph_in s) n ≡ true → (fault : Fault) → TellsNode {T = Rows} (Err (of_fault fault)) n (has_node (graph_in s) n)
 chain_tells s n there chain.Memory = there
 chain_tells s n there chain.Disk = tt
 chain_tells s n there (chain.Damaged damage) = tt

@@ -1,6 +1,4 @@
-use chain_edit::ChainFault;
-use group_store::GroupFault;
-use rec_bytes::{Damage, RowFault};
+use rec_bytes::{Damage, Fault, RowFault};
 use std::alloc::AllocError;
 use thiserror::Error;
 
@@ -35,32 +33,17 @@ impl From<RowFault> for ExpandFault {
     }
 }
 
-impl From<ChainFault> for ExpandFault {
-    ghost from_gives = { λ fault result. result ≡ of_chain fault };
+impl From<Fault> for ExpandFault {
+    ghost from_gives = { λ fault result. result ≡ of_fault fault };
 
     ghost use Rattle.std.specs.Prelude.{◌≡◌};
-    ghost use Rattle.expand.specs.ExpandFault.{of_chain};
+    ghost use Rattle.expand.specs.ExpandFault.{of_fault};
 
-    fn from(fault: ChainFault) -> ExpandFault {
+    fn from(fault: Fault) -> ExpandFault {
         match fault {
-            ChainFault::Memory => ExpandFault::Memory,
-            ChainFault::Disk => ExpandFault::Disk,
-            ChainFault::Damaged(damage) => ExpandFault::Damaged(damage),
-        }
-    }
-}
-
-impl From<GroupFault> for ExpandFault {
-    ghost from_gives = { λ fault result. result ≡ of_group fault };
-
-    ghost use Rattle.std.specs.Prelude.{◌≡◌};
-    ghost use Rattle.expand.specs.ExpandFault.{of_group};
-
-    fn from(fault: GroupFault) -> ExpandFault {
-        match fault {
-            GroupFault::Memory => ExpandFault::Memory,
-            GroupFault::Disk => ExpandFault::Disk,
-            GroupFault::Damaged(damage) => ExpandFault::Damaged(damage),
+            Fault::Memory => ExpandFault::Memory,
+            Fault::Disk => ExpandFault::Disk,
+            Fault::Damaged(damage) => ExpandFault::Damaged(damage),
         }
     }
 }

@@ -69,6 +69,3 @@ pub fn expand<R: Reads>(
     let found = rows_at(alloc, &rows, node, direction, labels)?;
     Ok(found)
 }
-
-#[cfg(test)]
-mod tests;

@@ -3,11 +3,11 @@ use Rattle.std.proofs.Common.{◌≡◌, ◌≢◌, ◌⊎◌, ⊎_elim, inl, in
 use Rattle.disk_model.specs.Contents.{Files}
 use Rattle.disk_model.specs.Spans.{AtEachMoment}
 use Rattle.disk_model.specs.declared.disk.Disk.{Ghosts}
-use Rattle.disk_model.proofs.Spans.{OnlyNow, at_each_moment_none, at_each_moment_on, at_each_moment_weaker}
+use Rattle.disk_model.proofs.Spans.{OnlyNow, at_each_moment_none, at_each_moment_on, at_each_moment_weaker, only_reads_none}
 use Rattle.stream_io.specs.Streams.{TakesFront}
 use Rattle.rec_bytes.specs.declared.shape.Shape.{Shape}
 use Rattle.txn_core.specs.Config.{Suits}
-use Rattle.txn_core.specs.Opening.{OnlyDiffers}
+use Rattle.txn_core.specs.Opening.{IsRefusal, OnlyDiffers}
 use Rattle.txn_core.specs.declared.config.Config.{Config}
 use Rattle.txn_core.specs.declared.open_fault.OpenFault.{OpenFault}
 use Rattle.txn_core.specs.declared.open_fault.OpenFault.TheVariants as faults
@@ -133,7 +133,9 @@ pub unopened_memory : {D : Type 0} (g : Ghosts D) → OnlyNow g → (config : Co
 unopened_memory g only config disk = record {
   refused = λ told. inl tt;
   sound = λ told shape graph stands. tt;
-  crash = λ told stands. at_each_moment_none g disk (LeavesOldOrSame (g.reads disk) (g.may_leave disk) config) only told.1 (λ left was. inl was);
+  crash = λ told recoverable. at_each_moment_none g disk (LeavesOldOrSame (g.reads disk) (g.may_leave disk) config) only told.1 (λ left was. inl was);
+  careful = λ told. inl (only_reads_none g disk only);
+  untouched = λ told refusal. absurd refusal;
   later = omega arith;
   cause = λ is. cc;
 }
@@ -165,6 +167,15 @@ disk_failed faults.Disk result (inl ends) is = refl
 disk_failed faults.NotAStore result (inl ends) is = absurd (cc (ends, is))
 disk_failed (faults.Damaged damage) result (inl ends) is = absurd (cc (ends, is))
 disk_failed (faults.ConfigDiffers stored asked) result (inl ends) is = absurd (cc (ends, is))
+
+-- and the exit of files that are refused comes of what they hold
+pub bad_files : (why : OpenFault) (result : Exit) {rose : Type 0} → EndsFor why result rose → result ≡ exits.BadFiles → IsRefusal why
+bad_files why result (inr failed) is = absurd (cc (failed.0, is))
+bad_files faults.Memory result (inl ends) is = absurd (cc (ends, is))
+bad_files faults.Disk result (inl ends) is = absurd (cc (ends, is))
+bad_files faults.NotAStore result (inl ends) is = tt
+bad_files (faults.Damaged damage) result (inl ends) is = tt
+bad_files (faults.ConfigDiffers stored asked) result (inl ends) is = absurd (cc (ends, is))
 
 -- what holds of a value holds of its equal
 pub at_equal : {T : Type 0} (P : T → Type 0) (x y : T) → P x → y ≡ x → P y

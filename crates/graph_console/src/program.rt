@@ -7,7 +7,8 @@ ghost use Rattle.plain_graph.specs.Graph.{Graph};
 ghost use Rattle.rec_bytes.specs.Shape.{is_allowed};
 ghost use Rattle.rec_bytes.specs.declared.shape.Shape.{Shape};
 ghost use Rattle.txn_core.specs.Config.{Suits, shape_of};
-ghost use Rattle.graph_session.specs.Opening.{IsUnopened, StandsForOne};
+ghost use Rattle.recovery.specs.Finding.{IsCareful};
+ghost use Rattle.graph_session.specs.Opening.{IsUnopened, LeavesRefused, StandsForOne};
 ghost use Rattle.graph_session.specs.Stands.{Stands};
 ghost use Rattle.graph_console.specs.Program.{AskForNothing, AskForSample, EndsWithLine};
 ghost use Rattle.graph_console.specs.Program.{HasStreamCause, HoldsGraph, Refuses, ServesOn};
@@ -57,6 +58,13 @@ pub fn graph_main<S: Source, K: Sink, D: Disk>(
         → IsUnopenedExit result → K.tells
         → Writes (K.taken output.old) (K.taken output.new) (EndsUnopened
         (IsUnopened D.Disk (config_for options) disk.old disk.new) result) }
+
+    // Files that are no store, or one whose log or counts are broken, are left as they were. Where
+    // the files are refused for what they hold, so are the records, but for the version.
+    ensures careful { IsCareful D.Disk disk.old disk.new }
+    ensures untouched { (options : RunOptions)
+        → AsksFor (map string_bytes words.items) (Asked.Run options) → D.tells_reads
+        → result ≡ Exit.BadFiles → LeavesRefused D.Disk disk.old disk.new }
 
     // A disk that stands for a graph is never refused as damaged, and for its shape only where
     // another is asked for.
@@ -123,6 +131,9 @@ fn run<S: Source, K: Sink, D: Disk>(
     ensures unopened { IsUnopenedExit result → K.tells
         → Writes (K.taken output.old) (K.taken output.new) (EndsUnopened
         (IsUnopened D.Disk (config_for options) disk.old disk.new) result) }
+    ensures careful { IsCareful D.Disk disk.old disk.new }
+    ensures untouched { D.tells_reads → result ≡ Exit.BadFiles
+        → LeavesRefused D.Disk disk.old disk.new }
     ensures sound { (shape : Shape) (graph : Graph) → D.tells_reads
         → Stands (D.reads disk.old) shape graph
         → (result ≢ Exit.BadFiles)

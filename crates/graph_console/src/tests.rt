@@ -9,6 +9,7 @@ mod queries;
 mod reading;
 mod rows;
 mod samples;
+mod sessions;
 mod steps;
 mod stops;
 mod stored;

@@ -27,8 +27,8 @@ use Rattle.node_store.specs.declared.node_row.NodeRow.{NodeRow}
 use Rattle.prop_store.specs.Changing.{DropsAll, HasElement}
 use Rattle.prop_store.specs.declared.changing.Dropped.{Dropped}
 use Rattle.prop_store.specs.Fault.{IsOwnDamage}
-use Rattle.prop_store.specs.declared.fault.Fault.{Fault}
-use Rattle.prop_store.specs.declared.fault.Fault.TheVariants as prop
+use Rattle.rec_bytes.specs.declared.fault.Fault.{Fault}
+use Rattle.rec_bytes.specs.declared.fault.Fault.TheVariants as prop
 use Rattle.prop_store.specs.declared.owner.Owner.{Owner}
 use Rattle.rel_store.specs.declared.rel_row.RelRow.{RelRow}
 use Rattle.rel_store.specs.Loading as rels
@@ -40,7 +40,7 @@ use Rattle.group_store.specs.Opening.{IsEndOf}
 use Rattle.group_store.specs.Sides.{side_at}
 use Rattle.group_store.specs.declared.side.Side.{Side}
 use Rattle.graph_ops.specs.Change.{IsRefusal, MakesChange}
-use Rattle.graph_ops.specs.ChangeFault.{of_prop}
+use Rattle.graph_ops.specs.ChangeFault.{of_fault}
 use Rattle.graph_ops.specs.EdgeDeleting.{IsBareEdge, StandsAtEnd, TakesEdge}
 use Rattle.graph_ops.specs.NodeDeleting.{HasDegree, IsDeleteCause}
 use Rattle.graph_ops.specs.Owners.{owner_of}
@@ -75,7 +75,7 @@ edge_free limit graph id there =
     (λ o z. z, (λ o z. z, (λ o z. z, (λ o z. z, (λ o z. z, (λ o z. clash (sym there ∙ z.0), (λ o z. z, (λ o z. z, (λ o z. z, (λ o z. z, (λ o z. z, tt)))))))))))
 
 -- damage that is met among the properties of a node is that of one without relationships
-pub drop_cause : (s : State) (id : ℕ) (row : NodeRow) → Some row ≡ nodes.row_at s.records id → row.degree ≡ 0 → (fault : Fault) → IsOwnDamage fault → IsDeleteCause s id (of_prop fault)
+pub drop_cause : (s : State) (id : ℕ) (row : NodeRow) → Some row ≡ nodes.row_at s.records id → row.degree ≡ 0 → (fault : Fault) → IsOwnDamage fault → IsDeleteCause s id (of_fault fault)
 drop_cause s id row found lone prop.Memory own = tt
 drop_cause s id row found lone prop.Disk own = tt
 drop_cause s id row found lone (prop.Damaged damage) own = inr (record { lone = record { row = row; found = sym found; is = lone }; file = own })

@@ -93,7 +93,7 @@ module _ (s : State) (names : List (List ℕ)) (id : ℕ) (source target : EdgeE
     gone = is_gone u.records t.records s.shape format.relationships_file id split.0 refl split.1 used
         (given split.0 (record { list = split.1.walk; fresh = not_free_id u.records format.relationships_file id split.0 split.1 used }))
         (room_small s.records s.shape format.relationships_file store.store.ranges)
-        (subst (IsMetaInRange (room_of s.shape format.relationships_file)) (sym (re.meta_stays s.records u.records parts.links format.relationships_file)) (store.store.ranges.metas format.relationships_file refl))
+        (subst (IsMetaInRange s.shape format.relationships_file) (sym (re.meta_stays s.records u.records parts.links format.relationships_file)) (store.store.ranges.metas format.relationships_file refl))
 
     left : IsEdgeGone s.records u.records t.records s.shape id row [] (end_groups h k source.node target.node)
     left = edge_left s s.shape id row h k edge store.store d e d_now e_now u.records t.records parts gone

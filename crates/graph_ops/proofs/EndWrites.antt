@@ -7,6 +7,7 @@ use Rattle.rec_bytes.specs.Space.{IsAmong, State, WritesOnly}
 use Rattle.rec_bytes.proofs.Spaces.{writes_more, writes_then}
 use Rattle.rel_store.specs.RelRecord.{rel_key}
 use Rattle.node_store.specs.NodeRecord.{node_key}
+use Rattle.store_rules.specs.Views.{key_in}
 use Rattle.store_rules.specs.Writes.{AreOwn, WritesBeside, meta_keys}
 use Rattle.store_rules.proofs.WriteLaws.{among_both, among_left, among_metas, among_right, beside_more, these_written}
 use Rattle.chain_edit.proofs.ChainSteps.{on_test}
@@ -18,6 +19,19 @@ use Rattle.graph_ops.specs.declared.edge_end.EdgeEnd.{EdgeEnd}
 
 abbrev WritesEnd : State → State → ℕ → EdgeEnd → Type 0
 WritesEnd old new rel end = (before after : ℕ) × WritesOnly old new (rel_key rel ∷ end_keys before after end)
+
+-- a relationship is taken out of a chain, and then the degree is written
+pub end_parted : (s t u : State) (rel : ℕ) (end : EdgeEnd)
+    → ((before after : ℕ) × WritesOnly s t (rel_key before ∷ rel_key rel ∷ rel_key after ∷ end.head.key ∷ []))
+    → WritesOnly t u (key_in format.nodes_file end.node ∷ []) → WritesEnd s u rel end
+end_parted s t u rel end w v = (
+  w.0,
+  w.1,
+  writes_more s u
+      (rel_key w.0 ∷ rel_key rel ∷ rel_key w.1 ∷ end.head.key ∷ key_in format.nodes_file end.node ∷ []) _
+      (λ q i. ⊎_elim (λ e. inr (inl e)) (λ j. ⊎_elim (λ e. inl e) (λ k. inr (inr k)) j) i)
+      (writes_then s t u _ _ w.2 v),
+)
 
 module _ (s t : State) (rel : ℕ) (source target : EdgeEnd) where
   -- at one end

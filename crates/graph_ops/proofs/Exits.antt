@@ -11,12 +11,10 @@ use Rattle.rec_bytes.specs.declared.space.SpaceFault.TheVariants as spaces
 use Rattle.prop_store.specs.SetFault.{IsOwnRoom}
 use Rattle.prop_store.specs.declared.set_fault.SetFault.{SetFault}
 use Rattle.prop_store.specs.declared.set_fault.SetFault.TheVariants as sets
-use Rattle.chain_edit.specs.declared.chain_fault.ChainFault.{ChainFault}
-use Rattle.chain_edit.specs.declared.chain_fault.ChainFault.TheVariants as chains
-use Rattle.group_store.specs.GroupFault.{NotDamaged}
-use Rattle.group_store.specs.declared.group_fault.GroupFault.{GroupFault}
-use Rattle.group_store.specs.declared.group_fault.GroupFault.TheVariants as groups
-use Rattle.graph_ops.specs.ChangeFault.{IsOutside, LeavesSpace, MayComeLate, is_element_file, of_chain, of_group, of_set, of_space}
+use Rattle.rec_bytes.specs.Fault.{NotDamaged}
+use Rattle.rec_bytes.specs.declared.fault.Fault.{Fault}
+use Rattle.rec_bytes.specs.declared.fault.Fault.TheVariants as faults
+use Rattle.graph_ops.specs.ChangeFault.{IsOutside, LeavesSpace, MayComeLate, is_element_file, of_fault, of_set, of_space}
 
 -- what holds of a fault holds of the result that hands it on
 pub fault_exit : {T F : Type 0} (of : F → ChangeFault) (P : ChangeFault → Type 0) (fault : F) (out : Result T ChangeFault) → IsErrAnd out (λ y. y ≡ of fault) → P (of fault) → IfErr out P
@@ -59,20 +57,20 @@ late_leaves s t (Damaged damage) late = tt
 
 -- ---- faults of the crates below that are no answers
 
-pub group_outside : (T : Type 0) (fault : GroupFault) → NotDamaged {T = T} (Err fault) → IsOutside (of_group fault)
-group_outside T groups.Memory right = tt
-group_outside T groups.Disk right = tt
-group_outside T (groups.Damaged damage) right = absurd right
+pub fault_outside : (T : Type 0) (fault : Fault) → NotDamaged {T = T} (Err fault) → IsOutside (of_fault fault)
+fault_outside T faults.Memory right = tt
+fault_outside T faults.Disk right = tt
+fault_outside T (faults.Damaged damage) right = absurd right
 
 -- ---- faults of the crates below that may come late
 pub space_late : (fault : SpaceFault) → MayComeLate (of_space fault)
 space_late spaces.Memory = tt
 space_late spaces.Disk = tt
 
-pub chain_late : (fault : ChainFault) → MayComeLate (of_chain fault)
-chain_late chains.Memory = tt
-chain_late chains.Disk = tt
-chain_late (chains.Damaged damage) = tt
+pub fault_late : (fault : Fault) → MayComeLate (of_fault fault)
+fault_late faults.Memory = tt
+fault_late faults.Disk = tt
+fault_late (faults.Damaged damage) = tt
 
 pub set_late : (fault : SetFault) → IsOwnRoom fault → MayComeLate (of_set fault)
 set_late (sets.PropsFull count) own = tt

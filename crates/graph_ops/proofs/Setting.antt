@@ -3,7 +3,7 @@ use Rattle.std.specs.FinMap as maps
 use Rattle.std.specs.FinMap.{get-remove, same_map, slice_cmp-IsAntisymmetric, nat_cmp-IsAntisymmetric}
 use Rattle.std.specs.Cmp.Lexicographic.{nat_list_cmp_total}
 use Rattle.std.specs.Ordering.{eq_by_cmp}
-use Rattle.std.specs.Prelude.{Contains, slice_get}
+use Rattle.std.specs.Prelude.{Contains, Err, slice_get}
 use Rattle.std.proofs.Common.{◌≡◌, ◌≢◌, ◌⊎◌, ℕ, ◌+◌, ◌-◌, ◌/◌, ◌<◌, ◌≤◌, nat_le, Bool, true, false, cond, Some, None, List, [], ◌∷◌, length, sym, ap, ◌∙◌, subst, inl, inr, ⊎_elim, arith, refl}
 use Rattle.std.proofs.lemmas.Option.{slice_get_within}
 use Rattle.plain_graph.proofs.PropertyLaws.{order, same_key}
@@ -21,9 +21,9 @@ use Rattle.plain_graph.specs.declared.refusal.Refusal.TheVariants as refusals
 use Rattle.plain_graph.specs.declared.value.Value.{Value}
 use Rattle.plain_graph.specs.declared.value.Value.TheVariants as values
 use Rattle.prop_store.specs.Changing.{HasElement, HasKey, IsSetRefusal, RemovesValue, SetsValue, UnsetsValue, blocks_with, properties_of, properties_with, set_properties, target_of, text_at}
-use Rattle.prop_store.specs.Fault.{IsUndamaged}
-use Rattle.prop_store.specs.declared.fault.Fault.{Fault}
-use Rattle.prop_store.specs.declared.fault.Fault.TheVariants as prop
+use Rattle.rec_bytes.specs.Fault.{NotDamaged}
+use Rattle.rec_bytes.specs.declared.fault.Fault.{Fault}
+use Rattle.rec_bytes.specs.declared.fault.Fault.TheVariants as prop
 use Rattle.prop_store.specs.declared.owner.Owner.{Owner}
 use Rattle.prop_store.specs.declared.set_fault.SetFault.{SetFault}
 use Rattle.prop_store.specs.declared.set_fault.SetFault.TheVariants as sets
@@ -44,7 +44,7 @@ use Rattle.name_store.specs.declared.intern_fault.InternFault.{InternFault}
 use Rattle.name_store.specs.declared.intern_fault.InternFault.TheVariants as intern
 use Rattle.name_store.proofs.FirstNames.{contains_at, first-names_of, length-names_of}
 use Rattle.graph_ops.specs.Change.{IsRefusal, MakesChange}
-use Rattle.graph_ops.specs.ChangeFault.{of_intern, of_prop, of_set}
+use Rattle.graph_ops.specs.ChangeFault.{of_intern, of_fault, of_set}
 use Rattle.graph_ops.specs.Owners.{IsMissing, owner_of}
 use Rattle.graph_ops.specs.Preparing.{line_reasons}
 use Rattle.graph_ops.specs.Store.{IsStore, KeepsElements, graph_in}
@@ -117,7 +117,7 @@ unset_missing limit graph target key Memory h = absurd h
 unset_missing limit graph target key Disk h = tt
 unset_missing limit graph target key (Damaged damage) h = absurd h
 
-pub prop_refused : (limit : ℕ) (graph : Graph) (command : Command) (fault : Fault) → IsUndamaged fault → IsRefusal limit graph command (of_prop fault)
+pub prop_refused : (limit : ℕ) (graph : Graph) (command : Command) (fault : Fault) → NotDamaged {T = ℕ} (Err fault) → IsRefusal limit graph command (of_fault fault)
 prop_refused limit graph command prop.Memory h = tt
 prop_refused limit graph command prop.Disk h = tt
 prop_refused limit graph command (prop.Damaged damage) h = absurd h

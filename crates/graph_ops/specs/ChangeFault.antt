@@ -1,25 +1,21 @@
 -- Faults of the crates below as refusals of a change.
-use Rattle.std.specs.Prelude.{◌≡◌, ℕ, ◌≤◌, nat_eq, Bool, false, ◌||◌, Result, IsErrOf}
+use Rattle.std.specs.Prelude.{◌≡◌, ℕ, nat_eq, Bool, false, ◌||◌, Result}
 use Rattle.std.specs.Bool.{OnTrue}
-use Rattle.fault_count.specs.Cause.{Rose}
 use Rattle.rec_bytes.specs.Format as format
 use Rattle.rec_bytes.specs.declared.space.SpaceFault.{SpaceFault}
 use Rattle.rec_bytes.specs.declared.space.SpaceFault.TheVariants as space
 use Rattle.rec_bytes.specs.declared.row_fault.RowFault.{RowFault}
 use Rattle.rec_bytes.specs.declared.row_fault.RowFault.TheVariants as row
+use Rattle.rec_bytes.specs.declared.fault.Fault.{Fault}
+use Rattle.rec_bytes.specs.declared.fault.Fault.TheVariants as faults
+use Rattle.rec_bytes.specs.Cause.{HasDiskCause}
 use Rattle.rec_bytes.specs.Space.{State, SameButReads}
 use Rattle.id_freelist.specs.declared.take_fault.TakeFault.{TakeFault}
 use Rattle.id_freelist.specs.declared.take_fault.TakeFault.TheVariants as take
 use Rattle.name_store.specs.declared.intern_fault.InternFault.{InternFault}
 use Rattle.name_store.specs.declared.intern_fault.InternFault.TheVariants as intern
-use Rattle.prop_store.specs.declared.fault.Fault.{Fault}
-use Rattle.prop_store.specs.declared.fault.Fault.TheVariants as prop
 use Rattle.prop_store.specs.declared.set_fault.SetFault.{SetFault}
 use Rattle.prop_store.specs.declared.set_fault.SetFault.TheVariants as set
-use Rattle.chain_edit.specs.declared.chain_fault.ChainFault.{ChainFault}
-use Rattle.chain_edit.specs.declared.chain_fault.ChainFault.TheVariants as chain
-use Rattle.group_store.specs.declared.group_fault.GroupFault.{GroupFault}
-use Rattle.group_store.specs.declared.group_fault.GroupFault.TheVariants as group
 use Rattle.graph_ops.specs.declared.change_fault.ChangeFault.{ChangeFault}
 use Rattle.graph_ops.specs.declared.change_fault.ChangeFault.TheVariants.{NoNode, NoEdge}
 use Rattle.graph_ops.specs.declared.change_fault.ChangeFault.TheVariants.{HasRelationships, Full}
@@ -45,20 +41,10 @@ abbrev pub of_row : RowFault → ChangeFault
 of_row row.Disk = Disk
 of_row (row.Damaged damage) = Damaged damage
 
-abbrev pub of_chain : ChainFault → ChangeFault
-of_chain chain.Memory = Memory
-of_chain chain.Disk = Disk
-of_chain (chain.Damaged damage) = Damaged damage
-
-abbrev pub of_group : GroupFault → ChangeFault
-of_group group.Memory = Memory
-of_group group.Disk = Disk
-of_group (group.Damaged damage) = Damaged damage
-
-abbrev pub of_prop : Fault → ChangeFault
-of_prop prop.Memory = Memory
-of_prop prop.Disk = Disk
-of_prop (prop.Damaged damage) = Damaged damage
+abbrev pub of_fault : Fault → ChangeFault
+of_fault faults.Memory = Memory
+of_fault faults.Disk = Disk
+of_fault (faults.Damaged damage) = Damaged damage
 
 abbrev pub of_set : SetFault → ChangeFault
 of_set (set.PropsFull count) = PropsFull count
@@ -109,7 +95,5 @@ LeavesSpace old new Disk = Unit {0}
 LeavesSpace old new (Damaged damage) = Unit {0}
 
 -- the disk is blamed only where it failed
-pub record HasChangeCause {T : Type 0} (before now : ℕ) (result : Result T ChangeFault)
-    : Type 0 where
-  pub later : before ≤ now
-  pub disk : IsErrOf result Disk → Rose before now
+abbrev pub HasChangeCause : {T : Type 0} → ℕ → ℕ → Result T ChangeFault → Type 0
+HasChangeCause before now result = HasDiskCause Disk before now result

@@ -34,8 +34,8 @@ pub record IsBareEdge (s : State) (id : ℕ) (source target : EdgeEnd) : Type 0 
   pub leaves : StandsAtEnd s.records id source
   pub enters : StandsAtEnd s.records id target
 
--- The store lacks the edge, and keeps the rules, but that the groups of the heads at its ends may be
--- empty.
+-- The store lacks the edge, and keeps the rules, but that the groups of the heads at its ends may
+-- be empty.
 pub record PartsEdge (s t : State) (kept : List (List ℕ)) (id : ℕ) (source target : EdgeEnd)
     : Type 0 where
   pub keeps : KeepsRules t.records t.shape t.shape.threshold

@@ -3,9 +3,10 @@ use Rattle.std.specs.Prelude.{◌≡◌, ◌≢◌, ◌⊎◌, ℕ, None, Some}
 use Rattle.rec_bytes.specs.Format as format
 use Rattle.rec_bytes.specs.Space.{State}
 use Rattle.rec_bytes.specs.declared.damage.Damage.{Damage}
+use Rattle.rec_bytes.specs.declared.row_fault.RowFault.TheVariants as rows
 use Rattle.store_rules.specs.Views.{Records}
 use Rattle.node_store.specs.declared.node_row.NodeRow.{NodeRow}
-use Rattle.node_store.specs.Loading.{IsNodeDamage, row_at}
+use Rattle.node_store.specs.Loading.{IsNodeFault, row_at}
 use Rattle.graph_ops.specs.declared.change_fault.ChangeFault.{ChangeFault}
 use Rattle.graph_ops.specs.declared.change_fault.ChangeFault.TheVariants.{NoNode, NoEdge}
 use Rattle.graph_ops.specs.declared.change_fault.ChangeFault.TheVariants.{HasRelationships, Full}
@@ -34,4 +35,5 @@ IsDeleteCause s id (NamesFull count) = ⊥
 IsDeleteCause s id (PropsFull count) = ⊥
 IsDeleteCause s id Memory = Unit {0}
 IsDeleteCause s id Disk = Unit {0}
-IsDeleteCause s id (Damaged damage) = IsNodeDamage s id damage ⊎ IsPropertyDamage s id damage
+IsDeleteCause s id (Damaged damage) =
+    IsNodeFault s id (rows.Damaged damage) ⊎ IsPropertyDamage s id damage

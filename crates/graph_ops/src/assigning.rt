@@ -42,13 +42,10 @@ use arrayvec::ArrayVec;
 use name_store::{InternFault, Names};
 use plain_graph::Pair;
 use prop_store::{Owner, add};
-use rec_bytes::{PROPERTIES, Reads, STRINGS, Space};
-
-/// How many properties an element may have.
-const MOST_PROPERTIES: u32 = 32;
+use rec_bytes::{MOST_PROPERTIES, PROPERTIES, Reads, STRINGS, Space};
 
 /// The number of a key, with the place of the pair whose value the key gets.
-#[derive(Clone, Copy, Default, Debug, PartialEq, Eq)]
+#[derive(Clone, Copy, Default)]
 pub(crate) struct Assignment {
     pub key: u32,
     pub pair: usize,
@@ -73,7 +70,6 @@ pub(crate) fn assign_pairs<S: Space>(
         → KeepsElements (S.state space.old) (S.state space.new) names.new.names) }
     ensures refused { IfErr result (IsAssignFault names.old.names pairs.now) }
     ensures prefix { (rest : List (List ℕ)) × (names.new.names ≡ names.old.names ++ rest) }
-    ensures shape { S.tells → (S.state space.new).shape ≡ (S.state space.old).shape }
     ensures few_names { IfOk result (λ assigned.
         length names.new.names ≤ length names.old.names + length assigned.items) }
     ensures metas { S.tells → OnOk result
@@ -119,7 +115,6 @@ fn number_key<S: Space>(
     ensures held { are_few ≡ false → S.state space.new ≡ S.state space.old }
     ensures metas { S.tells → OnOk result
         (KeepsElementMetas (S.state space.old) (S.state space.new)) }
-    ensures shape { S.tells → (S.state space.new).shape ≡ (S.state space.old).shape }
     ensures writes { WritesOnly (S.state space.old) (S.state space.new)
         (name_key (length names.old.names) ∷ meta_key_of names_file ∷ []) }
     ensures onward { S.onward space.old space.new }
@@ -211,7 +206,6 @@ pub(crate) fn put_properties<S: Space>(
         → owner ≡ owner_of target → CanPut (S.state space.old) names target pairs.now assigned.now
         → HasPropertyRoom (S.state space.old) (length assigned.now)
         (assigned_blocks pairs.now assigned.now) → IfErr result IsOutside }
-    ensures shape { S.tells → (S.state space.new).shape ≡ (S.state space.old).shape }
     ensures writes { OnOk result (WritesBeside owner.key
         (length assigned.now + assigned_blocks pairs.now assigned.now)
         (S.state space.old) (S.state space.new)) }

@@ -3,11 +3,7 @@ ghost use Rattle.plain_graph.specs.Forms.{IsKept};
 ghost use Rattle.plain_graph.specs.Properties.{blocks_of};
 
 use plain_graph::Value;
-
-/// How many bytes of a text stand in the record of its property.
-const INLINE_BYTES: usize = 40;
-/// How many bytes of a longer text stand in a block.
-const BLOCK_BYTES: usize = 48;
+use rec_bytes::{BLOCK_TEXT_BYTES, PROPERTY_TEXT_BYTES};
 
 /// How many blocks a value takes.
 pub(crate) fn block_count(value: &Value) -> u32
@@ -19,10 +15,10 @@ pub(crate) fn block_count(value: &Value) -> u32
         Value::Int(_) | Value::Bool(_) => 0,
         Value::Text(text) => {
             let size = text.as_bytes().len();
-            if size <= INLINE_BYTES {
+            if size <= PROPERTY_TEXT_BYTES {
                 0
             } else {
-                size.div_ceil(BLOCK_BYTES) as u32
+                size.div_ceil(BLOCK_TEXT_BYTES) as u32
             }
         }
     }

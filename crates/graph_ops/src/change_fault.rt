@@ -1,9 +1,7 @@
-use chain_edit::ChainFault;
-use group_store::GroupFault;
 use id_freelist::TakeFault;
 use name_store::InternFault;
-use prop_store::{Fault, SetFault};
-use rec_bytes::{Damage, RowFault, SpaceFault};
+use prop_store::SetFault;
+use rec_bytes::{Damage, Fault, RowFault, SpaceFault};
 use thiserror::Error;
 
 /// Why a change was refused.
@@ -97,41 +95,11 @@ impl From<RowFault> for ChangeFault {
     }
 }
 
-impl From<ChainFault> for ChangeFault {
-    ghost from_gives = { λ fault result. result ≡ of_chain fault };
-
-    ghost use Rattle.std.specs.Prelude.{◌≡◌};
-    ghost use Rattle.graph_ops.specs.ChangeFault.{of_chain};
-
-    fn from(fault: ChainFault) -> ChangeFault {
-        match fault {
-            ChainFault::Memory => ChangeFault::Memory,
-            ChainFault::Disk => ChangeFault::Disk,
-            ChainFault::Damaged(damage) => ChangeFault::Damaged(damage),
-        }
-    }
-}
-
-impl From<GroupFault> for ChangeFault {
-    ghost from_gives = { λ fault result. result ≡ of_group fault };
-
-    ghost use Rattle.std.specs.Prelude.{◌≡◌};
-    ghost use Rattle.graph_ops.specs.ChangeFault.{of_group};
-
-    fn from(fault: GroupFault) -> ChangeFault {
-        match fault {
-            GroupFault::Memory => ChangeFault::Memory,
-            GroupFault::Disk => ChangeFault::Disk,
-            GroupFault::Damaged(damage) => ChangeFault::Damaged(damage),
-        }
-    }
-}
-
 impl From<Fault> for ChangeFault {
-    ghost from_gives = { λ fault result. result ≡ of_prop fault };
+    ghost from_gives = { λ fault result. result ≡ of_fault fault };
 
     ghost use Rattle.std.specs.Prelude.{◌≡◌};
-    ghost use Rattle.graph_ops.specs.ChangeFault.{of_prop};
+    ghost use Rattle.graph_ops.specs.ChangeFault.{of_fault};
 
     fn from(fault: Fault) -> ChangeFault {
         match fault {

@@ -1,6 +1,6 @@
 ghost use Rattle.std.specs.Prelude.{◌≡◌, ◌≤◌, ◌<◌, ◌++◌, ◌+◌, ◌-◌, ◌*◌, ◌∷◌, ℕ, List, IfErr, IfOk};
 ghost use Rattle.std.specs.Prelude.{IsErr, OnErr, length};
-ghost use Rattle.plain_graph.specs.Changes.{properties_weight};
+ghost use Rattle.plain_graph.specs.Changes.{most_weight, properties_weight, start_weight};
 ghost use Rattle.plain_graph.specs.Forms.{HasForm};
 ghost use Rattle.plain_graph.specs.Graph.{UsesNames};
 ghost use Rattle.plain_graph.specs.Properties.{keys_in, no_properties, with_pairs};
@@ -54,9 +54,8 @@ pub fn add_edge<S: Space>(
         ≡ 9 + properties_weight (with_pairs no_properties pairs.now)
         + (length names.new.names - length names.old.names)
         + degrees_weight (S.state space.old).shape.threshold from from_degree to to_degree) }
-    ensures light { IfOk result (λ added. added.weight + 6 ≤ 2048) }
+    ensures light { IfOk result (λ added. added.weight + start_weight ≤ most_weight) }
     ensures prefix { (rest : List (List ℕ)) × (names.new.names ≡ names.old.names ++ rest) }
-    ensures shape { S.tells → (S.state space.new).shape ≡ (S.state space.old).shape }
     ensures writes { IfOk result (λ added.
         WritesAtMost added.weight (S.state space.old) (S.state space.new)) }
     ensures refused_writes { OnErr result (WritesAtMost 1584
@@ -106,6 +105,3 @@ fn ends_weight(threshold: u32, from: u32, from_degree: u32, to: u32, to_degree: 
         end_weight(threshold, from_degree) + end_weight(threshold, to_degree)
     }
 }
-
-#[cfg(test)]
-mod tests;

@@ -1,5 +1,6 @@
 ghost use Rattle.std.specs.Prelude.{◌≡◌, ◌≢◌, ◌⊎◌, ℕ, List, None, Some, ◌+◌, ◌≤◌, IfErr, IfOk};
 ghost use Rattle.std.specs.Prelude.{OnErr, OnOk};
+ghost use Rattle.plain_graph.specs.Changes.{most_weight, start_weight};
 ghost use Rattle.plain_graph.specs.Reply.{Done};
 ghost use Rattle.plain_graph.specs.declared.command.Command.TheVariants as commands;
 ghost use Rattle.plain_graph.specs.declared.command.Target.TheVariants as targets;
@@ -25,11 +26,8 @@ use crate::owners::edge_owner;
 use group_store::{Side, close_chain, find_head};
 use name_store::Names;
 use prop_store::drop_all;
-use rec_bytes::{Damage, RELATIONSHIPS, Reads, Space};
+use rec_bytes::{CHAIN_RULE, Damage, RELATIONSHIPS, Reads, Space};
 use rel_store::{RelRow, load};
-
-/// The rule that the ends of a relationship are nodes whose chains list it.
-const CHAIN_RULE: u8 = 3;
 
 /// Deletes an edge with its properties, and answers the weight of the change. Its nodes and the
 /// names stay.
@@ -41,8 +39,7 @@ pub fn delete_edge<S: Space>(space: &mut S, names: &Names, id: u32) -> Result<u3
         → IfErr result (IsRefusal (S.state space.old).shape.limit (graph_in (S.state space.old))
         (commands.Delete (targets.Edge id))) }
     ensures leaves { IfErr result (LeavesSpace (S.state space.old) (S.state space.new)) }
-    ensures light { IfOk result (λ weight. weight + 6 ≤ 2048) }
-    ensures shape { S.tells → (S.state space.new).shape ≡ (S.state space.old).shape }
+    ensures light { IfOk result (λ weight. weight + start_weight ≤ most_weight) }
     ensures writes { IfOk result (λ weight.
         WritesAtMost weight (S.state space.old) (S.state space.new)) }
     ensures refused_writes { OnErr result (WritesAtMost 749
@@ -125,7 +122,6 @@ fn take_edge<S: Space>(
         → TakesEdge (S.state space.old) (S.state space.new) names id) }
     ensures sound { S.tells → (names : List (List ℕ)) → IsStore (S.state space.old) names
         → IsBareEdge (S.state space.old) id source target → IfErr result IsOutside }
-    ensures shape { S.tells → (S.state space.new).shape ≡ (S.state space.old).shape }
     ensures writes { WritesBeside (rel_key id) 12 (S.state space.old) (S.state space.new) }
     ensures late { IfErr result MayComeLate }
     ensures onward { S.onward space.old space.new }
@@ -138,6 +134,3 @@ fn take_edge<S: Space>(
     }
     Ok(())
 }
-
-#[cfg(test)]
-mod tests;

@@ -25,11 +25,10 @@ use crate::ChangeFault;
 use crate::edge_end::EdgeEnd;
 use chain_edit::push_front;
 use id_freelist::{TakeFault, take};
-use rec_bytes::{Damage, Key, META, NIL, NODE_DEGREE, NODES, RELATIONSHIPS, Space, set_number};
+use rec_bytes::{
+    Damage, Key, META, NIL, NODE_DEGREE, NODES, RELATIONSHIPS, SPLIT_RULE, Space, set_number,
+};
 use rel_store::{RelRow, save};
-
-/// The rule that live and free identifiers split those that were given out.
-const SPLIT_RULE: u8 = 2;
 
 /// Writes the record of a new relationship without properties, puts it into the chains of its ends,
 /// and answers its identifier. The degrees are those before. A group of a head may be empty before.
@@ -51,7 +50,6 @@ pub(crate) fn join_edge<S: Space>(
         → slice_get names label ≡ Some text
         → HasRoom (S.state space.old) relationships_file 1 → IfErr result IsOutside }
     ensures key { IfOk result (λ id. IsKey (key_in relationships_file id)) }
-    ensures shape { S.tells → (S.state space.new).shape ≡ (S.state space.old).shape }
     ensures writes { IfOk result (λ id.
         WritesJoined (S.state space.old) (S.state space.new) id source target) }
     ensures err_writes { OnErr result ((id : ℕ)
@@ -73,7 +71,6 @@ fn place<S: Space>(space: &mut S, label: u32, from: u32, to: u32) -> Result<u32,
         → KeepsRules (S.state space.old).records (S.state space.old).shape most empty
         → HasRoom (S.state space.old) relationships_file 1 → IfErr result IsOutside }
     ensures key { IfOk result (λ id. IsKey (key_in relationships_file id)) }
-    ensures shape { S.tells → (S.state space.new).shape ≡ (S.state space.old).shape }
     ensures writes { IfOk result (λ id.
         WritesOnly (S.state space.old) (S.state space.new) (rel_key id ∷ meta_keys)) }
     ensures err_writes { OnErr result ((id : ℕ)
@@ -161,7 +158,6 @@ fn join_ends<S: Space>(
         (first_of (joined (S.state space.old) (head_of source.head) source.node rel
         (one_more source.degree)).records (head_of target.head)))
         → IfErr result IsOutside }
-    ensures shape { S.tells → (S.state space.new).shape ≡ (S.state space.old).shape }
     ensures writes { WritesJoined (S.state space.old) (S.state space.new) rel source target }
     ensures late { IfErr result MayComeLate }
     ensures onward { S.onward space.old space.new }
@@ -184,7 +180,6 @@ fn join_end<S: Space>(space: &mut S, rel: u32, end: EdgeEnd) -> Result<(), Chang
     ensures sound { S.tells
         → IsRightLink (S.state space.old) (first_of (S.state space.old).records (head_of end.head))
         → IfErr result IsOutside }
-    ensures shape { S.tells → (S.state space.new).shape ≡ (S.state space.old).shape }
     ensures writes { (first : ℕ) × WritesOnly (S.state space.old) (S.state space.new)
         (rel_key rel ∷ joined_keys first end) }
     ensures late { IfErr result MayComeLate }

@@ -48,7 +48,6 @@ pub(crate) fn open_ends<S: Space>(
         (2 + ends_moved threshold from from_degree to to_degree)) }
     ensures writes { WritesAtMost (6 + ends_moved threshold from from_degree to to_degree)
         (S.state space.old) (S.state space.new) }
-    ensures shape { S.tells → (S.state space.new).shape ≡ (S.state space.old).shape }
     ensures late { IfErr result MayComeLate }
     ensures onward { S.onward space.old space.new }
     ensures cause { HasChangeCause (S.faults space.old) (S.faults space.new) result }
@@ -103,7 +102,6 @@ fn open_end<S: Space>(
         (moved_writes threshold degree + 1)) }
     ensures writes { WritesBeside (key_in nodes_file node) (moved_writes threshold degree + 2)
         (S.state space.old) (S.state space.new) }
-    ensures shape { S.tells → (S.state space.new).shape ≡ (S.state space.old).shape }
     ensures late { IfErr result MayComeLate }
     ensures onward { S.onward space.old space.new }
     ensures cause { HasChangeCause (S.faults space.old) (S.faults space.new) result }

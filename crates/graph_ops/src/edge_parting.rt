@@ -37,7 +37,6 @@ pub(crate) fn part_edge<S: Space>(
         → PartsEdge (S.state space.old) (S.state space.new) names id source target) }
     ensures sound { S.tells → (names : List (List ℕ)) → IsStore (S.state space.old) names
         → IsBareEdge (S.state space.old) id source target → IfErr result IsOutside }
-    ensures shape { S.tells → (S.state space.new).shape ≡ (S.state space.old).shape }
     ensures writes { WritesEnds (S.state space.old) (S.state space.new) id source target }
     ensures late { IfErr result MayComeLate }
     ensures onward { S.onward space.old space.new }
@@ -74,7 +73,6 @@ fn part_ends<S: Space>(
         (next_of (parted (S.state space.old) (head_of source.head) source.node rel
         (source.degree - 1)).records target.node rel))
         → IfErr result IsOutside }
-    ensures shape { S.tells → (S.state space.new).shape ≡ (S.state space.old).shape }
     ensures writes { WritesEnds (S.state space.old) (S.state space.new) rel source target }
     ensures late { IfErr result MayComeLate }
     ensures onward { S.onward space.old space.new }
@@ -98,7 +96,6 @@ fn part_end<S: Space>(space: &mut S, rel: u32, end: EdgeEnd) -> Result<(), Chang
         → IsRightLink (S.state space.old) (prev_of (S.state space.old).records end.node rel)
         → IsRightLink (S.state space.old) (next_of (S.state space.old).records end.node rel)
         → IfErr result IsOutside }
-    ensures shape { S.tells → (S.state space.new).shape ≡ (S.state space.old).shape }
     ensures writes { (before after : ℕ) × WritesOnly (S.state space.old) (S.state space.new)
         (rel_key rel ∷ end_keys before after end) }
     ensures late { IfErr result MayComeLate }

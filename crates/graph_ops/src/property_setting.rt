@@ -1,5 +1,6 @@
 ghost use Rattle.std.specs.Prelude.{◌≡◌, ◌++◌, ◌+◌, ◌<◌, ◌≤◌, ℕ, List, [], ◌∷◌, IfErr, IfOk, IsErr};
 ghost use Rattle.std.specs.Prelude.{OnErr, length};
+ghost use Rattle.plain_graph.specs.Changes.{most_weight, start_weight};
 ghost use Rattle.plain_graph.specs.Forms.{HasForm};
 ghost use Rattle.plain_graph.specs.Graph.{UsesNames};
 ghost use Rattle.plain_graph.specs.Refusals.{most_names};
@@ -36,9 +37,8 @@ pub fn set<S: Space>(
     ensures names_full { (used : List (List ℕ)) → UsesNames names.old.names (key.now ∷ []) used
         → most_names < length used → IsErr result }
     ensures leaves { S.tells → IfErr result (LeavesSpace (S.state space.old) (S.state space.new)) }
-    ensures light { IfOk result (λ weight. weight + 6 ≤ 2048) }
+    ensures light { IfOk result (λ weight. weight + start_weight ≤ most_weight) }
     ensures prefix { (rest : List (List ℕ)) × (names.new.names ≡ names.old.names ++ rest) }
-    ensures shape { S.tells → (S.state space.new).shape ≡ (S.state space.old).shape }
     ensures writes { IfOk result (λ weight.
         WritesAtMost weight (S.state space.old) (S.state space.new)) }
     ensures refused_writes { OnErr result (WritesAtMost 47
@@ -68,8 +68,7 @@ pub fn unset<S: Space>(
         → IfErr result (IsRefusal (S.state space.old).shape.limit (graph_in (S.state space.old))
         (commands.Unset target key.now)) }
     ensures leaves { IfErr result (LeavesSpace (S.state space.old) (S.state space.new)) }
-    ensures light { IfOk result (λ weight. weight + 6 ≤ 2048) }
-    ensures shape { S.tells → (S.state space.new).shape ≡ (S.state space.old).shape }
+    ensures light { IfOk result (λ weight. weight + start_weight ≤ most_weight) }
     ensures writes { IfOk result (λ weight.
         WritesAtMost weight (S.state space.old) (S.state space.new)) }
     ensures refused_writes { OnErr result (WritesAtMost 24
@@ -86,6 +85,3 @@ pub fn unset<S: Space>(
         None => Ok(2),
     }
 }
-
-#[cfg(test)]
-mod tests;

@@ -1,5 +1,5 @@
 -- What a session begins with over a store that was opened and whose names were loaded, and why there is none.
-use Rattle.std.proofs.Common.{◌≡◌, ◌⊎◌, ◌∙◌, ◌≤◌, true, false, IsTrue, Some, None, Err, List, [], inl, inr, refl, sym, ap, subst, arith}
+use Rattle.std.proofs.Common.{◌≡◌, ◌⊎◌, ◌∙◌, ◌≤◌, Bool, true, false, cond, nat_lt, IsTrue, Some, None, Err, List, [], inl, inr, refl, sym, ap, subst, arith}
 use Rattle.std.proofs.lemmas.List.{append-nil}
 use Rattle.fault_count.specs.Cause.{Rose}
 use Rattle.disk_model.specs.Contents.{Files}
@@ -7,25 +7,27 @@ use Rattle.disk_model.specs.Spans.{AtEachMoment, OnlyReads}
 use Rattle.disk_model.specs.declared.disk.Disk.{Ghosts}
 use Rattle.disk_model.proofs.Spans.{CountsNow, at_each_moment_read, at_each_moment_weaker}
 use Rattle.plain_graph.specs.Graph.{Graph}
-use Rattle.rec_bytes.specs.Creation.{own_key}
-use Rattle.rec_bytes.specs.Pairs.{Pairs}
-use Rattle.rec_bytes.specs.Record.{zeros}
-use Rattle.rec_bytes.specs.Format.{meta_file}
-use Rattle.rec_bytes.specs.Shape.{is_allowed, shape_of_record}
+use Rattle.rec_bytes.specs.Creation.{own_key, raised, raising_pairs}
+use Rattle.rec_bytes.specs.Format.{newest_version, taken_id, taken_rest}
+use Rattle.rec_bytes.specs.Record.{as_64, zeros, zeros_from}
+use Rattle.rec_bytes.specs.Shape.{is_allowed, shape_of_record, version_of}
+use Rattle.rec_bytes.specs.Space.{laid_over}
+use Rattle.rec_bytes.specs.declared.damage.Damage.{Damage}
+use Rattle.rec_bytes.specs.declared.fault.Fault.{Fault}
+use Rattle.rec_bytes.specs.declared.fault.Fault.TheVariants.{Memory, Disk, Damaged}
 use Rattle.rec_bytes.specs.declared.key.Key.{Key}
 use Rattle.rec_bytes.specs.declared.record.Rec.{Rec}
 use Rattle.rec_bytes.specs.declared.shape.Shape.{Shape}
-use Rattle.redo_log.specs.Redo.{redone}
 use Rattle.record_file.specs.Records.{IsUnmade, record_at}
 use Rattle.record_file.specs.Redone.{Redoes}
-use Rattle.record_file.specs.Unique.{entries_unique}
 use Rattle.record_file.proofs.Redone.{Redoes-kept}
 use Rattle.recovery.specs.Finding as finding
+use Rattle.recovery.specs.Finding.{IsRecoverable}
 use Rattle.txn_core.specs.Base.{OnlyReadsBase}
 use Rattle.txn_core.specs.Config.{Suits, shape_of}
 use Rattle.txn_core.specs.Kept.{IsOnDisk}
 use Rattle.txn_core.specs.Opening as opening
-use Rattle.txn_core.specs.Opening.{IsOldOrNew, IsWant, OnlyDiffers, made_over}
+use Rattle.txn_core.specs.Opening.{IsOldOrNew, IsOldOrRaised, IsRefusal, IsStore, IsWant, OnlyDiffers, made_over}
 use Rattle.txn_core.specs.Store.{committed, content, drafted, state_of, working}
 use Rattle.txn_core.specs.declared.config.Config.{Config}
 use Rattle.txn_core.specs.declared.open_fault.OpenFault.{OpenFault}
@@ -34,106 +36,112 @@ use Rattle.txn_core.specs.declared.store.Store.{Store}
 use Rattle.store_rules.specs.Graph.{graph_of, names_of}
 use Rattle.store_rules.specs.Rules.{IsWellFormed}
 use Rattle.store_rules.proofs.NewStores.{new_store_empty, new_well}
-use Rattle.name_store.specs.Fault.{NotDamaged}
-use Rattle.name_store.specs.Loading.{AreLoadable, IsLoadFault, after_names, name_mark}
-use Rattle.name_store.specs.declared.fault.Fault.{Fault}
-use Rattle.name_store.specs.declared.fault.Fault.TheVariants.{Memory, Disk, Damaged}
+use Rattle.rec_bytes.specs.Fault.{NotDamaged}
+use Rattle.name_store.specs.Loading.{AreLoadable, IsLoadFault, IsNameDamage, after_names, name_mark}
+use Rattle.name_store.specs.Loading.IsNameDamage.{HighMark, SameText, WrongForm, WrongText}
 use Rattle.name_store.proofs.NameDamage.{AreLoadable-AreInRange}
 use Rattle.graph_session.specs.Console.{IsAt, SessionView, TellsAll}
-use Rattle.graph_session.specs.Opening.{IsUnopened, LeavesByOpening, LeavesOldOrSame, Opens, RefusesContent, StandsForOne, Starts, StartsAs, unloaded}
+use Rattle.graph_session.specs.Opening.{IsUnopened, LeavesByOpening, LeavesOldOrSame, LeavesRefused, Opens, RefusesContent, StandsForOne, Starts, StartsAs, unloaded}
 use Rattle.graph_session.specs.Stands.{IsMade, Stands}
 use Rattle.graph_session.specs.State.{Live, State}
+use Rattle.graph_session.specs.Versions.{IsWellFormedIn}
 use Rattle.graph_session.specs.declared.health.Health.TheVariants as healths
 use Rattle.graph_session.proofs.Openings.{starts-stands}
-use Rattle.graph_session.proofs.Stands.{IsMade-redoes, Redoes-only, Stands-only, all-admitted, own-one, redone-held, unmade-not_made}
+use Rattle.graph_session.proofs.Stands.{Redoes-only, Stands-only, all-admitted, own-one, redone-held, unmade-not_found, unmade-recoverable}
 use Rattle.graph_session.proofs.States.{same_one}
 use Rattle.graph_session.proofs.StoreRecords.{committed-read, draft-read, drafted-none, working-none, working-read}
 use Rattle.graph_session.proofs.Streams.{Rose-from}
+use Rattle.graph_session.proofs.Versions.{graph_of-raised, newest-well_formed}
 
 -- ---- the records of the store
 
--- a well-formed store is one that recovery finds
-found-made : (space : Key → Rec) (shape : Shape) → IsWellFormed space shape → finding.IsMade space shape
-found-made space shape store = record { own = store.ranges.own; metas = store.ranges.metas }
-
--- its names are loaded
+-- the names of a well-formed store are loaded
 loadable : (space : Key → Rec) (shape : Shape) → IsWellFormed space shape → AreLoadable space
 loadable space shape store = AreLoadable-AreInRange space shape store.ranges store.names
 
--- recovery finds no store in a content where none was made
-unmade-not_found : (content : Files) (shape : Shape) (space : Key → Rec) → IsUnmade content → Redoes content space → ¬ finding.IsMade space shape
-unmade-not_found content shape space unmade redoes made =
-    let entries : redoes.entries ≡ [] = entries_unique redoes.entries [] 0 redoes.tail 0 content redoes.log unmade.log in
-    let same : record_at content ≡ space = ap (λ (found : List Pairs). redone (record_at content) found) (sym entries) ∙ redoes.makes in
-    let own : zeros ≡ space own_key = sym (unmade.blank meta_file refl) ∙ ap (λ (records : Key → Rec). records own_key) same in
-    none (ap shape_of_record own ∙ made.own)
-  where
-    none : ¬ (None ≡ Some shape)
-    none e = cc
+zeros-rest : zeros_from taken_rest zeros ≡ true
+unfolding zeros_from as_64
+zeros-rest = refl
 
--- a new store is well-formed
-new-store : (content : Files) (config : Config) (shape : Shape) (space : Key → Rec) → is_allowed (shape_of config) ≡ true → shape ≡ shape_of config → space ≡ made_over content shape → IsWellFormed space shape
-new-store content config shape space allowed shape_is space_is =
+-- a new store is well-formed: no transaction was taken over where none was made
+new-well_formed : (content : Files) (shape : Shape) → IsUnmade content → is_allowed shape ≡ true → IsWellFormed (made_over content shape) shape
+new-well_formed content shape unmade allowed = new_well (record_at content) shape allowed (ap (λ (r : Rec). zeros_from taken_rest r) (unmade.blank taken_id (omega arith)) ∙ zeros-rest)
+
+new-store : (content : Files) (config : Config) (shape : Shape) (space : Key → Rec) → IsUnmade content → is_allowed (shape_of config) ≡ true → shape ≡ shape_of config → space ≡ made_over content shape → IsWellFormed space shape
+new-store content config shape space unmade allowed shape_is space_is =
     subst (λ (records : Key → Rec). IsWellFormed records shape) (sym space_is)
-    (subst (λ (s : Shape). IsWellFormed (made_over content s) s) (sym shape_is) (new_well (record_at content) (shape_of config) allowed))
+    (subst (λ (s : Shape). IsWellFormed (made_over content s) s) (sym shape_is) (new-well_formed content (shape_of config) unmade allowed))
+
+-- The records that a content that stands for a graph redoes to are those of its store.
+found-store : (content : Files) (shape other : Shape) (before : Key → Rec) (graph : Graph) → Redoes content before → finding.IsMade before shape → Stands content other graph → IsWellFormedIn before shape
+found-store content shape other before graph redoes found (inl unmade) = absurd (unmade-not_found content shape before unmade.0 redoes found)
+found-store content shape other before graph redoes found (inr made) =
+    let same : made.space ≡ before = Redoes-only content made.space before made.redoes redoes in
+    let shapes : other ≡ shape = same_one other shape (sym made.store.made.own ∙ ap (λ (records : Key → Rec). shape_of_record (records own_key)) same ∙ found.own) in
+    subst (λ (s : Shape). IsWellFormedIn before s) shapes (subst (λ (records : Key → Rec). IsWellFormedIn records other) same made.store)
 
 -- The store that is opened is well-formed, where the content stands for a graph.
 opened-store : (content : Files) (config : Config) (shape : Shape) (space : Key → Rec) → is_allowed (shape_of config) ≡ true → opening.Opens content config shape space
     → (other : Shape) (graph : Graph) → Stands content other graph → IsWellFormed space shape
-opened-store content config shape space allowed (inl new) other graph stands = new-store content config shape space allowed new.1 new.2
-opened-store content config shape space allowed (inr found) other graph (inl unmade) = absurd (unmade-not_found content shape space unmade.0 found.0 found.1)
-opened-store content config shape space allowed (inr found) other graph (inr made) =
-    let same : made.space ≡ space = Redoes-only content made.space space made.redoes found.0 in
-    let shapes : other ≡ shape = same_one other shape (sym made.store.ranges.own ∙ ap (λ (records : Key → Rec). shape_of_record (records own_key)) same ∙ found.1.own) in
-    subst (λ (s : Shape). IsWellFormed space s) shapes (subst (λ (records : Key → Rec). IsWellFormed records other) same made.store)
+opened-store content config shape space allowed (inl new) other graph stands = new-store content config shape space new.0 allowed new.1 new.2
+opened-store content config shape space allowed (inr (before, redoes, found, suits, is)) other graph stands =
+    subst (λ (records : Key → Rec). IsWellFormed records shape) (sym is) (found-store content shape other before graph redoes found stands).store
+
+-- a content over which a store is opened is a store, or none was made in it
+opens-recoverable : (content : Files) (config : Config) (shape : Shape) (space : Key → Rec) → opening.Opens content config shape space → IsRecoverable content
+opens-recoverable content config shape space (inl new) = unmade-recoverable content new.0
+opens-recoverable content config shape space (inr (before, redoes, made, suits, is)) = (before, redoes, inr (shape, made))
 
 -- the state that a session over these records begins with
 abbrev pub beginning : Shape → (Key → Rec) → State
 beginning shape space = record { shape = shape; committed = graph_of space; open_one = None; standing = Live }
 
-opened-starts : (content : Files) (config : Config) (shape : Shape) (space : Key → Rec) → opening.Opens content config shape space → IsWellFormed space shape → Starts content config (beginning shape space)
-opened-starts content config shape space (inl new) store = inl (new.0, new.1, ap graph_of new.2 ∙ new_store_empty (record_at content) shape)
-opened-starts content config shape space (inr found) store = inr (IsMade-redoes content space shape found.0 store, found.2)
+opened-starts : (content : Files) (config : Config) (shape : Shape) (space : Key → Rec) → opening.Opens content config shape space → (other : Shape) (graph : Graph) → Stands content other graph
+    → Starts content config (beginning shape space)
+opened-starts content config shape space (inl new) other graph stands = inl (new.0, new.1, ap graph_of new.2 ∙ new_store_empty (record_at content) shape)
+opened-starts content config shape space (inr (before, redoes, found, suits, is)) other graph stands =
+    let same : graph_of space ≡ graph_of before = ap graph_of is ∙ graph_of-raised shape before in
+    inr (
+      record { space = before; redoes = redoes; store = found-store content shape other before graph redoes found stands; graph_is = same },
+      suits,
+    )
 
 -- ---- what a crash leaves
 
-left-made : (content : Files) (images : Files → Type 0) (config : Config) (shape : Shape) (graph : Graph) (made : IsMade content shape graph)
-    → (left : Files) → images left ⊎ Redoes left made.space → LeavesOldOrSame content images config left
-left-made content images config shape graph made left (inl old) = inl old
-left-made content images config shape graph made left (inr redoes) = inr (inr ((λ unmade. unmade-not_made content shape graph unmade made), made.space, made.redoes, redoes))
+left-made : (content : Files) (images : Files → Type 0) (config : Config) (shape : Shape) (store : IsStore content shape)
+    → (left : Files) → images left ⊎ IsOldOrRaised shape store.space left → LeavesOldOrSame content images config left
+left-made content images config shape store left (inl old) = inl old
+left-made content images config shape store left (inr redoes) = inr (inr ((λ unmade. unmade-not_found content shape store.space unmade store.redoes store.made), shape, store, redoes))
 
 left-new : (content : Files) (images : Files → Type 0) (config : Config) → is_allowed (shape_of config) ≡ true → IsUnmade content
     → (left : Files) → images left ⊎ IsOldOrNew content (shape_of config) left → LeavesOldOrSame content images config left
 left-new content images config allowed unmade left (inl old) = inl old
 left-new content images config allowed unmade left (inr (inl blank)) = inr (inl (unmade, inl (blank, refl)))
 left-new content images config allowed unmade left (inr (inr redoes)) =
+    let shape = shape_of config in
     inr (inl (
       unmade,
       inr (record {
-        space = made_over content (shape_of config);
+        space = made_over content shape;
         redoes = redoes;
-        store = new_well (record_at content) (shape_of config) allowed;
-        graph_is = sym (new_store_empty (record_at content) (shape_of config));
+        store = newest-well_formed (made_over content shape) shape (new-well_formed content shape unmade allowed);
+        graph_is = sym (new_store_empty (record_at content) shape);
       }),
     ))
 
 -- What is left at each moment, where the opening of the store says it.
 pub record LeavesStore {D : Type 0} (g : Ghosts D) (config : Config) (old new : D) : Type 0 where
-  pub made : g.tells_reads → g.tells_images → (space : Key → Rec) (shape : Shape) → Redoes (g.reads old) space → finding.IsMade space shape → AtEachMoment g old new (λ left. g.may_leave old left ⊎ Redoes left space)
+  pub made : g.tells_reads → g.tells_images → (space : Key → Rec) (shape : Shape) → Redoes (g.reads old) space → finding.IsMade space shape → AtEachMoment g old new (λ left. g.may_leave old left ⊎ IsOldOrRaised shape space left)
   pub blank : g.tells_reads → g.tells_images → IsUnmade (g.reads old) → AtEachMoment g old new (λ left. g.may_leave old left ⊎ IsOldOrNew (g.reads old) (shape_of config) left)
 
 module _ {D : Type 0} (g : Ghosts D) (config : Config) (old : D) where
-  leaves-by : (new : D) (shape : Shape) (graph : Graph) → is_allowed (shape_of config) ≡ true → LeavesStore g config old new → TellsAll g → Stands (g.reads old) shape graph
-      → AtEachMoment g old new (LeavesOldOrSame (g.reads old) (g.may_leave old) config)
-  leaves-by new shape graph allowed leaves told (inl unmade) =
-      at_each_moment_weaker g old new (λ left. g.may_leave old left ⊎ IsOldOrNew (g.reads old) (shape_of config) left) (LeavesOldOrSame (g.reads old) (g.may_leave old) config)
-      (leaves.blank told.0 told.1 unmade.0) (left-new (g.reads old) (g.may_leave old) config allowed unmade.0)
-  leaves-by new shape graph allowed leaves told (inr made) =
-      at_each_moment_weaker g old new (λ left. g.may_leave old left ⊎ Redoes left made.space) (LeavesOldOrSame (g.reads old) (g.may_leave old) config)
-      (leaves.made told.0 told.1 made.space shape made.redoes (found-made made.space shape made.store)) (left-made (g.reads old) (g.may_leave old) config shape graph made)
-
   pub opening-leaves : (new : D) → is_allowed (shape_of config) ≡ true → LeavesStore g config old new → LeavesByOpening g config old new
-  opening-leaves new allowed leaves told one = leaves-by new one.shape one.graph allowed leaves told one.stands
+  opening-leaves new allowed leaves told (space, redoes, inl unmade) =
+      at_each_moment_weaker g old new (λ left. g.may_leave old left ⊎ IsOldOrNew (g.reads old) (shape_of config) left) (LeavesOldOrSame (g.reads old) (g.may_leave old) config)
+      (leaves.blank told.0 told.1 unmade) (left-new (g.reads old) (g.may_leave old) config allowed unmade)
+  opening-leaves new allowed leaves told (space, redoes, inr (shape, made)) =
+      at_each_moment_weaker g old new (λ left. g.may_leave old left ⊎ IsOldOrRaised shape space left) (LeavesOldOrSame (g.reads old) (g.may_leave old) config)
+      (leaves.made told.0 told.1 space shape redoes made) (left-made (g.reads old) (g.may_leave old) config shape (record { space = space; redoes = redoes; made = made }))
 
   -- and by calls that only read
   loading-leaves : (mid new : D) → CountsNow g → LeavesByOpening g config old mid → OnlyReads g mid new → LeavesByOpening g config old new
@@ -151,14 +159,26 @@ want-only shape config (refusals.ConfigDiffers stored asked) want = absurd want
 pub opening-sound : (content : Files) (config : Config) (why : OpenFault) → ((space : Key → Rec) (shape : Shape) → Redoes content space → finding.IsMade space shape → OnlyDiffers shape config why) → (IsUnmade content → IsWant why)
     → (shape : Shape) (graph : Graph) → Stands content shape graph → OnlyDiffers shape config why
 opening-sound content config why sound blank shape graph (inl unmade) = want-only shape config why (blank unmade.0)
-opening-sound content config why sound blank shape graph (inr made) = sound made.space shape made.redoes (found-made made.space shape made.store)
+opening-sound content config why sound blank shape graph (inr made) = sound made.space shape made.redoes made.store.made
+
+-- names that are damaged in the newest version were so before
+IsNameDamage-raised : (shape : Shape) (space : Key → Rec) (damage : Damage) → IsNameDamage (raised shape space) damage → IsNameDamage space damage
+IsNameDamage-raised shape space = pick (nat_lt (version_of (space own_key)) newest_version)
+  where
+    pick : (old : Bool) (damage : Damage) → IsNameDamage (cond old (laid_over space (raising_pairs shape)) space) damage → IsNameDamage space damage
+    pick false damage is = is
+    pick true damage (HighMark high) = HighMark high
+    pick true damage (WrongForm id low form) = WrongForm id low form
+    pick true damage (WrongText id low form text) = WrongText id low form text
+    pick true damage (SameText id earlier low form less same) = SameText id earlier low form less same
 
 load-refuses : (T : Type 0) (content : Files) (config : Config) (shape : Shape) (space : Key → Rec) (fault : Fault) → is_allowed (shape_of config) ≡ true → opening.Opens content config shape space
     → IsLoadFault space fault → (AreLoadable space → NotDamaged {T = T} (Err fault)) → RefusesContent content config (unloaded fault)
 load-refuses T content config shape space Memory allowed opens is sound = inl tt
 load-refuses T content config shape space Disk allowed opens is sound = inl tt
-load-refuses T content config shape space (Damaged damage) allowed (inl new) is sound = absurd (sound (loadable space shape (new-store content config shape space allowed new.1 new.2)))
-load-refuses T content config shape space (Damaged damage) allowed (inr found) is sound = inr (damage, refl, space, found.0, is)
+load-refuses T content config shape space (Damaged damage) allowed (inl new) is sound = absurd (sound (loadable space shape (new-store content config shape space new.0 allowed new.1 new.2)))
+load-refuses T content config shape space (Damaged damage) allowed (inr (before, redoes, found, suits, same)) is sound =
+    inr (damage, refl, before, redoes, IsNameDamage-raised shape before damage (subst (λ (records : Key → Rec). IsNameDamage records damage) same is))
 
 load-sound : (T : Type 0) (shape : Shape) (config : Config) (fault : Fault) → NotDamaged {T = T} (Err fault) → OnlyDiffers shape config (unloaded fault)
 load-sound T shape config Memory sound = tt
@@ -218,10 +238,10 @@ module _ {D : Type 0} (g : Ghosts D) where
         images = λ told. all-admitted state space (g.may_leave session.disk) (own-one state space refl (begins.store told.0) refl) (begins.stored.images told.0 told.1);
       }
 
-  begins-starts : (config : Config) (old : D) (shape : Shape) (space : Key → Rec) → Suits config shape → (g.tells_reads → opening.Opens (g.reads old) config shape space) → (g.tells_reads → IsWellFormed space shape)
+  begins-starts : (config : Config) (old : D) (shape : Shape) (space : Key → Rec) → Suits config shape → (g.tells_reads → opening.Opens (g.reads old) config shape space) → (g.tells_reads → StandsForOne g old)
       → StartsAs g old config (beginning shape space)
-  begins-starts config old shape space suits opens store =
-      let starts : g.tells_reads → Starts (g.reads old) config (beginning shape space) = λ told. opened-starts (g.reads old) config shape space (opens told) (store told) in
+  begins-starts config old shape space suits opens stands =
+      let starts : g.tells_reads → Starts (g.reads old) config (beginning shape space) = λ told. let one = stands told in opened-starts (g.reads old) config shape space (opens told) one.shape one.graph one.stands in
       record {
         live = refl;
         closed = refl;
@@ -251,6 +271,25 @@ module _ {D : Type 0} {g : Ghosts D} (counts : CountsNow g) (config : Config) (o
   store-of : (g.tells_reads → StandsForOne g old) → g.tells_reads → IsWellFormed (committed opened) opened.base.shape
   store-of stands told = let one = stands told in opened-store (g.reads old) config opened.base.shape (committed opened) opens.allowed (opens.opened told) one.shape one.graph one.stands
 
+  -- The records of a store whose names are damaged stay, but for the version.
+  refused-leaves : (found : IsStore (g.reads old) opened.base.shape) → committed opened ≡ raised opened.base.shape found.space → g.tells_reads → LeavesRefused g old loaded.base.disk.now
+  refused-leaves found is told =
+      let shape = opened.base.shape in
+      inr (
+        shape,
+        found,
+        inr (subst (λ (records : Key → Rec). Redoes (g.reads loaded.base.disk.now) records) is ((same-stored opened loaded reads (committed opened) opens.stored).read told)),
+        (λ images. at_each_moment_read g old opened.base.disk.now loaded.base.disk.now (λ left. g.may_leave old left ⊎ IsOldOrRaised shape found.space left) counts images (opens.leaves.made told images found.space shape found.redoes found.made) reads.disk),
+      )
+
+  names-refused : (T : Type 0) (fault : Fault) → IsRefusal (unloaded fault) → (AreLoadable (committed opened) → NotDamaged {T = T} (Err fault)) → g.tells_reads
+      → opening.Opens (g.reads old) config opened.base.shape (committed opened) → LeavesRefused g old loaded.base.disk.now
+  names-refused T Memory refusal sound told opens_as = absurd refusal
+  names-refused T Disk refusal sound told opens_as = absurd refusal
+  names-refused T (Damaged damage) refusal sound told (inl new) =
+      absurd (sound (loadable (committed opened) opened.base.shape (new-store (g.reads old) config opened.base.shape (committed opened) new.0 opens.allowed new.1 new.2)))
+  names-refused T (Damaged damage) refusal sound told (inr (before, redoes, found, suits, is)) = refused-leaves (record { space = before; redoes = redoes; made = found }) is told
+
   -- The names were loaded.
   pub loaded-opens : (session : SessionView D) → session.console.shape ≡ loaded.base.shape → session.console.health ≡ healths.Live → session.console.is_live ≡ loaded.base.live
       → session.console.is_open ≡ loaded.base.in_transaction → session.console.draft ≡ loaded.draft.pairs → session.console.committed ≡ committed loaded → session.console.working ≡ working loaded
@@ -259,7 +298,7 @@ module _ {D : Type 0} {g : Ghosts D} (counts : CountsNow g) (config : Config) (o
   loaded-opens session shape health live closed draft same_committed same_working names disk state = record {
     begins = λ stands. (
       beginning opened.base.shape (committed opened),
-      begins-starts g config old opened.base.shape (committed opened) opens.suits opens.opened (store-of stands),
+      begins-starts g config old opened.base.shape (committed opened) opens.suits opens.opened stands,
       begins-at g session opened.base.shape (committed opened) (record {
         shape_is = shape ∙ reads.shape;
         health = health;
@@ -273,6 +312,7 @@ module _ {D : Type 0} {g : Ghosts D} (counts : CountsNow g) (config : Config) (o
         stored = subst (λ (d : D). IsOnDisk g d (λ left. Redoes left (committed opened))) (sym disk) (same-stored opened loaded reads (committed opened) opens.stored);
       }),
     );
+    recoverable = λ told. opens-recoverable (g.reads old) config opened.base.shape (committed opened) (opens.opened told);
     crash = subst (λ (d : D). LeavesByOpening g config old d) (sym disk) loaded-leaves;
     later = omega (arith, opens.later, later, ap g.faults disk);
   }
@@ -288,6 +328,8 @@ module _ {D : Type 0} {g : Ghosts D} (counts : CountsNow g) (config : Config) (o
         sound = λ told shape graph stands.
             load-sound T shape config fault (right told (loadable (committed opened) opened.base.shape (opened-store (g.reads old) config opened.base.shape (committed opened) opens.allowed (opens.opened told) shape graph stands)));
         crash = loaded-leaves;
+        careful = λ told. inr (opens-recoverable (g.reads old) config opened.base.shape (committed opened) (opens.opened told));
+        untouched = λ told refusal. names-refused T fault refusal (right told) told (opens.opened told);
         later = omega (arith, opens.later, later);
         cause = λ e. Rose-from (g.faults old) (g.faults opened.base.disk.now) (g.faults loaded.base.disk.now) opens.later (cause (unloaded-disk fault e));
       } in

@@ -28,4 +28,5 @@ pub mod Storage
 pub mod StoreRecords
 pub mod Streams
 pub mod Transactions
+pub mod Versions
 pub mod Weights

@@ -96,11 +96,11 @@ module _ {D : Type 0} {g : Ghosts D} where
     later = subst (λ (disk : D). g.faults s.base.disk.now ≤ g.faults disk) (sym same.disk) (omega arith)
 
     module _ (own : t.base.own.pairs ≡ []) (health : Health) (live : health ≡ healths.Live) (weight : ℕ) (names : List (List ℕ)) where
-      pub began : s.base.in_transaction ≡ false → t.base.in_transaction ≡ true → SettlesCommand g commands.Begin (seen_as s health weight names) (seen_as t health 6 names) Done
+      pub began : s.base.in_transaction ≡ false → t.base.in_transaction ≡ true → SettlesCommand g commands.Begin (seen_as s health weight names) (seen_as t health 7 names) Done
       began closed opened = record {
         settles = λ line state only served at.
             settles-begin at live only closed (record {
-              beneath = beneath health health weight 6 names names;
+              beneath = beneath health health weight 7 names names;
               same_disk = same.disk;
               health = refl;
               is_open = opened;

@@ -1,9 +1,9 @@
 -- A store that is found again, and its names.
-use Rattle.std.proofs.Common.{◌≡◌, ◌⊎◌, ◌∙◌, ℕ, ◌≤◌, false, List, [], length, refl, sym, ap, subst, arith}
+use Rattle.std.proofs.Common.{◌≡◌, ◌⊎◌, ⊎_elim, ◌∙◌, ℕ, ◌≤◌, false, List, [], length, inl, inr, refl, sym, ap, subst, arith}
 use Rattle.fault_count.specs.Cause.{Rose}
-use Rattle.disk_model.specs.Spans.{AtEachMoment}
+use Rattle.disk_model.specs.Spans.{AtEachMoment, OnlyReads}
 use Rattle.disk_model.specs.declared.disk.Disk.{Ghosts}
-use Rattle.disk_model.proofs.Spans.{CountsNow}
+use Rattle.disk_model.proofs.Spans.{CountsNow, only_reads_on}
 use Rattle.plain_graph.specs.Graph.{Graph}
 use Rattle.plain_graph.specs.Reply.{DamagedRecord, DiskFailed, Faulted}
 use Rattle.plain_graph.specs.declared.command.Command.TheVariants as commands
@@ -14,8 +14,9 @@ use Rattle.rec_bytes.specs.declared.shape.Shape.{Shape}
 use Rattle.record_file.specs.Redone.{Redoes}
 use Rattle.record_file.proofs.Redone.{Redoes-kept}
 use Rattle.recovery.specs.Finding as finding
+use Rattle.recovery.specs.Finding.{IsCareful}
 use Rattle.store_rules.specs.Graph.{names_of}
-use Rattle.txn_core.specs.Again.{IsRecovered}
+use Rattle.txn_core.specs.Again.{IsOld, IsRecovered}
 use Rattle.txn_core.specs.Base.{OnlyReadsBase, SameStore}
 use Rattle.txn_core.specs.Store.{content, drafted}
 use Rattle.txn_core.specs.declared.store.Store.{Store}
@@ -34,6 +35,11 @@ use Rattle.graph_session.proofs.StoreRecords.{committed-read, drafted-none, leng
 use Rattle.graph_session.proofs.Streams.{Rose-from}
 use Rattle.graph_session.proofs.Storage.{IsFound, IsLost, LeavesSame, leaves-same_read, settles-reopen, settles-reopen_damaged, settles-reopen_fault}
 use Rattle.graph_session.proofs.Transactions.{Ends}
+use Rattle.graph_session.proofs.Versions.{newest-made, newest-not_old}
+
+-- files that were left as they were are so after calls that only read
+pub careful-on : {D : Type 0} (g : Ghosts D) (first old new : D) → IsCareful g first old → OnlyReads g old new → IsCareful g first new
+careful-on g first old new careful reads told = ⊎_elim (λ only. inl (only_reads_on g first old new only reads)) (λ store. inr store) (careful told)
 
 module _ {D : Type 0} {g : Ghosts D} where
   module _ (counts : CountsNow g) (s t : Store D g) (same : SameStore s.base t.base) (was_closed : s.base.in_transaction ≡ false) (closed : t.base.in_transaction ≡ false) (draft : t.draft.pairs ≡ [])
@@ -50,8 +56,8 @@ module _ {D : Type 0} {g : Ghosts D} where
     pub lost_disk : Rose (g.faults s.base.disk.now) (g.faults t.base.disk.now) → SettlesCommand g commands.Reopen (seen_as s health weight names) (seen_as t healths.Failed weight names) (Faulted [] DiskFailed)
     lost_disk rose = record { settles = λ line state only served at. settles-reopen_fault counts at was_closed only leaves lost-at_once rose; onward = record { disk_later = later_on } }
 
-    -- what is read was told to be no store
-    pub lost_damaged : (file id : ℕ) → (g.tells_reads → (space : Key → Rec) → Redoes (content s) space → finding.IsMade space s.base.shape → ⊥)
+    -- what is read was told to be no store of the newest version
+    pub lost_damaged : (file id : ℕ) → (g.tells_reads → (space : Key → Rec) → Redoes (content s) space → finding.IsMade space s.base.shape → ¬ IsOld space → ⊥)
         → SettlesCommand g commands.Reopen (seen_as s health weight names) (seen_as t healths.Failed weight names) (Faulted [] (DamagedRecord file id))
     lost_damaged file id sound = record {
       settles = λ line state only served at. settles-reopen_damaged counts at was_closed only file id leaves lost-at_once (λ told. none at told);
@@ -59,9 +65,9 @@ module _ {D : Type 0} {g : Ghosts D} where
     }
       where
         none : {state : State} → IsAt g (seen_as s health weight names) state → g.tells_reads → ⊥
-        none at told =
+        none {state = state} at told =
             let had = (at.reads told).2 in
-            sound told had.space had.redoes (subst (λ (shape : Shape). finding.IsMade had.space shape) at.shape (record { own = had.store.ranges.own; metas = had.store.ranges.metas }))
+            sound told had.space had.redoes (subst (λ (shape : Shape). finding.IsMade had.space shape) at.shape (newest-made had.space state.shape had.store)) (newest-not_old had.space state.shape had.store)
 
     module _ (own : t.base.own ≡ s.base.own) (no_own : length s.base.own.pairs ≡ 0) (recovered : IsRecovered s.base t.base) (u : Store D g) (reads : OnlyReadsBase t.base u.base) (no_draft : u.draft.pairs ≡ [])
         (later_still : g.faults t.base.disk.now ≤ g.faults u.base.disk.now) where

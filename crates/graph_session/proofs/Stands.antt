@@ -3,10 +3,10 @@ use Rattle.std.proofs.Common.{◌≡◌, ◌⊎◌, ◌∙◌, ℕ, List, [], �
 use Rattle.disk_model.specs.Contents.{Files}
 use Rattle.disk_model.specs.declared.disk.Disk.{Ghosts}
 use Rattle.plain_graph.specs.Graph.{Graph}
-use Rattle.rec_bytes.specs.Format.{meta_file}
+use Rattle.rec_bytes.specs.Creation.{own_key}
+use Rattle.rec_bytes.specs.Format.{own_id}
 use Rattle.rec_bytes.specs.Pairs.{Pairs}
 use Rattle.rec_bytes.specs.Record.{zeros}
-use Rattle.rec_bytes.specs.RecordFiles.{meta_key_of}
 use Rattle.rec_bytes.specs.Shape.{shape_of_record}
 use Rattle.rec_bytes.specs.declared.key.Key.{Key}
 use Rattle.rec_bytes.specs.declared.record.Rec.{Rec}
@@ -15,11 +15,15 @@ use Rattle.redo_log.specs.Redo.{redone}
 use Rattle.record_file.specs.Records.{IsUnmade, record_at}
 use Rattle.record_file.specs.Redone.{Redoes}
 use Rattle.record_file.specs.Unique.{entries_unique}
+use Rattle.recovery.specs.Finding as finding
+use Rattle.recovery.specs.Finding.{IsRecoverable}
 use Rattle.store_rules.specs.Graph.{graph_of}
 use Rattle.store_rules.specs.Rules.{IsWellFormed}
 use Rattle.graph_session.specs.Console.{TellsAll}
-use Rattle.graph_session.specs.Stands.{AreAdmitted, HoldsAdmitted, IsAdmitted, IsAdmittedByEither, IsMade, Stands}
+use Rattle.graph_session.specs.Stands.{AreAdmitted, HoldsAdmitted, IsAdmitted, IsAdmittedByEither, IsMade, IsServed, Stands}
 use Rattle.graph_session.specs.State.{Admits, Live, Standing, State, graphs_from}
+use Rattle.graph_session.specs.Versions.{IsWellFormedIn}
+use Rattle.graph_session.proofs.Versions.{newest-well_formed}
 
 -- a content redoes to one space
 pub Redoes-only : (content : Files) (a b : Key → Rec) → Redoes content a → Redoes content b → a ≡ b
@@ -31,16 +35,29 @@ Redoes-only content a b h k =
 zeros-no_shape : shape_of_record zeros ≡ None
 zeros-no_shape = refl
 
--- a store was made in a content, or none was
-pub unmade-not_made : (content : Files) (shape : Shape) (graph : Graph) → IsUnmade content → ¬ IsMade content shape graph
-unmade-not_made content shape graph unmade made =
-    let entries : made.redoes.entries ≡ [] = entries_unique made.redoes.entries [] 0 made.redoes.tail 0 content made.redoes.log unmade.log in
-    let space : record_at content ≡ made.space = ap (λ (found : List Pairs). redone (record_at content) found) (sym entries) ∙ made.redoes.makes in
-    let own : zeros ≡ made.space (meta_key_of meta_file) = sym (unmade.blank meta_file refl) ∙ ap (λ (records : Key → Rec). records (meta_key_of meta_file)) space in
-    none (sym zeros-no_shape ∙ ap shape_of_record own ∙ made.store.ranges.own)
+-- no store was made where the records are those of an unmade content
+pub unmade-not_found : (content : Files) (shape : Shape) (space : Key → Rec) → IsUnmade content → Redoes content space → ¬ finding.IsMade space shape
+unmade-not_found content shape space unmade redoes made =
+    let entries : redoes.entries ≡ [] = entries_unique redoes.entries [] 0 redoes.tail 0 content redoes.log unmade.log in
+    let same : record_at content ≡ space = ap (λ (found : List Pairs). redone (record_at content) found) (sym entries) ∙ redoes.makes in
+    let own : zeros ≡ space own_key = sym (unmade.blank own_id (omega arith)) ∙ ap (λ (records : Key → Rec). records own_key) same in
+    none (sym zeros-no_shape ∙ ap shape_of_record own ∙ made.own)
   where
     none : ¬ (None ≡ Some shape)
     none e = cc
+
+-- where none was made, the records are those of the files
+pub unmade-recoverable : (content : Files) → IsUnmade content → IsRecoverable content
+unmade-recoverable content unmade = (record_at content, record { entries = []; tail = 0; log = unmade.log; makes = refl }, inl unmade)
+
+-- what stands for a graph is a store, or none was made in it
+pub stands-recoverable : (content : Files) (shape : Shape) (graph : Graph) → Stands content shape graph → IsRecoverable content
+stands-recoverable content shape graph (inl unmade) = unmade-recoverable content unmade.0
+stands-recoverable content shape graph (inr made) = (made.space, made.redoes, inr (shape, made.store.made))
+
+-- a store was made in a content, or none was
+pub unmade-not_made : (content : Files) (shape : Shape) (graph : Graph) → IsUnmade content → ¬ IsMade content shape graph
+unmade-not_made content shape graph unmade made = unmade-not_found content shape made.space unmade made.redoes made.store.made
 
 pub IsMade-only : (content : Files) (shape other : Shape) (a b : Graph) → IsMade content shape a → IsMade content other b → a ≡ b
 IsMade-only content shape other a b h k = h.graph_is ∙ ap graph_of (Redoes-only content h.space k.space h.redoes k.redoes) ∙ sym k.graph_is
@@ -52,9 +69,14 @@ Stands-only content shape other a b (inl h) (inr k) = absurd (unmade-not_made co
 Stands-only content shape other a b (inr h) (inl k) = absurd (unmade-not_made content shape a k.0 h)
 Stands-only content shape other a b (inr h) (inr k) = IsMade-only content shape other a b h k
 
--- what redoes to the records of a well-formed store stands for their graph
-pub IsMade-redoes : (content : Files) (space : Key → Rec) (shape : Shape) → Redoes content space → IsWellFormed space shape → IsMade content shape (graph_of space)
-IsMade-redoes content space shape redoes store = record { space = space; redoes = redoes; store = store; graph_is = refl }
+-- a store that a session has is one of the newest version
+pub served-made : (content : Files) (shape : Shape) (graph : Graph) → IsServed content shape graph → IsMade content shape graph
+served-made content shape graph served = record {
+  space = served.space;
+  redoes = served.redoes;
+  store = newest-well_formed served.space shape served.store;
+  graph_is = served.graph_is;
+}
 
 -- the records are those of a well-formed store, and the state admits their graph
 pub record IsOneOf (state : State) (space : Key → Rec) : Type 0 where
@@ -63,10 +85,14 @@ pub record IsOneOf (state : State) (space : Key → Rec) : Type 0 where
 
 -- a content that holds an admitted graph stands for it
 pub held-admitted : (state : State) (content : Files) → HoldsAdmitted state content → IsAdmitted state content
-held-admitted state content held = (held.0, held.1, inr held.2)
+held-admitted state content held = (held.0, held.1, inr (served-made content state.shape held.0 held.2))
 
 pub redone-held : (state : State) (space : Key → Rec) (content : Files) → IsOneOf state space → Redoes content space → HoldsAdmitted state content
-redone-held state space content one redoes = (graph_of space, one.admits, IsMade-redoes content space state.shape redoes one.store)
+redone-held state space content one redoes = (
+  graph_of space,
+  one.admits,
+  record { space = space; redoes = redoes; store = one.store; graph_is = refl },
+)
 
 pub redone-admitted : (state : State) (space : Key → Rec) (content : Files) → IsOneOf state space → Redoes content space → IsAdmitted state content
 redone-admitted state space content one redoes = held-admitted state content (redone-held state space content one redoes)

@@ -6,7 +6,7 @@ use Rattle.disk_model.specs.Spans.{AtEachMoment}
 use Rattle.disk_model.specs.declared.disk.Disk.{Ghosts}
 use Rattle.disk_model.proofs.Spans.{at_each_moment_weaker}
 use Rattle.stream_io.specs.Lines.{Whole}
-use Rattle.plain_graph.specs.Changes.{least_weight}
+use Rattle.plain_graph.specs.Changes.{start_weight}
 use Rattle.plain_graph.specs.Graph.{Graph}
 use Rattle.plain_graph.specs.Reply.{DiskFailed, Done, Faulted}
 use Rattle.plain_graph.specs.declared.command.Command.TheVariants as commands
@@ -35,7 +35,7 @@ pub record Begins {D : Type 0} (g : Ghosts D) (old new : SessionView D) : Type 0
   pub same_disk : new.disk ≡ old.disk
   pub health : new.console.health ≡ old.console.health
   pub is_open : new.console.is_open ≡ true
-  pub weight : new.console.weight ≡ least_weight
+  pub weight : new.console.weight ≡ start_weight
   pub names : new.console.names ≡ old.console.names
   pub working : g.tells_reads → new.console.working ≡ old.console.committed
 
@@ -91,7 +91,7 @@ rollback-open (inr (inr e)) = cc
 
 -- the state with an open transaction that has changed nothing
 abbrev pub begun : State → State
-begun state = opening state (Some (record { graph = state.committed; weight = least_weight }))
+begun state = opening state (Some (record { graph = state.committed; weight = start_weight }))
 
 -- the state in which this transaction's graph is committed
 abbrev pub with_commit : State → Transaction → State

@@ -2,7 +2,7 @@
 use Rattle.std.specs.Prelude.{◌≡◌, ◌≢◌, ◌⊎◌, ℕ, ◌+◌, Bool, true, false, Option, Some, None, List}
 use Rattle.std.specs.Prelude.{[], ◌∷◌, ◌++◌, map}
 use Rattle.stream_io.specs.Lines.{InputLine}
-use Rattle.plain_graph.specs.Changes.{Changes, Weighs, least_weight}
+use Rattle.plain_graph.specs.Changes.{Changes, Weighs, start_weight}
 use Rattle.plain_graph.specs.Counts.{counts_of}
 use Rattle.plain_graph.specs.Graph.{Graph}
 use Rattle.plain_graph.specs.Meaning.{edge_item, edges_at, has_past_count, meaning}
@@ -49,7 +49,7 @@ abbrev pub CarriesOut : State → Command → Reply → State → Type 0
 CarriesOut old commands.Blank reply new = ⊥
 CarriesOut old commands.Begin reply new =
     (reply ≡ Done)
-    × (new ≡ opening old (Some (record { graph = old.committed; weight = least_weight })))
+    × (new ≡ opening old (Some (record { graph = old.committed; weight = start_weight })))
 CarriesOut old commands.Commit reply new =
     (reply ≡ Done) × (transaction : Transaction) × (old.open_one ≡ Some transaction)
     × (new ≡ record old { committed = transaction.graph; open_one = None })
@@ -167,8 +167,8 @@ IsDone old x new =
     IsAccepted old x.line × (command : Command) × SpellsLine x.line command
     × CarriesOut old command x.reply new
 
--- The step, reply by reply. A refusal is the first of the reasons that hold. A store that stands for
--- a graph keeps all rules.
+-- The step, reply by reply. A refusal is the first of the reasons that hold. A store that stands
+-- for a graph keeps all rules.
 abbrev pub ConsoleStep : State → Exchange → State → Type 0
 ConsoleStep old x new = elim x.reply [
   | Silent ↦ IsSilent x.line × (new ≡ old)

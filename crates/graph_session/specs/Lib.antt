@@ -16,3 +16,4 @@ pub mod Settling
 pub mod Stands
 pub mod State
 pub mod Verdicts
+pub mod Versions

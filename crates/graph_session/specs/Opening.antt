@@ -2,23 +2,24 @@
 use Rattle.std.specs.Prelude.{◌≡◌, ◌⊎◌, ◌≤◌, None}
 use Rattle.fault_count.specs.Cause.{Rose}
 use Rattle.disk_model.specs.Contents.{Files}
-use Rattle.disk_model.specs.Spans.{AtEachMoment}
+use Rattle.disk_model.specs.Spans.{AtEachMoment, OnlyReads}
 use Rattle.disk_model.specs.declared.disk.Disk.{Ghosts}
 use Rattle.plain_graph.specs.Graph.{Graph, empty_graph}
 use Rattle.rec_bytes.specs.declared.damage.Damage.{Damage}
+use Rattle.rec_bytes.specs.declared.fault.Fault.{Fault}
+use Rattle.rec_bytes.specs.declared.fault.Fault.TheVariants.{Memory, Disk, Damaged}
 use Rattle.rec_bytes.specs.declared.key.Key.{Key}
 use Rattle.rec_bytes.specs.declared.record.Rec.{Rec}
 use Rattle.rec_bytes.specs.declared.shape.Shape.{Shape}
 use Rattle.record_file.specs.Records.{IsUnmade}
 use Rattle.record_file.specs.Redone.{Redoes}
+use Rattle.recovery.specs.Finding.{IsCareful, IsRecoverable}
 use Rattle.txn_core.specs.Config.{Suits, shape_of}
 use Rattle.txn_core.specs.declared.config.Config.{Config}
 use Rattle.txn_core.specs.declared.open_fault.OpenFault.{OpenFault}
 use Rattle.txn_core.specs.declared.open_fault.OpenFault.TheVariants as faults
-use Rattle.txn_core.specs.Opening.{OnlyDiffers, RefusesOpening}
+use Rattle.txn_core.specs.Opening.{IsOldOrRaised, IsRefusal, IsStore, OnlyDiffers, RefusesOpening}
 use Rattle.name_store.specs.Loading.{IsNameDamage}
-use Rattle.name_store.specs.declared.fault.Fault.{Fault}
-use Rattle.name_store.specs.declared.fault.Fault.TheVariants.{Memory, Disk, Damaged}
 use Rattle.graph_session.specs.Console.{IsAt, SessionView, TellsAll}
 use Rattle.graph_session.specs.Stands.{IsMade, Stands}
 use Rattle.graph_session.specs.State.{Live, State}
@@ -42,12 +43,14 @@ pub record StartsAs {D : Type 0} (g : Ghosts D) (disk : D) (config : Config) (st
       → state.committed ≡ graph
 
 -- A crash leaves a content from before; or where no store was made, one that stands for the empty
--- graph; or where one was made, one that redoes to its records.
+-- graph; or where one was made, one that redoes to its records, as they were or as they are in the
+-- newest version.
 abbrev pub LeavesOldOrSame : Files → (Files → Type 0) → Config → Files → Type 0
 LeavesOldOrSame content images config left =
     images left
     ⊎ ((IsUnmade content × Stands left (shape_of config) empty_graph)
-    ⊎ ((¬ IsUnmade content) × (space : Key → Rec) × Redoes content space × Redoes left space))
+    ⊎ ((¬ IsUnmade content) × (shape : Shape) × (store : IsStore content shape)
+    × IsOldOrRaised shape store.space left))
 
 -- what the disk reads stands for a graph, under some shape
 pub record StandsForOne {D : Type 0} (g : Ghosts D) (disk : D) : Type 0 where
@@ -55,10 +58,10 @@ pub record StandsForOne {D : Type 0} (g : Ghosts D) (disk : D) : Type 0 where
   pub graph : Graph
   pub stands : Stands (g.reads disk) shape graph
 
--- at each moment of the opening of a disk that stands for a graph
+-- at each moment of the opening of a store, or of a disk where none was made
 abbrev pub LeavesByOpening : {D : Type 0} → Ghosts D → Config → D → D → Type 0
 LeavesByOpening g config old new =
-    TellsAll g → StandsForOne g old
+    TellsAll g → IsRecoverable (g.reads old)
     → AtEachMoment g old new (LeavesOldOrSame (g.reads old) (g.may_leave old) config)
 
 -- A session was opened. Where what the disk reads stands for a graph, it is at a state that it
@@ -67,6 +70,7 @@ pub record Opens {D : Type 0} (g : Ghosts D) (config : Config) (old : D) (new : 
     : Type 0 where
   pub begins : (g.tells_reads → StandsForOne g old) → (state : State) × StartsAs g old config state
       × IsAt g new state
+  pub recoverable : g.tells_reads → IsRecoverable (g.reads old)
   pub crash : LeavesByOpening g config old new.disk
   pub later : g.faults old ≤ g.faults new.disk
 
@@ -78,13 +82,28 @@ RefusesContent content config why =
     ⊎ ((damage : Damage) × (why ≡ faults.Damaged damage) × (space : Key → Rec)
     × Redoes content space × IsNameDamage space damage)
 
--- No session was opened, for a reason that holds of what the disk reads.
+-- What is left of files that are refused for what they hold: the disk was only read; or, where a
+-- store was found whose names are damaged, its records are those that they were, as they were or as
+-- they are in the newest version, in what is read and in what a crash leaves that it didn't leave
+-- before.
+abbrev pub LeavesRefused : {D : Type 0} → Ghosts D → D → D → Type 0
+LeavesRefused g old new =
+    OnlyReads g old new
+    ⊎ ((shape : Shape) × (store : IsStore (g.reads old) shape)
+    × IsOldOrRaised shape store.space (g.reads new)
+    × (g.tells_images → AtEachMoment g old new (λ left.
+    g.may_leave old left ⊎ IsOldOrRaised shape store.space left)))
+
+-- No session was opened, for a reason that holds of what the disk reads. Files that are no store,
+-- or a broken one, are left as they were, whatever the reason is.
 pub record IsUnopened {D : Type 0} (g : Ghosts D) (config : Config) (old new : D) (why : OpenFault)
     : Type 0 where
   pub refused : g.tells_reads → RefusesContent (g.reads old) config why
   pub sound : g.tells_reads → (shape : Shape) (graph : Graph) → Stands (g.reads old) shape graph
       → OnlyDiffers shape config why
   pub crash : LeavesByOpening g config old new
+  pub careful : IsCareful g old new
+  pub untouched : g.tells_reads → IsRefusal why → LeavesRefused g old new
   pub later : g.faults old ≤ g.faults new
   pub cause : why ≡ faults.Disk → Rose (g.faults old) (g.faults new)
 

@@ -9,11 +9,19 @@ use Rattle.record_file.specs.Records.{IsUnmade}
 use Rattle.record_file.specs.Redone.{Redoes}
 use Rattle.store_rules.specs.Graph.{graph_of}
 use Rattle.store_rules.specs.Rules.{IsWellFormed}
+use Rattle.graph_session.specs.Versions.{IsWellFormedIn}
 use Rattle.graph_session.specs.State.{Admits, State}
 
 -- The entries of the log, laid over the records of the files, make a well-formed store of this
--- shape, whose graph this is.
+-- shape, of whatever version, whose graph this is.
 pub record IsMade (content : Files) (shape : Shape) (graph : Graph) : Type 0 where
+  pub space : Key → Rec
+  pub redoes : Redoes content space
+  pub store : IsWellFormedIn space shape
+  pub graph_is : graph ≡ graph_of space
+
+-- They make one of the newest version, as a session has it.
+pub record IsServed (content : Files) (shape : Shape) (graph : Graph) : Type 0 where
   pub space : Key → Rec
   pub redoes : Redoes content space
   pub store : IsWellFormed space shape
@@ -28,10 +36,10 @@ Stands content shape graph = (IsUnmade content × (graph ≡ empty_graph)) ⊎ I
 abbrev pub IsAdmitted : State → Files → Type 0
 IsAdmitted state content = (graph : Graph) × Admits state graph × Stands content state.shape graph
 
--- a store was made in the content, and the state admits its graph
+-- a store of the newest version was made in the content, and the state admits its graph
 abbrev pub HoldsAdmitted : State → Files → Type 0
 HoldsAdmitted state content =
-    (graph : Graph) × Admits state graph × IsMade content state.shape graph
+    (graph : Graph) × Admits state graph × IsServed content state.shape graph
 
 -- it stands for one that the state before a line admits, or the state after it
 abbrev pub IsAdmittedByEither : State → State → Files → Type 0

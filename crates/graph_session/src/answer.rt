@@ -2,7 +2,7 @@ use plain_graph::{Counts, Refusal};
 use rec_bytes::Damage;
 
 /// What a line is answered with that has no results.
-#[derive(Clone, Copy, Debug, PartialEq, Eq)]
+#[derive(Clone, Copy)]
 pub(crate) enum Answer {
     /// It was carried out.
     Done,

@@ -14,14 +14,11 @@ use crate::{Health, Session};
 use disk_model::Disk;
 use fault_count::Failed;
 use graph_ops::{Added, ChangeFault, add_edge, add_node, delete_edge, delete_node, set, unset};
-use plain_graph::{Command, Pairs, Refusal, Target, Text, Value};
+use plain_graph::{Command, MOST_WEIGHT, Pairs, Refusal, Target, Text, Value};
 use rec_bytes::{NODES, PROPERTIES, RELATIONSHIPS};
 
-/// What a transaction may weigh. A change's weight bounds the records that it writes.
-const MOST_WEIGHT: u32 = 2_048;
-
 /// A change that stands in the store's draft: its answer, and what it weighs.
-#[derive(Clone, Copy, Debug)]
+#[derive(Clone, Copy)]
 struct Drafted {
     answer: Answer,
     weight: u32,

@@ -9,7 +9,8 @@ use crate::answer::Answer;
 use crate::giving::give_answer;
 use crate::{Session, Turn};
 use disk_model::Disk;
-use store_check::{CheckFault, Verdict, check};
+use rec_bytes::SpaceFault;
+use store_check::{Verdict, check};
 use stream_io::Sink;
 
 impl<'d, D: Disk> Session<'d, D> {
@@ -41,8 +42,8 @@ impl<'d, D: Disk> Session<'d, D> {
         match check(self.alloc, &mut self.store) {
             Ok(Verdict::Sound) => Answer::Sound,
             Ok(Verdict::Broken(damage)) => Answer::Broken(damage),
-            Err(CheckFault::Memory) => Answer::NoMemory,
-            Err(CheckFault::Disk) => Answer::DiskFailed,
+            Err(SpaceFault::Memory) => Answer::NoMemory,
+            Err(SpaceFault::Disk) => Answer::DiskFailed,
         }
     }
 }

@@ -5,7 +5,8 @@ ghost use Rattle.graph_session.specs.Opening.{IsUnopened, Opens, unloaded};
 
 use crate::{Health, NotOpened, Session};
 use disk_model::Disk;
-use name_store::{Fault, load};
+use name_store::load;
+use rec_bytes::Fault;
 use std::alloc::Global;
 use txn_core::{Config, OpenFault, Store};
 

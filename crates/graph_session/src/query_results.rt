@@ -42,6 +42,3 @@ pub(crate) fn give_query<R: Reads, K: Sink>(
     }
     lines.finish(output, no_memory())
 }
-
-#[cfg(test)]
-mod tests;

@@ -1,5 +1,6 @@
 ghost use Rattle.std.specs.Prelude.{◌≡◌, ◌≤◌, IsTrue, List, ℕ};
 ghost use Rattle.stream_io.specs.Lines.{Long, Whole};
+ghost use Rattle.recovery.specs.Finding.{IsCareful};
 ghost use Rattle.graph_session.specs.Answer.{AnswersLine};
 ghost use Rattle.graph_session.specs.Answering.{reply_of};
 ghost use Rattle.graph_session.specs.Refusals.{SpellsOnly};
@@ -47,6 +48,9 @@ impl<'d, D: Disk> Session<'d, D> {
         // What `check` says is true of any content of the disk.
         ensures judges { Spells line.now commands.Check → self.old.health ≡ healths.Live
             → Judges D.tells_reads K.Sink (view self.old).console output.old output.new result }
+        // `reopen` leaves files that are no store, or a broken one, as they were.
+        ensures careful { Spells line.now commands.Reopen
+            → IsCareful D.Disk (view self.old).disk (view self.new).disk }
         ensures same_disk { HaveSameDisk self.old self.new }
     {
         match parse_line(self.alloc, line) {
@@ -88,6 +92,8 @@ impl<'d, D: Disk> Session<'d, D> {
             (with_sink self.old output.old) (with_sink self.new output.new) result }
         ensures judges { command.now ≡ commands.Check → self.old.health ≡ healths.Live
             → Judges D.tells_reads K.Sink (view self.old).console output.old output.new result }
+        ensures careful { command.now ≡ commands.Reopen
+            → IsCareful D.Disk (view self.old).disk (view self.new).disk }
         ensures same_disk { HaveSameDisk self.old self.new }
     {
         match command {
@@ -176,6 +182,3 @@ fn answer_of(fault: LineFault) -> Answer
         LineFault::TimesRange { at } => Answer::Refused(Refusal::TimesRange { at }),
     }
 }
-
-#[cfg(test)]
-mod tests;

@@ -1,4 +1,5 @@
 ghost use Rattle.std.specs.Prelude.{◌≡◌, ◌≤◌, [], IsTrue};
+ghost use Rattle.recovery.specs.Finding.{IsCareful};
 ghost use Rattle.txn_core.specs.Base.{OnlyReadsBase};
 ghost use Rattle.plain_graph.specs.declared.command.Command.TheVariants as commands;
 ghost use Rattle.graph_session.specs.Answering.{reply_of};
@@ -40,6 +41,7 @@ impl<'d, D: Disk> Session<'d, D> {
     pub(crate) fn reopen(&mut self) -> Answer
         ensures settles { SettlesCommand D.Disk commands.Reopen
             (view self.old) (view self.new) (reply_of result) }
+        ensures careful { IsCareful D.Disk (view self.old).disk (view self.new).disk }
         ensures same_disk { HaveSameDisk self.old self.new }
     {
         if self.store.in_transaction() {

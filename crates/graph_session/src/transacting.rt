@@ -8,11 +8,8 @@ use crate::answer::Answer;
 use crate::{Health, Session};
 use disk_model::Disk;
 use fault_count::Failed;
-use plain_graph::Refusal;
+use plain_graph::{Refusal, START_WEIGHT};
 use rec_bytes::{NAMES, Reads};
-
-/// What a transaction weighs before its first change: the meta records of the files.
-const LEAST_WEIGHT: u32 = 6;
 
 impl<'d, D: Disk> Session<'d, D> {
     ghost use Rattle.graph_session.specs.Session.{HaveSameDisk, view};
@@ -28,7 +25,7 @@ impl<'d, D: Disk> Session<'d, D> {
             return Answer::Refused(Refusal::TransactionOpen);
         }
         self.store.begin();
-        self.weight = LEAST_WEIGHT;
+        self.weight = START_WEIGHT;
         Answer::Done
     }
 

@@ -1,5 +1,5 @@
 /// How the run goes on after a line.
-#[derive(Clone, Copy, Debug, PartialEq, Eq)]
+#[derive(Clone, Copy)]
 pub enum Turn {
     /// With the next line.
     Go,

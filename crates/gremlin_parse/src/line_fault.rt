@@ -1,7 +1,7 @@
 use thiserror::Error;
 
 /// Why a line gives no command. Places are counted in bytes from the line's start.
-#[derive(Clone, Copy, Debug, PartialEq, Eq, Error)]
+#[derive(Clone, Copy, Debug, Error)]
 pub enum LineFault {
     /// There was no memory for the command.
     #[error("no memory for the command")]

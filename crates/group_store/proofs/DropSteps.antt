@@ -13,8 +13,8 @@ use Rattle.store_rules.specs.Chains.{In}
 use Rattle.store_rules.specs.Rules.{is_filled}
 use Rattle.store_rules.proofs.ChainLaws.{walk_of_chain}
 use Rattle.store_rules.specs.Views.{Records, first_link, rec_at}
-use Rattle.group_store.specs.declared.group_fault.GroupFault.{GroupFault}
-use Rattle.group_store.specs.declared.group_fault.GroupFault.TheVariants.{Memory, Disk, Damaged}
+use Rattle.rec_bytes.specs.declared.fault.Fault.{Fault}
+use Rattle.rec_bytes.specs.declared.fault.Fault.TheVariants.{Memory, Disk, Damaged}
 use Rattle.group_store.specs.Dropping.{CanDrop, HasDropped, IsDropFault, IsOnChain, dropped, follows}
 use Rattle.group_store.specs.Dropping.IsDropDamage.{BadMember}
 use Rattle.group_store.specs.GroupChain.{group_field, next_group, previous_group}
@@ -27,7 +27,7 @@ use Rattle.group_store.proofs.GroupRecords.{group_below}
 use Rattle.group_store.proofs.GroupWalks.{IsUndamaged}
 use Rattle.group_store.proofs.MakeSteps.{same_writes}
 
-pub member_told : (s : State) (node g : ℕ) (fault : GroupFault) → IsMemberFault s node g fault → IsDropFault s node g fault
+pub member_told : (s : State) (node g : ℕ) (fault : Fault) → IsMemberFault s node g fault → IsDropFault s node g fault
 member_told s node g Memory told = tt
 member_told s node g Disk told = tt
 member_told s node g (Damaged damage) told = BadMember damage told
@@ -89,7 +89,7 @@ dropped_has s now b f end node before after g free xs read back is before_is aft
 
 -- ---- a chain that is right
 
-pub is_undamaged : (s : State) (node g : ℕ) (xs : List ℕ) (fault : GroupFault) → IsOnChain s node g xs → IsMemberFault s node g fault → IsUndamaged fault
+pub is_undamaged : (s : State) (node g : ℕ) (xs : List ℕ) (fault : Fault) → IsOnChain s node g xs → IsMemberFault s node g fault → IsUndamaged fault
 is_undamaged s node g xs Memory on told = tt
 is_undamaged s node g xs Disk on told = tt
 is_undamaged s node g xs (Damaged damage) on told = by damage told

@@ -13,13 +13,13 @@ use Rattle.chain_edit.specs.Walking.{ReadsAtMost}
 use Rattle.node_store.specs.declared.node_row.NodeRow.{NodeRow}
 use Rattle.node_store.specs.Loading as nodes
 use Rattle.node_store.proofs.Rows.{kind-row_at-Some}
-use Rattle.group_store.specs.declared.group_fault.GroupFault.{GroupFault}
-use Rattle.group_store.specs.declared.group_fault.GroupFault.TheVariants.{Memory, Disk, Damaged}
+use Rattle.rec_bytes.specs.declared.fault.Fault.{Fault}
+use Rattle.rec_bytes.specs.declared.fault.Fault.TheVariants.{Memory, Disk, Damaged}
 use Rattle.group_store.specs.declared.group_row.GroupRow.{GroupRow}
 use Rattle.group_store.specs.Finding.{IsFindFault, IsFound, IsSought}
 use Rattle.group_store.specs.FirstGroup.{IsFirst, IsNodeFault, first_of}
 use Rattle.group_store.specs.GroupChain.{IsDense, IsGroupChain, IsGroupList, LacksGroup, up_to_type}
-use Rattle.group_store.specs.GroupFault.{of_row}
+use Rattle.rec_bytes.specs.Fault.{of_row}
 use Rattle.group_store.specs.Loading.{group_mark}
 use Rattle.group_store.specs.Walking.{IsWalkDamage, IsWalkFault, IsWalkable}
 use Rattle.group_store.specs.Walking.IsWalkDamage.{NoList, HighMark}
@@ -94,7 +94,7 @@ all_reads_then s now end reads more =
 pub reads_fewer : (s now : State) (m n : ℕ) → m ≤ n → ReadsAtMost m s now → ReadsAtMost n s now
 reads_fewer s now m n le reads = let within = reads.within in record { count = reads.count; within = omega arith; is = reads.is }
 
-pub found_then : (s now : State) (node first label : ℕ) (r : Result (Option GroupRow) GroupFault) → ReadsAtMost 1 s now → IsDense s.records node → first ≡ first_link s.records node
+pub found_then : (s now : State) (node first label : ℕ) (r : Result (Option GroupRow) Fault) → ReadsAtMost 1 s now → IsDense s.records node → first ≡ first_link s.records node
     → IfOk r (IsSought now.records node first label) → IfOk r (IsFound s.records node label)
 found_then s now node first label (Err fault) reads dense is found = tt
 found_then s now node first label (Ok found) reads dense is sought = by found (subst (λ z. IsSought s.records node z label found) is
@@ -104,12 +104,12 @@ found_then s now node first label (Ok found) reads dense is sought = by found (s
     by None h = λ _. h
     by (Some row) h = (dense, h)
 
-pub none_then : (records : Records) (node label : ℕ) (xs : List ℕ) (r : Result (Option GroupRow) GroupFault) → IsDense records node → IsGroupChain records node xs
+pub none_then : (records : Records) (node label : ℕ) (xs : List ℕ) (r : Result (Option GroupRow) Fault) → IsDense records node → IsGroupChain records node xs
     → IfOk r (IsFound records node label) → IfOk r (λ found. (found ≡ None) ↔ LacksGroup records node label)
 none_then records node label xs (Err fault) dense chain found = tt
 none_then records node label xs (Ok found) dense chain is = exactly_none records node label xs found dense chain is
 
-pub fault_then : (s now : State) (node first : ℕ) (r : Result (Option GroupRow) GroupFault) → ReadsAtMost 1 s now → first ≡ first_link s.records node
+pub fault_then : (s now : State) (node first : ℕ) (r : Result (Option GroupRow) Fault) → ReadsAtMost 1 s now → first ≡ first_link s.records node
     → IfErr r (IsWalkFault now node first) → IfErr r (IsFindFault s node)
 fault_then s now node first (Ok found) reads is told = tt
 fault_then s now node first (Err Memory) reads is told = tt
@@ -120,7 +120,7 @@ fault_then s now node first (Err (Damaged damage)) reads is told = inr (subst (�
     by damage (NoList none) = NoList (λ xs list. none xs (subst (λ (r : Records). IsGroupList r node first xs) (sym (records_then s now reads.count reads.is)) list))
     by damage (HighMark above) = HighMark (let mark = mark_then s now reads.count reads.is in let room = room_then s now reads.count reads.is in omega arith)
 
-pub find_fault : (s : State) (node : ℕ) (fault : GroupFault) → IsNodeFault s node fault → IsFindFault s node fault
+pub find_fault : (s : State) (node : ℕ) (fault : Fault) → IsNodeFault s node fault → IsFindFault s node fault
 find_fault s node Memory told = tt
 find_fault s node Disk told = tt
 find_fault s node (Damaged damage) told = inl told

@@ -44,7 +44,7 @@ range_put s shape file x rec is fits old =
       more = let e = ap (λ (m : ℕ → ℕ). m file) marks in omega arith;
       covers = λ y lt ne. let e = ap (λ (m : ℕ → ℕ). m file) marks in omega arith;
     } in
-    ch.in_range s t file x change shape (subst (λ r. metas.IsMetaInRange (room_of shape file) r) (sym (meta file)) (old.metas file is))
+    ch.in_range s t file x change shape (subst (λ r. metas.IsMetaInRange shape file r) (sym (meta file)) (old.metas file is))
     (λ lt. subst (Fits (high t) file) (sym (put_same s (key_in file x) rec)) (subst (λ (m : ℕ → ℕ). Fits m file rec) (sym marks) (fits (subst (λ (m : ℕ → ℕ). x < m file) marks lt)))) old
 
 -- the second rule for the groups, where one in use gets another record of its kind

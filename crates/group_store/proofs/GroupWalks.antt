@@ -18,10 +18,10 @@ use Rattle.rec_bytes.specs.declared.record.Rec.{Rec}
 use Rattle.rec_bytes.specs.Record.{field}
 use Rattle.chain_edit.specs.Walking.{ReadsAtMost}
 use Rattle.chain_edit.proofs.Walks.{distinct}
-use Rattle.group_store.specs.declared.group_fault.GroupFault.{GroupFault}
-use Rattle.group_store.specs.declared.group_fault.GroupFault.TheVariants.{Memory, Disk, Damaged}
+use Rattle.rec_bytes.specs.declared.fault.Fault.{Fault}
+use Rattle.rec_bytes.specs.declared.fault.Fault.TheVariants.{Memory, Disk, Damaged}
 use Rattle.group_store.specs.declared.group_row.GroupRow.{GroupRow}
-use Rattle.group_store.specs.GroupFault.{NotDamaged}
+use Rattle.rec_bytes.specs.Fault.{NotDamaged}
 use Rattle.group_store.specs.GroupChain.{IsGroupList, IsGroupOf, next_group}
 use Rattle.group_store.specs.Loading.{group_mark, group_room}
 use Rattle.group_store.specs.Walking.{IsMemberDamage, IsMemberFault, IsWalkDamage, IsWalkFault, IsWalkable, group_row_at}
@@ -129,7 +129,7 @@ room_then s now n reads = ap group_room reads ∙ ap (λ (shape : Shape). room_o
 -- ---- damage
 
 -- what is no group on the way
-pub walk_fault : (s now : State) (n node first left at : ℕ) (fault : GroupFault) → now ≡ after_gets n s → at ≢ format.nil
+pub walk_fault : (s now : State) (n node first left at : ℕ) (fault : Fault) → now ≡ after_gets n s → at ≢ format.nil
     → ((xs : List ℕ) → IsGroupList s.records node first xs → IsLeft s.records node left at) → IsMemberFault now node at fault → IsWalkFault s node first fault
 walk_fault s now n node first left at Memory reads there rest told = tt
 walk_fault s now n node first left at Disk reads there rest told = tt
@@ -172,20 +172,20 @@ pub link_then : (s now : State) (n at link : ℕ) (rec : Rec) → now ≡ after_
 link_then s now n at link rec reads got is = is ∙ ap (λ r. field 4 r format.group_next) (rec_then s now n at rec reads got)
 
 -- where the list ends, no record is said to be damaged
-abbrev pub IsUndamaged : GroupFault → Type 0
+abbrev pub IsUndamaged : Fault → Type 0
 IsUndamaged Memory = Unit {0}
 IsUndamaged Disk = Unit {0}
 IsUndamaged (Damaged damage) = ⊥
 
-pub undamaged : (s : State) (node first : ℕ) (xs : List ℕ) (fault : GroupFault) → IsWalkable s node first xs → IsWalkFault s node first fault → IsUndamaged fault
+pub undamaged : (s : State) (node first : ℕ) (xs : List ℕ) (fault : Fault) → IsWalkable s node first xs → IsWalkFault s node first fault → IsUndamaged fault
 undamaged s node first xs Memory can told = tt
 undamaged s node first xs Disk can told = tt
 undamaged s node first xs (Damaged damage) can told = none_damaged s node first xs damage can told
 
-pub not_damaged : (T : Type 0) (fault : GroupFault) → IsUndamaged fault → NotDamaged {T = T} (Err fault)
+pub not_damaged : (T : Type 0) (fault : Fault) → IsUndamaged fault → NotDamaged {T = T} (Err fault)
 not_damaged T Memory h = tt
 not_damaged T Disk h = tt
 not_damaged T (Damaged damage) h = h
 
-pub not_damaged_at : {T : Type 0} (r : Result T GroupFault) (e fault : GroupFault) → r ≡ Err e → e ≡ fault → IsUndamaged fault → NotDamaged r
-not_damaged_at {T = T} r e fault is same h = subst (NotDamaged {T = T}) (sym is) (subst (λ (f : GroupFault). NotDamaged {T = T} (Err f)) (sym same) (not_damaged T fault h))
+pub not_damaged_at : {T : Type 0} (r : Result T Fault) (e fault : Fault) → r ≡ Err e → e ≡ fault → IsUndamaged fault → NotDamaged r
+not_damaged_at {T = T} r e fault is same h = subst (NotDamaged {T = T}) (sym is) (subst (λ (f : Fault). NotDamaged {T = T} (Err f)) (sym same) (not_damaged T fault h))

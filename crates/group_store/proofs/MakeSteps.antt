@@ -15,12 +15,13 @@ use Rattle.store_rules.specs.Views.{Records, first_link, kind_at}
 use Rattle.store_rules.proofs.ChainLaws.{walk_of_chain}
 use Rattle.chain_edit.specs.Walking.{ReadsAtMost}
 use Rattle.chain_edit.proofs.ChainSteps.{first_in}
-use Rattle.group_store.specs.declared.group_fault.GroupFault.{GroupFault}
-use Rattle.group_store.specs.declared.group_fault.GroupFault.TheVariants.{Memory, Disk, Damaged}
+use Rattle.rec_bytes.specs.declared.fault.Fault.{Fault}
+use Rattle.rec_bytes.specs.declared.fault.Fault.TheVariants.{Memory, Disk, Damaged}
 use Rattle.group_store.specs.declared.group_row.GroupRow.{GroupRow}
 use Rattle.group_store.specs.FirstGroup.{IsNodeFault}
 use Rattle.group_store.specs.GroupChain.{next_group}
-use Rattle.group_store.specs.GroupFault.{OnDamage, of_take}
+use Rattle.rec_bytes.specs.Fault.{OnDamage}
+use Rattle.group_store.specs.Faults.{of_take}
 use Rattle.group_store.specs.Links.{IsLinkDamage, IsRightLink}
 use Rattle.group_store.specs.Links.IsLinkDamage.{LeadsNowhere, HighLink}
 use Rattle.group_store.specs.Making.{CanMake, HasMade, IsMakeFault, empty_group, empty_row, led, made}
@@ -42,7 +43,7 @@ same_read n s now reads = subst (SameButReads s) (sym reads.is) (gets_same reads
 pub same_then : (a b c : State) → SameButReads a b → SameButReads b c → SameButReads a c
 same_then a b c first then = then ∙ ap (λ (t : State). record t { reads = c.reads }) first
 
-pub on_damage : {T : Type 0} (r : Result T GroupFault) (P : Type 0) → P → OnDamage r P
+pub on_damage : {T : Type 0} (r : Result T Fault) (P : Type 0) → P → OnDamage r P
 on_damage (Ok value) P p = tt
 on_damage (Err Memory) P p = tt
 on_damage (Err Disk) P p = tt
@@ -70,7 +71,7 @@ all_writes s now u end a b c m same one three = record { each = λ q w. late q (
 
 -- ---- damage
 
-pub node_told : (s : State) (node : ℕ) (fault : GroupFault) → IsNodeFault s node fault → IsMakeFault s node fault
+pub node_told : (s : State) (node : ℕ) (fault : Fault) → IsNodeFault s node fault → IsMakeFault s node fault
 node_told s node Memory told = tt
 node_told s node Disk told = tt
 node_told s node (Damaged damage) told = BadNode damage told

@@ -7,12 +7,12 @@ use Rattle.store_rules.specs.Chains.{In}
 use Rattle.store_rules.specs.Ends.{Regroups}
 use Rattle.store_rules.specs.Rules.{KeepsRules, is_filled}
 use Rattle.store_rules.specs.Views.{Records, rec_at}
-use Rattle.group_store.specs.declared.group_fault.GroupFault.{GroupFault}
-use Rattle.group_store.specs.declared.group_fault.GroupFault.TheVariants.{Memory, Disk, Damaged}
-use Rattle.group_store.specs.GroupFault.{NotDamaged}
+use Rattle.rec_bytes.specs.declared.fault.Fault.{Fault}
+use Rattle.rec_bytes.specs.declared.fault.Fault.TheVariants.{Memory, Disk, Damaged}
+use Rattle.rec_bytes.specs.Fault.{NotDamaged}
 
 -- a fault that is handed on
-pub handed : (A B : Type 0) (fault : GroupFault) → NotDamaged {T = A} (Err fault) → NotDamaged {T = B} (Err fault)
+pub handed : (A B : Type 0) (fault : Fault) → NotDamaged {T = A} (Err fault) → NotDamaged {T = B} (Err fault)
 handed A B Memory h = tt
 handed A B Disk h = tt
 handed A B (Damaged damage) h = h

@@ -24,9 +24,9 @@ use Rattle.store_rules.specs.Writes.{WritesBeside, meta_keys}
 use Rattle.store_rules.proofs.ChainLaws.{head_once}
 use Rattle.store_rules.proofs.WriteLaws.{among_metas, these_written}
 use Rattle.chain_edit.specs.Chains.{next_of}
-use Rattle.chain_edit.specs.ChainFault as chains
-use Rattle.chain_edit.specs.declared.chain_fault.ChainFault.{ChainFault}
-use Rattle.chain_edit.specs.declared.chain_fault.ChainFault.TheVariants as chain_fault
+use Rattle.rec_bytes.specs.Fault as faults
+use Rattle.rec_bytes.specs.declared.fault.Fault.{Fault}
+use Rattle.rec_bytes.specs.declared.fault.Fault.TheVariants as chain_fault
 use Rattle.chain_edit.specs.Links.{IsRightLink, prev_set}
 use Rattle.chain_edit.specs.Pushing.{pushed}
 use Rattle.node_store.specs.declared.node_row.NodeRow.{NodeRow}
@@ -36,7 +36,7 @@ use Rattle.node_store.proofs.Rows.{kind-row_at-Some as node_row}
 use Rattle.group_store.specs.Densing.{BecomesDense, CanBecomeDense, HasDenseRoom}
 use Rattle.group_store.specs.declared.moved.Turn.{Turn}
 use Rattle.group_store.specs.GroupChain.{IsDense, IsGroupOf}
-use Rattle.group_store.specs.GroupFault.{of_chain, of_row}
+use Rattle.rec_bytes.specs.Fault.{of_row}
 use Rattle.group_store.specs.GroupRecord.{group_key}
 use Rattle.group_store.specs.Moving.{HasCome, IsOwnTurn}
 use Rattle.group_store.specs.Sides.{group_head, side_at}
@@ -132,7 +132,7 @@ pub row_sound : (fault : RowFault) → rows.NotDamaged {T = Option RelRow} (Err 
 row_sound rows_fault.Disk h = tt
 row_sound (rows_fault.Damaged damage) h = h
 
-pub chain_sound : (fault : ChainFault) → chains.NotDamaged {T = ℕ} (Err fault) → IsUndamaged (of_chain fault)
+pub chain_sound : (fault : Fault) → faults.NotDamaged {T = ℕ} (Err fault) → IsUndamaged fault
 chain_sound chain_fault.Memory h = tt
 chain_sound chain_fault.Disk h = tt
 chain_sound (chain_fault.Damaged damage) h = h

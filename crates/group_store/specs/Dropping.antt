@@ -11,8 +11,8 @@ use Rattle.rec_bytes.specs.RecordFiles.{meta_key_of}
 use Rattle.rec_bytes.specs.Space.{State, after_get, after_set, meta_in}
 use Rattle.store_rules.specs.Chains.{In}
 use Rattle.store_rules.specs.Views.{Records, high, kind_at}
-use Rattle.group_store.specs.declared.group_fault.GroupFault.{GroupFault}
-use Rattle.group_store.specs.declared.group_fault.GroupFault.TheVariants.{Memory, Disk, Damaged}
+use Rattle.rec_bytes.specs.declared.fault.Fault.{Fault}
+use Rattle.rec_bytes.specs.declared.fault.Fault.TheVariants.{Memory, Disk, Damaged}
 use Rattle.group_store.specs.GroupChain.{IsGroupChain, next_group, previous_group}
 use Rattle.group_store.specs.GroupRecord.{group_key, range_damage}
 use Rattle.group_store.specs.Links.{IsLinkDamage, backed, link_set}
@@ -75,7 +75,7 @@ pub data IsDropDamage (s : State) (node g : ℕ) : Damage → Type 0 where
   BadNext : (damage : Damage) → IsLinkDamage s (next_group s.records g) (range_damage g) damage
       → IsDropDamage s node g damage
 
-abbrev pub IsDropFault : State → ℕ → ℕ → GroupFault → Type 0
+abbrev pub IsDropFault : State → ℕ → ℕ → Fault → Type 0
 IsDropFault s node g Memory = Unit {0}
 IsDropFault s node g Disk = Unit {0}
 IsDropFault s node g (Damaged damage) = IsDropDamage s node g damage

@@ -3,8 +3,8 @@ use Rattle.std.specs.Prelude.{◌≡◌, ◌⊎◌, ℕ, List, Option, None, Som
 use Rattle.rec_bytes.specs.Space.{State}
 use Rattle.node_store.specs.Loading.{IsNodeDamage}
 use Rattle.store_rules.specs.Views.{Records, first_link}
-use Rattle.group_store.specs.declared.group_fault.GroupFault.{GroupFault}
-use Rattle.group_store.specs.declared.group_fault.GroupFault.TheVariants.{Memory, Disk, Damaged}
+use Rattle.rec_bytes.specs.declared.fault.Fault.{Fault}
+use Rattle.rec_bytes.specs.declared.fault.Fault.TheVariants.{Memory, Disk, Damaged}
 use Rattle.group_store.specs.declared.group_row.GroupRow.{GroupRow}
 use Rattle.group_store.specs.GroupChain.{IsDense, IsGroupList, IsGroupOf, LacksType}
 use Rattle.group_store.specs.Walking.{IsWalkDamage, group_row_at}
@@ -27,7 +27,7 @@ IsFound records node label None =
     IsDense records node → IsSought records node (first_link records node) label None
 IsFound records node label (Some row) = IsDense records node × IsGroupFound records node label row
 
-abbrev pub IsFindFault : State → ℕ → GroupFault → Type 0
+abbrev pub IsFindFault : State → ℕ → Fault → Type 0
 IsFindFault s node Memory = Unit {0}
 IsFindFault s node Disk = Unit {0}
 IsFindFault s node (Damaged damage) =

@@ -1,10 +1,10 @@
 pub mod Closing
 pub mod Densing
 pub mod Dropping
+pub mod Faults
 pub mod Finding
 pub mod FirstGroup
 pub mod GroupChain
-pub mod GroupFault
 pub mod GroupRecord
 pub mod Links
 pub mod Loading

@@ -14,11 +14,11 @@ use Rattle.rec_bytes.specs.RecordFiles.{meta_key_of}
 use Rattle.rec_bytes.specs.Space.{State, after_get, after_put, after_set, meta_in, meta_of}
 use Rattle.rec_bytes.specs.Tables.{Fields, with_fields}
 use Rattle.store_rules.specs.Views.{Records, first_link, high}
-use Rattle.group_store.specs.declared.group_fault.GroupFault.{GroupFault}
-use Rattle.group_store.specs.declared.group_fault.GroupFault.TheVariants.{Memory, Disk, Damaged}
+use Rattle.rec_bytes.specs.declared.fault.Fault.{Fault}
+use Rattle.rec_bytes.specs.declared.fault.Fault.TheVariants.{Memory, Disk, Damaged}
 use Rattle.group_store.specs.declared.group_row.GroupRow.{GroupRow}
 use Rattle.group_store.specs.GroupChain.{IsDense, IsGroupChain, LacksType}
-use Rattle.group_store.specs.GroupFault.{full_damage}
+use Rattle.group_store.specs.Faults.{full_damage}
 use Rattle.group_store.specs.GroupRecord.{group_key}
 use Rattle.group_store.specs.Links.{IsLinkDamage, backed}
 use Rattle.group_store.specs.Walking.{chain_damage, group_row_at}
@@ -94,7 +94,7 @@ pub data IsMakeDamage (s : State) (node : ℕ) : Damage → Type 0 where
   BadFree : (damage : Damage) → IsTakeDamage s format.groups_file damage
       → IsMakeDamage s node damage
 
-abbrev pub IsMakeFault : State → ℕ → GroupFault → Type 0
+abbrev pub IsMakeFault : State → ℕ → Fault → Type 0
 IsMakeFault s node Memory = Unit {0}
 IsMakeFault s node Disk = Unit {0}
 IsMakeFault s node (Damaged damage) = IsMakeDamage s node damage

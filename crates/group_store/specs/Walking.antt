@@ -4,8 +4,8 @@ use Rattle.rec_bytes.specs.declared.damage.Damage.{Damage}
 use Rattle.rec_bytes.specs.Format.{groups_file, nodes_file}
 use Rattle.rec_bytes.specs.Space.{State}
 use Rattle.store_rules.specs.Views.{Records, rec_at}
-use Rattle.group_store.specs.declared.group_fault.GroupFault.{GroupFault}
-use Rattle.group_store.specs.declared.group_fault.GroupFault.TheVariants.{Memory, Disk, Damaged}
+use Rattle.rec_bytes.specs.declared.fault.Fault.{Fault}
+use Rattle.rec_bytes.specs.declared.fault.Fault.TheVariants.{Memory, Disk, Damaged}
 use Rattle.group_store.specs.declared.group_row.GroupRow.{GroupRow}
 use Rattle.group_store.specs.GroupChain.{IsGroupList, IsGroupOf}
 use Rattle.group_store.specs.GroupRecord.{row_of}
@@ -31,7 +31,7 @@ pub data IsMemberDamage (s : State) (node id : ℕ) : Damage → Type 0 where
   NoMember : ¬ IsGroupOf s.records node id → IsMemberDamage s node id (chain_damage node)
   HighMember : group_room s < group_mark s → IsMemberDamage s node id mark_damage
 
-abbrev pub IsMemberFault : State → ℕ → ℕ → GroupFault → Type 0
+abbrev pub IsMemberFault : State → ℕ → ℕ → Fault → Type 0
 IsMemberFault s node id Memory = Unit {0}
 IsMemberFault s node id Disk = Unit {0}
 IsMemberFault s node id (Damaged damage) = IsMemberDamage s node id damage
@@ -43,7 +43,7 @@ pub data IsWalkDamage (s : State) (node first : ℕ) : Damage → Type 0 where
       → IsWalkDamage s node first (chain_damage node)
   HighMark : group_room s < group_mark s → IsWalkDamage s node first mark_damage
 
-abbrev pub IsWalkFault : State → ℕ → ℕ → GroupFault → Type 0
+abbrev pub IsWalkFault : State → ℕ → ℕ → Fault → Type 0
 IsWalkFault s node first Memory = Unit {0}
 IsWalkFault s node first Disk = Unit {0}
 IsWalkFault s node first (Damaged damage) = IsWalkDamage s node first damage

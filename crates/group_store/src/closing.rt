@@ -7,16 +7,15 @@ ghost use Rattle.node_store.specs.NodeRecord.{node_key};
 ghost use Rattle.chain_edit.specs.Heads.{head_of};
 ghost use Rattle.group_store.specs.Closing.{CanClose, HasClosed};
 ghost use Rattle.group_store.specs.Dropping.{lead_key};
-ghost use Rattle.group_store.specs.GroupFault.{HasGroupCause, NotDamaged};
+ghost use Rattle.rec_bytes.specs.Fault.{HasFaultCause, NotDamaged};
 ghost use Rattle.group_store.specs.GroupRecord.{group_key};
 
-use crate::GroupFault;
 use crate::dropping::drop_if_empty;
 use chain_edit::Head;
-use rec_bytes::{GROUPS, Space};
+use rec_bytes::{Fault, GROUPS, Space};
 
 /// Drops the group of a head at a node, where it is in a group and that is empty.
-pub fn close_chain<S: Space>(space: &mut S, node: u32, head: Head) -> Result<(), GroupFault>
+pub fn close_chain<S: Space>(space: &mut S, node: u32, head: Head) -> Result<(), Fault>
     requires { IsKey (node_key node) }
     ensures closed { S.tells → OnOk result ((most : ℕ) (empty : List ℕ)
         → CanClose (S.state space.old) (head_of head) node most empty
@@ -25,9 +24,8 @@ pub fn close_chain<S: Space>(space: &mut S, node: u32, head: Head) -> Result<(),
         → CanClose (S.state space.old) (head_of head) node most empty → NotDamaged result }
     ensures writes { (before after : ℕ) × WritesOnly (S.state space.old) (S.state space.new)
         (group_key after ∷ lead_key node before ∷ head.key ∷ meta_key_of groups_file ∷ []) }
-    ensures shape { S.tells → (S.state space.new).shape ≡ (S.state space.old).shape }
     ensures onward { S.onward space.old space.new }
-    ensures cause { HasGroupCause (S.faults space.old) (S.faults space.new) result }
+    ensures cause { HasFaultCause (S.faults space.old) (S.faults space.new) result }
 {
     if head.key.file == GROUPS {
         drop_if_empty(space, node, head.key.id)?;

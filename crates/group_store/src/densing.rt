@@ -11,32 +11,30 @@ ghost use Rattle.store_rules.specs.Writes.{WritesBeside};
 ghost use Rattle.chain_edit.specs.Links.{prev_set};
 ghost use Rattle.group_store.specs.Densing.{BecomesDense, CanBecomeDense, HasDenseRoom};
 ghost use Rattle.group_store.specs.GroupChain.{IsDense};
-ghost use Rattle.group_store.specs.GroupFault.{HasGroupCause, NotDamaged};
+ghost use Rattle.rec_bytes.specs.Fault.{HasFaultCause, NotDamaged};
 ghost use Rattle.group_store.specs.GroupRecord.{group_key};
 ghost use Rattle.group_store.specs.Moving.{GrowsBy, IsOwnTurn, turn_keys};
 ghost use Rattle.group_store.specs.Spreading.{HasEndRoom, HasOpened, IsSpread, KeepsBut, cleared};
 ghost use Rattle.group_store.specs.Spreading.{rels_damage};
 
+use crate::Side;
 use crate::finding::find_group;
 use crate::making::{OwnGroup, make_own};
 use crate::members::chain_damage;
 use crate::moved::{Moved, Turn};
 use crate::side::group_head;
-use crate::{GroupFault, Side};
 use chain_edit::push_front;
 use rec_bytes::{
-    DENSE, Damage, KIND, Key, NIL, NODE_FIRST_LINK, NODES, RELATIONSHIPS, Space, SpaceFault,
+    CHAIN_RULE, DENSE, Damage, Fault, KIND, Key, NIL, NODE_FIRST_LINK, NODES, RELATIONSHIPS, Space,
+    SpaceFault,
 };
 use rel_store::{Linked, end_links, place_of};
-
-/// The rule that each chain lists what stands in it.
-const CHAIN_RULE: u8 = 3;
 
 /// Makes a sparse node dense: each of its relationships comes into the group of its type, at the
 /// front of the chain of its direction. The node is damaged where it isn't sparse, where its chain
 /// leads to no relationship or to more than so many, or where what stood first at a group's head or
 /// among the groups didn't come there by this call.
-pub fn make_dense<S: Space>(space: &mut S, node: u32, threshold: u32) -> Result<(), GroupFault>
+pub fn make_dense<S: Space>(space: &mut S, node: u32, threshold: u32) -> Result<(), Fault>
     requires { threshold ≤ 200 }
     ensures made { S.tells → OnOk result ((most : ℕ) (empty : List ℕ)
         → CanBecomeDense (S.state space.old) node most empty
@@ -48,15 +46,14 @@ pub fn make_dense<S: Space>(space: &mut S, node: u32, threshold: u32) -> Result<
         (S.state space.old) (S.state space.new)) }
     ensures writes { WritesBeside (node_key node) (2 * (threshold + 1) + 2)
         (S.state space.old) (S.state space.new) }
-    ensures shape { S.tells → (S.state space.new).shape ≡ (S.state space.old).shape }
     ensures onward { S.onward space.old space.new }
-    ensures cause { HasGroupCause (S.faults space.old) (S.faults space.new) result }
+    ensures cause { HasFaultCause (S.faults space.old) (S.faults space.new) result }
 {
     let Some(row) = node_store::load(space, node)? else {
-        return Err(GroupFault::Damaged(chain_damage(node)));
+        return Err(Fault::Damaged(chain_damage(node)));
     };
     if row.dense {
-        return Err(GroupFault::Damaged(chain_damage(node)));
+        return Err(Fault::Damaged(chain_damage(node)));
     }
     clear(space, node)?;
     let mut moved = Moved::new();
@@ -68,12 +65,12 @@ pub fn make_dense<S: Space>(space: &mut S, node: u32, threshold: u32) -> Result<
         let turn = move_one(space, node, at)?;
         // What stood first was written too, and the bound counts only what came there.
         if !moved.note(at, &turn) {
-            return Err(GroupFault::Damaged(rels_damage(node)));
+            return Err(Fault::Damaged(rels_damage(node)));
         }
         at = turn.next;
     }
     if at != NIL {
-        return Err(GroupFault::Damaged(rels_damage(node)));
+        return Err(Fault::Damaged(rels_damage(node)));
     }
     Ok(())
 }
@@ -94,7 +91,6 @@ fn clear<S: Space>(space: &mut S, node: u32) -> Result<(), SpaceFault>
     requires { IsKey (node_key node) }
     ensures ok { S.tells → OnOk result (S.state space.new ≡ cleared (S.state space.old) node) }
     ensures writes { WritesOnly (S.state space.old) (S.state space.new) (node_key node ∷ []) }
-    ensures shape { S.tells → (S.state space.new).shape ≡ (S.state space.old).shape }
     ensures onward { S.onward space.old space.new }
     ensures cause { HasCause (S.faults space.old) (S.faults space.new) result }
 {
@@ -108,7 +104,7 @@ fn clear<S: Space>(space: &mut S, node: u32) -> Result<(), SpaceFault>
 }
 
 /// Moves a relationship of a dense node into the group of its type.
-fn move_one<S: Space>(space: &mut S, node: u32, rel: u32) -> Result<Turn, GroupFault>
+fn move_one<S: Space>(space: &mut S, node: u32, rel: u32) -> Result<Turn, Fault>
     ensures moved { S.tells → IfOk result (λ turn. (rest : List ℕ) (most : ℕ) (empty : List ℕ)
         → IsSpread (S.state space.old) node rel (rel ∷ rest) most empty
         → IsSpread (S.state space.new) node turn.next rest most empty
@@ -122,12 +118,11 @@ fn move_one<S: Space>(space: &mut S, node: u32, rel: u32) -> Result<Turn, GroupF
     ensures wrote { IfOk result (λ turn.
         WritesOnly (S.state space.old) (S.state space.new) (turn_keys node rel turn)) }
     ensures writes { WritesBeside (node_key node) 4 (S.state space.old) (S.state space.new) }
-    ensures shape { S.tells → (S.state space.new).shape ≡ (S.state space.old).shape }
     ensures onward { S.onward space.old space.new }
-    ensures cause { HasGroupCause (S.faults space.old) (S.faults space.new) result }
+    ensures cause { HasFaultCause (S.faults space.old) (S.faults space.new) result }
 {
     let Some(row) = rel_store::load(space, rel)? else {
-        return Err(GroupFault::Damaged(rels_damage(node)));
+        return Err(Fault::Damaged(rels_damage(node)));
     };
     let own = own_group(space, node, row.label)?;
     let head = group_head(own.row.id, Side::at(node, row.from, row.to));
@@ -143,11 +138,7 @@ fn move_one<S: Space>(space: &mut S, node: u32, rel: u32) -> Result<Turn, GroupF
 }
 
 /// The group of a type at a dense node, which is made where there is none.
-pub(crate) fn own_group<S: Space>(
-    space: &mut S,
-    node: u32,
-    label: u32,
-) -> Result<OwnGroup, GroupFault>
+pub(crate) fn own_group<S: Space>(space: &mut S, node: u32, label: u32) -> Result<OwnGroup, Fault>
     ensures opened { S.tells → IfOk result (λ own. (rest : List ℕ) (most : ℕ) (empty : List ℕ)
         → KeepsBut (S.state space.old).records (S.state space.old).shape node rest most empty
         → IsDense (S.state space.old).records node
@@ -169,9 +160,8 @@ pub(crate) fn own_group<S: Space>(
         ∷ [])) }
     ensures writes { (first id : ℕ) × WritesOnly (S.state space.old) (S.state space.new)
         (group_key id ∷ group_key first ∷ node_key node ∷ meta_key_of groups_file ∷ []) }
-    ensures shape { S.tells → (S.state space.new).shape ≡ (S.state space.old).shape }
     ensures onward { S.onward space.old space.new }
-    ensures cause { HasGroupCause (S.faults space.old) (S.faults space.new) result }
+    ensures cause { HasFaultCause (S.faults space.old) (S.faults space.new) result }
 {
     match find_group(space, node, label)? {
         Some(row) => Ok(OwnGroup { row, first: NIL }),
@@ -185,7 +175,6 @@ fn free_previous<S: Space>(space: &mut S, node: u32, rel: u32) -> Result<(), Spa
     ensures ok { S.tells
         → OnOk result (S.state space.new ≡ prev_set (S.state space.old) node rel NIL) }
     ensures writes { WritesOnly (S.state space.old) (S.state space.new) (rel_key rel ∷ []) }
-    ensures shape { S.tells → (S.state space.new).shape ≡ (S.state space.old).shape }
     ensures onward { S.onward space.old space.new }
     ensures cause { HasCause (S.faults space.old) (S.faults space.new) result }
 {
@@ -197,6 +186,3 @@ fn free_previous<S: Space>(space: &mut S, node: u32, rel: u32) -> Result<(), Spa
     rec.set_link(place, NIL);
     Ok(())
 }
-
-#[cfg(test)]
-mod tests;

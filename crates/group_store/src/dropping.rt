@@ -9,23 +9,21 @@ ghost use Rattle.store_rules.specs.Rules.{is_filled};
 ghost use Rattle.store_rules.specs.Views.{rec_at};
 ghost use Rattle.group_store.specs.Dropping.{CanDrop, HasDropped, IsDropFault, IsOnChain};
 ghost use Rattle.group_store.specs.Dropping.{dropped, follows, lead_key};
-ghost use Rattle.group_store.specs.GroupFault.{HasGroupCause, NotDamaged, OnDamage};
+ghost use Rattle.rec_bytes.specs.Fault.{HasFaultCause, NotDamaged, OnDamage};
 ghost use Rattle.group_store.specs.GroupRecord.{group_key};
 
-use crate::GroupFault;
-use crate::group_record::RANGE_RULE;
 use crate::links::{back, test_link};
 use crate::members::read_member;
 use id_freelist::give;
 use rec_bytes::{
-    Damage, GROUP_FIRST_IN, GROUP_FIRST_LOOP, GROUP_FIRST_OUT, GROUP_NEXT, GROUP_PREVIOUS, GROUPS,
-    Key, NIL, NODE_FIRST_LINK, NODES, Rec, Space, SpaceFault, set_number,
+    Damage, Fault, GROUP_FIRST_IN, GROUP_FIRST_LOOP, GROUP_FIRST_OUT, GROUP_NEXT, GROUP_PREVIOUS,
+    GROUPS, Key, NIL, NODE_FIRST_LINK, NODES, RANGE_RULE, Rec, Space, SpaceFault, set_number,
 };
 
 /// Takes a group of a dense node out of its chain and gives its identifier back, where none of its
 /// three chains has a relationship. The node is damaged where the group isn't its own, and the
 /// group where a link of it leads nowhere. Then nothing is written.
-pub fn drop_if_empty<S: Space>(space: &mut S, node: u32, group: u32) -> Result<bool, GroupFault>
+pub fn drop_if_empty<S: Space>(space: &mut S, node: u32, group: u32) -> Result<bool, Fault>
     requires { IsKey (node_key node) }
     ensures dropped { S.tells → OnOk result ((free xs : List ℕ)
         → CanDrop (S.state space.old) node group free xs
@@ -44,9 +42,8 @@ pub fn drop_if_empty<S: Space>(space: &mut S, node: u32, group: u32) -> Result<b
     ensures writes { (before after : ℕ) × WritesOnly (S.state space.old) (S.state space.new)
         (group_key after ∷ lead_key node before ∷ group_key group ∷ meta_key_of groups_file
         ∷ []) }
-    ensures shape { S.tells → (S.state space.new).shape ≡ (S.state space.old).shape }
     ensures onward { S.onward space.old space.new }
-    ensures cause { HasGroupCause (S.faults space.old) (S.faults space.new) result }
+    ensures cause { HasFaultCause (S.faults space.old) (S.faults space.new) result }
 {
     let rec = read_member(space, node, group)?;
     if is_filled(&rec) {
@@ -85,7 +82,6 @@ fn follow<S: Space>(space: &mut S, node: u32, before: u32, after: u32) -> Result
         → OnOk result (S.state space.new ≡ follows (S.state space.old) node before after) }
     ensures writes { WritesOnly (S.state space.old) (S.state space.new)
         (lead_key node before ∷ []) }
-    ensures shape { S.tells → (S.state space.new).shape ≡ (S.state space.old).shape }
     ensures onward { S.onward space.old space.new }
     ensures cause { HasCause (S.faults space.old) (S.faults space.new) result }
 {

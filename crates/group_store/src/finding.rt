@@ -5,23 +5,20 @@ ghost use Rattle.rec_bytes.specs.Key.{IsKey};
 ghost use Rattle.store_rules.specs.Views.{first_link};
 ghost use Rattle.group_store.specs.Finding.{IsFindFault, IsFound, IsSought};
 ghost use Rattle.group_store.specs.GroupChain.{IsDense, IsGroupChain, LacksGroup, up_to_type};
-ghost use Rattle.group_store.specs.GroupFault.{HasGroupCause, NotDamaged, TakesNoMemory};
+ghost use Rattle.rec_bytes.specs.Fault.{HasFaultCause, NotDamaged};
+ghost use Rattle.group_store.specs.Faults.{TakesNoMemory};
 ghost use Rattle.group_store.specs.GroupRecord.{group_key};
 ghost use Rattle.group_store.specs.Loading.{group_mark};
 ghost use Rattle.group_store.specs.Walking.{IsWalkable, IsWalkFault};
 
+use crate::GroupRow;
 use crate::group_record::row_of;
 use crate::members::{chain_damage, first_group, read_member};
-use crate::{GroupFault, GroupRow};
-use rec_bytes::{GROUP_NEXT, GROUP_TYPE, GROUPS, NIL, Reads};
+use rec_bytes::{Fault, GROUP_NEXT, GROUP_TYPE, GROUPS, NIL, Reads};
 
 /// The group of a type at a dense node. It is none where the node has no group of the type, and
 /// where it isn't dense. No group after the one that is found is read.
-pub fn find_group<R: Reads>(
-    space: &mut R,
-    node: u32,
-    label: u32,
-) -> Result<Option<GroupRow>, GroupFault>
+pub fn find_group<R: Reads>(space: &mut R, node: u32, label: u32) -> Result<Option<GroupRow>, Fault>
     ensures found { R.tells
         → IfOk result (IsFound (R.state space.old).records node label) }
     ensures none { R.tells → IsDense (R.state space.old).records node → (xs : List ℕ)
@@ -41,7 +38,7 @@ pub fn find_group<R: Reads>(
     ensures key { IfOk result (λ found. IfSome found (λ row. IsKey (group_key row.id))) }
     ensures no_memory { TakesNoMemory result }
     ensures onward { R.onward space.old space.new }
-    ensures cause { HasGroupCause (R.faults space.old) (R.faults space.new) result }
+    ensures cause { HasFaultCause (R.faults space.old) (R.faults space.new) result }
 {
     match first_group(space, node)? {
         Some(first) => seek(space, node, first, label),
@@ -55,7 +52,7 @@ fn seek<R: Reads>(
     node: u32,
     first: u32,
     label: u32,
-) -> Result<Option<GroupRow>, GroupFault>
+) -> Result<Option<GroupRow>, Fault>
     ensures found { R.tells
         → IfOk result (IsSought (R.state space.old).records node first label) }
     ensures reads { R.tells → (xs : List ℕ) → IsWalkable (R.state space.old) node first xs
@@ -69,7 +66,7 @@ fn seek<R: Reads>(
     ensures key { IfOk result (λ found. IfSome found (λ row. IsKey (group_key row.id))) }
     ensures no_memory { TakesNoMemory result }
     ensures onward { R.onward space.old space.new }
-    ensures cause { HasGroupCause (R.faults space.old) (R.faults space.new) result }
+    ensures cause { HasFaultCause (R.faults space.old) (R.faults space.new) result }
 {
     let budget = space.meta(GROUPS).high;
     let mut at = first;
@@ -84,7 +81,7 @@ fn seek<R: Reads>(
         at = rec.number(GROUP_NEXT);
     }
     if at != NIL {
-        return Err(GroupFault::Damaged(chain_damage(node)));
+        return Err(Fault::Damaged(chain_damage(node)));
     }
     Ok(None)
 }

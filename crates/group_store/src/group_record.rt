@@ -4,11 +4,8 @@ ghost use Rattle.group_store.specs.GroupRecord.{read_row, row_of};
 use crate::GroupRow;
 use rec_bytes::{
     Damage, FREE, GROUP_FIRST_IN, GROUP_FIRST_LOOP, GROUP_FIRST_OUT, GROUP_TYPE, GROUPED, GROUPS,
-    KIND, Rec, RowFault,
+    KIND, RANGE_RULE, Rec, RowFault,
 };
-
-/// The rule that a record's kind and its numbers are ones that may stand there.
-pub(crate) const RANGE_RULE: u8 = 1;
 
 /// The row of a record of the groups, by its kind: none where it is free.
 pub(crate) fn read_row(rec: &Rec, id: u32) -> Result<Option<GroupRow>, RowFault>

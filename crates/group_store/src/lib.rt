@@ -8,7 +8,6 @@ mod closing;
 mod densing;
 mod dropping;
 mod finding;
-mod group_fault;
 mod group_record;
 mod group_row;
 mod links;
@@ -24,13 +23,9 @@ pub use closing::close_chain;
 pub use densing::make_dense;
 pub use dropping::drop_if_empty;
 pub use finding::find_group;
-pub use group_fault::GroupFault;
 pub use group_row::GroupRow;
 pub use loading::load;
 pub use making::make_group;
 pub use opening::{find_head, open_chain};
 pub use side::Side;
 pub use walking::groups;
-
-#[cfg(test)]
-mod tests;

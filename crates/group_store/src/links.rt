@@ -6,9 +6,9 @@ ghost use Rattle.rec_bytes.specs.Space.{HasCause, WritesOnly};
 ghost use Rattle.group_store.specs.GroupRecord.{group_key};
 ghost use Rattle.group_store.specs.Links.{IsLinkDamage, IsRightLink, backed};
 
-use crate::group_record::RANGE_RULE;
 use rec_bytes::{
-    Damage, GROUP_PREVIOUS, GROUPS, Key, META, NIL, Reads, Space, SpaceFault, room_of, set_number,
+    Damage, GROUP_PREVIOUS, GROUPS, Key, META, NIL, RANGE_RULE, Reads, Space, SpaceFault, room_of,
+    set_number,
 };
 
 /// Tests a link. It is none, or it leads to a group below the mark, and there is room for as many.
@@ -39,7 +39,6 @@ pub(crate) fn test_link<R: Reads>(space: &R, link: u32, named: Damage) -> Result
 pub(crate) fn back<S: Space>(space: &mut S, id: u32, to: u32) -> Result<(), SpaceFault>
     requires { id ≢ NIL → IsKey (group_key id) }
     ensures ok { S.tells → OnOk result (S.state space.new ≡ backed (S.state space.old) id to) }
-    ensures shape { S.tells → (S.state space.new).shape ≡ (S.state space.old).shape }
     ensures writes { WritesOnly (S.state space.old) (S.state space.new) (group_key id ∷ []) }
     ensures onward { S.onward space.old space.new }
     ensures cause { HasCause (S.faults space.old) (S.faults space.new) result }

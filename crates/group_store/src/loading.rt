@@ -5,8 +5,8 @@ ghost use Rattle.group_store.specs.Loading.{after_load, row_at, IsKnown, IsReada
 ghost use Rattle.group_store.specs.GroupRecord.{group_key};
 
 use crate::GroupRow;
-use crate::group_record::{RANGE_RULE, read_row};
-use rec_bytes::{Damage, GROUPS, Key, META, Reads, RowFault, room_of};
+use crate::group_record::read_row;
+use rec_bytes::{Damage, GROUPS, Key, META, RANGE_RULE, Reads, RowFault, room_of};
 
 /// Reads the group of an identifier. It is none where the identifier isn't live. A record of
 /// an unknown kind is damaged, and so is the meta record of the groups where it counts the

@@ -8,27 +8,27 @@ ghost use Rattle.rec_bytes.specs.RecordFiles.{meta_key_of};
 ghost use Rattle.rec_bytes.specs.Space.{HasCause, SameButReads, WritesOnly, meta_of};
 ghost use Rattle.store_rules.specs.Views.{first_link};
 ghost use Rattle.group_store.specs.GroupChain.{IsDense, LacksGroup};
-ghost use Rattle.group_store.specs.GroupFault.{HasGroupCause, NotDamaged, OnDamage};
+ghost use Rattle.rec_bytes.specs.Fault.{HasFaultCause, NotDamaged, OnDamage};
+ghost use Rattle.group_store.specs.Faults.{of_take};
 ghost use Rattle.group_store.specs.GroupRecord.{group_key};
 ghost use Rattle.group_store.specs.Making.{CanMake, HasMade, IsMakeFault, empty_group, empty_row};
 ghost use Rattle.group_store.specs.Making.{led, made};
 ghost use Rattle.group_store.specs.Spreading.{HasOpened, KeepsBut};
 
-use crate::group_record::RANGE_RULE;
+use crate::GroupRow;
 use crate::links::{back, test_link};
 use crate::members::{chain_damage, first_group};
-use crate::{GroupFault, GroupRow};
-use id_freelist::take;
+use id_freelist::{TakeFault, take};
 use rec_bytes::{
-    Damage, GROUP_FIRST_IN, GROUP_FIRST_LOOP, GROUP_FIRST_OUT, GROUP_NEXT, GROUP_OWNER,
-    GROUP_PREVIOUS, GROUP_TYPE, GROUPED, GROUPS, KIND, Key, NIL, NODE_FIRST_LINK, NODES, Rec,
-    Space, SpaceFault, set_number,
+    Damage, Fault, GROUP_FIRST_IN, GROUP_FIRST_LOOP, GROUP_FIRST_OUT, GROUP_NEXT, GROUP_OWNER,
+    GROUP_PREVIOUS, GROUP_RULE, GROUP_TYPE, GROUPED, GROUPS, KIND, Key, META, NIL, NODE_FIRST_LINK,
+    NODES, RANGE_RULE, Rec, Space, SpaceFault, set_number,
 };
 
 /// Makes an empty group of a type at a dense node, first on its chain. The node is damaged where it
 /// isn't dense or its first link leads nowhere, and the meta record of the groups where it counts
 /// as many as there is room for. Then nothing is written.
-pub fn make_group<S: Space>(space: &mut S, node: u32, label: u32) -> Result<GroupRow, GroupFault>
+pub fn make_group<S: Space>(space: &mut S, node: u32, label: u32) -> Result<GroupRow, Fault>
     ensures made { S.tells → IfOk result (λ row. (free xs : List ℕ)
         → CanMake (S.state space.old) node label free xs
         → HasMade (S.state space.old).records (S.state space.new).records node label row free xs) }
@@ -46,14 +46,13 @@ pub fn make_group<S: Space>(space: &mut S, node: u32, label: u32) -> Result<Grou
         → LacksGroup (S.state space.old).records node label
         → KeepsBut (S.state space.new).records (S.state space.new).shape node rest most
         (row.id ∷ empty) × HasOpened (S.state space.old) (S.state space.new) node label row.id) }
-    ensures shape { S.tells → (S.state space.new).shape ≡ (S.state space.old).shape }
     ensures wrote { IfOk result (λ row. (first : ℕ) × WritesOnly (S.state space.old)
         (S.state space.new) (group_key row.id ∷ group_key first ∷ node_key node
         ∷ meta_key_of groups_file ∷ [])) }
     ensures writes { (first id : ℕ) × WritesOnly (S.state space.old) (S.state space.new)
         (group_key first ∷ group_key id ∷ node_key node ∷ meta_key_of groups_file ∷ []) }
     ensures onward { S.onward space.old space.new }
-    ensures cause { HasGroupCause (S.faults space.old) (S.faults space.new) result }
+    ensures cause { HasFaultCause (S.faults space.old) (S.faults space.new) result }
 {
     let own = make_own(space, node, label)?;
     Ok(own.row)
@@ -68,11 +67,7 @@ pub(crate) struct OwnGroup {
 }
 
 /// Makes a group as `make_group` does, and answers which one stood first.
-pub(crate) fn make_own<S: Space>(
-    space: &mut S,
-    node: u32,
-    label: u32,
-) -> Result<OwnGroup, GroupFault>
+pub(crate) fn make_own<S: Space>(space: &mut S, node: u32, label: u32) -> Result<OwnGroup, Fault>
     ensures made { S.tells → IfOk result (λ own. (free xs : List ℕ)
         → CanMake (S.state space.old) node label free xs
         → HasMade (S.state space.old).records (S.state space.new).records node label own.row free
@@ -92,7 +87,6 @@ pub(crate) fn make_own<S: Space>(
         → KeepsBut (S.state space.new).records (S.state space.new).shape node rest most
         (own.row.id ∷ empty)
         × HasOpened (S.state space.old) (S.state space.new) node label own.row.id) }
-    ensures shape { S.tells → (S.state space.new).shape ≡ (S.state space.old).shape }
     ensures first { S.tells
         → IfOk result (λ own. own.first ≡ first_link (S.state space.old).records node) }
     ensures wrote { IfOk result (λ own. WritesOnly (S.state space.old) (S.state space.new)
@@ -101,10 +95,10 @@ pub(crate) fn make_own<S: Space>(
     ensures writes { (first id : ℕ) × WritesOnly (S.state space.old) (S.state space.new)
         (group_key first ∷ group_key id ∷ node_key node ∷ meta_key_of groups_file ∷ []) }
     ensures onward { S.onward space.old space.new }
-    ensures cause { HasGroupCause (S.faults space.old) (S.faults space.new) result }
+    ensures cause { HasFaultCause (S.faults space.old) (S.faults space.new) result }
 {
     let Some(first) = first_group(space, node)? else {
-        return Err(GroupFault::Damaged(chain_damage(node)));
+        return Err(Fault::Damaged(chain_damage(node)));
     };
     let leads_nowhere = Damage {
         file: NODES,
@@ -112,12 +106,31 @@ pub(crate) fn make_own<S: Space>(
         rule: RANGE_RULE,
     };
     test_link(space, first, leads_nowhere)?;
-    let id = take(space, GROUPS)?;
+    let id = match take(space, GROUPS) {
+        Ok(id) => id,
+        Err(fault) => return Err(fault_of(fault)),
+    };
     lead(space, node, first, id, empty_group(node, label, first))?;
     Ok(OwnGroup {
         row: empty_row(id, label),
         first,
     })
+}
+
+/// A well-formed store has room for a group of each type at each end of a relationship.
+fn fault_of(fault: TakeFault) -> Fault
+    ensures { result ≡ of_take fault }
+{
+    match fault {
+        TakeFault::Full { .. } => Fault::Damaged(Damage {
+            file: META,
+            id: GROUPS as u32,
+            rule: GROUP_RULE,
+        }),
+        TakeFault::Memory => Fault::Memory,
+        TakeFault::Disk => Fault::Disk,
+        TakeFault::Damaged(damage) => Fault::Damaged(damage),
+    }
 }
 
 /// Writes the record of a group, and puts it before the first one of the node.
@@ -128,7 +141,6 @@ fn lead<S: Space>(space: &mut S, node: u32, first: u32, id: u32, rec: Rec) -> Re
     requires id { IsKey (group_key id) }
     ensures ok { S.tells
         → OnOk result (S.state space.new ≡ led (S.state space.old) node first id rec) }
-    ensures shape { S.tells → (S.state space.new).shape ≡ (S.state space.old).shape }
     ensures writes { WritesOnly (S.state space.old) (S.state space.new)
         (group_key id ∷ group_key first ∷ node_key node ∷ []) }
     ensures onward { S.onward space.old space.new }

@@ -10,16 +10,15 @@ ghost use Rattle.node_store.specs.NodeRecord.{node_key};
 ghost use Rattle.store_rules.specs.Views.{rec_at};
 ghost use Rattle.group_store.specs.FirstGroup.{first_of, IsFirst, IsNodeFault};
 ghost use Rattle.group_store.specs.GroupChain.{is_group_of, IsGroupOf};
-ghost use Rattle.group_store.specs.GroupFault.{HasGroupCause, NotDamaged, TakesNoMemory};
+ghost use Rattle.rec_bytes.specs.Fault.{HasFaultCause, NotDamaged};
+ghost use Rattle.group_store.specs.Faults.{TakesNoMemory};
 ghost use Rattle.group_store.specs.GroupRecord.{group_key};
 ghost use Rattle.group_store.specs.Walking.{chain_damage, IsMemberFault};
 
-use crate::GroupFault;
-use crate::group_fault::GROUP_RULE;
-use crate::group_record::RANGE_RULE;
 use node_store::NodeRow;
 use rec_bytes::{
-    Damage, GROUP_OWNER, GROUPED, GROUPS, KIND, Key, META, NODES, Reads, Rec, room_of,
+    Damage, Fault, GROUP_OWNER, GROUP_RULE, GROUPED, GROUPS, KIND, Key, META, NODES, RANGE_RULE,
+    Reads, Rec, room_of,
 };
 
 /// The damage of a node whose groups break their rule.
@@ -34,7 +33,7 @@ pub(crate) fn chain_damage(node: u32) -> Damage
 }
 
 /// The first link of a dense node, which is to a group. It is none where the node isn't dense.
-pub(crate) fn first_group<R: Reads>(space: &mut R, node: u32) -> Result<Option<u32>, GroupFault>
+pub(crate) fn first_group<R: Reads>(space: &mut R, node: u32) -> Result<Option<u32>, Fault>
     ensures first { R.tells
         → IfOk result (λ first. IsFirst (R.state space.old).records node first) }
     ensures key { IfOk result (λ first. IfSome first (λ _. IsKey (node_key node))) }
@@ -45,7 +44,7 @@ pub(crate) fn first_group<R: Reads>(space: &mut R, node: u32) -> Result<Option<u
     ensures sound { R.tells → IsReadable (R.state space.old) node → NotDamaged result }
     ensures no_memory { TakesNoMemory result }
     ensures onward { R.onward space.old space.new }
-    ensures cause { HasGroupCause (R.faults space.old) (R.faults space.new) result }
+    ensures cause { HasFaultCause (R.faults space.old) (R.faults space.new) result }
 {
     match node_store::load(space, node)? {
         Some(row) => Ok(first_of(&row)),
@@ -62,7 +61,7 @@ fn first_of(row: &NodeRow) -> Option<u32>
 
 /// Reads the record of a group that the node owns. The node is damaged where it owns none of the
 /// identifier.
-pub(crate) fn read_member<R: Reads>(space: &mut R, node: u32, id: u32) -> Result<Rec, GroupFault>
+pub(crate) fn read_member<R: Reads>(space: &mut R, node: u32, id: u32) -> Result<Rec, Fault>
     ensures got { R.tells
         → IfOk result (λ rec. rec ≡ rec_at (R.state space.old).records groups_file id) }
     ensures member { R.tells → OnOk result (IsGroupOf (R.state space.old).records node id) }
@@ -72,14 +71,14 @@ pub(crate) fn read_member<R: Reads>(space: &mut R, node: u32, id: u32) -> Result
     ensures damaged { R.tells → IfErr result (IsMemberFault (R.state space.old) node id) }
     ensures no_memory { TakesNoMemory result }
     ensures onward { R.onward space.old space.new }
-    ensures cause { HasGroupCause (R.faults space.old) (R.faults space.new) result }
+    ensures cause { HasFaultCause (R.faults space.old) (R.faults space.new) result }
 {
     if id >= space.meta(GROUPS).high {
-        return Err(GroupFault::Damaged(chain_damage(node)));
+        return Err(Fault::Damaged(chain_damage(node)));
     }
     // A damaged mark may be so high that no record has the identifier.
     if id as u64 >= room_of(GROUPS, space.shape()) {
-        return Err(GroupFault::Damaged(Damage {
+        return Err(Fault::Damaged(Damage {
             file: META,
             id: GROUPS as u32,
             rule: RANGE_RULE,
@@ -87,7 +86,7 @@ pub(crate) fn read_member<R: Reads>(space: &mut R, node: u32, id: u32) -> Result
     }
     let rec = space.get(Key { file: GROUPS, id })?;
     if !is_group_of(&rec, node) {
-        return Err(GroupFault::Damaged(chain_damage(node)));
+        return Err(Fault::Damaged(chain_damage(node)));
     }
     Ok(rec)
 }

@@ -1,6 +1,7 @@
 ghost use Rattle.std.specs.Prelude.{◌≡◌, ◌≤◌, ◌+◌, ◌^◌, length};
 ghost use Rattle.fault_count.specs.Cause.{HasCause};
 ghost use Rattle.host_edge.specs.Counting.{CountsFailure};
+ghost use Rattle.disk_model.specs.Contents.{IsFile};
 
 use crate::counting::counted;
 use crate::named_file::NamedFile;
@@ -9,18 +10,19 @@ use fault_count::{Count, Failed};
 use std::marker::Model;
 
 /// The names of the files, each at its number.
-const FILES: [&str; 8] = [
+const FILES: [&str; 9] = [
     "graph.0", "graph.1", "graph.2", "graph.3", "graph.4", "graph.5", "graph.6", "graph.7",
+    "graph.8",
 ];
 
-/// The files `graph.0` to `graph.7` of the current folder. A file is opened at the first call on it,
-/// and made where it is missing; one that can't be opened or made is a fault of that call. A read or
-/// write that the system cuts short or a signal interrupts goes on. Contracts see the count of
-/// faults, and nothing of what the files hold.
+/// The files `graph.0` to `graph.8` of the current folder. A file is opened at the first call on
+/// it, and made where it is missing; one that can't be opened or made is a fault of that call. A
+/// read or write that the system cuts short or a signal interrupts goes on. Contracts see the count
+/// of faults, and nothing of what the files hold.
 #[derive(Drop)]
 pub struct FileDisk {
     rt: HostRuntime,
-    files: [NamedFile; 8],
+    files: [NamedFile; 9],
     faults: Count,
 }
 
@@ -61,7 +63,7 @@ impl Disk for FileDisk {
     ghost faults = { λ d. d };
 
     fn read(&mut self, file: u8, at: u64, out: &mut [u8]) -> Result<(), Failed>
-        requires file { file ≤ 7 }
+        requires file { IsFile file }
         requires within { at + length out.old ≤ 2 ^ 40 }
         ensures count { CountsFailure self.old self.new result }
         ensures cause { HasCause self.old self.new result }
@@ -72,7 +74,7 @@ impl Disk for FileDisk {
     }
 
     fn write(&mut self, file: u8, at: u64, bytes: &[u8]) -> Result<(), Failed>
-        requires file { file ≤ 7 }
+        requires file { IsFile file }
         requires within { at + length bytes.now ≤ 2 ^ 40 }
         ensures count { CountsFailure self.old self.new result }
         ensures cause { HasCause self.old self.new result }
@@ -83,7 +85,7 @@ impl Disk for FileDisk {
     }
 
     fn sync(&mut self, file: u8) -> Result<(), Failed>
-        requires file { file ≤ 7 }
+        requires file { IsFile file }
         ensures count { CountsFailure self.old self.new result }
         ensures cause { HasCause self.old self.new result }
     {
@@ -97,26 +99,4 @@ impl Disk for FileDisk {
     ghost counts_now = { λ _ _ _ tells _ _. absurd tells };
 
     ghost only_now = { λ _ _ tells _. absurd tells };
-}
-
-#[cfg(test)]
-mod tests {
-    use super::*;
-    use std::fs;
-    use std::test::Fail;
-
-    #[test]
-    fn gives_back_what_was_written(rt: HostRuntime) -> Result<(), Fail> {
-        let mut disk = FileDisk::new(rt);
-        disk.write(3, 2, b"graph")?;
-        disk.sync(3)?;
-        let mut out = [1; 10];
-        disk.read(3, 0, &mut out)?;
-        assert_eq!(rt; out, *b"\0\0graph\0\0\0");
-        let mut past_the_end = [1; 3];
-        disk.read(3, 7, &mut past_the_end)?;
-        assert_eq!(rt; past_the_end, [0; 3]);
-        fs::remove_file(&rt, "graph.3")?;
-        Ok(())
-    }
 }

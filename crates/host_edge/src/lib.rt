@@ -1,5 +1,6 @@
-//! The files, standard input and standard output of the system: the one crate that reaches them.
-//! No call takes memory. No contract says what a file or a stream holds, only when a call counts a fault.
+//! The files, standard input and standard output of the system: the one crate that reaches them. No
+//! call takes memory. No contract says what a file or a stream holds, only when a call counts a
+//! fault.
 #![tactic(auto)]
 
 mod counting;

@@ -1,3 +1,5 @@
+ghost use Rattle.std.specs.Prelude.{◌≤◌, ◌+◌, ◌^◌, length};
+
 use std::fs::{File, OpenOptions};
 use std::io::{self, ErrorKind};
 use std::os::fd::{AsRawFd, RawFd};
@@ -25,10 +27,22 @@ impl NamedFile {
     }
 
     /// Fills `out` with the bytes from `at` on, zeros past the end.
-    pub(crate) fn read(&mut self, rt: &HostRuntime, at: u64, out: &mut [u8]) -> io::Result<()> {
+    pub(crate) fn read(&mut self, rt: &HostRuntime, at: u64, out: &mut [u8]) -> io::Result<()>
+        requires { at + length out.old ≤ 2 ^ 40 }
+    {
+        let file = self.opened(rt)?;
+        let given = match file.read_at(out, at) {
+            Ok(given) => given,
+            Err(error) if error.kind() == ErrorKind::Interrupted => 0,
+            Err(error) => return Err(error),
+        };
+        let rest = &mut out[given..];
+        if rest.is_empty() {
+            return Ok(());
+        }
         // The zeros stay where the file ends before `out` does.
-        out.fill(0);
-        match self.opened(rt)?.read_exact_at(out, at) {
+        rest.fill(0);
+        match file.read_exact_at(rest, at + given as u64) {
             Err(error) if error.kind() == ErrorKind::UnexpectedEof => Ok(()),
             answer => answer,
         }
@@ -39,9 +53,10 @@ impl NamedFile {
         self.opened(rt)?.write_all_at(bytes, at)
     }
 
-    /// Makes the file's bytes and its length durable, and its entry in the folder too, where the system
-    /// syncs folders at all. The entry is synced once in each run, also where the file was there: the run
-    /// that made it may have ended before it synced. A sync of the folder that fails is tried again.
+    /// Makes the file's bytes and its length durable, and its entry in the folder too, where the
+    /// system syncs folders at all. The entry is synced once in each run, also where the file was
+    /// there: the run that made it may have ended before it synced. A sync of the folder that fails
+    /// is tried again.
     pub(crate) fn sync(&mut self, rt: &HostRuntime) -> io::Result<()> {
         // A sync of the data includes a length that grew.
         self.opened(rt)?.sync_data()?;
@@ -69,9 +84,9 @@ fn open_or_make(rt: &HostRuntime, name: &str) -> io::Result<File> {
     above_streams(file)
 }
 
-/// The file under a number above those of the three standard streams. Where a stream was closed before
-/// the program began, the system may give its number to this file, and what the program then writes to
-/// the stream would go into the file.
+/// The file under a number above those of the three standard streams. Where a stream was closed
+/// before the program began, the system may give its number to this file, and what the program then
+/// writes to the stream would go into the file.
 fn above_streams(file: File) -> io::Result<File> {
     if file.as_raw_fd() > LAST_STREAM {
         return Ok(file);

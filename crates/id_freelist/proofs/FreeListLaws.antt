@@ -1,19 +1,22 @@
 -- What taking and giving an identifier leaves of a file's free list.
-use Rattle.std.proofs.Common.{◌≡◌, ◌≢◌, ◌+◌, ◌-◌, ◌<◌, ◌^◌, true, ℕ, List, [], ◌∷◌, sym, ap, ◌∙◌, subst, arith, refl}
+use Rattle.std.proofs.Common.{◌≡◌, ◌≢◌, ◌⊎◌, ◌+◌, ◌-◌, ◌<◌, ◌^◌, Bool, true, false, ℕ, List, [], ◌∷◌, inl, inr, sym, ap, ◌∙◌, subst, arith, refl}
 use Rattle.rec_bytes.specs.declared.key.Key.{Key}
 use Rattle.rec_bytes.specs.declared.meta.Meta.{Meta}
 use Rattle.rec_bytes.specs.Format as format
+use Rattle.rec_bytes.specs.Key.{key_eq}
 use Rattle.rec_bytes.specs.Meta as metas
 use Rattle.rec_bytes.specs.Meta.{with_meta}
 use Rattle.rec_bytes.specs.Record.{field, zeros}
 use Rattle.rec_bytes.specs.RecordFiles.{is_meta_file, meta_key_of}
-use Rattle.rec_bytes.specs.Space.{State, after_put, meta_in, meta_of, put}
+use Rattle.rec_bytes.specs.Space.{IsAmong, State, after_put, meta_in, meta_of, put}
+use Rattle.rec_bytes.proofs.KeyLaws.{key_eq_true}
 use Rattle.rec_bytes.proofs.Metas.{meta_reads_back}
 use Rattle.rec_bytes.proofs.Numbers.{field-lt, field-with_field_same}
 use Rattle.rec_bytes.proofs.Spaces.{put_same, put_other}
 use Rattle.store_rules.specs.Chains.{In, IsWalk}
 use Rattle.store_rules.specs.Rules.{next_free}
 use Rattle.store_rules.specs.Views.{Records, key_in, rec_at}
+use Rattle.store_rules.specs.Writes.{ChangesOnly}
 use Rattle.store_rules.proofs.ChainLaws.{walk_stays}
 use Rattle.store_rules.proofs.MetaLaws.{free_fits, high_fits, live_fits, not_meta_key}
 use Rattle.id_freelist.specs.FreeLists.{IsFreeList, free_record}
@@ -115,3 +118,16 @@ pub free_by : (s new : State) (file : ℕ) (meta : Meta) (free : List ℕ) → m
 free_by s new file meta free read is some live now list =
     let P : Meta → Type 0 = λ m. m.free ≢ format.nil → m.live < format.most_ids → HasTaken s.records new.records file m.free free in
     subst P (sym read) (λ n l. subst (λ (t : State). HasTaken s.records t.records file (meta_of s file).free free) (sym now) (has_taken_free s file free is n l list)) some live
+
+-- a give changes the identifier's record and the meta record alone
+pub given_stays : (s t : State) (file id : ℕ) → t ≡ given s file id → ChangesOnly s t (key_in file id ∷ meta_key_of file ∷ [])
+given_stays s t file id is = record { each = λ q. by q (key_eq q (key_in file id)) (key_eq q (meta_key_of file)) refl refl }
+  where
+    unchanged : (q : Key) → key_eq q (key_in file id) ≡ false → key_eq q (meta_key_of file) ≡ false → (given s file id).records q ≡ s.records q
+    unchanged q e f = rw (e, f) refl
+
+    by : (q : Key) (own meta : Bool) → key_eq q (key_in file id) ≡ own → key_eq q (meta_key_of file) ≡ meta
+        → (t.records q ≡ s.records q) ⊎ IsAmong q (key_in file id ∷ meta_key_of file ∷ [])
+    by q true meta e f = inr (inl (key_eq_true q (key_in file id) e))
+    by q false true e f = inr (inr (inl (key_eq_true q (meta_key_of file) f)))
+    by q false false e f = inl (ap (λ (z : State). z.records q) is ∙ unchanged q e f)

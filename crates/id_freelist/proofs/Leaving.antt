@@ -71,7 +71,7 @@ pub not_free_id : (s : Records) (file id : ℕ) (free : List ℕ) → IsSplit s 
 not_free_id s file id free split used i = true≢false (sym (live_true (kind_at s file id) used) ∙ split.only id i)
 
 module _ (s t : Records) (shape : Shape) (file id : ℕ) (free : List ℕ) (is_file : is_reused file ≡ true) (split : IsSplit s file (is_live s file) free) (used : kind_at s file id ≢ format.free_kind)
-    (given : HasGiven s t file id free) (room : room_of shape file < 2 ^ 32) (range : IsMetaInRange (room_of shape file) (s (meta_key_of file))) where
+    (given : HasGiven s t file id free) (room : room_of shape file < 2 ^ 32) (range : IsMetaInRange shape file (s (meta_key_of file))) where
   id_low : id < high s file
   id_low = kind_below (high s file) (rec_at s file id) id used
 
@@ -117,8 +117,8 @@ module _ (s t : Records) (shape : Shape) (file id : ℕ) (free : List ℕ) (is_f
     gone = gone;
     fits = subst (Fits (high t) file) (sym given.here) (free_fits_file (high t) file (meta_in s file).free is_file (free_fits s file) (subst (λ n. ((meta_in s file).free ≡ format.nil) ⊎ ((meta_in s file).free < n)) (sym given.mark) (first_low free split)));
     mark = given.mark;
-    meta = subst (IsMetaInRange (room_of shape file)) (sym given.meta)
-        (meta_in_range (room_of shape file) (s (meta_key_of file)) (meta_in t file) range (let m = given.mark in let r = range.high in omega arith) room
+    meta = subst (IsMetaInRange shape file) (sym given.meta)
+        (meta_in_range shape file (s (meta_key_of file)) (meta_in t file) range (let m = given.mark in omega arith) (let m = given.mark in let r = range.high in omega arith) room
         (inr (subst (λ z. z < high t file) (sym given.list.0) (let m = given.mark in let l = id_low in omega arith))) (live_fits t file));
     free = id ∷ free;
     split = split_gone;

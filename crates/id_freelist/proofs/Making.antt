@@ -24,7 +24,7 @@ use Rattle.id_freelist.specs.Taking.{HasTaken, first_of, mark_after, rest_of}
 
 module _ (s m t : Records) (shape : Shape) (file id : ℕ) (free : List ℕ) (rec : Rec) (is_file : is_meta_file file ≡ true) (split : IsSplit s file (is_live s file) free) (taken : HasTaken s m file id free)
     (here : rec_at t file id ≡ rec) (others : (key : Key) → key ≢ key_in file id → t key ≡ m key) (used : field 1 rec format.kind ≢ format.free_kind)
-    (small : id < room_of shape file) (room : room_of shape file < 2 ^ 32) (range : IsMetaInRange (room_of shape file) (s (meta_key_of file))) where
+    (small : id < room_of shape file) (room : room_of shape file < 2 ^ 32) (range : IsMetaInRange shape file (s (meta_key_of file))) where
   meta_stays : t (meta_key_of file) ≡ m (meta_key_of file)
   meta_stays = others (meta_key_of file) (λ e. not_meta_key file id file is_file (sym e))
 
@@ -104,8 +104,8 @@ module _ (s m t : Records) (shape : Shape) (file id : ℕ) (free : List ℕ) (re
     here = here;
     below = below;
     grows = grows;
-    meta = subst (IsMetaInRange (room_of shape file)) (sym (meta_stays ∙ taken.meta ∙ ap (metas.with_meta (s (meta_key_of file))) (sym meta_is)))
-        (meta_in_range (room_of shape file) (s (meta_key_of file)) (meta_in t file) range (by_way (λ i q. let r = range.high in omega arith) (λ p q. omega arith)) room (first_low (rest_of free) split_made) (live_fits t file));
+    meta = subst (IsMetaInRange shape file) (sym (meta_stays ∙ taken.meta ∙ ap (metas.with_meta (s (meta_key_of file))) (sym meta_is)))
+        (meta_in_range shape file (s (meta_key_of file)) (meta_in t file) range change.more (by_way (λ i q. let r = range.high in omega arith) (λ p q. omega arith)) room (first_low (rest_of free) split_made) (live_fits t file));
     free = rest_of free;
     split = split_made;
   }

@@ -18,7 +18,6 @@ pub fn give<S: Space>(space: &mut S, file: u8, id: u32) -> Result<(), SpaceFault
         → OnOk result ((free : List ℕ) → CanGive (S.state space.old) file id free
         → HasGiven (S.state space.old).records (S.state space.new).records file id free) }
     ensures ok { S.tells → OnOk result (S.state space.new ≡ given (S.state space.old) file id) }
-    ensures shape { S.tells → (S.state space.new).shape ≡ (S.state space.old).shape }
     ensures writes { WritesOnly (S.state space.old) (S.state space.new) (key_in file id
         ∷ meta_key_of file ∷ []) }
     ensures stays { S.tells → ChangesOnly (S.state space.old) (S.state space.new)

@@ -26,14 +26,9 @@ ghost use Rattle.id_freelist.specs.Taking.{
 
 use crate::TakeFault;
 use rec_bytes::{
-    Damage, FREE, FREE_NEXT, KIND, Key, META, Meta, NIL, Reads, Space, SpaceFault, change_meta,
-    room_of,
+    Damage, FREE, FREE_NEXT, KIND, Key, META, Meta, NIL, RANGE_RULE, Reads, SPLIT_RULE, Space,
+    SpaceFault, change_meta, room_of,
 };
-
-/// The rule that the numbers of a record are ones that may stand there.
-const RANGE_RULE: u8 = 1;
-/// The rule that live and free identifiers split those below the mark.
-const SPLIT_RULE: u8 = 2;
 
 /// Takes an identifier of a file, which the caller makes live: the first free one, or else the
 /// mark. All is read and tested before the meta record is written.
@@ -197,6 +192,3 @@ fn next_free<R: Reads>(space: &mut R, file: u8, meta: Meta) -> Result<u32, TakeF
     }
     Ok(next)
 }
-
-#[cfg(test)]
-mod tests;

@@ -13,11 +13,11 @@ use Rattle.store_rules.specs.Ranges.{AreInRange}
 use Rattle.store_rules.specs.Rules.{AreNames}
 use Rattle.store_rules.specs.Views.{Records, rec_at}
 use Rattle.name_store.specs.Again.{HasOther, IsAgainFault}
-use Rattle.name_store.specs.Fault as faults
+use Rattle.rec_bytes.specs.Fault as faults
 use Rattle.name_store.specs.Loading.{AreLoadable, AreLoadableTo, IsDamageAt, IsFirstDamage, IsLoadFault, IsNameDamage, name_mark, text_at}
 use Rattle.name_store.specs.Loading.IsNameDamage.{HighMark, WrongForm, WrongText, SameText}
-use Rattle.name_store.specs.declared.fault.Fault.{Fault}
-use Rattle.name_store.specs.declared.fault.Fault.TheVariants as loads
+use Rattle.rec_bytes.specs.declared.fault.Fault.{Fault}
+use Rattle.rec_bytes.specs.declared.fault.Fault.TheVariants as loads
 use Rattle.name_store.proofs.FirstNames.{first-names_of, length-names_of}
 
 none_damaged : (records : Records) (damage : Damage) → AreLoadable records → IsNameDamage records damage → ⊥

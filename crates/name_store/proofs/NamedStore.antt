@@ -78,16 +78,16 @@ names_of-named s names text short few is =
     below : {m : ℕ} → m < 4096 → one_more m ≡ suc m
     below lt = omega arith
 
-meta_there : (s : State) (shape : Shape) (text : List ℕ) → IsMetaInRange (room_of shape format.names_file) (s.records (meta_key_of format.names_file)) → name_mark s.records < 4096 → AreAllLive s.records format.names_file
-    → IsMetaInRange (room_of shape format.names_file) ((named s (name_mark s.records) text).records (meta_key_of format.names_file))
+meta_there : (s : State) (shape : Shape) (text : List ℕ) → IsMetaInRange shape format.names_file (s.records (meta_key_of format.names_file)) → name_mark s.records < 4096 → AreAllLive s.records format.names_file
+    → IsMetaInRange shape format.names_file ((named s (name_mark s.records) text).records (meta_key_of format.names_file))
 unfolding named
 meta_there s shape text meta few live =
     let m = meta_of s format.names_file in
     let free : (m.free ≡ format.nil) ⊎ (m.free < one_more m.high) = ⊎_elim (λ (none : m.free ≡ format.nil). inl none) (λ (lt : m.free < m.high). inr (omega arith)) meta.free in
-    meta_in_range 4096 (s.records (meta_key_of format.names_file)) (counted m) meta (omega arith) (omega arith) free (small m.live)
+    meta_in_range shape format.names_file (s.records (meta_key_of format.names_file)) (counted m) meta (omega arith) (omega arith) (omega arith) free (small m.live)
 
 -- A new name is what the rules ask of one: its record fits, and the meta record counts it.
-pub IsNamed-named : (s : State) (shape : Shape) (text : List ℕ) → IsMetaInRange (room_of shape format.names_file) (s.records (meta_key_of format.names_file)) → AreAllLive s.records format.names_file
+pub IsNamed-named : (s : State) (shape : Shape) (text : List ℕ) → IsMetaInRange shape format.names_file (s.records (meta_key_of format.names_file)) → AreAllLive s.records format.names_file
     → name_mark s.records < 4096 → IsShortName text → ¬ Contains (names_of s.records) text → IsNamed s.records (named s (name_mark s.records) text).records shape (name_record text) text
 IsNamed-named s shape text meta live few short new =
     let n = name_mark s.records in

@@ -6,7 +6,7 @@ use Rattle.rec_bytes.specs.Space.{State, after_get, after_gets}
 use Rattle.rec_bytes.specs.RowFault.{HasRowCause}
 use Rattle.rec_bytes.proofs.Spaces.{after_gets-zero, after_gets_more, records-after_gets}
 use Rattle.name_store.specs.Again.{after_compare}
-use Rattle.name_store.specs.Fault.{HasFaultCause}
+use Rattle.rec_bytes.specs.Fault.{HasFaultCause}
 use Rattle.name_store.specs.Loading.{ReadsAtMost}
 
 rose_earlier : (a b c : ℕ) → a ≤ b → Rose b c → Rose a c

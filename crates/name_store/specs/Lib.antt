@@ -1,5 +1,4 @@
 pub mod Again
-pub mod Fault
 pub mod InternFault
 pub mod Interning
 pub mod Loading

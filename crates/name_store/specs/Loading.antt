@@ -7,8 +7,8 @@ use Rattle.rec_bytes.specs.Space.{State, after_gets}
 use Rattle.store_rules.specs.Ranges.{layout_of}
 use Rattle.store_rules.specs.Rules.{AreNames}
 use Rattle.store_rules.specs.Views.{Records, high, rec_at, text_of}
-use Rattle.name_store.specs.declared.fault.Fault.{Fault}
-use Rattle.name_store.specs.declared.fault.Fault.TheVariants.{Memory, Disk, Damaged}
+use Rattle.rec_bytes.specs.declared.fault.Fault.{Fault}
+use Rattle.rec_bytes.specs.declared.fault.Fault.TheVariants.{Memory, Disk, Damaged}
 
 -- the text in the record of a name
 abbrev pub text_at : Records → ℕ → List ℕ

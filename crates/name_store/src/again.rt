@@ -6,9 +6,8 @@ ghost use Rattle.name_store.specs.Loading.{ReadsAtMost, after_names, name_mark, 
 ghost use Rattle.rec_bytes.specs.RowFault.{HasRowCause, NotDamaged};
 
 use crate::Names;
-use crate::loading::NAME_RULE;
 use crate::name_record::text_of;
-use rec_bytes::{Damage, Key, NAMES, Reads, RowFault};
+use rec_bytes::{Damage, Key, NAME_RULE, NAMES, Reads, RowFault};
 
 impl Names {
     /// Cuts the names to those of a space, which are to be a prefix of them. Else the names stay,
@@ -66,6 +65,3 @@ impl Names {
         }
     }
 }
-
-#[cfg(test)]
-mod tests;

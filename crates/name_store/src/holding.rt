@@ -36,6 +36,3 @@ impl Names {
         Ok(id)
     }
 }
-
-#[cfg(test)]
-mod tests;

@@ -39,7 +39,6 @@ impl Names {
         ensures live { S.tells → OnOk result
             (AreAllLive (S.state space.old).records names_file
             → AreAllLive (S.state space.new).records names_file) }
-        ensures shape { S.tells → (S.state space.new).shape ≡ (S.state space.old).shape }
         ensures writes { WritesOnly (S.state space.old) (S.state space.new)
             (name_key (length self.old.names) ∷ meta_key_of names_file ∷ []) }
         ensures onward { S.onward space.old space.new }
@@ -68,7 +67,6 @@ fn write_name<S: Space>(space: &mut S, id: u32, text: &[u8]) -> Result<(), Inter
     requires short { length text.now ≤ name_text_bytes }
     ensures ok { S.tells → OnOk result
         (S.state space.new ≡ named (S.state space.old) id text.now) }
-    ensures shape { S.tells → (S.state space.new).shape ≡ (S.state space.old).shape }
     ensures not_full { (count : ℕ) → result ≢ Err (InternFault.NamesFull count) }
     ensures writes { WritesOnly (S.state space.old) (S.state space.new)
         (name_key id ∷ meta_key_of names_file ∷ []) }
@@ -85,6 +83,3 @@ fn write_name<S: Space>(space: &mut S, id: u32, text: &[u8]) -> Result<(), Inter
     change_meta(space, NAMES, counted)?;
     Ok(())
 }
-
-#[cfg(test)]
-mod tests;

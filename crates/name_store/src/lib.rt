@@ -3,7 +3,6 @@
 #![tactic(auto)]
 
 mod again;
-mod fault;
 mod holding;
 mod intern_fault;
 mod interning;
@@ -11,7 +10,7 @@ mod loading;
 mod name_record;
 mod names;
 
-pub use fault::Fault;
 pub use intern_fault::InternFault;
 pub use loading::load;
 pub use names::Names;
+pub use rec_bytes::Fault;

@@ -2,7 +2,7 @@ ghost use Rattle.std.specs.Prelude.{◌≡◌, ◌+◌, ◌<◌, ◌++◌, ◌�
 ghost use Rattle.rec_bytes.specs.Format.{most_names};
 ghost use Rattle.rec_bytes.specs.Space.{after_get};
 ghost use Rattle.store_rules.specs.Graph.{names_of};
-ghost use Rattle.name_store.specs.Fault.{HasFaultCause, NotDamaged};
+ghost use Rattle.rec_bytes.specs.Fault.{HasFaultCause, NotDamaged};
 ghost use Rattle.name_store.specs.Loading.{AreLoadable, HasNoForm, HoldsFirst, IsDamageAt};
 ghost use Rattle.name_store.specs.Loading.{IsFirstDamage, IsLoadFault, ReadsAtMost};
 ghost use Rattle.name_store.specs.Loading.{after_names, most_reads, name_damage, name_mark};
@@ -11,14 +11,8 @@ ghost use Rattle.name_store.specs.Loading.{text_at};
 use crate::name_record::{has_name_form, text_of};
 use crate::{Fault, Names};
 use plain_graph::is_short_name;
-use rec_bytes::{Damage, Key, META, MOST_NAMES, NAMES, Reads};
+use rec_bytes::{Damage, Key, META, MOST_NAMES, NAME_RULE, NAMES, RANGE_RULE, Reads};
 use std::alloc::Global;
-
-/// The rule that a record's kind and its numbers are ones that may stand there.
-const RANGE_RULE: u8 = 1;
-
-/// The rule that a name has its form, and stands in one record.
-pub(crate) const NAME_RULE: u8 = 6;
 
 /// Loads the names of a space. A record is damaged where it can't be a name's or has the name of an
 /// earlier one, and the meta record of the names where it counts more than there may be.
@@ -97,6 +91,3 @@ fn damaged(id: u32, rule: u8) -> Fault
         rule,
     })
 }
-
-#[cfg(test)]
-mod tests;

@@ -1,3 +1,2 @@
 pub mod NodeRecords
 pub mod Rows
-pub mod UnknownKinds

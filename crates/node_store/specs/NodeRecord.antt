@@ -38,15 +38,6 @@ row_of rec id = record {
   degree = field 4 rec format.node_degree;
 }
 
-abbrev pub range_damage : ℕ → Damage
-range_damage id = record { file = format.nodes_file; id = id; rule = 1 }
-
--- what a record says by its kind: no node, a node, or that it is damaged
-abbrev pub row_by : ℕ → Rec → ℕ → Result (Option NodeRow) RowFault
-row_by kind rec id =
-    if nat_eq kind format.free_kind then Ok None
-    else (if nat_eq kind format.sparse || nat_eq kind format.dense
-    then Ok (Some (row_of rec id)) else Err (Damaged (range_damage id)))
-
-abbrev pub read_row : Rec → ℕ → Result (Option NodeRow) RowFault
-read_row rec id = row_by (field 1 rec format.kind) rec id
+-- the kinds of a node
+abbrev pub is_node_kind : ℕ → Bool
+is_node_kind kind = nat_eq kind format.sparse || nat_eq kind format.dense

@@ -5,6 +5,7 @@
 mod loading;
 mod node_record;
 mod node_row;
+mod node_row_impl;
 mod saving;
 
 pub use loading::load;

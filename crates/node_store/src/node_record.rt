@@ -1,14 +1,10 @@
 ghost use Rattle.std.specs.Prelude.{◌≡◌};
-ghost use Rattle.node_store.specs.NodeRecord.{kind_of, node_record, read_row, row_of};
+ghost use Rattle.node_store.specs.NodeRecord.{kind_of, node_record, row_of};
 
 use crate::NodeRow;
 use rec_bytes::{
-    DENSE, Damage, FREE, KIND, NODE_DEGREE, NODE_FIRST_LINK, NODE_FIRST_PROPERTY, NODE_LABEL,
-    NODES, Rec, RowFault, SPARSE,
+    DENSE, KIND, NODE_DEGREE, NODE_FIRST_LINK, NODE_FIRST_PROPERTY, NODE_LABEL, Rec, SPARSE,
 };
-
-/// The rule that a record's kind and its numbers are ones that may stand there.
-pub(crate) const RANGE_RULE: u8 = 1;
 
 /// The record of a node, with zeros in all other bytes.
 #[tactic(auto, unfolding(rec_bytes::specs::Tables::with_fields))]
@@ -32,26 +28,8 @@ fn kind_of(dense: bool) -> u8
     if dense { DENSE } else { SPARSE }
 }
 
-/// The row of a record of the nodes, by its kind: none where it is free.
-pub(crate) fn read_row(rec: &Rec, id: u32) -> Result<Option<NodeRow>, RowFault>
-    ensures { result ≡ read_row rec.now id }
-{
-    let kind = rec.byte(KIND);
-    if kind == FREE {
-        Ok(None)
-    } else if kind == SPARSE || kind == DENSE {
-        Ok(Some(row_of(rec, id)))
-    } else {
-        Err(RowFault::Damaged(Damage {
-            file: NODES,
-            id,
-            rule: RANGE_RULE,
-        }))
-    }
-}
-
 /// The fields of a node's record.
-fn row_of(rec: &Rec, id: u32) -> NodeRow
+pub(crate) fn row_of(rec: &Rec, id: u32) -> NodeRow
     ensures { result ≡ row_of rec.now id }
 {
     NodeRow {

@@ -4,8 +4,7 @@ ghost use Rattle.rec_bytes.specs.Space.{after_put, HasCause, WritesOnly};
 ghost use Rattle.node_store.specs.NodeRecord.{node_key, node_record, row_of};
 
 use crate::NodeRow;
-use crate::node_record::node_record;
-use rec_bytes::{Key, NODES, Space, SpaceFault};
+use rec_bytes::{Space, SpaceFault};
 
 /// Writes the record that the row is.
 pub fn save<S: Space>(space: &mut S, row: &NodeRow) -> Result<(), SpaceFault>
@@ -19,9 +18,5 @@ pub fn save<S: Space>(space: &mut S, row: &NodeRow) -> Result<(), SpaceFault>
     ensures onward { S.onward space.old space.new }
     ensures cause { HasCause (S.faults space.old) (S.faults space.new) result }
 {
-    let key = Key {
-        file: NODES,
-        id: row.id,
-    };
-    space.put(key, node_record(row))
+    row_store::save(space, row)
 }

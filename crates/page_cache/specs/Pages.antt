@@ -1,5 +1,23 @@
 -- Pages of records that are kept, and when they agree with a content of the disk.
-use Rattle.std.specs.Prelude.{◌≡◌, ◌⊎◌, ◌*◌, ◌/◌, ◌%◌, ◌&&◌, ℕ, Bool, List, [], ◌∷◌, Contains, Option, nat_eq, length, take, drop}
+use Rattle.std.specs.Prelude.{
+  ◌≡◌,
+  ◌⊎◌,
+  ◌*◌,
+  ◌/◌,
+  ◌%◌,
+  ◌&&◌,
+  ℕ,
+  Bool,
+  List,
+  [],
+  ◌∷◌,
+  Contains,
+  Option,
+  nat_eq,
+  length,
+  take,
+  drop,
+}
 use Rattle.std.specs.Map.{lookup, remove_entry}
 use Rattle.lru.specs.LruCache.{LruCache, promoted, put_entries}
 use Rattle.disk_model.specs.Contents.{Files, Holds}
@@ -19,7 +37,8 @@ page_records = 64
 abbrev pub page_bytes : ℕ
 page_bytes = 4096
 
--- The kept pages, the last used first, and of each the bytes that were read; and how many there may be.
+-- The kept pages, the last used first, and of each the bytes that were read; and how many there may
+-- be.
 abbrev pub Pages : Type 0
 Pages = LruCache PageKey (List ℕ)
 
@@ -39,8 +58,8 @@ kept_page key pages = lookup (page_eq (page_of key)) pages.entries
 abbrev pub used_last : Key → Pages → Pages
 used_last key pages = record pages { entries = promoted (page_eq (page_of key)) pages.entries }
 
--- the page of the record, with these bytes, is the last used one; if that is a page too many, the one that was not used
--- for longest is gone
+-- the page of the record, with these bytes, is the last used one; if that is a page too many, the
+-- one that was not used for longest is gone
 abbrev pub with_page : Key → List ℕ → Pages → Pages
 with_page key bytes pages =
     record pages { entries = put_entries page_eq pages (page_of key) bytes }

@@ -161,6 +161,3 @@ impl PageCache {
         Ok(rec)
     }
 }
-
-#[cfg(test)]
-mod tests;

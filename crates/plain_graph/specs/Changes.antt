@@ -105,9 +105,10 @@ Weighs threshold old (commands.Delete (targets.Edge id)) weight =
 Weighs threshold old (commands.Expand id direction label) weight = ⊥
 Weighs threshold old (commands.Query query) weight = ⊥
 
--- a transaction weighs so much before its first change, and at most so much
-abbrev pub least_weight : ℕ
-least_weight = 6
+-- what a transaction weighs before its first change
+abbrev pub start_weight : ℕ
+start_weight = 7
 
+-- what a transaction weighs at most
 abbrev pub most_weight : ℕ
 most_weight = 2048

@@ -102,7 +102,8 @@ counts_text counts =
 abbrev pub file_name : ℕ → List ℕ
 file_name file =
     slice_index_or (codes "meta" ∷ codes "nodes" ∷ codes "edges" ∷ codes "groups"
-    ∷ codes "properties" ∷ codes "strings" ∷ codes "names" ∷ []) file (codes "log")
+    ∷ codes "properties" ∷ codes "strings" ∷ codes "names" ∷ codes "log" ∷ codes "index" ∷ [])
+    file (codes "log")
 
 -- the record of this number in the file breaks a rule of the store; for the log the number is the
 -- place of an entry

@@ -25,7 +25,7 @@ pub use counts::Counts;
 pub use direction::Direction;
 pub use filter::{Filter, Relation};
 pub use item::Item;
-pub use limits::{NAME_BYTES, NAMES, PROPERTIES, TEXT_BYTES};
+pub use limits::{MOST_WEIGHT, NAME_BYTES, START_WEIGHT, TEXT_BYTES};
 pub use name::{is_name_byte, is_name_start, is_short_name};
 pub use pairs::{Pair, Pairs};
 pub use query::{Body, BodyStep, Hop, Ids, Query, Step, StepList};

@@ -1,11 +1,12 @@
 /// How many bytes a name has at most.
 pub const NAME_BYTES: usize = 48;
 
-/// How many names a store may have.
-pub const NAMES: usize = 4_096;
-
 /// How many bytes a text has at most.
 pub const TEXT_BYTES: usize = 1_024;
 
-/// How many properties a node or an edge may have.
-pub const PROPERTIES: usize = 32;
+/// What a transaction weighs before its first change: one for the meta record of each file that
+/// gives out numbers.
+pub const START_WEIGHT: u32 = 7;
+
+/// What a transaction weighs at most.
+pub const MOST_WEIGHT: u32 = 2_048;

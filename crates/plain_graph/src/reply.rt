@@ -321,6 +321,7 @@ fn file_name(file: u8) -> &'static [u8]
         4 => b"properties",
         5 => b"strings",
         6 => b"names",
+        8 => b"index",
         _ => b"log",
     }
 }

@@ -1,5 +1,5 @@
 -- A key of an element that is given a value: what the element's properties are then, and why they are not.
-use Rattle.std.proofs.Common.{◌≡◌, ◌≢◌, ◌⊎◌, ℕ, ◌<◌, ◌≤◌, true, Some, None, List, [], ◌∷◌, ◌++◌, length, sym, ap, ◌∙◌, subst, inl, inr, ⊎_elim, append-nil, length-append, arith, refl}
+use Rattle.std.proofs.Common.{◌≡◌, ◌≢◌, ◌⊎◌, ℕ, ◌<◌, ◌≤◌, true, Some, None, Err, List, [], ◌∷◌, ◌++◌, length, sym, ap, ◌∙◌, subst, inl, inr, ⊎_elim, append-nil, length-append, arith, refl}
 use Rattle.std.proofs.lemmas.Bool.{true≢false}
 use Rattle.plain_graph.specs.Properties as plain
 use Rattle.plain_graph.specs.declared.value.Value.{Value}
@@ -14,12 +14,12 @@ use Rattle.store_rules.proofs.PropertyStays.{linked_stay, properties_stay}
 use Rattle.prop_store.specs.Alone.{HasRoomForOne, IsSetRefusalAlone, LacksKey, MayHaveKey, OwnsProperties, SetsAlone, blocks_at_key, blocks_held}
 use Rattle.prop_store.specs.Dropping.{ChangesRecords}
 use Rattle.prop_store.specs.FileChange.{KeepsFile}
-use Rattle.prop_store.specs.Fault.{IsUndamaged}
+use Rattle.rec_bytes.specs.Fault.{NotDamaged}
 use Rattle.prop_store.specs.Finding.{property_of}
 use Rattle.prop_store.specs.Owner.{IsOwner, first_of}
 use Rattle.prop_store.specs.SetFault.{of_fault}
-use Rattle.prop_store.specs.declared.fault.Fault.{Fault}
-use Rattle.prop_store.specs.declared.fault.Fault.TheVariants as faults
+use Rattle.rec_bytes.specs.declared.fault.Fault.{Fault}
+use Rattle.rec_bytes.specs.declared.fault.Fault.TheVariants as faults
 use Rattle.prop_store.specs.Setting.{IsPutFault, MayLead, PutsProperty}
 use Rattle.prop_store.specs.declared.owner.Owner.{Owner}
 use Rattle.prop_store.specs.declared.set_fault.SetFault.{SetFault}
@@ -229,7 +229,7 @@ put_read_fault s z gone needed fault same is = by fault (subst (λ (y : State). 
     by (Damaged damage) h = h
 
 -- a fault of the search is none of the element's
-pub read_refusal : (s : State) (es : List Property) (key : ℕ) (value : Value) (fault : Fault) → IsUndamaged fault → IsSetRefusalAlone s es key value (of_fault fault)
+pub read_refusal : (s : State) (es : List Property) (key : ℕ) (value : Value) (fault : Fault) → NotDamaged {T = ℕ} (Err fault) → IsSetRefusalAlone s es key value (of_fault fault)
 read_refusal s es key value faults.Memory sound = tt
 read_refusal s es key value faults.Disk sound = tt
 read_refusal s es key value (faults.Damaged damage) sound = sound

@@ -1,21 +1,21 @@
 -- Faults that are passed on.
-use Rattle.std.specs.Prelude.{Result, Err}
+use Rattle.std.specs.Prelude.{Result, Err, ℕ}
 use Rattle.std.specs.Result.{IsErrAnd}
 use Rattle.std.proofs.Common.{◌≡◌, sym, subst}
 use Rattle.std.proofs.lemmas.Result.{err_from_is_err_and}
 use Rattle.rec_bytes.specs.declared.space.SpaceFault.{SpaceFault}
 use Rattle.rec_bytes.specs.declared.space.SpaceFault.TheVariants.{Memory, Disk}
-use Rattle.prop_store.specs.Fault.{IsUndamaged, NotDamaged, of_space}
-use Rattle.prop_store.specs.declared.fault.Fault.{Fault}
+use Rattle.rec_bytes.specs.Fault.{NotDamaged, of_space}
+use Rattle.rec_bytes.specs.declared.fault.Fault.{Fault}
 
 -- a fault of a space is no damage
-space_undamaged : (fault : SpaceFault) → IsUndamaged (of_space fault)
+space_undamaged : (fault : SpaceFault) → NotDamaged {T = ℕ} (Err (of_space fault))
 space_undamaged Memory = tt
 space_undamaged Disk = tt
 
 pub space_exit : {T : Type 0} (r : Result T Fault) (fault : SpaceFault) → IsErrAnd r (λ f. f ≡ of_space fault) → NotDamaged r
-space_exit r fault h = let p = err_from_is_err_and r h in subst NotDamaged (sym p.1) (subst IsUndamaged (sym p.2) (space_undamaged fault))
+space_exit r fault h = let p = err_from_is_err_and r h in subst NotDamaged (sym p.1) (subst (λ f. NotDamaged {T = ℕ} (Err f)) (sym p.2) (space_undamaged fault))
 
 -- and one that is passed on as it is, is none where it was none
 pub same_exit : {T U : Type 0} (r : Result T Fault) (q : Result U Fault) (fault : Fault) → q ≡ Err fault → IsErrAnd r (λ f. f ≡ fault) → NotDamaged q → NotDamaged r
-same_exit r q fault is h sound = let p = err_from_is_err_and r h in subst NotDamaged (sym p.1) (subst IsUndamaged (sym p.2) (subst NotDamaged is sound))
+same_exit r q fault is h sound = let p = err_from_is_err_and r h in subst NotDamaged (sym p.1) (subst (λ f. NotDamaged {T = ℕ} (Err f)) (sym p.2) (subst NotDamaged is sound))

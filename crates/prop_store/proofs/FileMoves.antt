@@ -81,7 +81,7 @@ module _ (shape : Shape) (file : ℕ) where
       } in
       record {
         grows = omega arith;
-        meta = subst (IsMetaInRange (room_of shape file)) (sym meta) h.meta;
+        meta = subst (IsMetaInRange shape file) (sym meta) h.meta;
         fits = λ x lt. ⊎_elim (λ (e : x ≡ id). subst (λ z. Fits (high t) file (rec_at t file z)) (sym e) here)
             (λ (ne : x ≢ id). subst (Fits (high t) file) (sym (each x ne)) (fits_more (high s) (high t) file (rec_at s file x) more (h.fits x (omega arith)))) (nat_cases x id);
         free = h.free;

@@ -147,7 +147,7 @@ file_same s t shape file old new h meta each marks xs live =
     let lives = live_same s t file (record { meta = same_meta; each = each }) in
     record {
       grows = marks file;
-      meta = subst (IsMetaInRange (room_of shape file)) (sym meta) h.meta;
+      meta = subst (IsMetaInRange shape file) (sym meta) h.meta;
       fits = λ x lt. subst (Fits (high t) file) (sym (each x)) (fits_more (high s) (high t) file (rec_at s file x) marks (h.fits x (subst (λ (m : Meta). x < m.high) same_meta lt)));
       free = h.free;
       split = split_same s t file h.free (record { meta = same_meta; each = each }) h.split;
@@ -187,8 +187,8 @@ room_with : (shape : Shape) (file room : ℕ) → IsPropertyFile file → room_o
 room_with shape file room is = room_is (shape_with shape room) file is
 
 -- a meta record in range is so in a smaller or larger room that its mark is within
-within_room : (room other : ℕ) (r : Rec) → IsMetaInRange room r → (metas.meta_of r).high ≤ other → IsMetaInRange other r
-within_room room other r h le = record { high = le; free = h.free; rest = h.rest }
+within_room : (shape other : Shape) (file : ℕ) (r : Rec) → IsMetaInRange shape file r → (metas.meta_of r).high ≤ room_of other file → IsMetaInRange other file r
+within_room shape other file r h le = record { high = le; free = h.free; first = h.first; rest = h.rest }
 
 module _ (s t : Records) (shape : Shape) (file id : ℕ) (old new : List ℕ) (is : IsPropertyFile file) (h : ChangesFile s s shape file old new) (live : is_live s file id ≡ true) (given : HasGiven s t file id h.free) where
   used : kind_at s file id ≢ format.free_kind
@@ -203,7 +203,7 @@ module _ (s t : Records) (shape : Shape) (file id : ℕ) (old new : List ℕ) (i
       let room : room_of narrow file ≡ high s file = room_with shape file (high s file) is in
       let small : room_of narrow file < 2 ^ 32 = subst (λ n. n < 2 ^ 32) (sym room) (high_fits s file) in
       let fits : (meta_in s file).high ≤ room_of narrow file = omega arith in
-      is_gone s t narrow file id h.free (reused_file file is) h.split used given small (within_room (room_of shape file) (room_of narrow file) (s (meta_key_of file)) h.meta fits)
+      is_gone s t narrow file id h.free (reused_file file is) h.split used given small (within_room shape narrow file (s (meta_key_of file)) h.meta fits)
 
   dead : is_live t file id ≡ false
   dead = live_false (kind_at t file id) gone.gone
@@ -215,7 +215,7 @@ module _ (s t : Records) (shape : Shape) (file id : ℕ) (old new : List ℕ) (i
   pub file_given : ChangesFile s t shape file (id ∷ []) []
   file_given = record {
     grows = let m = gone.mark in omega arith;
-    meta = let room = gone.meta.high in let m = gone.mark in let b = h.meta.high in within_room (room_of narrow file) (room_of shape file) (t (meta_key_of file)) gone.meta (omega arith);
+    meta = let room = gone.meta.high in let m = gone.mark in let b = h.meta.high in within_room narrow shape file (t (meta_key_of file)) gone.meta (omega arith);
     fits = λ x lt. ⊎_elim (λ (e : x ≡ id). subst (λ z. Fits (high t) file (rec_at t file z)) (sym e) gone.fits)
         (λ (ne : x ≢ id). subst (Fits (high t) file) (sym (same x ne)) (fits_more (high s) (high t) file (rec_at s file x) (marks_le s t file id gone.change) (h.fits x (let m = gone.mark in omega arith)))) (nat_cases x id);
     free = gone.free;
@@ -269,7 +269,7 @@ module _ (s m t : Records) (shape : Shape) (file id : ℕ) (rec : Rec) (old new 
       let room : room_of roomy file ≡ high t file = room_with shape file (high t file) is in
       let fits : room_of roomy file < 2 ^ 32 = subst (λ n. n < 2 ^ 32) (sym room) (high_fits t file) in
       let within : (meta_in s file).high ≤ room_of roomy file = let b = bounds.1 in omega arith in
-      is_made s m t roomy file id h.free rec (meta_of_file file is) h.split taken here others used (subst (λ n. id < n) (sym room) bounds.0) fits (within_room (room_of shape file) (room_of roomy file) (s (meta_key_of file)) h.meta within)
+      is_made s m t roomy file id h.free rec (meta_of_file file is) h.split taken here others used (subst (λ n. id < n) (sym room) bounds.0) fits (within_room shape roomy file (s (meta_key_of file)) h.meta within)
 
   live_now : is_live t file id ≡ true
   live_now = live_true (kind_at t file id) (λ e. used (ap (λ r. field 1 r format.kind) (sym here) ∙ sym (kind_low (high t file) (rec_at t file id) id made.below) ∙ e))
@@ -278,7 +278,7 @@ module _ (s m t : Records) (shape : Shape) (file id : ℕ) (rec : Rec) (old new 
   pub file_taken : ChangesFile s t shape file [] (id ∷ [])
   file_taken = record {
     grows = made.change.more;
-    meta = within_room (room_of roomy file) (room_of shape file) (t (meta_key_of file)) made.meta (⊎_elim (λ (e : high t file ≡ high s file). let b = h.meta.high in omega arith) (λ (k : (id ≡ high s file) × (high t file ≡ high s file + 1)). let a = k.0 in let b = k.1 in omega arith) made.grows);
+    meta = within_room roomy shape file (t (meta_key_of file)) made.meta (⊎_elim (λ (e : high t file ≡ high s file). let b = h.meta.high in omega arith) (λ (k : (id ≡ high s file) × (high t file ≡ high s file + 1)). let a = k.0 in let b = k.1 in omega arith) made.grows);
     fits = λ x lt. ⊎_elim (λ (e : x ≡ id). subst (λ z. Fits (high t) file (rec_at t file z)) (sym e) (subst (Fits (high t) file) (sym here) (fits_more (high s) (high t) file rec (marks_le s t file id made.change) right)))
         (λ (ne : x ≢ id). subst (Fits (high t) file) (sym (same x ne)) (fits_more (high s) (high t) file (rec_at s file x) (marks_le s t file id made.change) (h.fits x (made.change.covers x lt ne)))) (nat_cases x id);
     free = made.free;

@@ -31,13 +31,13 @@ use Rattle.id_freelist.specs.declared.take_fault.TakeFault.{TakeFault}
 use Rattle.id_freelist.specs.declared.take_fault.TakeFault.TheVariants.{Damaged, Disk, Full, Memory}
 use Rattle.id_freelist.proofs.Splits.{can_take}
 use Rattle.prop_store.specs.Dropping.{ChangesRecords, IsHeld}
-use Rattle.prop_store.specs.Fault.{NotDamaged}
+use Rattle.rec_bytes.specs.Fault.{NotDamaged}
 use Rattle.prop_store.specs.FileChange.{HasFewer, HasWritten, IsSameBeside, IsWriteFault, KeepsFile, blocks_for}
 use Rattle.prop_store.specs.PropertyRecord.{property_record}
 use Rattle.prop_store.specs.SetFault.{of_fault, of_space, of_take}
 use Rattle.prop_store.specs.Setting.{IsPutFault, MayLead, PutsProperty}
-use Rattle.prop_store.specs.declared.fault.Fault.{Fault}
-use Rattle.prop_store.specs.declared.fault.Fault.TheVariants as faults
+use Rattle.rec_bytes.specs.declared.fault.Fault.{Fault}
+use Rattle.rec_bytes.specs.declared.fault.Fault.TheVariants as faults
 use Rattle.prop_store.specs.declared.property_row.PropertyRow.{PropertyRow}
 use Rattle.prop_store.proofs.BlockSteps.{beside_put, others-put, record-put}
 use Rattle.prop_store.proofs.DropSteps.{blocks_released, live_low}

@@ -8,6 +8,7 @@ use Rattle.rec_bytes.specs.Space.{IsAmong, SameButReads, State, WritesOnly}
 use Rattle.rec_bytes.proofs.Spaces.{writes_more}
 use Rattle.store_rules.specs.Views.{key_in}
 use Rattle.store_rules.specs.Writes.{AreOwn, WritesAtMost, WritesBeside, meta_keys}
+use Rattle.store_rules.proofs.WriteLaws.{among_metas}
 use Rattle.prop_store.specs.Touching.{TouchesProperties, property_keys}
 use Rattle.prop_store.proofs.Touches.{among_either, among_left, among_right, metas}
 
@@ -51,6 +52,10 @@ file_own file (x ∷ xs) is = (is, file_own file xs is)
 abbrev named : List ℕ → List ℕ → List Key
 named ids blocks = map (key_in format.properties_file) ids ++ map (key_in format.strings_file) blocks
 
+-- the meta records of properties and of strings are among all of them
+own_metas : (q : Key) → IsAmong q metas → IsAmong q meta_keys
+own_metas q i = ⊎_elim (λ e. among_metas format.properties_file q refl e) (λ j. ⊎_elim (λ e. among_metas format.strings_file q refl e) (λ (k : ⊥). absurd k) j) i
+
 module _ (ids blocks : List ℕ) where
   named_own : AreOwn (named ids blocks)
   named_own = own_both (map (key_in format.properties_file) ids) (map (key_in format.strings_file) blocks) (file_own format.properties_file ids refl) (file_own format.strings_file blocks refl)
@@ -63,7 +68,7 @@ module _ (ids blocks : List ℕ) where
       let strings = map (key_in format.strings_file) blocks in
       let here : IsAmong q (named ids blocks) → IsAmong q (named ids blocks ++ meta_keys) = λ j. among_left q (named ids blocks) meta_keys j in
       ⊎_elim (λ j. here (among_left q (map (key_in format.properties_file) ids) strings j))
-      (λ j. ⊎_elim (λ k. here (among_right q (map (key_in format.properties_file) ids) strings k)) (λ k. among_right q (named ids blocks) meta_keys (inr (inr (inr (among_left q metas (meta_key_of format.names_file ∷ []) k))))) (among_either q strings _ j))
+      (λ j. ⊎_elim (λ k. here (among_right q (map (key_in format.properties_file) ids) strings k)) (λ k. among_right q (named ids blocks) meta_keys (own_metas q k)) (among_either q strings _ j))
       (among_either q (map (key_in format.properties_file) ids) _ i)
 
 -- properties and blocks

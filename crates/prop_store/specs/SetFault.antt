@@ -1,13 +1,13 @@
 -- Why a property is not set.
-use Rattle.std.specs.Prelude.{◌≡◌, ◌⊎◌, ℕ, ◌≤◌, Result, IsErrOf}
-use Rattle.fault_count.specs.Cause.{Rose}
+use Rattle.std.specs.Prelude.{◌≡◌, ◌⊎◌, ℕ, Result}
+use Rattle.rec_bytes.specs.Cause.{HasDiskCause}
 use Rattle.rec_bytes.specs.Format as format
 use Rattle.rec_bytes.specs.declared.space.SpaceFault.{SpaceFault}
 use Rattle.rec_bytes.specs.declared.space.SpaceFault.TheVariants as spaces
 use Rattle.id_freelist.specs.declared.take_fault.TakeFault.{TakeFault}
 use Rattle.id_freelist.specs.declared.take_fault.TakeFault.TheVariants as takes
-use Rattle.prop_store.specs.declared.fault.Fault.{Fault}
-use Rattle.prop_store.specs.declared.fault.Fault.TheVariants as faults
+use Rattle.rec_bytes.specs.declared.fault.Fault.{Fault}
+use Rattle.rec_bytes.specs.declared.fault.Fault.TheVariants as faults
 use Rattle.prop_store.specs.declared.set_fault.SetFault.{SetFault}
 use Rattle.prop_store.specs.declared.set_fault.SetFault.TheVariants.{PropsFull, Full, Memory, Disk}
 use Rattle.prop_store.specs.declared.set_fault.SetFault.TheVariants.{Damaged}
@@ -30,9 +30,8 @@ of_take takes.Disk = Disk
 of_take (takes.Damaged damage) = Damaged damage
 
 -- the disk is blamed only where it failed
-pub record HasSetCause {T : Type 0} (before now : ℕ) (result : Result T SetFault) : Type 0 where
-  pub later : before ≤ now
-  pub disk : IsErrOf result Disk → Rose before now
+abbrev pub HasSetCause : {T : Type 0} → ℕ → ℕ → Result T SetFault → Type 0
+HasSetCause before now result = HasDiskCause Disk before now result
 
 -- where a file is full, it is this one
 abbrev pub IsFullOf : ℕ → TakeFault → Type 0

@@ -22,7 +22,6 @@ pub(crate) fn write_text<S: Space>(space: &mut S, text: &[u8]) -> Result<u32, Ta
         (IsWriteFault (S.state space.old) strings_file (blocks_for (length text.now))) }
     ensures beside { S.tells → OnOk result (IsSameBeside strings_file
         (S.state space.old).records (S.state space.new).records) }
-    ensures shape { S.tells → (S.state space.new).shape ≡ (S.state space.old).shape }
     ensures touches { TouchesProperties S.tells [] 0 (blocks_for (length text.now))
         (S.state space.old) (S.state space.new) }
     ensures full { S.tells → IfErr result (IsFullOf strings_file) }
@@ -62,7 +61,6 @@ fn write_block<S: Space>(space: &mut S, piece: &[u8], next: u32) -> Result<u32, 
         → IfErr result (IsWriteFault (S.state space.old) strings_file 1) }
     ensures beside { S.tells → OnOk result (IsSameBeside strings_file
         (S.state space.old).records (S.state space.new).records) }
-    ensures shape { S.tells → (S.state space.new).shape ≡ (S.state space.old).shape }
     ensures touches { TouchesProperties S.tells [] 0 1
         (S.state space.old) (S.state space.new) }
     ensures full { S.tells → IfErr result (IsFullOf strings_file) }

@@ -7,17 +7,17 @@ ghost use Rattle.rec_bytes.specs.Space.{after_get};
 ghost use Rattle.store_rules.specs.Properties.{long_text_from};
 ghost use Rattle.store_rules.specs.Views.{rec_at};
 ghost use Rattle.prop_store.specs.Blocks.{HasBlockForm, HasText};
-ghost use Rattle.prop_store.specs.Fault.{HasFaultCause, IsOwnDamage, NotDamaged};
+ghost use Rattle.rec_bytes.specs.Fault.{HasFaultCause, NotDamaged};
+ghost use Rattle.prop_store.specs.Fault.{IsOwnDamage};
 ghost use Rattle.prop_store.specs.GivenOut.{AreGivenOut, IsGivenOut};
 ghost use Rattle.prop_store.specs.Reading.{ReadsAtMost};
 
-use crate::Fault;
 use crate::block_list::BlockList;
-use crate::fault::{LIST_RULE, RANGE_RULE};
+use crate::damaged::damaged;
 use crate::given_out::is_given_out;
 use rec_bytes::{
-    BLOCK, BLOCK_LENGTH, BLOCK_NEXT, BLOCK_TEXT, BLOCK_TEXT_BYTES, KIND, Key, NIL, Reads, Rec,
-    STRINGS,
+    BLOCK, BLOCK_LENGTH, BLOCK_NEXT, BLOCK_TEXT, BLOCK_TEXT_BYTES, Fault, KIND, Key, NIL,
+    PROPERTY_RULE, RANGE_RULE, Reads, Rec, STRINGS,
 };
 use std::alloc::Global;
 
@@ -46,7 +46,7 @@ pub(crate) fn block_ids<R: Reads>(space: &mut R, first: u32, size: u16) -> Resul
         at = rec.number(BLOCK_NEXT);
     }
     if at != NIL {
-        return Err(Fault::damaged(STRINGS, at, LIST_RULE));
+        return Err(damaged(STRINGS, at, PROPERTY_RULE));
     }
     Ok(ids)
 }
@@ -80,7 +80,7 @@ pub(crate) fn read_text<R: Reads>(
         at = rec.number(BLOCK_NEXT);
     }
     if at != NIL {
-        return Err(Fault::damaged(STRINGS, at, LIST_RULE));
+        return Err(damaged(STRINGS, at, PROPERTY_RULE));
     }
     Ok(bytes)
 }
@@ -112,11 +112,11 @@ fn read_block<R: Reads>(space: &mut R, id: u32, size: u8) -> Result<Rec, Fault>
     ensures cause { HasFaultCause (R.faults space.old) (R.faults space.new) result }
 {
     if !is_given_out(space, STRINGS, id) {
-        return Err(Fault::damaged(STRINGS, id, LIST_RULE));
+        return Err(damaged(STRINGS, id, PROPERTY_RULE));
     }
     let rec = space.get(Key { file: STRINGS, id })?;
     if !has_form(&rec, size) {
-        return Err(Fault::damaged(STRINGS, id, RANGE_RULE));
+        return Err(damaged(STRINGS, id, RANGE_RULE));
     }
     Ok(rec)
 }

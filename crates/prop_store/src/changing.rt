@@ -6,18 +6,19 @@ ghost use Rattle.store_rules.specs.Writes.{WritesAtMost, WritesBeside};
 ghost use Rattle.prop_store.specs.Alone.{DropsAllAlone, OwnsProperties, UnsetsAlone};
 ghost use Rattle.prop_store.specs.Changing.{DropsAll, HasElement, HasKey, UnsetsValue};
 ghost use Rattle.prop_store.specs.Changing.{released_blocks};
-ghost use Rattle.prop_store.specs.Fault.{HasFaultCause, NotDamaged, IsOwnDamage};
+ghost use Rattle.rec_bytes.specs.Fault.{HasFaultCause, NotDamaged};
+ghost use Rattle.prop_store.specs.Fault.{IsOwnDamage};
 ghost use Rattle.prop_store.specs.Owner.{IsOwner};
 ghost use Rattle.prop_store.specs.Touching.{TouchesProperties};
 
 use crate::dropping::{drop_chain, drop_property};
 use crate::finding::{Search, find};
-use crate::{Fault, Owner, SetFault};
+use crate::{Owner, SetFault};
 use plain_graph::Value;
-use rec_bytes::{NIL, PROPERTY_NEXT, Reads, Space, set_number};
+use rec_bytes::{Fault, NIL, PROPERTY_NEXT, Reads, Space, set_number};
 
 /// What a change gave back.
-#[derive(Clone, Copy, Debug, PartialEq, Eq)]
+#[derive(Clone, Copy, PartialEq, Eq)]
 pub struct Dropped {
     pub properties: u32,
     pub blocks: u32,
@@ -35,7 +36,6 @@ pub fn unset<S: Space>(space: &mut S, owner: Owner, key: u32) -> Result<Option<u
     ensures alone_sound { S.tells → (es : List Property)
         → OwnsProperties (S.state space.old) owner es → NotDamaged result }
     ensures few { IfOk result (λ released. released_blocks released ≤ 22) }
-    ensures shape { S.tells → (S.state space.new).shape ≡ (S.state space.old).shape }
     ensures writes { IfOk result (λ released. WritesAtMost (2 + released_blocks released)
         (S.state space.old) (S.state space.new)) }
     ensures touches { IfOk result (λ released. TouchesProperties S.tells (owner.key ∷ [])
@@ -69,7 +69,6 @@ pub fn drop_all<S: Space>(space: &mut S, owner: Owner) -> Result<Dropped, Fault>
         → OwnsProperties (S.state space.old) owner es → NotDamaged result }
     ensures few_properties { IfOk result (λ dropped. dropped.properties ≤ 32) }
     ensures few_blocks { IfOk result (λ dropped. dropped.blocks ≤ 704) }
-    ensures shape { S.tells → (S.state space.new).shape ≡ (S.state space.old).shape }
     ensures writes { IfOk result (λ dropped.
         WritesBeside owner.key (dropped.properties + dropped.blocks)
         (S.state space.old) (S.state space.new)) }
@@ -88,6 +87,3 @@ pub fn drop_all<S: Space>(space: &mut S, owner: Owner) -> Result<Dropped, Fault>
     }
     Ok(dropped)
 }
-
-#[cfg(test)]
-mod tests;

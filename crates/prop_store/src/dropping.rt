@@ -3,19 +3,18 @@
 ghost use Rattle.std.specs.Prelude.{◌≡◌, ◌≤◌, List, [], IfOk, ◌+◌, IfErr};
 ghost use Rattle.store_rules.specs.Properties.{Property};
 ghost use Rattle.prop_store.specs.Dropping.{AreHeld, DropsProperties, DropsProperty, IsHeld};
-ghost use Rattle.prop_store.specs.Fault.{HasFaultCause, IsOwnDamage, NotDamaged};
+ghost use Rattle.rec_bytes.specs.Fault.{HasFaultCause, NotDamaged};
+ghost use Rattle.prop_store.specs.Fault.{IsOwnDamage};
 ghost use Rattle.prop_store.specs.PropertyRow.{IsRow};
 ghost use Rattle.prop_store.specs.Touching.{TouchesProperties};
 
-use crate::Fault;
 use crate::changing::Dropped;
-use crate::fault::LIST_RULE;
-use crate::finding::MOST_PROPERTIES;
+use crate::damaged::damaged;
 use crate::property_row::{PropertyRow, property_at};
 use crate::releasing::release;
 use crate::values::value_blocks;
 use id_freelist::give;
-use rec_bytes::{NIL, PROPERTIES, PROPERTY_NEXT, Space};
+use rec_bytes::{Fault, MOST_PROPERTIES, NIL, PROPERTIES, PROPERTY_NEXT, PROPERTY_RULE, Space};
 
 /// Gives a property and the blocks of its value back, and answers how many blocks those were. What
 /// leads to the property stays.
@@ -26,7 +25,6 @@ pub(crate) fn drop_property<S: Space>(space: &mut S, row: &PropertyRow) -> Resul
     ensures sound { S.tells → (e : Property) → IsHeld (S.state space.old) row.now e
         → NotDamaged result }
     ensures few { IfOk result (λ released. released ≤ 22) }
-    ensures shape { S.tells → (S.state space.new).shape ≡ (S.state space.old).shape }
     ensures touches { IfOk result (λ released. TouchesProperties S.tells [] 1 released
         (S.state space.old) (S.state space.new)) }
     ensures at_most { TouchesProperties S.tells [] 1 22 (S.state space.old) (S.state space.new) }
@@ -49,7 +47,6 @@ pub(crate) fn drop_chain<S: Space>(space: &mut S, first: u32) -> Result<Dropped,
         → NotDamaged result }
     ensures few_properties { IfOk result (λ dropped. dropped.properties ≤ 32) }
     ensures few_blocks { IfOk result (λ dropped. dropped.blocks ≤ 704) }
-    ensures shape { S.tells → (S.state space.new).shape ≡ (S.state space.old).shape }
     ensures touches { IfOk result (λ dropped. TouchesProperties S.tells []
         dropped.properties dropped.blocks (S.state space.old) (S.state space.new)) }
     ensures at_most { TouchesProperties S.tells [] 32 704 (S.state space.old) (S.state space.new) }
@@ -62,7 +59,7 @@ pub(crate) fn drop_chain<S: Space>(space: &mut S, first: u32) -> Result<Dropped,
     let mut blocks = 0;
     while at != NIL {
         if properties == MOST_PROPERTIES {
-            return Err(Fault::damaged(PROPERTIES, at, LIST_RULE));
+            return Err(damaged(PROPERTIES, at, PROPERTY_RULE));
         }
         let row = property_at(space, at)?;
         let released = drop_property(space, &row)?;

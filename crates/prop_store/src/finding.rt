@@ -1,28 +1,27 @@
 ghost use Rattle.std.specs.Prelude.{◌+◌, List, IfOk, OnOk, length};
 ghost use Rattle.store_rules.specs.Properties.{AreProperties, Property, property_records};
-ghost use Rattle.prop_store.specs.Fault.{HasFaultCause, NotDamaged};
+ghost use Rattle.rec_bytes.specs.Fault.{HasFaultCause, NotDamaged};
 ghost use Rattle.prop_store.specs.Finding.{IsMet, IsPlaced, IsSought};
 ghost use Rattle.prop_store.specs.Owner.{HasProperties, IsOwner, first_of};
 ghost use Rattle.prop_store.specs.Reading.{ReadsAtMost};
 
-use crate::fault::LIST_RULE;
+use crate::Owner;
+use crate::damaged::damaged;
 use crate::link::Link;
 use crate::property_row::{PropertyRow, property_at};
-use crate::{Fault, Owner};
-use rec_bytes::{NIL, PROPERTIES, PROPERTY_KEY, PROPERTY_NEXT, Reads};
-
-/// How many properties an element may have.
-pub(crate) const MOST_PROPERTIES: u32 = plain_graph::PROPERTIES as u32;
+use rec_bytes::{
+    Fault, MOST_PROPERTIES, NIL, PROPERTIES, PROPERTY_KEY, PROPERTY_NEXT, PROPERTY_RULE, Reads,
+};
 
 /// A property that was found: the link to it, and what its record says.
-#[derive(Clone, Copy, Debug, PartialEq, Eq)]
+#[derive(Clone, Copy)]
 pub(crate) struct Spot {
     pub link: Link,
     pub row: PropertyRow,
 }
 
 /// What came of a search for a key: where it is, or how many properties there are without it.
-#[derive(Clone, Copy, Debug, PartialEq, Eq)]
+#[derive(Clone, Copy)]
 pub(crate) enum Search {
     Found(Spot),
     Absent(u32),
@@ -61,7 +60,7 @@ pub(crate) fn find<R: Reads>(space: &mut R, owner: Owner, key: u32) -> Result<Se
         at = row.rec.number(PROPERTY_NEXT);
     }
     if at != NIL {
-        return Err(Fault::damaged(PROPERTIES, at, LIST_RULE));
+        return Err(damaged(PROPERTIES, at, PROPERTY_RULE));
     }
     Ok(Search::Absent(MOST_PROPERTIES))
 }

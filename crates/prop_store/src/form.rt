@@ -1,15 +1,14 @@
 ghost use Rattle.std.specs.Prelude.{◌≡◌};
 ghost use Rattle.prop_store.specs.Form.{FormFits, form_in, truth_in};
 
-use plain_graph::TEXT_BYTES;
 use rec_bytes::{
-    BOOL, INT, KIND, PROPERTY_FIRST_BLOCK, PROPERTY_LENGTH, PROPERTY_NUMBER, PROPERTY_TEXT_BYTES,
-    PROPERTY_TRUTH, Rec, TEXT_IN_BLOCKS, TEXT_INLINE,
+    BOOL, INT, KIND, MOST_TEXT_BYTES, PROPERTY_FIRST_BLOCK, PROPERTY_LENGTH, PROPERTY_NUMBER,
+    PROPERTY_TEXT_BYTES, PROPERTY_TRUTH, Rec, TEXT_IN_BLOCKS, TEXT_INLINE,
 };
 
 /// What the record of a property says of its value. The bytes of a text that stands in the record
 /// are left there.
-#[derive(Clone, Copy, Debug, PartialEq, Eq)]
+#[derive(Clone, Copy)]
 pub(crate) enum Form {
     /// A whole number.
     Number(i64),
@@ -31,7 +30,7 @@ pub(crate) fn form_of(rec: &Rec) -> Option<Form>
         INT => Some(Form::Number(rec.wide(PROPERTY_NUMBER).cast_signed())),
         BOOL => truth_of(rec.byte(PROPERTY_TRUTH)),
         TEXT_INLINE if size as usize <= PROPERTY_TEXT_BYTES => Some(Form::Inline(size as u8)),
-        TEXT_IN_BLOCKS if size as usize > PROPERTY_TEXT_BYTES && size as usize <= TEXT_BYTES => {
+        TEXT_IN_BLOCKS if size as usize > PROPERTY_TEXT_BYTES && size <= MOST_TEXT_BYTES => {
             Some(Form::Long {
                 size,
                 first: rec.number(PROPERTY_FIRST_BLOCK),

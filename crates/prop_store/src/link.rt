@@ -5,7 +5,7 @@ use crate::Owner;
 use rec_bytes::{Key, PROPERTIES, PROPERTY_NEXT};
 
 /// The place of a link to a property: in the record of its element, or of the property before it.
-#[derive(Clone, Copy, Debug, PartialEq, Eq)]
+#[derive(Clone, Copy)]
 pub(crate) struct Link {
     pub key: Key,
     pub field: u8,

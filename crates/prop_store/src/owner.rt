@@ -5,7 +5,7 @@ ghost use Rattle.prop_store.specs.Owner.{IsOwner, first_of};
 use rec_bytes::{Key, Reads, SpaceFault};
 
 /// The place of an element's first property: its record, and the field.
-#[derive(Clone, Copy, Debug, PartialEq, Eq)]
+#[derive(Clone, Copy)]
 pub struct Owner {
     pub key: Key,
     pub field: u8,

@@ -2,19 +2,19 @@ ghost use Rattle.std.specs.Prelude.{◌≡◌, IfErr, IfOk, OnOk};
 ghost use Rattle.rec_bytes.specs.Format.{properties_file};
 ghost use Rattle.rec_bytes.specs.Space.{after_get};
 ghost use Rattle.store_rules.specs.Views.{rec_at};
-ghost use Rattle.prop_store.specs.Fault.{HasFaultCause, IsOwnDamage, NotDamaged};
+ghost use Rattle.rec_bytes.specs.Fault.{HasFaultCause, NotDamaged};
+ghost use Rattle.prop_store.specs.Fault.{IsOwnDamage};
 ghost use Rattle.prop_store.specs.GivenOut.{IsGivenOut};
 ghost use Rattle.prop_store.specs.PropertyRow.{HasContent, IsRow};
 ghost use Rattle.prop_store.specs.Reading.{ReadsAtMost};
 
-use crate::Fault;
-use crate::fault::{LIST_RULE, RANGE_RULE};
+use crate::damaged::damaged;
 use crate::form::{Form, form_of};
 use crate::given_out::is_given_out;
-use rec_bytes::{Key, PROPERTIES, Reads, Rec};
+use rec_bytes::{Fault, Key, PROPERTIES, PROPERTY_RULE, RANGE_RULE, Reads, Rec};
 
 /// A property as its record says it.
-#[derive(Clone, Copy, Debug, PartialEq, Eq)]
+#[derive(Clone, Copy)]
 pub(crate) struct PropertyRow {
     /// Its identifier, which the record doesn't hold.
     pub id: u32,
@@ -40,7 +40,7 @@ pub(crate) fn property_at<R: Reads>(space: &mut R, id: u32) -> Result<PropertyRo
     ensures cause { HasFaultCause (R.faults space.old) (R.faults space.new) result }
 {
     if !is_given_out(space, PROPERTIES, id) {
-        return Err(Fault::damaged(PROPERTIES, id, LIST_RULE));
+        return Err(damaged(PROPERTIES, id, PROPERTY_RULE));
     }
     let key = Key {
         file: PROPERTIES,
@@ -49,6 +49,6 @@ pub(crate) fn property_at<R: Reads>(space: &mut R, id: u32) -> Result<PropertyRo
     let rec = space.get(key)?;
     match form_of(&rec) {
         Some(form) => Ok(PropertyRow { id, rec, form }),
-        None => Err(Fault::damaged(PROPERTIES, id, RANGE_RULE)),
+        None => Err(damaged(PROPERTIES, id, RANGE_RULE)),
     }
 }

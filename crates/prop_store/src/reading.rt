@@ -2,18 +2,20 @@ ghost use Rattle.std.specs.Prelude.{◌≡◌, ◌+◌, ◌≤◌, List, All, If
 ghost use Rattle.plain_graph.specs.Forms.{IsKept};
 ghost use Rattle.plain_graph.specs.Properties.{blocks_if};
 ghost use Rattle.store_rules.specs.Properties.{AreProperties, Property, property_records};
-ghost use Rattle.prop_store.specs.Fault.{HasFaultCause, NotDamaged};
+ghost use Rattle.rec_bytes.specs.Fault.{HasFaultCause, NotDamaged};
 ghost use Rattle.prop_store.specs.Finding.{value_of};
 ghost use Rattle.prop_store.specs.Owner.{HasProperties, IsOwner, first_of};
 ghost use Rattle.prop_store.specs.Reading.{ReadsAtMost, block_total, prop_of, properties_met};
 
-use crate::fault::LIST_RULE;
-use crate::finding::{MOST_PROPERTIES, Search, find};
+use crate::damaged::damaged;
+use crate::finding::{Search, find};
 use crate::property_row::property_at;
 use crate::values::read_value;
-use crate::{Fault, Owner, Prop};
+use crate::{Owner, Prop};
 use plain_graph::Value;
-use rec_bytes::{NIL, PROPERTIES, PROPERTY_KEY, PROPERTY_NEXT, Reads};
+use rec_bytes::{
+    Fault, MOST_PROPERTIES, NIL, PROPERTIES, PROPERTY_KEY, PROPERTY_NEXT, PROPERTY_RULE, Reads,
+};
 use std::alloc::Global;
 
 /// The value of a key, and none where the element hasn't the key.
@@ -86,7 +88,7 @@ pub fn read_all<R: Reads>(alloc: Global, space: &mut R, owner: Owner) -> Result<
         at = row.rec.number(PROPERTY_NEXT);
     }
     if at != NIL {
-        return Err(Fault::damaged(PROPERTIES, at, LIST_RULE));
+        return Err(damaged(PROPERTIES, at, PROPERTY_RULE));
     }
     Ok(props)
 }

@@ -23,7 +23,6 @@ pub(crate) fn release<S: Space>(space: &mut S, blocks: &[u32]) -> Result<(), Spa
         × HasFewer (S.state space.old) (S.state space.new) strings_file (length blocks.now)) }
     ensures beside { S.tells → OnOk result (IsSameBeside strings_file
         (S.state space.old).records (S.state space.new).records) }
-    ensures shape { S.tells → (S.state space.new).shape ≡ (S.state space.old).shape }
     ensures touches { TouchesOnly S.tells (S.state space.old) (S.state space.new)
         (meta_key_of strings_file ∷ map (key_in strings_file) blocks.now) }
     ensures onward { S.onward space.old space.new }

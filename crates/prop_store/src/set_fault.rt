@@ -1,6 +1,5 @@
-use crate::Fault;
 use id_freelist::TakeFault;
-use rec_bytes::{Damage, SpaceFault};
+use rec_bytes::{Damage, Fault, SpaceFault};
 use thiserror::Error;
 
 /// Why a property is not set.

@@ -30,7 +30,7 @@ ghost use Rattle.rec_bytes.specs.Space.{meta_of};
 ghost use Rattle.store_rules.specs.Properties.{Property, long_text};
 
 use crate::block_writing::write_text;
-use crate::finding::{MOST_PROPERTIES, Search, find};
+use crate::finding::{Search, find};
 use crate::property_record::property_record;
 use crate::property_row::PropertyRow;
 use crate::releasing::release;
@@ -39,8 +39,8 @@ use crate::{Owner, SetFault};
 use id_freelist::take;
 use plain_graph::Value;
 use rec_bytes::{
-    Key, PROPERTIES, PROPERTY_KEY, PROPERTY_NEXT, PROPERTY_TEXT_BYTES, Reads, Space, room_of,
-    set_number,
+    Key, MOST_PROPERTIES, PROPERTIES, PROPERTY_KEY, PROPERTY_NEXT, PROPERTY_TEXT_BYTES, Reads,
+    Space, room_of, set_number,
 };
 
 /// Puts a property in front of those of an element that hasn't the key. The key is the number of
@@ -66,7 +66,6 @@ pub fn add<S: Space>(space: &mut S, owner: Owner, key: u32, value: &Value) -> Re
         → OwnsProperties (S.state space.old) owner es → IsKnownKey (S.state space.old) key
         → LacksKey es key → length es < 32
         → IfErr result (IsSetRefusalAlone (S.state space.old) es key value.now) }
-    ensures shape { S.tells → (S.state space.new).shape ≡ (S.state space.old).shape }
     ensures writes { IfOk result (λ _. WritesBeside owner.key (1 + blocks_of value.now)
         (S.state space.old) (S.state space.new)) }
     ensures touches { TouchesProperties S.tells (owner.key ∷ []) 1 (blocks_of value.now)
@@ -104,7 +103,6 @@ pub fn set<S: Space>(space: &mut S, owner: Owner, key: u32, value: &Value) -> Re
         → OwnsProperties (S.state space.old) owner es → IsKnownKey (S.state space.old) key
         → IfErr result (IsSetRefusalAlone (S.state space.old) es key value.now) }
     ensures few { IfOk result (λ released. released ≤ 22) }
-    ensures shape { S.tells → (S.state space.new).shape ≡ (S.state space.old).shape }
     ensures writes { IfOk result (λ released. WritesAtMost (2 + blocks_of value.now + released)
         (S.state space.old) (S.state space.new)) }
     ensures touches { IfOk result (λ released. TouchesProperties S.tells (owner.key ∷ [])
@@ -158,7 +156,6 @@ fn put_new<S: Space>(space: &mut S, key: u32, value: &Value, next: u32) -> Resul
         → (meta_of (S.state space.old) properties_file).live
         ≢ room_of (S.state space.old).shape properties_file
         → IfErr result (IsPutFault (S.state space.old) 0 (blocks_of value.now)) }
-    ensures shape { S.tells → (S.state space.new).shape ≡ (S.state space.old).shape }
     ensures touches { TouchesProperties S.tells [] 1 (blocks_of value.now)
         (S.state space.old) (S.state space.new) }
     ensures full { S.tells → IfErr result IsOwnRoom }
@@ -189,7 +186,6 @@ fn put_again<S: Space>(space: &mut S, row: &PropertyRow, value: &Value) -> Resul
     ensures few { IfOk result (λ released. released ≤ 22) }
     ensures refused { S.tells → (e : Property) → IsHeld (S.state space.old) row.now e
         → IfErr result (IsPutFault (S.state space.old) (length e.blocks) (blocks_of value.now)) }
-    ensures shape { S.tells → (S.state space.new).shape ≡ (S.state space.old).shape }
     ensures touches { IfOk result (λ released. TouchesProperties S.tells []
         1 (blocks_of value.now + released) (S.state space.old) (S.state space.new)) }
     ensures at_most { TouchesProperties S.tells [] 1 (22 + blocks_of value.now)

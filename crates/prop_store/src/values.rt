@@ -7,18 +7,18 @@ ghost use Rattle.plain_graph.specs.declared.value.Value.{Value as StoredValue};
 ghost use Rattle.rec_bytes.specs.Format.{strings_file};
 ghost use Rattle.store_rules.specs.Properties.{content_of, value_from};
 ghost use Rattle.store_rules.specs.Views.{rec_at};
-ghost use Rattle.prop_store.specs.Fault.{HasFaultCause, IsOwnDamage, NotDamaged};
+ghost use Rattle.rec_bytes.specs.Fault.{HasFaultCause, NotDamaged};
+ghost use Rattle.prop_store.specs.Fault.{IsOwnDamage};
 ghost use Rattle.prop_store.specs.GivenOut.{AreGivenOut};
 ghost use Rattle.prop_store.specs.PropertyRow.{HasValue, IsRow};
 ghost use Rattle.prop_store.specs.Reading.{ReadsAtMost};
 
-use crate::Fault;
 use crate::block_list::BlockList;
 use crate::blocks::{block_ids, read_text};
 use crate::form::Form;
 use crate::property_row::PropertyRow;
 use plain_graph::{Text, Value};
-use rec_bytes::{PROPERTY_TEXT, Reads};
+use rec_bytes::{Fault, PROPERTY_TEXT, Reads};
 use std::alloc::Global;
 
 /// Reads the value of a property.

@@ -1,4 +1,5 @@
 pub mod CreationPairs
+pub mod Footprints
 pub mod Format
 pub mod KeyLaws
 pub mod MetaBytes

@@ -1,14 +1,16 @@
 -- A meta record that is written twice.
 use Rattle.std.specs.Prelude.{replicate}
-use Rattle.std.proofs.Common.{◌≡◌, ℕ, ◌+◌, ◌≤◌, List, [], ◌++◌, length, drop, sym, ap, ◌∙◌, arith, refl}
+use Rattle.std.specs.List.{list_all}
+use Rattle.std.proofs.Common.{◌≡◌, ℕ, ◌+◌, ◌-◌, ◌≤◌, Bool, true, false, cond, nat_eq, List, [], ◌++◌, length, drop, sym, ap, ◌∙◌, arith, refl}
 use Rattle.std.proofs.lemmas.List.{drop_at, drop-drop, length-append, length-drop, length-replicate, length-take-le, append_assoc}
 use Rattle.std.proofs.Math.Seq.{drop-append-add, take-append_seam}
 use Rattle.byteorder.specs.Endian.{little_bytes}
 use Rattle.byteorder.specs.Numbers.{length-bytes_low_first}
 use Rattle.rec_bytes.specs.declared.record.Rec.{Rec}
 use Rattle.rec_bytes.specs.declared.meta.Meta.{Meta}
-use Rattle.rec_bytes.specs.Meta.{with_meta}
-use Rattle.rec_bytes.specs.Record.{with_field, as_64, with_bytes}
+use Rattle.rec_bytes.specs.Meta.{has_definition, rest_of, with_meta}
+use Rattle.rec_bytes.specs.Format.{meta_index_rest, meta_rest}
+use Rattle.rec_bytes.specs.Record.{with_field, as_64, with_bytes, zeros_from}
 use Rattle.rec_bytes.proofs.Numbers.{with_bytes-is, as_64-whole}
 
 length-as_64 : (xs : List ℕ) → length (as_64 xs) ≡ 64
@@ -63,3 +65,32 @@ with_meta-again r a b =
     ap (λ q. with_meta q b) (with_meta-is r a) ∙ with_meta-is (record { bytes = meta_bytes a ++ drop 12 xs }) b
     ∙ ap (λ ys. record { bytes = meta_bytes b ++ drop 12 ys }) whole ∙ ap (λ ys. record { bytes = meta_bytes b ++ ys }) (drop_at (meta_bytes a) (drop 12 xs) 12 la)
     ∙ sym (with_meta-is r b)
+
+-- what stands behind the three numbers stays
+drop-with_meta : (k : ℕ) (r : Rec) (m : Meta) → drop (12 + k) (as_64 (with_meta r m).bytes) ≡ drop (12 + k) (as_64 r.bytes)
+drop-with_meta k r m =
+    let xs = as_64 r.bytes in
+    let front = meta_bytes m in
+    let twelve : length front ≡ 12 = length-meta_bytes m in
+    let whole : length (front ++ drop 12 xs) ≡ 64 = omega (arith, twelve, length-append front (drop 12 xs), length-drop 12 xs, length-as_64 r.bytes) in
+    ap (λ (q : Rec). drop (12 + k) (as_64 q.bytes)) (with_meta-is r m)
+    ∙ ap (drop (12 + k)) (as_64-whole (front ++ drop 12 xs) whole)
+    ∙ ap (λ n. drop (n + k) (front ++ drop 12 xs)) (sym twelve)
+    ∙ drop-append-add front (drop 12 xs) k
+    ∙ drop-drop k 12 xs
+
+pub zeros_from-with_meta : (at : ℕ) (r : Rec) (m : Meta) → 12 ≤ at → zeros_from at r ≡ true → zeros_from at (with_meta r m) ≡ true
+unfolding zeros_from
+zeros_from-with_meta at r m behind zeros =
+    let split : 12 + (at - 12) ≡ at = omega (arith, behind) in
+    ap (λ n. list_all (λ b. nat_eq b 0) (drop n (as_64 (with_meta r m).bytes))) (sym split)
+    ∙ ap (list_all (λ b. nat_eq b 0)) (drop-with_meta (at - 12) r m)
+    ∙ ap (λ n. list_all (λ b. nat_eq b 0) (drop n (as_64 r.bytes))) split
+    ∙ zeros
+
+pub rest_of-behind : (file : ℕ) → 12 ≤ rest_of file
+rest_of-behind file = pick (has_definition file)
+  where
+    pick : (b : Bool) → 12 ≤ cond b meta_index_rest meta_rest
+    pick true = omega arith
+    pick false = omega arith

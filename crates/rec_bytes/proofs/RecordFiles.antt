@@ -7,7 +7,7 @@ use Rattle.rec_bytes.specs.declared.key.Key.{Key}
 use Rattle.rec_bytes.specs.declared.shape.Shape.{Shape}
 use Rattle.rec_bytes.specs.declared.record_files.RecordFile.{RecordFile}
 use Rattle.rec_bytes.specs.declared.record_files.TheConstants.{RECORD_FILES}
-use Rattle.rec_bytes.specs.Format.{log_file, meta_file, most_ids}
+use Rattle.rec_bytes.specs.Format.{log_file, meta_file, meta_records, most_ids, taken_id}
 use Rattle.rec_bytes.specs.Key.{IsKey}
 use Rattle.rec_bytes.specs.RecordFiles.{Rooms, is_meta_file, is_record_file, meta_files, meta_key_of, record_files, record_rooms, room_in, room_of, records_of, rooms_of}
 use Rattle.rec_bytes.specs.Shape.{is_allowed}
@@ -27,8 +27,9 @@ passes test (one ∷ rest) file all any = pick (nat_eq file one) (test one) (λ 
     pick false true h later all any = later all any
     pick here false h later all any = absurd cc
 
-pub is_record_file-low : (file : ℕ) → is_record_file file ≡ true → file < 8
-is_record_file-low file h = let low = passes (λ f. nat_lt f 8) record_files file refl h in grind (arith, nat_tests)
+-- each file of records has a record of its number in the meta file
+pub is_record_file-low : (file : ℕ) → is_record_file file ≡ true → file < meta_records
+is_record_file-low file h = let low = passes (λ f. nat_lt f meta_records) record_files file refl h in grind (arith, nat_tests)
 
 pub is_record_file-not_log : (file : ℕ) → is_record_file file ≡ true → file ≢ log_file
 is_record_file-not_log file h = let other = passes (λ f. not (nat_eq f log_file)) record_files file refl h in grind (arith, nat_tests)
@@ -41,6 +42,10 @@ is_meta_file-record file h = passes is_record_file meta_files file refl h
 
 pub is_meta_file-not_meta : (file : ℕ) → is_meta_file file ≡ true → file ≢ meta_file
 is_meta_file-not_meta file h = let other = passes (λ f. not (nat_eq f meta_file)) meta_files file refl h in grind (arith, nat_tests)
+
+-- the record of the last transaction that was taken over is no file's
+pub is_meta_file-not_taken : (file : ℕ) → is_meta_file file ≡ true → file ≢ taken_id
+is_meta_file-not_taken file h = let other = passes (λ f. not (nat_eq f taken_id)) meta_files file refl h in grind (arith, nat_tests)
 
 -- the key of a file's meta record
 pub IsKey-meta_key : (file : ℕ) → is_meta_file file ≡ true → IsKey (meta_key_of file)

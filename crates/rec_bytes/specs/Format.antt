@@ -1,4 +1,5 @@
--- The numbers of the file format. The code's constants are these; `proofs/Format.antt` and the contracts say so.
+-- The numbers of the file format. The code's constants are these; `proofs/Format.antt` and the
+-- contracts say so.
 use Rattle.std.specs.Prelude.{ℕ, List, [], ◌∷◌}
 
 -- the files
@@ -27,7 +28,12 @@ names_file = 6
 abbrev pub log_file : ℕ
 log_file = 7
 
--- what all records have in common: their bytes, a link to no record, and how many numbers a file has at most
+-- the index, from version 3 of the format on
+abbrev pub index_file : ℕ
+index_file = 8
+
+-- what all records have in common: their bytes, a link to no record, and how many numbers a file
+-- has at most
 abbrev pub record_bytes : ℕ
 record_bytes = 64
 
@@ -37,13 +43,22 @@ nil = 4294967295
 abbrev pub most_ids : ℕ
 most_ids = 33554432
 
--- how many records the meta file has: the store's own and one for each other file of records
+-- how many records the meta file has: the store's own, one for each other file of records, and
+-- between them one with the number of the last transaction that was taken over
 abbrev pub meta_records : ℕ
-meta_records = 7
+meta_records = 9
 
 -- how many names there may be
 abbrev pub most_names : ℕ
 most_names = 4096
+
+-- how many properties a node or a relationship has at most
+abbrev pub most_properties : ℕ
+most_properties = 32
+
+-- how many bytes the text of a property has at most
+abbrev pub most_text_bytes : ℕ
+most_text_bytes = 1024
 
 -- the bounds of a shape, and what it is where nothing else is asked
 abbrev pub least_threshold : ℕ
@@ -88,8 +103,19 @@ store_rest = 12
 abbrev pub mark : List ℕ
 mark = 71 ∷ 82 ∷ 83 ∷ 49 ∷ []
 
-abbrev pub version : ℕ
-version = 1
+-- the versions of the format: 1 is the first, from 2 on a group may have counts, from 3 on there is
+-- an index
+abbrev pub first_version : ℕ
+first_version = 1
+
+abbrev pub counted_version : ℕ
+counted_version = 2
+
+abbrev pub index_version : ℕ
+index_version = 3
+
+abbrev pub newest_version : ℕ
+newest_version = 3
 
 -- a meta record
 abbrev pub meta_high : ℕ
@@ -100,6 +126,26 @@ meta_free = 4
 
 abbrev pub meta_live : ℕ
 meta_live = 8
+
+-- zeros from here on, but that of the index has here its first definition, and zeros behind it
+abbrev pub meta_rest : ℕ
+meta_rest = 12
+
+abbrev pub meta_definition : ℕ
+meta_definition = 12
+
+abbrev pub meta_index_rest : ℕ
+meta_index_rest = 16
+
+-- the record of the last transaction that was taken over: its number, and zeros behind it
+abbrev pub taken_id : ℕ
+taken_id = 7
+
+abbrev pub taken_number : ℕ
+taken_number = 0
+
+abbrev pub taken_rest : ℕ
+taken_rest = 8
 
 -- each record of another file; 0 is the kind of one that isn't in use
 abbrev pub kind : ℕ
@@ -159,9 +205,12 @@ relationship_target_next = 28
 abbrev pub relationship_first_property : ℕ
 relationship_first_property = 32
 
--- a group
+-- a group, and one with the counts of its chains
 abbrev pub grouped : ℕ
 grouped = 1
+
+abbrev pub counted : ℕ
+counted = 2
 
 abbrev pub group_type : ℕ
 group_type = 4
@@ -183,6 +232,15 @@ group_first_in = 24
 
 abbrev pub group_first_loop : ℕ
 group_first_loop = 28
+
+abbrev pub group_out_count : ℕ
+group_out_count = 32
+
+abbrev pub group_in_count : ℕ
+group_in_count = 36
+
+abbrev pub group_loop_count : ℕ
+group_loop_count = 40
 
 -- a property
 abbrev pub int : ℕ
@@ -249,3 +307,48 @@ name_text = 8
 
 abbrev pub name_text_bytes : ℕ
 name_text_bytes = 48
+
+-- a definition of the index: the label and the key, and twelve records of heads
+abbrev pub definition : ℕ
+definition = 1
+
+abbrev pub definition_label : ℕ
+definition_label = 4
+
+abbrev pub definition_key : ℕ
+definition_key = 8
+
+abbrev pub definition_next : ℕ
+definition_next = 12
+
+abbrev pub definition_heads : ℕ
+definition_heads = 16
+
+abbrev pub definition_head_count : ℕ
+definition_head_count = 12
+
+-- a record of heads: fifteen first entries
+abbrev pub heads : ℕ
+heads = 2
+
+abbrev pub heads_first : ℕ
+heads_first = 4
+
+abbrev pub heads_count : ℕ
+heads_count = 15
+
+-- an entry of the index
+abbrev pub indexed : ℕ
+indexed = 3
+
+abbrev pub indexed_node : ℕ
+indexed_node = 4
+
+abbrev pub indexed_previous : ℕ
+indexed_previous = 8
+
+abbrev pub indexed_next : ℕ
+indexed_next = 12
+
+abbrev pub indexed_hash : ℕ
+indexed_hash = 16

@@ -7,7 +7,8 @@ use Rattle.rec_bytes.specs.Space.{State, blank_records, laid_state}
 
 -- zeros, with nothing written and nothing read
 abbrev pub blank_state : Shape → State
-blank_state shape = record { records = blank_records; written = λ _. false; reads = 0; shape = shape }
+blank_state shape =
+    record { records = blank_records; written = λ _. false; reads = 0; shape = shape }
 
 -- a store with no other records than those of its creation
 abbrev pub new_state : Shape → State

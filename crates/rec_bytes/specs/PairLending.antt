@@ -9,4 +9,7 @@ use Rattle.rec_bytes.specs.contracts.write_set.WriteSet as set
 
 -- the set ends with what was left in the record set at the key, and at an error as it was
 abbrev pub LendsPair : MutBor Held → Key → {E : Type 0} → Result (MutBor Rec) E → Fml
-LendsPair s key r = LendsSoOk set.the_row rec.the_row s r (λ n w. n.pairs ≡ with_pair s.now.pairs key w) (λ n. n.pairs ≡ s.now.pairs)
+LendsPair s key r =
+    LendsSoOk set.the_row rec.the_row s r
+    (λ n w. n.pairs ≡ with_pair s.now.pairs key w)
+    (λ n. n.pairs ≡ s.now.pairs)

@@ -1,5 +1,20 @@
 -- Records by key, as a list of pairs in the order of the keys.
-use Rattle.std.specs.Prelude.{◌≡◌, ℕ, zero, suc, List, [], ◌∷◌, Some, None, Option, is_some, unwrap_or, ◌+◌, if◌then◌else◌}
+use Rattle.std.specs.Prelude.{
+  ◌≡◌,
+  ℕ,
+  zero,
+  suc,
+  List,
+  [],
+  ◌∷◌,
+  Some,
+  None,
+  Option,
+  is_some,
+  unwrap_or,
+  ◌+◌,
+  if◌then◌else◌,
+}
 use Rattle.std.specs.Option.{option_or}
 use Rattle.std.specs.declared.cmp.Ordering.{Ordering}
 use Rattle.std.specs.declared.cmp.Ordering.TheVariants.{Less, Equal, Greater}
@@ -33,7 +48,9 @@ by_order Greater a b c = c
 -- the pairs with a record set at a key
 unfoldable pub with_pair : Pairs → Key → Rec → Pairs
 with_pair [] key rec = (key, rec) ∷ []
-with_pair (pair ∷ rest) key rec = by_order (key_cmp key pair.0) ((key, rec) ∷ pair ∷ rest) ((key, rec) ∷ rest) (pair ∷ with_pair rest key rec)
+with_pair (pair ∷ rest) key rec =
+    by_order (key_cmp key pair.0)
+    ((key, rec) ∷ pair ∷ rest) ((key, rec) ∷ rest) (pair ∷ with_pair rest key rec)
 
 -- each pair has a greater key
 abbrev pub IsBelow : Key → Pairs → Type 0
@@ -78,8 +95,10 @@ growth_by pairs (pair ∷ rest) = growth pairs pair.0 + growth_by (with_pair pai
 
 -- a find answers the new record at this key, and what it answered before at each other key
 abbrev pub FindsPut : Pairs → Pairs → Key → Rec → Type 0
-FindsPut old new key rec = (q : Key) → find_pair new q ≡ (if key_eq q key then Some rec else find_pair old q)
+FindsPut old new key rec =
+    (q : Key) → find_pair new q ≡ (if key_eq q key then Some rec else find_pair old q)
 
 -- a find answers what the other set answers, and where that has none what it answered before
 abbrev pub FindsMerged : Pairs → Pairs → Pairs → Type 0
-FindsMerged old other new = (q : Key) → find_pair new q ≡ option_or (find_pair other q) (find_pair old q)
+FindsMerged old other new =
+    (q : Key) → find_pair new q ≡ option_or (find_pair other q) (find_pair old q)

@@ -1,6 +1,22 @@
--- The numbers in a record. Each list of bytes is read as 64 of them, with zeros for those that it lacks,
--- so that the laws ask nothing of the list.
-use Rattle.std.specs.Prelude.{ℕ, suc, List, [], ◌∷◌, ◌++◌, ◌%◌, ◌^◌, take, drop, replicate, slice_set}
+-- The numbers in a record. Each list of bytes is read as 64 of them, with zeros for those that it
+-- lacks, so that the laws ask nothing of the list.
+use Rattle.std.specs.Prelude.{
+  ℕ,
+  suc,
+  Bool,
+  nat_eq,
+  List,
+  [],
+  ◌∷◌,
+  ◌++◌,
+  ◌%◌,
+  ◌^◌,
+  take,
+  drop,
+  replicate,
+  slice_set,
+}
+use Rattle.std.specs.List.{list_all}
 use Rattle.byteorder.specs.Endian.{little_number, little_bytes}
 use Rattle.rec_bytes.specs.declared.record.Rec.{Rec}
 use Rattle.rec_bytes.specs.Format.{record_bytes}
@@ -25,6 +41,10 @@ field n r at = little_number n (drop at r.bytes) % 256 ^ n
 -- the record with another number in the n bytes from a place on
 unfoldable pub with_field : ℕ → Rec → ℕ → ℕ → Rec
 with_field n r at value = record { bytes = with_bytes (as_64 r.bytes) at (little_bytes n value) }
+
+-- zeros stand from a place on
+unfoldable pub zeros_from : ℕ → Rec → Bool
+zeros_from at r = list_all (λ b. nat_eq b 0) (drop at (as_64 r.bytes))
 
 -- the n bytes from a place on
 unfoldable pub text_in : Rec → ℕ → ℕ → List ℕ

@@ -6,7 +6,18 @@ use Rattle.rec_bytes.specs.declared.shape.Shape.{Shape}
 use Rattle.rec_bytes.specs.declared.record_files.RecordFile.{RecordFile}
 use Rattle.rec_bytes.specs.declared.record_files.RecordRoom.{RecordRoom}
 use Rattle.rec_bytes.specs.declared.record_files.RecordRoom.TheVariants.{Fixed, Limit, TwiceLimit}
-use Rattle.rec_bytes.specs.Format.{meta_file, nodes_file, relationships_file, groups_file, properties_file, strings_file, names_file, meta_records, most_names}
+use Rattle.rec_bytes.specs.Format.{
+  meta_file,
+  nodes_file,
+  relationships_file,
+  groups_file,
+  properties_file,
+  strings_file,
+  names_file,
+  index_file,
+  meta_records,
+  most_names,
+}
 
 -- how many records a file of this room has in a store of this shape
 abbrev pub records_of : RecordRoom → Shape → ℕ
@@ -20,8 +31,10 @@ Rooms = List (ℕ × RecordRoom)
 -- each file of records by ascending number, with its room
 abbrev pub record_rooms : Rooms
 record_rooms =
-    (meta_file, Fixed meta_records) ∷ (nodes_file, Limit) ∷ (relationships_file, Limit) ∷ (groups_file, TwiceLimit)
-    ∷ (properties_file, Limit) ∷ (strings_file, Limit) ∷ (names_file, Fixed most_names) ∷ []
+    (meta_file, Fixed meta_records) ∷ (nodes_file, Limit) ∷ (relationships_file, Limit)
+    ∷ (groups_file, TwiceLimit)
+    ∷ (properties_file, Limit) ∷ (strings_file, Limit) ∷ (names_file, Fixed most_names)
+    ∷ (index_file, TwiceLimit) ∷ []
 
 -- those that have a meta record: all but the meta file
 abbrev pub meta_rooms : Rooms
@@ -42,7 +55,8 @@ is_meta_file file = list_any (nat_eq file) meta_files
 -- how many records a file of the list has, and none if it isn't there
 abbrev pub room_in : Rooms → Shape → ℕ → ℕ
 room_in [] shape file = 0
-room_in (room ∷ rest) shape file = if nat_eq file room.0 then records_of room.1 shape else room_in rest shape file
+room_in (room ∷ rest) shape file =
+    if nat_eq file room.0 then records_of room.1 shape else room_in rest shape file
 
 abbrev pub room_of : Shape → ℕ → ℕ
 room_of shape file = room_in record_rooms shape file

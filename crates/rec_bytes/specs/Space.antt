@@ -1,12 +1,28 @@
 -- What a space of records stands for, and what each call makes of it.
-use Rattle.std.specs.Prelude.{◌≡◌, ◌⊎◌, ℕ, zero, suc, ◌≤◌, Bool, true, ◌||◌, if◌then◌else◌, is_some, List, [], ◌∷◌, Result, IsErrOf}
-use Rattle.fault_count.specs.Cause.{Rose, raised}
+use Rattle.std.specs.Prelude.{
+  ◌≡◌,
+  ◌⊎◌,
+  ℕ,
+  zero,
+  suc,
+  Bool,
+  true,
+  ◌||◌,
+  if◌then◌else◌,
+  is_some,
+  List,
+  [],
+  ◌∷◌,
+  Result,
+}
+use Rattle.fault_count.specs.Cause.{raised}
 use Rattle.rec_bytes.specs.declared.record.Rec.{Rec}
 use Rattle.rec_bytes.specs.declared.key.Key.{Key}
 use Rattle.rec_bytes.specs.declared.meta.Meta.{Meta}
 use Rattle.rec_bytes.specs.declared.shape.Shape.{Shape}
 use Rattle.rec_bytes.specs.declared.space.SpaceFault.{SpaceFault}
 use Rattle.rec_bytes.specs.declared.space.SpaceFault.TheVariants.{Disk}
+use Rattle.rec_bytes.specs.Cause.{HasDiskCause}
 use Rattle.rec_bytes.specs.Key.{key_eq}
 use Rattle.rec_bytes.specs.Meta as metas
 use Rattle.rec_bytes.specs.Pairs.{Pairs, find_pair, held_at}
@@ -51,7 +67,8 @@ after_set s key n at value = after_put (after_get s) key (with_field n (s.record
 
 -- after a file's meta record was read, and written again with these numbers
 abbrev pub after_meta : State → ℕ → Meta → State
-after_meta s file meta = after_put (after_get s) (meta_key_of file) (metas.with_meta (s.records (meta_key_of file)) meta)
+after_meta s file meta =
+    after_put (after_get s) (meta_key_of file) (metas.with_meta (s.records (meta_key_of file)) meta)
 
 -- what the records say of a file
 abbrev pub meta_in : (Key → Rec) → ℕ → Meta
@@ -78,9 +95,8 @@ laid_state base pairs = record {
 }
 
 -- the disk is blamed only where it failed
-pub record HasCause {T : Type 0} (before now : ℕ) (result : Result T SpaceFault) : Type 0 where
-  pub later : before ≤ now
-  pub disk : IsErrOf result Disk → Rose before now
+abbrev pub HasCause : {T : Type 0} → ℕ → ℕ → Result T SpaceFault → Type 0
+HasCause before now result = HasDiskCause Disk before now result
 
 abbrev pub IsAmong : Key → List Key → Type 0
 IsAmong q [] = ⊥

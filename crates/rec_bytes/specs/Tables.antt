@@ -1,5 +1,23 @@
 -- Several numbers of a record at once.
-use Rattle.std.specs.Prelude.{ℕ, ◌+◌, ◌<◌, ◌^◌, Bool, true, ◌&&◌, ◌||◌, nat_eq, nat_le, List, [], ◌∷◌, Option, None, Some, if◌then◌else◌}
+use Rattle.std.specs.Prelude.{
+  ℕ,
+  ◌+◌,
+  ◌<◌,
+  ◌^◌,
+  Bool,
+  true,
+  ◌&&◌,
+  ◌||◌,
+  nat_eq,
+  nat_le,
+  List,
+  [],
+  ◌∷◌,
+  Option,
+  None,
+  Some,
+  if◌then◌else◌,
+}
 use Rattle.rec_bytes.specs.declared.record.Rec.{Rec}
 use Rattle.rec_bytes.specs.Format.{record_bytes}
 use Rattle.rec_bytes.specs.Record.{with_field}

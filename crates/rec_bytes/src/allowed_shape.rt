@@ -3,7 +3,8 @@ ghost use Rattle.rec_bytes.specs.Shape.{is_allowed};
 
 use crate::shape::Shape;
 
-/// A shape that a store may have. It is a struct of its own, since a struct with such a fact lends no part.
+/// A shape that a store may have. It is a struct of its own, since a struct with such a fact lends
+/// no part.
 #[derive(Drop)]
 pub(crate) struct AllowedShape {
     pub(crate) shape: Shape,

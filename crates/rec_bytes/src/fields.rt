@@ -1,4 +1,5 @@
-//! The places of fields in a record, counted in bytes from its start, by the kind of record. Numbers stand with
+//! The places of fields in a record, counted in bytes from its start, by the kind of record.
+//! Numbers stand with
 //! the lowest byte first: a short has 2 bytes, a number 4, a wide number 8.
 
 // The store, record 0 of the meta file.
@@ -16,10 +17,16 @@ pub const STORE_REST: u8 = 12;
 
 /// What a store begins with.
 pub const MARK: [u8; 4] = *b"GRS1";
+/// The first version of the format.
+pub const FIRST_VERSION: u16 = 1;
+/// The first version that has groups with counts.
+pub const COUNTED_VERSION: u16 = 2;
+/// The first version that has an index.
+pub const INDEX_VERSION: u16 = 3;
 /// The version of the format that this code writes.
-pub const VERSION: u16 = 1;
+pub const VERSION: u16 = 3;
 
-// A file of records, record 1 to 6 of the meta file.
+// A file of records, in the record of the meta file with its number.
 
 /// The first number in the file that was never given out.
 pub const META_HIGH: u8 = 0;
@@ -27,6 +34,19 @@ pub const META_HIGH: u8 = 0;
 pub const META_FREE: u8 = 4;
 /// How many records are in use.
 pub const META_LIVE: u8 = 8;
+/// From here on it has zeros, but for the index.
+pub const META_REST: u8 = 12;
+/// The first definition of the index, or `NIL`.
+pub const META_DEFINITION: u8 = 12;
+/// From here on the meta record of the index has zeros.
+pub const META_INDEX_REST: u8 = 16;
+
+// The last transaction that was taken over, record `TAKEN` of the meta file.
+
+/// Its number, a wide number.
+pub const TAKEN_NUMBER: u8 = 0;
+/// From here on it has zeros.
+pub const TAKEN_REST: u8 = 8;
 
 // Each record of another file.
 
@@ -35,7 +55,7 @@ pub const KIND: u8 = 0;
 /// A record that is not in use.
 pub const FREE: u8 = 0;
 
-// A free record of the files 1 to 5.
+// A free record of a file that is used again: all but the names.
 
 /// The next record of the free list, or `NIL`.
 pub const FREE_NEXT: u8 = 4;
@@ -82,6 +102,8 @@ pub const RELATIONSHIP_FIRST_PROPERTY: u8 = 32;
 
 /// A group in use.
 pub const GROUPED: u8 = 1;
+/// A group in use with the counts of its chains, from version 2 on.
+pub const COUNTED: u8 = 2;
 
 /// The type's number.
 pub const GROUP_TYPE: u8 = 4;
@@ -97,6 +119,12 @@ pub const GROUP_FIRST_OUT: u8 = 20;
 pub const GROUP_FIRST_IN: u8 = 24;
 /// The first of those that do both, or `NIL`.
 pub const GROUP_FIRST_LOOP: u8 = 28;
+/// How many leave the node, in a `COUNTED` one.
+pub const GROUP_OUT_COUNT: u8 = 32;
+/// How many enter it, in a `COUNTED` one.
+pub const GROUP_IN_COUNT: u8 = 36;
+/// How many do both, in a `COUNTED` one.
+pub const GROUP_LOOP_COUNT: u8 = 40;
 
 // A property.
 
@@ -123,8 +151,6 @@ pub const PROPERTY_NUMBER: u8 = 16;
 pub const PROPERTY_TRUTH: u8 = 16;
 /// The bytes of a text that stands in the record.
 pub const PROPERTY_TEXT: u8 = 24;
-/// How many bytes such a text has at most.
-pub const PROPERTY_TEXT_BYTES: usize = 40;
 
 // A block of a long text.
 
@@ -137,8 +163,6 @@ pub const BLOCK_LENGTH: u8 = 1;
 pub const BLOCK_NEXT: u8 = 4;
 /// The bytes.
 pub const BLOCK_TEXT: u8 = 8;
-/// How many bytes of a text a block has at most.
-pub const BLOCK_TEXT_BYTES: usize = 48;
 
 // A name.
 
@@ -149,5 +173,43 @@ pub const NAMED: u8 = 1;
 pub const NAME_LENGTH: u8 = 1;
 /// The bytes of the name, and zeros up to byte 56.
 pub const NAME_TEXT: u8 = 8;
-/// How many bytes a name has at most.
-pub const NAME_TEXT_BYTES: usize = 48;
+
+// A definition of the index: the nodes of one label, by one key.
+
+/// A definition in use.
+pub const DEFINITION: u8 = 1;
+
+/// The label's number.
+pub const DEFINITION_LABEL: u8 = 4;
+/// The key's number.
+pub const DEFINITION_KEY: u8 = 8;
+/// The next definition, or `NIL`.
+pub const DEFINITION_NEXT: u8 = 12;
+/// Its records of heads, a number each.
+pub const DEFINITION_HEADS: u8 = 16;
+/// How many records of heads it has.
+pub const DEFINITION_HEAD_COUNT: u8 = 12;
+
+// The heads of a definition's buckets.
+
+/// A record of heads in use.
+pub const HEADS: u8 = 2;
+
+/// The first entries of its buckets, a number each, or `NIL`.
+pub const HEADS_FIRST: u8 = 4;
+/// How many buckets it has.
+pub const HEADS_COUNT: u8 = 15;
+
+// An entry of the index.
+
+/// An entry in use.
+pub const INDEXED: u8 = 3;
+
+/// The node.
+pub const INDEXED_NODE: u8 = 4;
+/// The entry before it in its bucket, or `NIL`.
+pub const INDEXED_PREVIOUS: u8 = 8;
+/// The entry after it in its bucket, or `NIL`.
+pub const INDEXED_NEXT: u8 = 12;
+/// The hash of the node's value, a wide number.
+pub const INDEXED_HASH: u8 = 16;

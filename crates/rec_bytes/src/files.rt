@@ -1,6 +1,7 @@
 //! The files of a store by number, and what their records have in common.
 
-/// The store's own record, 0, and a record `Meta` for each of the files 1 to 6.
+/// The store's own record, 0, a record `Meta` for each other file of records, and the record
+/// `TAKEN`.
 pub const META: u8 = 0;
 /// The nodes.
 pub const NODES: u8 = 1;
@@ -16,12 +17,14 @@ pub const STRINGS: u8 = 5;
 pub const NAMES: u8 = 6;
 /// The redo log, which has no records.
 pub const LOG: u8 = 7;
+/// The index, from version 3 of the format on.
+pub const INDEX: u8 = 8;
 
-/// How many records the meta file has: the store's own and one for each other file of records.
-pub const META_RECORDS: u32 = 7;
+/// How many records the meta file has.
+pub const META_RECORDS: u32 = 9;
 
-/// How many names there may be.
-pub const MOST_NAMES: u32 = 4_096;
+/// The record of the meta file with the number of the last transaction that was taken over.
+pub const TAKEN: u32 = 7;
 
 /// How many bytes a record has.
 pub const RECORD_BYTES: usize = 64;

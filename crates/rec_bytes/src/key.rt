@@ -1,6 +1,7 @@
 ghost use Rattle.std.specs.Prelude.{◌↔◌, IsTrue};
 ghost use Rattle.rec_bytes.specs.Key.{IsKey};
 
+use crate::limits::MOST_IDS;
 use crate::record_files::is_record_file;
 
 /// Which record: its file, and its number in the file. Keys are ordered by file and then by number.
@@ -9,9 +10,6 @@ pub struct Key {
     pub file: u8,
     pub id: u32,
 }
-
-/// No record of any file has a number from this one on.
-pub const MOST_IDS: u32 = 1 << 25;
 
 impl Key {
     /// Whether a store can have a record of this key.

@@ -1,54 +1,171 @@
-//! Records of 64 bytes, the places of the numbers in them, the files that they stand in, and sets of
-//! written records by key. A number costs a few instructions, a find a binary search, a put of a new
-//! key a move of two bytes for each greater key, a merge that for each record of the other set.
+//! Records of 64 bytes, the places of the numbers in them, the files that they stand in, and sets
+//! of written records by key. A number costs a few instructions, a find a binary search, a put of a
+//! new key a move of two bytes for each greater key, a merge that for each record of the other set.
 #![tactic(auto)]
 
 mod allowed_shape;
 mod creating;
 mod damage;
 mod disk_fault;
+mod fault;
 mod fields;
 mod files;
 mod key;
+mod limits;
 mod map_space;
 mod meta;
+mod meta_form;
 mod record;
 mod record_files;
 mod row_fault;
+mod rules;
 mod shape;
 mod space;
 mod write_set;
 
-pub use creating::{OWN_KEY, creation};
+pub use creating::OWN_KEY;
+pub use creating::creation;
+pub use creating::put_raising;
 pub use damage::Damage;
 pub use disk_fault::DiskFault;
-pub use fields::{
-    BLOCK, BLOCK_LENGTH, BLOCK_NEXT, BLOCK_TEXT, BLOCK_TEXT_BYTES, BOOL, DENSE, FREE, FREE_NEXT,
-    GROUP_FIRST_IN, GROUP_FIRST_LOOP, GROUP_FIRST_OUT, GROUP_NEXT, GROUP_OWNER, GROUP_PREVIOUS,
-    GROUP_TYPE, GROUPED, INT, KIND, MARK, META_FREE, META_HIGH, META_LIVE, NAME_LENGTH, NAME_TEXT,
-    NAME_TEXT_BYTES, NAMED, NODE_DEGREE, NODE_FIRST_LINK, NODE_FIRST_PROPERTY, NODE_LABEL,
-    PROPERTY_FIRST_BLOCK, PROPERTY_KEY, PROPERTY_LENGTH, PROPERTY_NEXT, PROPERTY_NUMBER,
-    PROPERTY_TEXT, PROPERTY_TEXT_BYTES, PROPERTY_TRUTH, RELATED, RELATIONSHIP_FIRST_PROPERTY,
-    RELATIONSHIP_SOURCE, RELATIONSHIP_SOURCE_NEXT, RELATIONSHIP_SOURCE_PREVIOUS,
-    RELATIONSHIP_TARGET, RELATIONSHIP_TARGET_NEXT, RELATIONSHIP_TARGET_PREVIOUS, RELATIONSHIP_TYPE,
-    SPARSE, STORE_LIMIT, STORE_MARK, STORE_REST, STORE_THRESHOLD, STORE_VERSION, TEXT_IN_BLOCKS,
-    TEXT_INLINE, VERSION,
-};
-pub use files::{
-    GROUPS, LOG, META, META_RECORDS, MOST_NAMES, NAMES, NIL, NODES, PROPERTIES, RECORD_BYTES,
-    RELATIONSHIPS, STRINGS,
-};
-pub use key::{Key, MOST_IDS};
+pub use fault::Fault;
+pub use fields::BLOCK;
+pub use fields::BLOCK_LENGTH;
+pub use fields::BLOCK_NEXT;
+pub use fields::BLOCK_TEXT;
+pub use fields::BOOL;
+pub use fields::COUNTED;
+pub use fields::COUNTED_VERSION;
+pub use fields::DEFINITION;
+pub use fields::DEFINITION_HEAD_COUNT;
+pub use fields::DEFINITION_HEADS;
+pub use fields::DEFINITION_KEY;
+pub use fields::DEFINITION_LABEL;
+pub use fields::DEFINITION_NEXT;
+pub use fields::DENSE;
+pub use fields::FIRST_VERSION;
+pub use fields::FREE;
+pub use fields::FREE_NEXT;
+pub use fields::GROUP_FIRST_IN;
+pub use fields::GROUP_FIRST_LOOP;
+pub use fields::GROUP_FIRST_OUT;
+pub use fields::GROUP_IN_COUNT;
+pub use fields::GROUP_LOOP_COUNT;
+pub use fields::GROUP_NEXT;
+pub use fields::GROUP_OUT_COUNT;
+pub use fields::GROUP_OWNER;
+pub use fields::GROUP_PREVIOUS;
+pub use fields::GROUP_TYPE;
+pub use fields::GROUPED;
+pub use fields::HEADS;
+pub use fields::HEADS_COUNT;
+pub use fields::HEADS_FIRST;
+pub use fields::INDEX_VERSION;
+pub use fields::INDEXED;
+pub use fields::INDEXED_HASH;
+pub use fields::INDEXED_NEXT;
+pub use fields::INDEXED_NODE;
+pub use fields::INDEXED_PREVIOUS;
+pub use fields::INT;
+pub use fields::KIND;
+pub use fields::MARK;
+pub use fields::META_DEFINITION;
+pub use fields::META_FREE;
+pub use fields::META_HIGH;
+pub use fields::META_INDEX_REST;
+pub use fields::META_LIVE;
+pub use fields::META_REST;
+pub use fields::NAME_LENGTH;
+pub use fields::NAME_TEXT;
+pub use fields::NAMED;
+pub use fields::NODE_DEGREE;
+pub use fields::NODE_FIRST_LINK;
+pub use fields::NODE_FIRST_PROPERTY;
+pub use fields::NODE_LABEL;
+pub use fields::PROPERTY_FIRST_BLOCK;
+pub use fields::PROPERTY_KEY;
+pub use fields::PROPERTY_LENGTH;
+pub use fields::PROPERTY_NEXT;
+pub use fields::PROPERTY_NUMBER;
+pub use fields::PROPERTY_TEXT;
+pub use fields::PROPERTY_TRUTH;
+pub use fields::RELATED;
+pub use fields::RELATIONSHIP_FIRST_PROPERTY;
+pub use fields::RELATIONSHIP_SOURCE;
+pub use fields::RELATIONSHIP_SOURCE_NEXT;
+pub use fields::RELATIONSHIP_SOURCE_PREVIOUS;
+pub use fields::RELATIONSHIP_TARGET;
+pub use fields::RELATIONSHIP_TARGET_NEXT;
+pub use fields::RELATIONSHIP_TARGET_PREVIOUS;
+pub use fields::RELATIONSHIP_TYPE;
+pub use fields::SPARSE;
+pub use fields::STORE_LIMIT;
+pub use fields::STORE_MARK;
+pub use fields::STORE_REST;
+pub use fields::STORE_THRESHOLD;
+pub use fields::STORE_VERSION;
+pub use fields::TAKEN_NUMBER;
+pub use fields::TAKEN_REST;
+pub use fields::TEXT_IN_BLOCKS;
+pub use fields::TEXT_INLINE;
+pub use fields::VERSION;
+pub use files::GROUPS;
+pub use files::INDEX;
+pub use files::LOG;
+pub use files::META;
+pub use files::META_RECORDS;
+pub use files::NAMES;
+pub use files::NIL;
+pub use files::NODES;
+pub use files::PROPERTIES;
+pub use files::RECORD_BYTES;
+pub use files::RELATIONSHIPS;
+pub use files::STRINGS;
+pub use files::TAKEN;
+pub use key::Key;
+pub use limits::BLOCK_TEXT_BYTES;
+pub use limits::DEFAULT_LIMIT;
+pub use limits::DEFAULT_THRESHOLD;
+pub use limits::GREATEST_LIMIT;
+pub use limits::GREATEST_THRESHOLD;
+pub use limits::LEAST_LIMIT;
+pub use limits::LEAST_THRESHOLD;
+pub use limits::MOST_IDS;
+pub use limits::MOST_NAMES;
+pub use limits::MOST_PROPERTIES;
+pub use limits::MOST_TEXT_BYTES;
+pub use limits::NAME_TEXT_BYTES;
+pub use limits::PROPERTY_TEXT_BYTES;
 pub use map_space::MapSpace;
 pub use meta::Meta;
+pub use meta::first_meta;
+pub use meta_form::META_FORMS;
+pub use meta_form::MetaForm;
+pub use meta_form::is_meta_right;
 pub use record::Rec;
-pub use record_files::{
-    RECORD_FILES, RecordFile, RecordRoom, is_meta_file, is_record_file, meta_key, room_of,
-};
+pub use record_files::RECORD_FILES;
+pub use record_files::RecordFile;
+pub use record_files::RecordRoom;
+pub use record_files::is_meta_file;
+pub use record_files::is_record_file;
+pub use record_files::meta_key;
+pub use record_files::room_of;
 pub use row_fault::RowFault;
-pub use shape::{
-    DEFAULT_LIMIT, DEFAULT_THRESHOLD, GREATEST_LIMIT, GREATEST_THRESHOLD, LEAST_LIMIT,
-    LEAST_THRESHOLD, Shape,
-};
-pub use space::{Reads, Space, SpaceFault, change_meta, set_byte, set_number};
+pub use rules::CHAIN_RULE;
+pub use rules::DEGREE_RULE;
+pub use rules::FORM_RULE;
+pub use rules::GROUP_RULE;
+pub use rules::INDEX_RULE;
+pub use rules::NAME_RULE;
+pub use rules::PROPERTY_RULE;
+pub use rules::RANGE_RULE;
+pub use rules::SPLIT_RULE;
+pub use shape::Shape;
+pub use shape::version_of;
+pub use space::Reads;
+pub use space::Space;
+pub use space::SpaceFault;
+pub use space::change_meta;
+pub use space::set_byte;
+pub use space::set_number;
 pub use write_set::WriteSet;

@@ -1,4 +1,5 @@
 ghost use Rattle.std.specs.Prelude.{◌≡◌, IfOk, true};
+ghost use Rattle.std.proofs.Common.{◌∙◌, refl};
 ghost use Rattle.rec_bytes.specs.MapSpace.{map_state, new_state};
 ghost use Rattle.rec_bytes.specs.Shape.{is_allowed};
 
@@ -42,11 +43,13 @@ impl Reads for MapSpace {
 
     ghost faults = { λ _. 0 };
 
-    ghost onward = { λ _ _. Unit {0} };
+    ghost onward = { λ a b. b.shape.shape ≡ a.shape.shape };
 
-    ghost stays_onward = { λ _. tt };
+    ghost stays_onward = { λ _. refl };
 
-    ghost further_onward = { λ _ _ _ _ _. tt };
+    ghost further_onward = { λ _ _ _ first more. more ∙ first };
+
+    ghost onward_shape = { λ _ _ same. same };
 
     fn get(&mut self, key: Key) -> Result<Rec, SpaceFault> {
         self.reads = self.reads.saturating_add(1);

@@ -1,11 +1,22 @@
 ghost use Rattle.std.specs.Prelude.{◌≡◌, ◌↔◌, IsTrue};
-ghost use Rattle.rec_bytes.specs.Meta.{IsMetaInRange, meta_of, meta_record, with_meta};
+ghost use Rattle.rec_bytes.specs.Meta.{
+  IsLinkBelow,
+  IsMetaInRange,
+  first_meta,
+  meta_of,
+  meta_record,
+  rest_of,
+  with_meta,
+};
 
-use crate::fields::{META_FREE, META_HIGH, META_LIVE};
-use crate::files::NIL;
+use crate::fields::{META_DEFINITION, META_FREE, META_HIGH, META_INDEX_REST, META_LIVE, META_REST};
+use crate::files::{INDEX, NIL};
 use crate::record::Rec;
+use crate::record_files::room_of;
+use crate::shape::Shape;
 
-/// What a meta record says of its file: the first number that was never given out, the first record of
+/// What a meta record says of its file: the first number that was never given out, the first record
+/// of
 /// the free list or `NIL`, and how many records are in use.
 #[derive(Clone, Copy, Debug, PartialEq, Eq)]
 pub struct Meta {
@@ -53,15 +64,44 @@ impl Meta {
         rec
     }
 
-    /// Whether a meta record may stand for a file of at most so many records: what was given out and the free list
-    /// stay below what they may be, and nothing stands behind the numbers.
-    pub fn is_in_range(rec: &Rec, most: u64) -> bool
-        ensures { IsTrue result ↔ IsMetaInRange most rec.now }
+    /// Whether a meta record may stand for a file in a store of this shape: what was given out
+    /// stays within the
+    /// file's room, the links below that, and nothing stands behind.
+    pub fn is_in_range(rec: &Rec, file: u8, shape: Shape) -> bool
+        ensures { IsTrue result ↔ IsMetaInRange shape file rec.now }
     {
         let meta = Meta::of(rec);
-        meta.high as u64 <= most
-            && (meta.free == NIL || meta.free < meta.high)
-            && *rec == meta.to_record()
+        meta.high as u64 <= room_of(file, shape)
+            && is_link_below(meta.free, meta.high)
+            && (file != INDEX || is_link_below(rec.number(META_DEFINITION), meta.high))
+            && rec.is_zero_from(rest_of(file))
+    }
+}
+
+/// The meta record of a file in which nothing was given out.
+pub fn first_meta(file: u8) -> Rec
+    ensures { result ≡ first_meta file }
+{
+    let mut rec = Meta::EMPTY.to_record();
+    if file == INDEX {
+        rec.set_number(META_DEFINITION, NIL);
+    }
+    rec
+}
+
+fn is_link_below(link: u32, high: u32) -> bool
+    ensures { IsTrue result ↔ IsLinkBelow link high }
+{
+    link == NIL || link < high
+}
+
+fn rest_of(file: u8) -> u8
+    ensures { result ≡ rest_of file }
+{
+    if file == INDEX {
+        META_INDEX_REST
+    } else {
+        META_REST
     }
 }
 

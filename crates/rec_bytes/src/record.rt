@@ -1,5 +1,6 @@
-ghost use Rattle.std.specs.Prelude.{◌≡◌, ◌+◌, ◌≤◌, length};
-ghost use Rattle.rec_bytes.specs.Record.{field, text_in, with_field, with_text};
+ghost use Rattle.std.specs.Prelude.{◌≡◌, ◌+◌, ◌≤◌, length, nat_eq};
+ghost use Rattle.std.specs.List.{list_all};
+ghost use Rattle.rec_bytes.specs.Record.{field, text_in, with_field, with_text, zeros_from};
 
 use byteorder::{ByteOrder, LittleEndian};
 
@@ -42,6 +43,14 @@ impl Rec {
         ensures { result ≡ field 8 self.now at }
     {
         LittleEndian::read_u64(&self.bytes[at as usize..])
+    }
+
+    /// Whether zeros stand from a place on.
+    pub fn is_zero_from(&self, at: u8) -> bool
+        requires { at ≤ 64 }
+        ensures { result ≡ zeros_from at self.now }
+    {
+        are_zeros(&self.bytes[at as usize..])
     }
 
     /// So many bytes from a place on.
@@ -96,6 +105,12 @@ impl Rec {
         let from = at as usize;
         self.bytes[from..from + text.len()].copy_from_slice(text);
     }
+}
+
+fn are_zeros(bytes: &[u8]) -> bool
+    ensures { result ≡ list_all (λ b. nat_eq b 0) bytes.now }
+{
+    bytes.iter().all(|b| *b == 0)
 }
 
 #[cfg(test)]

@@ -12,9 +12,10 @@ ghost use Rattle.rec_bytes.specs.RecordFiles.{
 };
 
 use crate::files::{
-    GROUPS, META, META_RECORDS, MOST_NAMES, NAMES, NODES, PROPERTIES, RELATIONSHIPS, STRINGS,
+    GROUPS, INDEX, META, META_RECORDS, NAMES, NODES, PROPERTIES, RELATIONSHIPS, STRINGS,
 };
 use crate::key::Key;
+use crate::limits::MOST_NAMES;
 use crate::shape::Shape;
 
 /// How many records a file has room for.
@@ -65,7 +66,7 @@ impl RecordFile {
 }
 
 /// All files of records, by ascending number.
-pub const RECORD_FILES: [RecordFile; 7] = [
+pub const RECORD_FILES: [RecordFile; 8] = [
     RecordFile {
         file: META,
         room: RecordRoom::Fixed(META_RECORDS),
@@ -93,6 +94,10 @@ pub const RECORD_FILES: [RecordFile; 7] = [
     RecordFile {
         file: NAMES,
         room: RecordRoom::Fixed(MOST_NAMES),
+    },
+    RecordFile {
+        file: INDEX,
+        room: RecordRoom::TwiceLimit,
     },
 ];
 

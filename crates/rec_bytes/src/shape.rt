@@ -1,31 +1,23 @@
-ghost use Rattle.std.specs.Prelude.{◌≡◌, IfSome, IsTrue, Some, nat_eq, true};
-ghost use Rattle.std.specs.List.{list_all};
+ghost use Rattle.std.specs.Prelude.{◌≡◌, IfSome, IsTrue, Some, true};
 ghost use Rattle.rec_bytes.specs.Shape.{
   is_allowed,
   is_store_record,
+  is_version,
   shape_of_record,
   shape_record,
+  version_of,
   with_mark,
   with_shape,
 };
 
-use crate::fields::{MARK, STORE_LIMIT, STORE_REST, STORE_THRESHOLD, STORE_VERSION, VERSION};
+use crate::fields::{
+    FIRST_VERSION, MARK, STORE_LIMIT, STORE_REST, STORE_THRESHOLD, STORE_VERSION, VERSION,
+};
+use crate::limits::{GREATEST_LIMIT, GREATEST_THRESHOLD, LEAST_LIMIT, LEAST_THRESHOLD};
 use crate::record::Rec;
 
-/// The least threshold that a store may have.
-pub const LEAST_THRESHOLD: u16 = 2;
-/// The greatest threshold that a store may have.
-pub const GREATEST_THRESHOLD: u16 = 200;
-/// The least limit that a store may have.
-pub const LEAST_LIMIT: u32 = 16;
-/// The greatest limit that a store may have.
-pub const GREATEST_LIMIT: u32 = 16_777_216;
-/// The threshold of a store that isn't asked for another.
-pub const DEFAULT_THRESHOLD: u16 = 50;
-/// The limit of a store that isn't asked for another.
-pub const DEFAULT_LIMIT: u32 = 1_048_576;
-
-/// The shape of a store: a node with more relationships than the threshold is dense, and the limit says how
+/// The shape of a store: a node with more relationships than the threshold is dense, and the limit
+/// says how
 /// many records a file may have.
 #[derive(Clone, Copy, Debug, PartialEq, Eq)]
 pub struct Shape {
@@ -34,7 +26,8 @@ pub struct Shape {
 }
 
 impl Shape {
-    /// Reads it from record 0 of the meta file. There is none where the record has another mark or version, a
+    /// Reads it from record 0 of the meta file. There is none where the record has another mark or
+    /// version, a
     /// shape that isn't allowed, or anything behind the fields.
     pub fn of(rec: &Rec) -> Option<Shape>
         ensures value { result ≡ shape_of_record rec.now }
@@ -84,18 +77,23 @@ impl Shape {
     }
 }
 
+/// The version of the format that a store's own record says.
+pub fn version_of(rec: &Rec) -> u16
+    ensures { result ≡ version_of rec.now }
+{
+    rec.short(STORE_VERSION)
+}
+
 fn is_store(rec: &Rec) -> bool
     ensures { result ≡ is_store_record rec.now }
 {
-    rec.bytes.starts_with(&MARK)
-        && rec.short(STORE_VERSION) == VERSION
-        && are_zeros(&rec.bytes[STORE_REST as usize..])
+    rec.bytes.starts_with(&MARK) && is_version(version_of(rec)) && rec.is_zero_from(STORE_REST)
 }
 
-fn are_zeros(bytes: &[u8]) -> bool
-    ensures { result ≡ list_all (λ b. nat_eq b 0) bytes.now }
+fn is_version(version: u16) -> bool
+    ensures { result ≡ is_version version }
 {
-    bytes.iter().all(|b| *b == 0)
+    FIRST_VERSION <= version && version <= VERSION
 }
 
 fn write_mark(rec: &mut Rec)

@@ -1,11 +1,26 @@
 //! Spaces of records: what is read of one and what is written to one, whatever holds the records.
 
-ghost use Rattle.std.specs.Prelude.{◌≡◌, ◌+◌, ◌≤◌, [], ◌∷◌, IfErr, IfOk, IsOk, OnErr, OnOk, length, true, ℕ};
+ghost use Rattle.std.specs.Prelude.{
+  ◌≡◌,
+  ◌+◌,
+  ◌≤◌,
+  [],
+  ◌∷◌,
+  IfErr,
+  IfOk,
+  IsOk,
+  OnErr,
+  OnOk,
+  length,
+  true,
+  ℕ,
+};
 ghost use Rattle.std.specs.Borrow.{sem};
 ghost use Rattle.rec_bytes.specs.Key.{IsKey};
 ghost use Rattle.rec_bytes.specs.Lending.{LendsRecord};
 ghost use Rattle.rec_bytes.specs.Record.{field};
 ghost use Rattle.rec_bytes.specs.RecordFiles.{is_meta_file, meta_key_of};
+ghost use Rattle.rec_bytes.specs.Footprint.{Wrote};
 ghost use Rattle.rec_bytes.specs.Shape.{is_allowed};
 ghost use Rattle.rec_bytes.specs.Space.{
   HasCause,
@@ -72,6 +87,9 @@ pub trait Reads {
 
     /// Further calls.
     ghost further_onward: { (a b c : Self) → onward a b → onward b c → onward a c };
+
+    /// No call changes the shape.
+    ghost onward_shape: { (a b : Self) → onward a b → (state b).shape ≡ (state a).shape };
 }
 
 /// A space that is written.
@@ -90,17 +108,21 @@ pub trait Space: Reads {
     fn edit(&mut self, key: Key) -> Result<&mut Rec, SpaceFault>
         requires { IsKey key }
         ensures* lends { sem 𝓛 (LendsRecord Self.row Self.state Self.faults Self.onward self.entry key result) }
-        ensures got { Self.tells → IfOk result (λ rec. rec.now ≡ (Self.state self.old).records key) };
+        ensures got { Self.tells
+            → IfOk result (λ rec. rec.now ≡ (Self.state self.old).records key) };
 }
 
 /// Writes the number in the four bytes of a record from a place on.
+#[tactic(auto, using(crate::proofs::Footprints::writing))]
 pub fn set_number<S: Space>(space: &mut S, key: Key, at: u8, value: u32) -> Result<(), SpaceFault>
     requires key { IsKey key }
     requires place { at + 4 ≤ 64 }
-    ensures ok { S.tells → OnOk result (S.state space.new ≡ after_set (S.state space.old) key 4 at value) }
+    ensures ok { S.tells
+        → OnOk result (S.state space.new ≡ after_set (S.state space.old) key 4 at value) }
     ensures got { OnOk result (field 4 ((S.state space.new).records key) at ≡ value) }
     ensures err { OnErr result (S.state space.new ≡ after_get (S.state space.old)) }
     ensures writes { WritesOnly (S.state space.old) (S.state space.new) (key ∷ []) }
+    ensures wrote { Wrote (S.state space.old) (S.state space.new) (key ∷ []) [] 0 }
     ensures onward { S.onward space.old space.new }
     ensures cause { HasCause (S.faults space.old) (S.faults space.new) result }
 {
@@ -110,13 +132,16 @@ pub fn set_number<S: Space>(space: &mut S, key: Key, at: u8, value: u32) -> Resu
 }
 
 /// Writes the byte of a record at a place.
+#[tactic(auto, using(crate::proofs::Footprints::writing))]
 pub fn set_byte<S: Space>(space: &mut S, key: Key, at: u8, value: u8) -> Result<(), SpaceFault>
     requires key { IsKey key }
     requires place { at + 1 ≤ 64 }
-    ensures ok { S.tells → OnOk result (S.state space.new ≡ after_set (S.state space.old) key 1 at value) }
+    ensures ok { S.tells
+        → OnOk result (S.state space.new ≡ after_set (S.state space.old) key 1 at value) }
     ensures got { OnOk result (field 1 ((S.state space.new).records key) at ≡ value) }
     ensures err { OnErr result (S.state space.new ≡ after_get (S.state space.old)) }
     ensures writes { WritesOnly (S.state space.old) (S.state space.new) (key ∷ []) }
+    ensures wrote { Wrote (S.state space.old) (S.state space.new) (key ∷ []) [] 0 }
     ensures onward { S.onward space.old space.new }
     ensures cause { HasCause (S.faults space.old) (S.faults space.new) result }
 {
@@ -126,12 +151,15 @@ pub fn set_byte<S: Space>(space: &mut S, key: Key, at: u8, value: u8) -> Result<
 }
 
 /// Writes what the meta record of a file says.
+#[tactic(auto, using(crate::proofs::Footprints::writing))]
 pub fn change_meta<S: Space>(space: &mut S, file: u8, meta: Meta) -> Result<(), SpaceFault>
     requires { is_meta_file file ≡ true }
-    ensures ok { S.tells → OnOk result (S.state space.new ≡ after_meta (S.state space.old) file meta) }
+    ensures ok { S.tells
+        → OnOk result (S.state space.new ≡ after_meta (S.state space.old) file meta) }
     ensures got { OnOk result (meta_of (S.state space.new) file ≡ meta) }
     ensures err { OnErr result (S.state space.new ≡ after_get (S.state space.old)) }
     ensures writes { WritesOnly (S.state space.old) (S.state space.new) (meta_key_of file ∷ []) }
+    ensures wrote { Wrote (S.state space.old) (S.state space.new) (meta_key_of file ∷ []) [] 0 }
     ensures onward { S.onward space.old space.new }
     ensures cause { HasCause (S.faults space.old) (S.faults space.new) result }
 {

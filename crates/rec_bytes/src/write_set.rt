@@ -1,10 +1,36 @@
-ghost use Rattle.std.specs.Prelude.{◌≡◌, ◌+◌, ◌≤◌, ◌<◌, [], Some, length, IfOk, IfErr, OnOk, OnErr, IsOk, IsSome};
+ghost use Rattle.std.specs.Prelude.{
+  ◌≡◌,
+  ◌+◌,
+  ◌≤◌,
+  ◌<◌,
+  [],
+  Some,
+  length,
+  IfOk,
+  IfErr,
+  OnOk,
+  OnErr,
+  IsOk,
+  IsSome,
+};
 ghost use Rattle.std.specs.Borrow.{sem};
 ghost use Rattle.std.specs.List.{slice_get, AllByRecursion};
 ghost use Rattle.std.specs.List.Sorted.{IsSearchInRange};
 ghost use Rattle.rec_bytes.specs.Key.{IsKey};
 ghost use Rattle.rec_bytes.specs.PairOrder.{SetsAlike};
-ghost use Rattle.rec_bytes.specs.Pairs.{find_pair, growth, growth_by, held_at, merged, with_pair, FindsMerged, FindsPut, IsGapFor, IsOrdered, IsPlaceOf};
+ghost use Rattle.rec_bytes.specs.Pairs.{
+  find_pair,
+  growth,
+  growth_by,
+  held_at,
+  merged,
+  with_pair,
+  FindsMerged,
+  FindsPut,
+  IsGapFor,
+  IsOrdered,
+  IsPlaceOf,
+};
 
 use crate::key::Key;
 use crate::record::Rec;
@@ -34,7 +60,9 @@ impl Model for WriteSet {
 
     ghost view = { λ s. record {
       pairs = in_order s.pairs.items s.order.items;
-      room = min (min (vec_capacity s.pairs) (vec_capacity s.order)) most_pairs - length s.pairs.items;
+      room =
+          min (min (vec_capacity s.pairs) (vec_capacity s.order)) most_pairs
+          - length s.pairs.items;
     } };
 
     ghost invariant = { λ s. IsInOrder s.pairs.items s.order.items };
@@ -174,7 +202,8 @@ impl WriteSet {
         requires { growth_by self.old.pairs other.now.pairs ≤ self.old.room }
         ensures pairs { self.new.pairs ≡ merged self.old.pairs other.now.pairs }
         ensures finds { FindsMerged self.old.pairs other.now.pairs self.new.pairs }
-        ensures room { length self.old.pairs + self.old.room ≤ length self.new.pairs + self.new.room }
+        ensures room { length self.old.pairs + self.old.room
+            ≤ length self.new.pairs + self.new.room }
     {
         for i in 0..other.len() {
             let (key, rec) = other.at(i);
@@ -255,7 +284,8 @@ impl WriteSet {
         requires { IsKey key }
         ensures place { IfOk result (IsPlaceOf self.new.pairs key) }
         ensures sets { OnOk result (SetsAlike self.old.pairs self.new.pairs key) }
-        ensures found { OnOk result (find_pair self.new.pairs key ≡ Some (held_at self.old.pairs key absent)) }
+        ensures found { OnOk result
+            (find_pair self.new.pairs key ≡ Some (held_at self.old.pairs key absent)) }
         ensures err { OnErr result (self.new.pairs ≡ self.old.pairs) }
         ensures succeeds { 0 < self.old.room → IsOk result }
         ensures in_place { IsSome (find_pair self.old.pairs key) → IsOk result }

@@ -12,7 +12,7 @@ use Rattle.rec_bytes.specs.Format.{log_file}
 use Rattle.rec_bytes.specs.Pairs.{Pairs, find_pair}
 use Rattle.rec_bytes.specs.RecordFiles.{is_record_file}
 use Rattle.rec_bytes.specs.Space.{laid_over}
-use Rattle.rec_bytes.proofs.RecordFiles.{is_record_file-low}
+use Rattle.record_file.proofs.Files.{IsFile-log, IsFile-record}
 use Rattle.redo_log.specs.Appending.{IsAppended, SameButEntry}
 use Rattle.redo_log.specs.Entries.{AllHaveEntries, HasEntries, entry_bytes}
 use Rattle.redo_log.specs.Redo.{redone}
@@ -140,10 +140,10 @@ records-settled read images settled image left = λ i key. record_at-settled key
 
 -- the files of records are among all
 pub settled-records : {D : Type 0} (g : Ghosts D) (disk : D) → IsAllSettled g disk → (file : ℕ) → is_record_file file ≡ true → Settled file (g.reads disk) (g.may_leave disk)
-settled-records g disk settled file is = settled file (is_record_file-low file is)
+settled-records g disk settled file is = settled file (IsFile-record file is)
 
 pub settled-log : {D : Type 0} (g : Ghosts D) (disk : D) → IsAllSettled g disk → Settled log_file (g.reads disk) (g.may_leave disk)
-settled-log g disk settled = settled log_file (omega arith)
+settled-log g disk settled = settled log_file IsFile-log
 
 -- where no entry stands, nothing is logged
 pub IsLogged-none : (content : Files) (changed : Pairs) → changed ≡ [] → HasEntries content [] 0 → IsLogged content changed 0

@@ -1,7 +1,8 @@
--- The records that stand in a content of the disk: 64 bytes each, one after the other in their file.
-use Rattle.std.specs.Prelude.{◌≡◌, ℕ, ◌*◌, [], None, true, if◌then◌else◌}
+-- The records that stand in a content of the disk: 64 bytes each, one after the other in their
+-- file.
+use Rattle.std.specs.Prelude.{◌≡◌, ℕ, ◌*◌, ◌<◌, [], None, if◌then◌else◌}
 use Rattle.disk_model.specs.Contents.{Files, SameOutside, bytes_from}
-use Rattle.rec_bytes.specs.Format.{log_file, record_bytes}
+use Rattle.rec_bytes.specs.Format.{log_file, meta_records, record_bytes}
 use Rattle.rec_bytes.specs.declared.key.Key.{Key}
 use Rattle.rec_bytes.specs.declared.record.Rec.{Rec}
 use Rattle.rec_bytes.specs.Pairs.{Pairs, find_pair}
@@ -13,9 +14,12 @@ use Rattle.redo_log.specs.Entries.{HasEntries}
 abbrev pub record_place : Key → ℕ
 record_place key = record_bytes * key.id
 
--- the record of a key that stands in a content; no other file has records, so a key of one has zeros
+-- the record of a key that stands in a content; no other file has records, so a key of one has
+-- zeros
 unfoldable pub record_at : Files → Key → Rec
-record_at content key = if is_record_file key.file then (record { bytes = bytes_from (content key.file) (record_place key) record_bytes }) else zeros
+record_at content key =
+    if is_record_file key.file then
+    (record { bytes = bytes_from (content key.file) (record_place key) record_bytes }) else zeros
 
 -- the same bytes everywhere but in one record
 abbrev pub SameButRecord : Key → Files → Files → Type 0
@@ -23,7 +27,8 @@ SameButRecord key old new = SameOutside key.file (record_place key) record_bytes
 
 -- the same record at each key that is none of these
 abbrev pub KeepsOthers : Pairs → Files → Files → Type 0
-KeepsOthers written old new = (key : Key) → find_pair written key ≡ None → record_at new key ≡ record_at old key
+KeepsOthers written old new =
+    (key : Key) → find_pair written key ≡ None → record_at new key ≡ record_at old key
 
 -- The same log, and the same record at each key that is none of these.
 pub record SameButRecords (written : Pairs) (old new : Files) : Type 0 where
@@ -32,10 +37,11 @@ pub record SameButRecords (written : Pairs) (old new : Files) : Type 0 where
 
 -- a content from before, but for these records
 abbrev pub IsTornInRecords : (Files → Type 0) → Pairs → Files → Type 0
-IsTornInRecords images written content = (old : Files) × images old × SameButRecords written old content
+IsTornInRecords images written content =
+    (old : Files) × images old × SameButRecords written old content
 
--- No store was made in the content: no entry stands in the log, and the record of each file in the meta file is zeros.
--- The meta file's own is the store's own record.
+-- No store was made in the content: no entry stands in the log, and each record of the meta file is
+-- zeros.
 pub record IsUnmade (content : Files) : Type 0 where
   pub log : HasEntries content [] 0
-  pub blank : (file : ℕ) → is_record_file file ≡ true → record_at content (meta_key_of file) ≡ zeros
+  pub blank : (id : ℕ) → id < meta_records → record_at content (meta_key_of id) ≡ zeros

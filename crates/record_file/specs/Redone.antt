@@ -25,7 +25,8 @@ pub record Redoes (content : Files) (space : Key → Rec) : Type 0 where
 abbrev pub AreLogged : List Pairs → Pairs → Type 0
 AreLogged entries written = (key : Key) → last_of entries key ≡ None → find_pair written key ≡ None
 
--- What is read: the log ends at the tail, and its entries have the changed records, each as the last entry has it.
+-- What is read: the log ends at the tail, and its entries have the changed records, each as the
+-- last entry has it.
 pub record IsLogged (content : Files) (changed : Pairs) (tail : ℕ) : Type 0 where
   pub entries : List Pairs
   pub log : HasEntries content entries tail
@@ -33,4 +34,5 @@ pub record IsLogged (content : Files) (changed : Pairs) (tail : ℕ) : Type 0 wh
 
 -- each image is what is read, but for the changed records
 abbrev pub AreAlike : Files → Pairs → (Files → Type 0) → Type 0
-AreAlike content changed images = (image : Files) → images image → SameButRecords changed content image
+AreAlike content changed images =
+    (image : Files) → images image → SameButRecords changed content image

@@ -5,7 +5,7 @@ use Rattle.std.proofs.lemmas.Bool.{cases_lt, false≢true}
 use Rattle.std.proofs.lemmas.List.{get_or-take, get_or-drop, get_or-set_same, get_or-set_other, length-take-le}
 use Rattle.std.specs.List.{slice_get}
 use Rattle.disk_model.specs.Contents.{Files, Holds, Same}
-use Rattle.rec_bytes.specs.Format.{log_file, meta_file}
+use Rattle.rec_bytes.specs.Format.{log_file, meta_file, meta_records, record_bytes}
 use Rattle.rec_bytes.specs.declared.key.Key.{Key}
 use Rattle.rec_bytes.specs.declared.record.Rec.{Rec}
 use Rattle.rec_bytes.specs.Key.{key_eq}
@@ -41,7 +41,7 @@ Holds-part file at n bytes content holds within i below =
 abbrev pub part_of : List ℕ → ℕ → Rec
 part_of bytes id = record { bytes = take 64 (drop (64 * id) bytes) }
 
-pub part-record_at : (bytes : List ℕ) (content : Files) (id : ℕ) → Holds meta_file 0 bytes content → length bytes ≡ 448 → id < 7 → part_of bytes id ≡ record_at content (meta_key_of id)
+pub part-record_at : (bytes : List ℕ) (content : Files) (id : ℕ) → Holds meta_file 0 bytes content → length bytes ≡ record_bytes * meta_records → id < meta_records → part_of bytes id ≡ record_at content (meta_key_of id)
 part-record_at bytes content id holds long below =
     let part = take 64 (drop (64 * id) bytes) in
     let size : length part ≡ 64 = length-take-le 64 (drop (64 * id) bytes) (simp length-drop (omega (arith, long, below))) in
@@ -69,10 +69,10 @@ AreMetas-put records space key rec are file within id below =
     (cases_key (meta_key_of id) key)
 
 -- and of any other
-pub AreMetas-put_other : (records : List Rec) (space : Key → Rec) (key : Key) (rec : Rec) → AreMetas records space → (key.file ≡ meta_file → key.id < 7 → ⊥) → AreMetas records (put space key rec)
+pub AreMetas-put_other : (records : List Rec) (space : Key → Rec) (key : Key) (rec : Rec) → AreMetas records space → (key.file ≡ meta_file → key.id < meta_records → ⊥) → AreMetas records (put space key rec)
 AreMetas-put_other records space key rec are other id below =
     ⊎_elim
-    (λ (same : meta_key_of id ≡ key). absurd (other (ap (λ (k : Key). k.file) (sym same)) (subst (λ (k : Key). k.id < 7) same below)))
+    (λ (same : meta_key_of id ≡ key). absurd (other (ap (λ (k : Key). k.file) (sym same)) (subst (λ (k : Key). k.id < meta_records) same below)))
     (λ differ. are id below ∙ sym (ap (λ b. cond b rec (space (meta_key_of id))) differ))
     (cases_key (meta_key_of id) key)
 

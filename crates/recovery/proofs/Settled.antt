@@ -5,7 +5,7 @@ use Rattle.std.proofs.lemmas.Bool.Decides.{nat_tests}
 use Rattle.std.proofs.lemmas.List.{get_or_default}
 use Rattle.std.specs.Prelude.{map, ◌||◌}
 use Rattle.std.specs.List.{list_any, list_all}
-use Rattle.disk_model.specs.Contents.{Files, Same}
+use Rattle.disk_model.specs.Contents.{Files, Same, number_of_files}
 use Rattle.disk_model.specs.Disk.{NoMore, Settled}
 use Rattle.disk_model.specs.Spans.{IsAllSettled, OnlyReads}
 use Rattle.disk_model.specs.declared.disk.Disk.{Ghosts}
@@ -14,6 +14,7 @@ use Rattle.rec_bytes.specs.declared.record_files.RecordRoom.TheVariants.{Limit}
 use Rattle.rec_bytes.specs.Format.{log_file}
 use Rattle.rec_bytes.specs.RecordFiles.{Rooms, is_record_file, record_rooms, rooms_of}
 use Rattle.rec_bytes.proofs.RecordFiles.{is_among-files}
+use Rattle.record_file.proofs.Files.{record_file_or_log}
 use Rattle.recovery.specs.Syncing.{AreRecordsSettled}
 
 -- a settled file stays so where calls only read
@@ -69,28 +70,16 @@ passes_at test (entry ∷ rest) i d all below = pick (test entry.file) refl all 
     pick true is all (suc k) below later = later k all (omega (arith, below))
     pick false is all k below later = absurd (false≢true all)
 
-pub file_low : (files : List RecordFile) (n : ℕ) (d : RecordFile) → rooms_of files ≡ record_rooms → n < length files → (get_or files n d).file ≤ 7
+pub file_low : (files : List RecordFile) (n : ℕ) (d : RecordFile) → rooms_of files ≡ record_rooms → n < length files → (get_or files n d).file < number_of_files
 file_low files n d is below =
-    let all = each_passes (λ f. nat_lt f 8) files ∙ ap (λ (rooms : Rooms). list_all (λ room. nat_lt room.0 8) rooms) is in
-    let low : nat_lt (get_or files n d).file 8 ≡ true = passes_at (λ f. nat_lt f 8) files n d all below in
+    let all = each_passes (λ f. nat_lt f number_of_files) files ∙ ap (λ (rooms : Rooms). list_all (λ room. nat_lt room.0 number_of_files) rooms) is in
+    let low : nat_lt (get_or files n d).file number_of_files ≡ true = passes_at (λ f. nat_lt f number_of_files) files n d all below in
     grind (arith, nat_tests)
-
--- a file of the disk has records or is the log
-one_of : (file : ℕ) → file < 8 → (is_record_file file ≡ true) ⊎ (file ≡ log_file)
-one_of zero below = inl refl
-one_of (suc zero) below = inl refl
-one_of (suc (suc zero)) below = inl refl
-one_of (suc (suc (suc zero))) below = inl refl
-one_of (suc (suc (suc (suc zero)))) below = inl refl
-one_of (suc (suc (suc (suc (suc zero))))) below = inl refl
-one_of (suc (suc (suc (suc (suc (suc zero)))))) below = inl refl
-one_of (suc (suc (suc (suc (suc (suc (suc zero))))))) below = inr refl
-one_of (suc (suc (suc (suc (suc (suc (suc (suc n)))))))) below = absurd (omega (arith, below))
 
 -- the files of records and the log are all files
 pub IsAllSettled-both : {D : Type 0} (g : Ghosts D) (disk : D) → AreRecordsSettled g disk → Settled log_file (g.reads disk) (g.may_leave disk) → IsAllSettled g disk
 IsAllSettled-both g disk records log file below =
-    ⊎_elim (λ has. records file has) (λ is image left place. ap (λ f. image f place) is ∙ log image left place ∙ ap (λ f. g.reads disk f place) (sym is)) (one_of file below)
+    ⊎_elim (λ has. records file has) (λ is image left place. ap (λ f. image f place) is ∙ log image left place ∙ ap (λ f. g.reads disk f place) (sym is)) (record_file_or_log file below)
 
 -- files of records stay settled where calls only read
 pub AreRecordsSettled-kept : {D : Type 0} (g : Ghosts D) (old new : D) → g.tells_images → AreRecordsSettled g old → OnlyReads g old new → AreRecordsSettled g new

@@ -1,7 +1,6 @@
 -- What the records of the meta file say of a store.
-use Rattle.std.proofs.Common.{◌≡◌, ◌∙◌, ap, sym, subst, ⊎_elim, inl, inr, ℕ, zero, suc, ◌+◌, ◌<◌, true, nat_lt, List, [], ◌∷◌, Some, None, is_some, length, get_or, refl, arith}
+use Rattle.std.proofs.Common.{◌≡◌, ◌∙◌, ap, sym, subst, ⊎_elim, inl, inr, ℕ, ◌+◌, ◌<◌, List, [], ◌∷◌, Some, None, is_some, length, get_or, refl, arith}
 use Rattle.std.proofs.lemmas.Bool.{false≢true}
-use Rattle.std.proofs.lemmas.Bool.Decides.{nat_tests}
 use Rattle.disk_model.specs.Contents.{Files}
 use Rattle.rec_bytes.specs.Creation.{own_key}
 use Rattle.rec_bytes.specs.declared.key.Key.{Key}
@@ -9,9 +8,9 @@ use Rattle.rec_bytes.specs.declared.record.Rec.{Rec}
 use Rattle.rec_bytes.specs.declared.shape.Shape.{Shape}
 use Rattle.rec_bytes.specs.Pairs.{Pairs}
 use Rattle.rec_bytes.specs.Record.{zeros}
-use Rattle.rec_bytes.specs.RecordFiles.{is_record_file, meta_key_of, record_files}
+use Rattle.rec_bytes.specs.Format.{meta_records}
+use Rattle.rec_bytes.specs.RecordFiles.{meta_key_of}
 use Rattle.rec_bytes.specs.Shape.{shape_of_record}
-use Rattle.rec_bytes.proofs.RecordFiles.{passes}
 use Rattle.redo_log.specs.Entries.{HasEntries, entry_bytes}
 use Rattle.redo_log.specs.Redo.{redone}
 use Rattle.redo_log.proofs.Damage.{HasEntries-damaged}
@@ -24,22 +23,8 @@ use Rattle.recovery.specs.declared.recover_fault.RecoverFault.{RecoverFault}
 use Rattle.recovery.specs.declared.recover_fault.RecoverFault.TheVariants as faults
 use Rattle.recovery.specs.declared.found.Found.{Found}
 use Rattle.recovery.specs.declared.found.Found.TheVariants as founds
-use Rattle.recovery.specs.Finding.{HasMetaInRange, IsFound, Refuses, RefusesRecords, Stands}
+use Rattle.recovery.specs.Finding.{HasMetaRight, IsFound, Refuses, RefusesRecords, Stands}
 use Rattle.recovery.specs.MetaRecords.{HasMetas, IsLogFault}
-
--- the files of records are those of the first numbers
-record_file-low : (file : ℕ) → is_record_file file ≡ true → file < 7
-record_file-low file is = let low = passes (λ f. nat_lt f 7) record_files file refl is in grind (arith, nat_tests)
-
-low-record_file : (file : ℕ) → file < 7 → is_record_file file ≡ true
-low-record_file zero below = refl
-low-record_file (suc zero) below = refl
-low-record_file (suc (suc zero)) below = refl
-low-record_file (suc (suc (suc zero))) below = refl
-low-record_file (suc (suc (suc (suc zero)))) below = refl
-low-record_file (suc (suc (suc (suc (suc zero))))) below = refl
-low-record_file (suc (suc (suc (suc (suc (suc zero)))))) below = refl
-low-record_file (suc (suc (suc (suc (suc (suc (suc n))))))) below = absurd (omega (arith, below))
 
 -- a log that ends where it begins has no entry
 no_entries : (entries : List Pairs) (content : Files) → HasEntries content entries 0 → entries ≡ []
@@ -47,15 +32,13 @@ no_entries [] content has = refl
 no_entries (entry ∷ later) content has = absurd (omega (arith, HasEntriesFrom-tail later (0 + entry_bytes (length entry)) 0 content has.2))
 
 -- no entry, and no byte of the meta file
-pub IsUnmade-of : (content : Files) (metas : MetaRecords) → HasMetas content metas → metas.tail ≡ 0 → ((id : ℕ) → id < 7 → get_or metas.records id zeros ≡ zeros) → IsUnmade content
+pub IsUnmade-of : (content : Files) (metas : MetaRecords) → HasMetas content metas → metas.tail ≡ 0 → ((id : ℕ) → id < meta_records → get_or metas.records id zeros ≡ zeros) → IsUnmade content
 IsUnmade-of content metas has at_start blank =
     let log : HasEntries content has.entries 0 = subst (λ t. HasEntries content has.entries t) at_start has.log in
     let none = no_entries has.entries content log in
     record {
       log = subst (λ (es : List Pairs). HasEntries content es 0) none log;
-      blank = λ file is.
-          let below = record_file-low file is in
-          ap (λ (es : List Pairs). redone (record_at content) es (meta_key_of file)) (sym none) ∙ sym (has.are file below) ∙ blank file below;
+      blank = λ id below. ap (λ (es : List Pairs). redone (record_at content) es (meta_key_of id)) (sym none) ∙ sym (has.are id below) ∙ blank id below;
     }
 
 pub at_start-unmade : (content : Files) (metas : MetaRecords) → HasMetas content metas → IsUnmade content → metas.tail ≡ 0
@@ -64,10 +47,10 @@ at_start-unmade content metas has unmade =
     let log : HasEntries content [] metas.tail = subst (λ (es : List Pairs). HasEntries content es metas.tail) none has.log in
     sym log.0
 
-pub blank-unmade : (content : Files) (metas : MetaRecords) → HasMetas content metas → IsUnmade content → (id : ℕ) → id < 7 → get_or metas.records id zeros ≡ zeros
+pub blank-unmade : (content : Files) (metas : MetaRecords) → HasMetas content metas → IsUnmade content → (id : ℕ) → id < meta_records → get_or metas.records id zeros ≡ zeros
 blank-unmade content metas has unmade id below =
     let none : has.entries ≡ [] = entries_unique has.entries [] 0 metas.tail 0 content has.log unmade.log in
-    has.are id below ∙ ap (λ (es : List Pairs). redone (record_at content) es (meta_key_of id)) none ∙ unmade.blank id (low-record_file id below)
+    has.are id below ∙ ap (λ (es : List Pairs). redone (record_at content) es (meta_key_of id)) none ∙ unmade.blank id below
 
 -- the records of the meta file make the space that the content redoes to
 pub Redoes-metas : (content : Files) (metas : MetaRecords) (has : HasMetas content metas) → Redoes content (redone (record_at content) has.entries)
@@ -89,7 +72,7 @@ Refuses-records content space (faults.Damaged damage) redoes is = inr (space, re
 unmade_shape : (content : Files) (space : Key → Rec) → Redoes content space → IsUnmade content → shape_of_record (space own_key) ≡ None
 unmade_shape content space redoes unmade =
     let none : redoes.entries ≡ [] = entries_unique redoes.entries [] 0 redoes.tail 0 content redoes.log unmade.log in
-    let own : space own_key ≡ zeros = ap (λ (s : Key → Rec). s own_key) (sym redoes.makes) ∙ ap (λ (es : List Pairs). redone (record_at content) es own_key) none ∙ unmade.blank 0 refl in
+    let own : space own_key ≡ zeros = ap (λ (s : Key → Rec). s own_key) (sym redoes.makes) ∙ ap (λ (es : List Pairs). redone (record_at content) es own_key) none ∙ unmade.blank 0 (omega arith) in
     ap shape_of_record own
 
 -- what stands is refused for nothing but the disk
@@ -117,8 +100,8 @@ Stands-refused content space (faults.Damaged damage) redoes stands refuses =
     (λ made.
     let some : Some made.0 ≡ Some shape = sym made.1.own ∙ own in
     let shapes : made.0 ≡ shape = cc in
-    let right : HasMetaInRange space made.0 damage.id = made.1.metas damage.id damaged.has_meta in
-    damaged.out (subst (λ (s : Key → Rec). HasMetaInRange s shape damage.id) (sym same) (subst (λ (s : Shape). HasMetaInRange space s damage.id) shapes right)))
+    let right : HasMetaRight space made.0 damage.id = made.1.metas damage.id damaged.has_meta in
+    damaged.wrong (subst (λ (s : Key → Rec). HasMetaRight s shape damage.id) (sym same) (subst (λ (s : Shape). HasMetaRight space s damage.id) shapes right)))
     stands)
     refuses)
 

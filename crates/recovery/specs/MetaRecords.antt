@@ -18,7 +18,8 @@ use Rattle.recovery.specs.declared.recover_fault.RecoverFault.TheVariants as fau
 
 -- these are the records that the space has in the meta file
 abbrev pub AreMetas : List Rec → (Key → Rec) → Type 0
-AreMetas records space = (id : ℕ) → id < meta_records → slice_index_or records id zeros ≡ space (meta_key_of id)
+AreMetas records space =
+    (id : ℕ) → id < meta_records → slice_index_or records id zeros ≡ space (meta_key_of id)
 
 -- The log has entries up to the tail, and they make these records of the meta file.
 pub record HasMetas (content : Files) (metas : MetaRecords) : Type 0 where
@@ -28,7 +29,8 @@ pub record HasMetas (content : Files) (metas : MetaRecords) : Type 0 where
 
 -- an open gate of the log stands over another form than an entry, and the damage names its place
 abbrev pub IsLogDamage : Files → Damage → Type 0
-IsLogDamage content damage = (damage.file ≡ log_file) × (damage.rule ≡ log_rule) × IsDamagedLog content damage.id
+IsLogDamage content damage =
+    (damage.file ≡ log_file) × (damage.rule ≡ log_rule) × IsDamagedLog content damage.id
 
 -- a fault of the log's form is told only where it is
 abbrev pub IsLogFault : Files → RecoverFault → Type 0

@@ -22,4 +22,5 @@ pub record SameButLogged (entries : List Pairs) (old new : Files) : Type 0 where
 
 -- a content from before, but for the records of the entries
 abbrev pub IsTornInLogged : (Files → Type 0) → List Pairs → Files → Type 0
-IsTornInLogged images entries content = (old : Files) × images old × SameButLogged entries old content
+IsTornInLogged images entries content =
+    (old : Files) × images old × SameButLogged entries old content

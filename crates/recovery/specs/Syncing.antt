@@ -6,4 +6,5 @@ use Rattle.rec_bytes.specs.RecordFiles.{is_record_file}
 
 -- no file of records has a byte that a crash may change
 abbrev pub AreRecordsSettled : {D : Type 0} → Ghosts D → D → Type 0
-AreRecordsSettled g disk = (file : ℕ) → is_record_file file ≡ true → Settled file (g.reads disk) (g.may_leave disk)
+AreRecordsSettled g disk =
+    (file : ℕ) → is_record_file file ≡ true → Settled file (g.reads disk) (g.may_leave disk)

@@ -1,18 +1,37 @@
-ghost use Rattle.std.specs.Prelude.{◌≡◌, ◌≢◌, ◌↔◌, ◌<◌, ℕ, Err, IfErr, IfOk, IsTrue, OnOk, Some, slice_index_or, true};
+ghost use Rattle.std.specs.Prelude.{
+  ◌≡◌,
+  ◌≢◌,
+  ◌↔◌,
+  ◌<◌,
+  ℕ,
+  Err,
+  IfErr,
+  IfOk,
+  IsTrue,
+  OnOk,
+  Some,
+  slice_index_or,
+  true,
+};
 ghost use Rattle.disk_model.specs.Contents.{Files};
 ghost use Rattle.disk_model.specs.Spans.{IsAllSettled, OnlyReads};
 ghost use Rattle.rec_bytes.specs.Creation.{own_key};
 ghost use Rattle.rec_bytes.specs.Format.{meta_records};
-ghost use Rattle.rec_bytes.specs.Meta.{IsMetaInRange};
 ghost use Rattle.rec_bytes.specs.Record.{zeros};
-ghost use Rattle.rec_bytes.specs.RecordFiles as files;
 ghost use Rattle.rec_bytes.specs.Shape.{shape_of_record};
 ghost use Rattle.rec_bytes.specs.declared.key.Key.{Key as AKey};
 ghost use Rattle.rec_bytes.specs.declared.record.Rec.{Rec as ARec};
 ghost use Rattle.redo_log.specs.Redo.{redone};
 ghost use Rattle.record_file.specs.Records.{IsUnmade, record_at};
 ghost use Rattle.record_file.specs.Redone.{Redoes};
-ghost use Rattle.recovery.specs.Finding.{HasMetasInRange, IsAllowed, IsFound, IsIntact, Refuses, RefusesRecords};
+ghost use Rattle.recovery.specs.Finding.{
+  HasMetasRight,
+  IsAllowed,
+  IsFound,
+  IsIntact,
+  Refuses,
+  RefusesRecords,
+};
 ghost use Rattle.recovery.specs.MetaRecords.{AreMetas, HasMetas};
 ghost use Rattle.recovery.specs.RecoverFault.{HasCause};
 
@@ -21,14 +40,15 @@ use crate::meta_records::{META_COUNT, MetaRecords, find_metas};
 use crate::recover_fault::RecoverFault;
 use crate::syncing::sync_files;
 use disk_model::Disk;
-use rec_bytes::{Damage, META, Meta, Rec, Shape, is_meta_file, room_of};
+use rec_bytes::{Damage, META, Rec, Shape, is_meta_right, version_of};
 
-/// The rule of the meta records: what was given out and the free list stay within the file's room.
+/// The rule of the records of the meta file: each is one that may stand there.
 const META_RULE: u8 = 1;
 
 /// Syncs all files, reads the meta file and the log, and tells what is found. It only reads.
 pub(crate) fn find_store<D: Disk>(disk: &mut D) -> Result<Found, RecoverFault>
-    ensures found { D.tells_reads → (space : AKey → ARec) → Redoes (D.reads disk.old) space → IfOk result (IsFound (D.reads disk.old) space) }
+    ensures found { D.tells_reads → (space : AKey → ARec) → Redoes (D.reads disk.old) space
+        → IfOk result (IsFound (D.reads disk.old) space) }
     ensures allowed { IfOk result IsAllowed }
     ensures intact { D.tells_reads → OnOk result (IsIntact (D.reads disk.old)) }
     ensures refused { D.tells_reads → IfErr result (Refuses (D.reads disk.old)) }
@@ -44,8 +64,10 @@ pub(crate) fn find_store<D: Disk>(disk: &mut D) -> Result<Found, RecoverFault>
 // What the records of the meta file stand for.
 fn found_of(metas: &MetaRecords) -> Result<Found, RecoverFault>
     ensures allowed { IfOk result IsAllowed }
-    ensures found { (content : Files) (has : HasMetas content metas.now) → IfOk result (IsFound content (redone (record_at content) has.entries)) }
-    ensures refused { (content : Files) (has : HasMetas content metas.now) → IfErr result (RefusesRecords content (redone (record_at content) has.entries)) }
+    ensures found { (content : Files) (has : HasMetas content metas.now)
+        → IfOk result (IsFound content (redone (record_at content) has.entries)) }
+    ensures refused { (content : Files) (has : HasMetas content metas.now)
+        → IfErr result (RefusesRecords content (redone (record_at content) has.entries)) }
     ensures no_fault { result ≢ Err RecoverFault.Disk }
 {
     if let Some(shape) = Shape::of(&metas.records[META as usize]) {
@@ -65,14 +87,19 @@ fn is_unmade(metas: &MetaRecords) -> bool
     metas.tail == 0 && are_blank(&metas.records)
 }
 
-// Whether the meta records are in range for a store of this shape, by ascending file.
+// Whether the records of the meta file may stand there in a store of this shape, by ascending
+// number.
 fn check_metas(records: &[Rec; META_COUNT], shape: Shape) -> Result<(), RecoverFault>
-    ensures right { (space : AKey → ARec) → AreMetas records.now space → OnOk result (HasMetasInRange space shape) }
-    ensures wrong { (space : AKey → ARec) → AreMetas records.now space → shape_of_record (space own_key) ≡ Some shape → (content : Files) → IfErr result (RefusesRecords content space) }
+    ensures right { (space : AKey → ARec) → AreMetas records.now space
+        → OnOk result (HasMetasRight space shape) }
+    ensures wrong { (space : AKey → ARec) → AreMetas records.now space
+        → shape_of_record (space own_key) ≡ Some shape → (content : Files)
+        → IfErr result (RefusesRecords content space) }
     ensures no_fault { result ≢ Err RecoverFault.Disk }
 {
+    let version = version_of(&records[META as usize]);
     for id in 0..META_COUNT {
-        if !is_right(&records[id], id as u8, shape) {
+        if !is_meta_right(&records[id], id as u32, version, shape) {
             return Err(RecoverFault::Damaged(Damage {
                 file: META,
                 id: id as u32,
@@ -83,16 +110,10 @@ fn check_metas(records: &[Rec; META_COUNT], shape: Shape) -> Result<(), RecoverF
     Ok(())
 }
 
-// Whether the record of a file in the meta file is in range, if the file has a meta record.
-fn is_right(rec: &Rec, file: u8, shape: Shape) -> bool
-    ensures { IsTrue result ↔ (files.is_meta_file file ≡ true → IsMetaInRange (files.room_of shape file) rec.now) }
-{
-    !is_meta_file(file) || Meta::is_in_range(rec, room_of(file, shape))
-}
-
 // Whether each record is zeros.
 fn are_blank(records: &[Rec; META_COUNT]) -> bool
-    ensures { IsTrue result ↔ ((id : ℕ) → id < meta_records → slice_index_or records.now id zeros ≡ zeros) }
+    ensures { IsTrue result ↔ ((id : ℕ) → id < meta_records
+        → slice_index_or records.now id zeros ≡ zeros) }
 {
     records.iter().all(|rec| *rec == Rec::ZEROS)
 }

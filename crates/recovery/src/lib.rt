@@ -1,5 +1,6 @@
-//! Recovery: what the log says comes into the files of records, at a checkpoint and after a stop. A checkpoint
-//! costs a write for each changed record, and eight syncs; recovery reads the log twice and syncs all files twice.
+//! Recovery: what the log says comes into the files of records, at a checkpoint and after a stop. A
+//! checkpoint costs a write for each changed record, and nine syncs; recovery reads the log twice
+//! and syncs all files twice.
 #![tactic(auto)]
 
 mod checkpointing;
@@ -10,8 +11,6 @@ mod recover_fault;
 mod recovering;
 mod redoing;
 mod syncing;
-#[cfg(test)]
-mod tests;
 mod writing;
 
 pub use checkpointing::checkpoint;

@@ -61,7 +61,8 @@ pub(crate) fn find_metas<D: Disk>(disk: &mut D) -> Result<MetaRecords, RecoverFa
 
 // The records of the meta file as they stand in it, by one call of the disk.
 fn read_meta_file<D: Disk>(disk: &mut D) -> Result<[Rec; META_COUNT], DiskFault>
-    ensures records { D.tells_reads → IfOk result (λ records. AreMetas records (record_at (D.reads disk.old))) }
+    ensures records { D.tells_reads
+        → IfOk result (λ records. AreMetas records (record_at (D.reads disk.old))) }
     ensures only_reads { OnlyReads D.Disk disk.old disk.new }
     ensures cause { disk_cause.HasCause (D.faults disk.old) (D.faults disk.new) result }
 {
@@ -72,7 +73,8 @@ fn read_meta_file<D: Disk>(disk: &mut D) -> Result<[Rec; META_COUNT], DiskFault>
 
 // The records that stand in these bytes, one after the other.
 fn records_of(bytes: &[u8; META_BYTES]) -> [Rec; META_COUNT]
-    ensures { (content : Files) → Holds meta_file 0 bytes.now content → AreMetas result (record_at content) }
+    ensures { (content : Files) → Holds meta_file 0 bytes.now content
+        → AreMetas result (record_at content) }
 {
     let mut records = [Rec::ZEROS; META_COUNT];
     for id in 0..META_COUNT {
@@ -93,8 +95,11 @@ fn take_entry<D: Disk>(
     records: &mut [Rec; META_COUNT],
 ) -> Result<(), DiskFault>
     requires { place ≤ last_place }
-    ensures taken { D.tells_reads → IsAtEntry (D.reads disk.old) reader.old place count → (space : AKey → ARec) → AreMetas records.old space → OnOk result (AreMetas records.new (laid_over space (entry_at (D.reads disk.old) place))) }
-    ensures keeps { D.tells_reads → IsPieceOf (D.reads disk.old) reader.old → IsPieceOf (D.reads disk.new) reader.new }
+    ensures taken { D.tells_reads → IsAtEntry (D.reads disk.old) reader.old place count
+        → (space : AKey → ARec) → AreMetas records.old space
+        → OnOk result (AreMetas records.new (laid_over space (entry_at (D.reads disk.old) place))) }
+    ensures keeps { D.tells_reads → IsPieceOf (D.reads disk.old) reader.old
+        → IsPieceOf (D.reads disk.new) reader.new }
     ensures only_reads { OnlyReads D.Disk disk.old disk.new }
     ensures cause { disk_cause.HasCause (D.faults disk.old) (D.faults disk.new) result }
 {
@@ -107,7 +112,8 @@ fn take_entry<D: Disk>(
 
 // Puts a record, if it is one of the meta file's.
 fn put_record(records: &mut [Rec; META_COUNT], key: Key, rec: Rec)
-    ensures { (space : AKey → ARec) → AreMetas records.old space → AreMetas records.new (put space key rec) }
+    ensures { (space : AKey → ARec) → AreMetas records.old space
+        → AreMetas records.new (put space key rec) }
 {
     if key.file == META && key.id < META_RECORDS {
         records[key.id as usize] = rec;

@@ -11,8 +11,8 @@ pub enum RecoverFault {
     /// The files hold something else than a store.
     #[error("the files hold no store")]
     NotAStore,
-    /// A record breaks a rule. Rule 0 is that of the log: an open gate stands over an entry, and the record's
-    /// number is the place of the gate. Rule 1 is that of the meta records.
+    /// A record breaks a rule. Rule 0 is that of the log: an open gate stands over an entry, and
+    /// the record's number is the place of the gate. Rule 1 is that of the meta records.
     #[error("a record of the store is damaged")]
     Damaged(Damage),
 }

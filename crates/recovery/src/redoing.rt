@@ -23,21 +23,27 @@ use redo_log::{EntryAnswer, LogReader, reset};
 /// The rule of the log: an open gate stands over an entry.
 pub(crate) const ENTRY_RULE: u8 = 0;
 
-/// Brings what the log says into the files of records, and takes its entries away. The disk must be settled, so
-/// that each image is what is read.
+/// Brings what the log says into the files of records, and takes its entries away. The disk must be
+/// settled, so that each image is what is read.
 pub(crate) fn redo<D: Disk>(disk: &mut D) -> Result<(), RecoverFault>
     // A stop at any moment leaves a content that redoes to the same.
-    ensures crash { D.tells_reads → D.tells_images → IsAllSettled D.Disk disk.old → (space : AKey → ARec) → Redoes (D.reads disk.old) space
+    ensures crash { D.tells_reads → D.tells_images → IsAllSettled D.Disk disk.old
+        → (space : AKey → ARec) → Redoes (D.reads disk.old) space
         → AtEachMoment D.Disk disk.old disk.new (λ content. Redoes content space) }
-    ensures unmade { D.tells_reads → D.tells_images → IsAllSettled D.Disk disk.old → IsUnmade (D.reads disk.old) → AtEachMoment D.Disk disk.old disk.new IsUnmade }
-    ensures read { D.tells_reads → (space : AKey → ARec) → Redoes (D.reads disk.old) space → Redoes (D.reads disk.new) space }
-    ensures space { D.tells_reads → (space : AKey → ARec) → Redoes (D.reads disk.old) space → OnOk result (record_at (D.reads disk.new) ≡ space) }
+    ensures unmade { D.tells_reads → D.tells_images → IsAllSettled D.Disk disk.old
+        → IsUnmade (D.reads disk.old) → AtEachMoment D.Disk disk.old disk.new IsUnmade }
+    ensures read { D.tells_reads → (space : AKey → ARec) → Redoes (D.reads disk.old) space
+        → Redoes (D.reads disk.new) space }
+    ensures space { D.tells_reads → (space : AKey → ARec) → Redoes (D.reads disk.old) space
+        → OnOk result (record_at (D.reads disk.new) ≡ space) }
     ensures emptied { D.tells_reads → OnOk result (HasEntries (D.reads disk.new) [] 0) }
     ensures settled { D.tells_reads → D.tells_images → OnOk result (IsAllSettled D.Disk disk.new) }
-    ensures sound { D.tells_reads → (space : AKey → ARec) → Redoes (D.reads disk.old) space → BlamesDisk result }
+    ensures sound { D.tells_reads → (space : AKey → ARec) → Redoes (D.reads disk.old) space
+        → BlamesDisk result }
 
     // A log with no entry is left as it is, and so is the rest of the disk.
-    ensures closed { D.tells_reads → D.reads disk.old log_file 0 ≢ open_byte → OnlyReads D.Disk disk.old disk.new }
+    ensures closed { D.tells_reads → D.reads disk.old log_file 0 ≢ open_byte
+        → OnlyReads D.Disk disk.old disk.new }
 
     ensures cause { HasCause (D.faults disk.old) (D.faults disk.new) result }
 {
@@ -49,12 +55,20 @@ pub(crate) fn redo<D: Disk>(disk: &mut D) -> Result<(), RecoverFault>
 
 // Writes the records of the log's entries in their files, one entry after the other.
 fn redo_entries<D: Disk>(disk: &mut D) -> Result<(), RecoverFault>
-    ensures redone { D.tells_reads → (entries : List Pairs) (tail : ℕ) → HasEntries (D.reads disk.old) entries tail → OnOk result (record_at (D.reads disk.new) ≡ redone (record_at (D.reads disk.old)) entries) }
-    ensures elsewhere { D.tells_reads → (entries : List Pairs) (tail : ℕ) → HasEntries (D.reads disk.old) entries tail → SameButLogged entries (D.reads disk.old) (D.reads disk.new) }
-    ensures crash { D.tells_reads → D.tells_images → (entries : List Pairs) (tail : ℕ) → HasEntries (D.reads disk.old) entries tail
+    ensures redone { D.tells_reads → (entries : List Pairs) (tail : ℕ)
+        → HasEntries (D.reads disk.old) entries tail
+        → OnOk result (record_at (D.reads disk.new)
+        ≡ redone (record_at (D.reads disk.old)) entries) }
+    ensures elsewhere { D.tells_reads → (entries : List Pairs) (tail : ℕ)
+        → HasEntries (D.reads disk.old) entries tail
+        → SameButLogged entries (D.reads disk.old) (D.reads disk.new) }
+    ensures crash { D.tells_reads → D.tells_images → (entries : List Pairs) (tail : ℕ)
+        → HasEntries (D.reads disk.old) entries tail
         → AtEachMoment D.Disk disk.old disk.new (IsTornInLogged (D.may_leave disk.old) entries) }
-    ensures sound { D.tells_reads → (entries : List Pairs) (tail : ℕ) → HasEntries (D.reads disk.old) entries tail → BlamesDisk result }
-    ensures closed { D.tells_reads → D.reads disk.old log_file 0 ≢ open_byte → OnlyReads D.Disk disk.old disk.new }
+    ensures sound { D.tells_reads → (entries : List Pairs) (tail : ℕ)
+        → HasEntries (D.reads disk.old) entries tail → BlamesDisk result }
+    ensures closed { D.tells_reads → D.reads disk.old log_file 0 ≢ open_byte
+        → OnlyReads D.Disk disk.old disk.new }
     ensures cause { HasCause (D.faults disk.old) (D.faults disk.new) result }
 {
     let mut reader = LogReader::new();
@@ -72,8 +86,8 @@ fn redo_entries<D: Disk>(disk: &mut D) -> Result<(), RecoverFault>
     }
 }
 
-// Writes the records of the entry at a place in their files. A key is tested once more, since a disk that
-// doesn't tell its reads may read otherwise than before.
+// Writes the records of the entry at a place in their files. A key is tested once more, since a
+// disk that doesn't tell its reads may read otherwise than before.
 fn redo_entry<D: Disk>(
     disk: &mut D,
     reader: &mut LogReader,
@@ -81,12 +95,19 @@ fn redo_entry<D: Disk>(
     count: u16,
 ) -> Result<(), RecoverFault>
     requires { place ≤ last_place }
-    ensures written { D.tells_reads → IsAtEntry (D.reads disk.old) reader.old place count → OnOk result (record_at (D.reads disk.new) ≡ laid_over (record_at (D.reads disk.old)) (entry_at (D.reads disk.old) place)) }
-    ensures elsewhere { D.tells_reads → IsAtEntry (D.reads disk.old) reader.old place count → SameButRecords (entry_at (D.reads disk.old) place) (D.reads disk.old) (D.reads disk.new) }
-    ensures keeps { D.tells_reads → IsAtEntry (D.reads disk.old) reader.old place count → IsPieceOf (D.reads disk.new) reader.new }
-    ensures crash { D.tells_reads → D.tells_images → IsAtEntry (D.reads disk.old) reader.old place count
-        → AtEachMoment D.Disk disk.old disk.new (IsTornInRecords (D.may_leave disk.old) (entry_at (D.reads disk.old) place)) }
-    ensures sound { D.tells_reads → IsAtEntry (D.reads disk.old) reader.old place count → BlamesDisk result }
+    ensures written { D.tells_reads → IsAtEntry (D.reads disk.old) reader.old place count
+        → OnOk result (record_at (D.reads disk.new)
+        ≡ laid_over (record_at (D.reads disk.old)) (entry_at (D.reads disk.old) place)) }
+    ensures elsewhere { D.tells_reads → IsAtEntry (D.reads disk.old) reader.old place count
+        → SameButRecords (entry_at (D.reads disk.old) place) (D.reads disk.old) (D.reads disk.new) }
+    ensures keeps { D.tells_reads → IsAtEntry (D.reads disk.old) reader.old place count
+        → IsPieceOf (D.reads disk.new) reader.new }
+    ensures crash { D.tells_reads → D.tells_images
+        → IsAtEntry (D.reads disk.old) reader.old place count
+        → AtEachMoment D.Disk disk.old disk.new
+        (IsTornInRecords (D.may_leave disk.old) (entry_at (D.reads disk.old) place)) }
+    ensures sound { D.tells_reads → IsAtEntry (D.reads disk.old) reader.old place count
+        → BlamesDisk result }
     ensures cause { HasCause (D.faults disk.old) (D.faults disk.new) result }
 {
     for index in 0..count {
@@ -102,7 +123,8 @@ fn redo_entry<D: Disk>(
 /// No entry stands at a place of the log whose gate is open.
 pub(crate) fn damaged_entry(place: u64) -> RecoverFault
     requires { place ≤ last_place }
-    ensures { result ≡ RecoverFault.Damaged (record { file = log_file; id = place; rule = log_rule }) }
+    ensures { result ≡ RecoverFault.Damaged
+        (record { file = log_file; id = place; rule = log_rule }) }
 {
     RecoverFault::Damaged(Damage {
         file: LOG,

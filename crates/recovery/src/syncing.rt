@@ -8,7 +8,8 @@ use rec_bytes::{DiskFault, LOG, RecordFile};
 
 /// Syncs the files of records.
 pub fn sync_record_files<D: Disk>(disk: &mut D) -> Result<(), DiskFault>
-    ensures settled { D.tells_reads → D.tells_images → OnOk result (AreRecordsSettled D.Disk disk.new) }
+    ensures settled { D.tells_reads → D.tells_images
+        → OnOk result (AreRecordsSettled D.Disk disk.new) }
     ensures only_reads { OnlyReads D.Disk disk.old disk.new }
     ensures cause { HasCause (D.faults disk.old) (D.faults disk.new) result }
 {

@@ -10,9 +10,13 @@ use record_file::write_record;
 
 /// Writes each of these records in its file.
 pub fn write_records<D: Disk>(disk: &mut D, written: &WriteSet) -> Result<(), DiskFault>
-    ensures written { D.tells_reads → OnOk result (record_at (D.reads disk.new) ≡ laid_over (record_at (D.reads disk.old)) written.now.pairs) }
+    ensures written { D.tells_reads
+        → OnOk result (record_at (D.reads disk.new)
+        ≡ laid_over (record_at (D.reads disk.old)) written.now.pairs) }
     ensures elsewhere { SameButRecords written.now.pairs (D.reads disk.old) (D.reads disk.new) }
-    ensures crash { D.tells_images → AtEachMoment D.Disk disk.old disk.new (IsTornInRecords (D.may_leave disk.old) written.now.pairs) }
+    ensures crash { D.tells_images
+        → AtEachMoment D.Disk disk.old disk.new
+        (IsTornInRecords (D.may_leave disk.old) written.now.pairs) }
     ensures cause { HasCause (D.faults disk.old) (D.faults disk.new) result }
 {
     for i in 0..written.len() {

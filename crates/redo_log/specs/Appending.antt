@@ -1,5 +1,19 @@
 -- What an entry that is appended leaves.
-use Rattle.std.specs.Prelude.{◌≡◌, ◌⊎◌, ℕ, ◌+◌, ◌≤◌, ◌<◌, List, [], ◌∷◌, ◌++◌, length, flat_map, Some}
+use Rattle.std.specs.Prelude.{
+  ◌≡◌,
+  ◌⊎◌,
+  ℕ,
+  ◌+◌,
+  ◌≤◌,
+  ◌<◌,
+  List,
+  [],
+  ◌∷◌,
+  ◌++◌,
+  length,
+  flat_map,
+  Some,
+}
 use Rattle.std.specs.List.{AllByRecursion, slice_get}
 use Rattle.disk_model.specs.Contents.{Files, SameOutside}
 use Rattle.rec_bytes.specs.Format.{log_file, record_bytes}
@@ -15,9 +29,12 @@ AreWhole writes = AllByRecursion (λ write. length write.1.bytes ≡ record_byte
 
 -- so has each of those from one place up to another
 abbrev pub AreWholeFrom : Pairs → ℕ → ℕ → Type 0
-AreWholeFrom writes from end = (i : ℕ) (write : Key × Rec) → from ≤ i → i < end → slice_get writes i ≡ Some write → length write.1.bytes ≡ record_bytes
+AreWholeFrom writes from end =
+    (i : ℕ) (write : Key × Rec) → from ≤ i → i < end → slice_get writes i ≡ Some write
+    → length write.1.bytes ≡ record_bytes
 
--- the bytes of a written record in an entry: its file, its number with the lowest byte first, and its 64 bytes
+-- the bytes of a written record in an entry: its file, its number with the lowest byte first, and
+-- its 64 bytes
 abbrev pub write_bytes : Key × Rec → List ℕ
 write_bytes write = write.0.file ∷ little_bytes 4 write.0.id ++ write.1.bytes
 
@@ -27,22 +44,28 @@ payload_bytes writes = little_bytes 2 (length writes) ++ flat_map write_bytes wr
 
 -- a content from before, but for so many bytes of the log from a place on
 abbrev pub IsTornFrom : (Files → Type 0) → ℕ → ℕ → Files → Type 0
-IsTornFrom images place n content = (old : Files) × images old × SameOutside log_file place n old content
+IsTornFrom images place n content =
+    (old : Files) × images old × SameOutside log_file place n old content
 
 -- the log has these entries and one more
 abbrev pub HasOneMore : Files → List Pairs → Pairs → ℕ → Type 0
-HasOneMore content entries writes tail = HasEntries content (entries ++ writes ∷ []) (tail + entry_bytes (length writes))
+HasOneMore content entries writes tail =
+    HasEntries content (entries ++ writes ∷ []) (tail + entry_bytes (length writes))
 
 -- the log has these entries, or these and one more
 abbrev pub HasAtMostOneMore : Files → List Pairs → Pairs → ℕ → Type 0
-HasAtMostOneMore content entries writes tail = HasEntries content entries tail ⊎ HasOneMore content entries writes tail
+HasAtMostOneMore content entries writes tail =
+    HasEntries content entries tail ⊎ HasOneMore content entries writes tail
 
 -- the same bytes but for the room of the entry at the tail and the gate after it
 abbrev pub SameButEntry : ℕ → Pairs → Files → Files → Type 0
-SameButEntry tail writes old new = SameOutside log_file tail (entry_bytes (length writes) + 1) old new
+SameButEntry tail writes old new =
+    SameOutside log_file tail (entry_bytes (length writes) + 1) old new
 
--- A content that an append may leave: one from before but for the entry, whose log has the old entries or one more.
-pub record IsAppended (images : Files → Type 0) (entries : List Pairs) (writes : Pairs) (tail : ℕ) (content : Files) : Type 0 where
+-- A content that an append may leave: one from before but for the entry, whose log has the old
+-- entries or one more.
+pub record IsAppended (images : Files → Type 0) (entries : List Pairs) (writes : Pairs) (tail : ℕ)
+    (content : Files) : Type 0 where
   pub old : Files
   pub was_left : images old
   pub elsewhere : SameButEntry tail writes old content

@@ -43,7 +43,13 @@ Fits place count = place + entry_bytes count ≤ last_place
 
 -- the record written that stands at a place: its file, its number, and its 64 bytes
 abbrev pub write_at : Files → ℕ → Key × Rec
-write_at content place = (record { file = content log_file place; id = log_number content (place + 1) 4 }, record { bytes = log_bytes content (place + 5) 64 })
+write_at content place = (
+  record {
+    file = content log_file place;
+    id = log_number content (place + 1) 4;
+  },
+  record { bytes = log_bytes content (place + 5) 64 },
+)
 
 -- so many of them, one after the other
 abbrev pub writes_from : Files → ℕ → ℕ → Pairs
@@ -62,14 +68,16 @@ write_place place index = place + 3 + 69 * index
 abbrev pub entry_at : Files → ℕ → Pairs
 entry_at content place = writes_from content (place + 3) (count_at content place)
 
--- An entry may have these records: one at least and at most 2,048, each of 64 bytes, at rising keys that a store can have.
+-- An entry may have these records: one at least and at most 2,048, each of 64 bytes, at rising keys
+-- that a store can have.
 pub record IsEntryOf (writes : Pairs) : Type 0 where
   pub some : 0 < length writes
   pub few : length writes ≤ most_writes
   pub keys : AllByRecursion (λ write. IsKey write.0) writes
   pub rising : IsOrdered writes
 
--- an entry stands at the place: its gate is open, it is of the right form, and it ends within the log
+-- an entry stands at the place: its gate is open, it is of the right form, and it ends within the
+-- log
 pub record IsEntry (content : Files) (place : ℕ) : Type 0 where
   pub open_gate : content log_file place ≡ open_byte
   pub form : IsEntryOf (entry_at content place)
@@ -79,10 +87,13 @@ pub record IsEntry (content : Files) (place : ℕ) : Type 0 where
 abbrev pub IsDamaged : Files → ℕ → Type 0
 IsDamaged content place = (content log_file place ≡ open_byte) × ¬ IsEntry content place
 
--- from the place on the log has these entries, one after the other, and ends at the tail, over a closed gate
+-- from the place on the log has these entries, one after the other, and ends at the tail, over a
+-- closed gate
 abbrev pub HasEntriesFrom : ℕ → Files → List Pairs → ℕ → Type 0
 HasEntriesFrom place content [] tail = (place ≡ tail) × (content log_file place ≢ open_byte)
-HasEntriesFrom place content (entry ∷ later) tail = IsEntry content place × (entry_at content place ≡ entry) × HasEntriesFrom (place + entry_bytes (length entry)) content later tail
+HasEntriesFrom place content (entry ∷ later) tail =
+    IsEntry content place × (entry_at content place ≡ entry)
+    × HasEntriesFrom (place + entry_bytes (length entry)) content later tail
 
 -- the log has these entries, and ends at the tail
 abbrev pub HasEntries : Files → List Pairs → ℕ → Type 0
@@ -95,9 +106,12 @@ AllHaveEntries images entries tail = (image : Files) → images image → HasEnt
 -- the log has entries up to this place
 abbrev pub HasEntriesUpTo : ℕ → Files → List Pairs → ℕ → Type 0
 HasEntriesUpTo place content [] end = place ≡ end
-HasEntriesUpTo place content (entry ∷ later) end = IsEntry content place × (entry_at content place ≡ entry) × HasEntriesUpTo (place + entry_bytes (length entry)) content later end
+HasEntriesUpTo place content (entry ∷ later) end =
+    IsEntry content place × (entry_at content place ≡ entry)
+    × HasEntriesUpTo (place + entry_bytes (length entry)) content later end
 
--- After entries of the right form an open gate stands over another form. Such a log has no list of entries.
+-- After entries of the right form an open gate stands over another form. Such a log has no list of
+-- entries.
 pub record IsDamagedLog (content : Files) (place : ℕ) : Type 0 where
   pub entries : List Pairs
   pub before : HasEntriesUpTo 0 content entries place

@@ -6,7 +6,15 @@ use Rattle.rec_bytes.specs.Format.{log_file}
 use Rattle.rec_bytes.specs.declared.key.Key.{Key}
 use Rattle.rec_bytes.specs.Key.{IsKey, key_cmp}
 use Rattle.rec_bytes.specs.Pairs.{Pairs}
-use Rattle.redo_log.specs.Entries.{IsEntry, IsDamaged, Fits, count_at, entry_bytes, most_writes, open_byte}
+use Rattle.redo_log.specs.Entries.{
+  IsEntry,
+  IsDamaged,
+  Fits,
+  count_at,
+  entry_bytes,
+  most_writes,
+  open_byte,
+}
 use Rattle.redo_log.specs.declared.entry_answer.EntryAnswer.{EntryAnswer}
 use Rattle.redo_log.specs.declared.entry_answer.EntryAnswer.TheVariants.{Entry, End, Disk, Damaged}
 
@@ -19,16 +27,20 @@ pub record Piece : Type 0 where
 abbrev pub IsPieceOf : Files → Piece → Type 0
 IsPieceOf content piece = Holds log_file piece.start piece.bytes content
 
--- what stands at the place of the log: an entry with so many records and the place after it, a closed gate, or an open gate over anything else
+-- what stands at the place of the log: an entry with so many records and the place after it, a
+-- closed gate, or an open gate over anything else
 abbrev pub Tells : Files → ℕ → EntryAnswer → Type 0
-Tells content place (Entry count next) = IsEntry content place × (count ≡ count_at content place) × (next ≡ place + entry_bytes count)
+Tells content place (Entry count next) =
+    IsEntry content place × (count ≡ count_at content place) × (next ≡ place + entry_bytes count)
 Tells content place End = content log_file place ≢ open_byte
 Tells content place Disk = Unit {0}
 Tells content place (Damaged damaged) = (damaged ≡ place) × IsDamaged content place
 
--- an answer of an entry names one that fits in the log, and of damage the place that was asked for, whatever the disk tells
+-- an answer of an entry names one that fits in the log, and of damage the place that was asked for,
+-- whatever the disk tells
 abbrev pub IsInLog : ℕ → EntryAnswer → Type 0
-IsInLog place (Entry count next) = (0 < count) × (count ≤ most_writes) × (next ≡ place + entry_bytes count) × Fits place count
+IsInLog place (Entry count next) =
+    (0 < count) × (count ≤ most_writes) × (next ≡ place + entry_bytes count) × Fits place count
 IsInLog place End = Unit {0}
 IsInLog place Disk = Unit {0}
 IsInLog place (Damaged damaged) = damaged ≡ place
@@ -45,7 +57,8 @@ pub record HasContent (content reads : Files) (piece : Piece) : Type 0 where
 
 -- each content that the disk and the kept bytes had they have still
 abbrev pub KeepsContent : Files → Files → Piece → Piece → Type 0
-KeepsContent old new before now = (content : Files) → HasContent content old before → HasContent content new now
+KeepsContent old new before now =
+    (content : Files) → HasContent content old before → HasContent content new now
 
 -- an entry of so many records can stand at the place
 pub record IsEntrySize (place count : ℕ) : Type 0 where

@@ -13,8 +13,10 @@ HasEntriesOrNone content entries tail = HasEntries content entries tail ⊎ HasE
 abbrev pub SameButGate : Files → Files → Type 0
 SameButGate old new = SameOutside log_file 0 1 old new
 
--- A content that a reset may leave: one from before but for the first gate, whose log has the old entries or none.
-pub record IsReset (images : Files → Type 0) (entries : List Pairs) (tail : ℕ) (content : Files) : Type 0 where
+-- A content that a reset may leave: one from before but for the first gate, whose log has the old
+-- entries or none.
+pub record IsReset (images : Files → Type 0) (entries : List Pairs) (tail : ℕ)
+    (content : Files) : Type 0 where
   pub old : Files
   pub was_left : images old
   pub elsewhere : SameButGate old content

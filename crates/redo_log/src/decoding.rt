@@ -17,8 +17,10 @@ pub(crate) struct Head {
 /// Reads it from its three bytes.
 pub(crate) fn head_of(bytes: &[u8]) -> Head
     requires { length bytes.now ≡ 3 }
-    ensures gate { (content : Files) (place : ℕ) → bytes.now ≡ log_bytes content place 3 → IsTrue result.is_open ↔ (content log_file place ≡ 1) }
-    ensures count { (content : Files) (place : ℕ) → bytes.now ≡ log_bytes content place 3 → result.count ≡ count_at content place }
+    ensures gate { (content : Files) (place : ℕ) → bytes.now ≡ log_bytes content place 3
+        → IsTrue result.is_open ↔ (content log_file place ≡ 1) }
+    ensures count { (content : Files) (place : ℕ) → bytes.now ≡ log_bytes content place 3
+        → result.count ≡ count_at content place }
 {
     Head {
         is_open: bytes[0] == OPEN,
@@ -29,7 +31,8 @@ pub(crate) fn head_of(bytes: &[u8]) -> Head
 /// The key that a written record begins with.
 pub(crate) fn key_of(bytes: &[u8]) -> Key
     requires { length bytes.now ≡ 5 }
-    ensures { (content : Files) (place : ℕ) → bytes.now ≡ log_bytes content place 5 → result ≡ (write_at content place).0 }
+    ensures { (content : Files) (place : ℕ) → bytes.now ≡ log_bytes content place 5
+        → result ≡ (write_at content place).0 }
 {
     Key {
         file: bytes[0],
@@ -40,7 +43,8 @@ pub(crate) fn key_of(bytes: &[u8]) -> Key
 /// A written record, with its key.
 pub(crate) fn write_of(bytes: &[u8]) -> (Key, Rec)
     requires { length bytes.now ≡ 69 }
-    ensures { (content : Files) (place : ℕ) → bytes.now ≡ log_bytes content place 69 → result ≡ write_at content place }
+    ensures { (content : Files) (place : ℕ) → bytes.now ≡ log_bytes content place 69
+        → result ≡ write_at content place }
 {
     let key = key_of(&bytes[..KEY_BYTES]);
     let mut record = [0; RECORD_BYTES];

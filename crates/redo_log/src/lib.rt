@@ -1,5 +1,6 @@
-//! The redo log: entries of written records, each behind a gate byte. An entry is there once its gate
-//! is open on the disk, and the gate is opened in a write of its own when all behind it is stable.
+//! The redo log: entries of written records, each behind a gate byte. An entry is there once its
+//! gate is open on the disk, and the gate is opened in a write of its own when all behind it is
+//! stable.
 #![tactic(auto)]
 
 mod appending;

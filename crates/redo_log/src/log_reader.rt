@@ -1,10 +1,42 @@
-ghost use Rattle.std.specs.Prelude.{◌≡◌, ◌≢◌, ◌≤◌, ◌<◌, ◌+◌, ◌^◌, ◌↔◌, [], length, None, Some, IfOk, OnOk, IsTrue};
+ghost use Rattle.std.specs.Prelude.{
+  ◌≡◌,
+  ◌≢◌,
+  ◌≤◌,
+  ◌<◌,
+  ◌+◌,
+  ◌^◌,
+  ◌↔◌,
+  [],
+  length,
+  None,
+  Some,
+  IfOk,
+  OnOk,
+  IsTrue,
+};
 ghost use Rattle.std.specs.List.{slice_get};
 ghost use Rattle.fault_count.specs.Cause.{HasCause, Rose};
 ghost use Rattle.disk_model.specs.Contents.{Files};
 ghost use Rattle.disk_model.specs.Spans.{OnlyReads};
-ghost use Rattle.redo_log.specs.Entries.{count_at, entry_at, log_bytes, write_at, write_place, writes_from};
-ghost use Rattle.redo_log.specs.Reading.{AreRisingAbove, Covers, HasContent, IsEntrySize, IsInLog, IsNextKey, IsPieceOf, KeepsContent, Tells};
+ghost use Rattle.redo_log.specs.Entries.{
+  count_at,
+  entry_at,
+  log_bytes,
+  write_at,
+  write_place,
+  writes_from,
+};
+ghost use Rattle.redo_log.specs.Reading.{
+  AreRisingAbove,
+  Covers,
+  HasContent,
+  IsEntrySize,
+  IsInLog,
+  IsNextKey,
+  IsPieceOf,
+  KeepsContent,
+  Tells,
+};
 
 use crate::decoding::{head_of, key_of, write_of};
 use crate::entry::{
@@ -16,8 +48,8 @@ use fault_count::Failed;
 use rec_bytes::{DiskFault, Key, LOG, Rec};
 use std::marker::Model;
 
-/// Reads the log in pieces of 4 KiB, and keeps the last, so that reading entry after entry costs about
-/// one device call for each piece. Contracts see the kept bytes and their place.
+/// Reads the log in pieces of 4 KiB, and keeps the last, so that reading entry after entry costs
+/// about one device call for each piece. Contracts see the kept bytes and their place.
 #[derive(Drop)]
 pub struct LogReader {
     start: u64,
@@ -49,12 +81,14 @@ impl LogReader {
         }
     }
 
-    /// What stands at a place of the log. It holds of the disk as it is read, as long as nothing was
-    /// written to the log since the reader was made.
+    /// What stands at a place of the log. It holds of the disk as it is read, as long as nothing
+    /// was written to the log since the reader was made.
     pub fn entry_at<D: Disk>(&mut self, disk: &mut D, place: u64) -> EntryAnswer
         requires { place ≤ 1048575 }
-        ensures tells { D.tells_reads → IsPieceOf (D.reads disk.old) self.old → Tells (D.reads disk.old) place result }
-        ensures keeps { D.tells_reads → IsPieceOf (D.reads disk.old) self.old → IsPieceOf (D.reads disk.new) self.new }
+        ensures tells { D.tells_reads → IsPieceOf (D.reads disk.old) self.old
+            → Tells (D.reads disk.old) place result }
+        ensures keeps { D.tells_reads → IsPieceOf (D.reads disk.old) self.old
+            → IsPieceOf (D.reads disk.new) self.new }
         ensures in_log { IsInLog place result }
         ensures only_reads { OnlyReads D.Disk disk.old disk.new }
         ensures cause { result ≡ EntryAnswer.Disk → Rose (D.faults disk.old) (D.faults disk.new) }
@@ -74,9 +108,14 @@ impl LogReader {
         index: u16,
     ) -> Result<(Key, Rec), DiskFault>
         requires { place ≤ 1048575 }
-        ensures bytes { D.tells_reads → IsPieceOf (D.reads disk.old) self.old → IfOk result (λ write. write ≡ write_at (D.reads disk.old) (write_place place index)) }
-        ensures of_entry { D.tells_reads → IsPieceOf (D.reads disk.old) self.old → index < count_at (D.reads disk.old) place → IfOk result (λ write. slice_get (entry_at (D.reads disk.old) place) index ≡ Some write) }
-        ensures keeps { D.tells_reads → IsPieceOf (D.reads disk.old) self.old → IsPieceOf (D.reads disk.new) self.new }
+        ensures bytes { D.tells_reads → IsPieceOf (D.reads disk.old) self.old
+            → IfOk result (λ write. write ≡ write_at (D.reads disk.old) (write_place place index)) }
+        ensures of_entry { D.tells_reads → IsPieceOf (D.reads disk.old) self.old
+            → index < count_at (D.reads disk.old) place
+            → IfOk result (λ write. slice_get (entry_at (D.reads disk.old) place) index
+            ≡ Some write) }
+        ensures keeps { D.tells_reads → IsPieceOf (D.reads disk.old) self.old
+            → IsPieceOf (D.reads disk.new) self.new }
         ensures only_reads { OnlyReads D.Disk disk.old disk.new }
         ensures cause { HasCause (D.faults disk.old) (D.faults disk.new) result }
     {
@@ -88,10 +127,12 @@ impl LogReader {
     // What stands at a place, or that the disk failed.
     fn answer_at<D: Disk>(&mut self, disk: &mut D, place: u64) -> Result<EntryAnswer, Failed>
         requires { place ≤ 1048575 }
-        ensures tells { D.tells_reads → (content : Files) → HasContent content (D.reads disk.old) self.old → IfOk result (Tells content place) }
+        ensures tells { D.tells_reads → (content : Files)
+            → HasContent content (D.reads disk.old) self.old → IfOk result (Tells content place) }
         ensures in_log { IfOk result (IsInLog place) }
         ensures known { IfOk result (λ answer. answer ≢ EntryAnswer.Disk) }
-        ensures keeps { D.tells_reads → KeepsContent (D.reads disk.old) (D.reads disk.new) self.old self.new }
+        ensures keeps { D.tells_reads
+            → KeepsContent (D.reads disk.old) (D.reads disk.new) self.old self.new }
         ensures only_reads { OnlyReads D.Disk disk.old disk.new }
         ensures cause { HasCause (D.faults disk.old) (D.faults disk.new) result }
     {
@@ -112,8 +153,8 @@ impl LogReader {
         })
     }
 
-    // Whether the keys of the entry at a place rise, and a store can have each. One read covers an entry
-    // that is no longer than a piece.
+    // Whether the keys of the entry at a place rise, and a store can have each. One read covers an
+    // entry that is no longer than a piece.
     fn has_entry_keys<D: Disk>(
         &mut self,
         disk: &mut D,
@@ -121,8 +162,12 @@ impl LogReader {
         count: u16,
     ) -> Result<bool, Failed>
         requires { place ≤ 1048575 }
-        ensures keys { D.tells_reads → (content : Files) → HasContent content (D.reads disk.old) self.old → IfOk result (λ rising. IsTrue rising ↔ AreRisingAbove None (writes_from content (place + 3) count)) }
-        ensures keeps { D.tells_reads → KeepsContent (D.reads disk.old) (D.reads disk.new) self.old self.new }
+        ensures keys { D.tells_reads → (content : Files)
+            → HasContent content (D.reads disk.old) self.old
+            → IfOk result (λ rising. IsTrue rising
+            ↔ AreRisingAbove None (writes_from content (place + 3) count)) }
+        ensures keeps { D.tells_reads
+            → KeepsContent (D.reads disk.old) (D.reads disk.new) self.old self.new }
         ensures only_reads { OnlyReads D.Disk disk.old disk.new }
         ensures cause { HasCause (D.faults disk.old) (D.faults disk.new) result }
     {
@@ -142,7 +187,8 @@ impl LogReader {
     fn bytes_at(&self, at: u64, len: usize) -> &[u8]
         requires { Covers self.now at len }
         ensures len { length result.now ≡ len }
-        ensures bytes { (content : Files) → IsPieceOf content self.now → result.now ≡ log_bytes content at len }
+        ensures bytes { (content : Files) → IsPieceOf content self.now
+            → result.now ≡ log_bytes content at len }
     {
         let from = (at - self.start) as usize;
         &self.bytes[from..from + len]
@@ -153,7 +199,8 @@ impl LogReader {
         requires place { at ≤ 2 ^ 32 }
         requires piece { len ≤ PIECE_BYTES }
         ensures covers { OnOk result (Covers self.new at len) }
-        ensures keeps { D.tells_reads → KeepsContent (D.reads disk.old) (D.reads disk.new) self.old self.new }
+        ensures keeps { D.tells_reads
+            → KeepsContent (D.reads disk.old) (D.reads disk.new) self.old self.new }
         ensures only_reads { OnlyReads D.Disk disk.old disk.new }
         ensures cause { HasCause (D.faults disk.old) (D.faults disk.new) result }
     {
@@ -169,7 +216,8 @@ impl LogReader {
         requires place { at ≤ 2 ^ 32 }
         requires piece { len ≤ PIECE_BYTES }
         ensures covers { OnOk result (Covers self.new at len) }
-        ensures keeps { D.tells_reads → KeepsContent (D.reads disk.old) (D.reads disk.new) self.old self.new }
+        ensures keeps { D.tells_reads
+            → KeepsContent (D.reads disk.old) (D.reads disk.new) self.old self.new }
         ensures only_reads { OnlyReads D.Disk disk.old disk.new }
         ensures cause { HasCause (D.faults disk.old) (D.faults disk.new) result }
     {
@@ -182,8 +230,11 @@ impl LogReader {
     // The key of the record that stands at a place.
     fn key_at<D: Disk>(&mut self, disk: &mut D, at: u64) -> Result<Key, Failed>
         requires place { at ≤ 2 ^ 32 }
-        ensures key { D.tells_reads → (content : Files) → HasContent content (D.reads disk.old) self.old → IfOk result (λ key. key ≡ (write_at content at).0) }
-        ensures keeps { D.tells_reads → KeepsContent (D.reads disk.old) (D.reads disk.new) self.old self.new }
+        ensures key { D.tells_reads → (content : Files)
+            → HasContent content (D.reads disk.old) self.old
+            → IfOk result (λ key. key ≡ (write_at content at).0) }
+        ensures keeps { D.tells_reads
+            → KeepsContent (D.reads disk.old) (D.reads disk.new) self.old self.new }
         ensures only_reads { OnlyReads D.Disk disk.old disk.new }
         ensures cause { HasCause (D.faults disk.old) (D.faults disk.new) result }
     {
@@ -199,8 +250,12 @@ impl LogReader {
         count: u16,
     ) -> Result<bool, Failed>
         requires { start ≤ 1048578 }
-        ensures keys { D.tells_reads → (content : Files) → HasContent content (D.reads disk.old) self.old → IfOk result (λ rising. IsTrue rising ↔ AreRisingAbove None (writes_from content start count)) }
-        ensures keeps { D.tells_reads → KeepsContent (D.reads disk.old) (D.reads disk.new) self.old self.new }
+        ensures keys { D.tells_reads → (content : Files)
+            → HasContent content (D.reads disk.old) self.old
+            → IfOk result (λ rising. IsTrue rising
+            ↔ AreRisingAbove None (writes_from content start count)) }
+        ensures keeps { D.tells_reads
+            → KeepsContent (D.reads disk.old) (D.reads disk.new) self.old self.new }
         ensures only_reads { OnlyReads D.Disk disk.old disk.new }
         ensures cause { HasCause (D.faults disk.old) (D.faults disk.new) result }
     {
@@ -223,7 +278,8 @@ fn is_entry_size(place: u64, count: u16) -> bool
     count > 0 && count <= MOST_WRITES && fits(place, count as usize)
 }
 
-// How many bytes to read from a place on for this many of them: a piece, but for what lies past the log's room.
+// How many bytes to read from a place on for this many of them: a piece, but for what lies past the
+// log's room.
 fn piece_len(at: u64, len: usize) -> usize
     requires { len ≤ PIECE_BYTES }
     ensures enough { len ≤ result }

@@ -11,14 +11,20 @@ use disk_model::Disk;
 use fault_count::Failed;
 use rec_bytes::{LOG, WriteSet};
 
-/// Writes the bytes of an entry that stand after its gate, and a closed gate after them, in pieces of
-/// about 4 KiB. An entry of a few records is one write.
+/// Writes the bytes of an entry that stand after its gate, and a closed gate after them, in pieces
+/// of about 4 KiB. An entry of a few records is one write.
 pub(crate) fn write_payload<D: Disk>(disk: &mut D, at: u64, writes: &WriteSet) -> Result<(), Failed>
     requires few { length writes.now.pairs ≤ 2048 }
     requires within { at + 2 + 69 * length writes.now.pairs ≤ 1048575 }
-    ensures written { D.tells_reads → OnOk result (Holds log_file at (payload_bytes writes.now.pairs ++ 0 ∷ []) (D.reads disk.new)) }
-    ensures elsewhere { D.tells_reads → SameOutside log_file at (3 + 69 * length writes.now.pairs) (D.reads disk.old) (D.reads disk.new) }
-    ensures crash { D.tells_images → AtEachMoment D.Disk disk.old disk.new (IsTornFrom (D.may_leave disk.old) at (3 + 69 * length writes.now.pairs)) }
+    ensures written { D.tells_reads
+        → OnOk result (Holds log_file at (payload_bytes writes.now.pairs ++ 0 ∷ [])
+        (D.reads disk.new)) }
+    ensures elsewhere { D.tells_reads
+        → SameOutside log_file at (3 + 69 * length writes.now.pairs) (D.reads disk.old)
+        (D.reads disk.new) }
+    ensures crash { D.tells_images
+        → AtEachMoment D.Disk disk.old disk.new
+        (IsTornFrom (D.may_leave disk.old) at (3 + 69 * length writes.now.pairs)) }
     ensures whole { OnOk result (AreWhole writes.now.pairs) }
     ensures cause { HasCause (D.faults disk.old) (D.faults disk.new) result }
 {

@@ -1,4 +1,19 @@
-ghost use Rattle.std.specs.Prelude.{◌≡◌, ◌+◌, ◌*◌, ◌-◌, ◌^◌, ◌≤◌, ◌<◌, ◌++◌, [], flat_map, length, take, drop, min};
+ghost use Rattle.std.specs.Prelude.{
+  ◌≡◌,
+  ◌+◌,
+  ◌*◌,
+  ◌-◌,
+  ◌^◌,
+  ◌≤◌,
+  ◌<◌,
+  ◌++◌,
+  [],
+  flat_map,
+  length,
+  take,
+  drop,
+  min,
+};
 ghost use Rattle.byteorder.specs.Endian.{little_bytes};
 ghost use Rattle.redo_log.specs.Appending.{write_bytes, AreWholeFrom};
 
@@ -7,7 +22,8 @@ use byteorder::{ByteOrder, LittleEndian};
 use rec_bytes::{Key, Rec, WriteSet};
 use std::marker::Model;
 
-/// How many records a piece takes. The count before them and a closed gate after them have room too.
+/// How many records a piece takes. The count before them and a closed gate after them have room
+/// too.
 const MOST_IN_PIECE: usize = 59;
 
 /// Bytes that go out in one write. Contracts see the list of them.
@@ -86,12 +102,14 @@ impl Piece {
         self.push(&write.1.bytes);
     }
 
-    /// Adds the records from this one on that have room, and gives the number of the one after them.
+    /// Adds the records from this one on that have room, and gives the number of the one after
+    /// them.
     pub(crate) fn fill(&mut self, writes: &WriteSet, from: usize) -> usize
         requires from { from ≤ length writes.now.pairs }
         requires room { length self.old + 69 * 59 ≤ PIECE_BYTES }
         ensures next { result ≡ from + min 59 (length writes.now.pairs - from) }
-        ensures added { self.new ≡ self.old ++ flat_map write_bytes (take (result - from) (drop from writes.now.pairs)) }
+        ensures added { self.new ≡ self.old ++ flat_map write_bytes
+            (take (result - from) (drop from writes.now.pairs)) }
         ensures length { length self.new ≡ length self.old + 69 * (result - from) }
         ensures whole { AreWholeFrom writes.now.pairs from result }
     {

@@ -12,7 +12,8 @@ use crate::log_reader::LogReader;
 use disk_model::Disk;
 use rec_bytes::{DiskFault, Key, LOG, Rec};
 
-/// What stands at a place of the log. Who reads entry after entry makes one `LogReader` for all of them.
+/// What stands at a place of the log. Who reads entry after entry makes one `LogReader` for all of
+/// them.
 pub fn entry_at<D: Disk>(disk: &mut D, place: u64) -> EntryAnswer
     requires { place ≤ 1048575 }
     ensures tells { D.tells_reads → Tells (D.reads disk.old) place result }
@@ -27,214 +28,14 @@ pub fn entry_at<D: Disk>(disk: &mut D, place: u64) -> EntryAnswer
 /// The record of this index in the entry at a place, with its key. It reads that record alone.
 pub fn write_at<D: Disk>(disk: &mut D, place: u64, index: u16) -> Result<(Key, Rec), DiskFault>
     requires { place ≤ 1048575 }
-    ensures bytes { D.tells_reads → IfOk result (λ write. write ≡ write_at (D.reads disk.old) (write_place place index)) }
-    ensures of_entry { D.tells_reads → index < count_at (D.reads disk.old) place → IfOk result (λ write. slice_get (entry_at (D.reads disk.old) place) index ≡ Some write) }
+    ensures bytes { D.tells_reads
+        → IfOk result (λ write. write ≡ write_at (D.reads disk.old) (write_place place index)) }
+    ensures of_entry { D.tells_reads → index < count_at (D.reads disk.old) place
+        → IfOk result (λ write. slice_get (entry_at (D.reads disk.old) place) index ≡ Some write) }
     ensures only_reads { OnlyReads D.Disk disk.old disk.new }
     ensures cause { HasCause (D.faults disk.old) (D.faults disk.new) result }
 {
     let mut bytes = [0; WRITE_BYTES];
     disk.read(LOG, place_of_write(place, index), &mut bytes)?;
     Ok(write_of(&bytes))
-}
-
-#[cfg(test)]
-mod tests {
-    use super::*;
-    use crate::entry::LAST_PLACE;
-    use disk_model::{FaultPlan, MemoryDisk, PlainDisk, Room};
-    use fault_count::Failed;
-    use std::test::Fail;
-
-    fn key(file: u8, id: u32) -> Key {
-        Key { file, id }
-    }
-
-    // Writes an entry's gate, its count, and for each key the key and the first byte of its record, which is its index.
-    fn put_entry<D: Disk>(
-        disk: &mut D,
-        place: u64,
-        gate: u8,
-        count: u16,
-        keys: &[Key],
-    ) -> Result<(), Failed>
-        requires place { place ≤ 1048575 }
-        requires few { length keys.now ≤ 100 }
-    {
-        let [low, high] = count.to_le_bytes();
-        disk.write(LOG, place, &[gate, low, high])?;
-        for (index, key) in keys.iter().enumerate() {
-            let [a, b, c, d] = key.id.to_le_bytes();
-            let at = place + 3 + 69 * index as u64;
-            disk.write(LOG, at, &[key.file, a, b, c, d, index as u8])?;
-        }
-        Ok(())
-    }
-
-    #[test]
-    fn tells_what_stands_at_a_place(rt: HostRuntime) -> Result<(), Fail> {
-        let damaged = |place| EntryAnswer::Damaged { place };
-        let cases: [(&str, u64, u8, u16, &[Key], EntryAnswer); 14] = [
-            ("a closed gate", 0, 0, 1, &[key(1, 5)], EntryAnswer::End),
-            (
-                "another closed gate",
-                0,
-                7,
-                1,
-                &[key(1, 5)],
-                EntryAnswer::End,
-            ),
-            (
-                "one record",
-                0,
-                1,
-                1,
-                &[key(1, 5)],
-                EntryAnswer::Entry { count: 1, next: 72 },
-            ),
-            (
-                "the greatest key",
-                9,
-                1,
-                1,
-                &[key(6, 0x1ff_ffff)],
-                EntryAnswer::Entry { count: 1, next: 81 },
-            ),
-            (
-                "three",
-                0,
-                1,
-                3,
-                &[key(1, 7), key(1, 8), key(2, 0)],
-                EntryAnswer::Entry {
-                    count: 3,
-                    next: 210,
-                },
-            ),
-            ("no record", 0, 1, 0, &[], damaged(0)),
-            ("too many", 0, 1, 2_049, &[], damaged(0)),
-            ("no file", 0, 1, 1, &[key(7, 5)], damaged(0)),
-            ("no number", 0, 1, 1, &[key(1, 1 << 25)], damaged(0)),
-            ("a key twice", 0, 1, 2, &[key(1, 5), key(1, 5)], damaged(0)),
-            ("falling keys", 0, 1, 2, &[key(2, 0), key(1, 5)], damaged(0)),
-            (
-                "falling at the end",
-                3,
-                1,
-                3,
-                &[key(1, 1), key(1, 3), key(1, 2)],
-                damaged(3),
-            ),
-            (
-                "up to the end of the log",
-                1_048_503,
-                1,
-                1,
-                &[key(1, 5)],
-                EntryAnswer::Entry {
-                    count: 1,
-                    next: LAST_PLACE,
-                },
-            ),
-            (
-                "past the end of the log",
-                1_048_504,
-                1,
-                1,
-                &[key(1, 5)],
-                damaged(1_048_504),
-            ),
-        ];
-        for (name, place, gate, count, keys, wanted) in cases {
-            assert!(rt; place <= LAST_PLACE && keys.len() <= 3);
-            let mut disk = PlainDisk::new(rt.alloc(), 16)?;
-            put_entry(&mut disk, place, gate, count, keys)?;
-            assert_eq!(rt; entry_at(&mut disk, place), wanted, "{name}");
-        }
-        Ok(())
-    }
-
-    #[test]
-    fn gives_the_record_of_an_index(rt: HostRuntime) -> Result<(), Fail> {
-        let keys = [key(1, 5), key(3, 0x0b_0a09)];
-        let mut wanted = Rec::ZEROS;
-        wanted.set_byte(0, 1);
-        let mut disk = PlainDisk::new(rt.alloc(), 16)?;
-        put_entry(&mut disk, 7, 1, 2, &keys)?;
-        assert_eq!(rt; write_at(&mut disk, 7, 1)?, (keys[1], wanted));
-        assert_eq!(rt; write_at(&mut disk, 7, 0)?, (keys[0], Rec::ZEROS));
-        Ok(())
-    }
-
-    #[test]
-    fn answers_that_the_disk_failed(rt: HostRuntime) -> Result<(), Fail> {
-        let room = Room {
-            calls: 4,
-            bytes: 16,
-        };
-        let plan = FaultPlan {
-            fails: Vec::new(rt.alloc()),
-            stop: Some(1),
-        };
-        let mut disk = MemoryDisk::new(rt.alloc(), 16, room, plan)?;
-        assert_eq!(rt; entry_at(&mut disk, 0), EntryAnswer::Disk);
-        assert_eq!(rt; write_at(&mut disk, 0, 0), Err(Failed));
-        Ok(())
-    }
-
-    #[test]
-    fn a_reader_makes_one_call_for_a_piece(rt: HostRuntime) -> Result<(), Fail> {
-        // Two entries of one record each are written by the calls 1 to 4, so a second read would be the call 6.
-        let room = Room {
-            calls: 4,
-            bytes: 32,
-        };
-        let plan = FaultPlan {
-            fails: Vec::new(rt.alloc()),
-            stop: Some(6),
-        };
-        let mut disk = MemoryDisk::new(rt.alloc(), 16, room, plan)?;
-        put_entry(&mut disk, 0, 1, 1, &[key(1, 5)])?;
-        put_entry(&mut disk, 72, 1, 1, &[key(2, 6)])?;
-        let mut reader = LogReader::new();
-        assert_eq!(rt;
-            reader.entry_at(&mut disk, 0),
-            EntryAnswer::Entry { count: 1, next: 72 }
-        );
-        assert_eq!(rt; reader.write_at(&mut disk, 0, 0)?, (key(1, 5), Rec::ZEROS));
-        assert_eq!(rt;
-            reader.entry_at(&mut disk, 72),
-            EntryAnswer::Entry {
-                count: 1,
-                next: 144
-            }
-        );
-        assert_eq!(rt; reader.write_at(&mut disk, 72, 0)?, (key(2, 6), Rec::ZEROS));
-        assert_eq!(rt; reader.entry_at(&mut disk, 144), EntryAnswer::End);
-        assert_eq!(rt; reader.entry_at(&mut disk, 4_096), EntryAnswer::Disk);
-        Ok(())
-    }
-
-    #[test]
-    fn reads_an_entry_of_several_pieces(rt: HostRuntime) -> Result<(), Fail> {
-        let mut disk = PlainDisk::new(rt.alloc(), 16)?;
-        let mut keys = [key(1, 0); 100];
-        for index in 0..100 {
-            keys[index].id = index as u32;
-        }
-        put_entry(&mut disk, 0, 1, 100, &keys)?;
-        let mut reader = LogReader::new();
-        assert_eq!(rt;
-            reader.entry_at(&mut disk, 0),
-            EntryAnswer::Entry {
-                count: 100,
-                next: 6_903
-            }
-        );
-        assert_eq!(rt; reader.write_at(&mut disk, 0, 99)?.0, key(1, 99));
-        assert_eq!(rt; reader.write_at(&mut disk, 0, 0)?.0, key(1, 0));
-        keys[80].id = 79;
-        put_entry(&mut disk, 0, 1, 100, &keys)?;
-        assert_eq!(rt; entry_at(&mut disk, 0), EntryAnswer::Damaged { place: 0 });
-        Ok(())
-    }
 }

@@ -1,4 +1,3 @@
 pub mod LinkPlaces
 pub mod RelRecords
 pub mod Rows
-pub mod UnknownKinds

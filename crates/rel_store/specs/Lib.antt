@@ -1,3 +1,4 @@
 pub mod Linked
 pub mod Loading
 pub mod RelRecord
+pub mod RowKinds

@@ -1,6 +1,5 @@
 -- The record of a relationship, and the row that it is.
-use Rattle.std.specs.Prelude.{ℕ, nat_eq, if◌then◌else◌, List, [], ◌∷◌, Option, None, Some, Result}
-use Rattle.std.specs.Prelude.{Ok, Err}
+use Rattle.std.specs.Prelude.{ℕ, Bool, nat_eq, List, [], ◌∷◌}
 use Rattle.rec_bytes.specs.declared.damage.Damage.{Damage}
 use Rattle.rec_bytes.specs.declared.key.Key.{Key}
 use Rattle.rec_bytes.specs.declared.record.Rec.{Rec}
@@ -8,13 +7,16 @@ use Rattle.rec_bytes.specs.Format as format
 use Rattle.rec_bytes.specs.Record.{field, zeros}
 use Rattle.rec_bytes.specs.Tables.{Fields, with_fields}
 use Rattle.store_rules.specs.Ranges.{Range, bytes_of}
-use Rattle.rec_bytes.specs.declared.row_fault.RowFault.{RowFault}
-use Rattle.rec_bytes.specs.declared.row_fault.RowFault.TheVariants.{Damaged}
+use Rattle.row_store.specs.Loading as rows
 use Rattle.rel_store.specs.declared.edge_row.EdgeRow.{EdgeRow}
 use Rattle.rel_store.specs.declared.rel_row.RelRow.{RelRow}
 
 abbrev pub rel_key : ℕ → Key
 rel_key id = record { file = format.relationships_file; id = id }
+
+-- the relationship's record breaks the first rule
+abbrev pub range_damage : ℕ → Damage
+range_damage id = rows.range_damage format.relationships_file id
 
 -- the numbers of the record, each with its place and its width
 abbrev pub rel_fields : RelRow → Fields
@@ -57,15 +59,6 @@ edge_of rec id = record {
   to = field 4 rec format.relationship_target;
 }
 
-abbrev pub range_damage : ℕ → Damage
-range_damage id = record { file = format.relationships_file; id = id; rule = 1 }
-
--- what a record says by its kind: no relationship, a relationship, or that it is damaged
-abbrev pub row_by : ℕ → Rec → ℕ → Result (Option RelRow) RowFault
-row_by kind rec id =
-    if nat_eq kind format.free_kind then Ok None
-    else (if nat_eq kind format.related
-    then Ok (Some (row_of rec id)) else Err (Damaged (range_damage id)))
-
-abbrev pub read_row : Rec → ℕ → Result (Option RelRow) RowFault
-read_row rec id = row_by (field 1 rec format.kind) rec id
+-- the kind of a relationship
+abbrev pub is_rel_kind : ℕ → Bool
+is_rel_kind kind = nat_eq kind format.related

@@ -9,6 +9,7 @@ mod links;
 mod loading;
 mod rel_record;
 mod rel_row;
+mod rel_row_impl;
 mod saving;
 
 pub use edge_row::EdgeRow;

@@ -5,13 +5,11 @@ ghost use Rattle.rel_store.specs.Loading.{after_load, row_at, IsKnown, IsReadabl
 ghost use Rattle.rel_store.specs.RelRecord.{rel_key};
 
 use crate::RelRow;
-use crate::rel_record::{RANGE_RULE, read_row};
-use rec_bytes::{Damage, Key, META, RELATIONSHIPS, Reads, RowFault, room_of};
+use rec_bytes::{Reads, RowFault};
 
 /// Reads the relationship of an identifier. It is none where the identifier isn't live. A record of
 /// an unknown kind is damaged, and so is the meta record of the relationships where it counts the
 /// identifier and there is no room for it.
-#[tactic(auto, unfolding(store_rules::specs::Views::kind_in))]
 pub fn load<R: Reads>(space: &mut R, id: u32) -> Result<Option<RelRow>, RowFault>
     ensures found { R.tells → IfOk result (λ row. row ≡ row_at (R.state space.old).records id) }
     ensures damaged { R.tells → IfErr result (IsRelFault (R.state space.old) id) }
@@ -22,25 +20,5 @@ pub fn load<R: Reads>(space: &mut R, id: u32) -> Result<Option<RelRow>, RowFault
     ensures onward { R.onward space.old space.new }
     ensures cause { HasRowCause (R.faults space.old) (R.faults space.new) result }
 {
-    if id >= space.meta(RELATIONSHIPS).high {
-        return Ok(None);
-    }
-    // A damaged mark may be so high that no record has the identifier.
-    if id as u64 >= room_of(RELATIONSHIPS, space.shape()) {
-        return Err(RowFault::Damaged(Damage {
-            file: META,
-            id: RELATIONSHIPS as u32,
-            rule: RANGE_RULE,
-        }));
-    }
-    match space.get(Key {
-        file: RELATIONSHIPS,
-        id,
-    }) {
-        Ok(rec) => read_row(&rec, id),
-        Err(_) => Err(RowFault::Disk),
-    }
+    row_store::load(space, id)
 }
-
-#[cfg(test)]
-mod tests;

@@ -1,17 +1,13 @@
 ghost use Rattle.std.specs.Prelude.{◌≡◌};
-ghost use Rattle.rel_store.specs.RelRecord.{read_row, rel_record, row_of, rel_used};
+ghost use Rattle.rel_store.specs.RelRecord.{rel_record, row_of, rel_used};
 ghost use Rattle.store_rules.specs.Ranges.{IsBlankOutside};
 
 use crate::RelRow;
 use rec_bytes::{
-    Damage, FREE, KIND, RELATED, RELATIONSHIP_FIRST_PROPERTY, RELATIONSHIP_SOURCE,
-    RELATIONSHIP_SOURCE_NEXT, RELATIONSHIP_SOURCE_PREVIOUS, RELATIONSHIP_TARGET,
-    RELATIONSHIP_TARGET_NEXT, RELATIONSHIP_TARGET_PREVIOUS, RELATIONSHIP_TYPE, RELATIONSHIPS, Rec,
-    RowFault,
+    KIND, RELATED, RELATIONSHIP_FIRST_PROPERTY, RELATIONSHIP_SOURCE, RELATIONSHIP_SOURCE_NEXT,
+    RELATIONSHIP_SOURCE_PREVIOUS, RELATIONSHIP_TARGET, RELATIONSHIP_TARGET_NEXT,
+    RELATIONSHIP_TARGET_PREVIOUS, RELATIONSHIP_TYPE, Rec,
 };
-
-/// The rule that a record's kind and its numbers are ones that may stand there.
-pub(crate) const RANGE_RULE: u8 = 1;
 
 /// The record of a relationship, with zeros in all other bytes.
 #[tactic(auto, unfolding(rec_bytes::specs::Tables::with_fields))]
@@ -33,26 +29,8 @@ pub(crate) fn rel_record(row: &RelRow) -> Rec
     rec
 }
 
-/// The row of a record of the relationships, by its kind: none where it is free.
-pub(crate) fn read_row(rec: &Rec, id: u32) -> Result<Option<RelRow>, RowFault>
-    ensures { result ≡ read_row rec.now id }
-{
-    let kind = rec.byte(KIND);
-    if kind == FREE {
-        Ok(None)
-    } else if kind == RELATED {
-        Ok(Some(row_of(rec, id)))
-    } else {
-        Err(RowFault::Damaged(Damage {
-            file: RELATIONSHIPS,
-            id,
-            rule: RANGE_RULE,
-        }))
-    }
-}
-
 /// The fields of a relationship's record.
-fn row_of(rec: &Rec, id: u32) -> RelRow
+pub(crate) fn row_of(rec: &Rec, id: u32) -> RelRow
     ensures { result ≡ row_of rec.now id }
 {
     RelRow {

@@ -5,8 +5,7 @@ ghost use Rattle.store_rules.specs.Ranges.{IsBlankOutside};
 ghost use Rattle.rel_store.specs.RelRecord.{rel_key, rel_record, rel_used, row_of};
 
 use crate::RelRow;
-use crate::rel_record::rel_record;
-use rec_bytes::{Key, RELATIONSHIPS, Space, SpaceFault};
+use rec_bytes::{Space, SpaceFault};
 
 /// Writes the record that the row is.
 pub fn save<S: Space>(space: &mut S, row: &RelRow) -> Result<(), SpaceFault>
@@ -22,9 +21,5 @@ pub fn save<S: Space>(space: &mut S, row: &RelRow) -> Result<(), SpaceFault>
     ensures onward { S.onward space.old space.new }
     ensures cause { HasCause (S.faults space.old) (S.faults space.new) result }
 {
-    let key = Key {
-        file: RELATIONSHIPS,
-        id: row.id,
-    };
-    space.put(key, rel_record(row))
+    row_store::save(space, row)
 }

@@ -1,17 +1,16 @@
 -- A record that breaks a rule shows that the store doesn't keep it, and the rules together are a
 -- well-formed store.
-use Rattle.std.proofs.Common.{◌≡◌, ℕ, ◌≤◌, List, arith, refl}
+use Rattle.std.proofs.Common.{ℕ, ◌≤◌, List, arith, refl}
 use Rattle.rec_bytes.specs.declared.damage.Damage.{Damage}
 use Rattle.rec_bytes.specs.declared.shape.Shape.{Shape}
 use Rattle.rec_bytes.specs.Format as format
 use Rattle.store_rules.specs.Rules as rules
 use Rattle.store_rules.specs.Views.{Records, is_live}
-use Rattle.store_check.specs.declared.verdict.Verdict.{Verdict}
-use Rattle.store_check.specs.declared.verdict.Verdict.TheVariants.{Sound, Broken}
 use Rattle.store_check.specs.Breaking.{Breaks, HasFreeList, Keeps}
-use Rattle.store_check.specs.Breaking.Breaks.{FreeList, GroupChains, GroupOwner, MetaRange, NameCount, NodeChain, OffFreeList, OwnRecord, OwnerGroups, RecordRange, RelEnds, WrongBlock, WrongDegree, WrongElement, WrongHolding, WrongName, WrongText}
-use Rattle.store_check.specs.Verdicts.{VerdictIs}
+use Rattle.store_check.specs.Breaking.Breaks.{FreeList, GroupChains, GroupOwner, NameCount, NodeChain, OffFreeList, OwnRecord, OwnerGroups, RecordRange, RelEnds, UsedIndex, WrongBlock, WrongDegree, WrongElement, WrongHolding, WrongMeta, WrongName, WrongText}
+use Rattle.store_rules.proofs.RangeLaws.{formed_of, ranges_of, unindexed_of}
 use Rattle.store_check.proofs.ElementLaws.{label_kept}
+use Rattle.store_check.proofs.FileLaws.{metas_right}
 use Rattle.store_check.proofs.GroupChainLaws.{member_keeps, owner_keeps}
 use Rattle.store_check.proofs.HoldingRule.{block_kept, element_list, held_kept, text_kept}
 use Rattle.store_check.proofs.LinkedLaws.{group_keeps, node_keeps, rel_keeps}
@@ -22,9 +21,9 @@ module _ (records : Records) (shape : Shape) where
   free_kept file free s = record { members = free; list = record { walk = s.walk; low = s.low; only = s.only }; exact = s.exact }
 
   pub not_kept : (d : Damage) → Breaks records shape d → ¬ Keeps records shape d.rule
-  not_kept d (OwnRecord bad) k = bad k.own
-  not_kept d (MetaRange file is bad) k = bad (k.metas file is)
-  not_kept d (RecordRange file x is lt bad) k = bad (k.fit file x is lt)
+  not_kept d (OwnRecord bad) k = bad (record { own = k.own; newest = k.newest })
+  not_kept d (WrongMeta id lt bad) k = bad (metas_right records shape k id lt)
+  not_kept d (RecordRange file x is lt other bad) k = bad (k.fit file x is lt other)
   not_kept d (FreeList file is bad) k = let s = k.split file is in bad (free_kept file s.0 s.1)
   not_kept d (OffFreeList file x is lt free bad) k =
       let s = k.split file is in
@@ -41,10 +40,11 @@ module _ (records : Records) (shape : Shape) where
   not_kept d (WrongBlock b bad) k = bad (block_kept records k b)
   not_kept d (WrongName x lt bad) k = bad (name_keeps records k x lt)
   not_kept d (WrongDegree n lt bad) k = bad (record { exact = λ live. k.each n live; few = λ is. k.few n is })
+  not_kept d (UsedIndex x lt bad) k = bad (k x)
 
   -- ---- all rules
 
-  pub is_store : ((n : ℕ) → 1 ≤ n → n ≤ 7 → Keeps records shape n) → rules.IsWellFormed records shape
+  pub is_store : ((n : ℕ) → 1 ≤ n → n ≤ 8 → Keeps records shape n) → rules.IsWellFormed records shape
   is_store all =
       let ranges : Keeps records shape 1 = all 1 (omega arith) (omega arith) in
       let split : Keeps records shape 2 = all 2 (omega arith) (omega arith) in
@@ -53,8 +53,9 @@ module _ (records : Records) (shape : Shape) where
       let properties : Keeps records shape 5 = all 5 (omega arith) (omega arith) in
       let names : Keeps records shape 6 = all 6 (omega arith) (omega arith) in
       let degrees : Keeps records shape 7 = all 7 (omega arith) (omega arith) in
+      let unused : Keeps records shape 8 = all 8 (omega arith) (omega arith) in
       record {
-        ranges = ranges;
+        ranges = ranges_of records shape ranges unused;
         split = split.split;
         kept = split.kept;
         linked = linked;
@@ -66,9 +67,9 @@ module _ (records : Records) (shape : Shape) where
       }
 
   pub rules_of : rules.IsWellFormed records shape → (d : Damage) → Breaks records shape d → Keeps records shape d.rule
-  rules_of s d (OwnRecord bad) = s.ranges
-  rules_of s d (MetaRange file is bad) = s.ranges
-  rules_of s d (RecordRange file x is lt bad) = s.ranges
+  rules_of s d (OwnRecord bad) = formed_of records shape s.ranges
+  rules_of s d (WrongMeta id lt bad) = formed_of records shape s.ranges
+  rules_of s d (RecordRange file x is lt other bad) = formed_of records shape s.ranges
   rules_of s d (FreeList file is bad) = record { split = s.split; kept = s.kept }
   rules_of s d (OffFreeList file x is lt free bad) = record { split = s.split; kept = s.kept }
   rules_of s d (NameCount bad) = record { split = s.split; kept = s.kept }
@@ -83,12 +84,4 @@ module _ (records : Records) (shape : Shape) where
   rules_of s d (WrongBlock b bad) = record { properties = s.properties; named = s.named }
   rules_of s d (WrongName x lt bad) = s.names
   rules_of s d (WrongDegree n lt bad) = s.degrees
-
-  -- so a verdict is Sound exactly where the store is well formed
-  pub sound_of : (v : Verdict) → VerdictIs records shape 1 7 v → v ≡ Sound → rules.IsWellFormed records shape
-  sound_of Sound h e = is_store h
-  sound_of (Broken d) h e = absurd cc
-
-  pub is_sound : (v : Verdict) → VerdictIs records shape 1 7 v → rules.IsWellFormed records shape → v ≡ Sound
-  is_sound Sound h s = refl
-  is_sound (Broken d) h s = absurd (not_kept d h.breaks (rules_of s d h.breaks))
+  rules_of s d (UsedIndex x lt bad) = unindexed_of records shape s.ranges

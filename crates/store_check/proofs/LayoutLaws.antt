@@ -48,3 +48,8 @@ free_is file r meta other e = rw (e, meta, eq_false file format.names_file other
 
 pub used_is : (file : ℕ) (r : Rec) → field 1 r format.kind ≢ 0 → ranges.layout_of file r ≡ ranges.used_layout file r (field 1 r format.kind)
 used_is file r ne = rw (eq_false (field 1 r format.kind) 0 ne) refl
+
+-- a record that was to fit, and doesn't
+pub unfit : (b : Bool) (P : Type 0) → ¬ (b ≡ false → P) → (b ≡ false) × (¬ P)
+unfit true P bad = absurd (bad (λ e. absurd (true≢false e)))
+unfit false P bad = (refl, λ p. bad (λ _. p))

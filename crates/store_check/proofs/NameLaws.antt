@@ -13,10 +13,10 @@ use Rattle.store_check.specs.Breaking.{NameKeeps}
 use Rattle.store_check.specs.Breaking.Breaks.{WrongName}
 use Rattle.store_check.specs.Verdicts.{BreaksRule}
 
-pub name_breaks : (records : Records) (shape : Shape) (d : Damage) → ranges.AreInRange records shape → IsNameDamage records d → BreaksRule records shape 6 d
+pub name_breaks : (records : Records) (shape : Shape) (d : Damage) → ranges.AreFormed records shape → IsNameDamage records d → BreaksRule records shape 6 d
 name_breaks records shape d keeps (HighMark past) = let meta = keeps.metas format.names_file refl in let low = meta.high in absurd (omega arith)
 name_breaks records shape d keeps (WrongForm x lt bad) =
-    let f = keeps.fit format.names_file x refl lt in
+    let f = keeps.fit format.names_file x refl lt refl in
     absurd (none_some f.layout (sym bad ∙ f.is))
   where
     none_some : (l : ranges.Layout) → None ≡ Some l → ⊥

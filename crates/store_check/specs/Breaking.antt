@@ -5,13 +5,13 @@ use Rattle.plain_graph.specs.Names.{IsShortName}
 use Rattle.rec_bytes.specs.declared.damage.Damage.{Damage}
 use Rattle.rec_bytes.specs.declared.shape.Shape.{Shape}
 use Rattle.rec_bytes.specs.Format as format
-use Rattle.rec_bytes.specs.Meta.{IsMetaInRange}
-use Rattle.rec_bytes.specs.RecordFiles.{is_meta_file, meta_key_of, room_of}
+use Rattle.rec_bytes.specs.MetaForm.{IsMetaRight}
+use Rattle.rec_bytes.specs.RecordFiles.{is_meta_file, meta_key_of}
 use Rattle.rec_bytes.specs.Record.{field}
-use Rattle.rec_bytes.specs.Shape.{shape_of_record}
+use Rattle.rec_bytes.specs.Shape.{shape_of_record, version_of}
 use Rattle.rec_bytes.specs.Space.{meta_in}
 use Rattle.store_rules.specs.Chains.{In, IsChain, IsWalk, next_in, prev_in}
-use Rattle.store_rules.specs.Ranges.{AreInRange, Fits, is_reused}
+use Rattle.store_rules.specs.Ranges.{AreFormed, Fits, is_indexed, is_reused}
 use Rattle.store_rules.specs.Rows.{ids}
 use Rattle.store_rules.specs.Rules as rules
 use Rattle.store_rules.specs.Views.{GroupRow, RelRow, Records, degree, first_link, group_at, high}
@@ -36,7 +36,7 @@ pub record AreProperties (records : Records) : Type 0 where
 -- the rule of this number
 abbrev pub Keeps : Records → Shape → ℕ → Type 0
 Keeps records shape zero = Unit {0}
-Keeps records shape (suc zero) = AreInRange records shape
+Keeps records shape (suc zero) = AreFormed records shape
 Keeps records shape (suc (suc zero)) = AreSplit records
 Keeps records shape (suc (suc (suc zero))) =
     rules.IsLinked records (kind_at records format.nodes_file) (rel_at records) (group_at records)
@@ -49,9 +49,21 @@ Keeps records shape (suc (suc (suc (suc (suc (suc zero)))))) =
 Keeps records shape (suc (suc (suc (suc (suc (suc (suc zero))))))) =
     rules.AreCounted (kind_at records format.nodes_file) (degree records) (rel_at records)
     (high records format.relationships_file) shape.threshold
-Keeps records shape (suc (suc (suc (suc (suc (suc (suc (suc n)))))))) = Unit {0}
+Keeps records shape (suc (suc (suc (suc (suc (suc (suc (suc zero)))))))) =
+    rules.HasNoIndex records
+Keeps records shape (suc (suc (suc (suc (suc (suc (suc (suc (suc n))))))))) = Unit {0}
 
 -- ---- what each rule says of one record
+
+-- the first rule of the store's own record: it says the shape, and the newest version
+pub record IsOwnRight (records : Records) (shape : Shape) : Type 0 where
+  pub own : shape_of_record (records (meta_key_of format.meta_file)) ≡ Some shape
+  pub newest : version_of (records (meta_key_of format.meta_file)) ≡ format.newest_version
+
+-- the first rule of another record of the meta file
+abbrev pub IsMetaKept : Records → Shape → ℕ → Type 0
+IsMetaKept records shape id =
+    IsMetaRight format.newest_version shape id (records (meta_key_of id))
 
 -- The free list of a file is these: a walk, of records below the mark that are not in use.
 pub record IsFreeList (records : Records) (file : ℕ) (free : List ℕ) : Type 0 where
@@ -292,12 +304,12 @@ damage file id rule = record { file = file; id = id; rule = rule }
 
 -- The record breaks the rule: what the rule says of it is false.
 pub data Breaks (records : Records) (shape : Shape) : Damage → Type 0 where
-  OwnRecord : shape_of_record (records (meta_key_of format.meta_file)) ≢ Some shape
+  OwnRecord : ¬ IsOwnRight records shape
       → Breaks records shape (damage format.meta_file format.own_id 1)
-  MetaRange : (file : ℕ) → is_meta_file file ≡ true
-      → ¬ IsMetaInRange (room_of shape file) (records (meta_key_of file))
-      → Breaks records shape (damage format.meta_file file 1)
+  WrongMeta : (id : ℕ) → id < format.meta_records → ¬ IsMetaKept records shape id
+      → Breaks records shape (damage format.meta_file id 1)
   RecordRange : (file x : ℕ) → is_meta_file file ≡ true → x < high records file
+      → is_indexed file (rec_at records file x) ≡ false
       → ¬ Fits (high records) file (rec_at records file x)
       → Breaks records shape (damage file x 1)
   FreeList : (file : ℕ) → is_reused file ≡ true → ¬ HasFreeList records file
@@ -330,3 +342,6 @@ pub data Breaks (records : Records) (shape : Shape) : Damage → Type 0 where
   WrongDegree : (n : ℕ) → n < high records format.nodes_file
       → ¬ DegreeKeeps records shape.threshold n
       → Breaks records shape (damage format.nodes_file n 7)
+  UsedIndex : (x : ℕ) → x < high records format.index_file
+      → kind_at records format.index_file x ≢ format.free_kind
+      → Breaks records shape (damage format.index_file x 8)

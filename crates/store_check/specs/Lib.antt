@@ -1,5 +1,4 @@
 pub mod Breaking
-pub mod CheckFault
 pub mod Degrees
 pub mod Elements
 pub mod Fitting
@@ -15,4 +14,5 @@ pub mod Marks
 pub mod NodeChains
 pub mod Pieces
 pub mod Texts
+pub mod Unused
 pub mod Verdicts

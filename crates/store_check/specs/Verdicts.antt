@@ -29,12 +29,6 @@ pub record IsLeastBroken (records : Records) (shape : Shape) (from : ℕ) (damag
   pub lesser : (n : ℕ) → from ≤ n → n < damage.rule → Keeps records shape n
   pub breaks : Breaks records shape damage
 
--- of the rules from one on up to another all are kept, or all below the least one that is broken
-abbrev pub VerdictIs : Records → Shape → ℕ → ℕ → Verdict → Type 0
-VerdictIs records shape from last Sound =
-    (n : ℕ) → from ≤ n → n ≤ last → Keeps records shape n
-VerdictIs records shape from last (Broken damage) = IsLeastBroken records shape from damage
-
 -- a verdict that a rule is broken names the least such rule and a record that breaks it
 abbrev pub BrokenIs : Records → Shape → Verdict → Type 0
 BrokenIs records shape Sound = Unit {0}

@@ -40,15 +40,12 @@ use crate::line::{Line, follow};
 use crate::marks::no_marks;
 use crate::sentence::{Sentence, find_false};
 use rec_bytes::{
-    DENSE, Damage, FREE, GROUP_FIRST_IN, GROUP_FIRST_OUT, GROUP_OWNER, GROUP_TYPE, GROUPS, KIND,
-    Key, NODE_FIRST_LINK, NODES, RELATIONSHIP_SOURCE, RELATIONSHIP_SOURCE_PREVIOUS,
+    CHAIN_RULE, DENSE, Damage, FREE, GROUP_FIRST_IN, GROUP_FIRST_OUT, GROUP_OWNER, GROUP_TYPE,
+    GROUPS, KIND, Key, NODE_FIRST_LINK, NODES, RELATIONSHIP_SOURCE, RELATIONSHIP_SOURCE_PREVIOUS,
     RELATIONSHIP_TARGET, RELATIONSHIP_TARGET_PREVIOUS, RELATIONSHIP_TYPE, RELATIONSHIPS, Reads,
     Rec, SPARSE, SpaceFault,
 };
 use std::alloc::Global;
-
-/// The number of the rule.
-const CHAIN_RULE: u8 = 3;
 
 /// The place of the previous link that a chain of the node uses.
 fn place_of(rec: &Rec, node: u32) -> u8
@@ -127,7 +124,6 @@ fn ends_of<R: Reads>(
         (λ ends. ends.items ≡ map (end_of (R.state space.old).records node) ids.now) }
     ensures low { IfOk result (λ ends. All (λ x. x < 2 * high) ends.items) }
     ensures same { (R.state space.new).records ≡ (R.state space.old).records }
-    ensures shape { (R.state space.new).shape ≡ (R.state space.old).shape }
     ensures written { (R.state space.new).written ≡ (R.state space.old).written }
     ensures onward { R.onward space.old space.new }
     ensures cause { HasCause (R.faults space.old) (R.faults space.new) result }
@@ -163,7 +159,6 @@ fn chain_ends<R: Reads>(
         (EndsFound (R.state space.old).records high line.now.side line.now.node first) }
     ensures low { IfOk result (FoundBelow (2 * high)) }
     ensures same { (R.state space.new).records ≡ (R.state space.old).records }
-    ensures shape { (R.state space.new).shape ≡ (R.state space.old).shape }
     ensures written { (R.state space.new).written ≡ (R.state space.old).written }
     ensures onward { R.onward space.old space.new }
     ensures cause { HasCause (R.faults space.old) (R.faults space.new) result }
@@ -271,7 +266,6 @@ fn end_holds<R: Reads>(space: &mut R, id: u32, met: bool) -> Result<bool, SpaceF
     ensures holds { R.tells
         → IfOk result (λ holds. Decides holds (EndHolds (R.state space.old).records id met)) }
     ensures same { (R.state space.new).records ≡ (R.state space.old).records }
-    ensures shape { (R.state space.new).shape ≡ (R.state space.old).shape }
     ensures written { (R.state space.new).written ≡ (R.state space.old).written }
     ensures onward { R.onward space.old space.new }
     ensures cause { HasCause (R.faults space.old) (R.faults space.new) result }
@@ -346,7 +340,6 @@ fn find_loose<R: Reads>(space: &mut R, marks: &[bool]) -> Result<Option<u32>, Sp
         (λ x. (x < high (R.state space.old).records relationships_file)
         × (¬ RelHolds (R.state space.old).records marks.now x))) }
     ensures same { (R.state space.new).records ≡ (R.state space.old).records }
-    ensures shape { (R.state space.new).shape ≡ (R.state space.old).shape }
     ensures written { (R.state space.new).written ≡ (R.state space.old).written }
     ensures onward { R.onward space.old space.new }
     ensures cause { HasCause (R.faults space.old) (R.faults space.new) result }
@@ -378,7 +371,6 @@ fn mark_ends<R: Reads>(
         (BreaksRule (R.state space.old).records (R.state space.old).shape 3)) }
     ensures len { length marks.new ≡ length marks.old }
     ensures same { (R.state space.new).records ≡ (R.state space.old).records }
-    ensures shape { (R.state space.new).shape ≡ (R.state space.old).shape }
     ensures written { (R.state space.new).written ≡ (R.state space.old).written }
     ensures onward { R.onward space.old space.new }
     ensures cause { HasCause (R.faults space.old) (R.faults space.new) result }
@@ -423,7 +415,6 @@ fn check_marked<R: Reads>(
     ensures decided { R.tells → IfOk result
         (DecidesRule (R.state space.old).records (R.state space.old).shape 3) }
     ensures same { (R.state space.new).records ≡ (R.state space.old).records }
-    ensures shape { (R.state space.new).shape ≡ (R.state space.old).shape }
     ensures written { (R.state space.new).written ≡ (R.state space.old).written }
     ensures onward { R.onward space.old space.new }
     ensures cause { HasCause (R.faults space.old) (R.faults space.new) result }
@@ -456,7 +447,6 @@ pub(crate) fn check_chains<R: Reads>(
     ensures decided { R.tells → IfOk result
         (DecidesRule (R.state space.old).records (R.state space.old).shape 3) }
     ensures same { (R.state space.new).records ≡ (R.state space.old).records }
-    ensures shape { (R.state space.new).shape ≡ (R.state space.old).shape }
     ensures written { (R.state space.new).written ≡ (R.state space.old).written }
     ensures onward { R.onward space.old space.new }
     ensures cause { HasCause (R.faults space.old) (R.faults space.new) result }

@@ -1,150 +1,58 @@
 //! One rule after another: the first that is broken ends the check.
 
-ghost use Rattle.std.specs.Prelude.{◌≡◌, IfOk};
+ghost use Rattle.std.specs.Prelude.{◌≡◌, ◌<◌, ◌≤◌, IfNone, IfOk};
+ghost use Rattle.rec_bytes.specs.RuleNumbers.{index_rule, range_rule};
 ghost use Rattle.rec_bytes.specs.Space.{HasCause, SameButReads};
-ghost use Rattle.store_rules.specs.Ranges.{AreInRange};
+ghost use Rattle.store_rules.specs.Ranges.{AreFormed};
 ghost use Rattle.store_rules.specs.Rules.{IsWellFormed};
-ghost use Rattle.store_check.specs.CheckFault.{HasCheckCause};
-ghost use Rattle.store_check.specs.Verdicts.{AreMarksLow, BrokenIs, VerdictIs};
+ghost use Rattle.store_check.specs.Verdicts.{AreMarksLow, BrokenIs, DecidesRule};
 
+use crate::Verdict;
 use crate::chains::check_chains;
 use crate::degrees::check_degrees;
 use crate::free::check_split;
 use crate::groups::check_groups;
+use crate::index::check_index;
 use crate::names::check_names;
 use crate::properties::check_properties;
 use crate::ranges::check_ranges;
-use crate::{CheckFault, Verdict};
-use rec_bytes::{Reads, SpaceFault};
+use rec_bytes::{
+    CHAIN_RULE, DEGREE_RULE, Damage, GROUP_RULE, INDEX_RULE, NAME_RULE, PROPERTY_RULE, RANGE_RULE,
+    Reads, SPLIT_RULE, SpaceFault,
+};
 use std::alloc::Global;
 
-/// Decides the rules from the seventh on, where the first is kept.
-fn check_from_degrees<R: Reads>(alloc: Global, space: &mut R) -> Result<Verdict, SpaceFault>
-    requires low { AreMarksLow (R.state space.old).records }
-    requires ranges { R.tells → AreInRange (R.state space.old).records (R.state space.old).shape }
-    ensures verdict { R.tells → IfOk result
-        (VerdictIs (R.state space.old).records (R.state space.old).shape 7 7) }
+/// Decides the rule of this number, where the first is kept if it is another.
+fn decide<R: Reads>(alloc: Global, space: &mut R, rule: u8) -> Result<Option<Damage>, SpaceFault>
+    requires from { range_rule ≤ rule }
+    requires to { rule ≤ index_rule }
+    requires low { range_rule < rule → AreMarksLow (R.state space.old).records }
+    requires ranges { R.tells → range_rule < rule
+        → AreFormed (R.state space.old).records (R.state space.old).shape }
+    ensures decided { R.tells → IfOk result
+        (DecidesRule (R.state space.old).records (R.state space.old).shape rule) }
+    ensures low { rule ≡ range_rule → IfOk result
+        (λ found. IfNone found (AreMarksLow (R.state space.old).records)) }
     ensures same { (R.state space.new).records ≡ (R.state space.old).records }
-    ensures shape { (R.state space.new).shape ≡ (R.state space.old).shape }
     ensures written { (R.state space.new).written ≡ (R.state space.old).written }
     ensures onward { R.onward space.old space.new }
     ensures cause { HasCause (R.faults space.old) (R.faults space.new) result }
 {
-    match check_degrees(alloc, space)? {
-        Some(damage) => Ok(Verdict::Broken(damage)),
-        None => Ok(Verdict::Sound),
-    }
-}
-
-/// Decides the rules from the sixth on, where the first is kept.
-fn check_from_names<R: Reads>(alloc: Global, space: &mut R) -> Result<Verdict, SpaceFault>
-    requires low { AreMarksLow (R.state space.old).records }
-    requires ranges { R.tells → AreInRange (R.state space.old).records (R.state space.old).shape }
-    ensures verdict { R.tells → IfOk result
-        (VerdictIs (R.state space.old).records (R.state space.old).shape 6 7) }
-    ensures same { (R.state space.new).records ≡ (R.state space.old).records }
-    ensures shape { (R.state space.new).shape ≡ (R.state space.old).shape }
-    ensures written { (R.state space.new).written ≡ (R.state space.old).written }
-    ensures onward { R.onward space.old space.new }
-    ensures cause { HasCause (R.faults space.old) (R.faults space.new) result }
-{
-    match check_names(alloc, space)? {
-        Some(damage) => Ok(Verdict::Broken(damage)),
-        None => check_from_degrees(alloc, space),
-    }
-}
-
-/// Decides the rules from the fifth on, where the first is kept.
-fn check_from_properties<R: Reads>(alloc: Global, space: &mut R) -> Result<Verdict, SpaceFault>
-    requires low { AreMarksLow (R.state space.old).records }
-    requires ranges { R.tells → AreInRange (R.state space.old).records (R.state space.old).shape }
-    ensures verdict { R.tells → IfOk result
-        (VerdictIs (R.state space.old).records (R.state space.old).shape 5 7) }
-    ensures same { (R.state space.new).records ≡ (R.state space.old).records }
-    ensures shape { (R.state space.new).shape ≡ (R.state space.old).shape }
-    ensures written { (R.state space.new).written ≡ (R.state space.old).written }
-    ensures onward { R.onward space.old space.new }
-    ensures cause { HasCause (R.faults space.old) (R.faults space.new) result }
-{
-    match check_properties(alloc, space)? {
-        Some(damage) => Ok(Verdict::Broken(damage)),
-        None => check_from_names(alloc, space),
-    }
-}
-
-/// Decides the rules from the fourth on, where the first is kept.
-fn check_from_groups<R: Reads>(alloc: Global, space: &mut R) -> Result<Verdict, SpaceFault>
-    requires low { AreMarksLow (R.state space.old).records }
-    requires ranges { R.tells → AreInRange (R.state space.old).records (R.state space.old).shape }
-    ensures verdict { R.tells → IfOk result
-        (VerdictIs (R.state space.old).records (R.state space.old).shape 4 7) }
-    ensures same { (R.state space.new).records ≡ (R.state space.old).records }
-    ensures shape { (R.state space.new).shape ≡ (R.state space.old).shape }
-    ensures written { (R.state space.new).written ≡ (R.state space.old).written }
-    ensures onward { R.onward space.old space.new }
-    ensures cause { HasCause (R.faults space.old) (R.faults space.new) result }
-{
-    match check_groups(alloc, space)? {
-        Some(damage) => Ok(Verdict::Broken(damage)),
-        None => check_from_properties(alloc, space),
-    }
-}
-
-/// Decides the rules from the third on, where the first is kept.
-fn check_from_chains<R: Reads>(alloc: Global, space: &mut R) -> Result<Verdict, SpaceFault>
-    requires low { AreMarksLow (R.state space.old).records }
-    requires ranges { R.tells → AreInRange (R.state space.old).records (R.state space.old).shape }
-    ensures verdict { R.tells → IfOk result
-        (VerdictIs (R.state space.old).records (R.state space.old).shape 3 7) }
-    ensures same { (R.state space.new).records ≡ (R.state space.old).records }
-    ensures shape { (R.state space.new).shape ≡ (R.state space.old).shape }
-    ensures written { (R.state space.new).written ≡ (R.state space.old).written }
-    ensures onward { R.onward space.old space.new }
-    ensures cause { HasCause (R.faults space.old) (R.faults space.new) result }
-{
-    match check_chains(alloc, space)? {
-        Some(damage) => Ok(Verdict::Broken(damage)),
-        None => check_from_groups(alloc, space),
-    }
-}
-
-/// Decides the rules from the second on, where the first is kept.
-fn check_from_free<R: Reads>(alloc: Global, space: &mut R) -> Result<Verdict, SpaceFault>
-    requires low { AreMarksLow (R.state space.old).records }
-    requires ranges { R.tells → AreInRange (R.state space.old).records (R.state space.old).shape }
-    ensures verdict { R.tells → IfOk result
-        (VerdictIs (R.state space.old).records (R.state space.old).shape 2 7) }
-    ensures same { (R.state space.new).records ≡ (R.state space.old).records }
-    ensures shape { (R.state space.new).shape ≡ (R.state space.old).shape }
-    ensures written { (R.state space.new).written ≡ (R.state space.old).written }
-    ensures onward { R.onward space.old space.new }
-    ensures cause { HasCause (R.faults space.old) (R.faults space.new) result }
-{
-    match check_split(alloc, space)? {
-        Some(damage) => Ok(Verdict::Broken(damage)),
-        None => check_from_chains(alloc, space),
-    }
-}
-
-/// Decides the rules from the first on.
-fn check_from_ranges<R: Reads>(alloc: Global, space: &mut R) -> Result<Verdict, SpaceFault>
-    ensures verdict { R.tells → IfOk result
-        (VerdictIs (R.state space.old).records (R.state space.old).shape 1 7) }
-    ensures same { (R.state space.new).records ≡ (R.state space.old).records }
-    ensures shape { (R.state space.new).shape ≡ (R.state space.old).shape }
-    ensures written { (R.state space.new).written ≡ (R.state space.old).written }
-    ensures onward { R.onward space.old space.new }
-    ensures cause { HasCause (R.faults space.old) (R.faults space.new) result }
-{
-    match check_ranges(space)? {
-        Some(damage) => Ok(Verdict::Broken(damage)),
-        None => check_from_free(alloc, space),
+    match rule {
+        RANGE_RULE => check_ranges(space),
+        SPLIT_RULE => check_split(alloc, space),
+        CHAIN_RULE => check_chains(alloc, space),
+        GROUP_RULE => check_groups(alloc, space),
+        PROPERTY_RULE => check_properties(alloc, space),
+        NAME_RULE => check_names(alloc, space),
+        DEGREE_RULE => check_degrees(alloc, space),
+        _ => check_index(space),
     }
 }
 
 /// Decides whether the records of a space are those of a well-formed store: Sound exactly where all
 /// rules hold, else the least rule that is broken and a record that breaks it. It only reads.
-pub fn check<R: Reads>(alloc: Global, space: &mut R) -> Result<Verdict, CheckFault>
+pub fn check<R: Reads>(alloc: Global, space: &mut R) -> Result<Verdict, SpaceFault>
     ensures sound { R.tells → IfOk result (λ v. v ≡ Verdict.Sound
         → IsWellFormed (R.state space.old).records (R.state space.old).shape) }
     ensures only { R.tells → IsWellFormed (R.state space.old).records (R.state space.old).shape
@@ -153,10 +61,12 @@ pub fn check<R: Reads>(alloc: Global, space: &mut R) -> Result<Verdict, CheckFau
         (BrokenIs (R.state space.old).records (R.state space.old).shape) }
     ensures same { SameButReads (R.state space.old) (R.state space.new) }
     ensures onward { R.onward space.old space.new }
-    ensures cause { HasCheckCause (R.faults space.old) (R.faults space.new) result }
+    ensures cause { HasCause (R.faults space.old) (R.faults space.new) result }
 {
-    Ok(check_from_ranges(alloc, space)?)
+    for rule in RANGE_RULE..=INDEX_RULE {
+        if let Some(damage) = decide(alloc, space, rule)? {
+            return Ok(Verdict::Broken(damage));
+        }
+    }
+    Ok(Verdict::Sound)
 }
-
-#[cfg(test)]
-mod tests;

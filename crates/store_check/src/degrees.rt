@@ -13,13 +13,10 @@ ghost use Rattle.store_check.specs.Verdicts.{AreMarksLow, DecidesRule};
 
 use crate::sentence::{Sentence, find_false};
 use rec_bytes::{
-    Damage, FREE, KIND, Key, NODE_DEGREE, NODES, RELATIONSHIP_SOURCE, RELATIONSHIP_TARGET,
-    RELATIONSHIPS, Reads, Rec, SPARSE, SpaceFault,
+    DEGREE_RULE, Damage, FREE, KIND, Key, NODE_DEGREE, NODES, RELATIONSHIP_SOURCE,
+    RELATIONSHIP_TARGET, RELATIONSHIPS, Reads, Rec, SPARSE, SpaceFault,
 };
 use std::alloc::Global;
-
-/// The number of the rule.
-const DEGREE_RULE: u8 = 7;
 
 /// Counts one more at a place, if there is such a place.
 fn count_one(counts: &mut [u32], at: u32)
@@ -61,7 +58,6 @@ fn count_ends<R: Reads>(space: &mut R, counts: &mut [u32]) -> Result<(), SpaceFa
         (high (R.state space.old).records relationships_file) n) }
     ensures len { length counts.new ≡ length counts.old }
     ensures same { (R.state space.new).records ≡ (R.state space.old).records }
-    ensures shape { (R.state space.new).shape ≡ (R.state space.old).shape }
     ensures written { (R.state space.new).written ≡ (R.state space.old).written }
     ensures onward { R.onward space.old space.new }
     ensures cause { HasCause (R.faults space.old) (R.faults space.new) result }
@@ -115,7 +111,6 @@ fn count_degrees<R: Reads>(alloc: Global, space: &mut R) -> Result<Degrees, Spac
     ensures threshold { IfOk result
         (λ degrees. degrees.threshold ≡ (R.state space.old).shape.threshold) }
     ensures same { (R.state space.new).records ≡ (R.state space.old).records }
-    ensures shape { (R.state space.new).shape ≡ (R.state space.old).shape }
     ensures written { (R.state space.new).written ≡ (R.state space.old).written }
     ensures onward { R.onward space.old space.new }
     ensures cause { HasCause (R.faults space.old) (R.faults space.new) result }
@@ -137,7 +132,6 @@ pub(crate) fn check_degrees<R: Reads>(
     ensures decided { R.tells → IfOk result
         (DecidesRule (R.state space.old).records (R.state space.old).shape 7) }
     ensures same { (R.state space.new).records ≡ (R.state space.old).records }
-    ensures shape { (R.state space.new).shape ≡ (R.state space.old).shape }
     ensures written { (R.state space.new).written ≡ (R.state space.old).written }
     ensures onward { R.onward space.old space.new }
     ensures cause { HasCause (R.faults space.old) (R.faults space.new) result }

@@ -33,8 +33,8 @@ use crate::marks::no_marks;
 use crate::sentence::{Sentence, find_false};
 use rec_bytes::{
     Damage, FREE, KIND, Key, NAMES, NODE_FIRST_PROPERTY, NODE_LABEL, NODES, PROPERTIES,
-    PROPERTY_KEY, PROPERTY_NEXT, RELATIONSHIP_FIRST_PROPERTY, RELATIONSHIPS, Reads, Rec,
-    SpaceFault,
+    PROPERTY_KEY, PROPERTY_NEXT, PROPERTY_RULE, RELATIONSHIP_FIRST_PROPERTY, RELATIONSHIPS, Reads,
+    Rec, SpaceFault,
 };
 use std::alloc::Global;
 
@@ -47,7 +47,6 @@ fn keys_of<R: Reads>(alloc: Global, space: &mut R, ids: &[u32]) -> Result<Vec<u3
     ensures keys { R.tells → IfOk result
         (λ keys. keys.items ≡ map (key_of (R.state space.old).records) ids.now) }
     ensures same { (R.state space.new).records ≡ (R.state space.old).records }
-    ensures shape { (R.state space.new).shape ≡ (R.state space.old).shape }
     ensures written { (R.state space.new).written ≡ (R.state space.old).written }
     ensures onward { R.onward space.old space.new }
     ensures cause { HasCause (R.faults space.old) (R.faults space.new) result }
@@ -99,7 +98,6 @@ fn property_list<R: Reads>(
         → ¬ IsPropertyList (R.state space.old).records first xs)) }
     ensures low { IfOk result (λ found. IfSome found (λ ids. All (λ x. x < mark) ids.items)) }
     ensures same { (R.state space.new).records ≡ (R.state space.old).records }
-    ensures shape { (R.state space.new).shape ≡ (R.state space.old).shape }
     ensures written { (R.state space.new).written ≡ (R.state space.old).written }
     ensures onward { R.onward space.old space.new }
     ensures cause { HasCause (R.faults space.old) (R.faults space.new) result }
@@ -189,10 +187,6 @@ impl Sentence for Named {
         Ok(rec.byte(KIND) == FREE || rec.number(NODE_LABEL) < space.meta(NAMES).high)
     }
 }
-
-/// The number of the rule.
-const PROPERTY_RULE: u8 = 5;
-
 /// Finds a node or a relationship whose properties or whose label are wrong, or a property that two
 /// of them have. Where there is none, just the properties of elements are marked.
 fn check_file<R: Reads>(
@@ -210,7 +204,6 @@ fn check_file<R: Reads>(
         (IsUnlisted (R.state space.old).records file marks.old)) }
     ensures len { length marks.new ≡ length marks.old }
     ensures same { (R.state space.new).records ≡ (R.state space.old).records }
-    ensures shape { (R.state space.new).shape ≡ (R.state space.old).shape }
     ensures written { (R.state space.new).written ≡ (R.state space.old).written }
     ensures onward { R.onward space.old space.new }
     ensures cause { HasCause (R.faults space.old) (R.faults space.new) result }
@@ -258,7 +251,6 @@ fn check_marked<R: Reads>(
     ensures found { R.tells → IfOk result (λ found. IfSome found
         (BreaksRule (R.state space.old).records (R.state space.old).shape 5)) }
     ensures same { (R.state space.new).records ≡ (R.state space.old).records }
-    ensures shape { (R.state space.new).shape ≡ (R.state space.old).shape }
     ensures written { (R.state space.new).written ≡ (R.state space.old).written }
     ensures onward { R.onward space.old space.new }
     ensures cause { HasCause (R.faults space.old) (R.faults space.new) result }
@@ -286,7 +278,6 @@ pub(crate) fn check_elements<R: Reads>(
     ensures found { R.tells → IfOk result (λ found. IfSome found
         (BreaksRule (R.state space.old).records (R.state space.old).shape 5)) }
     ensures same { (R.state space.new).records ≡ (R.state space.old).records }
-    ensures shape { (R.state space.new).shape ≡ (R.state space.old).shape }
     ensures written { (R.state space.new).written ≡ (R.state space.old).written }
     ensures onward { R.onward space.old space.new }
     ensures cause { HasCause (R.faults space.old) (R.faults space.new) result }

@@ -12,11 +12,10 @@ ghost use Rattle.store_check.specs.Verdicts.{AreMarksLow, BreaksRule, DecidesRul
 
 use crate::line::{Line, follow};
 use crate::marks::marks_of;
-use rec_bytes::{Damage, FREE, FREE_NEXT, KIND, Key, META, NAMES, NODES, Reads, Rec, SpaceFault};
+use rec_bytes::{
+    Damage, FREE, FREE_NEXT, KIND, Key, META, NAMES, Reads, Rec, RecordFile, SPLIT_RULE, SpaceFault,
+};
 use std::alloc::Global;
-
-/// The number of the rule.
-const FREE_RULE: u8 = 2;
 
 /// The free list of a file.
 #[derive(Drop)]
@@ -56,7 +55,6 @@ fn count_live<R: Reads>(space: &mut R, file: u8, marks: &[bool]) -> Result<Count
     ensures counted { R.tells
         → IfOk result (IsCounted (R.state space.old).records file marks.now) }
     ensures same { (R.state space.new).records ≡ (R.state space.old).records }
-    ensures shape { (R.state space.new).shape ≡ (R.state space.old).shape }
     ensures written { (R.state space.new).written ≡ (R.state space.old).written }
     ensures onward { R.onward space.old space.new }
     ensures cause { HasCause (R.faults space.old) (R.faults space.new) result }
@@ -87,7 +85,6 @@ fn check_free<R: Reads>(
     ensures broken { R.tells → IfOk result (λ found. IfSome found
         (BreaksRule (R.state space.old).records (R.state space.old).shape 2)) }
     ensures same { (R.state space.new).records ≡ (R.state space.old).records }
-    ensures shape { (R.state space.new).shape ≡ (R.state space.old).shape }
     ensures written { (R.state space.new).written ≡ (R.state space.old).written }
     ensures onward { R.onward space.old space.new }
     ensures cause { HasCause (R.faults space.old) (R.faults space.new) result }
@@ -95,7 +92,7 @@ fn check_free<R: Reads>(
     let on_meta = Damage {
         file: META,
         id: file as u32,
-        rule: FREE_RULE,
+        rule: SPLIT_RULE,
     };
     let meta = space.meta(file);
     let line = FreeLine { number: file };
@@ -111,7 +108,7 @@ fn check_free<R: Reads>(
         Counted::OffList(id) => Ok(Some(Damage {
             file,
             id,
-            rule: FREE_RULE,
+            rule: SPLIT_RULE,
         })),
     }
 }
@@ -126,13 +123,15 @@ fn check_reused<R: Reads>(alloc: Global, space: &mut R) -> Result<Option<Damage>
     ensures broken { R.tells → IfOk result (λ found. IfSome found
         (BreaksRule (R.state space.old).records (R.state space.old).shape 2)) }
     ensures same { (R.state space.new).records ≡ (R.state space.old).records }
-    ensures shape { (R.state space.new).shape ≡ (R.state space.old).shape }
     ensures written { (R.state space.new).written ≡ (R.state space.old).written }
     ensures onward { R.onward space.old space.new }
     ensures cause { HasCause (R.faults space.old) (R.faults space.new) result }
 {
-    for file in NODES..NAMES {
-        if let Some(damage) = check_free(alloc, space, file)? {
+    for entry in RecordFile::all_but_meta() {
+        if entry.file == NAMES {
+            continue;
+        }
+        if let Some(damage) = check_free(alloc, space, entry.file)? {
             return Ok(Some(damage));
         }
     }
@@ -148,7 +147,6 @@ pub(crate) fn check_split<R: Reads>(
     ensures decided { R.tells → IfOk result
         (DecidesRule (R.state space.old).records (R.state space.old).shape 2) }
     ensures same { (R.state space.new).records ≡ (R.state space.old).records }
-    ensures shape { (R.state space.new).shape ≡ (R.state space.old).shape }
     ensures written { (R.state space.new).written ≡ (R.state space.old).written }
     ensures onward { R.onward space.old space.new }
     ensures cause { HasCause (R.faults space.old) (R.faults space.new) result }
@@ -163,7 +161,7 @@ pub(crate) fn check_split<R: Reads>(
         Ok(Some(Damage {
             file: META,
             id: NAMES as u32,
-            rule: FREE_RULE,
+            rule: SPLIT_RULE,
         }))
     }
 }

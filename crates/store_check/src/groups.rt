@@ -20,13 +20,10 @@ use crate::line::{Line, follow};
 use crate::marks::no_marks;
 use rec_bytes::{
     DENSE, Damage, FREE, GROUP_FIRST_IN, GROUP_FIRST_LOOP, GROUP_FIRST_OUT, GROUP_NEXT,
-    GROUP_OWNER, GROUP_PREVIOUS, GROUP_TYPE, GROUPS, KIND, Key, NIL, NODE_FIRST_LINK, NODES, Reads,
-    Rec, SpaceFault,
+    GROUP_OWNER, GROUP_PREVIOUS, GROUP_RULE, GROUP_TYPE, GROUPS, KIND, Key, NIL, NODE_FIRST_LINK,
+    NODES, Reads, Rec, SpaceFault,
 };
 use std::alloc::Global;
-
-/// The number of the rule.
-const GROUP_RULE: u8 = 4;
 
 /// Whether one of the chains of a group has a relationship.
 fn is_filled(rec: &Rec) -> bool
@@ -68,7 +65,6 @@ fn types_of<R: Reads>(alloc: Global, space: &mut R, ids: &[u32]) -> Result<Vec<u
     ensures types { R.tells → IfOk result
         (λ types. types.items ≡ map (group_label (R.state space.old).records) ids.now) }
     ensures same { (R.state space.new).records ≡ (R.state space.old).records }
-    ensures shape { (R.state space.new).shape ≡ (R.state space.old).shape }
     ensures written { (R.state space.new).written ≡ (R.state space.old).written }
     ensures onward { R.onward space.old space.new }
     ensures cause { HasCause (R.faults space.old) (R.faults space.new) result }
@@ -99,7 +95,6 @@ fn groups_from<R: Reads>(
         (GroupsFound (R.state space.old).records high node first) }
     ensures low { IfOk result (FoundBelow high) }
     ensures same { (R.state space.new).records ≡ (R.state space.old).records }
-    ensures shape { (R.state space.new).shape ≡ (R.state space.old).shape }
     ensures written { (R.state space.new).written ≡ (R.state space.old).written }
     ensures onward { R.onward space.old space.new }
     ensures cause { HasCause (R.faults space.old) (R.faults space.new) result }
@@ -165,7 +160,6 @@ fn check_marked<R: Reads>(
     ensures decided { R.tells → IfOk result
         (DecidesRule (R.state space.old).records (R.state space.old).shape 4) }
     ensures same { (R.state space.new).records ≡ (R.state space.old).records }
-    ensures shape { (R.state space.new).shape ≡ (R.state space.old).shape }
     ensures written { (R.state space.new).written ≡ (R.state space.old).written }
     ensures onward { R.onward space.old space.new }
     ensures cause { HasCause (R.faults space.old) (R.faults space.new) result }
@@ -192,7 +186,6 @@ pub(crate) fn check_groups<R: Reads>(
     ensures decided { R.tells → IfOk result
         (DecidesRule (R.state space.old).records (R.state space.old).shape 4) }
     ensures same { (R.state space.new).records ≡ (R.state space.old).records }
-    ensures shape { (R.state space.new).shape ≡ (R.state space.old).shape }
     ensures written { (R.state space.new).written ≡ (R.state space.old).written }
     ensures onward { R.onward space.old space.new }
     ensures cause { HasCause (R.faults space.old) (R.faults space.new) result }

@@ -68,7 +68,6 @@ pub trait Heads {
             (lists self.now (R.state space.old).records id)) }
         ensures low { IfOk result (FoundBelow (bound self.now)) }
         ensures same { (R.state space.new).records ≡ (R.state space.old).records }
-        ensures shape { (R.state space.new).shape ≡ (R.state space.old).shape }
         ensures written { (R.state space.new).written ≡ (R.state space.old).written }
         ensures onward { R.onward space.old space.new }
         ensures cause { HasCause (R.faults space.old) (R.faults space.new) result };
@@ -90,7 +89,6 @@ fn mark_head<R: Reads, H: Heads>(
         (H.lists heads.now (R.state space.old).records) id marks.old marks.new) }
     ensures len { length marks.new ≡ length marks.old }
     ensures same { (R.state space.new).records ≡ (R.state space.old).records }
-    ensures shape { (R.state space.new).shape ≡ (R.state space.old).shape }
     ensures written { (R.state space.new).written ≡ (R.state space.old).written }
     ensures onward { R.onward space.old space.new }
     ensures cause { HasCause (R.faults space.old) (R.faults space.new) result }
@@ -138,7 +136,6 @@ pub fn list_heads<R: Reads, H: Heads>(
         (H.lists heads.now (R.state space.old).records) count marks.old)) }
     ensures len { length marks.new ≡ length marks.old }
     ensures same { (R.state space.new).records ≡ (R.state space.old).records }
-    ensures shape { (R.state space.new).shape ≡ (R.state space.old).shape }
     ensures written { (R.state space.new).written ≡ (R.state space.old).written }
     ensures onward { R.onward space.old space.new }
     ensures cause { HasCause (R.faults space.old) (R.faults space.new) result }

@@ -47,7 +47,6 @@ pub(crate) fn find_unmarked<R: Reads>(
     ensures found { R.tells → IfOk result (λ found. IfSome found
         (λ x. ¬ (is_live (R.state space.old).records file x ≡ true → marked marks.now x ≡ true))) }
     ensures same { (R.state space.new).records ≡ (R.state space.old).records }
-    ensures shape { (R.state space.new).shape ≡ (R.state space.old).shape }
     ensures written { (R.state space.new).written ≡ (R.state space.old).written }
     ensures onward { R.onward space.old space.new }
     ensures cause { HasCause (R.faults space.old) (R.faults space.new) result }

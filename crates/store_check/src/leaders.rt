@@ -68,7 +68,6 @@ fn is_dense<R: Reads>(space: &mut R, id: u32) -> Result<bool, SpaceFault>
     ensures dense { R.tells
         → IfOk result (λ dense. Decides dense (IsDense (R.state space.old).records id)) }
     ensures same { (R.state space.new).records ≡ (R.state space.old).records }
-    ensures shape { (R.state space.new).shape ≡ (R.state space.old).shape }
     ensures written { (R.state space.new).written ≡ (R.state space.old).written }
     ensures onward { R.onward space.old space.new }
     ensures cause { HasCause (R.faults space.old) (R.faults space.new) result }
@@ -100,7 +99,6 @@ fn lead_group<R: Reads>(space: &mut R, leaders: &mut Leaders, id: u32) -> Result
         (λ led. led ≡ false → ¬ GroupKeeps (R.state space.old).records id) }
     ensures below { OnOk result (AreBelow leaders.new (id + 1)) }
     ensures same { (R.state space.new).records ≡ (R.state space.old).records }
-    ensures shape { (R.state space.new).shape ≡ (R.state space.old).shape }
     ensures written { (R.state space.new).written ≡ (R.state space.old).written }
     ensures onward { R.onward space.old space.new }
     ensures cause { HasCause (R.faults space.old) (R.faults space.new) result }
@@ -143,7 +141,6 @@ pub(crate) fn lead_groups<R: Reads>(
         (λ g. (g < high (R.state space.old).records groups_file)
         × (¬ GroupKeeps (R.state space.old).records g))) }
     ensures same { (R.state space.new).records ≡ (R.state space.old).records }
-    ensures shape { (R.state space.new).shape ≡ (R.state space.old).shape }
     ensures written { (R.state space.new).written ≡ (R.state space.old).written }
     ensures onward { R.onward space.old space.new }
     ensures cause { HasCause (R.faults space.old) (R.faults space.new) result }

@@ -3,7 +3,6 @@
 #![tactic(auto)]
 
 mod chains;
-mod check_fault;
 mod checking;
 mod degrees;
 mod distinct;
@@ -12,6 +11,7 @@ mod free;
 mod groups;
 mod heads;
 mod holding;
+mod index;
 mod layout;
 mod leaders;
 mod line;
@@ -25,6 +25,5 @@ mod sentence;
 mod texts;
 mod verdict;
 
-pub use check_fault::CheckFault;
 pub use checking::check;
 pub use verdict::Verdict;

@@ -41,7 +41,6 @@ pub fn follow<R: Reads, L: Line>(
         → ¬ IsLineIn (L.kind line.now) (R.state space.old).records high first xs)) }
     ensures low { IfOk result (λ found. IfSome found (λ ids. All (λ x. x < high) ids.items)) }
     ensures same { (R.state space.new).records ≡ (R.state space.old).records }
-    ensures shape { (R.state space.new).shape ≡ (R.state space.old).shape }
     ensures written { (R.state space.new).written ≡ (R.state space.old).written }
     ensures onward { R.onward space.old space.new }
     ensures cause { HasCause (R.faults space.old) (R.faults space.new) result }

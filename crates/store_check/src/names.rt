@@ -2,7 +2,7 @@
 
 ghost use Rattle.std.specs.Prelude.{◌≡◌, IfOk};
 ghost use Rattle.rec_bytes.specs.Space.{HasCause};
-ghost use Rattle.store_rules.specs.Ranges.{AreInRange};
+ghost use Rattle.store_rules.specs.Ranges.{AreFormed};
 ghost use Rattle.store_check.specs.Verdicts.{DecidesRule};
 
 use name_store::{Fault, load};
@@ -14,11 +14,10 @@ pub(crate) fn check_names<R: Reads>(
     alloc: Global,
     space: &mut R,
 ) -> Result<Option<Damage>, SpaceFault>
-    requires { R.tells → AreInRange (R.state space.old).records (R.state space.old).shape }
+    requires { R.tells → AreFormed (R.state space.old).records (R.state space.old).shape }
     ensures decided { R.tells → IfOk result
         (DecidesRule (R.state space.old).records (R.state space.old).shape 6) }
     ensures same { (R.state space.new).records ≡ (R.state space.old).records }
-    ensures shape { (R.state space.new).shape ≡ (R.state space.old).shape }
     ensures written { (R.state space.new).written ≡ (R.state space.old).written }
     ensures onward { R.onward space.old space.new }
     ensures cause { HasCause (R.faults space.old) (R.faults space.new) result }

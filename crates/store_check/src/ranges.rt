@@ -1,59 +1,86 @@
 //! The first rule: each record is of a known kind, and its numbers are ones that may stand there.
 
-ghost use Rattle.std.specs.Prelude.{◌≡◌, ◌≢◌, ◌<◌, ◌≤◌, IfNone, IfOk, IfSome, Some, true, ℕ};
+ghost use Rattle.std.specs.Prelude.{◌≡◌, ◌<◌, ◌≤◌, IfNone, IfOk, IfSome, false, true, ℕ};
 ghost use Rattle.std.specs.Bool.{Decides};
-ghost use Rattle.rec_bytes.specs.Format.{meta_file, most_ids};
-ghost use Rattle.rec_bytes.specs.Meta.{IsMetaInRange};
-ghost use Rattle.rec_bytes.specs.RecordFiles.{is_meta_file, meta_key_of, room_of};
-ghost use Rattle.rec_bytes.specs.Shape.{shape_of_record};
+ghost use Rattle.rec_bytes.specs.Format.{meta_records, most_ids};
+ghost use Rattle.rec_bytes.specs.RecordFiles.{is_meta_file, room_of};
 ghost use Rattle.rec_bytes.specs.Space.{HasCause};
-ghost use Rattle.store_rules.specs.Ranges.{Fits};
-ghost use Rattle.store_rules.specs.Views.{high, rec_at};
-ghost use Rattle.store_check.specs.Breaking.{damage};
-ghost use Rattle.store_check.specs.Fitting.{IsFitting, IsOnFile};
+ghost use Rattle.store_rules.specs.Ranges.{Fits, is_indexed};
+ghost use Rattle.store_rules.specs.Views.{high};
+ghost use Rattle.store_check.specs.Breaking.{IsMetaKept, IsOwnRight, damage};
+ghost use Rattle.store_check.specs.Fitting.{FitsUnused, IsFitting, IsOnFile};
 ghost use Rattle.store_check.specs.Verdicts.{AreMarksLow, DecidesRule};
 
 use crate::layout::fits;
 use crate::sentence::{Sentence, find_false};
 use rec_bytes::{
-    Damage, Key, LOG, Meta, NODES, OWN_KEY, Reads, Shape, SpaceFault, meta_key, room_of,
+    Damage, FREE, INDEX, KIND, Key, META, META_RECORDS, OWN_KEY, RANGE_RULE, Reads, Rec,
+    RecordFile, Shape, SpaceFault, VERSION, is_meta_file, is_meta_right, room_of, version_of,
 };
 
-/// Whether the store's own record says the space's shape.
-fn says_shape<R: Reads>(space: &mut R) -> Result<bool, SpaceFault>
-    ensures says { R.tells → IfOk result (λ says. Decides says
-        (shape_of_record ((R.state space.old).records (meta_key_of meta_file))
-        ≡ Some (R.state space.old).shape)) }
+/// Whether the store's own record says the space's shape, and the newest version.
+fn is_own_right<R: Reads>(space: &mut R) -> Result<bool, SpaceFault>
+    ensures right { R.tells → IfOk result (λ right. Decides right
+        (IsOwnRight (R.state space.old).records (R.state space.old).shape)) }
     ensures same { (R.state space.new).records ≡ (R.state space.old).records }
-    ensures shape { (R.state space.new).shape ≡ (R.state space.old).shape }
     ensures written { (R.state space.new).written ≡ (R.state space.old).written }
     ensures onward { R.onward space.old space.new }
     ensures cause { HasCause (R.faults space.old) (R.faults space.new) result }
 {
     let rec = space.get(OWN_KEY)?;
-    Ok(Shape::of(&rec) == Some(space.shape()))
+    Ok(Shape::of(&rec) == Some(space.shape()) && version_of(&rec) == VERSION)
 }
 
-/// Whether the meta record of a file is in range. Its mark is low then, whatever was read.
-fn is_meta_right<R: Reads>(space: &mut R, file: u8) -> Result<bool, SpaceFault>
+/// Whether the mark of a file is within its room.
+fn is_mark_low<R: Reads>(space: &R, file: u8) -> bool
     requires { is_meta_file file ≡ true }
+    ensures { Decides result
+        (high (R.state space.now).records file ≤ room_of (R.state space.now).shape file) }
+{
+    space.meta(file).high as u64 <= room_of(file, space.shape())
+}
+
+/// Whether a record of the meta file is right. If it is that of a file, the file's mark is low
+/// then, whatever was read.
+fn is_meta_kept<R: Reads>(space: &mut R, id: u32) -> Result<bool, SpaceFault>
+    requires { id < meta_records }
     ensures right { R.tells → IfOk result (λ right. Decides right
-        (IsMetaInRange (room_of (R.state space.old).shape file)
-        ((R.state space.old).records (meta_key_of file)))) }
-    ensures low { IfOk result (λ right. right ≡ true
-        → high (R.state space.old).records file ≤ most_ids) }
+        (IsMetaKept (R.state space.old).records (R.state space.old).shape id)) }
+    ensures low { IfOk result (λ right. right ≡ true → is_meta_file id ≡ true
+        → high (R.state space.old).records id ≤ most_ids) }
     ensures same { (R.state space.new).records ≡ (R.state space.old).records }
-    ensures shape { (R.state space.new).shape ≡ (R.state space.old).shape }
     ensures written { (R.state space.new).written ≡ (R.state space.old).written }
     ensures onward { R.onward space.old space.new }
     ensures cause { HasCause (R.faults space.old) (R.faults space.new) result }
 {
-    let room = room_of(file, space.shape());
-    let rec = space.get(meta_key(file))?;
-    Ok(space.meta(file).high as u64 <= room && Meta::is_in_range(&rec, room))
+    let rec = space.get(Key { file: META, id })?;
+    let file = id as u8;
+    Ok(
+        is_meta_right(&rec, id, VERSION, space.shape())
+            && (!is_meta_file(file) || is_mark_low(space, file)),
+    )
 }
 
-/// A record fits its file.
+/// Whether a record of a file is one in use of the index.
+fn is_indexed(file: u8, rec: &Rec) -> bool
+    ensures { result ≡ is_indexed file rec.now }
+{
+    file == INDEX && rec.byte(KIND) != FREE
+}
+
+/// Whether a record fits its file, if it isn't one in use of the index.
+fn fits_unused<R: Reads>(space: &R, file: u8, rec: &Rec) -> bool
+    requires { is_meta_file file ≡ true }
+    ensures { Decides result (is_indexed file rec.now ≡ false
+        → Fits (high (R.state space.now).records) file rec.now) }
+{
+    if is_indexed(file, rec) {
+        return true;
+    }
+    fits(space, file, rec)
+}
+
+/// A record fits its file, if it isn't one in use of the index.
 #[derive(Drop)]
 pub struct Fitting {
     file: u8,
@@ -72,7 +99,7 @@ impl Sentence for Fitting {
             file: self.file,
             id,
         })?;
-        Ok(fits(space, self.file, &rec))
+        Ok(fits_unused(space, self.file, &rec))
     }
 }
 
@@ -82,14 +109,11 @@ fn find_wrong<R: Reads>(space: &mut R, file: u8) -> Result<Option<u32>, SpaceFau
     requires mark { high (R.state space.old).records file ≤ most_ids }
     ensures none { R.tells → IfOk result (λ found. IfNone found
         ((x : ℕ) → x < high (R.state space.old).records file
-        → Fits (high (R.state space.old).records) file
-        (rec_at (R.state space.old).records file x))) }
+        → FitsUnused (R.state space.old).records file x)) }
     ensures found { R.tells → IfOk result (λ found. IfSome found
         (λ x. (x < high (R.state space.old).records file)
-        × (¬ Fits (high (R.state space.old).records) file
-        (rec_at (R.state space.old).records file x)))) }
+        × (¬ FitsUnused (R.state space.old).records file x))) }
     ensures same { (R.state space.new).records ≡ (R.state space.old).records }
-    ensures shape { (R.state space.new).shape ≡ (R.state space.old).shape }
     ensures written { (R.state space.new).written ≡ (R.state space.old).written }
     ensures onward { R.onward space.old space.new }
     ensures cause { HasCause (R.faults space.old) (R.faults space.new) result }
@@ -98,27 +122,24 @@ fn find_wrong<R: Reads>(space: &mut R, file: u8) -> Result<Option<u32>, SpaceFau
     find_false(space, &Fitting { file, records }, records)
 }
 
-/// The first file whose meta record isn't in range.
-fn find_wrong_meta<R: Reads>(space: &mut R) -> Result<Option<u8>, SpaceFault>
+/// The first record of the meta file that isn't right.
+fn find_wrong_meta<R: Reads>(space: &mut R) -> Result<Option<u32>, SpaceFault>
     ensures none { R.tells → IfOk result (λ found. IfNone found
-        ((file : ℕ) → is_meta_file file ≡ true
-        → IsMetaInRange (room_of (R.state space.old).shape file)
-        ((R.state space.old).records (meta_key_of file)))) }
+        ((id : ℕ) → id < meta_records
+        → IsMetaKept (R.state space.old).records (R.state space.old).shape id)) }
     ensures found { R.tells → IfOk result (λ found. IfSome found
-        (λ file. ¬ IsMetaInRange (room_of (R.state space.old).shape file)
-        ((R.state space.old).records (meta_key_of file)))) }
-    ensures file { IfOk result (λ found. IfSome found (λ file. is_meta_file file ≡ true)) }
+        (λ id. ¬ IsMetaKept (R.state space.old).records (R.state space.old).shape id)) }
+    ensures id { IfOk result (λ found. IfSome found (λ id. id < meta_records)) }
     ensures low { IfOk result
         (λ found. IfNone found (AreMarksLow (R.state space.old).records)) }
     ensures same { (R.state space.new).records ≡ (R.state space.old).records }
-    ensures shape { (R.state space.new).shape ≡ (R.state space.old).shape }
     ensures written { (R.state space.new).written ≡ (R.state space.old).written }
     ensures onward { R.onward space.old space.new }
     ensures cause { HasCause (R.faults space.old) (R.faults space.new) result }
 {
-    for file in NODES..LOG {
-        if !is_meta_right(space, file)? {
-            return Ok(Some(file));
+    for id in 0..META_RECORDS {
+        if !is_meta_kept(space, id)? {
+            return Ok(Some(id));
         }
     }
     Ok(None)
@@ -129,22 +150,22 @@ fn find_wrong_record<R: Reads>(space: &mut R) -> Result<Option<Key>, SpaceFault>
     requires { AreMarksLow (R.state space.old).records }
     ensures none { R.tells → IfOk result (λ found. IfNone found
         ((file x : ℕ) → is_meta_file file ≡ true → x < high (R.state space.old).records file
-        → Fits (high (R.state space.old).records) file
-        (rec_at (R.state space.old).records file x))) }
+        → FitsUnused (R.state space.old).records file x)) }
     ensures found { R.tells → IfOk result (λ found. IfSome found
         (λ key. (key.id < high (R.state space.old).records key.file)
-        × (¬ Fits (high (R.state space.old).records) key.file
-        (rec_at (R.state space.old).records key.file key.id)))) }
+        × (¬ FitsUnused (R.state space.old).records key.file key.id))) }
     ensures file { IfOk result (λ found. IfSome found (λ key. is_meta_file key.file ≡ true)) }
     ensures same { (R.state space.new).records ≡ (R.state space.old).records }
-    ensures shape { (R.state space.new).shape ≡ (R.state space.old).shape }
     ensures written { (R.state space.new).written ≡ (R.state space.old).written }
     ensures onward { R.onward space.old space.new }
     ensures cause { HasCause (R.faults space.old) (R.faults space.new) result }
 {
-    for file in NODES..LOG {
-        if let Some(id) = find_wrong(space, file)? {
-            return Ok(Some(Key { file, id }));
+    for entry in RecordFile::all_but_meta() {
+        if let Some(id) = find_wrong(space, entry.file)? {
+            return Ok(Some(Key {
+                file: entry.file,
+                id,
+            }));
         }
     }
     Ok(None)
@@ -157,16 +178,15 @@ pub(crate) fn check_ranges<R: Reads>(space: &mut R) -> Result<Option<Damage>, Sp
     ensures low { IfOk result
         (λ found. IfNone found (AreMarksLow (R.state space.old).records)) }
     ensures same { (R.state space.new).records ≡ (R.state space.old).records }
-    ensures shape { (R.state space.new).shape ≡ (R.state space.old).shape }
     ensures written { (R.state space.new).written ≡ (R.state space.old).written }
     ensures onward { R.onward space.old space.new }
     ensures cause { HasCause (R.faults space.old) (R.faults space.new) result }
 {
-    if !says_shape(space)? {
+    if !is_own_right(space)? {
         return Ok(Some(broken(OWN_KEY)));
     }
-    if let Some(file) = find_wrong_meta(space)? {
-        return Ok(Some(broken(meta_key(file))));
+    if let Some(id) = find_wrong_meta(space)? {
+        return Ok(Some(broken(Key { file: META, id })));
     }
     match find_wrong_record(space)? {
         Some(key) => Ok(Some(broken(key))),
@@ -180,6 +200,6 @@ fn broken(key: Key) -> Damage
     Damage {
         file: key.file,
         id: key.id,
-        rule: 1,
+        rule: RANGE_RULE,
     }
 }

@@ -22,7 +22,6 @@ pub trait Sentence {
         ensures told { R.tells → IfOk result
             (λ holds. Decides holds (says self.now (R.state space.old).records id)) }
         ensures same { (R.state space.new).records ≡ (R.state space.old).records }
-        ensures shape { (R.state space.new).shape ≡ (R.state space.old).shape }
         ensures written { (R.state space.new).written ≡ (R.state space.old).written }
         ensures onward { R.onward space.old space.new }
         ensures cause { HasCause (R.faults space.old) (R.faults space.new) result };
@@ -41,7 +40,6 @@ pub fn find_false<R: Reads, S: Sentence>(
     ensures found { R.tells → IfOk result (λ found. IfSome found
         (λ x. (x < count) × (¬ S.says sentence.now (R.state space.old).records x))) }
     ensures same { (R.state space.new).records ≡ (R.state space.old).records }
-    ensures shape { (R.state space.new).shape ≡ (R.state space.old).shape }
     ensures written { (R.state space.new).written ≡ (R.state space.old).written }
     ensures onward { R.onward space.old space.new }
     ensures cause { HasCause (R.faults space.old) (R.faults space.new) result }

@@ -19,7 +19,7 @@ use crate::marks::no_marks;
 use crate::pieces::are_pieces;
 use rec_bytes::{
     BLOCK_LENGTH, BLOCK_NEXT, Damage, FREE, KIND, Key, PROPERTIES, PROPERTY_FIRST_BLOCK,
-    PROPERTY_LENGTH, Reads, Rec, STRINGS, SpaceFault, TEXT_IN_BLOCKS,
+    PROPERTY_LENGTH, PROPERTY_RULE, Reads, Rec, STRINGS, SpaceFault, TEXT_IN_BLOCKS,
 };
 use std::alloc::Global;
 
@@ -29,7 +29,6 @@ fn lengths_of<R: Reads>(alloc: Global, space: &mut R, ids: &[u32]) -> Result<Vec
     ensures lengths { R.tells → IfOk result
         (λ lengths. lengths.items ≡ map (block_size (R.state space.old).records) ids.now) }
     ensures same { (R.state space.new).records ≡ (R.state space.old).records }
-    ensures shape { (R.state space.new).shape ≡ (R.state space.old).shape }
     ensures written { (R.state space.new).written ≡ (R.state space.old).written }
     ensures onward { R.onward space.old space.new }
     ensures cause { HasCause (R.faults space.old) (R.faults space.new) result }
@@ -89,16 +88,13 @@ impl Heads for TextHeads {
     }
 }
 
-/// The number of the rule.
-const TEXT_RULE: u8 = 5;
-
 fn broken(file: u8, id: u32) -> Damage
     ensures { result ≡ damage file id 5 }
 {
     Damage {
         file,
         id,
-        rule: TEXT_RULE,
+        rule: PROPERTY_RULE,
     }
 }
 
@@ -117,7 +113,6 @@ fn check_marked<R: Reads>(
     ensures found { R.tells → IfOk result (λ found. IfSome found
         (BreaksRule (R.state space.old).records (R.state space.old).shape 5)) }
     ensures same { (R.state space.new).records ≡ (R.state space.old).records }
-    ensures shape { (R.state space.new).shape ≡ (R.state space.old).shape }
     ensures written { (R.state space.new).written ≡ (R.state space.old).written }
     ensures onward { R.onward space.old space.new }
     ensures cause { HasCause (R.faults space.old) (R.faults space.new) result }
@@ -147,7 +142,6 @@ pub(crate) fn check_texts<R: Reads>(
     ensures found { R.tells → IfOk result (λ found. IfSome found
         (BreaksRule (R.state space.old).records (R.state space.old).shape 5)) }
     ensures same { (R.state space.new).records ≡ (R.state space.old).records }
-    ensures shape { (R.state space.new).shape ≡ (R.state space.old).shape }
     ensures written { (R.state space.new).written ≡ (R.state space.old).written }
     ensures onward { R.onward space.old space.new }
     ensures cause { HasCause (R.faults space.old) (R.faults space.new) result }

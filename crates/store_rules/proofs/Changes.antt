@@ -7,9 +7,9 @@ use Rattle.rec_bytes.specs.declared.shape.Shape.{Shape}
 use Rattle.rec_bytes.specs.Format as format
 use Rattle.rec_bytes.specs.Meta as metas
 use Rattle.rec_bytes.specs.Meta.{IsMetaInRange}
-use Rattle.rec_bytes.specs.Record.{field}
+use Rattle.rec_bytes.specs.Record.{field, zeros_from}
 use Rattle.rec_bytes.specs.RecordFiles.{is_meta_file, meta_key_of, room_of}
-use Rattle.rec_bytes.specs.Shape.{shape_of_record}
+use Rattle.rec_bytes.specs.Shape.{shape_of_record, version_of}
 use Rattle.store_rules.specs.Chains.{IsChain, next_in, prev_in}
 use Rattle.store_rules.specs.Properties.{property_records}
 use Rattle.store_rules.specs.Ranges.{AreInRange, Fits, is_reused}
@@ -17,7 +17,7 @@ use Rattle.store_rules.specs.Rules.{AreAllLive, Head, IsListed, IsSplit, first_o
 use Rattle.store_rules.specs.Views.{Records, high, is_live, key_in, kind_at, rec_at}
 use Rattle.store_rules.proofs.ChainLaws.{chain_stays}
 use Rattle.store_rules.proofs.Frames.{IsSame, records_same, split_same}
-use Rattle.rec_bytes.proofs.RecordFiles.{is_meta_file-not_meta}
+use Rattle.rec_bytes.proofs.RecordFiles.{is_meta_file-not_meta, is_meta_file-not_taken}
 use Rattle.store_rules.proofs.MetaLaws.{meta_of_reused, not_meta_key}
 use Rattle.store_rules.proofs.NumberLaws.{nat_cases}
 use Rattle.store_rules.proofs.ViewLaws.{kind_low, kind_high, fits_more}
@@ -62,12 +62,14 @@ module _ (s t : Records) (file id : ℕ) (change : IsChanged s t file id) where
   marks_le f = ⊎_elim (λ (e : f ≡ file). subst (λ g. high s g ≤ high t g) (sym e) change.more) (λ (ne : f ≢ file). let e = mark_same f ne in omega arith) (nat_cases f file)
 
   -- the first rule, where the two records that changed keep it
-  pub in_range : (shape : Shape) → IsMetaInRange (room_of shape file) (t (meta_key_of file)) → (id < high t file → Fits (high t) file (rec_at t file id)) → AreInRange s shape → AreInRange t shape
+  pub in_range : (shape : Shape) → IsMetaInRange shape file (t (meta_key_of file)) → (id < high t file → Fits (high t) file (rec_at t file id)) → AreInRange s shape → AreInRange t shape
   in_range shape meta here old = record {
     own = ap shape_of_record (other_meta format.meta_file (λ e. is_meta_file-not_meta file change.is_file (sym e))) ∙ old.own;
+    newest = ap version_of (other_meta format.meta_file (λ e. is_meta_file-not_meta file change.is_file (sym e))) ∙ old.newest;
+    taken = ap (zeros_from format.taken_rest) (other_meta format.taken_id (λ e. is_meta_file-not_taken file change.is_file (sym e))) ∙ old.taken;
     metas = λ f is. ⊎_elim
-        (λ (e : f ≡ file). subst (λ g. IsMetaInRange (room_of shape g) (t (meta_key_of g))) (sym e) meta)
-        (λ (ne : f ≢ file). subst (IsMetaInRange (room_of shape f)) (sym (other_meta f ne)) (old.metas f is)) (nat_cases f file);
+        (λ (e : f ≡ file). subst (λ g. IsMetaInRange shape g (t (meta_key_of g))) (sym e) meta)
+        (λ (ne : f ≢ file). subst (IsMetaInRange shape f) (sym (other_meta f ne)) (old.metas f is)) (nat_cases f file);
     fit = λ f x is lt. ⊎_elim
         (λ (e : f ≡ file). ⊎_elim
         (λ (k : x ≡ id). subst (λ g. Fits (high t) g (rec_at t g x)) (sym e) (subst (λ z. Fits (high t) file (rec_at t file z)) (sym k) (here (subst (λ z. z < high t file) k (subst (λ g. x < high t g) e lt)))))

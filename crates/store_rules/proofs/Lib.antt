@@ -35,9 +35,12 @@ pub mod PropertyRules
 pub mod PropertyStays
 pub mod PropertySteps
 pub mod PropertyWalks
+pub mod RangeLaws
 pub mod Relinks
 pub mod RowChange
 pub mod RowLaws
+pub mod RuleStays
+pub mod RuleUses
 pub mod Shapes
 pub mod TwinRows
 pub mod Untouched

@@ -17,7 +17,7 @@ pub record IsMade (s t : Records) (shape : Shape) (file id : ℕ) (rec : Rec) : 
   pub here : rec_at t file id ≡ rec
   pub below : id < high t file
   pub grows : (high t file ≡ high s file) ⊎ ((id ≡ high s file) × (high t file ≡ high s file + 1))
-  pub meta : IsMetaInRange (room_of shape file) (t (meta_key_of file))
+  pub meta : IsMetaInRange shape file (t (meta_key_of file))
   pub free : List ℕ
   pub split : IsSplit t file (is_live t file) free
 
@@ -27,6 +27,6 @@ pub record IsGone (s t : Records) (shape : Shape) (file id : ℕ) : Type 0 where
   pub gone : kind_at t file id ≡ format.free_kind
   pub fits : Fits (high t) file (rec_at t file id)
   pub mark : high t file ≡ high s file
-  pub meta : IsMetaInRange (room_of shape file) (t (meta_key_of file))
+  pub meta : IsMetaInRange shape file (t (meta_key_of file))
   pub free : List ℕ
   pub split : IsSplit t file (is_live t file) free

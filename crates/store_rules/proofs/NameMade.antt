@@ -33,7 +33,7 @@ pub record IsNamed (s t : Records) (shape : Shape) (rec : Rec) (text : List ℕ)
   pub here : rec_at t format.names_file (high s format.names_file) ≡ rec
   pub mark : high t format.names_file ≡ high s format.names_file + 1
   pub live : (meta_in t format.names_file).live ≡ high t format.names_file
-  pub meta : IsMetaInRange (room_of shape format.names_file) (t (meta_key_of format.names_file))
+  pub meta : IsMetaInRange shape format.names_file (t (meta_key_of format.names_file))
   pub fits : Fits (high t) format.names_file rec
   pub is : text_of rec ≡ text
   pub form : IsShortName text

@@ -7,13 +7,13 @@ use Rattle.rec_bytes.specs.declared.shape.Shape.{Shape}
 use Rattle.rec_bytes.specs.declared.record.Rec.{Rec}
 use Rattle.rec_bytes.specs.Creation.{creation_pairs, own_key}
 use Rattle.rec_bytes.specs.Format as format
-use Rattle.rec_bytes.specs.Meta.{IsMetaInRange, meta_record, empty_meta}
+use Rattle.rec_bytes.specs.Meta.{IsMetaInRange, meta_record, empty_meta, first_meta}
 use Rattle.rec_bytes.specs.Meta as metas
-use Rattle.rec_bytes.specs.Record.{field, zeros}
+use Rattle.rec_bytes.specs.Record.{field, zeros, zeros_from}
 use Rattle.rec_bytes.specs.RecordFiles.{is_meta_file, meta_key_of, room_of}
 use Rattle.rec_bytes.specs.Shape.{is_allowed, shape_of_record}
 use Rattle.rec_bytes.specs.Space.{laid_over, meta_in}
-use Rattle.rec_bytes.proofs.CreationPairs.{IsMetaInRange-empty, find_pair-creation_meta, shape_of_record-new}
+use Rattle.rec_bytes.proofs.CreationPairs.{IsMetaInRange-empty, find_pair-creation_meta, shape_of_record-new, first_meta-says, version_of-new}
 use Rattle.rec_bytes.proofs.Metas.{meta_reads_back}
 use Rattle.rec_bytes.proofs.Spaces.{laid_over-at}
 use Rattle.store_rules.specs.Graph.{edge_of, graph_of, node_of}
@@ -27,11 +27,11 @@ module _ (before : Records) (shape : Shape) where
   abbrev new : Records
   new = laid_over before (creation_pairs shape)
 
-  meta-new : (file : ℕ) → is_meta_file file ≡ true → new (meta_key_of file) ≡ meta_record empty_meta
-  meta-new file is = laid_over-at before (creation_pairs shape) (meta_key_of file) (meta_record empty_meta) (find_pair-creation_meta shape file is)
+  meta-new : (file : ℕ) → is_meta_file file ≡ true → new (meta_key_of file) ≡ first_meta file
+  meta-new file is = laid_over-at before (creation_pairs shape) (meta_key_of file) (first_meta file) (find_pair-creation_meta shape file is)
 
   meta_in-made : (file : ℕ) → is_meta_file file ≡ true → meta_in new file ≡ empty_meta
-  meta_in-made file is = ap (λ (r : Rec). metas.meta_of r) (meta-new file is) ∙ meta_reads_back zeros empty_meta (omega arith) (omega arith) (omega arith)
+  meta_in-made file is = ap (λ (r : Rec). metas.meta_of r) (meta-new file is) ∙ first_meta-says file
 
   own-new : is_allowed shape ≡ true → shape_of_record (new own_key) ≡ Some shape
   own-new allowed = shape_of_record-new shape allowed
@@ -110,11 +110,14 @@ module _ (before : Records) (shape : Shape) where
   listed h n (inl k) = absurd (let z = sym (none_used format.nodes_file n refl) ∙ k.sparse in omega arith)
   listed h n (inr k) = absurd (let z = sym (none_used format.nodes_file n refl) ∙ k.dense in omega arith)
 
-  pub new_well : is_allowed shape ≡ true → IsWellFormed new shape
-  new_well allowed = record {
+  -- no transaction was taken over where no store was made
+  pub new_well : is_allowed shape ≡ true → zeros_from format.taken_rest (before (meta_key_of format.taken_id)) ≡ true → IsWellFormed new shape
+  new_well allowed none_taken = record {
     ranges = record {
       own = own-new allowed;
-      metas = λ file is. subst (IsMetaInRange (room_of shape file)) (sym (meta-new file is)) (IsMetaInRange-empty (room_of shape file));
+      newest = version_of-new shape;
+      taken = none_taken;
+      metas = λ file is. subst (IsMetaInRange shape file) (sym (meta-new file is)) (IsMetaInRange-empty shape file);
       fit = λ file x is lt. absurd (nothing_low file x is lt);
     };
     split = λ file is. ([], split file (meta_of_reused file is));

@@ -7,9 +7,9 @@ use Rattle.rec_bytes.specs.declared.shape.Shape.{Shape}
 use Rattle.rec_bytes.specs.Format as format
 use Rattle.rec_bytes.specs.Meta as metas
 use Rattle.rec_bytes.specs.Meta.{IsMetaInRange}
-use Rattle.rec_bytes.specs.Record.{field}
+use Rattle.rec_bytes.specs.Record.{field, zeros_from}
 use Rattle.rec_bytes.specs.RecordFiles.{is_meta_file, meta_key_of, room_of}
-use Rattle.rec_bytes.specs.Shape.{shape_of_record}
+use Rattle.rec_bytes.specs.Shape.{shape_of_record, version_of}
 use Rattle.rec_bytes.specs.Space.{meta_in}
 use Rattle.store_rules.specs.Chains.{IsWalk, next_in, place_of, prev_in}
 use Rattle.store_rules.specs.Properties.{Property}
@@ -61,8 +61,10 @@ module _ (s t : Records) (shape : Shape) (file x : ℕ) (old new : List Property
   ranges : AreInRange s shape → AreInRange t shape
   ranges was = record {
     own = ap shape_of_record (fr.meta_same s t shape file x old new h format.meta_file (λ e. omega arith) (λ e. omega arith)) ∙ was.own;
-    metas = by_file {P = λ f. is_meta_file f ≡ true → IsMetaInRange (room_of shape f) (t (meta_key_of f))} (λ _. h.properties.meta) (λ _. h.strings.meta)
-        (λ f a b is. subst (IsMetaInRange (room_of shape f)) (sym (fr.meta_same s t shape file x old new h f a b)) (was.metas f is));
+    newest = ap version_of (fr.meta_same s t shape file x old new h format.meta_file (λ e. omega arith) (λ e. omega arith)) ∙ was.newest;
+    taken = ap (zeros_from format.taken_rest) (fr.meta_same s t shape file x old new h format.taken_id (λ e. omega arith) (λ e. omega arith)) ∙ was.taken;
+    metas = by_file {P = λ f. is_meta_file f ≡ true → IsMetaInRange shape f (t (meta_key_of f))} (λ _. h.properties.meta) (λ _. h.strings.meta)
+        (λ f a b is. subst (IsMetaInRange shape f) (sym (fr.meta_same s t shape file x old new h f a b)) (was.metas f is));
     fit = λ f y is lt. by_file {P = λ f. is_meta_file f ≡ true → y < high t f → Fits (high t) f (rec_at t f y)} (λ _ lt. h.properties.fits y lt) (λ _ lt. h.strings.fits y lt) (λ f a b is lt.
         pair_cases file x f y (λ p q. subst (λ g. Fits (high t) g (rec_at t g y)) (sym p) (subst (λ z. Fits (high t) file (rec_at t file z)) (sym q) h.fits))
         (λ ne. let e = fr.mark_same s t shape file x old new h f a b in

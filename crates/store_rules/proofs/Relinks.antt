@@ -7,9 +7,9 @@ use Rattle.rec_bytes.specs.declared.shape.Shape.{Shape}
 use Rattle.rec_bytes.specs.Format as format
 use Rattle.rec_bytes.specs.Meta as metas
 use Rattle.rec_bytes.specs.Meta.{IsMetaInRange}
-use Rattle.rec_bytes.specs.Record.{field, with_field}
+use Rattle.rec_bytes.specs.Record.{field, with_field, zeros_from}
 use Rattle.rec_bytes.specs.RecordFiles.{meta_key_of, room_of}
-use Rattle.rec_bytes.specs.Shape.{shape_of_record}
+use Rattle.rec_bytes.specs.Shape.{shape_of_record, version_of}
 use Rattle.rec_bytes.specs.Space.{meta_in, put}
 use Rattle.rec_bytes.proofs.Numbers.{field-with_field_other}
 use Rattle.rec_bytes.proofs.Spaces.{put_other, put_same}
@@ -138,7 +138,9 @@ module _ (s t : Records) (h : IsRelinked s t) where
   pub range_stays : (shape : Shape) → AreInRange s shape → AreInRange t shape
   range_stays shape old = record {
     own = ap shape_of_record (meta_stays format.meta_file) ∙ old.own;
-    metas = λ f is. subst (IsMetaInRange (room_of shape f)) (sym (meta_stays f)) (old.metas f is);
+    newest = ap version_of (meta_stays format.meta_file) ∙ old.newest;
+    taken = ap (zeros_from format.taken_rest) (meta_stays format.taken_id) ∙ old.taken;
+    metas = λ f is. subst (IsMetaInRange shape f) (sym (meta_stays f)) (old.metas f is);
     fit = λ f x is lt. subst (λ (m : ℕ → ℕ). Fits m f (rec_at t f x)) marks (let low = subst (λ m. x < m) (mark_stays f) lt in h.fit f x low (old.fit f x is low));
   }
     where

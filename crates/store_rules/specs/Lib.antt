@@ -4,6 +4,7 @@ pub mod Graph
 pub mod Properties
 pub mod PropertyChange
 pub mod Ranges
+pub mod RuleList
 pub mod Rows
 pub mod Rules
 pub mod Views

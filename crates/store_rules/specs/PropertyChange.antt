@@ -38,7 +38,7 @@ target_in file x = cond (nat_eq file format.nodes_file) (targets.Node x) (target
 -- place. Those of others stay.
 pub record ChangesFile (s t : Records) (shape : Shape) (file : ℕ) (old new : List ℕ) : Type 0 where
   pub grows : high s file ≤ high t file
-  pub meta : IsMetaInRange (room_of shape file) (t (meta_key_of file))
+  pub meta : IsMetaInRange shape file (t (meta_key_of file))
   pub fits : (x : ℕ) → x < high t file → Fits (high t) file (rec_at t file x)
   pub free : List ℕ
   pub split : IsSplit t file (is_live t file) free

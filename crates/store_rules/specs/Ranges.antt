@@ -1,15 +1,15 @@
 -- The first rule: each record is of a known kind, its numbers are ones that may stand there, and
 -- its other bytes are zero.
 use Rattle.std.specs.Prelude.{◌≡◌, ℕ, ◌+◌, ◌<◌, nat_eq, nat_le, nat_lt, Bool, true, false, ◌&&◌}
-use Rattle.std.specs.Prelude.{◌||◌, cond, Option, None, Some, List, [], ◌∷◌}
+use Rattle.std.specs.Prelude.{◌||◌, cond, not, Option, None, Some, List, [], ◌∷◌}
 use Rattle.std.specs.List.{list_any}
 use Rattle.rec_bytes.specs.declared.record.Rec.{Rec}
 use Rattle.rec_bytes.specs.declared.shape.Shape.{Shape}
 use Rattle.rec_bytes.specs.Format as format
 use Rattle.rec_bytes.specs.Meta.{IsMetaInRange}
-use Rattle.rec_bytes.specs.Record.{field}
-use Rattle.rec_bytes.specs.RecordFiles.{is_meta_file, meta_key_of, room_of}
-use Rattle.rec_bytes.specs.Shape.{shape_of_record}
+use Rattle.rec_bytes.specs.Record.{field, zeros_from}
+use Rattle.rec_bytes.specs.RecordFiles.{is_meta_file, meta_key_of}
+use Rattle.rec_bytes.specs.Shape.{shape_of_record, version_of}
 use Rattle.store_rules.specs.Views.{Records, high, rec_at}
 
 -- a number of a record that names a record: its place, the file of that record, and whether it may
@@ -165,11 +165,31 @@ pub record Fits (marks : ℕ → ℕ) (file : ℕ) (r : Rec) : Type 0 where
   pub point : all_point marks r layout.pointers ≡ true
   pub blank : IsBlankOutside layout.used r
 
--- The store's own record says this shape, and each file's meta record and each record below its
--- mark fits.
+-- a record of the index that is in use
+abbrev pub is_indexed : ℕ → Rec → Bool
+is_indexed file r =
+    nat_eq file format.index_file && not (nat_eq (field 1 r format.kind) format.free_kind)
+
+-- The store's own record says this shape and the newest version, the record of the last transaction
+-- that was taken over has its number alone, and each file's meta record and each record below its
+-- mark fits, but for those in use of the index.
+pub record AreFormed (records : Records) (shape : Shape) : Type 0 where
+  pub own : shape_of_record (records (meta_key_of format.meta_file)) ≡ Some shape
+  pub newest : version_of (records (meta_key_of format.meta_file)) ≡ format.newest_version
+  pub taken : zeros_from format.taken_rest (records (meta_key_of format.taken_id)) ≡ true
+  pub metas : (file : ℕ) → is_meta_file file ≡ true
+      → IsMetaInRange shape file (records (meta_key_of file))
+  pub fit : (file x : ℕ) → is_meta_file file ≡ true → x < high records file
+      → is_indexed file (rec_at records file x) ≡ false
+      → Fits (high records) file (rec_at records file x)
+
+-- The same of each record. No record of the index that is in use fits, so this is the eighth rule
+-- too.
 pub record AreInRange (records : Records) (shape : Shape) : Type 0 where
   pub own : shape_of_record (records (meta_key_of format.meta_file)) ≡ Some shape
+  pub newest : version_of (records (meta_key_of format.meta_file)) ≡ format.newest_version
+  pub taken : zeros_from format.taken_rest (records (meta_key_of format.taken_id)) ≡ true
   pub metas : (file : ℕ) → is_meta_file file ≡ true
-      → IsMetaInRange (room_of shape file) (records (meta_key_of file))
+      → IsMetaInRange shape file (records (meta_key_of file))
   pub fit : (file x : ℕ) → is_meta_file file ≡ true → x < high records file
       → Fits (high records) file (rec_at records file x)

@@ -271,10 +271,15 @@ pub record AreCounted (kind degrees : ℕ → ℕ)
   pub each : (n : ℕ) → kind n ≢ format.free_kind → degrees n ≡ degree_of rels mark n
   pub few : (n : ℕ) → kind n ≡ format.sparse → degrees n ≤ most
 
+-- ---- the eighth rule: as long as there is no index, no record of its file is in use
+
+abbrev pub HasNoIndex : Records → Type 0
+HasNoIndex records = (x : ℕ) → kind_at records format.index_file x ≡ format.free_kind
+
 -- ---- all of them
 
 -- The rules of a store of this shape. So many relationships a sparse node may have, and these groups
--- may be empty.
+-- may be empty. What is said of the ranges is the first rule and the eighth.
 pub record KeepsRules (records : Records) (shape : Shape) (most : ℕ) (empty : List ℕ)
     : Type 0 where
   pub ranges : AreInRange records shape

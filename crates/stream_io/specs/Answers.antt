@@ -1,21 +1,46 @@
 -- What each answer of a reader of lines says.
-use Rattle.std.specs.Prelude.{◌≡◌, ◌≢◌, ◌⊎◌, ℕ, ◌+◌, ◌^◌, ◌<◌, ◌≤◌, Bool, true, false, List, [], ◌∷◌, ◌++◌, length}
+use Rattle.std.specs.Prelude.{
+  ◌≡◌,
+  ◌≢◌,
+  ◌⊎◌,
+  ℕ,
+  ◌+◌,
+  ◌^◌,
+  ◌<◌,
+  ◌≤◌,
+  Bool,
+  true,
+  false,
+  List,
+  [],
+  ◌∷◌,
+  ◌++◌,
+  length,
+}
 use Rattle.std.specs.List.{AllByRecursion}
 use Rattle.stream_io.specs.Lines.{InputLine, Whole, Long, line_of}
 use Rattle.stream_io.specs.Reading.{Reading, ahead, used}
 use Rattle.stream_io.specs.declared.line_reader.LineAnswer.{LineAnswer}
-use Rattle.stream_io.specs.declared.line_reader.LineAnswer.TheVariants.{Line, TooLong, End, SourceFault, Exhausted}
+use Rattle.stream_io.specs.declared.line_reader.LineAnswer.TheVariants.{
+  Line,
+  TooLong,
+  End,
+  SourceFault,
+  Exhausted,
+}
 
 -- no byte of the piece is a newline
 abbrev pub IsPiece : List ℕ → Type 0
 IsPiece piece = AllByRecursion (λ b. b ≢ 10) piece
 
--- The line was the next one: its piece and a newline were ahead, or its piece alone at the end of the input.
+-- The line was the next one: its piece and a newline were ahead, or its piece alone at the end of
+-- the input.
 pub record TakesLine (line : InputLine) (before after : List ℕ) (ended : Bool) : Type 0 where
   pub piece : List ℕ
   pub no_newline : IsPiece piece
   pub line_is : line_of piece ≡ line
-  pub split : (before ≡ piece ++ 10 ∷ after) ⊎ ((before ≡ piece) × (piece ≢ []) × (after ≡ []) × (ended ≡ true))
+  pub split : (before ≡ piece ++ 10 ∷ after)
+      ⊎ ((before ≡ piece) × (piece ≢ []) × (after ≡ []) × (ended ≡ true))
 
 -- The first bytes are dropped. No newline is among them.
 pub record Drops (before after : List ℕ) : Type 0 where
@@ -23,7 +48,8 @@ pub record Drops (before after : List ℕ) : Type 0 where
   pub no_newline : IsPiece piece
   pub split : before ≡ piece ++ after
 
--- What an answer says of the bytes ahead before and after it, where the source tells what it has left.
+-- What an answer says of the bytes ahead before and after it, where the source tells what it has
+-- left.
 abbrev pub TakesFrom : LineAnswer → List ℕ → List ℕ → Bool → Type 0
 TakesFrom (Line bytes) before after ended = TakesLine (Whole bytes.now) before after ended
 TakesFrom TooLong before after ended = TakesLine Long before after ended
@@ -46,7 +72,8 @@ Counts SourceFault old new = Stops old new × (new.taken < 2 ^ 30)
 Counts Exhausted old new = Stops old new × (new.taken ≡ 2 ^ 30)
 
 -- A call of next. The source is asked only where fewer than 2^30 bytes were taken.
-pub record Answers (tells : Type 0) (answer : LineAnswer) (old : Reading) (left_before left_after : List ℕ) (new : Reading) : Type 0 where
+pub record Answers (tells : Type 0) (answer : LineAnswer) (old : Reading)
+    (left_before left_after : List ℕ) (new : Reading) : Type 0 where
   pub takes : tells → TakesFrom answer (ahead old left_before) (ahead new left_after) new.ended
   pub source_counted : tells → new.taken + length left_after ≡ old.taken + length left_before
   pub counts : Counts answer old new

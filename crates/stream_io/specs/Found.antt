@@ -1,5 +1,21 @@
 -- What the parts of a reader's call find.
-use Rattle.std.specs.Prelude.{◌≡◌, ◌⊎◌, ℕ, Bool, true, false, List, [], ◌∷◌, ◌++◌, ◌+◌, ◌^◌, ◌≤◌, ◌↔◌, length}
+use Rattle.std.specs.Prelude.{
+  ◌≡◌,
+  ◌⊎◌,
+  ℕ,
+  Bool,
+  true,
+  false,
+  List,
+  [],
+  ◌∷◌,
+  ◌++◌,
+  ◌+◌,
+  ◌^◌,
+  ◌≤◌,
+  ◌↔◌,
+  length,
+}
 use Rattle.stream_io.specs.Lines.{Whole, Long, line_of}
 use Rattle.stream_io.specs.Answers.{IsPiece}
 use Rattle.stream_io.specs.Reading.{Reading}
@@ -27,8 +43,10 @@ pub record TakesRest (found : Found) (dropped : Bool) (old new : Reading) : Type
   pub taken : new.taken ≡ old.taken
   pub ended : new.ended ≡ old.ended
 
--- These many bytes came behind those held, the next that the source had left; none came only at its end.
-pub record Grows (tells : Type 0) (old new left_before left_after : List ℕ) (count : ℕ) : Type 0 where
+-- These many bytes came behind those held, the next that the source had left; none came only at its
+-- end.
+pub record Grows (tells : Type 0) (old new left_before left_after : List ℕ)
+    (count : ℕ) : Type 0 where
   pub more : List ℕ
   pub count_is : length more ≡ count
   pub held : new ≡ old ++ more

@@ -1,5 +1,19 @@
 -- The lines of a list of bytes.
-use Rattle.std.specs.Prelude.{ℕ, List, [], ◌∷◌, ◌++◌, length, map, nat_lt, ◌==◌, ◌-◌, if◌then◌else◌, slice_index, take}
+use Rattle.std.specs.Prelude.{
+  ℕ,
+  List,
+  [],
+  ◌∷◌,
+  ◌++◌,
+  length,
+  map,
+  nat_lt,
+  ◌==◌,
+  ◌-◌,
+  if◌then◌else◌,
+  slice_index,
+  take,
+}
 
 -- a line's bytes, or that the line is too long to be read
 pub data InputLine : Type 0 where
@@ -18,11 +32,14 @@ onto_first b (p ∷ ps) rest = record { ended = (b ∷ p) ∷ ps; rest = rest }
 
 abbrev pub pieces_of : List ℕ → Pieces
 pieces_of [] = record { ended = []; rest = [] }
-pieces_of (b ∷ bs) = if b == 10 then record { ended = [] ∷ (pieces_of bs).ended; rest = (pieces_of bs).rest } else onto_first b (pieces_of bs).ended (pieces_of bs).rest
+pieces_of (b ∷ bs) =
+    if b == 10 then record { ended = [] ∷ (pieces_of bs).ended; rest = (pieces_of bs).rest }
+    else onto_first b (pieces_of bs).ended (pieces_of bs).rest
 
 -- the piece without one carriage return at its end
 abbrev pub without_return : List ℕ → List ℕ
-without_return piece = if slice_index piece (length piece - 1) == 13 then take (length piece - 1) piece else piece
+without_return piece =
+    if slice_index piece (length piece - 1) == 13 then take (length piece - 1) piece else piece
 
 -- a piece of more than 8,192 bytes, a carriage return counted, is a long line
 abbrev pub line_of : List ℕ → InputLine

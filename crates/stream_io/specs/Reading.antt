@@ -1,8 +1,8 @@
 -- What a reader of lines has read, as contracts see it.
 use Rattle.std.specs.Prelude.{◌≡◌, ℕ, ◌-◌, Bool, false, List, [], ◌++◌, length, if◌then◌else◌}
 
--- The bytes that were taken from the source and not answered with yet, the line of the last answer, how many bytes were
--- taken in all, and whether the source answered its end.
+-- The bytes that were taken from the source and not answered with yet, the line of the last answer,
+-- how many bytes were taken in all, and whether the source answered its end.
 pub record Reading : Type 0 where
   pub held : List ℕ
   pub line : List ℕ
@@ -15,7 +15,8 @@ pub record IsFresh (r : Reading) : Type 0 where
   pub taken : r.taken ≡ 0
   pub ended : r.ended ≡ false
 
--- what is still to be read: the bytes held, and those that the source has left unless it answered its end
+-- what is still to be read: the bytes held, and those that the source has left unless it answered
+-- its end
 abbrev pub ahead : Reading → List ℕ → List ℕ
 ahead r left = if r.ended then r.held else r.held ++ left
 

@@ -2,7 +2,8 @@
 use Rattle.std.specs.Prelude.{◌≡◌, ℕ, ◌≤◌, List, [], ◌++◌, length, take, Result, Ok, Err}
 use Rattle.fault_count.specs.declared.failed.Failed.{Failed}
 
--- A source gave the first of the bytes that it had left, in front of the buffer, or it gave none and keeps all.
+-- A source gave the first of the bytes that it had left, in front of the buffer, or it gave none
+-- and keeps all.
 abbrev pub GivesNext : List ℕ → List ℕ → List ℕ → Result ℕ Failed → Type 0
 GivesNext old new buffer (Ok n) = (old ≡ take n buffer ++ new) × (n ≡ 0 → old ≡ [])
 GivesNext old new buffer (Err e) = new ≡ old

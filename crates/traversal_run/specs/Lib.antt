@@ -1,7 +1,6 @@
 pub mod AskedIds
 pub mod EdgeItems
 pub mod Elements
-pub mod Fault
 pub mod Finding
 pub mod Held
 pub mod KeyValues

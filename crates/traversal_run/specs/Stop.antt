@@ -1,8 +1,8 @@
 -- Why a run gives nothing more.
-use Rattle.std.specs.Prelude.{ℕ, ◌≤◌, Result, IsErrOf}
-use Rattle.fault_count.specs.Cause.{Rose}
-use Rattle.traversal_run.specs.declared.fault.Fault.{Fault}
-use Rattle.traversal_run.specs.declared.fault.Fault.TheVariants as faults
+use Rattle.std.specs.Prelude.{ℕ, Result}
+use Rattle.rec_bytes.specs.Cause.{HasDiskCause}
+use Rattle.rec_bytes.specs.declared.fault.Fault.{Fault}
+use Rattle.rec_bytes.specs.declared.fault.Fault.TheVariants as faults
 use Rattle.traversal_run.specs.declared.stop.Stop.{Stop}
 use Rattle.traversal_run.specs.declared.stop.Stop.TheVariants.{End, Memory, Disk, Damaged}
 use Rattle.traversal_run.specs.declared.stop.Stop.TheVariants.{PastCount}
@@ -25,6 +25,5 @@ MayStop ended past (Damaged damage) = ⊥
 MayStop ended past PastCount = past
 
 -- the disk is blamed only where it failed
-pub record HasStopCause {T : Type 0} (before now : ℕ) (result : Result T Stop) : Type 0 where
-  pub later : before ≤ now
-  pub disk : IsErrOf result Disk → Rose before now
+abbrev pub HasStopCause : {T : Type 0} → ℕ → ℕ → Result T Stop → Type 0
+HasStopCause before now result = HasDiskCause Disk before now result

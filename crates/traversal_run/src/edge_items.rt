@@ -3,7 +3,7 @@
 ghost use Rattle.std.specs.Prelude.{◌≡◌, IfOk, IsErrOf, map};
 ghost use Rattle.rec_bytes.specs.declared.shape.Shape.{Shape};
 ghost use Rattle.store_rules.specs.Views.{Records};
-ghost use Rattle.traversal_run.specs.declared.fault.Fault.TheVariants as faults;
+ghost use Rattle.rec_bytes.specs.declared.fault.Fault.TheVariants as faults;
 ghost use Rattle.traversal_run.specs.EdgeItems.{
   AreTyped,
   IsTyped,
@@ -11,16 +11,15 @@ ghost use Rattle.traversal_run.specs.EdgeItems.{
   other_end,
   row_item,
 };
-ghost use Rattle.traversal_run.specs.Fault.{NotDamaged};
+ghost use Rattle.rec_bytes.specs.Fault.{NotDamaged};
 ghost use Rattle.traversal_run.specs.Reading.{IsNamedStore};
 
-use crate::fault::Fault;
 use crate::naming::name_of;
 use crate::shown::Shown;
 use crate::waiting::Waiting;
 use name_store::Names;
 use plain_graph::Text;
-use rec_bytes::RELATIONSHIPS;
+use rec_bytes::{Fault, RELATIONSHIPS};
 use rel_store::EdgeRow;
 use std::alloc::{AllocError, Global};
 

@@ -6,16 +6,15 @@ ghost use Rattle.prop_store.specs.Owner.{IsOwner};
 ghost use Rattle.store_rules.specs.Graph.{graph_of};
 ghost use Rattle.store_rules.specs.Rules.{IsWellFormed};
 ghost use Rattle.traversal_run.specs.Elements.{IsOwnerOf};
-ghost use Rattle.traversal_run.specs.Fault.{HasFaultCause, NotDamaged};
+ghost use Rattle.rec_bytes.specs.Fault.{HasFaultCause, NotDamaged};
 ghost use Rattle.traversal_run.specs.Reading.{IsNamedStore, IsRead};
 
-use crate::fault::Fault;
 use crate::naming::{name_of, number_of};
 use name_store::Names;
 use plain_graph::{Item, Value};
 use prop_store::{Owner, read_key};
 use rec_bytes::{
-    Key, NODE_FIRST_PROPERTY, NODES, RELATIONSHIP_FIRST_PROPERTY, RELATIONSHIPS, Reads,
+    Fault, Key, NODE_FIRST_PROPERTY, NODES, RELATIONSHIP_FIRST_PROPERTY, RELATIONSHIPS, Reads,
 };
 use std::alloc::Global;
 

@@ -4,14 +4,13 @@ ghost use Rattle.std.specs.Prelude.{◌≡◌, ◌≤◌, ◌+◌, IfOk, IfSome,
 ghost use Rattle.plain_graph.specs.declared.item.Item.TheVariants as items;
 ghost use Rattle.store_rules.specs.Rules.{IsWellFormed};
 ghost use Rattle.traversal_run.specs.Finding.{element_at, element_mark};
-ghost use Rattle.traversal_run.specs.Fault.{HasFaultCause, NotDamaged};
+ghost use Rattle.rec_bytes.specs.Fault.{HasFaultCause, NotDamaged};
 ghost use Rattle.traversal_run.specs.Reading.{IsNamedStore, IsRead};
 
 use crate::edge_items::edge_item;
-use crate::fault::Fault;
 use crate::shown::Shown;
 use name_store::Names;
-use rec_bytes::{NODES, RELATIONSHIPS, Reads};
+use rec_bytes::{Fault, NODES, RELATIONSHIPS, Reads};
 use rel_store::EdgeRow;
 use std::alloc::Global;
 

@@ -2,17 +2,16 @@ ghost use Rattle.std.specs.Prelude.{◌≡◌, IfOk};
 ghost use Rattle.expand.specs.Expanding.{AreRowsOf};
 ghost use Rattle.plain_graph.specs.Meaning.{edges_at, incident, neighbours};
 ghost use Rattle.store_rules.specs.Graph.{graph_of};
-ghost use Rattle.traversal_run.specs.Fault.{HasFaultCause, NotDamaged};
+ghost use Rattle.rec_bytes.specs.Fault.{HasFaultCause, NotDamaged};
 ghost use Rattle.traversal_run.specs.Reading.{IsNamedStore, IsRead};
 
 use crate::edge_items::{edge_items, end_items};
-use crate::fault::Fault;
 use crate::naming::numbers_of;
 use crate::waiting::Waiting;
 use expand::{ExpandFault, expand};
 use name_store::Names;
 use plain_graph::{Hop, Item};
-use rec_bytes::Reads;
+use rec_bytes::{Fault, Reads};
 use rel_store::EdgeRow;
 use std::alloc::Global;
 

@@ -13,21 +13,20 @@ ghost use Rattle.prop_store.specs.declared.prop.Prop.{Prop as PropRow};
 ghost use Rattle.rec_bytes.specs.declared.shape.Shape.{Shape};
 ghost use Rattle.store_rules.specs.Graph.{graph_of};
 ghost use Rattle.store_rules.specs.Views.{Records};
-ghost use Rattle.traversal_run.specs.Fault.{HasFaultCause, NotDamaged};
+ghost use Rattle.rec_bytes.specs.Fault.{HasFaultCause, NotDamaged};
 ghost use Rattle.traversal_run.specs.KeyValues.{AreRead, entry_below, entry_of, named_entry};
 ghost use Rattle.traversal_run.specs.KeyValues.{row_below};
 ghost use Rattle.traversal_run.specs.Naming.{name_count};
 ghost use Rattle.traversal_run.specs.Reading.{IsNamedStore, IsRead};
 
 use crate::elements::owner_of;
-use crate::fault::Fault;
 use crate::naming::{name_of, number_of};
 use crate::shown::Shown;
 use crate::waiting::Waiting;
 use name_store::Names;
 use plain_graph::{Item, Text, Value};
 use prop_store::{Prop, read_all};
-use rec_bytes::{NAMES, Reads};
+use rec_bytes::{Fault, NAMES, Reads};
 use std::alloc::{AllocError, Global};
 
 /// A value with the text of its key.
@@ -202,7 +201,8 @@ fn value_among<R: Reads>(
     props: &[Prop],
 ) -> Result<Option<Value>, AllocError>
     requires kept { All (λ (prop : PropRow). IsKept prop.value) props.now }
-    ensures found { IsNamedStore (R.state space.now).records (R.state space.now).shape names.now.names
+    ensures found { IsNamedStore (R.state space.now).records (R.state space.now).shape
+        names.now.names
         → (properties : Properties)
         → AreRead (R.state space.now).records props.now properties
         → IfOk result (λ value. value ≡ maps.get properties key.now) }

@@ -8,7 +8,6 @@ mod comparing;
 mod counter;
 mod edge_items;
 mod elements;
-mod fault;
 mod finding;
 mod hopping;
 mod kept;

@@ -3,19 +3,18 @@ ghost use Rattle.std.specs.List.{list_any};
 ghost use Rattle.plain_graph.specs.Meaning.{label_value, own_rank, passes};
 ghost use Rattle.plain_graph.specs.Values.{is_text};
 ghost use Rattle.store_rules.specs.Graph.{graph_of};
-ghost use Rattle.traversal_run.specs.Fault.{HasFaultCause, NotDamaged};
+ghost use Rattle.rec_bytes.specs.Fault.{HasFaultCause, NotDamaged};
 ghost use Rattle.traversal_run.specs.Reading.{IsNamedStore, IsRead};
 ghost use Rattle.traversal_run.specs.Stage.{distinct_values, rank_in};
 
 use crate::comparing::{is_related, is_text};
 use crate::elements::{label_of, value_of};
-use crate::fault::Fault;
 use crate::key_values::{all_values, several_values};
 use crate::shown::Shown;
 use crate::waiting::Waiting;
 use name_store::Names;
 use plain_graph::{Filter, Item, Text, Texts, Value};
-use rec_bytes::Reads;
+use rec_bytes::{Fault, Reads};
 use std::alloc::{AllocError, Global};
 
 /// Whether an item passes a filter.

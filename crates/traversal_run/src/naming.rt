@@ -1,23 +1,20 @@
 ghost use Rattle.std.specs.Prelude.{◌≡◌, ◌≤◌, ◌<◌, ℕ, All, IfOk, IfSome, IsErrOf, length};
 ghost use Rattle.rec_bytes.specs.declared.shape.Shape.{Shape};
 ghost use Rattle.store_rules.specs.Views.{Records};
-ghost use Rattle.traversal_run.specs.Fault.{HasFaultCause, NotDamaged};
-ghost use Rattle.traversal_run.specs.declared.fault.Fault.TheVariants as faults;
+ghost use Rattle.rec_bytes.specs.Fault.{HasFaultCause, NotDamaged};
+ghost use Rattle.rec_bytes.specs.declared.fault.Fault.TheVariants as faults;
 ghost use Rattle.traversal_run.specs.Naming.{FindsName, FindsNames, name_at, name_count};
 ghost use Rattle.traversal_run.specs.Reading.{IsNamedStore};
 
-use crate::fault::Fault;
 use name_store::Names;
 use plain_graph::Text;
-use rec_bytes::{Damage, NAMES, Reads};
+use rec_bytes::{Damage, Fault, NAMES, PROPERTY_RULE, Reads};
 use std::alloc::{AllocError, Global};
-
-/// The rule that labels, types and keys are names.
-const NAMED_RULE: u8 = 5;
 
 /// The number of a text among the names of the store.
 pub(crate) fn number_of<R: Reads>(space: &R, names: &Names, text: &[u8]) -> Option<u32>
-    ensures finds { IsNamedStore (R.state space.now).records (R.state space.now).shape names.now.names
+    ensures finds { IsNamedStore (R.state space.now).records (R.state space.now).shape
+        names.now.names
         → FindsName (R.state space.now).records result text.now }
     ensures below { IfSome result (λ number. number < name_count (R.state space.now).records) }
 {
@@ -36,7 +33,8 @@ pub(crate) fn numbers_of<R: Reads>(
     names: &Names,
     texts: &[Text],
 ) -> Result<Vec<u32>, AllocError>
-    ensures finds { IsNamedStore (R.state space.now).records (R.state space.now).shape names.now.names
+    ensures finds { IsNamedStore (R.state space.now).records (R.state space.now).shape
+        names.now.names
         → IfOk result (λ numbers.
         FindsNames (R.state space.now).records numbers.items texts.now) }
     ensures below { IfOk result (λ numbers.
@@ -68,7 +66,7 @@ pub(crate) fn name_of(names: &Names, number: u32, file: u8, id: u32) -> Result<&
         Err(Fault::Damaged(Damage {
             file,
             id,
-            rule: NAMED_RULE,
+            rule: PROPERTY_RULE,
         }))
     }
 }

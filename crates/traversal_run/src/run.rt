@@ -403,6 +403,3 @@ impl Run {
         }
     }
 }
-
-#[cfg(test)]
-mod tests;

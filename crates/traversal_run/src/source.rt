@@ -2,7 +2,7 @@ ghost use Rattle.std.specs.Prelude.{◌≡◌, ◌<◌, ◌+◌, ℕ, [], IfNone
 ghost use Rattle.plain_graph.specs.Graph.{Graph};
 ghost use Rattle.plain_graph.specs.Meaning.{source_of};
 ghost use Rattle.store_rules.specs.Graph.{graph_of};
-ghost use Rattle.traversal_run.specs.Fault.{HasFaultCause, NotDamaged};
+ghost use Rattle.rec_bytes.specs.Fault.{HasFaultCause, NotDamaged};
 ghost use Rattle.traversal_run.specs.Reading.{IsNamedStore, IsRead};
 ghost use Rattle.traversal_run.specs.Scan.{TakesVertex, vertices_from};
 ghost use Rattle.traversal_run.specs.Source.{
@@ -15,11 +15,10 @@ ghost use Rattle.traversal_run.specs.Source.{
 };
 
 use crate::asked_ids::AskedIds;
-use crate::fault::Fault;
 use crate::finding::{element_at, mark_of};
 use crate::shown::Shown;
 use name_store::Names;
-use rec_bytes::Reads;
+use rec_bytes::{Fault, Reads};
 use std::alloc::{AllocError, Global};
 
 /// The identifiers that are still to come.

@@ -5,7 +5,7 @@ ghost use Rattle.plain_graph.specs.Meaning.{identifier, in_vertex, out_vertex, r
 ghost use Rattle.plain_graph.specs.declared.item.Item.TheVariants as items;
 ghost use Rattle.std.specs.List.{cons_option};
 ghost use Rattle.store_rules.specs.Graph.{graph_of};
-ghost use Rattle.traversal_run.specs.Fault.{HasFaultCause, NotDamaged};
+ghost use Rattle.rec_bytes.specs.Fault.{HasFaultCause, NotDamaged};
 ghost use Rattle.traversal_run.specs.Held.{is_hop, is_plain};
 ghost use Rattle.traversal_run.specs.Reading.{IsNamedStore, IsRead};
 ghost use Rattle.traversal_run.specs.Stage.{
@@ -21,7 +21,6 @@ ghost use Rattle.traversal_run.specs.Stage.{
 ghost use Rattle.traversal_run.specs.Stop.{HasStopCause, MayStop};
 
 use crate::counter::Counter;
-use crate::fault::Fault;
 use crate::hopping::{incident, neighbours};
 use crate::kept::{Kept, Ranked};
 use crate::lookups::{distinct_values, label_value, passes, rank};
@@ -31,7 +30,7 @@ use crate::stop::Stop;
 use crate::waiting::Waiting;
 use name_store::Names;
 use plain_graph::{Filter, Hop, Item, Text, Texts};
-use rec_bytes::Reads;
+use rec_bytes::{Fault, Reads};
 use std::alloc::{AllocError, Global};
 
 /// A step under way.

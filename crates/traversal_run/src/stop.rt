@@ -1,5 +1,4 @@
-use crate::fault::Fault;
-use rec_bytes::Damage;
+use rec_bytes::{Damage, Fault};
 use std::alloc::AllocError;
 
 /// Why a run gives nothing more.

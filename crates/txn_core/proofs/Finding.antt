@@ -1,5 +1,5 @@
 -- What recovery finds, and what a store begins with then.
-use Rattle.std.proofs.Common.{◌≡◌, ◌∙◌, ap, sym, subst, inl, inr, ⊎_elim, ◌⊎◌, List, [], Option, Some, is_some, Result, Ok, Err, IfOk, refl}
+use Rattle.std.proofs.Common.{◌≡◌, ◌∙◌, ap, sym, subst, inl, inr, ⊎_elim, ◌⊎◌, List, [], Option, Some, is_some, Result, Ok, Err, IfOk, OnOk, refl, lit<}
 use mathlib.Core.Bool.{false≢true}
 use Rattle.disk_model.specs.Contents.{Files, Same}
 use Rattle.disk_model.specs.Spans.{AtEachMoment, IsAllSettled, OnlyReads}
@@ -8,7 +8,7 @@ use Rattle.disk_model.proofs.Spans.{at_each_moment_on, at_each_moment_weaker}
 use Rattle.rec_bytes.specs.declared.key.Key.{Key}
 use Rattle.rec_bytes.specs.declared.record.Rec.{Rec}
 use Rattle.rec_bytes.specs.declared.shape.Shape.{Shape}
-use Rattle.rec_bytes.specs.Creation.{creation_pairs, own_key}
+use Rattle.rec_bytes.specs.Creation.{creation_pairs, own_key, raised}
 use Rattle.rec_bytes.specs.RecordFiles.{meta_key_of}
 use Rattle.rec_bytes.specs.Pairs.{Pairs}
 use Rattle.rec_bytes.specs.Record.{zeros}
@@ -24,12 +24,12 @@ use Rattle.recovery.specs.Finding.{IsMade}
 use Rattle.txn_core.specs.Config.{Suits, shape_of}
 use Rattle.txn_core.specs.Kept.{IsKept}
 use Rattle.txn_core.specs.MetaRecords.{AreMetasOf, with_metas}
-use Rattle.txn_core.specs.Opening.{IsOldOrNew, IsRefusal, IsStore, OnlyDiffers, Opens, RefusesOpening, made_over}
+use Rattle.txn_core.specs.Opening.{HasOnly, HasOpeningEntry, IsOldOrNew, IsOldOrRaised, IsRefusal, IsStore, OnlyDiffers, Opens, RefusesOpening, made_over, raising_entries}
 use Rattle.txn_core.specs.declared.open_fault.OpenFault.{OpenFault}
 use Rattle.txn_core.specs.declared.open_fault.OpenFault.TheVariants.{Memory, Disk, NotAStore, Damaged, ConfigDiffers}
 use Rattle.txn_core.specs.declared.config.Config.{Config}
 use Rattle.txn_core.proofs.Kept.{Redoes-same, kept_settled, same_records}
-use Rattle.txn_core.proofs.Metas.{with_metas-same}
+use Rattle.txn_core.proofs.Raising.{IsOldOrRaised-same}
 
 -- contents of the same bytes are the same
 pub same_files : (old new : Files) → Same old new → new ≡ old
@@ -53,25 +53,35 @@ one_shape content space shape other made redoes has =
 pub none_made : (content : Files) (shape : Shape) → IsUnmade content → IsStore content shape → ⊥
 none_made content shape unmade made =
     let same : made.space ≡ record_at content = redoes_unique content made.space (record_at content) made.redoes (record { entries = []; tail = 0; log = unmade.log; makes = refl }) in
-    let own : shape_of_record zeros ≡ Some shape = ap shape_of_record (sym (ap (λ (records : Key → Rec). records own_key) same ∙ unmade.blank 0 refl)) ∙ made.made.own in
+    let own : shape_of_record zeros ≡ Some shape = ap shape_of_record (sym (ap (λ (records : Key → Rec). records own_key) same ∙ unmade.blank 0 (lit< tt))) ∙ made.made.own in
     false≢true (ap (λ (o : Option Shape). is_some o) own)
 
 -- reads leave the disk settled
 pub settled_read : {D : Type 0} (g : Ghosts D) (old new : D) → OnlyReads g old new → g.tells_images → IsAllSettled g old → IsAllSettled g new
 settled_read g old new reads told settled file below image left place = settled file below image (reads.crash told image left) place ∙ sym (reads.keeps file place)
 
--- the store that is read
-pub made_opened : (content mid now : Files) (config : Config) (shape found : Shape) (metas : List Rec) (changed : Pairs) (made : IsStore content found) → changed ≡ [] → AreMetasOf (record_at mid) metas → Same mid now
-    → record_at mid ≡ made.space → shape ≡ found → Suits config found → Opens content config shape (laid_over (with_metas metas (record_at now)) changed)
-made_opened content mid now config shape found metas changed made none held same is found_is suits =
-    let records : record_at now ≡ record_at mid = same_records mid now same in
-    let space : laid_over (with_metas metas (record_at now)) changed ≡ made.space =
-    ap (laid_over (with_metas metas (record_at now))) none ∙ with_metas-same metas (record_at now) (subst (λ (r : Key → Rec). AreMetasOf r metas) (sym records) held) ∙ records ∙ is in
+-- the store that is read, as it is in the newest version
+pub made_opened : (content mid : Files) (config : Config) (shape found : Shape) (space : Key → Rec) (made : IsStore content found) → record_at mid ≡ made.space → shape ≡ found → Suits config found → space ≡ raised found (record_at mid) → Opens content config shape space
+made_opened content mid config shape found space made same found_is suits is =
     inr (
-      subst (Redoes content) (sym space) made.redoes,
-      subst (λ (s : Shape). IsMade (laid_over (with_metas metas (record_at now)) changed) s) (sym found_is) (subst (λ (r : Key → Rec). IsMade r found) (sym space) made.made),
+      made.space,
+      made.redoes,
+      subst (IsMade made.space) (sym found_is) made.made,
       subst (Suits config) (sym found_is) suits,
+      is ∙ ap (raised found) same ∙ ap (λ (s : Shape). raised s made.space) (sym found_is),
     )
+
+-- and what its log has then
+pub made_log : (content mid now : Files) (shape found : Shape) (made : IsStore content found) → record_at mid ≡ made.space → shape ≡ found → HasOnly now (raising_entries found (record_at mid)) → HasOpeningEntry content shape now
+made_log content mid now shape found made same found_is log =
+    inr (made.space, made.redoes, subst (λ (s : Shape). HasOnly now (raising_entries s made.space)) (sym found_is) (subst (λ (r : Key → Rec). HasOnly now (raising_entries found r)) same log))
+
+-- what a stop leaves of it
+pub made_crash : {D : Type 0} (g : Ghosts D) (first mid now : D) (shape found : Shape) (space : Key → Rec) → record_at (g.reads mid) ≡ space → shape ≡ found → AtEachMoment g first mid (λ left. g.may_leave first left ⊎ Redoes left space)
+    → AtEachMoment g mid now (IsOldOrRaised found (record_at (g.reads mid))) → AtEachMoment g first now (λ left. g.may_leave first left ⊎ IsOldOrRaised shape space left)
+made_crash g first mid now shape found space same is before after =
+    at_each_moment_on g first mid now _ _ (at_each_moment_weaker g first mid _ _ before (λ left. ⊎_elim (λ was. inl was) (λ redoes. inr (inl redoes)))) after
+    (λ left raised. inr (IsOldOrRaised-same found shape (record_at (g.reads mid)) space left (sym is) same raised))
 
 pub made_kept : {D : Type 0} (g : Ghosts D) (mid now : D) (metas : List Rec) (changed : Pairs) → changed ≡ [] → OnlyReads g mid now → (g.tells_reads → HasEntries (g.reads mid) [] 0)
     → (g.tells_reads → g.tells_images → IsAllSettled g mid) → (g.tells_reads → AreMetasOf (record_at (g.reads mid)) metas) → IsKept g now metas changed 0
@@ -114,6 +124,11 @@ if_ok_both (Err e) P Q p q = tt
 pub if_ok_all : {T E : Type 0} (r : Result T E) (P Q : T → Type 0) → ((x : T) → P x → Q x) → IfOk r P → IfOk r Q
 if_ok_all (Ok x) P Q f p = f x p
 if_ok_all (Err e) P Q f p = tt
+
+-- a fact of each success
+pub if_ok_on : {T E : Type 0} (r : Result T E) (P : Type 0) → OnOk r P → IfOk r (λ _. P)
+if_ok_on (Ok x) P p = p
+if_ok_on (Err e) P p = tt
 
 -- a store of another shape than is asked for is refused so
 pub refuses_differs : (content : Files) (config : Config) (shape : Shape) (fault : OpenFault) → IsStore content shape → OnlyDiffers shape config fault → RefusesOpening content config fault

@@ -12,7 +12,7 @@ use Rattle.rec_bytes.specs.Creation.{creation_pairs}
 use Rattle.rec_bytes.specs.Format.{meta_records}
 use Rattle.rec_bytes.specs.Pairs.{FindsMerged, Pairs}
 use Rattle.rec_bytes.specs.Record.{zeros}
-use Rattle.rec_bytes.specs.RecordFiles.{is_record_file, meta_key_of}
+use Rattle.rec_bytes.specs.RecordFiles.{meta_key_of}
 use Rattle.rec_bytes.specs.Space.{laid_over}
 use Rattle.rec_bytes.proofs.CreationPairs.{creation_pairs-ordered}
 use Rattle.redo_log.specs.Appending.{IsAppended, SameButEntry}
@@ -36,17 +36,6 @@ creation_form shape = record {
   rising = creation_pairs-ordered shape;
 }
 
--- each number below the count of meta records is that of a file
-is_file : (id : ℕ) → id < meta_records → is_record_file id ≡ true
-is_file zero below = refl
-is_file (suc zero) below = refl
-is_file (suc (suc zero)) below = refl
-is_file (suc (suc (suc zero))) below = refl
-is_file (suc (suc (suc (suc zero)))) below = refl
-is_file (suc (suc (suc (suc (suc zero))))) below = refl
-is_file (suc (suc (suc (suc (suc (suc zero)))))) below = refl
-is_file (suc (suc (suc (suc (suc (suc (suc id))))))) below = absurd (omega arith)
-
 slice_get-replicate : (n id : ℕ) (rec : Rec) → id < n → slice_get (replicate n rec) id ≡ Some rec
 slice_get-replicate zero id rec below = absurd (omega arith)
 slice_get-replicate (suc n) zero rec below = refl
@@ -54,7 +43,7 @@ slice_get-replicate (suc n) (suc id) rec below = slice_get-replicate n id rec (o
 
 -- the meta records of a content with no store are zeros
 held_unmade : (content : Files) → IsUnmade content → AreMetasOf (record_at content) blank_metas
-held_unmade content unmade id below = slice_get-replicate meta_records id zeros below ∙ ap (λ (r : Rec). Some r) (sym (unmade.blank id (is_file id below)))
+held_unmade content unmade id below = slice_get-replicate meta_records id zeros below ∙ ap (λ (r : Rec). Some r) (sym (unmade.blank id below))
 
 -- where no store was made and no byte is pending
 pub kept_unmade : {D : Type 0} (g : Ghosts D) (disk : D) → (g.tells_reads → IsUnmade (g.reads disk)) → (g.tells_reads → g.tells_images → IsAllSettled g disk) → IsKept g disk blank_metas [] 0

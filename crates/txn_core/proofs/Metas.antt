@@ -10,7 +10,7 @@ use Rattle.rec_bytes.specs.Format.{meta_file, meta_records}
 use Rattle.rec_bytes.specs.RecordFiles.{meta_key_of}
 use Rattle.record_file.specs.Records.{record_at}
 use Rattle.record_file.proofs.Records.{record_at-read}
-use Rattle.txn_core.specs.MetaRecords.{AreMetasOf, with_metas}
+use Rattle.txn_core.specs.MetaRecords.{AreMetasOf, meta_bytes, with_metas}
 
 -- the meta records of memory change nothing where they are those of the records
 pub with_metas-same : (metas : List Rec) (records : Key → Rec) → AreMetasOf records metas → with_metas metas records ≡ records
@@ -37,7 +37,7 @@ Holds-part file at start n bytes content within holds i below =
     get_or-take n (drop start bytes) i 0 short ∙ get_or-drop start bytes i 0 ∙ holds (start + i) (omega (arith, within)) ∙ ap (content file) (omega arith)
 
 -- the 64 bytes of a meta record
-pub part_is : (id : ℕ) (bytes : List ℕ) (content : Files) → id < meta_records → length bytes ≡ 448 → Holds meta_file 0 bytes content
+pub part_is : (id : ℕ) (bytes : List ℕ) (content : Files) → id < meta_records → length bytes ≡ meta_bytes → Holds meta_file 0 bytes content
     → let r : Rec = record { bytes = take 64 (drop (id * 64) bytes) } in r ≡ record_at content (meta_key_of id)
 part_is id bytes content below whole holds =
     let start : id * 64 ≡ 64 * id = omega arith in

@@ -1,11 +1,16 @@
 -- The shape that is asked for.
 use Rattle.std.specs.Prelude.{◌≡◌, ℕ, Option, Some, None, unwrap_or}
+use Rattle.rec_bytes.specs.Format.{default_limit, default_threshold}
 use Rattle.rec_bytes.specs.declared.shape.Shape.{Shape}
 use Rattle.txn_core.specs.declared.config.Config.{Config}
 
--- the values asked for, else 50 and 1,048,576
+-- the values asked for, else those of a store that is asked for none
 abbrev pub shape_of : Config → Shape
-shape_of config = record { threshold = unwrap_or config.threshold 50; limit = unwrap_or config.limit 1048576 }
+shape_of config =
+    record {
+      threshold = unwrap_or config.threshold default_threshold;
+      limit = unwrap_or config.limit default_limit;
+    }
 
 -- a value is the one asked for, or none is asked for
 abbrev pub IsAsked : Option ℕ → ℕ → Type 0

@@ -4,6 +4,7 @@ use Rattle.disk_model.specs.Contents.{Files}
 use Rattle.disk_model.specs.declared.disk.Disk.{Ghosts}
 use Rattle.rec_bytes.specs.declared.record.Rec.{Rec}
 use Rattle.rec_bytes.specs.Pairs.{Held, Pairs, growth_by}
+use Rattle.redo_log.specs.Entries.{Fits}
 use Rattle.record_file.specs.Records.{record_at}
 use Rattle.record_file.specs.Redone.{AreAlike, IsLogged}
 use Rattle.txn_core.specs.MetaRecords.{AreMetasOf}
@@ -20,17 +21,25 @@ most_own = 2048
 abbrev pub FitsTransaction : Pairs → Pairs → Type 0
 FitsTransaction own more = length own + growth_by own more ≤ most_own
 
--- There are at most as many changed records as there may be, and they have room for so many. The transaction has as many as an
--- entry may have, and none where none is open.
+-- the transaction fits as one entry at the tail of the log, and its records fit among the changed
+-- ones
+abbrev pub FitsCommit : ℕ → Pairs → Pairs → Type 0
+FitsCommit tail changed own =
+    Fits tail (length own) × (length changed + growth_by changed own ≤ most_changed)
+
+-- There are at most as many changed records as there may be, and they have room for so many. The
+-- transaction has as many as an entry may have, and none where none is open.
 pub record AreBounded (in_transaction : Bool) (changed own : Held) : Type 0 where
   pub room : most_changed ≤ length changed.pairs + changed.room
   pub few : length own.pairs ≤ most_own
   pub closed : in_transaction ≡ false → length own.pairs ≡ 0
   pub most : length changed.pairs ≤ most_changed
 
--- The log is what is read: its entries have the changed records, and it ends at the tail. Each image is what is read, but for the
--- changed records, and the meta records in memory are those of their file.
-pub record IsKept {D : Type 0} (g : Ghosts D) (disk : D) (metas : List Rec) (changed : Pairs) (tail : ℕ) : Type 0 where
+-- The log is what is read: its entries have the changed records, and it ends at the tail. Each
+-- image is what is read, but for the changed records, and the meta records in memory are those of
+-- their file.
+pub record IsKept {D : Type 0} (g : Ghosts D) (disk : D) (metas : List Rec) (changed : Pairs)
+    (tail : ℕ) : Type 0 where
   pub logged : g.tells_reads → IsLogged (g.reads disk) changed tail
   pub alike : g.tells_reads → g.tells_images → AreAlike (g.reads disk) changed (g.may_leave disk)
   pub held : g.tells_reads → AreMetasOf (record_at (g.reads disk)) metas

@@ -19,7 +19,8 @@ module _ {D : Type 0} {g : Ghosts D} where
     in_transaction = refl;
   }
 
-  pub only_reads_base_on : {a b c : Base D g} → OnlyReadsBase a b → OnlyReadsBase b c → OnlyReadsBase a c
+  pub only_reads_base_on : {a b c : Base D g} → OnlyReadsBase a b → OnlyReadsBase b c
+      → OnlyReadsBase a c
   only_reads_base_on {a = a} {b = b} {c = c} first more = record {
     same_disk = more.same_disk ∙ first.same_disk;
     disk = only_reads_on g a.disk.now b.disk.now c.disk.now first.disk more.disk;

@@ -1,11 +1,15 @@
 -- What the opening of a store finds, and why one is refused.
-use Rattle.std.specs.Prelude.{◌≡◌, ◌⊎◌}
+use Rattle.std.specs.Prelude.{◌≡◌, ◌⊎◌, ℕ, List, [], ◌∷◌, nat_lt, if◌then◌else◌}
 use Rattle.disk_model.specs.Contents.{Files}
-use Rattle.rec_bytes.specs.Creation.{creation_pairs}
+use Rattle.rec_bytes.specs.Creation.{creation_pairs, own_key, raised, raising_pairs}
+use Rattle.rec_bytes.specs.Format.{newest_version}
+use Rattle.rec_bytes.specs.Pairs.{Pairs}
+use Rattle.rec_bytes.specs.Shape.{version_of}
 use Rattle.rec_bytes.specs.Space.{laid_over}
 use Rattle.rec_bytes.specs.declared.key.Key.{Key}
 use Rattle.rec_bytes.specs.declared.record.Rec.{Rec}
 use Rattle.rec_bytes.specs.declared.shape.Shape.{Shape}
+use Rattle.redo_log.specs.Entries.{HasEntries}
 use Rattle.record_file.specs.Records.{IsUnmade, record_at}
 use Rattle.record_file.specs.Redone.{Redoes}
 use Rattle.recovery.specs.Finding.{IsMade, Refuses}
@@ -13,7 +17,13 @@ use Rattle.recovery.specs.declared.recover_fault.RecoverFault.TheVariants as rec
 use Rattle.txn_core.specs.Config.{Suits, shape_of}
 use Rattle.txn_core.specs.declared.config.Config.{Config}
 use Rattle.txn_core.specs.declared.open_fault.OpenFault.{OpenFault}
-use Rattle.txn_core.specs.declared.open_fault.OpenFault.TheVariants.{Memory, Disk, NotAStore, Damaged, ConfigDiffers}
+use Rattle.txn_core.specs.declared.open_fault.OpenFault.TheVariants.{
+  Memory,
+  Disk,
+  NotAStore,
+  Damaged,
+  ConfigDiffers,
+}
 
 -- the records of a new store over those of a content
 abbrev pub made_over : Files → Shape → Key → Rec
@@ -25,12 +35,36 @@ pub record IsStore (content : Files) (shape : Shape) : Type 0 where
   pub redoes : Redoes content space
   pub made : IsMade space shape
 
--- The store that is opened over this content: a new one where none was made, of the shape that is asked for; else the one whose
--- records the content redoes to, of a shape that suits.
+-- The store that is opened over this content: a new one where none was made, of the shape that is
+-- asked for; else the one whose records the content redoes to, of a shape that suits, as it is in
+-- the newest version.
 abbrev pub Opens : Files → Config → Shape → (Key → Rec) → Type 0
 Opens content config shape space =
     (IsUnmade content × (shape ≡ shape_of config) × (space ≡ made_over content shape))
-    ⊎ (Redoes content space × IsMade space shape × Suits config shape)
+    ⊎ ((before : Key → Rec) × Redoes content before × IsMade before shape × Suits config shape
+    × (space ≡ raised shape before))
+
+-- a content that redoes to the records of a store as they were, or as they are in the newest
+-- version
+abbrev pub IsOldOrRaised : Shape → (Key → Rec) → Files → Type 0
+IsOldOrRaised shape space left = Redoes left space ⊎ Redoes left (raised shape space)
+
+-- the entry that brings a store of these records to the newest version, and none where it is of
+-- that
+abbrev pub raising_entries : Shape → (Key → Rec) → List Pairs
+raising_entries shape space =
+    if nat_lt (version_of (space own_key)) newest_version then raising_pairs shape ∷ [] else []
+
+-- the log has these entries and no other
+abbrev pub HasOnly : Files → List Pairs → Type 0
+HasOnly content entries = (tail : ℕ) × HasEntries content entries tail
+
+-- What an opening leaves in the log: the entry of a new store; else that of the raise, if there is
+-- one.
+abbrev pub HasOpeningEntry : Files → Shape → Files → Type 0
+HasOpeningEntry content shape left =
+    (IsUnmade content × HasOnly left (creation_pairs shape ∷ []))
+    ⊎ ((before : Key → Rec) × Redoes content before × HasOnly left (raising_entries shape before))
 
 -- a content with no store, or with the new one
 abbrev pub IsOldOrNew : Files → Shape → Files → Type 0
@@ -42,7 +76,8 @@ RefusesOpening content config Memory = Unit {0}
 RefusesOpening content config Disk = Unit {0}
 RefusesOpening content config NotAStore = Refuses content recover.NotAStore
 RefusesOpening content config (Damaged damage) = Refuses content (recover.Damaged damage)
-RefusesOpening content config (ConfigDiffers stored asked) = IsStore content stored × (asked ≡ config) × ¬ Suits config stored
+RefusesOpening content config (ConfigDiffers stored asked) =
+    IsStore content stored × (asked ≡ config) × ¬ Suits config stored
 
 -- why a store that stands is not opened: memory or the disk, or another shape is asked for
 abbrev pub OnlyDiffers : Shape → Config → OpenFault → Type 0
@@ -50,7 +85,8 @@ OnlyDiffers shape config Memory = Unit {0}
 OnlyDiffers shape config Disk = Unit {0}
 OnlyDiffers shape config NotAStore = ⊥
 OnlyDiffers shape config (Damaged damage) = ⊥
-OnlyDiffers shape config (ConfigDiffers stored asked) = (stored ≡ shape) × (asked ≡ config) × ¬ Suits config shape
+OnlyDiffers shape config (ConfigDiffers stored asked) =
+    (stored ≡ shape) × (asked ≡ config) × ¬ Suits config shape
 
 -- why no store is made: memory or the disk
 abbrev pub IsWant : OpenFault → Type 0

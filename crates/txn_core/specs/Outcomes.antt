@@ -9,7 +9,8 @@ use Rattle.txn_core.specs.Kept.{IsOnDisk}
 use Rattle.txn_core.specs.Base.{committed, content, working}
 
 module _ {D : Type 0} {g : Ghosts D} where
-  -- after a checkpoint: the same is committed, the files have all of it, the log has no entry, and no byte is pending
+  -- after a checkpoint: the same is committed, the files have all of it, the log has no entry, and
+  -- no byte is pending
   pub record IsCheckpointed (old new : Base D g) : Type 0 where
     pub space : g.tells_reads → committed new ≡ committed old
     pub changed : new.changed.pairs ≡ []
@@ -33,4 +34,5 @@ module _ {D : Type 0} {g : Ghosts D} where
   -- the disk failed, and has what was committed, or what the transaction has written too
   pub record IsInDoubt (old new : Base D g) : Type 0 where
     pub failed : new.live ≡ false
-    pub stored : IsOnDisk g new.disk.now (λ left. Redoes left (committed old) ⊎ Redoes left (working old))
+    pub stored : IsOnDisk g new.disk.now
+        (λ left. Redoes left (committed old) ⊎ Redoes left (working old))

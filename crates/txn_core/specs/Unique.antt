@@ -8,11 +8,14 @@ use Rattle.record_file.specs.Unique.{AreAlike-prop, IsLogged-prop}
 use Rattle.page_cache.specs.Pages.{Agrees, Pages}
 use Rattle.txn_core.specs.Kept.{AreBounded, IsKept}
 
-pub AreBounded-prop : (in_transaction : Bool) (changed own : Held) → IsProp (AreBounded in_transaction changed own)
+pub AreBounded-prop : (in_transaction : Bool) (changed own : Held)
+    → IsProp (AreBounded in_transaction changed own)
 AreBounded-prop in_transaction changed own = hlevel props
 
-pub IsKept-prop : {D : Type 0} (g : Ghosts D) (disk : D) (metas : List Rec) (changed : Pairs) (tail : ℕ) (live : Bool) → IsProp (IsTrue live → IsKept g disk metas changed tail)
+pub IsKept-prop : {D : Type 0} (g : Ghosts D) (disk : D) (metas : List Rec) (changed : Pairs)
+    (tail : ℕ) (live : Bool) → IsProp (IsTrue live → IsKept g disk metas changed tail)
 IsKept-prop g disk metas changed tail live = hlevel (props, IsLogged-prop, AreAlike-prop)
 
-pub IsCached-prop : {D : Type 0} (g : Ghosts D) (disk : D) (cache : Pages) → IsProp (g.tells_reads → Agrees (g.reads disk) cache)
+pub IsCached-prop : {D : Type 0} (g : Ghosts D) (disk : D) (cache : Pages)
+    → IsProp (g.tells_reads → Agrees (g.reads disk) cache)
 IsCached-prop g disk cache = hlevel props

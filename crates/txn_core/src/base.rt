@@ -18,8 +18,9 @@ pub(crate) const MOST_OWN: usize = 2_048;
 /// How many pages of records are kept.
 pub(crate) const KEPT_PAGES: usize = 256;
 
-/// What lies beneath the draft of a store: its disk, and in memory the pages of it that were used last, the meta records as
-/// the files have them, the records changed since the last checkpoint, and those that the open transaction has written.
+/// What lies beneath the draft of a store: its disk, and in memory the pages of it that were used
+/// last, the meta records as the files have them, the records changed since the last checkpoint,
+/// and those that the open transaction has written.
 #[derive(Drop)]
 pub struct Base<'d, D: Disk> {
     pub(crate) disk: &'d mut D,
@@ -36,11 +37,16 @@ pub struct Base<'d, D: Disk> {
     ghost allowed: { is_allowed shape ≡ true },
 
     // Each record of a kept page is what is read.
-    ghost cached: { D.tells_reads → Agrees (D.reads disk.now) cache } by { IsCached-prop D.Disk disk.now cache },
-    ghost bounded: { AreBounded in_transaction changed own } by { AreBounded-prop in_transaction changed own },
+    ghost cached: { D.tells_reads
+        → Agrees (D.reads disk.now) cache } by { IsCached-prop D.Disk disk.now cache },
+    ghost bounded: { AreBounded in_transaction changed own } by { AreBounded-prop in_transaction
+        changed own },
 
-    // While the store is live, its log is what is read, and each image is that but for the changed records.
-    ghost kept: { IsTrue live → IsKept D.Disk disk.now metas.records changed.pairs tail } by { IsKept-prop D.Disk disk.now metas.records changed.pairs tail live },
+    // While the store is live, its log is what is read, and each image is that but for the changed
+    // records.
+    ghost kept: { IsTrue live
+        → IsKept D.Disk disk.now metas.records changed.pairs tail } by { IsKept-prop D.Disk disk.now
+            metas.records changed.pairs tail live },
 }
 
 impl<'d, D: Disk> Base<'d, D> {

@@ -14,7 +14,9 @@ impl<'d, D: Disk> Base<'d, D> {
     // Brings the changed records into their files, and takes the log's entries away.
     pub(crate) fn checkpoint(&mut self) -> Result<(), DiskFault>
         requires live { IsTrue self.old.live }
-        ensures crash { D.tells_reads → D.tells_images → AtEachMoment D.Disk self.old.disk.now self.new.disk.now (λ left. Redoes left (committed self.old)) }
+        ensures crash { D.tells_reads → D.tells_images
+            → AtEachMoment D.Disk self.old.disk.now self.new.disk.now
+            (λ left. Redoes left (committed self.old)) }
         ensures done { OnOk result (IsCheckpointed self.old self.new) }
         ensures failed { OnErr result (HasFailed self.old self.new) }
         ensures own { self.new.own ≡ self.old.own }

@@ -1,7 +1,7 @@
 ghost use Rattle.std.specs.Prelude.{◌≡◌, ◌↔◌, IsTrue};
 ghost use Rattle.txn_core.specs.Config.{IsAsked, Suits, shape_of};
 
-use rec_bytes::Shape;
+use rec_bytes::{DEFAULT_LIMIT, DEFAULT_THRESHOLD, Shape};
 
 /// What a store is asked to be; what isn't given is left open.
 #[derive(Clone, Copy, Debug, PartialEq, Eq)]
@@ -13,20 +13,14 @@ pub struct Config {
     pub limit: Option<u32>,
 }
 
-/// The threshold of a store that isn't asked for another.
-const THRESHOLD: u16 = 50;
-
-/// The limit of a store that isn't asked for another.
-const LIMIT: u32 = 1_048_576;
-
 impl Config {
     /// The shape of a new store.
     pub fn shape(&self) -> Shape
         ensures { result ≡ shape_of self.now }
     {
         Shape {
-            threshold: self.threshold.unwrap_or(THRESHOLD),
-            limit: self.limit.unwrap_or(LIMIT),
+            threshold: self.threshold.unwrap_or(DEFAULT_THRESHOLD),
+            limit: self.limit.unwrap_or(DEFAULT_LIMIT),
         }
     }
 

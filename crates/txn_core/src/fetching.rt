@@ -10,13 +10,14 @@ use disk_model::Disk;
 use rec_bytes::{DiskFault, Key, Rec, meta_key};
 
 impl<'d, D: Disk> Base<'d, D> {
-    // The record at a key as the open transaction has it. If it is in memory, or its page is, the disk isn't called;
-    // else it is called once.
+    // The record at a key as the open transaction has it. If it is in memory, or its page is, the
+    // disk isn't called; else it is called once.
     pub(crate) fn fetch(&mut self, key: Key) -> Result<Rec, DiskFault>
         requires { IsKey key }
         ensures got { D.tells_reads → IfOk result (λ rec. rec ≡ working self.old key) }
         ensures whole { IfOk result (λ rec. length rec.bytes ≡ 64) }
-        ensures hit { IsSome (kept_page key self.old.cache) → IsOk result × (self.new.disk.now ≡ self.old.disk.now) }
+        ensures hit { IsSome (kept_page key self.old.cache)
+            → IsOk result × (self.new.disk.now ≡ self.old.disk.now) }
         ensures records { working self.new ≡ working self.old }
         ensures onward { OnlyReadsBase self.old self.new }
         ensures cause { HasCause (D.faults self.old.disk.now) (D.faults self.new.disk.now) result }

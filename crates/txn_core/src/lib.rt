@@ -1,5 +1,6 @@
-//! A store over a disk: what is committed, the open transaction, and the draft of one change over both. A commit is one entry of
-//! the redo log, with two syncs; a read costs at most three searches in memory and one call of the disk.
+//! A store over a disk: what is committed, the open transaction, and the draft of one change over
+//! both. A commit is one entry of the redo log, with two syncs; a read costs at most three searches
+//! in memory and one call of the disk.
 #![tactic(auto)]
 
 mod again_fault;

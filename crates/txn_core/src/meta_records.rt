@@ -2,6 +2,7 @@ ghost use Rattle.std.specs.Prelude.{◌≡◌, ℕ, IfOk, Some, length, true};
 ghost use Rattle.fault_count.specs.Cause.{HasCause};
 ghost use Rattle.disk_model.specs.Contents.{Files, Holds};
 ghost use Rattle.disk_model.specs.Spans.{OnlyReads};
+ghost use Rattle.rec_bytes.specs.Creation.{own_key};
 ghost use Rattle.rec_bytes.specs.Format.{meta_file};
 ghost use Rattle.rec_bytes.specs.RecordFiles.{is_meta_file, meta_key_of};
 ghost use Rattle.rec_bytes.specs.Space.{laid_over};
@@ -11,7 +12,7 @@ ghost use Rattle.record_file.specs.Records.{record_at};
 ghost use Rattle.txn_core.specs.MetaRecords.{AreMetasOf, blank_metas, find_meta, meta_bytes};
 
 use disk_model::Disk;
-use rec_bytes::{DiskFault, Key, META, META_RECORDS, RECORD_BYTES, Rec, WriteSet};
+use rec_bytes::{DiskFault, Key, META, META_RECORDS, OWN_KEY, RECORD_BYTES, Rec, WriteSet};
 
 /// How many records the meta file has.
 const COUNT: usize = META_RECORDS as usize;
@@ -37,7 +38,8 @@ impl MetaRecords {
 
     /// Reads them in one call.
     pub(crate) fn read<D: Disk>(disk: &mut D) -> Result<MetaRecords, DiskFault>
-        ensures held { D.tells_reads → IfOk result (λ metas. AreMetasOf (record_at (D.reads disk.old)) metas.records) }
+        ensures held { D.tells_reads
+            → IfOk result (λ metas. AreMetasOf (record_at (D.reads disk.old)) metas.records) }
         ensures only_reads { OnlyReads D.Disk disk.old disk.new }
         ensures cause { HasCause (D.faults disk.old) (D.faults disk.new) result }
     {
@@ -49,7 +51,8 @@ impl MetaRecords {
     // The records in these bytes, one after the other.
     fn of(bytes: &[u8]) -> MetaRecords
         requires { length bytes.now ≡ meta_bytes }
-        ensures { (content : Files) → Holds meta_file 0 bytes.now content → AreMetasOf (record_at content) result.records }
+        ensures { (content : Files) → Holds meta_file 0 bytes.now content
+            → AreMetasOf (record_at content) result.records }
     {
         let mut metas = MetaRecords::blank();
         for id in 0..COUNT {
@@ -73,6 +76,13 @@ impl MetaRecords {
         }
     }
 
+    /// The store's own record.
+    pub(crate) fn own(&self) -> Rec
+        ensures { find_meta self.now.records own_key ≡ Some result }
+    {
+        self.records[OWN_KEY.id as usize]
+    }
+
     /// The meta record of a file.
     pub(crate) fn of_file(&self, file: u8) -> Rec
         requires { is_meta_file file ≡ true }
@@ -83,7 +93,8 @@ impl MetaRecords {
 
     /// Takes the meta records among these, once they are written in the file.
     pub(crate) fn refresh(&mut self, written: &WriteSet)
-        ensures { (records : AKey → ARec) → AreMetasOf records self.old.records → AreMetasOf (laid_over records written.now.pairs) self.new.records }
+        ensures { (records : AKey → ARec) → AreMetasOf records self.old.records
+            → AreMetasOf (laid_over records written.now.pairs) self.new.records }
     {
         for id in 0..META_RECORDS {
             if let Some(rec) = written.find(Key { file: META, id }) {

@@ -1,9 +1,25 @@
-ghost use Rattle.std.specs.Prelude.{◌≡◌, ◌⊎◌, ◌≤◌, ◌+◌, [], Err, IsTrue, IfErr, IfOk, OnErr, OnOk, false, true, length};
+ghost use Rattle.std.specs.Prelude.{
+  ◌≡◌,
+  ◌⊎◌,
+  ◌≤◌,
+  ◌+◌,
+  [],
+  ◌∷◌,
+  Err,
+  IsTrue,
+  IfErr,
+  IfOk,
+  OnErr,
+  OnOk,
+  false,
+  true,
+  length,
+};
 ghost use Rattle.fault_count.specs.Cause.{HasCause, Rose};
 ghost use Rattle.disk_model.specs.Contents.{Files};
 ghost use Rattle.disk_model.specs.Spans.{AtEachMoment, IsAllSettled, OnlyReads};
 ghost use Rattle.page_cache.specs.Pages.{Agrees};
-ghost use Rattle.rec_bytes.specs.Creation.{creation_pairs};
+ghost use Rattle.rec_bytes.specs.Creation.{creation_pairs, raised};
 ghost use Rattle.rec_bytes.specs.Shape.{is_allowed};
 ghost use Rattle.rec_bytes.specs.Space.{laid_over};
 ghost use Rattle.rec_bytes.specs.declared.key.Key.{Key as AKey};
@@ -12,19 +28,31 @@ ghost use Rattle.rec_bytes.specs.declared.shape.Shape.{Shape as AShape};
 ghost use Rattle.redo_log.specs.Entries.{HasEntries};
 ghost use Rattle.record_file.specs.Records.{IsUnmade, record_at};
 ghost use Rattle.record_file.specs.Redone.{Redoes};
-ghost use Rattle.recovery.specs.Finding.{IsMade};
+ghost use Rattle.recovery.specs.Finding.{IsCareful, IsMade};
 ghost use Rattle.txn_core.specs.Base.{committed};
 ghost use Rattle.txn_core.specs.Config.{Suits, shape_of};
 ghost use Rattle.txn_core.specs.Kept.{IsKept, most_changed};
 ghost use Rattle.txn_core.specs.MetaRecords.{AreMetasOf, with_metas};
-ghost use Rattle.txn_core.specs.Opening.{IsOldOrNew, IsRefusal, IsWant, OnlyDiffers, Opens, RefusesOpening, made_over};
+ghost use Rattle.txn_core.specs.Opening.{
+  HasOnly,
+  HasOpeningEntry,
+  IsOldOrNew,
+  IsOldOrRaised,
+  IsRefusal,
+  IsWant,
+  OnlyDiffers,
+  Opens,
+  RefusesOpening,
+  made_over,
+  raising_entries,
+};
 
 use crate::base::{Base, KEPT_PAGES, MOST_CHANGED};
 use crate::meta_records::MetaRecords;
 use crate::{Config, NotOpened, OpenFault};
 use disk_model::Disk;
 use page_cache::PageCache;
-use rec_bytes::{DiskFault, Shape, WriteSet, creation};
+use rec_bytes::{DiskFault, Shape, VERSION, WriteSet, creation, put_raising, version_of};
 use recovery::{Found, RecoverFault, recover};
 use redo_log::append;
 use std::alloc::{AllocError, Global};
@@ -54,28 +82,54 @@ impl<'d, D: Disk> Base<'d, D> {
         config: Config,
     ) -> Result<Base<'d, D>, NotOpened<'d, D>>
         requires allowed { is_allowed (shape_of config) ≡ true }
-        ensures opened { D.tells_reads → IfOk result (λ base. Opens (D.reads disk.old) config base.shape (committed base)) }
+        ensures opened { D.tells_reads
+            → IfOk result (λ base. Opens (D.reads disk.old) config base.shape (committed base)) }
         ensures suits { IfOk result (λ base. Suits config base.shape) }
+        ensures settled { D.tells_reads → D.tells_images
+            → IfOk result (λ base. IsAllSettled D.Disk base.disk.now) }
+        ensures log { D.tells_reads → IfOk result
+            (λ base. HasOpeningEntry (D.reads disk.old) base.shape (D.reads base.disk.now)) }
+        ensures no_memory { IfErr result
+            (λ refusal. refusal.why ≡ OpenFault.Memory → refusal.disk.now ≡ disk.old) }
         ensures live { IfOk result (λ base. IsTrue base.live) }
         ensures closed { IfOk result (λ base. base.in_transaction ≡ false) }
         ensures own { IfOk result (λ base. base.own.pairs ≡ []) }
-        ensures crash { D.tells_reads → D.tells_images → (space : AKey → ARec) (shape : AShape) → Redoes (D.reads disk.old) space → IsMade space shape
-            → IfOk result (λ base. AtEachMoment D.Disk disk.old base.disk.now (λ left. D.may_leave disk.old left ⊎ Redoes left space)) }
+        ensures crash { D.tells_reads → D.tells_images → (space : AKey → ARec) (shape : AShape)
+            → Redoes (D.reads disk.old) space → IsMade space shape
+            → IfOk result (λ base. AtEachMoment D.Disk disk.old base.disk.now
+            (λ left. D.may_leave disk.old left ⊎ IsOldOrRaised shape space left)) }
         ensures crash_new { D.tells_reads → D.tells_images → IsUnmade (D.reads disk.old)
-            → IfOk result (λ base. AtEachMoment D.Disk disk.old base.disk.now (λ left. D.may_leave disk.old left ⊎ IsOldOrNew (D.reads disk.old) (shape_of config) left)) }
+            → IfOk result (λ base. AtEachMoment D.Disk disk.old base.disk.now
+            (λ left. D.may_leave disk.old left
+            ⊎ IsOldOrNew (D.reads disk.old) (shape_of config) left)) }
         ensures same_disk { IfOk result (λ base. base.disk.ghost_name ≡ disk.entry.ghost_name) }
         ensures later { IfOk result (λ base. D.faults disk.old ≤ D.faults base.disk.now) }
-        ensures refused { D.tells_reads → IfErr result (λ refusal. RefusesOpening (D.reads disk.old) config refusal.why) }
-        ensures sound { D.tells_reads → (space : AKey → ARec) (shape : AShape) → Redoes (D.reads disk.old) space → IsMade space shape → IfErr result (λ refusal. OnlyDiffers shape config refusal.why) }
-        ensures unmade { D.tells_reads → IsUnmade (D.reads disk.old) → IfErr result (λ refusal. IsWant refusal.why) }
-        ensures left { D.tells_reads → D.tells_images → (space : AKey → ARec) (shape : AShape) → Redoes (D.reads disk.old) space → IsMade space shape
-            → IfErr result (λ refusal. AtEachMoment D.Disk disk.old refusal.disk.now (λ left. D.may_leave disk.old left ⊎ Redoes left space)) }
+        ensures refused { D.tells_reads
+            → IfErr result (λ refusal. RefusesOpening (D.reads disk.old) config refusal.why) }
+        ensures sound { D.tells_reads → (space : AKey → ARec) (shape : AShape)
+            → Redoes (D.reads disk.old) space → IsMade space shape
+            → IfErr result (λ refusal. OnlyDiffers shape config refusal.why) }
+        ensures unmade { D.tells_reads → IsUnmade (D.reads disk.old)
+            → IfErr result (λ refusal. IsWant refusal.why) }
+        ensures left { D.tells_reads → D.tells_images → (space : AKey → ARec) (shape : AShape)
+            → Redoes (D.reads disk.old) space → IsMade space shape
+            → IfErr result (λ refusal. AtEachMoment D.Disk disk.old refusal.disk.now
+            (λ left. D.may_leave disk.old left ⊎ IsOldOrRaised shape space left)) }
         ensures left_new { D.tells_reads → D.tells_images → IsUnmade (D.reads disk.old)
-            → IfErr result (λ refusal. AtEachMoment D.Disk disk.old refusal.disk.now (λ left. D.may_leave disk.old left ⊎ IsOldOrNew (D.reads disk.old) (shape_of config) left)) }
-        ensures untouched { D.tells_reads → IfErr result (λ refusal. IsRefusal refusal.why → OnlyReads D.Disk disk.old refusal.disk.now) }
-        ensures handed_back { IfErr result (λ refusal. refusal.disk.ghost_name ≡ disk.entry.ghost_name) }
-        ensures later_refused { IfErr result (λ refusal. D.faults disk.old ≤ D.faults refusal.disk.now) }
-        ensures cause { IfErr result (λ refusal. refusal.why ≡ OpenFault.Disk → Rose (D.faults disk.old) (D.faults refusal.disk.now)) }
+            → IfErr result (λ refusal. AtEachMoment D.Disk disk.old refusal.disk.now
+            (λ left. D.may_leave disk.old left
+            ⊎ IsOldOrNew (D.reads disk.old) (shape_of config) left)) }
+        ensures untouched { D.tells_reads
+            → IfErr result (λ refusal. IsRefusal refusal.why
+            → OnlyReads D.Disk disk.old refusal.disk.now) }
+        ensures careful { IfErr result (λ refusal. IsCareful D.Disk disk.old refusal.disk.now) }
+        ensures handed_back { IfErr result
+            (λ refusal. refusal.disk.ghost_name ≡ disk.entry.ghost_name) }
+        ensures later_refused { IfErr result
+            (λ refusal. D.faults disk.old ≤ D.faults refusal.disk.now) }
+        ensures cause { IfErr result
+            (λ refusal. refusal.why ≡ OpenFault.Disk
+            → Rose (D.faults disk.old) (D.faults refusal.disk.now)) }
     {
         let Ok(
             Sets {
@@ -112,7 +166,8 @@ impl Sets {
     fn new(alloc: Global, config: Config) -> Result<Sets, AllocError>
         ensures changed { IfOk result (λ sets. sets.changed.pairs ≡ []) }
         ensures room { IfOk result (λ sets. 8192 ≤ sets.changed.room) }
-        ensures creation { IfOk result (λ sets. sets.creation.pairs ≡ creation_pairs (shape_of config)) }
+        ensures creation { IfOk result
+            (λ sets. sets.creation.pairs ≡ creation_pairs (shape_of config)) }
         ensures cache { IfOk result (λ sets. (content : Files) → Agrees content sets.cache) }
     {
         let mut changed = WriteSet::new(alloc);
@@ -136,25 +191,39 @@ fn find_or_make<D: Disk>(
     requires creation { creation.now.pairs ≡ creation_pairs (shape_of config) }
     requires changed { changed.old.pairs ≡ [] }
     requires room { 8192 ≤ changed.old.room }
-    ensures opened { D.tells_reads → IfOk result (λ s. Opens (D.reads disk.old) config s.shape (laid_over (with_metas s.metas.records (record_at (D.reads disk.new))) changed.new.pairs)) }
+    ensures opened { D.tells_reads
+        → IfOk result (λ s. Opens (D.reads disk.old) config s.shape
+        (laid_over (with_metas s.metas.records (record_at (D.reads disk.new))) changed.new.pairs)) }
     ensures suits { IfOk result (λ s. Suits config s.shape) }
+    ensures settled { D.tells_reads → D.tells_images → OnOk result (IsAllSettled D.Disk disk.new) }
+    ensures log { D.tells_reads → IfOk result
+        (λ s. HasOpeningEntry (D.reads disk.old) s.shape (D.reads disk.new)) }
+    ensures no_memory { IfErr result (λ fault. ¬ (fault ≡ OpenFault.Memory)) }
     ensures allowed { IfOk result (λ s. is_allowed s.shape ≡ true) }
     ensures room { 8192 ≤ length changed.new.pairs + changed.new.room }
     ensures few { length changed.new.pairs ≤ most_changed }
-    ensures kept { IfOk result (λ s. IsKept D.Disk disk.new s.metas.records changed.new.pairs s.tail) }
-    ensures crash { D.tells_reads → D.tells_images → (space : AKey → ARec) (shape : AShape) → Redoes (D.reads disk.old) space → IsMade space shape
-        → AtEachMoment D.Disk disk.old disk.new (λ left. D.may_leave disk.old left ⊎ Redoes left space) }
+    ensures kept { IfOk result (λ s.
+        IsKept D.Disk disk.new s.metas.records changed.new.pairs s.tail) }
+    ensures crash { D.tells_reads → D.tells_images → (space : AKey → ARec) (shape : AShape)
+        → Redoes (D.reads disk.old) space → IsMade space shape
+        → AtEachMoment D.Disk disk.old disk.new
+        (λ left. D.may_leave disk.old left ⊎ IsOldOrRaised shape space left) }
     ensures crash_new { D.tells_reads → D.tells_images → IsUnmade (D.reads disk.old)
-        → AtEachMoment D.Disk disk.old disk.new (λ left. D.may_leave disk.old left ⊎ IsOldOrNew (D.reads disk.old) (shape_of config) left) }
-    ensures untouched { D.tells_reads → IfErr result (λ fault. IsRefusal fault → OnlyReads D.Disk disk.old disk.new) }
+        → AtEachMoment D.Disk disk.old disk.new
+        (λ left. D.may_leave disk.old left ⊎ IsOldOrNew (D.reads disk.old) (shape_of config) left) }
+    ensures untouched { D.tells_reads
+        → IfErr result (λ fault. IsRefusal fault → OnlyReads D.Disk disk.old disk.new) }
+    ensures careful { IsCareful D.Disk disk.old disk.new }
     ensures refused { D.tells_reads → IfErr result (RefusesOpening (D.reads disk.old) config) }
-    ensures sound { D.tells_reads → (space : AKey → ARec) (shape : AShape) → Redoes (D.reads disk.old) space → IsMade space shape → IfErr result (OnlyDiffers shape config) }
+    ensures sound { D.tells_reads → (space : AKey → ARec) (shape : AShape)
+        → Redoes (D.reads disk.old) space → IsMade space shape
+        → IfErr result (OnlyDiffers shape config) }
     ensures unmade { D.tells_reads → IsUnmade (D.reads disk.old) → IfErr result IsWant }
     ensures cause { result ≡ Err OpenFault.Disk → Rose (D.faults disk.old) (D.faults disk.new) }
     ensures later { D.faults disk.old ≤ D.faults disk.new }
 {
     match recover(disk) {
-        Ok(Found::Made(shape)) => read_made(disk, config, shape),
+        Ok(Found::Made(shape)) => open_made(disk, config, shape, changed),
         Ok(Found::Unmade) => Ok(make_new(disk, config.shape(), creation, changed)?),
         Err(RecoverFault::NotAStore) => Err(OpenFault::NotAStore),
         Err(RecoverFault::Damaged(damage)) => Err(OpenFault::Damaged(damage)),
@@ -162,13 +231,93 @@ fn find_or_make<D: Disk>(
     }
 }
 
+// Reads the meta records of a store of this shape, whose log has no entry, and brings it to the
+// newest version.
+fn open_made<D: Disk>(
+    disk: &mut D,
+    config: Config,
+    shape: Shape,
+    changed: &mut WriteSet,
+) -> Result<Start, OpenFault>
+    requires changed { changed.old.pairs ≡ [] }
+    requires room { 8192 ≤ changed.old.room }
+    ensures shape { IfOk result (λ s. s.shape ≡ shape) }
+    ensures suits { IfOk result (λ s. Suits config shape) }
+    ensures kept { (D.tells_reads → HasEntries (D.reads disk.old) [] 0)
+        → (D.tells_reads → D.tells_images → IsAllSettled D.Disk disk.old)
+        → IfOk result (λ s. IsKept D.Disk disk.new s.metas.records changed.new.pairs s.tail) }
+    ensures space { D.tells_reads → HasEntries (D.reads disk.old) [] 0
+        → (D.tells_images → IsAllSettled D.Disk disk.old)
+        → IfOk result (λ s. laid_over
+        (with_metas s.metas.records (record_at (D.reads disk.new))) changed.new.pairs
+        ≡ raised shape (record_at (D.reads disk.old))) }
+    ensures log { D.tells_reads → HasEntries (D.reads disk.old) [] 0
+        → OnOk result (HasOnly (D.reads disk.new)
+        (raising_entries shape (record_at (D.reads disk.old)))) }
+    ensures crash { D.tells_reads → D.tells_images → HasEntries (D.reads disk.old) [] 0
+        → IsAllSettled D.Disk disk.old
+        → AtEachMoment D.Disk disk.old disk.new
+        (IsOldOrRaised shape (record_at (D.reads disk.old))) }
+    ensures settled { D.tells_reads → D.tells_images → HasEntries (D.reads disk.old) [] 0
+        → IsAllSettled D.Disk disk.old → OnOk result (IsAllSettled D.Disk disk.new) }
+    ensures refused { IfErr result (OnlyDiffers shape config) }
+    ensures no_memory { IfErr result (λ fault. ¬ (fault ≡ OpenFault.Memory)) }
+    ensures room { 8192 ≤ length changed.new.pairs + changed.new.room }
+    ensures few { length changed.new.pairs ≤ most_changed }
+    ensures cause { result ≡ Err OpenFault.Disk → Rose (D.faults disk.old) (D.faults disk.new) }
+    ensures later { D.faults disk.old ≤ D.faults disk.new }
+{
+    let start = read_made(disk, config, shape)?;
+    Ok(raise(disk, start, changed)?)
+}
+
+// Brings a store of an older version to the newest one, by the first entry of the log.
+fn raise<D: Disk>(disk: &mut D, start: Start, changed: &mut WriteSet) -> Result<Start, DiskFault>
+    requires tail { start.tail ≡ 0 }
+    requires changed { changed.old.pairs ≡ [] }
+    requires room { 8192 ≤ changed.old.room }
+    ensures shape { IfOk result (λ s. s.shape ≡ start.shape) }
+    ensures kept { IsKept D.Disk disk.old start.metas.records [] 0
+        → IfOk result (λ s. IsKept D.Disk disk.new s.metas.records changed.new.pairs s.tail) }
+    ensures space { D.tells_reads → IsKept D.Disk disk.old start.metas.records [] 0
+        → IfOk result (λ s. laid_over
+        (with_metas s.metas.records (record_at (D.reads disk.new))) changed.new.pairs
+        ≡ raised start.shape (with_metas start.metas.records (record_at (D.reads disk.old)))) }
+    ensures log { D.tells_reads → HasEntries (D.reads disk.old) [] 0
+        → OnOk result (HasOnly (D.reads disk.new)
+        (raising_entries start.shape
+        (with_metas start.metas.records (record_at (D.reads disk.old))))) }
+    ensures crash { D.tells_reads → D.tells_images → IsKept D.Disk disk.old start.metas.records [] 0
+        → AtEachMoment D.Disk disk.old disk.new
+        (IsOldOrRaised start.shape (with_metas start.metas.records
+        (record_at (D.reads disk.old)))) }
+    ensures settled { D.tells_reads → D.tells_images → HasEntries (D.reads disk.old) [] 0
+        → IsAllSettled D.Disk disk.old → OnOk result (IsAllSettled D.Disk disk.new) }
+    ensures room { 8192 ≤ length changed.new.pairs + changed.new.room }
+    ensures few { length changed.new.pairs ≤ most_changed }
+    ensures cause { HasCause (D.faults disk.old) (D.faults disk.new) result }
+{
+    if version_of(&start.metas.own()) >= VERSION {
+        return Ok(start);
+    }
+    put_raising(changed, start.shape);
+    let tail = append(disk, 0, changed)?;
+    Ok(Start {
+        shape: start.shape,
+        metas: start.metas,
+        tail,
+    })
+}
+
 // Reads the meta records of a store of this shape, whose log has no entry.
 fn read_made<D: Disk>(disk: &mut D, config: Config, shape: Shape) -> Result<Start, OpenFault>
     ensures shape { IfOk result (λ s. s.shape ≡ shape) }
     ensures tail { IfOk result (λ s. s.tail ≡ 0) }
-    ensures metas { D.tells_reads → IfOk result (λ s. AreMetasOf (record_at (D.reads disk.old)) s.metas.records) }
+    ensures metas { D.tells_reads
+        → IfOk result (λ s. AreMetasOf (record_at (D.reads disk.old)) s.metas.records) }
     ensures suits { IfOk result (λ s. Suits config shape) }
     ensures refused { IfErr result (OnlyDiffers shape config) }
+    ensures no_memory { IfErr result (λ fault. ¬ (fault ≡ OpenFault.Memory)) }
     ensures only_reads { OnlyReads D.Disk disk.old disk.new }
     ensures cause { result ≡ Err OpenFault.Disk → Rose (D.faults disk.old) (D.faults disk.new) }
     ensures later { D.faults disk.old ≤ D.faults disk.new }
@@ -197,12 +346,20 @@ fn make_new<D: Disk>(
     requires changed { changed.old.pairs ≡ [] }
     requires room { 8192 ≤ changed.old.room }
     ensures shape { IfOk result (λ s. s.shape ≡ shape) }
-    ensures kept { (D.tells_reads → IsUnmade (D.reads disk.old)) → (D.tells_reads → D.tells_images → IsAllSettled D.Disk disk.old)
+    ensures kept { (D.tells_reads → IsUnmade (D.reads disk.old))
+        → (D.tells_reads → D.tells_images → IsAllSettled D.Disk disk.old)
         → IfOk result (λ s. IsKept D.Disk disk.new s.metas.records changed.new.pairs s.tail) }
     ensures space { D.tells_reads → IsUnmade (D.reads disk.old)
-        → IfOk result (λ s. laid_over (with_metas s.metas.records (record_at (D.reads disk.new))) changed.new.pairs ≡ made_over (D.reads disk.old) shape) }
-    ensures crash { D.tells_reads → D.tells_images → IsUnmade (D.reads disk.old) → IsAllSettled D.Disk disk.old
+        → IfOk result (λ s. laid_over
+        (with_metas s.metas.records (record_at (D.reads disk.new))) changed.new.pairs
+        ≡ made_over (D.reads disk.old) shape) }
+    ensures crash { D.tells_reads → D.tells_images → IsUnmade (D.reads disk.old)
+        → IsAllSettled D.Disk disk.old
         → AtEachMoment D.Disk disk.old disk.new (IsOldOrNew (D.reads disk.old) shape) }
+    ensures settled { D.tells_reads → D.tells_images → HasEntries (D.reads disk.old) [] 0
+        → IsAllSettled D.Disk disk.old → OnOk result (IsAllSettled D.Disk disk.new) }
+    ensures log { D.tells_reads → HasEntries (D.reads disk.old) [] 0
+        → OnOk result (HasOnly (D.reads disk.new) (creation_pairs shape ∷ [])) }
     ensures room { 8192 ≤ length changed.new.pairs + changed.new.room }
     ensures few { length changed.new.pairs ≤ most_changed }
     ensures cause { HasCause (D.faults disk.old) (D.faults disk.new) result }

@@ -20,6 +20,8 @@ impl<'d, D: Disk> Reads for Store<'d, D> {
 
     ghost further_onward = { λ a b c first more. only_reads_base_on first more };
 
+    ghost onward_shape = { λ a b only. only.shape };
+
     fn get(&mut self, key: Key) -> Result<Rec, SpaceFault> {
         self.reads = self.reads.saturating_add(1);
         if let Some(rec) = self.draft.find(key) {

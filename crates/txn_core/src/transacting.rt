@@ -1,4 +1,17 @@
-ghost use Rattle.std.specs.Prelude.{◌≡◌, ◌<◌, ◌≤◌, ◌+◌, [], IsOk, IsTrue, OnErr, OnOk, false, length, true};
+ghost use Rattle.std.specs.Prelude.{
+  ◌≡◌,
+  ◌<◌,
+  ◌≤◌,
+  ◌+◌,
+  [],
+  IsOk,
+  IsTrue,
+  OnErr,
+  OnOk,
+  false,
+  length,
+  true,
+};
 ghost use Rattle.rec_bytes.specs.Pairs.{IsOrdered, growth_by, merged};
 ghost use Rattle.txn_core.specs.Base.{SameBeneath};
 ghost use Rattle.txn_core.specs.Kept.{FitsTransaction};
@@ -28,7 +41,8 @@ impl<'d, D: Disk> Base<'d, D> {
         ensures in_transaction { IsTrue self.new.in_transaction }
         ensures same { SameBeneath self.old self.new }
         ensures fits { OnOk result (FitsTransaction self.old.own.pairs draft.now.pairs) }
-        ensures succeeds { FitsTransaction self.old.own.pairs draft.now.pairs → growth_by self.old.own.pairs draft.now.pairs ≤ self.old.own.room → IsOk result }
+        ensures succeeds { FitsTransaction self.old.own.pairs draft.now.pairs
+            → growth_by self.old.own.pairs draft.now.pairs ≤ self.old.own.room → IsOk result }
     {
         if draft.len() > MOST_OWN {
             return Err(AllocError);

@@ -5,7 +5,7 @@ use plain_graph::{edge_made, node_made};
 use std::alloc::AllocError;
 
 /// What a reply tells that was made, by its identifier.
-#[derive(Clone, Copy, Debug, PartialEq, Eq)]
+#[derive(Clone, Copy)]
 pub(crate) enum Made {
     Node(u32),
     Edge(u32),

@@ -2,7 +2,7 @@
 use std::alloc::{AllocError, Global};
 
 /// What a transaction weighs before its first change, and what it may weigh.
-const LEAST_WEIGHT: u64 = 6;
+const LEAST_WEIGHT: u64 = 7;
 
 const MOST_WEIGHT: u64 = 2_048;
 

@@ -126,10 +126,10 @@ pub(crate) fn check_end(
 fn a_transaction_has_its_weight(rt: HostRuntime) -> Result<(), Fail> {
     let alloc = rt.alloc();
     let mut input = Vec::from_slice(alloc, b"begin\n")?;
-    input.extend_from_slice(&many(alloc, b"node a\n", 2_042)?)?;
+    input.extend_from_slice(&many(alloc, b"node a\n", 2_041)?)?;
     input.extend_from_slice(b"commit\nstats\n")?;
     let end: &[u8] =
-        b"node 2040\nerror transaction full\nok\nnodes 2041 edges 0 properties 0 blocks 0 names 1\n";
+        b"node 2039\nerror transaction full\nok\nnodes 2040 edges 0 properties 0 blocks 0 names 1\n";
     check_end(&rt, alloc, &["nipakeel", "run"], &input, end)?;
     Ok(())
 }

@@ -334,12 +334,12 @@ fn check_stopped_twice(
 fn an_entry_stands_over_an_old_gate(rt: HostRuntime) -> Result<(), Fail> {
     let alloc = rt.alloc();
     let script: &[u8] =
-        b"node a\ncheckpoint\nbegin\nnode a\nnode a\nnode a\nnode a\nnode a\nnode a\ncommit\n";
+        b"node a\ncheckpoint\nbegin\nnode a\nnode a\nnode a\nnode a\nnode a\nnode a\nnode a\ncommit\n";
     let mut disk = MemoryDisk::new(alloc, 16, ROOM, plan(alloc, &[], None)?)?;
     let made = run(&rt, alloc, script, &mut disk)?;
     assert_eq!(rt; made.exit, Exit::Done);
     for stop in 1..=CALLS {
-        if check_stopped_twice(&rt, alloc, &disk, stop, b"==>7\nend\n")? {
+        if check_stopped_twice(&rt, alloc, &disk, stop, b"==>8\nend\n")? {
             break;
         }
     }

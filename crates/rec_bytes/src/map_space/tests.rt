@@ -26,15 +26,16 @@ fn starting_with(start: [u8; 12]) -> Rec {
 #[test]
 fn a_new_store_has_a_meta_record_a_file(rt: HostRuntime) -> Result<(), Fail> {
     let mut space = MapSpace::new(rt.alloc(), SHAPE)?;
-    let own = [0x47, 0x52, 0x53, 0x31, 1, 0, 50, 0, 0, 0, 16, 0];
+    let own = [0x47, 0x52, 0x53, 0x31, 3, 0, 50, 0, 0, 0, 16, 0];
     let meta = [0, 0, 0, 0, 255, 255, 255, 255, 0, 0, 0, 0];
-    let table: [(u8, u32, [u8; 12]); 6] = [
+    let table: [(u8, u32, [u8; 12]); 7] = [
         (0, 0, own),
         (0, 1, meta),
         (0, 6, meta),
         (0, 7, [0; 12]),
         (1, 0, [0; 12]),
         (6, 4_095, [0; 12]),
+        (8, 0, [0; 12]),
     ];
     for (file, id, start) in table {
         let key = Key { file, id };

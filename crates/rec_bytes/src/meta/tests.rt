@@ -18,19 +18,32 @@ fn three_numbers_at_their_places(rt: HostRuntime) {
 
 #[test]
 fn a_meta_record_in_range(rt: HostRuntime) {
-    // high, free, live, a byte behind them, and whether it may stand for a file of 10 records
-    let table: [(u32, u32, u32, u8, bool); 7] = [
-        (0, NIL, 0, 0, true),
-        (10, 9, 3, 0, true),
-        (10, NIL, 11, 0, true),
-        (11, NIL, 0, 0, false),
-        (3, 3, 0, 0, false),
-        (0, 0, 0, 0, false),
-        (3, 2, 1, 1, false),
+    let shape = Shape {
+        threshold: 2,
+        limit: 10,
+    };
+    // the file, high, free, live, the number after them, a byte at 16, and whether it may stand for a file of 10 records, or
+    // for the index, of 20
+    let table: [(u8, u32, u32, u32, u32, u8, bool); 14] = [
+        (1, 0, NIL, 0, 0, 0, true),
+        (1, 10, 9, 3, 0, 0, true),
+        (1, 10, NIL, 11, 0, 0, true),
+        (1, 11, NIL, 0, 0, 0, false),
+        (1, 3, 3, 0, 0, 0, false),
+        (1, 0, 0, 0, 0, 0, false),
+        (1, 3, 2, 1, 1, 0, false),
+        (8, 0, NIL, 0, NIL, 0, true),
+        (8, 20, 3, 5, 19, 0, true),
+        (8, 20, 3, 5, 20, 0, false),
+        (8, 0, NIL, 0, 0, 0, false),
+        (8, 21, NIL, 0, NIL, 0, false),
+        (8, 0, NIL, 0, NIL, 1, false),
+        (8, 0, 0, 0, 0, 0, false),
     ];
-    for (high, free, live, after, wanted) in table {
+    for (file, high, free, live, after, last, wanted) in table {
         let mut rec = Meta { high, free, live }.to_record();
-        rec.set_byte(12, after);
-        assert_eq!(rt; Meta::is_in_range(&rec, 10), wanted);
+        rec.set_number(12, after);
+        rec.set_byte(16, last);
+        assert_eq!(rt; Meta::is_in_range(&rec, file, shape), wanted);
     }
 }

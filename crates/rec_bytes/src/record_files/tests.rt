@@ -6,8 +6,8 @@ fn each_file_has_its_room(rt: HostRuntime) {
         threshold: 50,
         limit: u32::MAX,
     };
-    let table: [(u8, bool, bool, u64); 10] = [
-        (0, true, false, 7),
+    let table: [(u8, bool, bool, u64); 11] = [
+        (0, true, false, 9),
         (1, true, true, 4_294_967_295),
         (2, true, true, 4_294_967_295),
         (3, true, true, 8_589_934_590),
@@ -15,7 +15,8 @@ fn each_file_has_its_room(rt: HostRuntime) {
         (5, true, true, 4_294_967_295),
         (6, true, true, 4_096),
         (7, false, false, 0),
-        (8, false, false, 0),
+        (8, true, true, 8_589_934_590),
+        (9, false, false, 0),
         (255, false, false, 0),
     ];
     for (file, has_records, has_meta, room) in table {

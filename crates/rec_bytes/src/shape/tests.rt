@@ -7,7 +7,7 @@ fn first() -> Rec {
     bytes[1] = 0x52;
     bytes[2] = 0x53;
     bytes[3] = 0x31;
-    bytes[4] = 0x01;
+    bytes[4] = 0x03;
     bytes[6] = 0x32;
     bytes[10] = 0x10;
     Rec { bytes }
@@ -28,10 +28,13 @@ fn a_shape_and_its_bytes(rt: HostRuntime) {
 #[test]
 fn a_shape_is_read_where_the_record_is_a_stores(rt: HostRuntime) {
     // a place, the number there instead, and the shape that is read then
-    let table: [(u8, u32, Option<(u16, u32)>); 13] = [
+    let table: [(u8, u32, Option<(u16, u32)>); 16] = [
         (0, 0x3153_5267, None),
         (4, 0x0032_0000, None),
-        (4, 0x0032_0002, None),
+        (4, 0x0032_0001, Some((50, 1_048_576))),
+        (4, 0x0032_0002, Some((50, 1_048_576))),
+        (4, 0x0032_0004, None),
+        (4, 0x0032_0103, None),
         (4, 0x0001_0001, None),
         (4, 0x0002_0001, Some((2, 1_048_576))),
         (4, 0x00c8_0001, Some((200, 1_048_576))),

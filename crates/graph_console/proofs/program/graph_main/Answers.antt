@@ -1,4 +1,5 @@
 use Rattle.std.proofs.Common.{◌≡◌, inl, inr, sym, ap, subst, Err}
+use Rattle.disk_model.proofs.Spans.{only_reads_none}
 use Rattle.txn_core.specs.Config.{Suits}
 use Rattle.txn_core.specs.declared.open_fault.OpenFault.TheVariants.{Memory}
 use Rattle.console_words.specs.declared.asked.Asked.TheVariants.{Run, Sample}
@@ -60,6 +61,24 @@ returns-in-Run-clause-unopened g c = λ options asks ends k.
     (λ (o : RunOptions). Writes (g.K.Sink.taken c.args.output.now) (g.K.Sink.taken c.run.new.output) (EndsUnopened (IsUnopened g.D.Disk (config_for o) c.args.disk.now c.run.new.disk) c.run.result))
     (sym same) (c.run.ensures.unopened ends k)
 
+pub returns-in-Err-Usage-clause-careful : goal.returns-in-Err-Usage-clause-careful
+returns-in-Err-Usage-clause-careful g c = λ told. inl (only_reads_none g.D.Disk c.args.disk.now g.met.D.Disk.only_now)
+
+pub returns-in-Err-Memory-clause-careful : goal.returns-in-Err-Memory-clause-careful
+returns-in-Err-Memory-clause-careful g c = λ told. inl (only_reads_none g.D.Disk c.args.disk.now g.met.D.Disk.only_now)
+
+pub returns-in-Err-Usage-clause-untouched : goal.returns-in-Err-Usage-clause-untouched
+returns-in-Err-Usage-clause-untouched g c = λ options asks told is. inl (only_reads_none g.D.Disk c.args.disk.now g.met.D.Disk.only_now)
+
+pub returns-in-Err-Memory-clause-untouched : goal.returns-in-Err-Memory-clause-untouched
+returns-in-Err-Memory-clause-untouched g c = λ options asks told is. inl (only_reads_none g.D.Disk c.args.disk.now g.met.D.Disk.only_now)
+
+pub returns-in-Run-clause-careful : goal.returns-in-Run-clause-careful
+returns-in-Run-clause-careful g c = c.run.ensures.careful
+
+pub returns-in-Run-clause-untouched : goal.returns-in-Run-clause-untouched
+returns-in-Run-clause-untouched g c = λ options asks told is. c.run.ensures.untouched told is
+
 pub returns-in-Run-clause-sound : goal.returns-in-Run-clause-sound
 returns-in-Run-clause-sound g c = λ options shape graph asks told stands.
     let same : options ≡ c.in-Run.options = same_run options c.in-Run.options c.in-Ok.asked (rw c.deref.ensures.value at c.in-Ok.ensures.only (Run options) asks) c.in-Run.is in
@@ -96,6 +115,12 @@ returns-clause-serves g c = λ options asks holds s k. absurd (run-not_sample op
 
 pub returns-clause-unopened : goal.returns-clause-unopened
 returns-clause-unopened g c = λ options asks ends k. absurd (run-not_sample options c.in-Sample.options c.in-Ok.asked (rw c.deref.ensures.value at c.in-Ok.ensures.only (Run options) asks) c.in-Sample.is)
+
+pub returns-clause-careful : goal.returns-clause-careful
+returns-clause-careful g c = λ told. inl (only_reads_none g.D.Disk c.args.disk.now g.met.D.Disk.only_now)
+
+pub returns-clause-untouched : goal.returns-clause-untouched
+returns-clause-untouched g c = λ options asks told is. absurd (run-not_sample options c.in-Sample.options c.in-Ok.asked (rw c.deref.ensures.value at c.in-Ok.ensures.only (Run options) asks) c.in-Sample.is)
 
 pub returns-clause-sound : goal.returns-clause-sound
 returns-clause-sound g c = λ options shape graph asks told stands. absurd (run-not_sample options c.in-Sample.options c.in-Ok.asked (rw c.deref.ensures.value at c.in-Ok.ensures.only (Run options) asks) c.in-Sample.is)

@@ -1,14 +1,16 @@
-use Rattle.std.proofs.Common.{◌≡◌, subst, rules}
+use Rattle.std.proofs.Common.{◌≡◌, inl, inr, subst, rules}
+use Rattle.disk_model.proofs.Spans.{only_reads_none}
+use Rattle.recovery.specs.Finding.{IsCareful}
 use Rattle.fault_count.specs.Cause.{Rose}
 use Rattle.txn_core.specs.Config.{Suits}
 use Rattle.txn_core.specs.declared.config.Config.{Config}
 use Rattle.txn_core.specs.declared.open_fault.OpenFault.TheVariants.{Memory}
-use Rattle.graph_session.specs.Opening.{IsUnopened, Opens}
+use Rattle.graph_session.specs.Opening.{IsUnopened, LeavesRefused, Opens}
 use Rattle.graph_session.specs.Session.{view}
 use Rattle.graph_console.specs.Program.{Serves, Writes, config_for, terms_for}
 use Rattle.graph_console.specs.Unopened.{EndsUnopened}
 use Rattle.graph_console.proofs.Failing.{failed_rose}
-use Rattle.graph_console.proofs.Opened.{at_equal, disk_failed, ends_unopened, serves_opened, serves_unopened, sound_for, unopened_memory}
+use Rattle.graph_console.proofs.Opened.{at_equal, bad_files, disk_failed, ends_unopened, serves_opened, serves_unopened, sound_for, unopened_memory}
 use Rattle.graph_console.proofs.program.run.Goals as goal
 
 pub returns-in_default-clause-serves : goal.returns-in_default-clause-serves
@@ -69,3 +71,37 @@ pub returns-clause-disk_fault : goal.returns-clause-disk_fault
 returns-clause-disk_fault g c = λ is.
     at_equal (λ (disk : g.row.D.Denot). Rose (g.D.Disk.faults c.args.disk.now) (g.D.Disk.faults disk)) c.in-Err.field-0.disk.now _
     (c.in-Err.ensures.unopened.cause (disk_failed c.in-Err.field-0.why c.end_unopened.result c.end_unopened.ensures.cause is)) (search rules)
+
+pub returns-in_default-clause-careful : goal.returns-in_default-clause-careful
+returns-in_default-clause-careful g c = λ told. inl (only_reads_none g.D.Disk c.args.disk.now g.met.D.Disk.only_now)
+
+pub returns-in-Ok-open-clause-careful : goal.returns-in-Ok-open-clause-careful
+returns-in-Ok-open-clause-careful g c = λ told. inr (c.in-Ok-open.ensures.opened.recoverable told)
+
+pub returns-clause-careful : goal.returns-clause-careful
+returns-clause-careful g c =
+    at_equal (λ (disk : g.row.D.Denot). IsCareful g.D.Disk c.args.disk.now disk) c.in-Err.field-0.disk.now _ c.in-Err.ensures.unopened.careful (search rules)
+
+pub returns-in_default-clause-untouched : goal.returns-in_default-clause-untouched
+returns-in_default-clause-untouched g c = λ told is. inl (only_reads_none g.D.Disk c.args.disk.now g.met.D.Disk.only_now)
+
+-- what was served ends in none of the exits of a store that isn't opened
+pub returns-in-Ok-open-clause-unopened : goal.returns-in-Ok-open-clause-unopened
+returns-in-Ok-open-clause-unopened g c = λ ends k. absurd (c.serve-exit.ensures.exits.1 ends)
+
+pub returns-in-Ok-open-clause-unread : goal.returns-in-Ok-open-clause-unread
+returns-in-Ok-open-clause-unread g c = λ ends. absurd (c.serve-exit.ensures.exits.1 ends)
+
+pub returns-in-Ok-open-clause-sound : goal.returns-in-Ok-open-clause-sound
+returns-in-Ok-open-clause-sound g c = λ shape graph told stands. (
+  (λ is. c.serve-exit.ensures.exits.1 (inr (inl is))),
+  (λ is. absurd (c.serve-exit.ensures.exits.1 (inr (inr (inl is))))),
+)
+
+pub returns-in-Ok-open-clause-untouched : goal.returns-in-Ok-open-clause-untouched
+returns-in-Ok-open-clause-untouched g c = λ told is. absurd (c.serve-exit.ensures.exits.1 (inr (inl is)))
+
+pub returns-clause-untouched : goal.returns-clause-untouched
+returns-clause-untouched g c = λ told is.
+    at_equal (λ (disk : g.row.D.Denot). LeavesRefused g.D.Disk c.args.disk.now disk) c.in-Err.field-0.disk.now _
+    (c.in-Err.ensures.unopened.untouched told (bad_files c.in-Err.field-0.why c.end_unopened.result c.end_unopened.ensures.cause is)) (search rules)

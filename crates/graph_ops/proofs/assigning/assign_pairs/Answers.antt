@@ -91,7 +91,7 @@ loop-place-preserved g c =
           let kept = inv.kept tells before store in
           keeps_then s t u names new kept (keeps_interned t u names new text (c.in_ok-key.ensures.ok tells (few_true g at before)) uses (short g at) room kept.store);
       metas = λ tells. metas_then (inv.metas tells) (c.in_ok-key.ensures.metas tells);
-      shape = λ tells. c.number_key.ensures.shape tells ∙ inv.shape tells;
+      shape = λ tells. (g.met.S.Reads.onward_shape _ _ c.number_key.ensures.onward) ∙ inv.shape tells;
       writes = λ few.
           let before : length items ≤ 32 = omega arith in
           more_written (omega arith) (then_written (inv.writes before) written);

@@ -64,7 +64,7 @@ loop-assignment-preserved g c =
           let added = subst (λ (o : Owner). HasKey t o (this g at).key → maps.get (properties_of t o) (text_at t (this g at).key) ≡ None → maps.len (properties_of t o) < 32 → SetsValue t u o (this g at).key value 0) is (c.in_ok-add.ensures.added tells) in
           put_more s t names target pairs assigned i can c.requires.few put lt shape u value (value_is g at)
           (added (key_there s t names target pairs assigned i can c.requires.few put lt shape) (key_new s t names target pairs assigned i can c.requires.few put lt shape) (key_fits s t names target pairs assigned i can c.requires.few put lt shape));
-      shape = λ tells. c.add.ensures.shape tells ∙ inv.shape tells;
+      shape = λ tells. (g.met.S.Reads.onward_shape _ _ c.add.ensures.onward) ∙ inv.shape tells;
       writes =
           let more = sum_by_more (λ (a : Assignment). blocks_of (pair_at pairs a.pair).value) assigned i (record { key = 0; pair = 0 }) c.loop-assignment-test.true in
           let same = ap blocks_of (value_is g at) in

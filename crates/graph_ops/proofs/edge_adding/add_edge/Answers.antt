@@ -166,7 +166,7 @@ can g c tells store =
     let at = goal.at.After-put_properties g c in
     subst (CanPut (g.S.Reads.state c.put_edge.new.space) c.prepare.new.names.names (targets.Edge c.in_ok-id.id) c.as_slice-pairs.result.now) (sym c.deref.ensures.0)
     (can_put (g.S.Reads.state c.node_degree-2.new.space) (g.S.Reads.state c.prepare.new.space) (g.S.Reads.state c.put_edge.new.space) c.args.names.now.names c.prepare.new.names.names c.args.from c.args.label.now c.args.to c.as_slice-pairs.result.now c.in_ok-id.id
-    c.in_ok-prepared.prepared (kept g at.In_ok-target tells store) (at_hand g at.In_ok-prepared tells store) (puts g at.In_ok-id tells store) (c.put_edge.ensures.shape tells))
+    c.in_ok-prepared.prepared (kept g at.In_ok-target tells store) (at_hand g at.In_ok-prepared tells store) (puts g at.In_ok-id tells store) ((g.met.S.Reads.onward_shape _ _ c.put_edge.ensures.onward)))
 
 properties_outside : (g : Over) (c : In_err-put_properties g) → g.S.Reads.tells → IsStore (g.S.Reads.state c.args.space.now) c.args.names.now.names → IsOutside c.in_err-put_properties.field-0.0
 properties_outside g c tells store =
@@ -174,7 +174,7 @@ properties_outside g c tells store =
     c.in_err-put_properties.ensures.sound tells c.prepare.new.names.names (targets.Edge c.in_ok-id.id) c.edge_owner.ensures (can g at.After-put_properties tells store)
     (subst (λ l. HasPropertyRoom (g.S.Reads.state c.put_edge.new.space) (length l) (assigned_blocks c.as_slice-pairs.result.now l)) (sym c.deref.ensures.0)
     (put_room (g.S.Reads.state c.node_degree-2.new.space) (g.S.Reads.state c.prepare.new.space) (g.S.Reads.state c.put_edge.new.space) c.args.names.now.names c.prepare.new.names.names c.args.from c.args.label.now c.args.to c.as_slice-pairs.result.now c.in_ok-id.id
-    c.in_ok-prepared.prepared (kept g at.In_ok-target tells store) (at_hand g at.In_ok-prepared tells store) (puts g at.In_ok-id tells store) (c.put_edge.ensures.shape tells)))
+    c.in_ok-prepared.prepared (kept g at.In_ok-target tells store) (at_hand g at.In_ok-prepared tells store) (puts g at.In_ok-id tells store) ((g.met.S.Reads.onward_shape _ _ c.put_edge.ensures.onward))))
 
 pub returns-in_err-put_properties-clause-refused : goal.returns-in_err-put_properties-clause-refused
 returns-in_err-put_properties-clause-refused g c tells store =
@@ -242,7 +242,7 @@ returns-clause-made g c tells store =
     let put = subst (λ l. PutsPairs v w names (targets.Edge id) (pairs_of names pairs l)) c.deref.ensures.0 (c.in_ok-put_properties.ensures.put tells names (targets.Edge id) c.edge_owner.ensures (can g at.After-put_properties tells store)) in
     made_read s n w names (commands.Edge c.args.from c.args.label.now c.args.to c.args.pairs.now) (EdgeMade id) weight (same g at.In_ok-target tells store)
     (subst (λ l. MakesChange (commands.Edge c.args.from c.args.label.now c.args.to l) (EdgeMade id) weight n w names) c.as_slice-pairs.ensures
-    (made n u v c.args.names.now.names names c.args.from c.args.label.now c.args.to pairs id c.in_ok-prepared.prepared (kept g at.In_ok-target tells store) hand (puts g at.In_ok-id tells store) (c.put_edge.ensures.shape tells)
+    (made n u v c.args.names.now.names names c.args.from c.args.label.now c.args.to pairs id c.in_ok-prepared.prepared (kept g at.In_ok-target tells store) hand (puts g at.In_ok-id tells store) ((g.met.S.Reads.onward_shape _ _ c.put_edge.ensures.onward))
     w put (room g at.In_ok-test_room tells store) c.in_ok-source.source c.in_ok-target.target (source_has g at.In_ok-target tells store) (target_has g at.In_ok-target tells store) weight c.ends_weight-ends.result refl
     (c.ends_weight-ends.ensures.is ∙ ap (λ (h : Shape). degrees_weight h.threshold c.args.from c.in_ok-source.source c.args.to c.in_ok-target.target) c.shape-threshold.ensures.is)))
 

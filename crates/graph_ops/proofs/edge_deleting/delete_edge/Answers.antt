@@ -10,7 +10,7 @@ use Rattle.rel_store.specs.Loading as rels
 use Rattle.rel_store.specs.RelRecord.{rel_key}
 use Rattle.store_rules.specs.Writes.{WritesAtMost, WritesBeside}
 use Rattle.graph_ops.specs.Change.{IsRefusal}
-use Rattle.graph_ops.specs.ChangeFault.{LeavesSpace, of_prop}
+use Rattle.graph_ops.specs.ChangeFault.{LeavesSpace, of_fault}
 use Rattle.graph_ops.specs.EdgeDeleting.{IsBareEdge, StandsAtEnd}
 use Rattle.graph_ops.specs.Store.{IsStore, graph_in}
 use Rattle.graph_ops.proofs.Deleting.{edge_element, edge_lacked, edge_made, left_bare, left_store}
@@ -86,7 +86,7 @@ returns-in_err-dropped-clause-refused g c tells store =
     let v = g.S.Reads.state c.edge_end-2.new.space in
     let at = goal.at.returns-in_err-dropped-clause-refused g c in
     let element = edge_element s v c.args.names.now.names c.args.id c.in-Some.rel store (found g at.After-edge_end tells) (target_read g at.After-edge_end-2) in
-    fault_exit of_prop (IsRefusal s.shape.limit (graph_in s) (commands.Delete (targets.Edge c.args.id))) c.in_err-dropped.field-0.0 c.from_residual-in_err-dropped.result c.from_residual-in_err-dropped.ensures.1
+    fault_exit of_fault (IsRefusal s.shape.limit (graph_in s) (commands.Delete (targets.Edge c.args.id))) c.in_err-dropped.field-0.0 c.from_residual-in_err-dropped.result c.from_residual-in_err-dropped.ensures.1
     (prop_refused s.shape.limit (graph_in s) (commands.Delete (targets.Edge c.args.id)) c.in_err-dropped.field-0.0
     (c.in_err-dropped.ensures.sound tells (subst (HasElement v) (sym c.edge_owner.ensures) element)))
 
@@ -177,3 +177,15 @@ returns-in_err-take_edge-clause-refused_writes g c =
     let p = c.in_ok-dropped.ensures.few_properties in
     let b = c.in_ok-dropped.ensures.few_blocks in
     on_any_err _ _ (more_written (omega arith) (written g (goal.at.returns-in_err-take_edge-clause-refused_writes g c).After-take_edge))
+
+-- ---- calls go on
+
+pub returns-in_err-take_edge-clause-onward : goal.returns-in_err-take_edge-clause-onward
+returns-in_err-take_edge-clause-onward g c =
+    let on = g.met.S.Reads.further_onward in
+    on _ _ _ c.load.ensures.onward (on _ _ _ c.edge_end.ensures.onward (on _ _ _ c.edge_end-2.ensures.onward (on _ _ _ c.drop_all.ensures.onward c.take_edge.ensures.onward)))
+
+pub returns-clause-onward : goal.returns-clause-onward
+returns-clause-onward g c =
+    let on = g.met.S.Reads.further_onward in
+    on _ _ _ c.load.ensures.onward (on _ _ _ c.edge_end.ensures.onward (on _ _ _ c.edge_end-2.ensures.onward (on _ _ _ c.drop_all.ensures.onward c.take_edge.ensures.onward)))

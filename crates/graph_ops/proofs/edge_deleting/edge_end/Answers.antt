@@ -1,8 +1,8 @@
 use Rattle.std.proofs.Common.{[], refl}
 use Rattle.chain_edit.specs.declared.head.Head.{Head}
-use Rattle.graph_ops.specs.ChangeFault.{IsOutside, of_group}
+use Rattle.graph_ops.specs.ChangeFault.{IsOutside, of_fault}
 use Rattle.graph_ops.proofs.Deleting.{end_of, end_readable, end_stands}
-use Rattle.graph_ops.proofs.Exits.{fault_exit, group_outside}
+use Rattle.graph_ops.proofs.Exits.{fault_exit, fault_outside}
 use Rattle.graph_ops.proofs.edge_deleting.edge_end.Goals as goal
 
 pub returns-in_err-degree-clause-sound : goal.returns-in_err-degree-clause-sound
@@ -15,8 +15,8 @@ pub returns-in_err-head-clause-sound : goal.returns-in_err-head-clause-sound
 returns-in_err-head-clause-sound g c tells names store found which =
     let s = g.R.Reads.state c.args.space.now in
     let m = g.R.Reads.state c.end_degree.new.space in
-    fault_exit of_group IsOutside c.in_err-head.field-0.0 c.from_residual-in_err-head.result c.from_residual-in_err-head.ensures.1
-    (group_outside Head c.in_err-head.field-0.0 (c.in_err-head.ensures.sound tells m.shape.threshold [] c.args.id _
+    fault_exit of_fault IsOutside c.in_err-head.field-0.0 c.from_residual-in_err-head.result c.from_residual-in_err-head.ensures.1
+    (fault_outside Head c.in_err-head.field-0.0 (c.in_err-head.ensures.sound tells m.shape.threshold [] c.args.id _
     (end_of s m names c.args.id c.args.node c.args.rel store found c.end_degree.ensures.state which c.at.result c.at.ensures)))
 
 pub returns-clause-stands : goal.returns-clause-stands

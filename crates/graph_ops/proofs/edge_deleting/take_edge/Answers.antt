@@ -1,7 +1,7 @@
-use Rattle.graph_ops.specs.ChangeFault.{IsOutside, of_group}
+use Rattle.graph_ops.specs.ChangeFault.{IsOutside, of_fault}
 use Rattle.graph_ops.proofs.EdgeClosed.{loop_taken, pair_taken, source_closes, target_closes}
 use Rattle.graph_ops.proofs.EndWrites.{ends_beside, source_beside, target_beside}
-use Rattle.graph_ops.proofs.Exits.{fault_exit, group_outside}
+use Rattle.graph_ops.proofs.Exits.{fault_exit, fault_outside}
 use Rattle.graph_ops.proofs.edge_deleting.take_edge.Goals as goal
 
 -- ---- why it fails
@@ -13,8 +13,8 @@ pub returns-in_err-close_chain-clause-sound : goal.returns-in_err-close_chain-cl
 returns-in_err-close_chain-clause-sound g c tells names store bare =
     let s = g.S.Reads.state c.args.space.now in
     let u = g.S.Reads.state c.part_edge.new.space in
-    fault_exit of_group IsOutside c.in_err-close_chain.field-0.0 c.from_residual-in_err-close_chain.result c.from_residual-in_err-close_chain.ensures.1
-    (group_outside Unit c.in_err-close_chain.field-0.0 (c.in_err-close_chain.ensures.sound tells _ _
+    fault_exit of_fault IsOutside c.in_err-close_chain.field-0.0 c.from_residual-in_err-close_chain.result c.from_residual-in_err-close_chain.ensures.1
+    (fault_outside Unit c.in_err-close_chain.field-0.0 (c.in_err-close_chain.ensures.sound tells _ _
     (source_closes s u names c.args.id c.args.source c.args.target bare (c.in_ok-part_edge.ensures.parted tells names store bare))))
 
 pub returns-in_err-close_chain-2-clause-sound : goal.returns-in_err-close_chain-2-clause-sound
@@ -23,8 +23,8 @@ returns-in_err-close_chain-2-clause-sound g c tells names store bare =
     let u = g.S.Reads.state c.part_edge.new.space in
     let v = g.S.Reads.state c.close_chain.new.space in
     let parts = c.in_ok-part_edge.ensures.parted tells names store bare in
-    fault_exit of_group IsOutside c.in_err-close_chain-2.field-0.0 c.from_residual-in_err-close_chain-2.result c.from_residual-in_err-close_chain-2.ensures.1
-    (group_outside Unit c.in_err-close_chain-2.field-0.0 (c.in_err-close_chain-2.ensures.sound tells _ _
+    fault_exit of_fault IsOutside c.in_err-close_chain-2.field-0.0 c.from_residual-in_err-close_chain-2.result c.from_residual-in_err-close_chain-2.ensures.1
+    (fault_outside Unit c.in_err-close_chain-2.field-0.0 (c.in_err-close_chain-2.ensures.sound tells _ _
     (target_closes s u names c.args.id c.args.source c.args.target bare parts v
     (c.in_ok-close_chain.ensures.closed tells _ _ (source_closes s u names c.args.id c.args.source c.args.target bare parts)) c.if-source-target.true)))
 

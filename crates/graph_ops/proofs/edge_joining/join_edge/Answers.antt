@@ -24,7 +24,7 @@ returns-in_err-join_ends-clause-sound g c tells names text can at room =
 pub returns-clause-joined : goal.returns-clause-joined
 returns-clause-joined g c tells names text can at =
     puts_edge (g.S.Reads.state c.args.space.now) (g.S.Reads.state c.place.new.space) names c.args.label text c.args.source c.args.target c.in_ok-id.id can at (c.in_ok-id.ensures.placed tells)
-    (g.S.Reads.state c.join_ends.new.space) (c.in_ok-join_ends.ensures.ok tells) (c.join_ends.ensures.shape tells ∙ c.in_ok-id.ensures.shape tells)
+    (g.S.Reads.state c.join_ends.new.space) (c.in_ok-join_ends.ensures.ok tells) ((g.met.S.Reads.onward_shape _ _ c.join_ends.ensures.onward) ∙ (g.met.S.Reads.onward_shape _ _ c.in_ok-id.ensures.onward))
 
 pub returns-clause-writes : goal.returns-clause-writes
 returns-clause-writes g c = placed_joined _ _ _ c.in_ok-id.id c.args.source c.args.target c.in_ok-id.ensures.writes c.join_ends.ensures.writes

@@ -1,5 +1,5 @@
-use Rattle.graph_ops.specs.ChangeFault.{MayComeLate, of_chain, of_space}
-use Rattle.graph_ops.proofs.Exits.{chain_late, fault_exit, space_late}
+use Rattle.graph_ops.specs.ChangeFault.{MayComeLate, of_fault, of_space}
+use Rattle.graph_ops.proofs.Exits.{fault_late, fault_exit, space_late}
 use Rattle.graph_ops.proofs.JoinWrites.{end_written, head_written}
 use Rattle.graph_ops.proofs.edge_joining.join_end.Goals as goal
 
@@ -13,7 +13,7 @@ pub returns-in_err-push_front-clause-writes : goal.returns-in_err-push_front-cla
 returns-in_err-push_front-clause-writes g c = head_written _ _ c.args.rel c.args.end c.push_front.ensures.writes
 
 pub returns-in_err-push_front-clause-late : goal.returns-in_err-push_front-clause-late
-returns-in_err-push_front-clause-late g c = fault_exit of_chain MayComeLate c.in_err-push_front.field-0.0 c.from_residual.result c.from_residual.ensures.1 (chain_late c.in_err-push_front.field-0.0)
+returns-in_err-push_front-clause-late g c = fault_exit of_fault MayComeLate c.in_err-push_front.field-0.0 c.from_residual.result c.from_residual.ensures.1 (fault_late c.in_err-push_front.field-0.0)
 
 pub returns-in_err-set_number-clause-late : goal.returns-in_err-set_number-clause-late
 returns-in_err-set_number-clause-late g c = fault_exit of_space MayComeLate c.in_err-set_number.field-0.0 c.from_residual-in_err-set_number.result c.from_residual-in_err-set_number.ensures.1 (space_late c.in_err-set_number.field-0.0)

@@ -23,9 +23,6 @@ returns-in_err-id-clause-sound g c tells most empty keeps room =
 took : (g : Over) (c : In_ok-id g) → g.S.Reads.tells → (g.S.Reads.state c.take_id.new.space).shape ≡ (g.S.Reads.state c.args.space.now).shape
 took g c tells = ap (λ (s : State). s.shape) (c.in_ok-id.ensures.ok tells) ∙ taken-shape (g.S.Reads.state c.args.space.now) format.relationships_file
 
-pub returns-in_err-save-clause-shape : goal.returns-in_err-save-clause-shape
-returns-in_err-save-clause-shape g c tells = ap (λ (s : State). s.shape) c.in_err-save.ensures.err ∙ took g (goal.at.returns-in_err-save-clause-shape g c).In_ok-id tells
-
 pub returns-clause-placed : goal.returns-clause-placed
 returns-clause-placed g c tells = record {
   took = g.S.Reads.state c.take_id.new.space;
@@ -34,9 +31,6 @@ returns-clause-placed g c tells = record {
   shape = took g (goal.at.returns-clause-placed g c).In_ok-id tells;
   saved = c.in_ok-save.ensures.ok ∙ ap (λ (r : RelRow). after_put (g.S.Reads.state c.take_id.new.space) (rel_key r.id) (rel_record r)) c.new_row.ensures;
 }
-
-pub returns-clause-shape : goal.returns-clause-shape
-returns-clause-shape g c tells = ap (λ (s : State). s.shape) c.in_ok-save.ensures.ok ∙ took g (goal.at.returns-clause-shape g c).In_ok-id tells
 
 -- the identifier's meta record, and the relationship's record
 written : (g : Over) (c : After-save g) → WritesOnly (g.S.Reads.state c.args.space.now) (g.S.Reads.state c.save.new.space) (rel_key c.in_ok-id.id ∷ meta_keys)

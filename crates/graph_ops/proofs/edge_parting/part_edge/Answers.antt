@@ -18,7 +18,7 @@ returns-in_err-part_ends-clause-sound g c tells names store bare =
 pub returns-clause-parted : goal.returns-clause-parted
 returns-clause-parted g c tells names store bare =
     parts_edge (g.S.Reads.state c.args.space.now) names c.args.id c.args.source c.args.target store bare
-    (g.S.Reads.state c.part_ends.new.space) (g.S.Reads.state c.give.new.space) (c.in_ok-part_ends.ensures.ok tells) (c.give.ensures.shape tells ∙ c.part_ends.ensures.shape tells) (c.in_ok-give.ensures.given tells)
+    (g.S.Reads.state c.part_ends.new.space) (g.S.Reads.state c.give.new.space) (c.in_ok-part_ends.ensures.ok tells) ((g.met.S.Reads.onward_shape _ _ c.give.ensures.onward) ∙ (g.met.S.Reads.onward_shape _ _ c.part_ends.ensures.onward)) (c.in_ok-give.ensures.given tells)
 
 pub returns-clause-writes : goal.returns-clause-writes
 returns-clause-writes g c = ends_given _ _ _ c.args.source c.args.target _ c.part_ends.ensures.writes c.give.ensures.writes

@@ -76,7 +76,7 @@ returns-in_err-id-clause-leaves g c tells =
     let v = g.S.Reads.state c.put_node.new.space in
     let live = ap (λ (m : Meta). m.live) (c.in_ok-prepared.ensures.metas tells).nodes in
     fault_exit (λ f. f) (LeavesSpace s v) c.in_err-id.field-0.0 c.from_residual-in_err-id.result c.from_residual-in_err-id.ensures.1
-    (late_leaves s v c.in_err-id.field-0.0 (c.in_err-id.ensures.late tells (room_still s u format.nodes_file 1 live (c.prepare.ensures.shape tells) c.in_ok-test_room.ensures.room)))
+    (late_leaves s v c.in_err-id.field-0.0 (c.in_err-id.ensures.late tells (room_still s u format.nodes_file 1 live ((g.met.S.Reads.onward_shape _ _ c.prepare.ensures.onward)) c.in_ok-test_room.ensures.room)))
 
 pub returns-in_err-id-clause-refused_writes : goal.returns-in_err-id-clause-refused_writes
 returns-in_err-id-clause-refused_writes g c = on_any_err _ _ (more_written (omega arith) (then_written c.prepare.ensures.few_writes c.in_err-id.ensures.err_writes))
@@ -93,7 +93,7 @@ can g c tells store =
     let at = goal.at.After-put_properties g c in
     subst (CanPut (g.S.Reads.state c.put_node.new.space) c.prepare.new.names.names (targets.Node c.in_ok-id.id) c.as_slice-pairs.result.now) (sym c.deref.ensures.0)
     (can_put (g.S.Reads.state c.args.space.now) (g.S.Reads.state c.prepare.new.space) (g.S.Reads.state c.put_node.new.space) c.args.names.now.names c.prepare.new.names.names c.args.label.now c.as_slice-pairs.result.now c.in_ok-id.id c.in_ok-prepared.prepared store
-    (at_hand g at.In_ok-prepared tells store) (puts g at.In_ok-id tells store) (c.put_node.ensures.shape tells))
+    (at_hand g at.In_ok-prepared tells store) (puts g at.In_ok-id tells store) ((g.met.S.Reads.onward_shape _ _ c.put_node.ensures.onward)))
 
 properties_outside : (g : Over) (c : In_err-put_properties g) → g.S.Reads.tells → IsStore (g.S.Reads.state c.args.space.now) c.args.names.now.names → IsOutside c.in_err-put_properties.field-0.0
 properties_outside g c tells store =
@@ -101,7 +101,7 @@ properties_outside g c tells store =
     c.in_err-put_properties.ensures.sound tells c.prepare.new.names.names (targets.Node c.in_ok-id.id) c.node_owner.ensures (can g at.After-put_properties tells store)
     (subst (λ l. HasPropertyRoom (g.S.Reads.state c.put_node.new.space) (length l) (assigned_blocks c.as_slice-pairs.result.now l)) (sym c.deref.ensures.0)
     (put_room (g.S.Reads.state c.args.space.now) (g.S.Reads.state c.prepare.new.space) (g.S.Reads.state c.put_node.new.space) c.args.names.now.names c.prepare.new.names.names c.args.label.now c.as_slice-pairs.result.now c.in_ok-id.id c.in_ok-prepared.prepared store
-    (at_hand g at.In_ok-prepared tells store) (puts g at.In_ok-id tells store) (c.put_node.ensures.shape tells)))
+    (at_hand g at.In_ok-prepared tells store) (puts g at.In_ok-id tells store) ((g.met.S.Reads.onward_shape _ _ c.put_node.ensures.onward))))
 
 pub returns-in_err-put_properties-clause-refused : goal.returns-in_err-put_properties-clause-refused
 returns-in_err-put_properties-clause-refused g c tells store =
@@ -141,7 +141,7 @@ returns-clause-made g c tells store =
     let id = c.in_ok-id.id in
     let put = subst (λ l. PutsPairs v w names (targets.Node id) (pairs_of names pairs l)) c.deref.ensures.0 (c.in_ok-put_properties.ensures.put tells names (targets.Node id) c.node_owner.ensures (can g at.After-put_properties tells store)) in
     subst (λ l. MakesChange (commands.Node c.args.label.now l) (NodeMade id) (1 + c.in_ok-prepared.prepared.weight) s w names) c.as_slice-pairs.ensures
-    (made s (g.S.Reads.state c.prepare.new.space) v c.args.names.now.names names c.args.label.now pairs id c.in_ok-prepared.prepared store (at_hand g at.In_ok-prepared tells store) (puts g at.In_ok-id tells store) (c.put_node.ensures.shape tells)
+    (made s (g.S.Reads.state c.prepare.new.space) v c.args.names.now.names names c.args.label.now pairs id c.in_ok-prepared.prepared store (at_hand g at.In_ok-prepared tells store) (puts g at.In_ok-id tells store) ((g.met.S.Reads.onward_shape _ _ c.put_node.ensures.onward))
     w put (not_full s c.args.names.now.names store c.in_ok-test_room.ensures.room) (1 + c.in_ok-prepared.prepared.weight) refl)
 
 pub returns-clause-full : goal.returns-clause-full

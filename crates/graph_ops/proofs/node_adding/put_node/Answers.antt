@@ -25,17 +25,11 @@ returns-in_err-id-clause-sound g c tells names store room =
 took : (g : Over) (c : In_ok-id g) → g.S.Reads.tells → (g.S.Reads.state c.take.new.space).shape ≡ (g.S.Reads.state c.args.space.now).shape
 took g c tells = ap (λ (s : State). s.shape) (c.in_ok-id.ensures.ok tells) ∙ taken-shape (g.S.Reads.state c.args.space.now) format.nodes_file
 
-pub returns-in_err-save-clause-shape : goal.returns-in_err-save-clause-shape
-returns-in_err-save-clause-shape g c tells = ap (λ (s : State). s.shape) c.in_err-save.ensures.err ∙ took g (goal.at.returns-in_err-save-clause-shape g c).In_ok-id tells
-
 pub returns-clause-put : goal.returns-clause-put
 returns-clause-put g c tells names text store at =
     puts_node (g.S.Reads.state c.args.space.now) (g.S.Reads.state c.take.new.space) (g.S.Reads.state c.save.new.space) names c.in_ok-id.id c.args.label text store at
     (c.in_ok-id.ensures.taken tells) c.in_ok-id.ensures.small (took g (goal.at.returns-clause-put g c).In_ok-id tells)
     (c.in_ok-save.ensures.ok ∙ ap (λ (r : NodeRow). after_put (g.S.Reads.state c.take.new.space) (node_key r.id) (node_record r)) c.new_row.ensures)
-
-pub returns-clause-shape : goal.returns-clause-shape
-returns-clause-shape g c tells = ap (λ (s : State). s.shape) c.in_ok-save.ensures.ok ∙ took g (goal.at.returns-clause-shape g c).In_ok-id tells
 
 pub returns-clause-writes : goal.returns-clause-writes
 returns-clause-writes g c =

@@ -12,7 +12,7 @@ use Rattle.store_rules.specs.Views.{degree, key_in}
 use Rattle.store_rules.specs.Writes.{WritesAtMost, WritesBeside}
 use Rattle.store_rules.proofs.GraphRows.{degree_in-degree}
 use Rattle.graph_ops.specs.Change.{IsRefusal}
-use Rattle.graph_ops.specs.ChangeFault.{of_prop}
+use Rattle.graph_ops.specs.ChangeFault.{of_fault}
 use Rattle.graph_ops.specs.NodeDeleting.{IsDeleteCause}
 use Rattle.graph_ops.specs.Store.{graph_in}
 use Rattle.graph_ops.proofs.Deleting.{drop_cause, node_deleted, node_joined, node_lacked}
@@ -46,14 +46,14 @@ returns-in_err-dropped-clause-refused g c tells store =
     let names = c.args.names.now.names in
     let same : SameButReads s m = subst (SameButReads s) (sym c.load.ensures.state) (same_node s c.args.id) in
     let there = there_read s m (targets.Node c.args.id) same (node_loaded s c.args.id c.in-Some.node (sym c.in-Some.is ∙ c.in_ok-node.ensures.found tells)) in
-    fault_exit of_prop (IsRefusal s.shape.limit (graph_in s) (commands.Delete (targets.Node c.args.id))) c.in_err-dropped.field-0.0 c.from_residual-in_err-dropped.result c.from_residual-in_err-dropped.ensures.1
+    fault_exit of_fault (IsRefusal s.shape.limit (graph_in s) (commands.Delete (targets.Node c.args.id))) c.in_err-dropped.field-0.0 c.from_residual-in_err-dropped.result c.from_residual-in_err-dropped.ensures.1
     (prop_refused s.shape.limit (graph_in s) (commands.Delete (targets.Node c.args.id)) c.in_err-dropped.field-0.0
     (c.in_err-dropped.ensures.sound tells (subst (HasElement m) (sym c.node_owner.ensures) (has_owner m names (targets.Node c.args.id) (store_read s m names same store) there))))
 
 pub returns-in_err-dropped-clause-found : goal.returns-in_err-dropped-clause-found
 returns-in_err-dropped-clause-found g c tells =
     let s = g.S.Reads.state c.args.space.now in
-    fault_exit of_prop (IsDeleteCause s c.args.id) c.in_err-dropped.field-0.0 c.from_residual-in_err-dropped.result c.from_residual-in_err-dropped.ensures.1
+    fault_exit of_fault (IsDeleteCause s c.args.id) c.in_err-dropped.field-0.0 c.from_residual-in_err-dropped.result c.from_residual-in_err-dropped.ensures.1
     (drop_cause s c.args.id c.in-Some.node (sym c.in-Some.is ∙ c.in_ok-node.ensures.found tells) c.if-node-ne0.false c.in_err-dropped.field-0.0 c.in_err-dropped.ensures.damaged)
 
 pub overflow_add-result-2 : goal.overflow_add-result-2
@@ -74,7 +74,7 @@ returns-clause-made g c tells store =
     let k = used_of s id c.in-Some.node found in
     let drops = subst (λ (o : Owner). HasElement m o → DropsAll m u o c.in_ok-dropped.dropped) c.node_owner.ensures (c.in_ok-dropped.ensures.dropped tells) (has_owner m names (targets.Node id) kept there) in
     made_read s m t names (commands.Delete (targets.Node id)) Done (1 + c.in_ok-dropped.dropped.properties + c.in_ok-dropped.dropped.blocks) same
-    (node_deleted m u names c.in_ok-dropped.dropped kept id drops t (has_owner m names (targets.Node id) kept there).used (subst (λ (z : State). degree z.records id ≡ 0) (sym same) (sym k.1 ∙ c.if-node-ne0.false)) (c.drop_all.ensures.shape tells) (c.give.ensures.shape tells) (c.in_ok-give.ensures.given tells))
+    (node_deleted m u names c.in_ok-dropped.dropped kept id drops t (has_owner m names (targets.Node id) kept there).used (subst (λ (z : State). degree z.records id ≡ 0) (sym same) (sym k.1 ∙ c.if-node-ne0.false)) ((g.met.S.Reads.onward_shape _ _ c.drop_all.ensures.onward)) ((g.met.S.Reads.onward_shape _ _ c.give.ensures.onward)) (c.in_ok-give.ensures.given tells))
 
 same : (g : Over) (c : After-load g) → SameButReads (g.S.Reads.state c.args.space.now) (g.S.Reads.state c.load.new.space)
 same g c = subst (SameButReads (g.S.Reads.state c.args.space.now)) (sym c.load.ensures.state) (same_node (g.S.Reads.state c.args.space.now) c.args.id)

@@ -133,7 +133,7 @@ returns-clause-made g c tells store =
     made_read s m u new (commands.Set c.args.target c.args.key.now value) Done weight c.find_owner.ensures.state
     (set_value m old c.args.target c.args.key.now value (store_found g after tells store) (there g after tells store)
     (g.S.Reads.state c.intern.new.space) new c.in_ok-number.number c.in_ok-owner.owner c.in_ok-owner.ensures.owner (uses g after) (kept g after tells store) (few g after) (at g after)
-    u c.in_ok-released.released weight (c.in_ok-released.ensures.set tells (known g after tells store)) (c.set.ensures.shape tells)
+    u c.in_ok-released.released weight (c.in_ok-released.ensures.set tells (known g after tells store)) ((g.met.S.Reads.onward_shape _ _ c.set.ensures.onward))
     (weight_is c.count-known.result c.count.result c.block_count.result (length old) (length new) (blocks_of value) c.in_ok-released.released c.count-known.ensures.value c.count.ensures.value c.block_count.ensures.is))
 
 pub returns-clause-writes : goal.returns-clause-writes

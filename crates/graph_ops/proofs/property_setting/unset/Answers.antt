@@ -4,7 +4,7 @@ use Rattle.plain_graph.specs.Reply.{Done}
 use Rattle.plain_graph.specs.declared.command.Command.TheVariants as commands
 use Rattle.prop_store.specs.Changing.{UnsetsValue, released_blocks}
 use Rattle.graph_ops.specs.Change.{IsRefusal}
-use Rattle.graph_ops.specs.ChangeFault.{of_prop}
+use Rattle.graph_ops.specs.ChangeFault.{of_fault}
 use Rattle.graph_ops.specs.Store.{graph_in}
 use Rattle.graph_ops.proofs.Exits.{fault_exit}
 use Rattle.graph_ops.proofs.Readings.{made_read, store_read, there_read}
@@ -33,7 +33,7 @@ returns-in_err-released-clause-refused g c tells store =
     let names = c.args.names.now.names in
     let kept = store_read s m names c.find_owner.ensures.state store in
     let there = there_read s m c.args.target c.find_owner.ensures.state (c.in_ok-owner.ensures.there tells) in
-    fault_exit of_prop (IsRefusal s.shape.limit (graph_in s) (commands.Unset c.args.target c.args.key.now)) c.in_err-released.field-0.0 c.from_residual-in_err-released.result c.from_residual-in_err-released.ensures.1
+    fault_exit of_fault (IsRefusal s.shape.limit (graph_in s) (commands.Unset c.args.target c.args.key.now)) c.in_err-released.field-0.0 c.from_residual-in_err-released.result c.from_residual-in_err-released.ensures.1
     (prop_refused s.shape.limit (graph_in s) (commands.Unset c.args.target c.args.key.now) c.in_err-released.field-0.0
     (c.in_err-released.ensures.sound tells
     (has_key m names c.args.target c.args.key.now kept there c.in_ok-owner.owner c.in-Some.number c.in_ok-owner.ensures.owner (c.in-Some.ensures.some ∙ ap Some c.as_bytes.ensures))))

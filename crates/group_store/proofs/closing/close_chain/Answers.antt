@@ -31,7 +31,7 @@ returns-in_err-drop_if_empty-clause-writes g c = written g (goal.at.returns-in_e
 pub returns-in_ok-drop_if_empty-clause-closed : goal.returns-in_ok-drop_if_empty-clause-closed
 returns-in_ok-drop_if_empty-clause-closed g c = λ tells most empty can.
     closed_by (g.S.Reads.state c.args.space.now) c.args.head.key.file c.args.head.key.id c.args.head.field c.args.node most empty c.if-head-eq-GROUPS.true can (g.S.Reads.state c.drop_if_empty.new.space)
-    c.in_ok-drop_if_empty.field-0 (c.in_ok-drop_if_empty.ensures.is tells) c.in_ok-drop_if_empty.ensures.kept (c.in_ok-drop_if_empty.ensures.ok tells) (c.in_ok-drop_if_empty.ensures.shape tells)
+    c.in_ok-drop_if_empty.field-0 (c.in_ok-drop_if_empty.ensures.is tells) c.in_ok-drop_if_empty.ensures.kept (c.in_ok-drop_if_empty.ensures.ok tells) (g.met.S.Reads.onward_shape _ _ c.in_ok-drop_if_empty.ensures.onward)
 
 pub returns-in_ok-drop_if_empty-clause-writes : goal.returns-in_ok-drop_if_empty-clause-writes
 returns-in_ok-drop_if_empty-clause-writes g c = written g (goal.at.returns-in_ok-drop_if_empty-clause-writes g c).After-drop_if_empty

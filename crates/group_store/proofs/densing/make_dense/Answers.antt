@@ -23,7 +23,6 @@ loop-init g c =
       writes = come_none s l t c.args.node c.new-moved.result.relationships.items c.new-moved.result.groups.items same c.in_ok-clear.ensures.writes;
       rels = ap length moved.relationships;
       groups = ap length moved.groups;
-      shape = λ tells. c.in_ok-clear.ensures.shape tells ∙ ap (λ (q : State). q.shape) same;
       onward = g.met.S.Reads.further_onward c.args.space.now c.load.new.space c.clear.new.space c.load.ensures.onward c.in_ok-clear.ensures.onward;
       later = let first = c.load.ensures.cause in let then = c.in_ok-clear.ensures.cause in omega (arith, first.later, then.later);
     }
@@ -45,7 +44,6 @@ loop-preserved g c =
       writes = come_next s now end c.args.node c.loop.at turn came groups xs ys was.writes c.in_ok-turn.ensures.wrote (c.note.ensures.known.0 c.if-not-note.false) c.note.ensures.relationships c.note.ensures.groups;
       rels = one_longer c.loop.at c.loop.counter came xs c.note.ensures.relationships was.rels;
       groups = one_longer turn.group c.loop.counter groups ys c.note.ensures.groups was.groups;
-      shape = λ tells. c.in_ok-turn.ensures.shape tells ∙ was.shape tells;
       onward = g.met.S.Reads.further_onward c.args.space.now c.loop.space c.move_one.new.space was.onward c.in_ok-turn.ensures.onward;
       later = let cause = c.in_ok-turn.ensures.cause in omega (arith, was.later, cause.later);
     }

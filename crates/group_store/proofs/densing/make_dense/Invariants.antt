@@ -13,7 +13,6 @@ invariant-loop g l =
       writes : WritesCome s (g.S.Reads.state l.space) l.fn.node l.moved.relationships.items l.moved.groups.items;
       rels : length l.moved.relationships.items ≡ l.counter + 1;
       groups : length l.moved.groups.items ≡ l.counter + 1;
-      shape : g.S.Reads.tells → (g.S.Reads.state l.space).shape ≡ s.shape;
       onward : g.S.Reads.onward l.fn.space l.space;
       later : g.S.Reads.faults l.fn.space ≤ g.S.Reads.faults l.space;
     }

@@ -13,7 +13,7 @@ use Rattle.store_rules.proofs.WriteLaws.{beside_more, none_beside}
 use Rattle.std.proofs.lemmas.Result.{err_from_is_err_and}
 use Rattle.rel_store.proofs.Rows.{IsReadable-AreInRange}
 use Rattle.group_store.specs.GroupChain.{IsDense}
-use Rattle.group_store.specs.GroupFault.{of_chain, of_row}
+use Rattle.rec_bytes.specs.Fault.{of_row}
 use Rattle.group_store.proofs.GroupWalks.{not_damaged_at}
 use Rattle.group_store.proofs.GroupWrites.{made_writes}
 use Rattle.group_store.specs.declared.making.OwnGroup.{OwnGroup}
@@ -139,7 +139,7 @@ returns-in_err-first-clause-sound g c = λ tells rest most empty spread room.
     let l = g.S.Reads.state c.load.new.space in
     let t = g.S.Reads.state c.free_previous.new.space in
     let p = err_from_is_err_and c.from_residual-in_err-first.result c.from_residual-in_err-first.ensures.1 in
-    not_damaged_at c.from_residual-in_err-first.result p.0 (of_chain c.in_err-first.field-0.0) p.1 p.2 (chain_sound c.in_err-first.field-0.0 (c.in_err-first.ensures.sound tells
+    not_damaged_at c.from_residual-in_err-first.result p.0 c.in_err-first.field-0.0 p.1 p.2 (chain_sound c.in_err-first.field-0.0 (c.in_err-first.ensures.sound tells
     (push_right s l (g.S.Reads.state c.own_group.new.space) c.args.node c.args.rel c.in-Some.row c.in_ok-own.own.row.id (only_loads s l c.args.rel c.load.ensures.state) (sym c.in-Some.is ∙ c.in_ok-row.ensures.found tells)
     (c.in_ok-own.ensures.opened tells) rest most empty spread t (head_of c.group_head-head.result) (c.in_ok-free_previous.ensures.ok tells)
     (c.group_head-head.ensures.is ∙ ap (λ (side : Side). group_head c.in_ok-own.own.row.id side) c.at.ensures))))

@@ -24,10 +24,6 @@ returns-in_err-row-clause-writes g c =
     let now = g.S.Reads.state c.find_group.new.space in
     (0, 0, same_writes s now _ (same_read _ s now c.find_group.ensures.at_most))
 
-pub returns-in_err-row-clause-shape : goal.returns-in_err-row-clause-shape
-returns-in_err-row-clause-shape g c = λ _.
-    ap (λ (t : State). t.shape) (same_read _ (g.S.Reads.state c.args.space.now) (g.S.Reads.state c.find_group.new.space) c.find_group.ensures.at_most)
-
 pub returns-in-Some-clause-opened : goal.returns-in-Some-clause-opened
 returns-in-Some-clause-opened g c = λ tells rest most empty keeps dense.
     let s = g.S.Reads.state c.args.space.now in
@@ -52,10 +48,6 @@ returns-in-Some-clause-writes g c =
     let s = g.S.Reads.state c.args.space.now in
     let now = g.S.Reads.state c.find_group.new.space in
     (0, 0, same_writes s now _ (same_read _ s now c.find_group.ensures.at_most))
-
-pub returns-in-Some-clause-shape : goal.returns-in-Some-clause-shape
-returns-in-Some-clause-shape g c = λ _.
-    ap (λ (t : State). t.shape) (same_read _ (g.S.Reads.state c.args.space.now) (g.S.Reads.state c.find_group.new.space) c.find_group.ensures.at_most)
 
 pub returns-in-None-clause-opened : goal.returns-in-None-clause-opened
 returns-in-None-clause-opened g c = λ tells.
@@ -97,10 +89,6 @@ returns-in-None-clause-writes g c =
     let end = g.S.Reads.state c.make_own.new.space in
     let k = c.make_own.ensures.writes in
     (k.1, k.0, writes_after s now end _ (same_read _ s now c.find_group.ensures.at_most) k.2)
-
-pub returns-in-None-clause-shape : goal.returns-in-None-clause-shape
-returns-in-None-clause-shape g c = λ tells.
-    c.make_own.ensures.shape tells ∙ ap (λ (t : State). t.shape) (same_read _ (g.S.Reads.state c.args.space.now) (g.S.Reads.state c.find_group.new.space) c.find_group.ensures.at_most)
 
 pub returns-in_err-row-clause-sound : goal.returns-in_err-row-clause-sound
 returns-in_err-row-clause-sound g c = λ tells rest most empty keeps dense room.

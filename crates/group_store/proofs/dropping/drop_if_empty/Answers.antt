@@ -152,6 +152,3 @@ returns-in_err-test_link-2-clause-sound g c = λ tells xs on.
     let after = number_read s.records c.args.group group_next c.number-after.result c.in_ok-rec.rec (c.in_ok-rec.ensures.got tells) c.number-after.ensures in
     let is_ok = c.in_err-test_link-2.ensures.sound (right_next s (g.S.Reads.state c.read_member.new.space) c.args.node c.args.group c.number-after.result xs c.in_ok-rec.ensures.read after on) in
     absurd (false≢true is_ok)
-
-pub returns-in_err-rec-clause-shape : goal.returns-in_err-rec-clause-shape
-returns-in_err-rec-clause-shape g c = λ tells. ap (λ (z : State). z.shape) (only_read (g.S.Reads.state c.args.space.now) (g.S.Reads.state c.read_member.new.space) 1 c.read_member.ensures.at_most)

@@ -1,6 +1,7 @@
 use Rattle.std.proofs.Common.{◌≡◌, ap, sym, subst, arith}
-use Rattle.std.specs.Prelude.{IfSome, Option, ℕ, ◌∷◌, []}
+use Rattle.std.specs.Prelude.{Err, IfSome, Option, ℕ, ◌∷◌, []}
 use Rattle.group_store.specs.declared.group_row.GroupRow.{GroupRow}
+use Rattle.group_store.specs.declared.making.OwnGroup.{OwnGroup}
 use Rattle.std.proofs.lemmas.Bool.{false≢true}
 use Rattle.std.proofs.lemmas.Result.{err_from_is_err_and}
 use Rattle.node_store.specs.NodeRecord.{node_key}
@@ -9,7 +10,7 @@ use Rattle.rec_bytes.specs.RecordFiles.{meta_key_of}
 use Rattle.store_rules.specs.Views.{first_link}
 use Rattle.group_store.specs.FirstGroup.{IsFirst}
 use Rattle.group_store.specs.GroupRecord.{group_key}
-use Rattle.group_store.specs.Making.{IsMakeDamage, link_damage}
+use Rattle.group_store.specs.Making.{IsMakeDamage, IsMakeFault, link_damage}
 use Rattle.group_store.specs.Making.IsMakeDamage.{NotDense, BadLink}
 use Rattle.group_store.proofs.MakeSteps.{all_writes, link_told, made_has, made_is, node_told, on_damage, right_first, same_read, same_then, same_writes, take_told}
 use Rattle.group_store.proofs.MadeRules.{made_shape, rules_made}
@@ -69,44 +70,43 @@ returns-in_err-test_link-clause-writes g c =
     let s = g.S.Reads.state c.args.space.now in
     (0, 0, same_writes s (g.S.Reads.state c.first_group.new.space) _ (same_read 1 s (g.S.Reads.state c.first_group.new.space) c.in_ok-first.ensures.at_most))
 
-pub returns-in_err-id-clause-damaged : goal.returns-in_err-id-clause-damaged
-returns-in_err-id-clause-damaged g c = λ tells.
+pub returns-in-Err-clause-damaged : goal.returns-in-Err-clause-damaged
+returns-in-Err-clause-damaged g c = λ tells.
     let s = g.S.Reads.state c.args.space.now in
     let now = g.S.Reads.state c.first_group.new.space in
-    let p = err_from_is_err_and c.from_residual-in_err-id.result c.from_residual-in_err-id.ensures.1 in
     let read : now ≡ after_get s = subst (λ (first : Option ℕ). IfSome first (λ _. now ≡ after_get s)) c.in-Some.is (c.in_ok-first.ensures.read tells) in
-    rw (p.1, p.2) (take_told s now c.args.node c.in_err-id.field-0.0 read (c.in_err-id.ensures.refused tells))
+    subst (IsMakeFault s c.args.node) (sym c.fault_of.ensures) (take_told s now c.args.node c.in-Err.fault read (c.in-Err.ensures.refused tells))
 
-pub returns-in_err-id-clause-unwritten : goal.returns-in_err-id-clause-unwritten
-returns-in_err-id-clause-unwritten g c =
+pub returns-in-Err-clause-unwritten : goal.returns-in-Err-clause-unwritten
+returns-in-Err-clause-unwritten g c =
     let s = g.S.Reads.state c.args.space.now in
     let now = g.S.Reads.state c.first_group.new.space in
-    on_damage c.from_residual-in_err-id.result _ (same_then s now (g.S.Reads.state c.take.new.space) (same_read 1 s now c.in_ok-first.ensures.at_most) c.in_err-id.ensures.err)
+    on_damage {T = OwnGroup} (Err c.fault_of.result) _ (same_then s now (g.S.Reads.state c.take.new.space) (same_read 1 s now c.in_ok-first.ensures.at_most) c.in-Err.ensures.err)
 
-pub returns-in_err-id-clause-writes : goal.returns-in_err-id-clause-writes
-returns-in_err-id-clause-writes g c =
+pub returns-in-Err-clause-writes : goal.returns-in-Err-clause-writes
+returns-in-Err-clause-writes g c =
     let s = g.S.Reads.state c.args.space.now in
     let now = g.S.Reads.state c.first_group.new.space in
-    (0, 0, same_writes s (g.S.Reads.state c.take.new.space) _ (same_then s now (g.S.Reads.state c.take.new.space) (same_read 1 s now c.in_ok-first.ensures.at_most) c.in_err-id.ensures.err))
+    (0, 0, same_writes s (g.S.Reads.state c.take.new.space) _ (same_then s now (g.S.Reads.state c.take.new.space) (same_read 1 s now c.in_ok-first.ensures.at_most) c.in-Err.ensures.err))
 
 pub returns-in_err-lead-clause-writes : goal.returns-in_err-lead-clause-writes
 returns-in_err-lead-clause-writes g c =
     let s = g.S.Reads.state c.args.space.now in
     let now = g.S.Reads.state c.first_group.new.space in (
-      c.in_ok-id.id,
+      c.in-Ok.id,
       c.in-Some.first,
-      all_writes s now (g.S.Reads.state c.take.new.space) (g.S.Reads.state c.lead.new.space) (group_key c.in_ok-id.id) (group_key c.in-Some.first) (node_key c.args.node) (meta_key_of groups_file)
-          (same_read 1 s now c.in_ok-first.ensures.at_most) c.in_ok-id.ensures.writes c.in_err-lead.ensures.writes,
+      all_writes s now (g.S.Reads.state c.take.new.space) (g.S.Reads.state c.lead.new.space) (group_key c.in-Ok.id) (group_key c.in-Some.first) (node_key c.args.node) (meta_key_of groups_file)
+          (same_read 1 s now c.in_ok-first.ensures.at_most) c.in-Ok.ensures.writes c.in_err-lead.ensures.writes,
     )
 
 pub returns-clause-writes : goal.returns-clause-writes
 returns-clause-writes g c =
     let s = g.S.Reads.state c.args.space.now in
     let now = g.S.Reads.state c.first_group.new.space in (
-      c.in_ok-id.id,
+      c.in-Ok.id,
       c.in-Some.first,
-      all_writes s now (g.S.Reads.state c.take.new.space) (g.S.Reads.state c.lead.new.space) (group_key c.in_ok-id.id) (group_key c.in-Some.first) (node_key c.args.node) (meta_key_of groups_file)
-          (same_read 1 s now c.in_ok-first.ensures.at_most) c.in_ok-id.ensures.writes c.in_ok-lead.ensures.writes,
+      all_writes s now (g.S.Reads.state c.take.new.space) (g.S.Reads.state c.lead.new.space) (group_key c.in-Ok.id) (group_key c.in-Some.first) (node_key c.args.node) (meta_key_of groups_file)
+          (same_read 1 s now c.in_ok-first.ensures.at_most) c.in-Ok.ensures.writes c.in_ok-lead.ensures.writes,
     )
 
 pub returns-clause-ok : goal.returns-clause-ok
@@ -115,8 +115,8 @@ returns-clause-ok g c = λ tells.
     let now = g.S.Reads.state c.first_group.new.space in
     let read : now ≡ after_get s = subst (λ (first : Option ℕ). IfSome first (λ _. now ≡ after_get s)) c.in-Some.is (c.in_ok-first.ensures.read tells) in
     let first = subst (IsFirst s.records c.args.node) c.in-Some.is (c.in_ok-first.ensures.first tells) in
-    made_is s now (g.S.Reads.state c.take.new.space) (g.S.Reads.state c.lead.new.space) c.args.node c.args.label c.in-Some.first c.in_ok-id.id c.empty_group.result
-    read (c.in_ok-id.ensures.ok tells) first.1 c.in_ok-id.ensures.is c.empty_group.ensures (c.in_ok-lead.ensures.ok tells)
+    made_is s now (g.S.Reads.state c.take.new.space) (g.S.Reads.state c.lead.new.space) c.args.node c.args.label c.in-Some.first c.in-Ok.id c.empty_group.result
+    read (c.in-Ok.ensures.ok tells) first.1 c.in-Ok.ensures.is c.empty_group.ensures (c.in_ok-lead.ensures.ok tells)
 
 pub returns-clause-made : goal.returns-clause-made
 returns-clause-made g c = λ tells free xs can.
@@ -124,45 +124,23 @@ returns-clause-made g c = λ tells free xs can.
     let now = g.S.Reads.state c.first_group.new.space in
     let read : now ≡ after_get s = subst (λ (first : Option ℕ). IfSome first (λ _. now ≡ after_get s)) c.in-Some.is (c.in_ok-first.ensures.read tells) in
     let first = subst (IsFirst s.records c.args.node) c.in-Some.is (c.in_ok-first.ensures.first tells) in
-    made_has s now (g.S.Reads.state c.take.new.space) (g.S.Reads.state c.lead.new.space) c.args.node c.args.label c.in-Some.first c.in_ok-id.id c.empty_group.result c.empty_row.result free xs
-    read (c.in_ok-id.ensures.taken tells free) (c.in_ok-id.ensures.fresh tells) first.1 c.empty_group.ensures (c.in_ok-lead.ensures.ok tells) c.empty_row.ensures
-    (omega (arith, c.in_ok-id.ensures.key.id)) (omega (arith, c.ranges.node.fits)) (omega (arith, c.ranges.label.fits)) can
+    made_has s now (g.S.Reads.state c.take.new.space) (g.S.Reads.state c.lead.new.space) c.args.node c.args.label c.in-Some.first c.in-Ok.id c.empty_group.result c.empty_row.result free xs
+    read (c.in-Ok.ensures.taken tells free) (c.in-Ok.ensures.fresh tells) first.1 c.empty_group.ensures (c.in_ok-lead.ensures.ok tells) c.empty_row.ensures
+    (omega (arith, c.in-Ok.ensures.key.id)) (omega (arith, c.ranges.node.fits)) (omega (arith, c.ranges.label.fits)) can
 
 pub returns-clause-wrote : goal.returns-clause-wrote
 returns-clause-wrote g c =
     let s = g.S.Reads.state c.args.space.now in
     let now = g.S.Reads.state c.first_group.new.space in
-    let id : c.in_ok-id.id ≡ c.empty_row.result.id = sym (ap (λ (r : GroupRow). r.id) c.empty_row.ensures) in
+    let id : c.in-Ok.id ≡ c.empty_row.result.id = sym (ap (λ (r : GroupRow). r.id) c.empty_row.ensures) in
     subst (λ k. WritesOnly s (g.S.Reads.state c.lead.new.space) (group_key k ∷ group_key c.in-Some.first ∷ node_key c.args.node ∷ meta_key_of groups_file ∷ [])) id
-    (all_writes s now (g.S.Reads.state c.take.new.space) (g.S.Reads.state c.lead.new.space) (group_key c.in_ok-id.id) (group_key c.in-Some.first) (node_key c.args.node) (meta_key_of groups_file)
-    (same_read 1 s now c.in_ok-first.ensures.at_most) c.in_ok-id.ensures.writes c.in_ok-lead.ensures.writes)
+    (all_writes s now (g.S.Reads.state c.take.new.space) (g.S.Reads.state c.lead.new.space) (group_key c.in-Ok.id) (group_key c.in-Some.first) (node_key c.args.node) (meta_key_of groups_file)
+    (same_read 1 s now c.in_ok-first.ensures.at_most) c.in-Ok.ensures.writes c.in_ok-lead.ensures.writes)
 
 pub returns-clause-first : goal.returns-clause-first
 returns-clause-first g c = λ tells.
     let s = g.S.Reads.state c.args.space.now in
     (subst (IsFirst s.records c.args.node) c.in-Some.is (c.in_ok-first.ensures.first tells)).1
-
-pub returns-in_err-first-clause-shape : goal.returns-in_err-first-clause-shape
-returns-in_err-first-clause-shape g c = λ _.
-    ap (λ (t : State). t.shape) (same_read 1 (g.S.Reads.state c.args.space.now) (g.S.Reads.state c.first_group.new.space) c.in_err-first.ensures.at_most)
-
-pub returns-in_default-clause-shape : goal.returns-in_default-clause-shape
-returns-in_default-clause-shape g c = λ _.
-    ap (λ (t : State). t.shape) (same_read 1 (g.S.Reads.state c.args.space.now) (g.S.Reads.state c.first_group.new.space) c.in_ok-first.ensures.at_most)
-
-pub returns-in_err-lead-clause-shape : goal.returns-in_err-lead-clause-shape
-returns-in_err-lead-clause-shape g c = λ tells.
-    let s = g.S.Reads.state c.args.space.now in
-    let now = g.S.Reads.state c.first_group.new.space in
-    made_shape s now (g.S.Reads.state c.take.new.space) (g.S.Reads.state c.lead.new.space)
-    (ap (λ (t : State). t.shape) (same_read 1 s now c.in_ok-first.ensures.at_most)) (c.in_ok-id.ensures.ok tells) (c.in_err-lead.ensures.shape tells)
-
-pub returns-clause-shape : goal.returns-clause-shape
-returns-clause-shape g c = λ tells.
-    let s = g.S.Reads.state c.args.space.now in
-    let now = g.S.Reads.state c.first_group.new.space in
-    made_shape s now (g.S.Reads.state c.take.new.space) (g.S.Reads.state c.lead.new.space)
-    (ap (λ (t : State). t.shape) (same_read 1 s now c.in_ok-first.ensures.at_most)) (c.in_ok-id.ensures.ok tells) (c.in_ok-lead.ensures.shape tells)
 
 pub returns-clause-rules : goal.returns-clause-rules
 returns-clause-rules g c = λ tells rest most empty keeps dense lacks.
@@ -170,6 +148,6 @@ returns-clause-rules g c = λ tells rest most empty keeps dense lacks.
     let now = g.S.Reads.state c.first_group.new.space in
     let read : now ≡ after_get s = subst (λ (first : Option ℕ). IfSome first (λ _. now ≡ after_get s)) c.in-Some.is (c.in_ok-first.ensures.read tells) in
     let first = subst (IsFirst s.records c.args.node) c.in-Some.is (c.in_ok-first.ensures.first tells) in
-    rules_made s now (g.S.Reads.state c.take.new.space) (g.S.Reads.state c.lead.new.space) c.args.node c.args.label c.in-Some.first c.in_ok-id.id c.empty_group.result c.empty_row.result
-    read (λ free. c.in_ok-id.ensures.taken tells free) (c.in_ok-id.ensures.fresh tells) c.in_ok-id.ensures.small (c.in_ok-id.ensures.ok tells) first.1 c.empty_group.ensures (c.in_ok-lead.ensures.ok tells) c.empty_row.ensures
+    rules_made s now (g.S.Reads.state c.take.new.space) (g.S.Reads.state c.lead.new.space) c.args.node c.args.label c.in-Some.first c.in-Ok.id c.empty_group.result c.empty_row.result
+    read (λ free. c.in-Ok.ensures.taken tells free) (c.in-Ok.ensures.fresh tells) c.in-Ok.ensures.small (c.in-Ok.ensures.ok tells) first.1 c.empty_group.ensures (c.in_ok-lead.ensures.ok tells) c.empty_row.ensures
     (omega (arith, c.ranges.node.fits)) (omega (arith, c.ranges.label.fits)) rest most empty keeps dense lacks

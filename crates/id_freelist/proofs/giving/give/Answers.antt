@@ -1,12 +1,18 @@
 use Rattle.std.proofs.Common.{rules, ◌≡◌, subst, sym}
 use Rattle.rec_bytes.specs.Space.{State}
 use Rattle.store_rules.proofs.MetaLaws.{meta_of_reused}
-use Rattle.id_freelist.specs.Giving.{given, HasGiven}
-use Rattle.id_freelist.proofs.FreeListLaws.{has_given}
+use Rattle.id_freelist.specs.Giving.{HasGiven}
+use Rattle.id_freelist.proofs.FreeListLaws.{given_stays, has_given}
 use Rattle.id_freelist.proofs.giving.give.Goals as goal
+
+pub returns-clause-ok : goal.returns-clause-ok
+returns-clause-ok g c tells = search rules
+
+pub returns-clause-stays : goal.returns-clause-stays
+returns-clause-stays g c tells = given_stays (g.S.Reads.state c.args.space.now) (g.S.Reads.state c.change_meta.new.space) c.args.file c.args.id (returns-clause-ok g c tells)
 
 pub returns-clause-given : goal.returns-clause-given
 returns-clause-given g c tells free can =
     let old = g.S.Reads.state c.args.space.now in
-    let is : g.S.Reads.state c.change_meta.new.space ≡ given old c.args.file c.args.id = search rules in
+    let is = returns-clause-ok g c tells in
     subst (λ (new : State). HasGiven old.records new.records c.args.file c.args.id free) (sym is) (has_given old c.args.file c.args.id free (meta_of_reused c.args.file c.requires.file) c.requires.key.id can)

@@ -57,3 +57,12 @@ returns-else-meta-clause-undamaged g c tells =
     on_ok {B = λ id. kind_at s.records file id ≡ free_kind} {C = λ id. id ≡ c.meta-meta.result.free} c.take_free.result
     (λ id low unused is. undamaged s file ranged counted (λ ne. ap (kind_at s.records file) (sym (is ∙ free)) ∙ unused) (λ ne. low))
     (c.take_free.ensures.low tells) (c.take_free.ensures.fresh tells) c.take_free.ensures.is
+
+pub returns-in_ok-take_mark-clause-undamaged : goal.returns-in_ok-take_mark-clause-undamaged
+returns-in_ok-take_mark-clause-undamaged g c tells =
+    let s = g.S.Reads.state c.args.space.now in
+    let file = c.args.file in
+    let none : (meta_of s file).free ≡ 4294967295 = ap (λ (m : Meta). m.free) (sym c.meta-meta.ensures) ∙ c.if-meta.true in
+    let ranged = tested s file c.meta-meta.result c.shape.result c.room_of-room.result c.is_ranged.result true c.meta-meta.ensures c.shape.ensures.is c.room_of-room.ensures c.is_ranged.ensures c.if-not-is_ranged.false in
+    let counted = ap is_counted (sym c.meta-meta.ensures) ∙ sym c.is_counted.ensures ∙ c.if-not-is_counted.false in
+    undamaged s file ranged counted (λ ne. absurd (ne none)) (λ ne. absurd (ne none))

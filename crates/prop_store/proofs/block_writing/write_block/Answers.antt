@@ -11,11 +11,6 @@ returns-in_err-id-clause-refused g c tells keeps =
     let p = err_from_is_err_and c.from_residual.result c.from_residual.ensures.1 in
     rw (p.1, p.2) (cannot_take (g.S.Reads.state c.args.space.now) c.in_err-id.field-0.0 (c.in_err-id.ensures.refused tells) (c.in_err-id.ensures.sound tells) keeps)
 
-pub returns-in_err-put-clause-shape : goal.returns-in_err-put-clause-shape
-returns-in_err-put-clause-shape g c tells =
-    let old = g.S.Reads.state c.args.space.now in
-    ap (λ (z : State). z.shape) c.in_err-put.ensures.err ∙ ap (λ (z : State). z.shape) (c.in_ok-id.ensures.ok tells) ∙ shape-taken old strings_file
-
 pub returns-clause-written : goal.returns-clause-written
 returns-clause-written g c tells keeps follows =
     block_written _ (g.S.Reads.state c.take.new.space) _ c.args.piece.now c.args.next c.in_ok-id.id c.block_record.result c.requires.some c.requires.few c.ranges.next.fits c.block_record.ensures (c.in_ok-id.ensures.taken tells) c.in_ok-id.ensures.small c.in_ok-id.ensures.key
@@ -23,9 +18,6 @@ returns-clause-written g c tells keeps follows =
 
 pub returns-clause-beside : goal.returns-clause-beside
 returns-clause-beside g c tells = beside_put (g.S.Reads.state c.args.space.now) (g.S.Reads.state c.take.new.space) (g.S.Reads.state c.put.new.self) strings_file c.in_ok-id.id c.block_record.result (c.in_ok-id.ensures.ok tells) c.in_ok-put.ensures.ok
-
-pub returns-clause-shape : goal.returns-clause-shape
-returns-clause-shape g c tells = shape_put (g.S.Reads.state c.args.space.now) (g.S.Reads.state c.take.new.space) (g.S.Reads.state c.put.new.self) strings_file c.in_ok-id.id c.block_record.result (c.in_ok-id.ensures.ok tells) c.in_ok-put.ensures.ok
 
 pub returns-in_err-id-clause-touches : goal.returns-in_err-id-clause-touches
 returns-in_err-id-clause-touches g c = touches_more [] 0 0 0 1 _ _ (omega arith) (omega arith) (touches_block_taken _ _ (record { writes = c.take.ensures.writes; stays = c.take.ensures.stays }))

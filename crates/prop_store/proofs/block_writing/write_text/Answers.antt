@@ -17,7 +17,6 @@ loop-left-init g c =
       stands = λ tells keeps. nothing_stands old (drop (48 * c.div_ceil-left.result) text) (drop_all (48 * c.div_ceil-left.result) text (omega arith)) keeps;
       few = omega arith;
       beside = λ tells. beside_none strings_file old.records;
-      shape = search rules;
       touches = touches_reads [] 0 _ old old refl;
       onward = search rules;
       later = omega arith;
@@ -42,13 +41,12 @@ loop-left-preserved g c =
     let size = length-numbered_piece (left - 1) text lt in
     record {
       stands = λ tells keeps.
-          let shape = c.loop-left.invariant.shape tells in
+          let shape = (g.met.S.Reads.onward_shape _ _ c.loop-left.invariant.onward) in
           let stands = c.loop-left.invariant.stands tells keeps in
           one_written old now (drop (48 * left) text) c.loop-left.first shape stands then (drop (48 * (left - 1)) text) c.piece_at.result.now c.in_ok-first.first c.piece_at.ensures (drop-piece (left - 1) left text (omega arith)) size.2
           (c.in_ok-first.ensures.written tells (keeps_now old now (drop (48 * left) text) c.loop-left.first shape stands) (may_follow old now (drop (48 * left) text) c.loop-left.first shape stands));
       few = omega arith;
       beside = λ tells. beside_then strings_file old.records now.records then.records (c.loop-left.invariant.beside tells) (c.in_ok-first.ensures.beside tells);
-      shape = λ tells. c.in_ok-first.ensures.shape tells ∙ c.loop-left.invariant.shape tells;
       touches = touches_then [] 0 (blocks_for (length text) - left) 0 1 0 _ old now then (omega arith) (omega arith) c.loop-left.invariant.touches c.write_block.ensures.touches;
       onward = g.met.S.Reads.further_onward _ _ _ c.loop-left.invariant.onward c.in_ok-first.ensures.onward;
       later = omega (arith, c.loop-left.invariant.later, c.in_ok-first.ensures.cause.later);
@@ -63,7 +61,7 @@ returns-in_err-first-clause-refused g c tells keeps =
     let left = c.loop-left.left in
     let few = c.loop-left.invariant.few in
     let some = c.loop-left-test.true in
-    let shape = c.loop-left.invariant.shape tells in
+    let shape = (g.met.S.Reads.onward_shape _ _ c.loop-left.invariant.onward) in
     let stands = c.loop-left.invariant.stands tells keeps in
     let rest = length-drop (48 * left) text in
     rw (p.1, p.2) (no_room old now (drop (48 * left) text) c.loop-left.first shape stands (blocks_for (length text)) c.in_err-first.field-0.0 (omega arith)

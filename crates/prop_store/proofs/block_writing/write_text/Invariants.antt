@@ -14,7 +14,6 @@ invariant-loop-left g l =
       stands : g.S.Reads.tells → KeepsFile old strings_file → StandsFrom old now (drop (48 * l.left) l.fn.text) l.first;
       few : l.left ≤ blocks_for (length l.fn.text);
       beside : g.S.Reads.tells → IsSameBeside strings_file old.records now.records;
-      shape : g.S.Reads.tells → now.shape ≡ old.shape;
       touches : TouchesProperties g.S.Reads.tells [] 0 (blocks_for (length l.fn.text) - l.left) old now;
       onward : g.S.Reads.onward l.fn.space l.space;
       later : g.S.Reads.faults l.fn.space ≤ g.S.Reads.faults l.space;

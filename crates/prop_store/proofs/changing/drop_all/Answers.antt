@@ -50,7 +50,7 @@ returns-in_ok-set_number-clause-dropped g c tells has =
     let s = g.S.Reads.state c.args.space.now in
     drops_graph s c.args.owner c.requires.owner has (g.S.Reads.state c.set_number.new.space) c.in_ok-dropped.dropped
     (returns-in_ok-set_number-clause-alone g c tells _ (owns_listed s c.args.owner c.requires.owner has))
-    (ap (λ (z : State). z.shape) (c.in_ok-set_number.ensures.ok tells) ∙ c.drop_chain.ensures.shape tells ∙ ap (λ (z : State). z.shape) c.first.ensures.state)
+    (ap (λ (z : State). z.shape) (c.in_ok-set_number.ensures.ok tells) ∙ g.met.S.Reads.onward_shape _ _ c.drop_chain.ensures.onward ∙ ap (λ (z : State). z.shape) c.first.ensures.state)
 
 pub returns-else-first-clause-alone : goal.returns-else-first-clause-alone
 returns-else-first-clause-alone g c tells es owns =
@@ -66,7 +66,7 @@ returns-else-first-clause-dropped g c tells has =
     let s = g.S.Reads.state c.args.space.now in
     drops_graph s c.args.owner c.requires.owner has (g.S.Reads.state c.drop_chain.new.space) c.in_ok-dropped.dropped
     (returns-else-first-clause-alone g c tells _ (owns_listed s c.args.owner c.requires.owner has))
-    (c.drop_chain.ensures.shape tells ∙ ap (λ (z : State). z.shape) c.first.ensures.state)
+    (g.met.S.Reads.onward_shape _ _ c.drop_chain.ensures.onward ∙ ap (λ (z : State). z.shape) c.first.ensures.state)
 
 pub returns-in_err-first-clause-at_most : goal.returns-in_err-first-clause-at_most
 returns-in_err-first-clause-at_most g c = touches_reads _ 32 704 _ _ (reads_same 1 _ _ (reads_one 1 _ _ (omega arith) c.first.ensures.state))

@@ -42,9 +42,6 @@ pub returns-in_err-find-clause-sound : goal.returns-in_err-find-clause-sound
 returns-in_err-find-clause-sound g c tells has =
     returns-in_err-find-clause-alone_sound g c tells _ (owns_listed (g.S.Reads.state c.args.space.now) c.args.owner c.requires.owner has.element)
 
-pub returns-in_err-find-clause-shape : goal.returns-in_err-find-clause-shape
-returns-in_err-find-clause-shape g c tells = ap (λ (z : State). z.shape) (reads_same 33 _ _ c.find.ensures.at_most)
-
 pub returns-in-Absent-clause-alone : goal.returns-in-Absent-clause-alone
 returns-in-Absent-clause-alone g c tells es owns =
     let f = subst (IsSought (g.S.Reads.state c.args.space.now).records c.args.owner es c.args.key) c.in-Absent.is (c.in_ok-find.ensures.found tells es owns.held.are) in
@@ -55,9 +52,6 @@ returns-in-Absent-clause-unset g c tells has =
     let s = g.S.Reads.state c.args.space.now in
     let alone = returns-in-Absent-clause-alone g c tells _ (owns_listed s c.args.owner c.requires.owner has.element) in
     (absent_value s c.args.owner c.requires.owner has.element c.args.key has.known alone.0, alone.1)
-
-pub returns-in-Absent-clause-shape : goal.returns-in-Absent-clause-shape
-returns-in-Absent-clause-shape g c tells = ap (λ (z : State). z.shape) (reads_same 33 _ _ c.find.ensures.at_most)
 
 pub returns-in-Absent-clause-writes : goal.returns-in-Absent-clause-writes
 returns-in-Absent-clause-writes g c = reads_write 2 _ _ (reads_same 33 _ _ c.find.ensures.at_most)
@@ -71,17 +65,6 @@ returns-in_err-released-in-Found-clause-alone_sound g c tells es owns =
 pub returns-in_err-released-in-Found-clause-sound : goal.returns-in_err-released-in-Found-clause-sound
 returns-in_err-released-in-Found-clause-sound g c tells has =
     returns-in_err-released-in-Found-clause-alone_sound g c tells _ (owns_listed (g.S.Reads.state c.args.space.now) c.args.owner c.requires.owner has.element)
-
-pub returns-in_err-released-in-Found-clause-shape : goal.returns-in_err-released-in-Found-clause-shape
-returns-in_err-released-in-Found-clause-shape g c tells = c.drop_property.ensures.shape tells ∙ ap (λ (z : State). z.shape) (reads_same 33 _ _ c.find.ensures.at_most)
-
-pub returns-in_err-set_number-in-Found-clause-shape : goal.returns-in_err-set_number-in-Found-clause-shape
-returns-in_err-set_number-in-Found-clause-shape g c tells =
-    ap (λ (z : State). z.shape) c.in_err-set_number-in-Found.ensures.err ∙ c.drop_property.ensures.shape tells ∙ ap (λ (z : State). z.shape) (reads_same 33 _ _ c.find.ensures.at_most)
-
-pub returns-in_ok-set_number-in-Found-clause-shape : goal.returns-in_ok-set_number-in-Found-clause-shape
-returns-in_ok-set_number-in-Found-clause-shape g c tells =
-    ap (λ (z : State). z.shape) (c.in_ok-set_number-in-Found.ensures.ok tells) ∙ c.drop_property.ensures.shape tells ∙ ap (λ (z : State). z.shape) (reads_same 33 _ _ c.find.ensures.at_most)
 
 pub returns-in_ok-set_number-in-Found-clause-alone : goal.returns-in_ok-set_number-in-Found-clause-alone
 returns-in_ok-set_number-in-Found-clause-alone g c tells es owns =
@@ -101,7 +84,7 @@ returns-in_ok-set_number-in-Found-clause-unset g c tells has =
     let s = g.S.Reads.state c.args.space.now in
     removes_graph s c.args.owner c.requires.owner has.element (g.S.Reads.state c.set_number.new.space) c.args.key c.in_ok-released-in-Found.released
     (returns-in_ok-set_number-in-Found-clause-alone g c tells _ (owns_listed s c.args.owner c.requires.owner has.element))
-    (ap (λ (z : State). z.shape) (c.in_ok-set_number-in-Found.ensures.ok tells) ∙ c.drop_property.ensures.shape tells ∙ ap (λ (z : State). z.shape) (reads_same 33 _ _ c.find.ensures.at_most))
+    (ap (λ (z : State). z.shape) (c.in_ok-set_number-in-Found.ensures.ok tells) ∙ g.met.S.Reads.onward_shape _ _ c.drop_property.ensures.onward ∙ ap (λ (z : State). z.shape) (reads_same 33 _ _ c.find.ensures.at_most))
 
 pub returns-in_ok-set_number-in-Found-clause-writes : goal.returns-in_ok-set_number-in-Found-clause-writes
 returns-in_ok-set_number-in-Found-clause-writes g c =

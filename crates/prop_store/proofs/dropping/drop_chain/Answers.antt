@@ -14,7 +14,6 @@ loop-at-init g c = record {
   told = λ tells es held. all_left _ es c.args.first held;
   few = omega arith;
   small = omega arith;
-  shape = λ tells. refl;
   touches = touches_reads [] 0 0 _ _ refl;
   onward = g.met.S.Reads.stays_onward _;
   later = omega arith;
@@ -27,9 +26,6 @@ returns-in_err-row-clause-sound g c tells es held =
     let now = g.S.Reads.state c.loop-at.space in
     let at = here old now es c.loop-at.at c.loop-at.properties c.loop-at.blocks c.loop-at-test.true (c.loop-at.invariant.told tells es held) in
     rw (p.1, p.2) (c.in_err-row.ensures.sound tells (given_out old now es c.loop-at.at c.loop-at.properties c.loop-at.blocks at) (has_content old now es c.loop-at.at c.loop-at.properties c.loop-at.blocks at))
-
-pub returns-in_err-row-clause-shape : goal.returns-in_err-row-clause-shape
-returns-in_err-row-clause-shape g c tells = ap (λ (z : State). z.shape) (reads_same 1 _ _ c.property_at.ensures.at_most) ∙ c.loop-at.invariant.shape tells
 
 pub returns-in_err-released-clause-sound : goal.returns-in_err-released-clause-sound
 returns-in_err-released-clause-sound g c tells es held =
@@ -56,12 +52,11 @@ loop-at-preserved g c =
           = subst (λ (z : State). Left old z es c.loop-at.at c.loop-at.properties c.loop-at.blocks) (sym c.in_ok-row.ensures.state) (left_read old now es c.loop-at.at c.loop-at.properties c.loop-at.blocks (i.told tells es held)) in
           let at = here old read es c.loop-at.at c.loop-at.properties c.loop-at.blocks c.loop-at-test.true told in
           let got = c.in_ok-row.ensures.got tells ∙ ap (λ (z : State). rec_at z.records properties_file c.loop-at.at) (sym c.in_ok-row.ensures.state) in
-          one_less old read es c.loop-at.at c.loop-at.properties c.loop-at.blocks at then c.in_ok-released.released c.number-at.result _ _ (c.drop_property.ensures.shape tells)
+          one_less old read es c.loop-at.at c.loop-at.properties c.loop-at.blocks at then c.in_ok-released.released c.number-at.result _ _ (g.met.S.Reads.onward_shape _ _ c.drop_property.ensures.onward)
           (c.in_ok-released.ensures.dropped tells at.property (held_here old read es c.loop-at.at c.loop-at.properties c.loop-at.blocks at c.in_ok-row.row c.in_ok-row.ensures.row.id_is got))
           (c.number-at.ensures ∙ ap (λ r. field 4 r property_next) got) refl refl;
       few = let f = i.few in let ne = c.if-properties-eq-MOST_PROPERTIES.false in omega arith;
       small = let s = i.small in let r = c.in_ok-released.ensures.few in omega arith;
-      shape = λ tells. c.drop_property.ensures.shape tells ∙ ap (λ (z : State). z.shape) (reads_same 1 _ _ c.property_at.ensures.at_most) ∙ i.shape tells;
       touches = touches_then [] c.loop-at.properties c.loop-at.blocks 1 c.in_ok-released.released _ _ old now then (omega arith) (omega arith) i.touches
           (touches_after [] 1 c.in_ok-released.released now read then (reads_same 1 _ _ c.property_at.ensures.at_most) c.in_ok-released.ensures.touches);
       onward = g.met.S.Reads.further_onward _ _ _ i.onward (g.met.S.Reads.further_onward _ _ _ c.property_at.ensures.onward c.drop_property.ensures.onward);

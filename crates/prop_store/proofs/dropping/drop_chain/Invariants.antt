@@ -14,7 +14,6 @@ invariant-loop-at g l =
       told : g.S.Reads.tells → (es : List Property) → AreHeld old l.fn.first es → Left old now es l.at l.properties l.blocks;
       few : l.properties ≤ 32;
       small : l.blocks ≤ 22 * l.properties;
-      shape : g.S.Reads.tells → now.shape ≡ old.shape;
       touches : TouchesProperties g.S.Reads.tells [] l.properties l.blocks old now;
       onward : g.S.Reads.onward l.fn.space l.space;
       later : g.S.Reads.faults l.fn.space ≤ g.S.Reads.faults l.space;

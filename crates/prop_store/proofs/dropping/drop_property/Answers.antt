@@ -13,20 +13,11 @@ returns-in_err-blocks-clause-sound g c tells e held =
     let s = g.S.Reads.state c.args.space.now in
     rw (p.1, p.2) (c.in_err-blocks.ensures.sound tells e.value e.blocks held.value (blocks_given_out s.records s.shape _ e.blocks held.strings held.value.are))
 
-pub returns-in_err-blocks-clause-shape : goal.returns-in_err-blocks-clause-shape
-returns-in_err-blocks-clause-shape g c tells = ap (λ (z : State). z.shape) (reads_same 22 _ _ c.value_blocks.ensures.at_most)
-
 pub returns-in_err-release-clause-sound : goal.returns-in_err-release-clause-sound
 returns-in_err-release-clause-sound g c tells e held = space_exit c.from_residual-in_err-release.result c.in_err-release.field-0.0 c.from_residual-in_err-release.ensures.1
 
-pub returns-in_err-release-clause-shape : goal.returns-in_err-release-clause-shape
-returns-in_err-release-clause-shape g c tells = c.release.ensures.shape tells ∙ ap (λ (z : State). z.shape) (reads_same 22 _ _ c.value_blocks.ensures.at_most)
-
 pub returns-in_err-give-clause-sound : goal.returns-in_err-give-clause-sound
 returns-in_err-give-clause-sound g c tells e held = space_exit c.from_residual-in_err-give.result c.in_err-give.field-0.0 c.from_residual-in_err-give.ensures.1
-
-pub returns-in_err-give-clause-shape : goal.returns-in_err-give-clause-shape
-returns-in_err-give-clause-shape g c tells = c.give.ensures.shape tells ∙ c.release.ensures.shape tells ∙ ap (λ (z : State). z.shape) (reads_same 22 _ _ c.value_blocks.ensures.at_most)
 
 pub returns-clause-dropped : goal.returns-clause-dropped
 returns-clause-dropped g c tells e held =
@@ -40,9 +31,6 @@ returns-clause-dropped g c tells e held =
       changes = property_dropped s a b t c.args.row.now e c.as_slice-ids.result.now held (reads_same 22 s a c.value_blocks.ensures.at_most) ids_are
           (c.in_ok-release.ensures.released tells) (c.in_ok-release.ensures.beside tells) (c.in_ok-give.ensures.given tells);
     }
-
-pub returns-clause-shape : goal.returns-clause-shape
-returns-clause-shape g c tells = c.give.ensures.shape tells ∙ c.release.ensures.shape tells ∙ ap (λ (z : State). z.shape) (reads_same 22 _ _ c.value_blocks.ensures.at_most)
 
 pub returns-in_err-blocks-clause-at_most : goal.returns-in_err-blocks-clause-at_most
 returns-in_err-blocks-clause-at_most g c = touches_reads [] 1 22 _ _ (reads_same 22 _ _ c.value_blocks.ensures.at_most)

@@ -25,7 +25,6 @@ loop-id-preserved g c =
       released = λ tells once h. one_given old.records now then old.shape strings_file blocks (drop i blocks) (drop (i + 1) blocks) id i (i + 1) (inr refl) (drop_step blocks i (i + 1) refl lt) refl
           (c.in_ok-give.ensures.given tells) (c.loop-id.invariant.released tells once h);
       beside = λ tells. beside_then strings_file old.records now.records then.records (c.loop-id.invariant.beside tells) (beside_given now then strings_file id (c.in_ok-give.ensures.ok tells));
-      shape = λ tells. c.give.ensures.shape tells ∙ c.loop-id.invariant.shape tells;
       touches = only_given old now then strings_file id blocks (in_at blocks i lt) c.loop-id.invariant.touches (record { writes = c.give.ensures.writes; stays = c.give.ensures.stays });
       onward = g.met.S.Reads.further_onward _ _ _ c.loop-id.invariant.onward c.give.ensures.onward;
       later = omega (arith, c.loop-id.invariant.later, c.give.ensures.cause.later);

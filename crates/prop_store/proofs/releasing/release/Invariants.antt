@@ -17,7 +17,6 @@ invariant-loop-id g l =
     record {
       released : g.S.Reads.tells → AreOnce l.fn.blocks → ChangesFile old.records old.records old.shape strings_file l.fn.blocks l.fn.blocks → HasLeft old.records now.records old.shape strings_file l.fn.blocks (drop l.id-index l.fn.blocks) l.id-index;
       beside : g.S.Reads.tells → IsSameBeside strings_file old.records now.records;
-      shape : g.S.Reads.tells → now.shape ≡ old.shape;
       touches : TouchesOnly g.S.Reads.tells old now (meta_key_of strings_file ∷ map (key_in strings_file) l.fn.blocks);
       onward : g.S.Reads.onward l.fn.space l.space;
       later : g.S.Reads.faults l.fn.space ≤ g.S.Reads.faults l.space;

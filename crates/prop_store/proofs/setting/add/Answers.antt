@@ -79,7 +79,7 @@ returns-clause-added g c tells has none few =
     let is = c.requires.owner in
     sets_graph s owner is has.element c.args.key has.known (g.S.Reads.state c.set_number.new.space) c.args.value.now 0
     (returns-clause-alone g c tells _ (owns_listed s owner is has.element) has.known (lacks_key s owner is has.element c.args.key none) (few_listed s owner is c.args.key has few))
-    (ap (λ (y : State). y.shape) (c.in_ok-set_number.ensures.ok tells) ∙ c.in_ok-id.ensures.shape tells ∙ ap (λ (y : State). y.shape) c.first.ensures.state)
+    (ap (λ (y : State). y.shape) (c.in_ok-set_number.ensures.ok tells) ∙ g.met.S.Reads.onward_shape _ _ c.in_ok-id.ensures.onward ∙ ap (λ (y : State). y.shape) c.first.ensures.state)
 
 pub returns-then-meta-room_of-clause-touches : goal.returns-then-meta-room_of-clause-touches
 returns-then-meta-room_of-clause-touches g c = touches_reads _ 1 _ _ _ refl

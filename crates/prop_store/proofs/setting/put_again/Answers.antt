@@ -17,16 +17,10 @@ returns-in_err-blocks-clause-refused g c tells e held =
     let s = g.S.Reads.state c.args.space.now in
     rw (p.1, p.2) (read_put_fault s (length e.blocks) (blocks_of c.args.value.now) c.in_err-blocks.field-0.0 (c.in_err-blocks.ensures.sound tells e.value e.blocks held.value (blocks_given_out s.records s.shape _ e.blocks held.strings held.value.are)))
 
-pub returns-in_err-blocks-clause-shape : goal.returns-in_err-blocks-clause-shape
-returns-in_err-blocks-clause-shape g c tells = ap (λ (z : State). z.shape) (reads_same 22 _ _ c.value_blocks.ensures.at_most)
-
 pub returns-in_err-release-clause-refused : goal.returns-in_err-release-clause-refused
 returns-in_err-release-clause-refused g c tells e held =
     let p = err_from_is_err_and c.from_residual-in_err-release.result c.from_residual-in_err-release.ensures.1 in
     rw (p.1, p.2) (space_put_fault (g.S.Reads.state c.args.space.now) (length e.blocks) (blocks_of c.args.value.now) c.in_err-release.field-0.0)
-
-pub returns-in_err-release-clause-shape : goal.returns-in_err-release-clause-shape
-returns-in_err-release-clause-shape g c tells = c.release.ensures.shape tells ∙ ap (λ (z : State). z.shape) (reads_same 22 _ _ c.value_blocks.ensures.at_most)
 
 pub returns-in_err-first-clause-refused : goal.returns-in_err-first-clause-refused
 returns-in_err-first-clause-refused g c tells e held =
@@ -35,14 +29,7 @@ returns-in_err-first-clause-refused g c tells e held =
     let a = g.S.Reads.state c.value_blocks.new.space in
     let b = g.S.Reads.state c.release.new.space in
     rw (p.1, p.2) (again_text_fault s a b c.args.row.now e c.as_slice-ids.result.now held (reads_same 22 s a c.value_blocks.ensures.at_most) (c.as_slice-ids.ensures.is ∙ c.in_ok-blocks.ensures.followed tells e.value e.blocks held.value)
-    (c.in_ok-release.ensures.released tells) (c.in_ok-release.ensures.beside tells) (c.release.ensures.shape tells) c.args.value.now c.long_bytes.result.now c.long_bytes.ensures.is c.in_err-first.field-0.0 (c.in_err-first.ensures.refused tells))
-
-pub returns-in_err-first-clause-shape : goal.returns-in_err-first-clause-shape
-returns-in_err-first-clause-shape g c tells = c.write_text.ensures.shape tells ∙ c.release.ensures.shape tells ∙ ap (λ (z : State). z.shape) (reads_same 22 _ _ c.value_blocks.ensures.at_most)
-
-pub returns-in_err-put-clause-shape : goal.returns-in_err-put-clause-shape
-returns-in_err-put-clause-shape g c tells =
-    ap (λ (z : State). z.shape) c.in_err-put.ensures.err ∙ c.write_text.ensures.shape tells ∙ c.release.ensures.shape tells ∙ ap (λ (z : State). z.shape) (reads_same 22 _ _ c.value_blocks.ensures.at_most)
+    (c.in_ok-release.ensures.released tells) (c.in_ok-release.ensures.beside tells) (g.met.S.Reads.onward_shape _ _ c.release.ensures.onward) c.args.value.now c.long_bytes.result.now c.long_bytes.ensures.is c.in_err-first.field-0.0 (c.in_err-first.ensures.refused tells))
 
 pub returns-clause-put : goal.returns-clause-put
 returns-clause-put g c tells e held may =
@@ -53,14 +40,10 @@ returns-clause-put g c tells e held may =
     let t = g.S.Reads.state c.put.new.self in
     let ids_are = c.as_slice-ids.ensures.is ∙ c.in_ok-blocks.ensures.followed tells e.value e.blocks held.value in (
       ap (λ (xs : List ℕ). length xs) ids_are,
-      again_put s a b c.args.row.now e c.as_slice-ids.result.now held (reads_same 22 s a c.value_blocks.ensures.at_most) ids_are (c.in_ok-release.ensures.released tells) (c.in_ok-release.ensures.beside tells) (c.release.ensures.shape tells)
+      again_put s a b c.args.row.now e c.as_slice-ids.result.now held (reads_same 22 s a c.value_blocks.ensures.at_most) ids_are (c.in_ok-release.ensures.released tells) (c.in_ok-release.ensures.beside tells) (g.met.S.Reads.onward_shape _ _ c.release.ensures.onward)
           d t c.long_bytes.result.now c.in_ok-first.first c.number-key.result c.number-next.result (field 4 c.args.row.now.rec property_key) (field 4 c.args.row.now.rec property_next) c.args.value.now c.property_record.result
           c.number-key.ensures c.number-next.ensures c.requires.kept (omega (arith, c.number-key.type_inv)) (omega (arith, c.number-next.type_inv)) c.long_bytes.ensures.is c.property_record.ensures c.requires.row.small (c.in_ok-first.ensures.written tells) (c.in_ok-first.ensures.beside tells) c.in_ok-put.ensures.ok may,
     )
-
-pub returns-clause-shape : goal.returns-clause-shape
-returns-clause-shape g c tells =
-    ap (λ (z : State). z.shape) c.in_ok-put.ensures.ok ∙ c.write_text.ensures.shape tells ∙ c.release.ensures.shape tells ∙ ap (λ (z : State). z.shape) (reads_same 22 _ _ c.value_blocks.ensures.at_most)
 
 pub returns-in_err-blocks-clause-at_most : goal.returns-in_err-blocks-clause-at_most
 returns-in_err-blocks-clause-at_most g c = touches_reads [] 1 _ _ _ (reads_same 22 _ _ c.value_blocks.ensures.at_most)

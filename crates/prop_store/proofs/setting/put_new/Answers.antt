@@ -14,22 +14,14 @@ returns-in_err-id-clause-refused g c tells strings properties room =
     let p = err_from_is_err_and c.from_residual-in_err-id.result c.from_residual-in_err-id.ensures.1 in
     let s = g.S.Reads.state c.args.space.now in
     let a = g.S.Reads.state c.write_text.new.space in
-    rw (p.1, p.2) (take_put_fault s a c.long_bytes.result.now c.in_ok-first.first (blocks_of c.args.value.now) c.in_err-id.field-0.0 (c.in_ok-first.ensures.written tells strings) (c.in_ok-first.ensures.beside tells) (c.in_ok-first.ensures.shape tells)
+    rw (p.1, p.2) (take_put_fault s a c.long_bytes.result.now c.in_ok-first.first (blocks_of c.args.value.now) c.in_err-id.field-0.0 (c.in_ok-first.ensures.written tells strings) (c.in_ok-first.ensures.beside tells) (g.met.S.Reads.onward_shape _ _ c.in_ok-first.ensures.onward)
     (c.in_err-id.ensures.refused tells) (c.in_err-id.ensures.sound tells) properties room)
-
-pub returns-in_err-put-clause-shape : goal.returns-in_err-put-clause-shape
-returns-in_err-put-clause-shape g c tells =
-    ap (λ (z : State). z.shape) c.in_err-put.ensures.err ∙ ap (λ (z : State). z.shape) (c.in_ok-id.ensures.ok tells) ∙ shape-taken (g.S.Reads.state c.write_text.new.space) properties_file ∙ c.in_ok-first.ensures.shape tells
 
 pub returns-clause-put : goal.returns-clause-put
 returns-clause-put g c tells strings properties may =
     property_put (g.S.Reads.state c.args.space.now) (g.S.Reads.state c.write_text.new.space) (g.S.Reads.state c.take.new.space) (g.S.Reads.state c.put.new.self) c.long_bytes.result.now c.in_ok-first.first c.in_ok-id.id c.args.key c.args.next c.args.value.now
-    c.property_record.result c.requires c.ranges.key.fits c.ranges.next.fits c.long_bytes.ensures.is c.property_record.ensures (c.in_ok-first.ensures.written tells strings) (c.in_ok-first.ensures.beside tells) (c.in_ok-first.ensures.shape tells)
+    c.property_record.result c.requires c.ranges.key.fits c.ranges.next.fits c.long_bytes.ensures.is c.property_record.ensures (c.in_ok-first.ensures.written tells strings) (c.in_ok-first.ensures.beside tells) (g.met.S.Reads.onward_shape _ _ c.in_ok-first.ensures.onward)
     (c.in_ok-id.ensures.taken tells) c.in_ok-id.ensures.small c.in_ok-id.ensures.key (c.in_ok-id.ensures.ok tells) c.in_ok-put.ensures.ok properties may
-
-pub returns-clause-shape : goal.returns-clause-shape
-returns-clause-shape g c tells =
-    shape_put (g.S.Reads.state c.write_text.new.space) (g.S.Reads.state c.take.new.space) (g.S.Reads.state c.put.new.self) properties_file c.in_ok-id.id c.property_record.result (c.in_ok-id.ensures.ok tells) c.in_ok-put.ensures.ok ∙ c.in_ok-first.ensures.shape tells
 
 pub returns-in_err-first-clause-touches : goal.returns-in_err-first-clause-touches
 returns-in_err-first-clause-touches g c =

@@ -72,9 +72,6 @@ returns-in_err-count-clause-refused g c tells has =
     IfErr-weaker _ _ _ (refusal_graph s c.args.owner c.requires.owner has.element c.args.key has.known c.args.value.now)
     (returns-in_err-count-clause-alone_refused g c tells _ (owns_listed s c.args.owner c.requires.owner has.element) has.known)
 
-pub returns-in_err-count-clause-shape : goal.returns-in_err-count-clause-shape
-returns-in_err-count-clause-shape g c tells = ap (λ (z : State). z.shape) (reads_same 33 _ _ c.find.ensures.at_most)
-
 pub returns-then-count-ge-MOST_PROPERTIES-clause-alone_refused :
     goal.returns-then-count-ge-MOST_PROPERTIES-clause-alone_refused
 returns-then-count-ge-MOST_PROPERTIES-clause-alone_refused g c tells es owns known =
@@ -90,10 +87,6 @@ returns-then-count-ge-MOST_PROPERTIES-clause-refused g c tells has =
     let s = g.S.Reads.state c.args.space.now in
     refusal_graph s c.args.owner c.requires.owner has.element c.args.key has.known c.args.value.now (PropsFull c.in-Absent.count)
     (returns-then-count-ge-MOST_PROPERTIES-clause-alone_refused g c tells _ (owns_listed s c.args.owner c.requires.owner has.element) has.known)
-
-pub returns-then-count-ge-MOST_PROPERTIES-clause-shape :
-    goal.returns-then-count-ge-MOST_PROPERTIES-clause-shape
-returns-then-count-ge-MOST_PROPERTIES-clause-shape g c tells = ap (λ (z : State). z.shape) (reads_same 33 _ _ c.find.ensures.at_most)
 
 pub returns-in_err-add-in-Absent-clause-alone_refused : goal.returns-in_err-add-in-Absent-clause-alone_refused
 returns-in_err-add-in-Absent-clause-alone_refused g c tells es owns known =
@@ -111,9 +104,6 @@ returns-in_err-add-in-Absent-clause-refused g c tells has =
     IfErr-weaker _ _ _ (refusal_graph s c.args.owner c.requires.owner has.element c.args.key has.known c.args.value.now)
     (returns-in_err-add-in-Absent-clause-alone_refused g c tells _ (owns_listed s c.args.owner c.requires.owner has.element) has.known)
 
-pub returns-in_err-add-in-Absent-clause-shape : goal.returns-in_err-add-in-Absent-clause-shape
-returns-in_err-add-in-Absent-clause-shape g c tells = c.add.ensures.shape tells ∙ ap (λ (z : State). z.shape) (reads_same 33 _ _ c.find.ensures.at_most)
-
 pub returns-in_ok-add-in-Absent-clause-alone : goal.returns-in_ok-add-in-Absent-clause-alone
 returns-in_ok-add-in-Absent-clause-alone g c tells es owns known =
     let s = g.S.Reads.state c.args.space.now in
@@ -128,10 +118,7 @@ returns-in_ok-add-in-Absent-clause-set g c tells has =
     let s = g.S.Reads.state c.args.space.now in
     sets_graph s c.args.owner c.requires.owner has.element c.args.key has.known (g.S.Reads.state c.add.new.space) c.args.value.now 0
     (returns-in_ok-add-in-Absent-clause-alone g c tells _ (owns_listed s c.args.owner c.requires.owner has.element) has.known)
-    (c.add.ensures.shape tells ∙ ap (λ (z : State). z.shape) (reads_same 33 _ _ c.find.ensures.at_most))
-
-pub returns-in_ok-add-in-Absent-clause-shape : goal.returns-in_ok-add-in-Absent-clause-shape
-returns-in_ok-add-in-Absent-clause-shape g c tells = c.add.ensures.shape tells ∙ ap (λ (z : State). z.shape) (reads_same 33 _ _ c.find.ensures.at_most)
+    (g.met.S.Reads.onward_shape _ _ c.add.ensures.onward ∙ ap (λ (z : State). z.shape) (reads_same 33 _ _ c.find.ensures.at_most))
 
 pub returns-in-Found-clause-alone : goal.returns-in-Found-clause-alone
 returns-in-Found-clause-alone g c tells es owns known =
@@ -158,7 +145,7 @@ returns-in-Found-clause-set g c tells =
     let m = g.S.Reads.state c.put_again.new.space in
     ok_with c.put_again.result (λ has. returns-in-Found-clause-alone g c tells _ (owns_listed s c.args.owner c.requires.owner has.element) has.known)
     (λ n has sets. sets_graph s c.args.owner c.requires.owner has.element c.args.key has.known m c.args.value.now n sets
-    (c.put_again.ensures.shape tells ∙ ap (λ (z : State). z.shape) (same g c)))
+    (g.met.S.Reads.onward_shape _ _ c.put_again.ensures.onward ∙ ap (λ (z : State). z.shape) (same g c)))
 
 pub returns-in-Found-clause-alone_refused : goal.returns-in-Found-clause-alone_refused
 returns-in-Found-clause-alone_refused g c tells es owns known =
@@ -174,9 +161,6 @@ returns-in-Found-clause-refused g c tells has =
     let s = g.S.Reads.state c.args.space.now in
     IfErr-weaker _ _ _ (refusal_graph s c.args.owner c.requires.owner has.element c.args.key has.known c.args.value.now)
     (returns-in-Found-clause-alone_refused g c tells _ (owns_listed s c.args.owner c.requires.owner has.element) has.known)
-
-pub returns-in-Found-clause-shape : goal.returns-in-Found-clause-shape
-returns-in-Found-clause-shape g c tells = c.put_again.ensures.shape tells ∙ ap (λ (z : State). z.shape) (reads_same 33 _ _ c.find.ensures.at_most)
 
 pub returns-in_err-count-clause-at_most : goal.returns-in_err-count-clause-at_most
 returns-in_err-count-clause-at_most g c = touches_reads _ 1 _ _ _ (reads_same 33 _ _ c.find.ensures.at_most)

@@ -1,10 +1,14 @@
-use Rattle.std.proofs.Common.{◌≡◌, ℕ, ◌<◌, true}
+use Rattle.std.proofs.Common.{◌≡◌, ℕ, ◌<◌}
 use Rattle.rec_bytes.specs.declared.key.Key.{Key}
 use Rattle.rec_bytes.specs.declared.record.Rec.{Rec}
-use Rattle.rec_bytes.specs.RecordFiles.{is_meta_file}
-use Rattle.recovery.specs.Finding.{HasMetaInRange}
+use Rattle.rec_bytes.specs.Shape.{version_of}
+use Rattle.rec_bytes.specs.Creation.{own_key}
+use Rattle.recovery.specs.Finding.{HasMetaRight}
 use Rattle.recovery.specs.MetaRecords.{AreMetas}
 use Rattle.recovery.proofs.finding.check_metas.Given as goal
 
 abbrev pub invariant-loop-id : goal.invariant-loop-id
-invariant-loop-id l = (space : Key → Rec) → AreMetas l.records space → (file : ℕ) → is_meta_file file ≡ true → file < l.id → HasMetaInRange space l.shape file
+invariant-loop-id l = record {
+  version : (space : Key → Rec) → AreMetas l.records space → l.version ≡ version_of (space own_key);
+  right : (space : Key → Rec) → AreMetas l.records space → (id : ℕ) → id < l.id → HasMetaRight space l.shape id;
+}

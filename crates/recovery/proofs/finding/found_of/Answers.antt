@@ -12,6 +12,14 @@ none_of : {X : Type 0} (o : Option X) → ((x : X) → o ≡ Some x → ⊥) →
 none_of None other = refl
 none_of (Some x) other = absurd (other x refl)
 
+pub returns-in-Some-clause-found : goal.returns-in-Some-clause-found
+returns-in-Some-clause-found c content has =
+    let first = get_or_default c.args.metas.now.records 0 zeros (record { bytes = [] }) (search rules) in
+    record {
+      own = ap shape_of_record (sym (has.are 0 (lit< tt)) ∙ first) ∙ sym c.in-Some.ensures.value;
+      metas = c.in_ok-check_metas.ensures.right (redone (record_at content) has.entries) has.are;
+    }
+
 pub returns-in_err-check_metas-clause-refused : goal.returns-in_err-check_metas-clause-refused
 returns-in_err-check_metas-clause-refused c content has =
     let p = err_from_is_err_and c.from_residual.result c.from_residual.ensures.1 in

@@ -8,7 +8,6 @@ invariant-loop-id g l =
     let records = (g.R.Reads.state l.fn.space).records in
     record {
       same : (g.R.Reads.state l.space).records ≡ records;
-      shape : (g.R.Reads.state l.space).shape ≡ (g.R.Reads.state l.fn.space).shape;
       written : (g.R.Reads.state l.space).written ≡ (g.R.Reads.state l.fn.space).written;
       low : All (λ x. x < 2 * l.high) l.ends.items;
       ends : g.R.Reads.tells → l.ends.items ≡ map (end_of records l.node) (take l.id-index l.ids);

@@ -1,23 +1,62 @@
-use Rattle.store_check.proofs.BreachLaws.{is_sound, sound_of}
-use Rattle.store_check.proofs.VerdictLaws.{same_but_reads}
+use Rattle.std.proofs.Common.{arith, ◌≡◌, ◌<◌, ◌≤◌, ◌∙◌, Option, IfNone, ⊎_elim, sym, subst}
+use Rattle.std.proofs.lemmas.Bool.{cases_lt}
+use Rattle.rec_bytes.specs.declared.damage.Damage.{Damage}
+use Rattle.rec_bytes.specs.declared.shape.Shape.{Shape}
+use Rattle.store_rules.specs.Ranges.{AreFormed}
+use Rattle.store_rules.specs.Views.{Records}
+use Rattle.store_check.specs.Breaking.{Keeps}
+use Rattle.store_check.specs.Verdicts.{AreMarksLow, BreaksRule, DecidesRule}
+use Rattle.store_check.proofs.BreachLaws.{is_store, not_kept, rules_of}
+use Rattle.store_check.proofs.HeadLaws.{one_more}
 use Rattle.store_check.proofs.checking.check.Goals as goal
 
+pub decide-requires-clause-ranges : goal.decide-requires-clause-ranges
+decide-requires-clause-ranges g c = λ tells lt.
+    let s = g.R.Reads.state c.args.space.now in
+    let inv = c.loop-rule.invariant in
+    let now = g.R.Reads.state c.loop-rule.space in
+    let kept : AreFormed s.records s.shape = inv.kept tells 1 (omega arith) lt in
+    subst (λ (r : Records). AreFormed r now.shape) (sym inv.same) (subst (λ (h : Shape). AreFormed s.records h) (sym (g.met.R.Reads.onward_shape _ _ inv.onward)) kept)
+
+pub returns-in-Some-clause-only : goal.returns-in-Some-clause-only
+returns-in-Some-clause-only g c = λ tells store.
+    let s = g.R.Reads.state c.args.space.now in
+    let inv = c.loop-rule.invariant in
+    let rule = c.loop-rule.rule in
+    let found = c.in_ok-damage.field-0 in
+    let decided : DecidesRule s.records s.shape rule found
+    = subst (λ (r : Records). DecidesRule r s.shape rule found) inv.same
+    (subst (λ (h : Shape). DecidesRule (g.R.Reads.state c.loop-rule.space).records h rule found) (g.met.R.Reads.onward_shape _ _ inv.onward) (c.in_ok-damage.ensures.decided tells)) in
+    let breaks : BreaksRule s.records s.shape rule c.in-Some.damage = subst (λ (o : Option Damage). DecidesRule s.records s.shape rule o) c.in-Some.is decided in
+    absurd (not_kept s.records s.shape c.in-Some.damage breaks.breaks (rules_of s.records s.shape store c.in-Some.damage breaks.breaks))
+
+pub loop-rule-preserved : goal.loop-rule-preserved
+loop-rule-preserved g c =
+    let s = g.R.Reads.state c.args.space.now in
+    let inv = c.loop-rule.invariant in
+    let rule = c.loop-rule.rule in
+    let found = c.in_ok-damage.field-0 in
+    record {
+      same = c.in_ok-damage.ensures.same ∙ inv.same;
+      written = c.in_ok-damage.ensures.written ∙ inv.written;
+      from = omega (arith, inv.from);
+      kept = λ t n from lt.
+          let decided : DecidesRule s.records s.shape rule found
+          = subst (λ (r : Records). DecidesRule r s.shape rule found) inv.same
+          (subst (λ (h : Shape). DecidesRule (g.R.Reads.state c.loop-rule.space).records h rule found) (g.met.R.Reads.onward_shape _ _ inv.onward) (c.in_ok-damage.ensures.decided t)) in
+          let here : Keeps s.records s.shape rule = subst (λ (o : Option Damage). DecidesRule s.records s.shape rule o) c.in_default.is decided in
+          one_more (λ m. 1 ≤ m → Keeps s.records s.shape m) rule (λ m below low. inv.kept t m low below) (λ _. here) n lt from;
+      low = λ lt. ⊎_elim (λ (more : 1 < rule). inv.low more)
+          (λ (le : rule ≤ 1).
+          let first : rule ≡ 1 = omega (arith, le, inv.from) in
+          let none : IfNone found (AreMarksLow s.records) = subst (λ (r : Records). IfNone found (AreMarksLow r)) inv.same (c.in_ok-damage.ensures.low first) in
+          subst (λ (o : Option Damage). IfNone o (AreMarksLow s.records)) c.in_default.is none)
+          (cases_lt 1 rule);
+      onward = g.met.R.Reads.further_onward c.args.space.now c.loop-rule.space c.decide.new.space inv.onward c.in_ok-damage.ensures.onward;
+      faults = let cause = c.in_ok-damage.ensures.cause in omega (arith, inv.faults, cause.later);
+    }
+
 pub returns-clause-sound : goal.returns-clause-sound
-returns-clause-sound g c = λ tells.
+returns-clause-sound g c = λ tells e.
     let s = g.R.Reads.state c.args.space.now in
-    sound_of s.records s.shape c.in_ok-check_from_ranges.field-0 (c.in_ok-check_from_ranges.ensures.verdict tells)
-
-pub returns-clause-only : goal.returns-clause-only
-returns-clause-only g c = λ tells store.
-    let s = g.R.Reads.state c.args.space.now in
-    is_sound s.records s.shape c.in_ok-check_from_ranges.field-0 (c.in_ok-check_from_ranges.ensures.verdict tells) store
-
-pub returns-clause-same : goal.returns-clause-same
-returns-clause-same g c =
-    let e = c.in_ok-check_from_ranges.ensures in
-    same_but_reads (g.R.Reads.state c.args.space.now) (g.R.Reads.state c.check_from_ranges.new.space) e.same e.written e.shape
-
-pub returns-in_err-check_from_ranges-clause-same : goal.returns-in_err-check_from_ranges-clause-same
-returns-in_err-check_from_ranges-clause-same g c =
-    let e = c.in_err-check_from_ranges.ensures in
-    same_but_reads (g.R.Reads.state c.args.space.now) (g.R.Reads.state c.check_from_ranges.new.space) e.same e.written e.shape
+    is_store s.records s.shape (λ n from to. c.loop-rule.invariant.kept tells n from (let past = c.loop-rule-test.false in omega (arith, to, past)))

@@ -13,7 +13,6 @@ small false = omega arith
 pub loop-id-init : goal.loop-id-init
 loop-id-init g c = record {
   same = refl;
-  shape = refl;
   written = refl;
   len = refl;
   low = λ n lt. let e = c.requires.none n in omega arith;
@@ -31,7 +30,6 @@ loop-id-preserved g c =
     let len = c.count_rel.ensures.len in
     record {
       same = ap (λ s. s.records) c.in_ok-rec.ensures.state ∙ inv.same;
-      shape = ap (λ s. s.shape) c.in_ok-rec.ensures.state ∙ inv.shape;
       written = ap (λ s. s.written) c.in_ok-rec.ensures.state ∙ inv.written;
       len = len ∙ inv.len;
       low = λ n low.

@@ -9,7 +9,6 @@ invariant-loop-id g l =
     let records = (g.R.Reads.state l.fn.space).records in
     record {
       same : (g.R.Reads.state l.space).records ≡ records;
-      shape : (g.R.Reads.state l.space).shape ≡ (g.R.Reads.state l.fn.space).shape;
       written : (g.R.Reads.state l.space).written ≡ (g.R.Reads.state l.fn.space).written;
       len : length l.counts ≡ length l.fn.counts;
       low : (n : ℕ) → n < length l.counts → count_at l.counts n ≤ l.id;

@@ -1,18 +1,17 @@
-use Rattle.std.proofs.Common.{◌≡◌, ◌≤◌, ◌<◌, ℕ, List, true}
-use Rattle.store_rules.specs.Ranges.{is_reused}
+use Rattle.std.proofs.Common.{◌≡◌, ◌≢◌, ◌≤◌, ℕ, List}
+use Rattle.rec_bytes.specs.Format.{names_file}
 use Rattle.store_rules.specs.Rules.{IsSplit}
 use Rattle.store_rules.specs.Views.{is_live}
+use Rattle.store_check.proofs.FileLaws.{HoldsBefore}
 use Rattle.store_check.proofs.free.check_reused.Given as goal
 
-abbrev pub invariant-loop-file : goal.invariant-loop-file
-invariant-loop-file g l =
+abbrev pub invariant-loop-entry : goal.invariant-loop-entry
+invariant-loop-entry g l =
     let records = (g.R.Reads.state l.fn.space).records in
     record {
       same : (g.R.Reads.state l.space).records ≡ records;
-      shape : (g.R.Reads.state l.space).shape ≡ (g.R.Reads.state l.fn.space).shape;
       written : (g.R.Reads.state l.space).written ≡ (g.R.Reads.state l.fn.space).written;
-      from : 1 ≤ l.file;
-      all : g.R.Reads.tells → (f : ℕ) → f < l.file → is_reused f ≡ true → (free : List ℕ) × IsSplit records f (is_live records f) free;
+      all : g.R.Reads.tells → HoldsBefore l.entry-items l.entry-index (λ f. f ≢ names_file → (free : List ℕ) × IsSplit records f (is_live records f) free);
       onward : g.R.Reads.onward l.fn.space l.space;
       faults : g.R.Reads.faults l.fn.space ≤ g.R.Reads.faults l.space;
     }

@@ -28,7 +28,6 @@ loop-id-preserved g c =
     let got = λ (t : g.R.Reads.tells). c.in_ok-rec.ensures.got t ∙ ap (λ rs. rec_at rs c.args.file id) inv.same in
     record {
       same = ap (λ s. s.records) c.in_ok-rec.ensures.state ∙ inv.same;
-      shape = ap (λ s. s.shape) c.in_ok-rec.ensures.state ∙ inv.shape;
       written = ap (λ s. s.written) c.in_ok-rec.ensures.state ∙ inv.written;
       low = elim c.if-byte-ne-FREE.branch [
         | then-byte-ne-FREE w ↦ let e = w.live-is in omega (arith, inv.low)

@@ -7,7 +7,6 @@ invariant-loop-id g l =
     let records = (g.R.Reads.state l.fn.space).records in
     record {
       same : (g.R.Reads.state l.space).records ≡ records;
-      shape : (g.R.Reads.state l.space).shape ≡ (g.R.Reads.state l.fn.space).shape;
       written : (g.R.Reads.state l.space).written ≡ (g.R.Reads.state l.fn.space).written;
       types : g.R.Reads.tells → l.types.items ≡ map (group_label records) (take l.id-index l.ids);
       onward : g.R.Reads.onward l.fn.space l.space;

@@ -18,7 +18,6 @@ loop-id-preserved g c =
     (subst (λ (r : Records). HeadTold (g.H.Heads.has c.args.heads.now r) (g.H.Heads.lists c.args.heads.now r) c.loop-id.id c.loop-id.marks c.mark_head.new.marks c.in_ok-mark_head.field-0) inv.same (c.in_ok-mark_head.ensures.told t)) in
     record {
       same = c.in_ok-mark_head.ensures.same ∙ inv.same;
-      shape = c.in_ok-mark_head.ensures.shape ∙ inv.shape;
       written = c.in_ok-mark_head.ensures.written ∙ inv.written;
       keeps = λ t. one_more (HeadKeeps has lists) c.loop-id.id (inv.keeps t) (told t).0;
       marks = λ t. among_and has lists c.loop-id.id c.args.marks.now c.loop-id.marks c.mark_head.new.marks (inv.marks t) (told t).1;
@@ -35,7 +34,6 @@ loop-id-init g c =
     let records = (g.R.Reads.state c.args.space.now).records in
     record {
       same = refl;
-      shape = refl;
       written = refl;
       keeps = λ t k lt. absurd (omega arith);
       marks = λ t. among_none (g.H.Heads.has c.args.heads.now records) (g.H.Heads.lists c.args.heads.now records) c.args.marks.now;

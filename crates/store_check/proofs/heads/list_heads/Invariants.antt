@@ -11,7 +11,6 @@ invariant-loop-id g l =
     let lists = g.H.Heads.lists l.heads records in
     record {
       same : (g.R.Reads.state l.space).records ≡ records;
-      shape : (g.R.Reads.state l.space).shape ≡ (g.R.Reads.state l.fn.space).shape;
       written : (g.R.Reads.state l.space).written ≡ (g.R.Reads.state l.fn.space).written;
       keeps : g.R.Reads.tells → (k : ℕ) → k < l.id → HeadKeeps has lists k;
       marks : g.R.Reads.tells → (p : ℕ) → Decides (marked l.marks p) ((marked l.fn.marks p ≡ true) ⊎ AmongHeads has lists l.id p);

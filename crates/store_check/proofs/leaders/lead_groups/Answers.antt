@@ -13,7 +13,6 @@ none_some a e = absurd cc
 pub loop-id-init : goal.loop-id-init
 loop-id-init g c = record {
   same = refl;
-  shape = refl;
   written = refl;
   led = λ t. record { at = λ o l x is. absurd (none_some x (sym (c.requires.none o l) ∙ is)); led = λ o l x lt h. absurd (omega arith) };
   below = λ o l x is. absurd (none_some x (sym (c.requires.none o l) ∙ is));
@@ -40,7 +39,6 @@ loop-id-preserved g c =
     let well : c.in_ok-lead_group.field-0 ≡ true = search rules in
     record {
       same = c.in_ok-lead_group.ensures.same ∙ inv.same;
-      shape = c.in_ok-lead_group.ensures.shape ∙ inv.shape;
       written = c.in_ok-lead_group.ensures.written ∙ inv.written;
       led = λ t. subst (λ (r : Records). AreLed c.lead_group.new.leaders r (c.loop-id.id + 1)) inv.same
           (c.in_ok-lead_group.ensures.led t (subst (λ (r : Records). AreLed c.loop-id.leaders r c.loop-id.id) (sym inv.same) (inv.led t)) well);

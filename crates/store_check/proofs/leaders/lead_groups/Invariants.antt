@@ -7,7 +7,6 @@ invariant-loop-id g l =
     let records = (g.R.Reads.state l.fn.space).records in
     record {
       same : (g.R.Reads.state l.space).records ≡ records;
-      shape : (g.R.Reads.state l.space).shape ≡ (g.R.Reads.state l.fn.space).shape;
       written : (g.R.Reads.state l.space).written ≡ (g.R.Reads.state l.fn.space).written;
       led : g.R.Reads.tells → AreLed l.leaders records l.id;
       below : AreBelow l.leaders l.id;

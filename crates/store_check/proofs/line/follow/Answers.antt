@@ -37,7 +37,6 @@ loop-preserved g c =
     let yes : c.fits.result ≡ true = search rules in
     record {
       same = ap (λ s. s.records) c.in_ok-rec.ensures.state ∙ c.loop.invariant.same;
-      shape = ap (λ s. s.shape) c.in_ok-rec.ensures.state ∙ c.loop.invariant.shape;
       written = ap (λ s. s.written) c.in_ok-rec.ensures.state ∙ c.loop.invariant.written;
       low = grind (arith, common_steps);
       count = search rules;
@@ -58,7 +57,6 @@ returns-else-at-2-clause-none g c tells =
 pub loop-init : goal.loop-init
 loop-init g c = record {
   same = refl;
-  shape = refl;
   written = refl;
   low = search rules;
   count = search rules;

@@ -12,7 +12,6 @@ invariant-loop g l =
     let kind = g.L.Line.kind l.line in
     record {
       same : (g.R.Reads.state l.space).records ≡ records;
-      shape : (g.R.Reads.state l.space).shape ≡ (g.R.Reads.state l.fn.space).shape;
       written : (g.R.Reads.state l.space).written ≡ (g.R.Reads.state l.fn.space).written;
       low : All (λ x. x < l.high) l.ids.items;
       count : length l.ids.items ≡ l.counter;

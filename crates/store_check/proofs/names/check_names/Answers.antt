@@ -1,7 +1,7 @@
 use Rattle.std.proofs.Common.{rules, ◌∙◌, ap}
 use Rattle.rec_bytes.proofs.Spaces.{records-after_gets}
 use Rattle.name_store.specs.Loading.{AreLoadable, IsNameDamage}
-use Rattle.store_check.proofs.NameLaws.{name_breaks, shape-after_gets, written-after_gets}
+use Rattle.store_check.proofs.NameLaws.{name_breaks, written-after_gets}
 use Rattle.store_check.proofs.names.check_names.Goals.{in-Ok, in-Err-Damaged, in-Err-Memory, in-Err-Disk}
 use Rattle.store_check.proofs.names.check_names.Goals as goal
 
@@ -22,12 +22,6 @@ returns-clause-same g c =
     let s = g.R.Reads.state c.args.space.now in
     let most = c.load.ensures.at_most in
     ap (λ t. t.records) most.is ∙ records-after_gets most.count s
-
-pub returns-clause-shape : goal.returns-clause-shape
-returns-clause-shape g c =
-    let s = g.R.Reads.state c.args.space.now in
-    let most = c.load.ensures.at_most in
-    ap (λ t. t.shape) most.is ∙ shape-after_gets most.count s
 
 pub returns-clause-written : goal.returns-clause-written
 returns-clause-written g c =

@@ -6,7 +6,6 @@ use Rattle.store_check.proofs.sentence.find_false.Goals as goal
 pub loop-id-init : goal.loop-id-init
 loop-id-init g c = record {
   same = refl;
-  shape = refl;
   written = refl;
   all = λ t x lt. absurd (omega arith);
   onward = g.met.R.Reads.stays_onward c.args.space.now;
@@ -24,7 +23,6 @@ loop-id-preserved g c =
     let well : c.in_ok-holds.field-0 ≡ true = search rules in
     record {
       same = c.in_ok-holds.ensures.same ∙ inv.same;
-      shape = c.in_ok-holds.ensures.shape ∙ inv.shape;
       written = c.in_ok-holds.ensures.written ∙ inv.written;
       all = λ t. one_more (says records) c.loop-id.id (inv.all t) (subst (λ (r : Records). says r c.loop-id.id) inv.same ((c.in_ok-holds.ensures.told t).0 well));
       onward = g.met.R.Reads.further_onward c.args.space.now c.loop-id.space c.holds.new.space inv.onward c.in_ok-holds.ensures.onward;

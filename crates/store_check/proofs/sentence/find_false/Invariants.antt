@@ -6,7 +6,6 @@ invariant-loop-id g l =
     let records = (g.R.Reads.state l.fn.space).records in
     record {
       same : (g.R.Reads.state l.space).records ≡ records;
-      shape : (g.R.Reads.state l.space).shape ≡ (g.R.Reads.state l.fn.space).shape;
       written : (g.R.Reads.state l.space).written ≡ (g.R.Reads.state l.fn.space).written;
       all : g.R.Reads.tells → (x : ℕ) → x < l.id → g.S.Sentence.says l.sentence records x;
       onward : g.R.Reads.onward l.fn.space l.space;

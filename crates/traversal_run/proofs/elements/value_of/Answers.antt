@@ -1,5 +1,5 @@
 use Rattle.std.specs.Prelude.{IfSome}
-use Rattle.std.proofs.Common.{◌∙◌, Option, ap, sym, subst, arith, rules}
+use Rattle.std.proofs.Common.{◌∙◌, Option, ap, sym, subst, arith}
 use Rattle.std.specs.FinMap as maps
 use Rattle.std.specs.FinMap.{get-empty}
 use Rattle.std.proofs.lemmas.Result.{err_from_is_err_and}
@@ -10,7 +10,7 @@ use Rattle.prop_store.specs.declared.owner.Owner.{Owner}
 use Rattle.store_rules.specs.Graph.{graph_of}
 use Rattle.traversal_run.specs.Elements.{IsOwnerOf}
 use Rattle.traversal_run.proofs.Loaded.{no_name_no_value}
-use Rattle.traversal_run.proofs.Owned.{listed_in, still_undamaged, then_read, value_is}
+use Rattle.traversal_run.proofs.Owned.{listed_in, then_read, value_is}
 use Rattle.traversal_run.proofs.elements.value_of.Goals as goal
 
 pub returns-in_default-clause-found : goal.returns-in_default-clause-found
@@ -32,12 +32,12 @@ returns-in_err-value-clause-sound g c = λ tells store.
     let is = subst (λ (o : Option Owner). IfSome o IsOwner) c.in-Some-2.is c.in_ok-owner.ensures.owner in
     let listed = listed_in s z c.args.item.now c.in-Some-2.owner c.in_ok-owner.ensures.read.same store.store is owns in
     let p = err_from_is_err_and c.from_residual-in_err-value.result c.from_residual-in_err-value.ensures.1 in
-    rw (p.1, p.2) (still_undamaged c.in_err-value.field-0.0 (c.in_err-value.ensures.sound tells listed.es listed.has))
+    rw (p.1, p.2) (c.in_err-value.ensures.sound tells listed.es listed.has)
 
 pub returns-in_err-value-clause-read : goal.returns-in_err-value-clause-read
 returns-in_err-value-clause-read g c = record {
   same = then_read (g.R.Reads.state c.args.space.now) (g.R.Reads.state c.owner_of.new.space) (g.R.Reads.state c.read_key.new.space) 55 c.in_ok-owner.ensures.read.same c.read_key.ensures.at_most;
-  onward = search rules;
+  onward = g.met.R.Reads.further_onward c.args.space.now c.owner_of.new.space c.read_key.new.space c.in_ok-owner.ensures.read.onward c.read_key.ensures.onward;
   later = omega arith;
 }
 
@@ -54,6 +54,6 @@ returns-clause-found g c = λ tells store.
 pub returns-clause-read : goal.returns-clause-read
 returns-clause-read g c = record {
   same = then_read (g.R.Reads.state c.args.space.now) (g.R.Reads.state c.owner_of.new.space) (g.R.Reads.state c.read_key.new.space) 55 c.in_ok-owner.ensures.read.same c.read_key.ensures.at_most;
-  onward = search rules;
+  onward = g.met.R.Reads.further_onward c.args.space.now c.owner_of.new.space c.read_key.new.space c.in_ok-owner.ensures.read.onward c.read_key.ensures.onward;
   later = omega arith;
 }

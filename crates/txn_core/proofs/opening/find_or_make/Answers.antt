@@ -1,19 +1,20 @@
-use Rattle.std.proofs.Common.{◌≡◌, ◌∙◌, sym, subst, inl, inr, ℕ, Result, Ok, Err, IfOk}
+use Rattle.std.proofs.Common.{◌≡◌, ◌∙◌, ⊎_elim, sym, subst, inl, inr, [], ◌∷◌}
 use Rattle.std.proofs.lemmas.Result.{IfErr-weaker}
-use Rattle.disk_model.proofs.Spans.{at_each_moment_read}
+use Rattle.disk_model.proofs.Spans.{at_each_moment_weaker}
+use Rattle.rec_bytes.specs.Creation.{creation_pairs, raised}
+use Rattle.rec_bytes.specs.Space.{laid_over}
 use Rattle.rec_bytes.specs.declared.shape.Shape.{Shape}
 use Rattle.record_file.specs.Records.{record_at}
 use Rattle.txn_core.specs.Config.{Suits}
-use Rattle.txn_core.specs.Kept.{IsKept}
-use Rattle.txn_core.specs.MetaRecords.{AreMetasOf}
-use Rattle.txn_core.specs.Opening.{IsStore, OnlyDiffers, RefusesOpening}
+use Rattle.txn_core.specs.MetaRecords.{with_metas}
+use Rattle.txn_core.specs.Opening.{HasOnly, IsStore, OnlyDiffers, RefusesOpening, raising_entries}
 use Rattle.txn_core.specs.declared.opening.Start.{Start}
-use Rattle.txn_core.proofs.Finding.{differs_untouched, if_ok_all, if_ok_both, made_kept, made_opened, none_made, one_shape, redoes_own, refuses_differs, unmade_crash, unmade_left, unmade_mid, unmade_opened}
+use Rattle.txn_core.proofs.Finding.{differs_untouched, if_ok_all, if_ok_both, if_ok_on, made_crash, made_log, made_opened, none_made, one_shape, redoes_own, refuses_differs, unmade_crash, unmade_left, unmade_mid, unmade_opened}
 use Rattle.txn_core.proofs.opening.find_or_make.Given.{Over}
 use Rattle.txn_core.proofs.opening.find_or_make.Goals as goal
 
 -- the store that is found
-store : (g : Over) (c : goal.After-read_made g) → g.D.Disk.tells_reads → IsStore (g.D.Disk.reads c.args.disk.now) c.in-Ok-Made.shape
+store : (g : Over) (c : goal.After-open_made g) → g.D.Disk.tells_reads → IsStore (g.D.Disk.reads c.args.disk.now) c.in-Ok-Made.shape
 store g c reads =
     let intact = c.in-Ok-Made.ensures.intact reads in
     record { space = intact.0; redoes = intact.1; made = rw c.in-Ok-Made.field-0-is at (c.in-Ok-Made.ensures.found reads intact.0 intact.1) }
@@ -24,33 +25,40 @@ returns-in-Ok-Made-clause-opened g c reads =
     let found = c.in-Ok-Made.shape in
     let mid = disk.reads c.recover.new.disk in
     let made = store g c reads in
-    let r = c.read_made.result in
-    let held = λ (s : Start). AreMetasOf (record_at mid) s.metas.records in
+    let r = c.open_made.result in
+    let space = λ (s : Start). laid_over (with_metas s.metas.records (record_at (disk.reads c.open_made.new.disk))) c.open_made.new.changed.pairs in
+    let is = λ (s : Start). space s ≡ raised found (record_at mid) in
     let shape = λ (s : Start). s.shape ≡ found in
     let suits = λ (s : Start). Suits c.args.config found in
-    if_ok_all r (λ s. held s × (shape s × suits s)) _
-    (λ s of. made_opened (disk.reads c.args.disk.now) mid (disk.reads c.read_made.new.disk) c.args.config s.shape found s.metas.records c.args.changed.now.pairs made c.requires.changed of.0 c.read_made.ensures.only_reads.keeps (c.in-Ok-Made.ensures.space reads made.space made.redoes) of.1.0 of.1.1)
-    (if_ok_both r held _ (c.read_made.ensures.metas reads) (if_ok_both r shape suits c.read_made.ensures.shape c.read_made.ensures.suits))
+    if_ok_all r (λ s. is s × (shape s × suits s)) _
+    (λ s of. made_opened (disk.reads c.args.disk.now) mid c.args.config s.shape found (space s) made (c.in-Ok-Made.ensures.space reads made.space made.redoes) of.1.0 of.1.1 of.0)
+    (if_ok_both r is _ (c.open_made.ensures.space reads (c.in-Ok-Made.ensures.emptied reads) (c.in-Ok-Made.ensures.settled reads)) (if_ok_both r shape suits c.open_made.ensures.shape c.open_made.ensures.suits))
+
+pub returns-in-Ok-Made-clause-log : goal.returns-in-Ok-Made-clause-log
+returns-in-Ok-Made-clause-log g c reads =
+    let disk = g.D.Disk in
+    let found = c.in-Ok-Made.shape in
+    let mid = disk.reads c.recover.new.disk in
+    let now = disk.reads c.open_made.new.disk in
+    let made = store g c reads in
+    let r = c.open_made.result in
+    let log = HasOnly now (raising_entries found (record_at mid)) in
+    let shape = λ (s : Start). s.shape ≡ found in
+    if_ok_all r (λ s. log × shape s) _
+    (λ s of. made_log (disk.reads c.args.disk.now) mid now s.shape found made (c.in-Ok-Made.ensures.space reads made.space made.redoes) of.1 of.0)
+    (if_ok_both r (λ _. log) shape (if_ok_on r log (c.open_made.ensures.log reads (c.in-Ok-Made.ensures.emptied reads))) c.open_made.ensures.shape)
 
 pub returns-in-Ok-Made-clause-kept : goal.returns-in-Ok-Made-clause-kept
-returns-in-Ok-Made-clause-kept g c =
-    let disk = g.D.Disk in
-    let mid = c.recover.new.disk in
-    let r = c.read_made.result in
-    let held = λ (s : Start). disk.tells_reads → AreMetasOf (record_at (disk.reads mid)) s.metas.records in
-    let tail = λ (s : Start). s.tail ≡ 0 in
-    if_ok_all r (λ s. held s × tail s) _
-    (λ s of. subst (λ (n : ℕ). IsKept disk c.read_made.new.disk s.metas.records c.args.changed.now.pairs n) (sym of.1)
-    (made_kept disk mid c.read_made.new.disk s.metas.records c.args.changed.now.pairs c.requires.changed c.read_made.ensures.only_reads c.in-Ok-Made.ensures.emptied c.in-Ok-Made.ensures.settled of.0))
-    (if_ok_both r held tail (under disk.tells_reads (λ s. AreMetasOf (record_at (disk.reads mid)) s.metas.records) r c.read_made.ensures.metas) c.read_made.ensures.tail)
-  where
-    under : {T E : Type 0} (A : Type 0) (P : T → Type 0) (r : Result T E) → (A → IfOk r P) → IfOk r (λ x. A → P x)
-    under A P (Ok x) f = f
-    under A P (Err e) f = tt
+returns-in-Ok-Made-clause-kept g c = c.open_made.ensures.kept c.in-Ok-Made.ensures.emptied c.in-Ok-Made.ensures.settled
+
+pub returns-in-Ok-Made-clause-settled : goal.returns-in-Ok-Made-clause-settled
+returns-in-Ok-Made-clause-settled g c reads images = c.open_made.ensures.settled reads images (c.in-Ok-Made.ensures.emptied reads) (c.in-Ok-Made.ensures.settled reads images)
 
 pub returns-in-Ok-Made-clause-crash : goal.returns-in-Ok-Made-clause-crash
 returns-in-Ok-Made-clause-crash g c reads images space shape redoes is =
-    at_each_moment_read g.D.Disk c.args.disk.now c.recover.new.disk c.read_made.new.disk _ g.met.D.Disk.counts_now images (c.recover.ensures.crash reads images space redoes) c.read_made.ensures.only_reads
+    made_crash g.D.Disk c.args.disk.now c.recover.new.disk c.open_made.new.disk shape c.in-Ok-Made.shape space (c.in-Ok-Made.ensures.space reads space redoes)
+    (one_shape (g.D.Disk.reads c.args.disk.now) space c.in-Ok-Made.shape shape (store g c reads) redoes is) (c.recover.ensures.crash reads images space redoes)
+    (c.open_made.ensures.crash reads images (c.in-Ok-Made.ensures.emptied reads) (c.in-Ok-Made.ensures.settled reads images))
 
 pub returns-in-Ok-Made-clause-crash_new : goal.returns-in-Ok-Made-clause-crash_new
 returns-in-Ok-Made-clause-crash_new g c reads images unmade = absurd (none_made (g.D.Disk.reads c.args.disk.now) c.in-Ok-Made.shape unmade (store g c reads))
@@ -58,16 +66,31 @@ returns-in-Ok-Made-clause-crash_new g c reads images unmade = absurd (none_made 
 pub returns-in-Ok-Made-clause-refused : goal.returns-in-Ok-Made-clause-refused
 returns-in-Ok-Made-clause-refused g c reads =
     let content = g.D.Disk.reads c.args.disk.now in
-    IfErr-weaker c.read_made.result (OnlyDiffers c.in-Ok-Made.shape c.args.config) (RefusesOpening content c.args.config) (λ fault only. refuses_differs content c.args.config c.in-Ok-Made.shape fault (store g c reads) only) c.read_made.ensures.refused
+    IfErr-weaker c.open_made.result (OnlyDiffers c.in-Ok-Made.shape c.args.config) (RefusesOpening content c.args.config) (λ fault only. refuses_differs content c.args.config c.in-Ok-Made.shape fault (store g c reads) only) c.open_made.ensures.refused
 
 pub returns-in-Ok-Made-clause-untouched : goal.returns-in-Ok-Made-clause-untouched
 returns-in-Ok-Made-clause-untouched g c reads =
-    IfErr-weaker c.read_made.result (OnlyDiffers c.in-Ok-Made.shape c.args.config) _ (λ fault only is. differs_untouched c.args.config c.in-Ok-Made.shape fault only is) c.read_made.ensures.refused
+    IfErr-weaker c.open_made.result (OnlyDiffers c.in-Ok-Made.shape c.args.config) _ (λ fault only is. differs_untouched c.args.config c.in-Ok-Made.shape fault only is) c.open_made.ensures.refused
 
 pub returns-in-Ok-Made-clause-sound : goal.returns-in-Ok-Made-clause-sound
 returns-in-Ok-Made-clause-sound g c reads space shape redoes has =
     let same = one_shape (g.D.Disk.reads c.args.disk.now) space c.in-Ok-Made.shape shape (store g c reads) redoes has in
-    IfErr-weaker c.read_made.result (OnlyDiffers c.in-Ok-Made.shape c.args.config) (OnlyDiffers shape c.args.config) (λ fault. subst (λ (s : Shape). OnlyDiffers s c.args.config fault) (sym same)) c.read_made.ensures.refused
+    IfErr-weaker c.open_made.result (OnlyDiffers c.in-Ok-Made.shape c.args.config) (OnlyDiffers shape c.args.config) (λ fault. subst (λ (s : Shape). OnlyDiffers s c.args.config fault) (sym same)) c.open_made.ensures.refused
+
+pub returns-in-Ok-Made-clause-careful : goal.returns-in-Ok-Made-clause-careful
+returns-in-Ok-Made-clause-careful g c reads =
+    let made = store g c reads in
+    inr (made.space, made.redoes, inr (c.in-Ok-Made.shape, made.made))
+
+pub returns-in_err-make_new-in-Ok-Unmade-clause-careful : goal.returns-in_err-make_new-in-Ok-Unmade-clause-careful
+returns-in_err-make_new-in-Ok-Unmade-clause-careful g c reads =
+    let intact = c.in-Ok-Unmade.ensures.intact reads in
+    inr (intact.0, intact.1, inl (rw c.in-Ok-Unmade.field-0-is at (c.in-Ok-Unmade.ensures.found reads intact.0 intact.1)))
+
+pub returns-in_ok-make_new-in-Ok-Unmade-clause-careful : goal.returns-in_ok-make_new-in-Ok-Unmade-clause-careful
+returns-in_ok-make_new-in-Ok-Unmade-clause-careful g c reads =
+    let intact = c.in-Ok-Unmade.ensures.intact reads in
+    inr (intact.0, intact.1, inl (rw c.in-Ok-Unmade.field-0-is at (c.in-Ok-Unmade.ensures.found reads intact.0 intact.1)))
 
 pub returns-in-Ok-Made-clause-unmade : goal.returns-in-Ok-Made-clause-unmade
 returns-in-Ok-Made-clause-unmade g c reads unmade = absurd (none_made (g.D.Disk.reads c.args.disk.now) c.in-Ok-Made.shape unmade (store g c reads))
@@ -114,6 +137,15 @@ returns-in_ok-make_new-in-Ok-Unmade-clause-opened g c reads =
     unmade_opened (disk.reads c.args.disk.now) (disk.reads c.recover.new.disk) c.args.config s.shape c.shape.result _ unmade same c.shape.ensures c.in_ok-make_new-in-Ok-Unmade.ensures.shape
     (c.in_ok-make_new-in-Ok-Unmade.ensures.space reads none_now)
 
+pub returns-in_ok-make_new-in-Ok-Unmade-clause-log : goal.returns-in_ok-make_new-in-Ok-Unmade-clause-log
+returns-in_ok-make_new-in-Ok-Unmade-clause-log g c reads =
+    let intact = c.in-Ok-Unmade.ensures.intact reads in
+    let unmade = rw c.in-Ok-Unmade.field-0-is at (c.in-Ok-Unmade.ensures.found reads intact.0 intact.1) in
+    inl (unmade, subst (λ (s : Shape). HasOnly (g.D.Disk.reads c.make_new.new.disk) (creation_pairs s ∷ [])) (sym c.in_ok-make_new-in-Ok-Unmade.ensures.shape) (c.in_ok-make_new-in-Ok-Unmade.ensures.log reads (c.in-Ok-Unmade.ensures.emptied reads)))
+
+pub returns-in_ok-make_new-in-Ok-Unmade-clause-settled : goal.returns-in_ok-make_new-in-Ok-Unmade-clause-settled
+returns-in_ok-make_new-in-Ok-Unmade-clause-settled g c reads images = c.in_ok-make_new-in-Ok-Unmade.ensures.settled reads images (c.in-Ok-Unmade.ensures.emptied reads) (c.in-Ok-Unmade.ensures.settled reads images)
+
 pub returns-in_ok-make_new-in-Ok-Unmade-clause-kept : goal.returns-in_ok-make_new-in-Ok-Unmade-clause-kept
 returns-in_ok-make_new-in-Ok-Unmade-clause-kept g c = c.in_ok-make_new-in-Ok-Unmade.ensures.kept
     (λ reads.
@@ -143,7 +175,8 @@ returns-in-Err-Damaged-clause-unmade g c reads unmade =
     let e = sym c.in-Err-Damaged.field-0-is ∙ c.in-Err-Damaged.ensures.sound reads (record_at content) (redoes_own content unmade) (inl unmade) in cc
 
 pub returns-in-Err-Disk-clause-crash : goal.returns-in-Err-Disk-clause-crash
-returns-in-Err-Disk-clause-crash g c reads images space shape redoes is = c.recover.ensures.crash reads images space redoes
+returns-in-Err-Disk-clause-crash g c reads images space shape redoes is =
+    at_each_moment_weaker g.D.Disk c.args.disk.now c.recover.new.disk _ _ (c.recover.ensures.crash reads images space redoes) (λ left. ⊎_elim (λ was. inl was) (λ redoes. inr (inl redoes)))
 
 pub returns-in-Err-Disk-clause-crash_new : goal.returns-in-Err-Disk-clause-crash_new
 returns-in-Err-Disk-clause-crash_new g c reads images unmade = unmade_left g.D.Disk c.args.disk.now c.recover.new.disk c.args.config (c.recover.ensures.unmade reads images unmade)

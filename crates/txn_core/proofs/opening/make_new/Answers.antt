@@ -1,9 +1,9 @@
-use Rattle.std.proofs.Common.{ap, arith, length, sym, subst, []}
+use Rattle.std.proofs.Common.{ap, arith, length, sym, subst, [], ◌∷◌, ◌+◌}
 use Rattle.rec_bytes.specs.Creation.{creation_pairs}
 use Rattle.rec_bytes.specs.Pairs.{Pairs, merged}
 use Rattle.rec_bytes.specs.declared.record.Rec.{Rec}
 use Rattle.redo_log.specs.Appending.{IsAppended}
-use Rattle.redo_log.specs.Entries.{AllHaveEntries, IsEntryOf}
+use Rattle.redo_log.specs.Entries.{AllHaveEntries, HasEntries, IsEntryOf, entry_bytes}
 use Rattle.std.proofs.Common.{List}
 use Rattle.disk_model.specs.Spans.{AtEachMoment}
 use Rattle.txn_core.specs.Kept.{IsKept}
@@ -12,6 +12,7 @@ use Rattle.txn_core.proofs.Kept.{kept_appended}
 use Rattle.rec_bytes.proofs.PairLaws.{growth_by_le}
 use Rattle.txn_core.proofs.Sets.{length-merged}
 use Rattle.txn_core.proofs.Making.{creation_form, kept_unmade, new_crash, new_space}
+use Rattle.txn_core.proofs.Raising.{settled_appended}
 use Rattle.txn_core.proofs.opening.make_new.Goals as goal
 
 pub append-requires-clause-form : goal.append-requires-clause-form
@@ -58,3 +59,12 @@ returns-clause-few g c =
       growth_by_le [] creation,
       (creation_form c.args.shape).few,
     )
+
+pub returns-clause-settled : goal.returns-clause-settled
+returns-clause-settled g c reads images has settled =
+    settled_appended g.D.Disk c.args.disk.now c.append.new.disk c.args.creation.now.pairs g.met.D.Disk.counts_now images has settled (c.append.ensures.crash reads images) (c.append.ensures.elsewhere reads) (c.in_ok-tail.ensures.settled reads images)
+
+pub returns-clause-log : goal.returns-clause-log
+returns-clause-log g c reads has =
+    let tail = 0 + entry_bytes (length c.args.creation.now.pairs) in
+    (tail, subst (λ (pairs : Pairs). HasEntries (g.D.Disk.reads c.append.new.disk) (pairs ∷ []) tail) c.requires.creation (c.in_ok-tail.ensures.appended reads [] has))

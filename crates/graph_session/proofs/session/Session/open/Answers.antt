@@ -16,6 +16,8 @@ returns-in-Err-clause-unopened g c =
         made = λ told images space shape redoes made. c.in-Err.ensures.left told images space shape redoes made;
         blank = λ told images unmade. c.in-Err.ensures.left_new told images unmade;
       });
+      careful = c.in-Err.ensures.careful;
+      untouched = λ told refusal_is. inl (c.in-Err.ensures.untouched told refusal_is);
       later = c.in-Err.ensures.later_refused;
       cause = c.in-Err.ensures.cause;
     }

@@ -1,9 +1,10 @@
-use Rattle.std.proofs.Common.{◌≡◌, ◌∙◌, Err, ap, sym}
+use Rattle.std.proofs.Common.{◌≡◌, ◌∙◌, Err, ap, inl, sym}
+use Rattle.disk_model.proofs.Spans.{only_reads_none}
 use Rattle.rec_bytes.specs.declared.damage.Damage.{Damage}
 use Rattle.txn_core.specs.declared.again_fault.AgainFault.TheVariants as faults
 use Rattle.graph_session.specs.Session.{view}
 use Rattle.graph_session.proofs.Moves.{refused-reopen}
-use Rattle.graph_session.proofs.Reopening.{lost_damaged, lost_disk, named_again}
+use Rattle.graph_session.proofs.Reopening.{careful-on, lost_damaged, lost_disk, named_again}
 use Rattle.graph_session.proofs.session.Session.reopen.Goals as goal
 
 not-disk : (damage : Damage) → ¬ (faults.Damaged damage ≡ faults.Disk)
@@ -33,4 +34,16 @@ returns-in-Err-Damaged-clause-settles g c =
     let done = c.in-Err-Damaged.ensures in
     let damage = c.in-Err-Damaged.damage in
     lost_damaged g.met.D.Disk.counts_now s.store c.recover_again.new.self done.same (sym c.if-in_transaction.ensures.is) done.closed done.draft done.later done.crash done.read s.health s.weight s.names.names damage.file damage.id
-    (λ told space redoes made. not-disk damage (sym c.in-Err-Damaged.field-0-is ∙ done.sound told space redoes made))
+    (λ told space redoes made newest. not-disk damage (sym c.in-Err-Damaged.field-0-is ∙ done.sound told space redoes made newest))
+
+pub returns-then-in_transaction-clause-careful : goal.returns-then-in_transaction-clause-careful
+returns-then-in_transaction-clause-careful g c = λ told. inl (only_reads_none g.D.Disk c.args.self.now.store.base.disk.now g.met.D.Disk.only_now)
+
+pub returns-in-Ok-clause-careful : goal.returns-in-Ok-clause-careful
+returns-in-Ok-clause-careful g c = careful-on g.D.Disk c.args.self.now.store.base.disk.now c.recover_again.new.self.base.disk.now c.name_again.new.self.store.base.disk.now c.in-Ok.ensures.careful c.name_again.ensures.reads.disk
+
+pub returns-in-Err-Disk-clause-careful : goal.returns-in-Err-Disk-clause-careful
+returns-in-Err-Disk-clause-careful g c = c.in-Err-Disk.ensures.careful
+
+pub returns-in-Err-Damaged-clause-careful : goal.returns-in-Err-Damaged-clause-careful
+returns-in-Err-Damaged-clause-careful g c = c.in-Err-Damaged.ensures.careful

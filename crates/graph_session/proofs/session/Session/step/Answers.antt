@@ -17,3 +17,9 @@ returns-in-Ok-clause-judges g c = λ spells live. c.answer.ensures.judges (sym (
 
 pub returns-in-Err-clause-judges : goal.returns-in-Err-clause-judges
 returns-in-Err-clause-judges g c = λ spells live. absurd (spells-none c.in-Err.fault c.in-Err.ensures.none (λ e. c.in-Err.ensures.memory (ap Err e)) commands.Check tt spells)
+
+pub returns-in-Ok-clause-careful : goal.returns-in-Ok-clause-careful
+returns-in-Ok-clause-careful g c = λ spells. c.answer.ensures.careful (sym (c.in-Ok.ensures.only commands.Reopen spells))
+
+pub returns-in-Err-clause-careful : goal.returns-in-Err-clause-careful
+returns-in-Err-clause-careful g c = λ spells. absurd (spells-none c.in-Err.fault c.in-Err.ensures.none (λ e. c.in-Err.ensures.memory (ap Err e)) commands.Reopen tt spells)

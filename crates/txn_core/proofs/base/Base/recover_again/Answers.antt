@@ -1,7 +1,8 @@
-use Rattle.std.proofs.Common.{rules, refl, ◌∙◌, ap, arith, length}
+use Rattle.std.proofs.Common.{rules, refl, ◌∙◌, ap, subst, arith, length}
 use Rattle.rec_bytes.specs.Pairs.{Pairs}
 use Rattle.rec_bytes.specs.Space.{laid_over}
 use Rattle.record_file.specs.Records.{record_at}
+use Rattle.txn_core.specs.Again.{IsOld}
 use Rattle.txn_core.proofs.Kept.{kept_settled, on_disk, plain_space}
 use Rattle.txn_core.proofs.base.Base.recover_again.Goals as goal
 
@@ -25,6 +26,8 @@ returns-clause-done g c =
           ∙ ap (laid_over (record_at (disk.reads c.find_again.new.disk))) c.clear-2.ensures.pairs
           ∙ c.in_ok-self.ensures.space reads space redoes;
       store = c.in_ok-self.ensures.store;
+      newest = λ reads old.
+          c.in_ok-self.ensures.newest reads (subst IsOld (plain_space disk c.find_again.new.disk c.in_ok-self.field-0.records c.clear-2.new.self.pairs 0 now reads ∙ ap (laid_over (record_at (disk.reads c.find_again.new.disk))) c.clear-2.ensures.pairs) old);
       changed = c.clear-2.ensures.pairs;
       tail = refl;
       no_entry = c.in_ok-self.ensures.emptied;

@@ -3,6 +3,7 @@ use Rattle.disk_model.specs.Spans.{AtEachMoment}
 use Rattle.rec_bytes.specs.declared.key.Key.{Key}
 use Rattle.rec_bytes.specs.declared.record.Rec.{Rec}
 use Rattle.record_file.specs.Redone.{Redoes}
+use Rattle.recovery.specs.Finding.{IsCareful}
 use Rattle.txn_core.specs.Base.{content}
 use Rattle.txn_core.specs.declared.base.Base.{Base}
 use Rattle.txn_core.proofs.store.Store.recover_again.Goals as goal
@@ -14,3 +15,9 @@ returns-clause-crash g c reads images =
     subst
     (λ (b : Base g.row.D.Denot disk). (space : Key → Rec) → Redoes (content b) space → AtEachMoment disk b.disk.now now (λ left. disk.may_leave b.disk.now left ⊎ Redoes left space))
     c.discard.ensures.base (c.recover_again.ensures.crash reads images)
+
+pub returns-clause-careful : goal.returns-clause-careful
+returns-clause-careful g c =
+    let disk = g.D.Disk in
+    let now = c.recover_again.new.self.disk.now in
+    subst (λ (b : Base g.row.D.Denot disk). IsCareful disk b.disk.now now) c.discard.ensures.base c.recover_again.ensures.careful

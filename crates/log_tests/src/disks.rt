@@ -1,0 +1,104 @@
+//! The disks of plain memory: what they keep, fail to do, and leave after a loss of power.
+use disk_model::{Crash, Disk, FaultPlan, MemoryDisk, PlainDisk, Room};
+use fault_count::Failed;
+use std::alloc::Global;
+use std::test::Fail;
+
+const ROOM: Room = Room {
+    calls: 8,
+    bytes: 16,
+};
+
+// A plan in which no call fails.
+fn no_faults(alloc: Global) -> FaultPlan {
+    FaultPlan {
+        fails: Vec::new(alloc),
+        stop: None,
+    }
+}
+
+// What four bytes of file 2 read.
+fn front(disk: &mut MemoryDisk) -> [u8; 4] {
+    let mut out = [9; 4];
+    let _ = disk.read(2, 0, &mut out);
+    out
+}
+
+#[test]
+fn leaves_each_image_after_the_faults_of_a_plan(rt: HostRuntime) -> Result<(), Fail> {
+    // The calls are write, sync, write, write, a write to file 1, read. The call that fails, the
+    // byte at pending places, and what is read before a loss of power and after it. The first draw
+    // goes to file 1.
+    let cases: [(u64, Option<u64>, Crash, &[u8], &[u8]); 11] = [
+        (0, None, Crash::New, b"abxy", b"abxy"),
+        (0, None, Crash::Fill(7), b"abxy", b"a\x07\x07\x07"),
+        (2, None, Crash::Fill(7), b"abxy", b"\x07\x07\x07\x07"),
+        (3, None, Crash::Fill(7), b"abxy", b"a\x07\x07\x07"),
+        (4, None, Crash::Fill(7), b"ax\0\0", b"a\x07\x07\x07"),
+        (0, None, Crash::Old, b"abxy", b"ab\0\0"),
+        (2, None, Crash::Old, b"abxy", b"\0\0\0\0"),
+        (4, None, Crash::Old, b"ax\0\0", b"ab\0\0"),
+        (0, None, Crash::Mixed(1), b"abxy", b"a\x59\xcc\xe6"),
+        (2, None, Crash::Mixed(1), b"abxy", b"\x59\xcc\xe6\x5a"),
+        (9, Some(3), Crash::New, b"\x09\x09\x09\x09", b"ab\0\0"),
+    ];
+    for (fails, stop, choice, before, after) in cases {
+        let plan = FaultPlan {
+            fails: Vec::from_slice(rt.alloc(), &[fails])?,
+            stop,
+        };
+        let mut disk = MemoryDisk::new(rt.alloc(), 1, ROOM, plan)?;
+        let _ = disk.write(2, 0, b"ab");
+        let _ = disk.sync(2);
+        let _ = disk.write(2, 1, b"x");
+        let _ = disk.write(2, 1, b"bxy");
+        let _ = disk.write(1, 5, b"q");
+        assert!(rt; front(&mut disk).as_slice() == before, "call {fails} fails");
+        let mut left = disk.after_crash(rt.alloc(), choice, ROOM, no_faults(rt.alloc()))?;
+        assert!(rt; front(&mut left).as_slice() == after, "call {fails} fails");
+    }
+    Ok(())
+}
+
+#[test]
+fn a_poked_byte_is_read_and_left_by_each_crash(rt: HostRuntime) -> Result<(), Fail> {
+    let mut disk = MemoryDisk::new(rt.alloc(), 1, ROOM, no_faults(rt.alloc()))?;
+    disk.write(2, 0, b"abc")?;
+    assert!(rt; disk.room(2) == 64);
+    disk.poke(2, 1, b'z');
+    assert!(rt; &front(&mut disk) == b"azc\0");
+    for choice in [Crash::Old, Crash::New, Crash::Fill(7), Crash::Mixed(1)] {
+        let mut left = disk.after_crash(rt.alloc(), choice, ROOM, no_faults(rt.alloc()))?;
+        assert!(rt; &front(&mut left) == b"azc\0", "{choice:?}");
+    }
+    Ok(())
+}
+
+#[test]
+fn writes_up_to_the_room_of_each_file(rt: HostRuntime) -> Result<(), Fail> {
+    let mut disk = PlainDisk::new(rt.alloc(), 3)?;
+    for (file, room) in [
+        (0, 576),
+        (1, 192),
+        (3, 384),
+        (5, 192),
+        (6, 262_144),
+        (7, 1_048_576),
+        (8, 384),
+    ] {
+        assert!(rt; file <= 8 && 3 <= room && room <= 1_048_576);
+        disk.write(file, room - 3, b"abc")?;
+        assert!(rt;
+            disk.write(file, room - 2, b"xyz") == Err(Failed),
+            "file {file}"
+        );
+        let mut out = [9; 7];
+        disk.read(file, room - 5, &mut out)?;
+        assert!(rt; &out == b"\0\0abc\0\0", "file {file}");
+        disk.sync(file)?;
+    }
+    let mut out = [9; 4];
+    disk.read(2, 190, &mut out)?;
+    assert!(rt; out == [0; 4]);
+    Ok(())
+}

@@ -1,0 +1,90 @@
+//! Records in their files, and through the pages that were used last.
+use disk_model::{Disk, FaultPlan, MemoryDisk, PlainDisk, Room};
+use page_cache::PageCache;
+use rec_bytes::{Key, META, NAMES, NODES, Rec};
+use record_file::{read_record, write_record};
+use std::alloc::{AllocError, Global};
+use std::num::NonZeroUsize;
+use std::test::Fail;
+
+#[test]
+fn a_written_record_is_read_back_and_no_other_changes(rt: HostRuntime) -> Result<(), Fail> {
+    let mut disk = PlainDisk::new(rt.alloc(), 16)?;
+    for (file, id) in [(META, 6), (NODES, 3), (NODES, 15), (NAMES, 4_095)] {
+        let key = Key { file, id };
+        assert!(rt; key.is_valid());
+        write_record(&mut disk, key, Rec { bytes: [7; 64] })?;
+        assert!(rt; read_record(&mut disk, key)? == Rec { bytes: [7; 64] });
+        let before = Key { file, id: id - 1 };
+        assert!(rt; before.is_valid());
+        assert!(rt; read_record(&mut disk, before)? == Rec::ZEROS);
+        let mut byte = [0];
+        disk.read(file, 64 * id as u64 + 63, &mut byte)?;
+        assert!(rt; byte == [7]);
+    }
+    Ok(())
+}
+
+// A cache of two pages.
+fn two_pages(alloc: Global) -> Result<PageCache, AllocError> {
+    PageCache::new(alloc, NonZeroUsize::new(2).unwrap())
+}
+
+// Which of these node records are got, one after another, from a disk whose fourth call fails.
+fn got(alloc: Global, ids: &[u32]) -> Result<Vec<bool>, AllocError> {
+    let room = Room {
+        calls: 8,
+        bytes: 64,
+    };
+    let plan = FaultPlan {
+        fails: Vec::new(alloc),
+        stop: Some(4),
+    };
+    let mut disk = MemoryDisk::new(alloc, 256, room, plan)?;
+    let mut cache = two_pages(alloc)?;
+    let mut got = Vec::new(alloc);
+    for id in ids {
+        let key = Key {
+            file: NODES,
+            id: *id,
+        };
+        got.push(key.is_valid() && cache.get(&mut disk, key) == Ok(Rec::ZEROS))?;
+    }
+    Ok(got)
+}
+
+#[test]
+fn the_page_that_was_used_last_stays(rt: HostRuntime) -> Result<(), Fail> {
+    let got_all = got(rt.alloc(), &[0, 64, 0, 128, 0])?;
+    assert!(rt; got_all.as_slice() == [true, true, true, true, true].as_slice());
+    let one_gone = got(rt.alloc(), &[0, 64, 128, 0])?;
+    assert!(rt; one_gone.as_slice() == [true, true, true, false].as_slice());
+    Ok(())
+}
+
+#[test]
+fn a_written_record_is_got_once_its_page_is_forgotten(rt: HostRuntime) -> Result<(), Fail> {
+    let mut disk = PlainDisk::new(rt.alloc(), 256)?;
+    let mut cache = two_pages(rt.alloc())?;
+    let key = Key {
+        file: NODES,
+        id: 65,
+    };
+    let before = Key {
+        file: NODES,
+        id: 64,
+    };
+    assert!(rt; key.is_valid() && before.is_valid());
+    for byte in [7, 8] {
+        let rec = Rec { bytes: [byte; 64] };
+        write_record(&mut disk, key, rec)?;
+        cache.forget(key);
+        assert!(rt; cache.get(&mut disk, key)? == rec);
+        assert!(rt; cache.get(&mut disk, before)? == Rec::ZEROS);
+    }
+    let last = Rec { bytes: [9; 64] };
+    write_record(&mut disk, key, last)?;
+    cache.clear();
+    assert!(rt; cache.get(&mut disk, key)? == last);
+    Ok(())
+}

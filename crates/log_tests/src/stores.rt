@@ -1,0 +1,548 @@
+//! A store over a disk in memory, whose calls are counted from 1: making a store takes 26, and a
+//! commit of a few records 4.
+use crate::turned_disk::TurnedDisk;
+use disk_model::{Crash, Disk, FaultPlan, MemoryDisk, Room};
+use fault_count::Failed;
+use rec_bytes::{
+    Damage, DiskFault, GROUPS, INDEX, Key, LOG, META, Meta, NAMES, NIL, NODES, RELATIONSHIPS,
+    Reads, Rec, STRINGS, Space, meta_key,
+};
+use std::alloc::{AllocError, Global};
+use std::process::Abort;
+use std::test::Fail;
+use txn_core::{AgainFault, Config, Health, OpenFault, Store};
+
+const ROOM: Room = Room {
+    calls: 256,
+    bytes: 32_768,
+};
+
+const CONFIG: Config = Config {
+    threshold: None,
+    limit: None,
+};
+
+/// How many records the smaller transaction writes, and how many the greater one.
+const FOUR: usize = 4;
+
+const EIGHT: usize = 8;
+
+/// The calls of these numbers fail, and all from the number of the stop on.
+pub(crate) fn plan(
+    alloc: Global,
+    fails: &[u64],
+    stop: Option<u64>,
+) -> Result<FaultPlan, AllocError> {
+    let fails = Vec::from_slice(alloc, fails)?;
+    Ok(FaultPlan { fails, stop })
+}
+
+pub(crate) fn new_disk(
+    alloc: Global,
+    fails: &[u64],
+    stop: Option<u64>,
+) -> Result<MemoryDisk, AllocError> {
+    MemoryDisk::new(alloc, 16, ROOM, plan(alloc, fails, stop)?)
+}
+
+/// The disk that a loss of power leaves, which stops at this call.
+pub(crate) fn left_of(
+    alloc: Global,
+    disk: &MemoryDisk,
+    choice: Crash,
+    stop: Option<u64>,
+) -> Result<MemoryDisk, AllocError> {
+    disk.after_crash(alloc, choice, ROOM, plan(alloc, &[], stop)?)
+}
+
+pub(crate) fn open<D: Disk>(alloc: Global, disk: &mut D) -> Result<Store<'_, D>, OpenFault> {
+    match Store::open(alloc, disk, CONFIG) {
+        Ok(store) => Ok(store),
+        Err(refusal) => Err(refusal.why),
+    }
+}
+
+/// What the first transaction writes, or the second, by ascending key. At 0 it is what a new store
+/// has.
+fn records(count: u8) -> [(Key, Rec); EIGHT] {
+    let meta = Meta {
+        high: count as u32,
+        free: NIL,
+        live: count as u32,
+    };
+    let rec = Rec { bytes: [count; 64] };
+    [
+        (meta_key(NODES), meta.to_record()),
+        (Key { file: NODES, id: 0 }, rec),
+        (
+            Key {
+                file: NODES,
+                id: 15,
+            },
+            rec,
+        ),
+        (
+            Key {
+                file: RELATIONSHIPS,
+                id: 7,
+            },
+            rec,
+        ),
+        (
+            Key {
+                file: GROUPS,
+                id: 31,
+            },
+            rec,
+        ),
+        (
+            Key {
+                file: STRINGS,
+                id: 3,
+            },
+            rec,
+        ),
+        (
+            Key {
+                file: NAMES,
+                id: 4_095,
+            },
+            rec,
+        ),
+        (
+            Key {
+                file: INDEX,
+                id: 31,
+            },
+            rec,
+        ),
+    ]
+}
+
+/// Puts the first of these records.
+fn put_all<D: Disk>(rt: &impl Abort, store: &mut Store<'_, D>, count: u8, few: usize) {
+    for (key, rec) in records(count).iter().take(few) {
+        assert!(rt; key.is_valid());
+        assert!(rt; store.put(*key, *rec) == Ok(()));
+    }
+}
+
+/// Commits the first of these records, in a transaction of their own.
+fn change<D: Disk>(
+    rt: &impl Abort,
+    store: &mut Store<'_, D>,
+    count: u8,
+    few: usize,
+) -> Result<(), DiskFault> {
+    assert!(rt; store.health() == Health::Live && !store.in_transaction());
+    store.begin();
+    put_all(rt, store, count, few);
+    assert!(rt; store.in_transaction());
+    assert!(rt; store.keep() == Ok(()));
+    assert!(rt; store.health() == Health::Live && store.in_transaction());
+    store.commit()
+}
+
+pub(crate) fn checkpoint<D: Disk>(
+    rt: &impl Abort,
+    store: &mut Store<'_, D>,
+) -> Result<(), DiskFault> {
+    assert!(rt; store.health() == Health::Live && !store.in_transaction());
+    store.checkpoint()
+}
+
+fn recover_again<D: Disk>(rt: &impl Abort, store: &mut Store<'_, D>) -> Result<(), AgainFault> {
+    assert!(rt; !store.in_transaction());
+    store.recover_again()
+}
+
+/// The transaction of which the store has the first records, all of them.
+fn shown(rt: &impl Abort, store: &mut Store<'_, MemoryDisk>, few: usize) -> Option<u8> {
+    for count in 0..3 {
+        if shows(rt, store, count, few) {
+            return Some(count);
+        }
+    }
+    None
+}
+
+fn shows(rt: &impl Abort, store: &mut Store<'_, MemoryDisk>, count: u8, few: usize) -> bool {
+    for (key, rec) in records(count).iter().take(few) {
+        assert!(rt; key.is_valid());
+        if store.get(*key) != Ok(*rec) {
+            return false;
+        }
+    }
+    store.meta(NODES).live == count as u32
+}
+
+pub(crate) fn byte_at(rt: &impl Abort, disk: &mut MemoryDisk, file: u8, at: u64) -> u8 {
+    assert!(rt; file <= INDEX && at < 1_048_576);
+    let mut byte = [0];
+    assert!(rt; disk.read(file, at, &mut byte) == Ok(()));
+    byte[0]
+}
+
+/// The log of a new store: an entry of 555 bytes.
+fn first_entry() -> [u8; 555] {
+    let mut entry = [0; 555];
+    entry[..3].copy_from_slice(&[1, 8, 0]);
+    entry[8..20].copy_from_slice(&[0x47, 0x52, 0x53, 0x31, 3, 0, 0x32, 0, 0, 0, 0x10, 0]);
+    for file in 1..7 {
+        let start = 3 + 69 * file;
+        entry[start + 1] = file as u8;
+        entry[start + 9..start + 13].fill(255);
+    }
+    entry[487] = 8;
+    entry[495..499].fill(255);
+    entry[503..507].fill(255);
+    entry
+}
+
+#[test]
+fn a_commit_is_one_entry(rt: HostRuntime) -> Result<(), Fail> {
+    // How many records are committed to a new store, what stands after its entry, and where a gate
+    // is closed.
+    let table = [(0, [0, 0, 0], 555), (FOUR, [1, 4, 0], 834)];
+    for (few, head, end) in table {
+        let mut disk = new_disk(rt.alloc(), &[], None)?;
+        let mut store = open(rt.alloc(), &mut disk)?;
+        assert!(rt; change(&rt, &mut store, 1, few) == Ok(()));
+        let disk = store.close();
+        let mut first = [9; 555];
+        disk.read(LOG, 0, &mut first)?;
+        assert!(rt; first.as_slice() == first_entry().as_slice());
+        let mut next = [9; 3];
+        disk.read(LOG, 555, &mut next)?;
+        assert!(rt; next == head);
+        assert!(rt; byte_at(&rt, disk, LOG, end) == 0);
+    }
+    Ok(())
+}
+
+/// Stops a commit in each of its calls, and in none, and opens what this loss of power leaves. It
+/// has the transaction where the stop came in the call `first` or later.
+fn check_stops(rt: &impl Abort, alloc: Global, choice: Crash, first: u64) -> Result<(), Fail> {
+    for stop in 27..32 {
+        let mut disk = new_disk(alloc, &[], Some(stop))?;
+        let mut store = open(alloc, &mut disk)?;
+        let answer = change(rt, &mut store, 1, FOUR);
+        assert!(rt; answer.is_ok() == (stop == 31), "{choice:?} at call {stop}");
+        let mut left = left_of(alloc, store.close(), choice, None)?;
+        let mut store = open(alloc, &mut left)?;
+        let count = if stop < first { 0 } else { 1 };
+        assert!(rt;
+            shown(rt, &mut store, FOUR) == Some(count),
+            "{choice:?} at call {stop}"
+        );
+        let _ = store.close();
+    }
+    Ok(())
+}
+
+#[test]
+fn a_stopped_commit_is_whole_or_nothing(rt: HostRuntime) -> Result<(), Fail> {
+    // The crash, and the first call whose stop leaves the transaction. The calls are the write of
+    // the records and its sync, and the write of the gate and its sync. 31 is a call after them.
+    let table = [
+        (Crash::Old, 31),
+        (Crash::New, 30),
+        (Crash::Fill(0), 31),
+        (Crash::Fill(1), 29),
+        (Crash::Fill(7), 31),
+        (Crash::Mixed(1), 31),
+    ];
+    for (choice, first) in table {
+        check_stops(&rt, rt.alloc(), choice, first)?;
+    }
+    Ok(())
+}
+
+/// A transaction of four records and a checkpoint, and then one of eight, whose end stands over the
+/// first one's gate.
+fn disk_with_old_gate(rt: &impl Abort, alloc: Global) -> Result<MemoryDisk, Fail> {
+    let mut disk = new_disk(alloc, &[], None)?;
+    let mut store = open(alloc, &mut disk)?;
+    assert!(rt; change(rt, &mut store, 1, FOUR) == Ok(()));
+    assert!(rt; checkpoint(rt, &mut store) == Ok(()));
+    assert!(rt; change(rt, &mut store, 2, EIGHT) == Ok(()));
+    assert!(rt; shown(rt, &mut store, EIGHT) == Some(2));
+    let _ = store.close();
+    Ok(disk)
+}
+
+#[test]
+fn an_entry_is_closed_over_an_old_gate(rt: HostRuntime) -> Result<(), Fail> {
+    // The crash, two bytes that it leaves, and the call in which the opening is stopped. Its third
+    // write of a record is call 15, and its write of the gate call 30. At 556 the old entry has its
+    // count.
+    let table = [
+        (Crash::New, (LOG, 555, 0), (LOG, 556, 4), Some(15)),
+        (
+            Crash::Fill(9),
+            (NODES, 960, 9),
+            (RELATIONSHIPS, 448, 1),
+            Some(30),
+        ),
+        (Crash::Fill(1), (LOG, 0, 1), (RELATIONSHIPS, 448, 2), None),
+    ];
+    let mut disk = disk_with_old_gate(&rt, rt.alloc())?;
+    for (choice, first, second, stop) in table {
+        let mut seen = left_of(rt.alloc(), &disk, choice, None)?;
+        for (file, at, byte) in [first, second] {
+            assert!(rt;
+                byte_at(&rt, &mut seen, file, at) == byte,
+                "{choice:?}: {file} {at}"
+            );
+        }
+        disk = left_of(rt.alloc(), &disk, choice, stop)?;
+        match open(rt.alloc(), &mut disk) {
+            Ok(mut store) => {
+                assert!(rt; (shown(&rt, &mut store, EIGHT), stop) == (Some(2), None));
+                let _ = store.close();
+            }
+            Err(fault) => assert!(rt; (fault, stop.is_some()) == (OpenFault::Disk, true)),
+        }
+    }
+    Ok(())
+}
+
+/// A store is live, or after a failed call recovers. Says whether the call failed.
+fn has_failed<E>(
+    rt: &impl Abort,
+    store: &mut Store<'_, MemoryDisk>,
+    answer: &Result<(), E>,
+) -> bool {
+    let failed = answer.is_err();
+    let health = if failed { Health::Failed } else { Health::Live };
+    assert!(rt; (store.health(), store.in_transaction()) == (health, false));
+    if failed {
+        assert!(rt; recover_again(rt, store) == Ok(()));
+        assert!(rt; store.health() == Health::Live);
+    }
+    failed
+}
+
+/// Opens a store whose disk fails in this call, and then again. Says whether the first opening
+/// failed.
+fn try_opening(rt: &impl Abort, alloc: Global, call: u64) -> Result<bool, Fail> {
+    let mut disk = new_disk(alloc, &[call], None)?;
+    let failed = match open(alloc, &mut disk) {
+        Ok(store) => {
+            let _ = store.close();
+            false
+        }
+        Err(_) => true,
+    };
+    let mut store = open(alloc, &mut disk)?;
+    assert!(rt; shown(rt, &mut store, FOUR) == Some(0), "call {call}");
+    let _ = store.close();
+    Ok(failed)
+}
+
+/// Commits, runs a checkpoint, recovers, and opens the store again, while one call of the disk
+/// fails. Says in which of these steps that was, and of which transaction the store has the records
+/// from the commit on.
+fn try_failing(rt: &impl Abort, alloc: Global, call: u64) -> Result<([bool; 3], Option<u8>), Fail> {
+    let mut disk = new_disk(alloc, &[call], None)?;
+    let mut store = open(alloc, &mut disk)?;
+    let committed = change(rt, &mut store, 1, FOUR);
+    let committing = has_failed(rt, &mut store, &committed);
+    let count = shown(rt, &mut store, FOUR);
+    let checked = checkpoint(rt, &mut store);
+    let checking = has_failed(rt, &mut store, &checked);
+    let recovered = recover_again(rt, &mut store);
+    let recovering = has_failed(rt, &mut store, &recovered);
+    assert!(rt; shown(rt, &mut store, FOUR) == count, "call {call}");
+    let mut store = open(alloc, store.close())?;
+    assert!(rt; shown(rt, &mut store, FOUR) == count, "call {call}");
+    let _ = store.close();
+    Ok(([committing, checking, recovering], count))
+}
+
+#[test]
+fn each_call_of_the_disk_may_fail(rt: HostRuntime) -> Result<(), Fail> {
+    for call in 1..27 {
+        assert!(rt; try_opening(&rt, rt.alloc(), call)?, "call {call}");
+    }
+    // The first call of each step and its last, the step, and the transaction that the store then
+    // has. The commit is stored once its gate is written, so also where the sync after that fails.
+    let table = [
+        (27, 29, [true, false, false], 0),
+        (30, 30, [true, false, false], 1),
+        (31, 52, [false, true, false], 1),
+        (53, 75, [false, false, true], 1),
+    ];
+    for (first, last, step, count) in table {
+        for call in first..=last {
+            let found = try_failing(&rt, rt.alloc(), call)?;
+            assert!(rt; found == (step, Some(count)), "call {call}");
+        }
+    }
+    Ok(())
+}
+
+/// How a transaction goes: whether it takes records in, whether they are kept, and whether it is
+/// committed.
+#[derive(Clone, Copy, Debug)]
+struct Course {
+    puts: bool,
+    keeps: bool,
+    commits: bool,
+}
+
+/// Goes through a transaction.
+fn go(rt: &impl Abort, store: &mut Store<'_, MemoryDisk>, course: Course) -> Result<(), DiskFault> {
+    let few = if course.puts { FOUR } else { 0 };
+    assert!(rt; store.health() == Health::Live && !store.in_transaction());
+    store.begin();
+    put_all(rt, store, 1, few);
+    assert!(rt; store.in_transaction());
+    if course.keeps {
+        assert!(rt; store.keep() == Ok(()));
+    }
+    assert!(rt; store.health() == Health::Live && store.in_transaction());
+    if course.commits {
+        return store.commit();
+    }
+    store.rollback();
+    Ok(())
+}
+
+#[test]
+fn only_a_commit_of_records_calls_the_disk(rt: HostRuntime) -> Result<(), Fail> {
+    let course = |puts, keeps, commits| Course {
+        puts,
+        keeps,
+        commits,
+    };
+    let table = [
+        (course(false, false, false), Ok(())),
+        (course(true, false, false), Ok(())),
+        (course(true, true, false), Ok(())),
+        (course(false, true, true), Ok(())),
+        (course(true, false, true), Ok(())),
+        (course(true, true, true), Err(Failed)),
+    ];
+    // All calls after those of the opening fail.
+    let mut disk = new_disk(rt.alloc(), &[], Some(27))?;
+    let mut store = open(rt.alloc(), &mut disk)?;
+    for (course, answer) in table {
+        assert!(rt; go(&rt, &mut store, course) == answer, "{course:?}");
+        assert!(rt;
+            (store.in_transaction(), store.meta(NODES)) == (false, Meta::EMPTY),
+            "{course:?}"
+        );
+    }
+    let _ = store.close();
+    Ok(())
+}
+
+/// Commits all names.
+fn change_names(rt: &impl Abort, store: &mut Store<'_, MemoryDisk>) -> Result<(), DiskFault> {
+    assert!(rt; store.health() == Health::Live && !store.in_transaction());
+    store.begin();
+    for id in 0..2_048 {
+        assert!(rt; store.put(Key { file: NAMES, id }, Rec { bytes: [1; 64] }) == Ok(()));
+    }
+    assert!(rt; store.in_transaction());
+    assert!(rt; store.keep() == Ok(()));
+    assert!(rt; store.health() == Health::Live && store.in_transaction());
+    store.commit()
+}
+
+#[test]
+fn a_full_log_is_emptied_by_a_commit(rt: HostRuntime) -> Result<(), Fail> {
+    // How many transactions of 2,048 records are committed, and then the log's first entry. Each is
+    // an entry of 141,315 bytes, and after 555 bytes seven of them have room in the log's
+    // 1,048,576, since 8 * 141,315 = 1,130,520.
+    let table = [(7, [1, 8, 0]), (8, [1, 0, 8])];
+    for (commits, head) in table {
+        let room = Room {
+            calls: 4_096,
+            bytes: 2_097_152,
+        };
+        let mut disk = MemoryDisk::new(rt.alloc(), 16, room, plan(rt.alloc(), &[], None)?)?;
+        let mut store = open(rt.alloc(), &mut disk)?;
+        for _ in 0..commits {
+            assert!(rt; change_names(&rt, &mut store) == Ok(()));
+        }
+        let disk = store.close();
+        let mut bytes = [9; 3];
+        disk.read(LOG, 0, &mut bytes)?;
+        assert!(rt; bytes == head);
+    }
+    Ok(())
+}
+
+/// Puts these bytes, each at a place of a file.
+pub(crate) fn poke_disk(rt: &impl Abort, disk: &mut MemoryDisk, pokes: &[(u8, u64, u8)]) {
+    for (file, at, byte) in pokes {
+        assert!(rt; *file <= INDEX);
+        let room = disk.room(*file);
+        assert!(rt; *at < room);
+        disk.poke(*file, *at, *byte);
+    }
+}
+
+/// The version 1 where a store has the newest, and no meta record of the index.
+pub(crate) const OLDER: &[(u8, u64, u8)] = &[
+    (META, 4, 1),
+    (META, 516, 0),
+    (META, 517, 0),
+    (META, 518, 0),
+    (META, 519, 0),
+    (META, 524, 0),
+    (META, 525, 0),
+    (META, 526, 0),
+    (META, 527, 0),
+];
+
+/// A failed store whose disk then is given these bytes is recovered.
+fn recover_poked(
+    rt: &impl Abort,
+    alloc: Global,
+    pokes: &[(u8, u64, u8)],
+) -> Result<Result<(), AgainFault>, Fail> {
+    // The calls of the opening and of a checkpoint of eight records. The next one fails.
+    let mut disk = TurnedDisk::new(
+        new_disk(alloc, &[46], None)?,
+        Vec::from_slice(alloc, pokes)?,
+    );
+    let mut store = open(alloc, &mut disk)?;
+    assert!(rt; checkpoint(rt, &mut store) == Ok(()));
+    assert!(rt; change(rt, &mut store, 1, FOUR).is_err());
+    let answer = recover_again(rt, &mut store);
+    let _ = store.close();
+    Ok(answer)
+}
+
+#[test]
+fn another_content_is_not_recovered(rt: HostRuntime) -> Result<(), Fail> {
+    let damaged = |file, id, rule| Err(AgainFault::Damaged(Damage { file, id, rule }));
+    let cases: [(&str, &[(u8, u64, u8)], Result<(), AgainFault>); 7] = [
+        ("as it was", &[], Ok(())),
+        ("no mark", &[(META, 0, 0)], damaged(META, 0, 1)),
+        ("another threshold", &[(META, 6, 51)], damaged(META, 0, 1)),
+        ("an older version", OLDER, damaged(META, 0, 1)),
+        (
+            "a byte after the first definition",
+            &[(META, 528, 1)],
+            damaged(META, 8, 1),
+        ),
+        (
+            "too many relationships",
+            &[(META, 131, 1)],
+            damaged(META, 2, 1),
+        ),
+        (
+            "an entry of no record",
+            &[(LOG, 1, 0), (LOG, 0, 1)],
+            damaged(LOG, 0, 0),
+        ),
+    ];
+    for (name, pokes, wanted) in cases {
+        assert!(rt; recover_poked(&rt, rt.alloc(), pokes)? == wanted, "{name}");
+    }
+    Ok(())
+}

@@ -1,0 +1,115 @@
+-- The rules of a well-formed store by name: what each says, which files it reads, and all but some.
+use Rattle.std.specs.Prelude.{◌≡◌, ℕ, nat_eq, Bool, true, false, ◌||◌, List}
+use Rattle.std.specs.List.{list_any}
+use Rattle.std.specs.Prelude.{[], ◌∷◌}
+use Rattle.rec_bytes.specs.declared.shape.Shape.{Shape}
+use Rattle.rec_bytes.specs.Format as format
+use Rattle.rec_bytes.specs.RecordFiles.{is_meta_file, meta_key_of}
+use Rattle.store_rules.specs.Ranges.{AreFormed, is_reused}
+use Rattle.store_rules.specs.Rules.{AreAllLive, AreCounted, AreNamed, AreNames, HasNoIndex}
+use Rattle.store_rules.specs.Rules.{HaveProperties, IsGrouped, IsLinked, IsSplit, property_files}
+use Rattle.store_rules.specs.Views.{Records, degree, first_link, group_at, high, is_live, kind_at}
+use Rattle.store_rules.specs.Views.{node_at, rec_at, rel_at}
+
+-- A rule, by its name. The second is one for each file.
+pub data Rule : Type 0 where
+  Ranges : Rule
+  Split : ℕ → Rule
+  Linked : Rule
+  Grouped : Rule
+  Properties : Rule
+  Labels : Rule
+  Names : Rule
+  Degrees : Rule
+  Unindexed : Rule
+
+-- the number that a damage names it by
+abbrev pub number : Rule → ℕ
+number Ranges = 1
+number (Split file) = 2
+number Linked = 3
+number Grouped = 4
+number Properties = 5
+number Labels = 5
+number Names = 6
+number Degrees = 7
+number Unindexed = 8
+
+-- What may be otherwise in the middle of a change: so many relationships a sparse node may have,
+-- and these groups may be empty.
+pub record Slack : Type 0 where
+  pub most : ℕ
+  pub empty : List ℕ
+
+-- the second rule of one file
+pub record IsSplitFile (records : Records) (file : ℕ) : Type 0 where
+  pub split : is_reused file ≡ true
+      → (free : List ℕ) × IsSplit records file (is_live records file) free
+  pub kept : is_meta_file file ≡ true → is_reused file ≡ false → AreAllLive records file
+
+-- what a rule says
+abbrev pub holds : Rule → Records → Shape → Slack → Type 0
+holds Ranges records shape slack = AreFormed records shape
+holds (Split file) records shape slack = IsSplitFile records file
+holds Linked records shape slack =
+    IsLinked records (kind_at records format.nodes_file) (rel_at records) (group_at records)
+holds Grouped records shape slack =
+    IsGrouped (kind_at records format.nodes_file) (first_link records)
+    (rec_at records format.groups_file) (group_at records) slack.empty
+holds Properties records shape slack =
+    HaveProperties (property_files records) (node_at records) (rel_at records)
+    (high records format.names_file)
+holds Labels records shape slack =
+    AreNamed (node_at records) (rel_at records) (high records format.names_file)
+holds Names records shape slack =
+    AreNames (rec_at records format.names_file) (high records format.names_file)
+holds Degrees records shape slack =
+    AreCounted (kind_at records format.nodes_file) (degree records) (rel_at records)
+    (high records format.relationships_file) slack.most
+holds Unindexed records shape slack = HasNoIndex records
+
+-- the rules that pass the test
+abbrev pub KeepsThose : (Rule → Bool) → Records → Shape → Slack → Type 0
+KeepsThose those records shape slack =
+    (rule : Rule) → those rule ≡ true → holds rule records shape slack
+
+-- all rules
+abbrev pub KeepsAll : Records → Shape → Slack → Type 0
+KeepsAll records shape slack = (rule : Rule) → holds rule records shape slack
+
+-- ---- what a rule reads
+
+-- The file has the same records, its meta record too.
+pub record IsSameFile (s t : Records) (file : ℕ) : Type 0 where
+  pub records : rec_at t file ≡ rec_at s file
+  pub meta : t (meta_key_of file) ≡ s (meta_key_of file)
+
+-- the files that a rule reads, each with its meta record
+abbrev pub reads : Rule → List ℕ
+reads Ranges = []
+reads (Split file) = file ∷ []
+reads Linked = format.nodes_file ∷ format.relationships_file ∷ format.groups_file ∷ []
+reads Grouped = format.nodes_file ∷ format.groups_file ∷ []
+reads Properties =
+    format.nodes_file ∷ format.relationships_file ∷ format.properties_file ∷ format.strings_file
+    ∷ format.names_file ∷ []
+reads Labels = format.nodes_file ∷ format.relationships_file ∷ format.names_file ∷ []
+reads Names = format.names_file ∷ []
+reads Degrees = format.nodes_file ∷ format.relationships_file ∷ []
+reads Unindexed = format.index_file ∷ []
+
+-- it reads what it says of the files that it names alone, and not of all of them as the first rule
+abbrev pub is_local : Rule → Bool
+is_local Ranges = false
+is_local (Split file) = true
+is_local Linked = true
+is_local Grouped = true
+is_local Properties = true
+is_local Labels = true
+is_local Names = true
+is_local Degrees = true
+is_local Unindexed = true
+
+abbrev pub AreSame : Records → Records → List ℕ → Type 0
+AreSame s t [] = Unit {0}
+AreSame s t (file ∷ files) = IsSameFile s t file × AreSame s t files

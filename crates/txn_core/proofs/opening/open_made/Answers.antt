@@ -1,0 +1,41 @@
+use Rattle.std.proofs.Common.{◌≡◌, ◌∙◌, ap, refl, []}
+use Rattle.rec_bytes.specs.Creation.{raised}
+use Rattle.rec_bytes.specs.declared.shape.Shape.{Shape}
+use Rattle.redo_log.proofs.Appends.{HasEntries-read}
+use Rattle.record_file.specs.Records.{record_at}
+use Rattle.txn_core.proofs.Finding.{made_kept, settled_read}
+use Rattle.txn_core.proofs.Raising.{raised_crash, read_crash, space_read}
+use Rattle.txn_core.proofs.opening.open_made.Goals as goal
+
+pub returns-in_err-start-clause-crash : goal.returns-in_err-start-clause-crash
+returns-in_err-start-clause-crash g c reads images log settled = read_crash g.D.Disk c.args.disk.now c.read_made.new.disk c.args.shape log settled c.read_made.ensures.only_reads images
+
+pub returns-in_err-raise-clause-crash : goal.returns-in_err-raise-clause-crash
+returns-in_err-raise-clause-crash g c reads images log settled =
+    let start = c.in_ok-start.start in
+    raised_crash g.D.Disk c.args.disk.now c.read_made.new.disk c.raise.new.disk start.metas.records c.args.shape start.shape log settled c.read_made.ensures.only_reads images (c.in_ok-start.ensures.metas reads) c.in_ok-start.ensures.shape
+    (c.raise.ensures.crash reads images (made_kept g.D.Disk c.args.disk.now c.read_made.new.disk start.metas.records [] refl c.read_made.ensures.only_reads (λ _. log) (λ _ _. settled) c.in_ok-start.ensures.metas))
+
+pub returns-clause-crash : goal.returns-clause-crash
+returns-clause-crash g c reads images log settled =
+    let start = c.in_ok-start.start in
+    raised_crash g.D.Disk c.args.disk.now c.read_made.new.disk c.raise.new.disk start.metas.records c.args.shape start.shape log settled c.read_made.ensures.only_reads images (c.in_ok-start.ensures.metas reads) c.in_ok-start.ensures.shape
+    (c.raise.ensures.crash reads images (made_kept g.D.Disk c.args.disk.now c.read_made.new.disk start.metas.records [] refl c.read_made.ensures.only_reads (λ _. log) (λ _ _. settled) c.in_ok-start.ensures.metas))
+
+pub returns-clause-kept : goal.returns-clause-kept
+returns-clause-kept g c log settled =
+    c.in_ok-raise.ensures.kept (made_kept g.D.Disk c.args.disk.now c.read_made.new.disk c.in_ok-start.start.metas.records [] refl c.read_made.ensures.only_reads log settled c.in_ok-start.ensures.metas)
+
+pub returns-clause-space : goal.returns-clause-space
+returns-clause-space g c reads log settled =
+    let start = c.in_ok-start.start in
+    let first = g.D.Disk.reads c.args.disk.now in
+    c.in_ok-raise.ensures.space reads (made_kept g.D.Disk c.args.disk.now c.read_made.new.disk start.metas.records [] refl c.read_made.ensures.only_reads (λ _. log) (λ _. settled) c.in_ok-start.ensures.metas)
+    ∙ ap (raised start.shape) (space_read first (g.D.Disk.reads c.read_made.new.disk) start.metas.records c.read_made.ensures.only_reads.keeps (c.in_ok-start.ensures.metas reads))
+    ∙ ap (λ (s : Shape). raised s (record_at first)) c.in_ok-start.ensures.shape
+
+pub returns-clause-settled : goal.returns-clause-settled
+returns-clause-settled g c reads images log settled =
+    let first = c.args.disk.now in
+    let mid = c.read_made.new.disk in
+    c.in_ok-raise.ensures.settled reads images (HasEntries-read [] 0 (g.D.Disk.reads first) (g.D.Disk.reads mid) log (c.read_made.ensures.only_reads.keeps 7)) (settled_read g.D.Disk first mid c.read_made.ensures.only_reads images settled)
