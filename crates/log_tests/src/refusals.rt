@@ -34,11 +34,11 @@ fn patched(
     Ok(disk.after_crash(alloc, Crash::New, NO_WRITES, plan)?)
 }
 
-/// The first 512 bytes of each file.
+/// The first 576 bytes of each file, which are all of the first.
 fn first_bytes(alloc: Global, disk: &mut MemoryDisk) -> Result<Vec<u8>, Fail> {
     let mut all = Vec::new(alloc);
-    for file in 0..8 {
-        let mut bytes = [0; 512];
+    for file in 0..9 {
+        let mut bytes = [0; 576];
         disk.read(file, 0, &mut bytes)?;
         all.extend_from_slice(&bytes)?;
     }
