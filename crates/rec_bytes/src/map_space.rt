@@ -81,6 +81,3 @@ impl Space for MapSpace {
         }
     }
 }
-
-#[cfg(test)]
-mod tests;

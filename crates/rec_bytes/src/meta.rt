@@ -104,6 +104,3 @@ fn rest_of(file: u8) -> u8
         META_REST
     }
 }
-
-#[cfg(test)]
-mod tests;

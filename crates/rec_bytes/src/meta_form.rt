@@ -56,6 +56,3 @@ fn is_index_meta(rec: &Rec, file: u8, version: u16, shape: Shape) -> bool
     }
     Meta::is_in_range(rec, file, shape)
 }
-
-#[cfg(test)]
-mod tests;

@@ -112,6 +112,3 @@ fn are_zeros(bytes: &[u8]) -> bool
 {
     bytes.iter().all(|b| *b == 0)
 }
-
-#[cfg(test)]
-mod tests;

@@ -142,6 +142,3 @@ fn is_among(files: &[RecordFile], file: u8) -> bool
 {
     files.iter().any(|entry| file == entry.file)
 }
-
-#[cfg(test)]
-mod tests;

@@ -101,6 +101,3 @@ fn write_mark(rec: &mut Rec)
 {
     rec.bytes[..MARK.len()].copy_from_slice(&MARK);
 }
-
-#[cfg(test)]
-mod tests;

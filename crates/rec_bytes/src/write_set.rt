@@ -308,6 +308,3 @@ fn pair_at(pairs: &[(Key, Rec)], place: usize) -> (Key, Rec)
 {
     pairs[place]
 }
-
-#[cfg(test)]
-mod tests;

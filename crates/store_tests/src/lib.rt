@@ -13,12 +13,22 @@ mod groups_made;
 #[cfg(test)]
 mod identifiers;
 #[cfg(test)]
+mod map_spaces;
+#[cfg(test)]
+mod meta_records;
+#[cfg(test)]
 mod names;
 #[cfg(test)]
 mod nodes;
+#[cfg(test)]
+mod numbers;
 #[cfg(test)]
 mod properties;
 #[cfg(test)]
 mod relationships;
 #[cfg(test)]
+mod shapes;
+#[cfg(test)]
 mod spaces;
+#[cfg(test)]
+mod write_sets;

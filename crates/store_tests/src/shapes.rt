@@ -1,4 +1,4 @@
-use super::*;
+use rec_bytes::{Rec, Shape};
 
 /// The record of threshold 50 and limit 1,048,576.
 fn first() -> Rec {
@@ -21,8 +21,8 @@ fn a_shape_and_its_bytes(rt: HostRuntime) {
     };
     let mut rec = Rec::ZEROS;
     shape.write(&mut rec);
-    assert_eq!(rt; rec, first());
-    assert_eq!(rt; Shape::of(&rec), Some(shape));
+    assert!(rt; rec == first());
+    assert!(rt; Shape::of(&rec) == Some(shape));
 }
 
 #[test]
@@ -51,6 +51,6 @@ fn a_shape_is_read_where_the_record_is_a_stores(rt: HostRuntime) {
         let mut rec = first();
         rec.set_number(at, number);
         let shape = Shape::of(&rec).map(|shape| (shape.threshold, shape.limit));
-        assert_eq!(rt; shape, wanted);
+        assert!(rt; shape == wanted);
     }
 }

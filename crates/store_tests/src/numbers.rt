@@ -1,4 +1,4 @@
-use super::*;
+use rec_bytes::Rec;
 
 /// The record with the bytes 0 to 63.
 fn rising() -> Rec {
@@ -20,10 +20,10 @@ fn numbers_have_the_lowest_byte_first(rt: HostRuntime) {
     ];
     for (at, byte, short, number, wide) in table {
         prove!(at <= 56);
-        assert_eq!(rt; rec.byte(at), byte);
-        assert_eq!(rt; rec.short(at), short);
-        assert_eq!(rt; rec.number(at), number);
-        assert_eq!(rt; rec.wide(at), wide);
+        assert!(rt; rec.byte(at) == byte);
+        assert!(rt; rec.short(at) == short);
+        assert!(rt; rec.number(at) == number);
+        assert!(rt; rec.wide(at) == wide);
     }
 }
 
@@ -40,5 +40,5 @@ fn a_write_leaves_the_other_bytes(rt: HostRuntime) {
         39, 40, 41, 42, 43, 44, 45, 46, 47, 48, 49, 50, 51, 52, 53, 54, 55, 56, 57, 58, 59, 60, 61,
         0xfe, 0xff,
     ];
-    assert_eq!(rt; rec, Rec { bytes: wanted });
+    assert!(rt; rec == Rec { bytes: wanted });
 }

@@ -1,4 +1,4 @@
-use super::*;
+use rec_bytes::{Key, Rec, WriteSet};
 use std::test::Fail;
 
 fn marked(byte: u8) -> Rec {
@@ -32,7 +32,7 @@ fn puts_edits_and_a_merge(rt: HostRuntime) -> Result<(), Fail> {
         other.put_reserved(key, marked(byte));
     }
     let more = set.growth_by(&other);
-    assert_eq!(rt; more, 1);
+    assert!(rt; more == 1);
     set.reserve(more)?;
     set.merge(&other);
     let wanted = [
@@ -42,16 +42,16 @@ fn puts_edits_and_a_merge(rt: HostRuntime) -> Result<(), Fail> {
         (at(2, 1), marked(4)),
         (at(3, 4), marked(8)),
     ];
-    assert_eq!(rt; set.len(), wanted.len());
+    assert!(rt; set.len() == wanted.len());
     for (i, (key, rec)) in wanted.into_iter().enumerate() {
         assert!(rt; i < set.len());
-        assert_eq!(rt; set.at(i), (key, rec));
-        assert_eq!(rt; set.get(i), Some((key, rec)));
-        assert_eq!(rt; set.find(key), Some(rec));
+        assert!(rt; set.at(i) == (key, rec));
+        assert!(rt; set.get(i) == Some((key, rec)));
+        assert!(rt; set.find(key) == Some(rec));
     }
-    assert_eq!(rt; set.get(5), None);
-    assert_eq!(rt; set.find(at(1, 7)), None);
+    assert!(rt; set.get(5) == None);
+    assert!(rt; set.find(at(1, 7)) == None);
     set.clear();
-    assert_eq!(rt; set.len(), 0);
+    assert!(rt; set.len() == 0);
     Ok(())
 }

@@ -1,6 +1,7 @@
-use super::*;
-use crate::files::{NAMES, NODES};
-use crate::space::{change_meta, set_byte, set_number};
+use rec_bytes::{
+    Key, MapSpace, Meta, NAMES, NODES, Reads, Rec, Shape, Space, SpaceFault, change_meta, set_byte,
+    set_number,
+};
 use std::test::Fail;
 
 const SHAPE: Shape = Shape {
@@ -40,7 +41,7 @@ fn a_new_store_has_a_meta_record_a_file(rt: HostRuntime) -> Result<(), Fail> {
     for (file, id, start) in table {
         let key = Key { file, id };
         assert!(rt; key.is_valid());
-        assert_eq!(rt; space.get(key), Ok(starting_with(start)));
+        assert!(rt; space.get(key) == Ok(starting_with(start)));
     }
     Ok(())
 }
@@ -55,11 +56,11 @@ fn change(space: &mut MapSpace) -> Result<(), SpaceFault> {
 #[test]
 fn changes_are_read_back(rt: HostRuntime) -> Result<(), Fail> {
     let mut space = MapSpace::new(rt.alloc(), SHAPE)?;
-    assert_eq!(rt; change(&mut space), Ok(()));
+    assert!(rt; change(&mut space) == Ok(()));
     let wanted = starting_with([1, 9, 9, 9, 1, 2, 3, 4, 9, 9, 9, 9]);
-    assert_eq!(rt; space.get(NODE), Ok(wanted));
-    assert_eq!(rt; space.meta(NODES), COUNTED);
-    assert_eq!(rt; space.meta(NAMES), Meta::EMPTY);
-    assert_eq!(rt; space.shape(), SHAPE);
+    assert!(rt; space.get(NODE) == Ok(wanted));
+    assert!(rt; space.meta(NODES) == COUNTED);
+    assert!(rt; space.meta(NAMES) == Meta::EMPTY);
+    assert!(rt; space.shape() == SHAPE);
     Ok(())
 }
