@@ -25,8 +25,7 @@ pub fn creation(alloc: Global, shape: Shape) -> Result<WriteSet, AllocError>
 }
 
 /// Puts into an empty set what opening adds to a store of an older version: its own record as of
-/// this version, and
-/// the meta record of the index.
+/// this version, and the meta record of the index.
 pub fn put_raising(set: &mut WriteSet, shape: Shape)
     requires empty { set.old.pairs ≡ [] }
     requires room { 2 ≤ set.old.room }

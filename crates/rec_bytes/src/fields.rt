@@ -1,6 +1,5 @@
 //! The places of fields in a record, counted in bytes from its start, by the kind of record.
-//! Numbers stand with
-//! the lowest byte first: a short has 2 bytes, a number 4, a wide number 8.
+//! Numbers stand with the lowest byte first: a short has 2 bytes, a number 4, a wide number 8.
 
 // The store, record 0 of the meta file.
 

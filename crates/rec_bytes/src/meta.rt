@@ -16,8 +16,7 @@ use crate::record_files::room_of;
 use crate::shape::Shape;
 
 /// What a meta record says of its file: the first number that was never given out, the first record
-/// of
-/// the free list or `NIL`, and how many records are in use.
+/// of the free list or `NIL`, and how many records are in use.
 #[derive(Clone, Copy, Debug, PartialEq, Eq)]
 pub struct Meta {
     pub high: u32,
@@ -65,8 +64,7 @@ impl Meta {
     }
 
     /// Whether a meta record may stand for a file in a store of this shape: what was given out
-    /// stays within the
-    /// file's room, the links below that, and nothing stands behind.
+    /// stays within the file's room, the links below that, and nothing stands behind.
     pub fn is_in_range(rec: &Rec, file: u8, shape: Shape) -> bool
         ensures { IsTrue result ↔ IsMetaInRange shape file rec.now }
     {

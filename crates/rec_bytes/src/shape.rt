@@ -17,8 +17,7 @@ use crate::limits::{GREATEST_LIMIT, GREATEST_THRESHOLD, LEAST_LIMIT, LEAST_THRES
 use crate::record::Rec;
 
 /// The shape of a store: a node with more relationships than the threshold is dense, and the limit
-/// says how
-/// many records a file may have.
+/// says how many records a file may have.
 #[derive(Clone, Copy, Debug, PartialEq, Eq)]
 pub struct Shape {
     pub threshold: u16,
@@ -27,8 +26,7 @@ pub struct Shape {
 
 impl Shape {
     /// Reads it from record 0 of the meta file. There is none where the record has another mark or
-    /// version, a
-    /// shape that isn't allowed, or anything behind the fields.
+    /// version, a shape that isn't allowed, or anything behind the fields.
     pub fn of(rec: &Rec) -> Option<Shape>
         ensures value { result ≡ shape_of_record rec.now }
         ensures allowed { IfSome result (λ shape. IsTrue (is_allowed shape)) }
