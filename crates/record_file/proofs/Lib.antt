@@ -1,4 +1,5 @@
 pub mod Files
+pub mod MetaRecords
 pub mod Records
 pub mod Redone
 pub mod Written

@@ -1,6 +1,7 @@
 -- Records stay where their bytes stay.
-use Rattle.std.proofs.Common.{◌≡◌, ◌≢◌, ◌∙◌, ap, sym, subst, ⊎_elim, ◌⊎◌, inl, inr, ℕ, ◌+◌, ◌*◌, ◌≤◌, ◌<◌, Bool, true, false, cond, List, [], length, refl, arith}
+use Rattle.std.proofs.Common.{◌≡◌, ◌≢◌, ◌∙◌, ap, sym, subst, ⊎_elim, ◌⊎◌, inl, inr, ℕ, ◌+◌, ◌*◌, ◌≤◌, ◌<◌, Bool, true, false, cond, List, [], length, take, drop, length-take, refl, arith}
 use mathlib.Core.Bool.{false≢true}
+use Rattle.std.proofs.lemmas.List.{get_or-drop, get_or-take}
 use Rattle.disk_model.specs.Contents.{Files, Holds, Same, SameOutside, bytes_from}
 use Rattle.disk_model.specs.Disk.{Settled}
 use Rattle.disk_model.proofs.Contents.{bytes_from-same, bytes_from-holds}
@@ -48,6 +49,12 @@ record_at-holds key rec content file whole holds =
 pub record_at-read : (key : Key) (bytes : List ℕ) (content : Files) → is_record_file key.file ≡ true → length bytes ≡ 64 → Holds key.file (64 * key.id) bytes content
     → let r : Rec = record { bytes = bytes } in r ≡ record_at content key
 record_at-read key bytes content file whole holds = sym (record_at-holds key (record { bytes = bytes }) content file whole holds)
+
+-- n bytes of those that stand in a file
+pub Holds-part : (file at start n : ℕ) (bytes : List ℕ) (content : Files) → start + n ≤ length bytes → Holds file at bytes content → Holds file (at + start) (take n (drop start bytes)) content
+Holds-part file at start n bytes content within holds i below =
+    let short : i < n = omega (arith, length-take {A = ℕ}, below) in
+    get_or-take n (drop start bytes) i 0 short ∙ get_or-drop start bytes i 0 ∙ holds (start + i) (omega (arith, within)) ∙ ap (content file) (omega arith)
 
 -- keys of the same parts are the same
 pub key-parts : (a b : Key) → a.file ≡ b.file → a.id ≡ b.id → a ≡ b

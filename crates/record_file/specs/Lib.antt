@@ -1,3 +1,4 @@
+pub mod MetaFile
 pub mod Records
 pub mod Redone
 pub mod Unique
