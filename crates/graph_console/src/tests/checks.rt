@@ -7,8 +7,8 @@ use std::test::Fail;
 /// A byte of a file, with its place and its new value.
 type Poke = (u8, u64, u8);
 
-/// The lines that make a store, what is changed in its files, and the lines that are asked then, with
-/// their replies.
+/// The lines that make a store, what is changed in its files, and the lines that are asked then,
+/// with their replies.
 struct Case<'a> {
     made_by: &'a [u8],
     pokes: &'a [Poke],

@@ -230,9 +230,9 @@ fn edges_have_their_weight(rt: HostRuntime) -> Result<(), Fail> {
     let alloc = rt.alloc();
     let words: &[&str] = &["nipakeel", "run", "--threshold", "2"];
     let cases: [(Weighed, &[u8]); 3] = [
-        // The transaction weighs 112 after its first lines: 7, three nodes with 4, edges of 10, 9 and
-        // 21 between nodes of no edge, of one and of two each, loops of 9, 9 and 15, a deletion of 13,
-        // and an edge of 15 to the node that has two edges again. Then 215 edges of 9 each.
+        // The transaction weighs 112 after its first lines: 7, three nodes with 4, edges of 10, 9
+        // and 21 between nodes of no edge, of one and of two each, loops of 9, 9 and 15, a deletion
+        // of 13, and an edge of 15 to the node that has two edges again. Then 215 edges of 9 each.
         (
             Weighed {
                 first: b"begin\nnode a\nnode a\nedge 0 t 1\nedge 0 a 1\nedge 0 t 1\nnode a\nedge 2 t 2\nedge 2 t 2\nedge 2 t 2\ndelete edge 5\nedge 0 t 2\n",

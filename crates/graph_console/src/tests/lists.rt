@@ -178,8 +178,8 @@ impl Line {
     }
 }
 
-/// The identifiers of one kind: the live ones, those that were given back, the last one last, and the
-/// least that was never given out.
+/// The identifiers of one kind: the live ones, those that were given back, the last one last, and
+/// the least that was never given out.
 #[derive(Drop)]
 struct Ids {
     live: Vec<u32>,

@@ -1,4 +1,5 @@
-//! Rows of properties: values of all kinds, keys that come again, long texts, and what has its limit.
+//! Rows of properties: values of all kinds, keys that come again, long texts, and what has its
+//! limit.
 use super::rows::{Row, check_rows, check_words};
 use std::alloc::{AllocError, Global};
 use std::process::Abort;

@@ -31,7 +31,8 @@ const FIRST: &[u8] = b"nodes 1 edges 0 properties 0 blocks 0 names 1\nerror no e
 const SECOND: &[u8] =
     b"nodes 1 edges 0 properties 0 blocks 0 names 2\nerror no edge 0\nerror no node 0\n";
 
-/// A change alone, a transaction that is rolled back, one that is committed, and one that is open at the end.
+/// A change alone, a transaction that is rolled back, one that is committed, and one that is open
+/// at the end.
 const NODES: &[Row] = &[
     (b"node a\n", b"node 0\n", FIRST),
     (b"begin\n", b"ok\n", FIRST),
@@ -163,8 +164,8 @@ fn replies_of(alloc: Global, rows: &[Row]) -> Result<Vec<u8>, AllocError> {
     Ok(replies)
 }
 
-/// What a later run answers to the probe is what was answered, with the line in which the stop came or
-/// without it.
+/// What a later run answers to the probe is what was answered, with the line in which the stop came
+/// or without it.
 fn is_kept(script: Script, ended: &Ended, probed: &[u8]) -> bool {
     let mut rest = ended.output.taken();
     let mut stored = script.nothing;
@@ -314,8 +315,8 @@ fn count_left(
     Ok((ended, left))
 }
 
-/// Stops the opening of the disk at this call, and the next opening too, and then counts the nodes. Says whether the
-/// first opening came to its end.
+/// Stops the opening of the disk at this call, and the next opening too, and then counts the nodes.
+/// Says whether the first opening came to its end.
 fn check_stopped_twice(
     rt: &impl Abort,
     alloc: Global,

@@ -85,8 +85,8 @@ fn each_call_of_the_disk_may_fail(rt: HostRuntime) -> Result<(), Fail> {
             );
         }
     }
-    // The opening's calls come first. A fault before the first `reopen` or in it is over with the second,
-    // and one in that isn't.
+    // The opening's calls come first. A fault before the first `reopen` or in it is over with the
+    // second, and one in that isn't.
     statuses.dedup();
     assert_eq!(rt; statuses.as_slice(), [8, 0, 1, 0].as_slice());
     Ok(())
