@@ -1,16 +1,12 @@
--- The records of the meta file, as they are read and as entries are taken over.
-use Rattle.std.proofs.Common.{◌≡◌, ◌≢◌, ◌∙◌, ap, sym, subst, ⊎_elim, ℕ, suc, ◌+◌, ◌*◌, ◌≤◌, ◌<◌, true, cond, List, [], ◌∷◌, ◌++◌, Some, None, length, take, drop, get_or, set, refl, arith, length-drop}
+-- The records of the meta file, as entries are taken over.
+use Rattle.std.proofs.Common.{◌≡◌, ◌≢◌, ◌∙◌, ap, sym, subst, ⊎_elim, ℕ, suc, ◌+◌, ◌≤◌, cond, List, [], ◌∷◌, ◌++◌, Some, None, length, drop, refl, arith}
 use Rattle.std.proofs.Math.Path.{fun_ext}
-use Rattle.std.proofs.lemmas.Bool.{cases_lt, false≢true}
-use Rattle.std.proofs.lemmas.List.{get_or-take, get_or-drop, get_or-set_same, get_or-set_other, length-take-le}
 use Rattle.std.specs.List.{slice_get}
-use Rattle.disk_model.specs.Contents.{Files, Holds, Same}
-use Rattle.rec_bytes.specs.Format.{log_file, meta_file, meta_records, record_bytes}
+use Rattle.disk_model.specs.Contents.{Files, Same}
+use Rattle.rec_bytes.specs.Format.{log_file}
 use Rattle.rec_bytes.specs.declared.key.Key.{Key}
 use Rattle.rec_bytes.specs.declared.record.Rec.{Rec}
-use Rattle.rec_bytes.specs.Key.{key_eq}
 use Rattle.rec_bytes.specs.Pairs.{Pairs, IsOrdered, find_pair}
-use Rattle.rec_bytes.specs.Record.{zeros}
 use Rattle.rec_bytes.specs.RecordFiles.{meta_key_of}
 use Rattle.rec_bytes.specs.Space.{laid_over, put}
 use Rattle.rec_bytes.proofs.KeyLaws.{key_eq-same}
@@ -20,61 +16,15 @@ use Rattle.redo_log.specs.Reading.{Tells}
 use Rattle.redo_log.specs.declared.entry_answer.EntryAnswer.{EntryAnswer}
 use Rattle.redo_log.proofs.Damage.{HasEntriesUpTo-closed, HasEntriesUpTo-more}
 use Rattle.redo_log.proofs.Entries.{length-writes_from}
+use Rattle.record_file.specs.MetaFile.{AreMetasOf}
 use Rattle.record_file.specs.Records.{record_at}
-use Rattle.record_file.proofs.Records.{cases_key, key-parts, record_at-read}
+use Rattle.record_file.proofs.Records.{cases_key}
 use Rattle.record_file.proofs.Redone.{redone-append}
 use Rattle.record_file.proofs.Written.{find_pair-drop, find_pair-end, find_pair-get}
-use Rattle.recovery.specs.MetaRecords.{AreMetas}
 
 -- contents with the same bytes everywhere are one
 pub same_content : (old new : Files) → Same old new → new ≡ old
 same_content old new same = fun_ext (λ file. fun_ext (λ place. same file place))
-
--- a part of bytes that stand in a file
-Holds-part : (file at n : ℕ) (bytes : List ℕ) (content : Files) → Holds file 0 bytes content → at + n ≤ length bytes → Holds file at (take n (drop at bytes)) content
-Holds-part file at n bytes content holds within i below =
-    let size : length (take n (drop at bytes)) ≡ n = length-take-le n (drop at bytes) (simp length-drop (omega (arith, within))) in
-    let inside : i < n = omega (arith, below, size) in
-    get_or-take n (drop at bytes) i 0 inside ∙ get_or-drop at bytes i 0 ∙ holds (at + i) (omega (arith, inside, within)) ∙ ap (content file) (omega arith)
-
--- the record that stands in the bytes of the meta file
-abbrev pub part_of : List ℕ → ℕ → Rec
-part_of bytes id = record { bytes = take 64 (drop (64 * id) bytes) }
-
-pub part-record_at : (bytes : List ℕ) (content : Files) (id : ℕ) → Holds meta_file 0 bytes content → length bytes ≡ record_bytes * meta_records → id < meta_records → part_of bytes id ≡ record_at content (meta_key_of id)
-part-record_at bytes content id holds long below =
-    let part = take 64 (drop (64 * id) bytes) in
-    let size : length part ≡ 64 = length-take-le 64 (drop (64 * id) bytes) (simp length-drop (omega (arith, long, below))) in
-    record_at-read (meta_key_of id) part content refl size (Holds-part meta_file (64 * id) 64 bytes content holds (omega (arith, long, below)))
-
--- what is written at places one after the other
-pub parts_more : (records : List Rec) (f : ℕ → Rec) (id : ℕ) (rec : Rec) → ((k : ℕ) → k < id → get_or records k zeros ≡ f k) → rec ≡ f id → id < length records → (k : ℕ) → k < id + 1 → get_or (set records id rec) k zeros ≡ f k
-parts_more records f id rec before is within k below =
-    ⊎_elim
-    (λ earlier. get_or-set_other records id k rec zeros (λ e. omega (arith, e, earlier)) ∙ before k earlier)
-    (λ last. let here : k ≡ id = omega (arith, last, below) in subst (λ n. get_or (set records id rec) n zeros ≡ f n) (sym here) (get_or-set_same records id rec zeros within ∙ is))
-    (cases_lt k id)
-
--- a put of a record of the meta file
-pub AreMetas-put : (records : List Rec) (space : Key → Rec) (key : Key) (rec : Rec) → AreMetas records space → key.file ≡ meta_file → key.id < length records → AreMetas (set records key.id rec) (put space key rec)
-AreMetas-put records space key rec are file within id below =
-    ⊎_elim
-    (λ (same : meta_key_of id ≡ key).
-    let here : id ≡ key.id = ap (λ (k : Key). k.id) same in
-    subst (λ n. get_or (set records key.id rec) n zeros ≡ rec) (sym here) (get_or-set_same records key.id rec zeros within)
-    ∙ sym (ap (λ b. cond b rec (space (meta_key_of id))) (subst (λ k. key_eq (meta_key_of id) k ≡ true) same (key_eq-same (meta_key_of id)))))
-    (λ differ.
-    get_or-set_other records key.id id rec zeros (λ e. false≢true (sym differ ∙ subst (λ k. key_eq (meta_key_of id) k ≡ true) (key-parts (meta_key_of id) key (sym file) e) (key_eq-same (meta_key_of id))))
-    ∙ are id below ∙ sym (ap (λ b. cond b rec (space (meta_key_of id))) differ))
-    (cases_key (meta_key_of id) key)
-
--- and of any other
-pub AreMetas-put_other : (records : List Rec) (space : Key → Rec) (key : Key) (rec : Rec) → AreMetas records space → (key.file ≡ meta_file → key.id < meta_records → ⊥) → AreMetas records (put space key rec)
-AreMetas-put_other records space key rec are other id below =
-    ⊎_elim
-    (λ (same : meta_key_of id ≡ key). absurd (other (ap (λ (k : Key). k.file) (sym same)) (subst (λ (k : Key). k.id < meta_records) same below)))
-    (λ differ. are id below ∙ sym (ap (λ b. cond b rec (space (meta_key_of id))) differ))
-    (cases_key (meta_key_of id) key)
 
 -- At each key that is not among the rest the records are laid over.
 abbrev pub AreLaid : (Key → Rec) → Pairs → ℕ → (Key → Rec) → Type 0
@@ -96,35 +46,35 @@ AreLaid-more base now ps i write ordered is are key none =
 -- So many records of the entry are taken over, and where all are, the records are those with the entry laid over them.
 pub record IsTaken (records : List Rec) (base : Key → Rec) (ps : Pairs) (i : ℕ) : Type 0 where
   pub now : Key → Rec
-  pub are : AreMetas records now
+  pub are : AreMetasOf now records
   pub laid : AreLaid base ps i now
 
-pub IsTaken-none : (records : List Rec) (base : Key → Rec) (ps : Pairs) → AreMetas records base → IsTaken records base ps 0
+pub IsTaken-none : (records : List Rec) (base : Key → Rec) (ps : Pairs) → AreMetasOf base records → IsTaken records base ps 0
 IsTaken-none records base ps are = record { now = base; are = are; laid = AreLaid-none base ps }
 
 pub IsTaken-more : (old new : List Rec) (base : Key → Rec) (ps : Pairs) (i : ℕ) (write : Key × Rec) → IsOrdered ps → slice_get ps i ≡ Some write → IsTaken old base ps i
-    → ((space : Key → Rec) → AreMetas old space → AreMetas new (put space write.0 write.1)) → IsTaken new base ps (i + 1)
+    → ((space : Key → Rec) → AreMetasOf space old → AreMetasOf (put space write.0 write.1) new) → IsTaken new base ps (i + 1)
 IsTaken-more old new base ps i write ordered is was puts = record {
   now = put was.now write.0 write.1;
   are = puts was.now was.are;
   laid = AreLaid-more base was.now ps i write ordered is was.laid;
 }
 
-pub IsTaken-all : (records : List Rec) (base : Key → Rec) (ps : Pairs) (i : ℕ) → IsTaken records base ps i → length ps ≤ i → AreMetas records (laid_over base ps)
-IsTaken-all records base ps i is end id below = is.are id below ∙ is.laid (meta_key_of id) (find_pair-end ps i (meta_key_of id) end)
+pub IsTaken-all : (records : List Rec) (base : Key → Rec) (ps : Pairs) (i : ℕ) → IsTaken records base ps i → length ps ≤ i → AreMetasOf (laid_over base ps) records
+IsTaken-all records base ps i is end id below = is.are id below ∙ ap (λ (r : Rec). Some r) (is.laid (meta_key_of id) (find_pair-end ps i (meta_key_of id) end))
 
 -- The log has entries up to the place, and these are the records that they make of the meta file's.
 pub record IsReadTo (content : Files) (place : ℕ) (records : List Rec) : Type 0 where
   pub entries : List Pairs
   pub before : HasEntriesUpTo 0 content entries place
-  pub are : AreMetas records (redone (record_at content) entries)
+  pub are : AreMetasOf (redone (record_at content) entries) records
 
-pub IsReadTo-none : (content : Files) (records : List Rec) → AreMetas records (record_at content) → IsReadTo content 0 records
+pub IsReadTo-none : (content : Files) (records : List Rec) → AreMetasOf (record_at content) records → IsReadTo content 0 records
 IsReadTo-none content records are = record { entries = []; before = refl; are = are }
 
 -- one more
 pub IsReadTo-more : (content : Files) (place next : ℕ) (old new : List Rec) → (was : IsReadTo content place old) → IsEntry content place → next ≡ place + entry_bytes (count_at content place)
-    → ((space : Key → Rec) → AreMetas old space → AreMetas new (laid_over space (entry_at content place))) → IsReadTo content next new
+    → ((space : Key → Rec) → AreMetasOf space old → AreMetasOf (laid_over space (entry_at content place)) new) → IsReadTo content next new
 IsReadTo-more content place next old new was entry next_is taken =
     let e = entry_at content place in
     let long : length e ≡ count_at content place = length-writes_from (count_at content place) (place + 3) content in
@@ -132,7 +82,7 @@ IsReadTo-more content place next old new was entry next_is taken =
     record {
       entries = was.entries ++ e ∷ [];
       before = subst (λ (p : ℕ). HasEntriesUpTo 0 content (was.entries ++ e ∷ []) p) end (HasEntriesUpTo-more was.entries 0 place content was.before entry);
-      are = subst (λ (space : Key → Rec). AreMetas new space) (sym (redone-append was.entries e (record_at content))) (taken (redone (record_at content) was.entries) was.are);
+      are = subst (λ (space : Key → Rec). AreMetasOf space new) (sym (redone-append was.entries e (record_at content))) (taken (redone (record_at content) was.entries) was.are);
     }
 
 -- up to a closed gate the entries are the log's

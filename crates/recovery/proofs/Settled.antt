@@ -1,5 +1,5 @@
 -- Which files are settled, as they are synced one after the other.
-use Rattle.std.proofs.Common.{◌≡◌, ◌∙◌, ap, sym, inl, inr, ⊎_elim, ◌⊎◌, ℕ, zero, suc, ◌+◌, ◌<◌, ◌≤◌, Bool, true, false, ◌&&◌, nat_eq, nat_lt, List, [], ◌∷◌, length, get_or, refl, arith}
+use Rattle.std.proofs.Common.{◌≡◌, ◌∙◌, ap, sym, ⊎_elim, ℕ, zero, suc, ◌+◌, ◌<◌, ◌≤◌, Bool, true, false, ◌&&◌, nat_eq, nat_lt, List, [], ◌∷◌, length, get_or, refl, arith}
 use Rattle.std.proofs.lemmas.Bool.{cases_lt, false≢true}
 use Rattle.std.proofs.lemmas.Bool.Decides.{nat_tests}
 use Rattle.std.proofs.lemmas.List.{get_or_default}
@@ -12,7 +12,7 @@ use Rattle.disk_model.specs.declared.disk.Disk.{Ghosts}
 use Rattle.rec_bytes.specs.declared.record_files.RecordFile.{RecordFile}
 use Rattle.rec_bytes.specs.declared.record_files.RecordRoom.TheVariants.{Limit}
 use Rattle.rec_bytes.specs.Format.{log_file}
-use Rattle.rec_bytes.specs.RecordFiles.{Rooms, is_record_file, record_rooms, rooms_of}
+use Rattle.rec_bytes.specs.RecordFiles.{Rooms, record_rooms, rooms_of}
 use Rattle.rec_bytes.proofs.RecordFiles.{is_among-files}
 use Rattle.record_file.proofs.Files.{record_file_or_log}
 use Rattle.recovery.specs.Syncing.{AreRecordsSettled}

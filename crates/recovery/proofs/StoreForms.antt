@@ -1,5 +1,5 @@
 -- What the records of the meta file say of a store.
-use Rattle.std.proofs.Common.{◌≡◌, ◌∙◌, ap, sym, subst, ⊎_elim, inl, inr, ℕ, ◌+◌, ◌<◌, List, [], ◌∷◌, Some, None, is_some, length, get_or, refl, arith}
+use Rattle.std.proofs.Common.{◌≡◌, ◌∙◌, ap, sym, subst, ⊎_elim, inl, inr, ◌+◌, List, [], ◌∷◌, Option, Some, None, is_some, length, refl, arith}
 use Rattle.std.proofs.lemmas.Bool.{false≢true}
 use Rattle.disk_model.specs.Contents.{Files}
 use Rattle.rec_bytes.specs.Creation.{own_key}
@@ -8,53 +8,65 @@ use Rattle.rec_bytes.specs.declared.record.Rec.{Rec}
 use Rattle.rec_bytes.specs.declared.shape.Shape.{Shape}
 use Rattle.rec_bytes.specs.Pairs.{Pairs}
 use Rattle.rec_bytes.specs.Record.{zeros}
-use Rattle.rec_bytes.specs.Format.{meta_records}
 use Rattle.rec_bytes.specs.RecordFiles.{meta_key_of}
 use Rattle.rec_bytes.specs.Shape.{shape_of_record}
 use Rattle.redo_log.specs.Entries.{HasEntries, entry_bytes}
 use Rattle.redo_log.specs.Redo.{redone}
 use Rattle.redo_log.proofs.Damage.{HasEntries-damaged}
 use Rattle.redo_log.proofs.Entries.{HasEntriesFrom-tail}
+use Rattle.rec_bytes.specs.Space.{blank_records}
+use Rattle.record_file.specs.MetaFile.{AreMetasOf, find_meta}
 use Rattle.record_file.specs.Records.{IsUnmade, record_at}
 use Rattle.record_file.specs.Redone.{Redoes}
 use Rattle.record_file.specs.Unique.{Redoes-unique, entries_unique}
-use Rattle.recovery.specs.declared.meta_records.MetaRecords.{MetaRecords}
+use Rattle.recovery.specs.declared.logged_metas.LoggedMetas.{LoggedMetas}
 use Rattle.recovery.specs.declared.recover_fault.RecoverFault.{RecoverFault}
 use Rattle.recovery.specs.declared.recover_fault.RecoverFault.TheVariants as faults
 use Rattle.recovery.specs.declared.found.Found.{Found}
 use Rattle.recovery.specs.declared.found.Found.TheVariants as founds
 use Rattle.recovery.specs.Finding.{HasMetaRight, IsFound, Refuses, RefusesRecords, Stands}
-use Rattle.recovery.specs.MetaRecords.{HasMetas, IsLogFault}
+use Rattle.recovery.specs.LoggedMetas.{HasMetas, IsLogFault}
 
 -- a log that ends where it begins has no entry
 no_entries : (entries : List Pairs) (content : Files) → HasEntries content entries 0 → entries ≡ []
 no_entries [] content has = refl
 no_entries (entry ∷ later) content has = absurd (omega (arith, HasEntriesFrom-tail later (0 + entry_bytes (length entry)) 0 content has.2))
 
+same_some : (x y : Rec) → let one : Option Rec = Some x in one ≡ Some y → x ≡ y
+same_some x y e = cc
+
 -- no entry, and no byte of the meta file
-pub IsUnmade-of : (content : Files) (metas : MetaRecords) → HasMetas content metas → metas.tail ≡ 0 → ((id : ℕ) → id < meta_records → get_or metas.records id zeros ≡ zeros) → IsUnmade content
-IsUnmade-of content metas has at_start blank =
+pub IsUnmade-of : (content : Files) (logged : LoggedMetas) → HasMetas content logged → logged.tail ≡ 0 → AreMetasOf blank_records logged.metas.records → IsUnmade content
+IsUnmade-of content logged has at_start blank =
     let log : HasEntries content has.entries 0 = subst (λ t. HasEntries content has.entries t) at_start has.log in
     let none = no_entries has.entries content log in
     record {
       log = subst (λ (es : List Pairs). HasEntries content es 0) none log;
-      blank = λ id below. ap (λ (es : List Pairs). redone (record_at content) es (meta_key_of id)) (sym none) ∙ sym (has.are id below) ∙ blank id below;
+      blank = λ id below.
+          let same : Some (redone (record_at content) has.entries (meta_key_of id)) ≡ Some zeros = sym (has.are id below) ∙ blank id below in
+          ap (λ (es : List Pairs). redone (record_at content) es (meta_key_of id)) (sym none) ∙ same_some _ zeros same;
     }
 
-pub at_start-unmade : (content : Files) (metas : MetaRecords) → HasMetas content metas → IsUnmade content → metas.tail ≡ 0
-at_start-unmade content metas has unmade =
-    let none : has.entries ≡ [] = entries_unique has.entries [] 0 metas.tail 0 content has.log unmade.log in
-    let log : HasEntries content [] metas.tail = subst (λ (es : List Pairs). HasEntries content es metas.tail) none has.log in
+pub at_start-unmade : (content : Files) (logged : LoggedMetas) → HasMetas content logged → IsUnmade content → logged.tail ≡ 0
+at_start-unmade content logged has unmade =
+    let none : has.entries ≡ [] = entries_unique has.entries [] 0 logged.tail 0 content has.log unmade.log in
+    let log : HasEntries content [] logged.tail = subst (λ (es : List Pairs). HasEntries content es logged.tail) none has.log in
     sym log.0
 
-pub blank-unmade : (content : Files) (metas : MetaRecords) → HasMetas content metas → IsUnmade content → (id : ℕ) → id < meta_records → get_or metas.records id zeros ≡ zeros
-blank-unmade content metas has unmade id below =
-    let none : has.entries ≡ [] = entries_unique has.entries [] 0 metas.tail 0 content has.log unmade.log in
-    has.are id below ∙ ap (λ (es : List Pairs). redone (record_at content) es (meta_key_of id)) none ∙ unmade.blank id below
+pub blank-unmade : (content : Files) (logged : LoggedMetas) → HasMetas content logged → IsUnmade content → AreMetasOf blank_records logged.metas.records
+blank-unmade content logged has unmade id below =
+    let none : has.entries ≡ [] = entries_unique has.entries [] 0 logged.tail 0 content has.log unmade.log in
+    has.are id below ∙ ap (λ (r : Rec). Some r) (ap (λ (es : List Pairs). redone (record_at content) es (meta_key_of id)) none ∙ unmade.blank id below)
+
+-- the store's own record in memory is the one that the log makes
+pub own_read : (content : Files) (logged : LoggedMetas) (has : HasMetas content logged) (own : Rec) → find_meta logged.metas.records own_key ≡ Some own → redone (record_at content) has.entries own_key ≡ own
+own_read content logged has own is =
+    let same : Some (redone (record_at content) has.entries own_key) ≡ Some own = sym (has.are 0 (omega arith)) ∙ is in
+    same_some _ own same
 
 -- the records of the meta file make the space that the content redoes to
-pub Redoes-metas : (content : Files) (metas : MetaRecords) (has : HasMetas content metas) → Redoes content (redone (record_at content) has.entries)
-Redoes-metas content metas has = record { entries = has.entries; tail = metas.tail; log = has.log; makes = refl }
+pub Redoes-metas : (content : Files) (logged : LoggedMetas) (has : HasMetas content logged) → Redoes content (redone (record_at content) has.entries)
+Redoes-metas content logged has = record { entries = has.entries; tail = logged.tail; log = has.log; makes = refl }
 
 -- a fault of the log's form refuses the content
 pub Refuses-log : (content : Files) (fault : RecoverFault) → IsLogFault content fault → Refuses content fault

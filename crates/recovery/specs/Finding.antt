@@ -14,7 +14,7 @@ use Rattle.rec_bytes.specs.declared.record.Rec.{Rec}
 use Rattle.rec_bytes.specs.declared.shape.Shape.{Shape}
 use Rattle.record_file.specs.Records.{IsUnmade}
 use Rattle.record_file.specs.Redone.{Redoes}
-use Rattle.recovery.specs.MetaRecords.{IsLogDamage}
+use Rattle.recovery.specs.LoggedMetas.{IsLogDamage}
 use Rattle.recovery.specs.RecoverFault.{meta_rule}
 use Rattle.recovery.specs.declared.found.Found.{Found}
 use Rattle.recovery.specs.declared.found.Found.TheVariants as found

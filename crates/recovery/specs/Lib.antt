@@ -1,5 +1,5 @@
 pub mod Finding
-pub mod MetaRecords
+pub mod LoggedMetas
 pub mod RecoverFault
 pub mod Redoing
 pub mod Syncing

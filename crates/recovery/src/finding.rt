@@ -2,26 +2,22 @@ ghost use Rattle.std.specs.Prelude.{
   ◌≡◌,
   ◌≢◌,
   ◌↔◌,
-  ◌<◌,
-  ℕ,
   Err,
   IfErr,
   IfOk,
   IsTrue,
   OnOk,
   Some,
-  slice_index_or,
   true,
 };
 ghost use Rattle.disk_model.specs.Contents.{Files};
 ghost use Rattle.disk_model.specs.Spans.{IsAllSettled, OnlyReads};
 ghost use Rattle.rec_bytes.specs.Creation.{own_key};
-ghost use Rattle.rec_bytes.specs.Format.{meta_records};
-ghost use Rattle.rec_bytes.specs.Record.{zeros};
 ghost use Rattle.rec_bytes.specs.Shape.{shape_of_record};
 ghost use Rattle.rec_bytes.specs.declared.key.Key.{Key as AKey};
 ghost use Rattle.rec_bytes.specs.declared.record.Rec.{Rec as ARec};
 ghost use Rattle.redo_log.specs.Redo.{redone};
+ghost use Rattle.record_file.specs.MetaFile.{AreMetasOf};
 ghost use Rattle.record_file.specs.Records.{IsUnmade, record_at};
 ghost use Rattle.record_file.specs.Redone.{Redoes};
 ghost use Rattle.recovery.specs.Finding.{
@@ -32,15 +28,16 @@ ghost use Rattle.recovery.specs.Finding.{
   Refuses,
   RefusesRecords,
 };
-ghost use Rattle.recovery.specs.MetaRecords.{AreMetas, HasMetas};
+ghost use Rattle.recovery.specs.LoggedMetas.{HasMetas};
 ghost use Rattle.recovery.specs.RecoverFault.{HasCause};
 
 use crate::found::Found;
-use crate::meta_records::{META_COUNT, MetaRecords, find_metas};
+use crate::logged_metas::{LoggedMetas, find_metas};
 use crate::recover_fault::RecoverFault;
 use crate::syncing::sync_files;
 use disk_model::Disk;
-use rec_bytes::{Damage, META, Rec, Shape, is_meta_right, version_of};
+use rec_bytes::{Damage, META, META_RECORDS, Shape, is_meta_right, version_of};
+use record_file::MetaFile;
 
 /// The rule of the records of the meta file: each is one that may stand there.
 const META_RULE: u8 = 1;
@@ -57,63 +54,55 @@ pub(crate) fn find_store<D: Disk>(disk: &mut D) -> Result<Found, RecoverFault>
     ensures cause { HasCause (D.faults disk.old) (D.faults disk.new) result }
 {
     sync_files(disk)?; // Each image is what is read.
-    let metas = find_metas(disk)?;
-    found_of(&metas)
+    let logged = find_metas(disk)?;
+    found_of(&logged)
 }
 
 // What the records of the meta file stand for.
-fn found_of(metas: &MetaRecords) -> Result<Found, RecoverFault>
+fn found_of(logged: &LoggedMetas) -> Result<Found, RecoverFault>
     ensures allowed { IfOk result IsAllowed }
-    ensures found { (content : Files) (has : HasMetas content metas.now)
+    ensures found { (content : Files) (has : HasMetas content logged.now)
         → IfOk result (IsFound content (redone (record_at content) has.entries)) }
-    ensures refused { (content : Files) (has : HasMetas content metas.now)
+    ensures refused { (content : Files) (has : HasMetas content logged.now)
         → IfErr result (RefusesRecords content (redone (record_at content) has.entries)) }
     ensures no_fault { result ≢ Err RecoverFault.Disk }
 {
-    if let Some(shape) = Shape::of(&metas.records[META as usize]) {
-        check_metas(&metas.records, shape)?;
+    if let Some(shape) = Shape::of(&logged.metas.own()) {
+        check_metas(&logged.metas, shape)?;
         return Ok(Found::Made(shape));
     }
-    if is_unmade(metas) {
+    if is_unmade(logged) {
         return Ok(Found::Unmade);
     }
     Err(RecoverFault::NotAStore)
 }
 
 // Whether no entry stands in the log, and nothing in the meta file.
-fn is_unmade(metas: &MetaRecords) -> bool
-    ensures { (content : Files) → HasMetas content metas.now → IsTrue result ↔ IsUnmade content }
+fn is_unmade(logged: &LoggedMetas) -> bool
+    ensures { (content : Files) → HasMetas content logged.now → IsTrue result ↔ IsUnmade content }
 {
-    metas.tail == 0 && are_blank(&metas.records)
+    logged.tail == 0 && logged.metas.is_blank()
 }
 
 // Whether the records of the meta file may stand there in a store of this shape, by ascending
 // number.
-fn check_metas(records: &[Rec; META_COUNT], shape: Shape) -> Result<(), RecoverFault>
-    ensures right { (space : AKey → ARec) → AreMetas records.now space
+fn check_metas(metas: &MetaFile, shape: Shape) -> Result<(), RecoverFault>
+    ensures right { (space : AKey → ARec) → AreMetasOf space metas.now.records
         → OnOk result (HasMetasRight space shape) }
-    ensures wrong { (space : AKey → ARec) → AreMetas records.now space
+    ensures wrong { (space : AKey → ARec) → AreMetasOf space metas.now.records
         → shape_of_record (space own_key) ≡ Some shape → (content : Files)
         → IfErr result (RefusesRecords content space) }
     ensures no_fault { result ≢ Err RecoverFault.Disk }
 {
-    let version = version_of(&records[META as usize]);
-    for id in 0..META_COUNT {
-        if !is_meta_right(&records[id], id as u32, version, shape) {
+    let version = version_of(&metas.own());
+    for id in 0..META_RECORDS {
+        if !is_meta_right(&metas.at(id), id, version, shape) {
             return Err(RecoverFault::Damaged(Damage {
                 file: META,
-                id: id as u32,
+                id,
                 rule: META_RULE,
             }));
         }
     }
     Ok(())
-}
-
-// Whether each record is zeros.
-fn are_blank(records: &[Rec; META_COUNT]) -> bool
-    ensures { IsTrue result ↔ ((id : ℕ) → id < meta_records
-        → slice_index_or records.now id zeros ≡ zeros) }
-{
-    records.iter().all(|rec| *rec == Rec::ZEROS)
 }

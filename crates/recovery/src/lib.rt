@@ -6,7 +6,7 @@
 mod checkpointing;
 mod finding;
 mod found;
-mod meta_records;
+mod logged_metas;
 mod recover_fault;
 mod recovering;
 mod redoing;

@@ -7,7 +7,7 @@ use Rattle.redo_log.specs.Redo.{redone}
 use Rattle.record_file.specs.Records.{record_at}
 use Rattle.record_file.specs.Unique.{Redoes-unique}
 use Rattle.recovery.specs.Finding.{IsFound, RefusesRecords, Refuses}
-use Rattle.recovery.specs.MetaRecords.{HasMetas}
+use Rattle.recovery.specs.LoggedMetas.{HasMetas}
 use Rattle.recovery.specs.declared.recover_fault.RecoverFault.{RecoverFault}
 use Rattle.recovery.proofs.Metas.{same_content}
 use Rattle.recovery.proofs.StoreForms.{Redoes-metas, Refuses-records}
@@ -25,20 +25,20 @@ pub returns-clause-found : goal.returns-clause-found
 returns-clause-found g c reads space redoes =
     let first = g.D.Disk.reads c.args.disk.now in
     let synced = g.D.Disk.reads c.sync_files.new.disk in
-    let has : HasMetas first c.in_ok-metas.metas = subst (λ (content : Files). HasMetas content c.in_ok-metas.metas) (same_content first synced c.sync_files.ensures.only_reads.keeps) (c.in_ok-metas.ensures.found reads) in
-    subst (λ (s : Key → Rec). IfOk c.found_of.result (IsFound first s)) (Redoes-unique first (redone (record_at first) has.entries) space (Redoes-metas first c.in_ok-metas.metas has) redoes) (c.found_of.ensures.found first has)
+    let has : HasMetas first c.in_ok-logged.logged = subst (λ (content : Files). HasMetas content c.in_ok-logged.logged) (same_content first synced c.sync_files.ensures.only_reads.keeps) (c.in_ok-logged.ensures.found reads) in
+    subst (λ (s : Key → Rec). IfOk c.found_of.result (IsFound first s)) (Redoes-unique first (redone (record_at first) has.entries) space (Redoes-metas first c.in_ok-logged.logged has) redoes) (c.found_of.ensures.found first has)
 
 pub returns-clause-intact : goal.returns-clause-intact
 returns-clause-intact g c reads =
     let first = g.D.Disk.reads c.args.disk.now in
     let synced = g.D.Disk.reads c.sync_files.new.disk in
-    let has : HasMetas first c.in_ok-metas.metas = subst (λ (content : Files). HasMetas content c.in_ok-metas.metas) (same_content first synced c.sync_files.ensures.only_reads.keeps) (c.in_ok-metas.ensures.found reads) in
-    on_ok_always c.found_of.result (redone (record_at first) has.entries, Redoes-metas first c.in_ok-metas.metas has)
+    let has : HasMetas first c.in_ok-logged.logged = subst (λ (content : Files). HasMetas content c.in_ok-logged.logged) (same_content first synced c.sync_files.ensures.only_reads.keeps) (c.in_ok-logged.ensures.found reads) in
+    on_ok_always c.found_of.result (redone (record_at first) has.entries, Redoes-metas first c.in_ok-logged.logged has)
 
 pub returns-clause-refused : goal.returns-clause-refused
 returns-clause-refused g c reads =
     let first = g.D.Disk.reads c.args.disk.now in
     let synced = g.D.Disk.reads c.sync_files.new.disk in
-    let has : HasMetas first c.in_ok-metas.metas = subst (λ (content : Files). HasMetas content c.in_ok-metas.metas) (same_content first synced c.sync_files.ensures.only_reads.keeps) (c.in_ok-metas.ensures.found reads) in
+    let has : HasMetas first c.in_ok-logged.logged = subst (λ (content : Files). HasMetas content c.in_ok-logged.logged) (same_content first synced c.sync_files.ensures.only_reads.keeps) (c.in_ok-logged.ensures.found reads) in
     let space = redone (record_at first) has.entries in
-    if_err_weaker c.found_of.result (RefusesRecords first space) (Refuses first) (λ fault. Refuses-records first space fault (Redoes-metas first c.in_ok-metas.metas has)) (c.found_of.ensures.refused first has)
+    if_err_weaker c.found_of.result (RefusesRecords first space) (Refuses first) (λ fault. Refuses-records first space fault (Redoes-metas first c.in_ok-logged.logged has)) (c.found_of.ensures.refused first has)

@@ -1,31 +1,23 @@
 -- The records of the meta file as the log's entries leave them.
-use Rattle.std.specs.Prelude.{◌≡◌, ℕ, ◌<◌, List, slice_index_or}
+use Rattle.std.specs.Prelude.{◌≡◌, List}
 use Rattle.disk_model.specs.Contents.{Files}
-use Rattle.rec_bytes.specs.Format.{log_file, meta_records}
+use Rattle.rec_bytes.specs.Format.{log_file}
 use Rattle.rec_bytes.specs.declared.damage.Damage.{Damage}
-use Rattle.rec_bytes.specs.declared.key.Key.{Key}
-use Rattle.rec_bytes.specs.declared.record.Rec.{Rec}
 use Rattle.rec_bytes.specs.Pairs.{Pairs}
-use Rattle.rec_bytes.specs.Record.{zeros}
-use Rattle.rec_bytes.specs.RecordFiles.{meta_key_of}
 use Rattle.redo_log.specs.Entries.{HasEntries, IsDamagedLog}
 use Rattle.redo_log.specs.Redo.{redone}
+use Rattle.record_file.specs.MetaFile.{AreMetasOf}
 use Rattle.record_file.specs.Records.{record_at}
 use Rattle.recovery.specs.RecoverFault.{log_rule}
-use Rattle.recovery.specs.declared.meta_records.MetaRecords.{MetaRecords}
+use Rattle.recovery.specs.declared.logged_metas.LoggedMetas.{LoggedMetas}
 use Rattle.recovery.specs.declared.recover_fault.RecoverFault.{RecoverFault}
 use Rattle.recovery.specs.declared.recover_fault.RecoverFault.TheVariants as faults
 
--- these are the records that the space has in the meta file
-abbrev pub AreMetas : List Rec → (Key → Rec) → Type 0
-AreMetas records space =
-    (id : ℕ) → id < meta_records → slice_index_or records id zeros ≡ space (meta_key_of id)
-
 -- The log has entries up to the tail, and they make these records of the meta file.
-pub record HasMetas (content : Files) (metas : MetaRecords) : Type 0 where
+pub record HasMetas (content : Files) (logged : LoggedMetas) : Type 0 where
   pub entries : List Pairs
-  pub log : HasEntries content entries metas.tail
-  pub are : AreMetas metas.records (redone (record_at content) entries)
+  pub log : HasEntries content entries logged.tail
+  pub are : AreMetasOf (redone (record_at content) entries) logged.metas.records
 
 -- an open gate of the log stands over another form than an entry, and the damage names its place
 abbrev pub IsLogDamage : Files → Damage → Type 0

@@ -7,11 +7,11 @@ use Rattle.rec_bytes.specs.declared.record.Rec.{Rec}
 use Rattle.redo_log.specs.Entries.{count_at, entry_at}
 use Rattle.redo_log.proofs.Entries.{length-writes_from}
 use Rattle.recovery.proofs.Metas.{IsTaken-all, IsTaken-more, IsTaken-none, same_content}
-use Rattle.recovery.proofs.meta_records.take_entry.Goals as goal
+use Rattle.recovery.proofs.logged_metas.take_entry.Goals as goal
 
 pub loop-index-init : goal.loop-index-init
 loop-index-init g c = record {
-  taken = λ reads at space are. IsTaken-none c.args.records.now space (entry_at (g.D.Disk.reads c.args.disk.now) c.args.place) are;
+  taken = λ reads at space are. IsTaken-none c.args.metas.now.records space (entry_at (g.D.Disk.reads c.args.disk.now) c.args.place) are;
   keeps = λ reads kept. kept;
   only_reads = only_reads_none g.D.Disk c.args.disk.now g.met.D.Disk.only_now;
   later = omega arith;
@@ -29,7 +29,7 @@ loop-index-preserved g c =
           let is : slice_get (entry_at first c.args.place) c.loop-index.index ≡ Some write =
           subst (λ (content : Files). slice_get (entry_at content c.args.place) c.loop-index.index ≡ Some write) same
           (c.in_ok-key.ensures.of_entry reads (c.loop-index.invariant.keeps reads at.kept) (subst (λ (content : Files). c.loop-index.index < count_at content c.args.place) (sym same) below)) in
-          IsTaken-more c.loop-index.records c.put_record.new.records space (entry_at first c.args.place) c.loop-index.index write at.entry.form.rising is (c.loop-index.invariant.taken reads at space are) c.put_record.ensures;
+          IsTaken-more c.loop-index.metas.records c.put.new.self.records space (entry_at first c.args.place) c.loop-index.index write at.entry.form.rising is (c.loop-index.invariant.taken reads at space are) c.put.ensures;
       keeps = λ reads kept. c.write_at.ensures.keeps reads (c.loop-index.invariant.keeps reads kept);
       only_reads = only_reads_on disk c.args.disk.now c.loop-index.disk c.write_at.new.disk c.loop-index.invariant.only_reads c.write_at.ensures.only_reads;
       later = omega (arith, c.loop-index.invariant.later, c.write_at.ensures.cause.later);
@@ -38,5 +38,5 @@ loop-index-preserved g c =
 pub returns-clause-taken : goal.returns-clause-taken
 returns-clause-taken g c reads at space are =
     let first = g.D.Disk.reads c.args.disk.now in
-    IsTaken-all c.loop-index.records space (entry_at first c.args.place) c.loop-index.index (c.loop-index.invariant.taken reads at space are)
+    IsTaken-all c.loop-index.metas.records space (entry_at first c.args.place) c.loop-index.index (c.loop-index.invariant.taken reads at space are)
     (omega (arith, length-writes_from (count_at first c.args.place) (c.args.place + 3) first, at.count_is, c.loop-index-test.false))

@@ -3,11 +3,11 @@ use Rattle.disk_model.specs.Contents.{Files}
 use Rattle.disk_model.proofs.Spans.{only_reads_on}
 use Rattle.redo_log.specs.Entries.{entry_at, entry_bytes}
 use Rattle.redo_log.specs.declared.entry_answer.EntryAnswer.TheVariants.{End, Entry}
-use Rattle.recovery.specs.MetaRecords.{AreMetas}
+use Rattle.record_file.specs.MetaFile.{AreMetasOf}
 use Rattle.rec_bytes.specs.Space.{laid_over}
 use Rattle.recovery.proofs.LogSteps.{IsAtEntry-read}
 use Rattle.recovery.proofs.Metas.{HasEntries-read_to, IsReadTo-more, Tells-same, same_content}
-use Rattle.recovery.proofs.meta_records.find_metas.Goals as goal
+use Rattle.recovery.proofs.logged_metas.find_metas.Goals as goal
 
 pub loop-count-preserved : goal.loop-count-preserved
 loop-count-preserved g c =
@@ -27,8 +27,8 @@ loop-count-preserved g c =
           let at = IsAtEntry-read old mid c.entry_at.new.self place c.in-Entry.count tells.0 tells.1 c.entry_at.ensures.only_reads.keeps (c.entry_at.ensures.keeps reads (was.kept reads)) in
           let told = Tells-same first old place (Entry c.in-Entry.count c.in-Entry.next) was.only_reads.keeps tells in
           let same : mid ≡ first = same_content first mid to_mid.keeps in
-          IsReadTo-more first place c.in-Entry.next c.loop-count.records c.take_entry.new.records (was.read reads) told.0 (told.2 ∙ ap (λ n. place + entry_bytes n) told.1)
-          (λ space are. subst (λ (content : Files). AreMetas c.take_entry.new.records (laid_over space (entry_at content place))) same (c.in_ok-take_entry-in-Entry.ensures.taken reads at space are));
+          IsReadTo-more first place c.in-Entry.next c.loop-count.metas.records c.take_entry.new.metas.records (was.read reads) told.0 (told.2 ∙ ap (λ n. place + entry_bytes n) told.1)
+          (λ space are. subst (λ (content : Files). AreMetasOf (laid_over space (entry_at content place)) c.take_entry.new.metas.records) same (c.in_ok-take_entry-in-Entry.ensures.taken reads at space are));
       only_reads = only_reads_on disk c.args.disk.now c.entry_at.new.disk c.take_entry.new.disk to_mid c.take_entry.ensures.only_reads;
       later = omega (arith, was.later, c.entry_at.ensures.later, c.take_entry.ensures.cause.later);
     }
@@ -39,4 +39,4 @@ returns-in-End-clause-found g c reads =
     let was = c.loop-count.invariant in
     let read = was.read reads in
     let closed = Tells-same first (g.D.Disk.reads c.loop-count.disk) c.loop-count.place End was.only_reads.keeps (c.in-End.ensures.tells reads (was.kept reads)) in
-    record { entries = read.entries; log = HasEntries-read_to first c.loop-count.place c.loop-count.records read closed; are = read.are }
+    record { entries = read.entries; log = HasEntries-read_to first c.loop-count.place c.loop-count.metas.records read closed; are = read.are }
