@@ -20,6 +20,9 @@ impl Graph {
             threshold,
             limit: 16,
         };
+        if !shape.is_allowed() {
+            return Err(Fail::new("no shape of a store"));
+        }
         let mut space = MapSpace::new(rt.alloc(), shape)?;
         let names = load(rt.alloc(), &mut space)?;
         let mut graph = Graph { space, names };
