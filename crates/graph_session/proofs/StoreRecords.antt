@@ -9,7 +9,7 @@ use Rattle.rec_bytes.specs.declared.key.Key.{Key}
 use Rattle.rec_bytes.proofs.KeyLaws.{key_eq-same}
 use Rattle.record_file.specs.Records.{record_at}
 use Rattle.txn_core.specs.Base.{OnlyReadsBase, SameBeneath, committed, content, working}
-use Rattle.txn_core.specs.MetaRecords.{with_metas}
+use Rattle.record_file.specs.MetaFile.{with_metas}
 use Rattle.txn_core.specs.Store as store
 use Rattle.txn_core.specs.declared.base.Base.{Base}
 use Rattle.txn_core.specs.declared.store.Store.{Store}

@@ -4,7 +4,6 @@ use page_cache::PageCache;
 use rec_bytes::{Key, META, NAMES, NODES, Rec};
 use record_file::{read_record, write_record};
 use std::alloc::{AllocError, Global};
-use std::num::NonZeroUsize;
 use std::test::Fail;
 
 #[test]
@@ -25,13 +24,9 @@ fn a_written_record_is_read_back_and_no_other_changes(rt: HostRuntime) -> Result
     Ok(())
 }
 
-// A cache of two pages.
-fn two_pages(alloc: Global) -> Result<PageCache, AllocError> {
-    PageCache::new(alloc, NonZeroUsize::new(2).unwrap())
-}
-
-// Which of these node records are got, one after another, from a disk whose fourth call fails.
-fn got(alloc: Global, ids: &[u32]) -> Result<Vec<bool>, AllocError> {
+// Which of these node records are got, one after another, through so many pages from a disk whose
+// fourth call fails.
+fn got(alloc: Global, pages: usize, ids: &[u32]) -> Result<Vec<bool>, AllocError> {
     let room = Room {
         calls: 8,
         bytes: 64,
@@ -41,7 +36,7 @@ fn got(alloc: Global, ids: &[u32]) -> Result<Vec<bool>, AllocError> {
         stop: Some(4),
     };
     let mut disk = MemoryDisk::new(alloc, 256, room, plan)?;
-    let mut cache = two_pages(alloc)?;
+    let mut cache = PageCache::new(alloc, pages)?;
     let mut got = Vec::new(alloc);
     for id in ids {
         let key = Key {
@@ -55,17 +50,19 @@ fn got(alloc: Global, ids: &[u32]) -> Result<Vec<bool>, AllocError> {
 
 #[test]
 fn the_page_that_was_used_last_stays(rt: HostRuntime) -> Result<(), Fail> {
-    let got_all = got(rt.alloc(), &[0, 64, 0, 128, 0])?;
+    let got_all = got(rt.alloc(), 2, &[0, 64, 0, 128, 0])?;
     assert!(rt; got_all.as_slice() == [true, true, true, true, true].as_slice());
-    let one_gone = got(rt.alloc(), &[0, 64, 128, 0])?;
+    let one_gone = got(rt.alloc(), 2, &[0, 64, 128, 0])?;
     assert!(rt; one_gone.as_slice() == [true, true, true, false].as_slice());
+    let one_kept = got(rt.alloc(), 0, &[0, 1, 64, 0, 64])?;
+    assert!(rt; one_kept.as_slice() == [true, true, true, true, false].as_slice());
     Ok(())
 }
 
 #[test]
 fn a_written_record_is_got_once_its_page_is_forgotten(rt: HostRuntime) -> Result<(), Fail> {
     let mut disk = PlainDisk::new(rt.alloc(), 256)?;
-    let mut cache = two_pages(rt.alloc())?;
+    let mut cache = PageCache::new(rt.alloc(), 2)?;
     let key = Key {
         file: NODES,
         id: 65,

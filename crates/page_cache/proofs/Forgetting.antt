@@ -60,3 +60,8 @@ forgotten_agrees pairs i start now old new end all keeps agrees = record {
   kept = λ key bytes valid there.
       agrees.kept key bytes valid (all.within (page_of key, bytes) there) ∙ sym (keeps key (all.apart key bytes there ∙ find_pair-end pairs i key end));
 }
+
+-- as many pages may be there as before
+pub without_pages-room : (pairs : Pairs) (pages : Pages) → (without_pages pairs pages).cap ≡ pages.cap
+without_pages-room [] pages = refl
+without_pages-room (pair ∷ rest) pages = without_pages-room rest (without_page pair.0 pages)

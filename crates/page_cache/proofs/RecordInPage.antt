@@ -1,20 +1,11 @@
 -- A record stands in its page.
-use Rattle.std.proofs.Common.{◌≡◌, sym, subst, ℕ, ◌+◌, ◌*◌, ◌/◌, ◌%◌, ◌≤◌, true, List, length, take, drop, take-append-drop, length-drop, length-take-le, arith}
+use Rattle.std.proofs.Common.{◌≡◌, sym, subst, ℕ, ◌+◌, ◌*◌, ◌/◌, ◌%◌, ◌≤◌, true, List, length, take, drop, length-drop, length-take-le, arith}
 use Rattle.disk_model.specs.Contents.{Files, Holds}
-use Rattle.disk_model.proofs.Contents.{Holds-back, Holds-front}
 use Rattle.rec_bytes.specs.declared.key.Key.{Key}
 use Rattle.rec_bytes.specs.RecordFiles.{is_record_file}
 use Rattle.record_file.specs.Records.{record_at}
-use Rattle.record_file.proofs.Records.{record_at-read}
+use Rattle.record_file.proofs.Records.{Holds-part, record_at-read}
 use Rattle.page_cache.specs.Pages.{IsPage, page_of, record_in}
-
--- n bytes of those that stand in a file
-Holds-part : (file at k n : ℕ) (bytes : List ℕ) (content : Files) → k ≤ length bytes → Holds file at bytes content → Holds file (at + k) (take n (drop k bytes)) content
-Holds-part file at k n bytes content within holds =
-    let parts = subst (λ b. Holds file at b content) (sym (take-append-drop k bytes)) holds in
-    let rest = Holds-back file at (take k bytes) (drop k bytes) content parts in
-    let after = subst (λ m. Holds file (at + m) (drop k bytes) content) (length-take-le k bytes within) rest in
-    Holds-front file (at + k) (take n (drop k bytes)) (drop n (drop k bytes)) content (subst (λ b. Holds file (at + k) b content) (sym (take-append-drop n (drop k bytes))) after)
 
 pub record_in-is : (content : Files) (key : Key) (bytes : List ℕ) → is_record_file key.file ≡ true → IsPage content (page_of key) bytes → record_in bytes key.id ≡ record_at content key
 record_in-is content key bytes file is =

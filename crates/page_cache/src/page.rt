@@ -1,4 +1,6 @@
+ghost use Rattle.std.proofs.Common.{rules};
 ghost use Rattle.std.specs.Prelude.{◌≡◌, OnOk};
+ghost use Rattle.std.specs.Cmp.Rules.{hashing};
 ghost use Rattle.fault_count.specs.Cause.{HasCause};
 ghost use Rattle.disk_model.specs.Spans.{OnlyReads};
 ghost use Rattle.rec_bytes.specs.Key.{IsKey};
@@ -7,6 +9,7 @@ ghost use Rattle.page_cache.specs.Pages.{IsPage, page_of, record_in};
 use disk_model::Disk;
 use rec_bytes::{DiskFault, Key, RECORD_BYTES, Rec};
 use std::alloc::{AllocError, Global};
+use std::hash::{Hash, Hasher};
 use std::marker::Model;
 
 // How many records a page has, and how many bytes.
@@ -15,10 +18,24 @@ const PAGE_RECORDS: u32 = 64;
 const PAGE_BYTES: usize = 4_096;
 
 /// Which page: its file, and its number in the file. Its first record has 64 times that number.
-#[derive(Clone, Copy, Debug, PartialEq, Eq, Hash)]
+#[derive(Clone, Copy, Debug, PartialEq, Eq)]
 pub struct PageKey {
     pub file: u8,
     pub number: u32,
+}
+
+// One number for both, so that a page that isn't kept costs little to look for.
+impl Hash for PageKey {
+    ghost use Rattle.std.specs.Prelude.{◌*◌, ◌+◌};
+    ghost use Rattle.std.specs.Hash as fed;
+
+    ghost hash_input = { λ page. fed.u64 (16 * page.number + page.file) };
+
+    ghost respects_eq = { Prim.search (hashing, rules) };
+
+    fn hash<H: Hasher>(&self, state: &mut H) {
+        state.write_u64(16 * self.number as u64 + self.file as u64);
+    }
 }
 
 impl PageKey {

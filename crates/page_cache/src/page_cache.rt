@@ -1,12 +1,11 @@
 ghost use Rattle.std.specs.Prelude.{◌≡◌, ◌*◌, [], ℕ, List, Contains, IfOk, IfSome, IsOk, IsSome};
-ghost use Rattle.std.specs.Prelude.{is_some};
+ghost use Rattle.std.specs.Prelude.{is_some, max};
 ghost use Rattle.fault_count.specs.Cause.{HasCause};
 ghost use Rattle.disk_model.specs.Contents.{Files};
 ghost use Rattle.disk_model.specs.Spans.{OnlyReads};
 ghost use Rattle.rec_bytes.specs.Key.{IsKey};
 ghost use Rattle.record_file.specs.Records.{KeepsOthers, SameButRecord, record_at};
 ghost use Rattle.lru.specs.LruCache.{lru_cache};
-ghost use Rattle.std.specs.NonZero.{non_zero_usize_get};
 ghost use Rattle.page_cache.specs.Pages.{Agrees, KeepsPage, kept_page, page_of, used_last};
 ghost use Rattle.page_cache.specs.Pages.{without_page, without_pages};
 
@@ -37,12 +36,13 @@ impl Model for PageCache {
 }
 
 impl PageCache {
-    /// Room for so many pages, and none yet.
-    pub fn new(alloc: Global, pages: NonZeroUsize) -> Result<PageCache, AllocError>
-        ensures empty { IfOk result (λ cache. cache ≡ lru_cache [] (non_zero_usize_get pages)) }
+    /// Room for so many pages, and for one where that is none; no page yet.
+    pub fn new(alloc: Global, pages: usize) -> Result<PageCache, AllocError>
+        ensures empty { IfOk result (λ cache. cache ≡ lru_cache [] (max pages 1)) }
         ensures agrees { IfOk result (λ cache. (content : Files) → Agrees content cache) }
     {
-        let pages = LruCache::new(alloc, pages)?;
+        let room = NonZeroUsize::new(pages).unwrap_or(NonZeroUsize::MIN);
+        let pages = LruCache::new(alloc, room)?;
         Ok(PageCache {
             pages,
             spare: None,
@@ -135,7 +135,13 @@ impl PageCache {
         ensures agrees { (content : Files) → Agrees content self.old → Agrees content self.new }
         ensures used { self.new ≡ used_last key self.old }
     {
-        match self.pages.get(&PageKey::of(key)) {
+        let wanted = PageKey::of(key);
+        if let Some((last, page)) = self.pages.peek_mru() {
+            if *last == wanted {
+                return Some(page.record(key.id)); // It is the first of the list already.
+            }
+        }
+        match self.pages.get(&wanted) {
             Some(page) => Some(page.record(key.id)),
             None => None,
         }

@@ -20,8 +20,8 @@ use Rattle.record_file.proofs.Records.{record_at-kept, record_at-log}
 use Rattle.page_cache.specs.Pages.{Agrees, Pages}
 use Rattle.page_cache.proofs.Agreement.{agrees_same}
 use Rattle.txn_core.specs.Kept.{IsKept, IsOnDisk}
-use Rattle.txn_core.specs.MetaRecords.{AreMetasOf, with_metas}
-use Rattle.txn_core.proofs.Metas.{with_metas-same}
+use Rattle.record_file.specs.MetaFile.{AreMetasOf, with_metas}
+use Rattle.record_file.proofs.MetaRecords.{with_metas-same}
 
 -- the records that are committed
 abbrev pub space_of : {D : Type 0} (g : Ghosts D) → D → List Rec → Pairs → Key → Rec

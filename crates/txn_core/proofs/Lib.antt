@@ -1,7 +1,6 @@
 pub mod Finding
 pub mod Kept
 pub mod Making
-pub mod Metas
 pub mod Raising
 pub mod Sets
 pub mod States

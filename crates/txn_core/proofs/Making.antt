@@ -22,10 +22,10 @@ use Rattle.record_file.specs.Records.{IsUnmade, record_at}
 use Rattle.record_file.proofs.Records.{record_at-log}
 use Rattle.record_file.proofs.Redone.{records-settled, settled-log, settled-records, space-merged}
 use Rattle.txn_core.specs.Kept.{IsKept}
-use Rattle.txn_core.specs.MetaRecords.{AreMetasOf, blank_metas, with_metas}
+use Rattle.record_file.specs.MetaFile.{AreMetasOf, blank_metas, with_metas}
 use Rattle.txn_core.specs.Opening.{IsOldOrNew, made_over}
 use Rattle.txn_core.proofs.Kept.{kept_settled}
-use Rattle.txn_core.proofs.Metas.{with_metas-same}
+use Rattle.record_file.proofs.MetaRecords.{with_metas-same}
 
 -- the first records are an entry
 pub creation_form : (shape : Shape) → IsEntryOf (creation_pairs shape)

@@ -24,10 +24,10 @@ use Rattle.record_file.specs.Redone.{Redoes}
 use Rattle.record_file.proofs.Files.{record_file_or_log}
 use Rattle.record_file.proofs.Redone.{records-settled, settled-log, settled-records}
 use Rattle.txn_core.specs.Kept.{IsKept}
-use Rattle.txn_core.specs.MetaRecords.{AreMetasOf, find_meta, with_metas}
+use Rattle.record_file.specs.MetaFile.{AreMetasOf, find_meta, with_metas}
 use Rattle.txn_core.specs.Opening.{HasOnly, IsOldOrRaised, raising_entries}
 use Rattle.txn_core.proofs.Kept.{Redoes-same, before_or_after, same_records}
-use Rattle.txn_core.proofs.Metas.{with_metas-same}
+use Rattle.record_file.proofs.MetaRecords.{with_metas-same}
 
 -- the store's own record in memory says the version
 pub version_held : (metas : List Rec) (records : Key → Rec) (own : Rec) → find_meta metas own_key ≡ Some own → version_of (with_metas metas records own_key) ≡ version_of own

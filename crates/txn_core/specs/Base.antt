@@ -8,7 +8,7 @@ use Rattle.rec_bytes.specs.declared.record.Rec.{Rec}
 use Rattle.rec_bytes.specs.Space.{laid_over}
 use Rattle.record_file.specs.Records.{record_at}
 use Rattle.txn_core.specs.declared.base.Base.{Base}
-use Rattle.txn_core.specs.MetaRecords.{with_metas}
+use Rattle.record_file.specs.MetaFile.{with_metas}
 
 module _ {D : Type 0} {g : Ghosts D} where
   -- what is read of the disk

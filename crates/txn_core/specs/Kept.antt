@@ -7,7 +7,7 @@ use Rattle.rec_bytes.specs.Pairs.{Held, Pairs, growth_by}
 use Rattle.redo_log.specs.Entries.{Fits}
 use Rattle.record_file.specs.Records.{record_at}
 use Rattle.record_file.specs.Redone.{AreAlike, IsLogged}
-use Rattle.txn_core.specs.MetaRecords.{AreMetasOf}
+use Rattle.record_file.specs.MetaFile.{AreMetasOf}
 
 -- how many records may be changed between two checkpoints
 abbrev pub most_changed : ℕ
@@ -16,6 +16,10 @@ most_changed = 8192
 -- how many records a transaction may write
 abbrev pub most_own : ℕ
 most_own = 2048
+
+-- how many pages of records are kept
+abbrev pub kept_pages : ℕ
+kept_pages = 256
 
 -- the transaction may have these records besides its own
 abbrev pub FitsTransaction : Pairs → Pairs → Type 0

@@ -2,7 +2,6 @@ pub mod Again
 pub mod Base
 pub mod Config
 pub mod Kept
-pub mod MetaRecords
 pub mod OnlyReading
 pub mod Opening
 pub mod Outcomes

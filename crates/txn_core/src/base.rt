@@ -1,13 +1,13 @@
 ghost use Rattle.std.specs.Prelude.{◌≡◌, IsTrue, true};
 ghost use Rattle.rec_bytes.specs.Shape.{is_allowed};
-ghost use Rattle.txn_core.specs.Kept.{AreBounded, IsKept};
+ghost use Rattle.txn_core.specs.Kept.{AreBounded, IsKept, kept_pages};
 ghost use Rattle.txn_core.specs.Unique.{AreBounded-prop, IsCached-prop, IsKept-prop};
 ghost use Rattle.page_cache.specs.Pages.{Agrees};
 
-use crate::meta_records::MetaRecords;
 use disk_model::Disk;
 use page_cache::PageCache;
 use rec_bytes::{Shape, WriteSet};
+use record_file::MetaFile;
 
 /// How many records may be changed between two checkpoints.
 pub(crate) const MOST_CHANGED: usize = 8_192;
@@ -26,7 +26,7 @@ pub struct Base<'d, D: Disk> {
     pub(crate) disk: &'d mut D,
     pub(crate) cache: PageCache,
     pub(crate) shape: Shape,
-    pub(crate) metas: MetaRecords,
+    pub(crate) metas: MetaFile,
     pub(crate) changed: WriteSet,
     pub(crate) own: WriteSet,
     /// Where the log ends.
@@ -35,6 +35,7 @@ pub struct Base<'d, D: Disk> {
     /// Whether a transaction is open.
     pub(crate) in_transaction: bool,
     ghost allowed: { is_allowed shape ≡ true },
+    ghost room: { cache.cap ≡ kept_pages },
 
     // Each record of a kept page is what is read.
     ghost cached: { D.tells_reads

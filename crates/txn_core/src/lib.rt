@@ -10,7 +10,6 @@ mod committing;
 mod config;
 mod fetching;
 mod health;
-mod meta_records;
 mod not_opened;
 mod open_fault;
 mod opening;

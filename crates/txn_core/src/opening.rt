@@ -31,8 +31,8 @@ ghost use Rattle.record_file.specs.Redone.{Redoes};
 ghost use Rattle.recovery.specs.Finding.{IsCareful, IsMade};
 ghost use Rattle.txn_core.specs.Base.{committed};
 ghost use Rattle.txn_core.specs.Config.{Suits, shape_of};
-ghost use Rattle.txn_core.specs.Kept.{IsKept, most_changed};
-ghost use Rattle.txn_core.specs.MetaRecords.{AreMetasOf, with_metas};
+ghost use Rattle.txn_core.specs.Kept.{IsKept, kept_pages, most_changed};
+ghost use Rattle.record_file.specs.MetaFile.{AreMetasOf, with_metas};
 ghost use Rattle.txn_core.specs.Opening.{
   HasOnly,
   HasOpeningEntry,
@@ -48,21 +48,20 @@ ghost use Rattle.txn_core.specs.Opening.{
 };
 
 use crate::base::{Base, KEPT_PAGES, MOST_CHANGED};
-use crate::meta_records::MetaRecords;
 use crate::{Config, NotOpened, OpenFault};
 use disk_model::Disk;
 use page_cache::PageCache;
 use rec_bytes::{DiskFault, Shape, VERSION, WriteSet, creation, put_raising, version_of};
+use record_file::MetaFile;
 use recovery::{Found, RecoverFault, recover};
 use redo_log::append;
 use std::alloc::{AllocError, Global};
-use std::num::NonZeroUsize;
 
 // What a store begins with.
 #[derive(Clone, Copy)]
 struct Start {
     shape: Shape,
-    metas: MetaRecords,
+    metas: MetaFile,
     tail: u64,
 }
 
@@ -169,13 +168,14 @@ impl Sets {
         ensures creation { IfOk result
             (λ sets. sets.creation.pairs ≡ creation_pairs (shape_of config)) }
         ensures cache { IfOk result (λ sets. (content : Files) → Agrees content sets.cache) }
+        ensures pages { IfOk result (λ sets. sets.cache.cap ≡ kept_pages) }
     {
         let mut changed = WriteSet::new(alloc);
         changed.reserve(MOST_CHANGED)?;
         Ok(Sets {
             changed,
             creation: creation(alloc, config.shape())?,
-            cache: PageCache::new(alloc, NonZeroUsize::new(KEPT_PAGES).unwrap())?,
+            cache: PageCache::new(alloc, KEPT_PAGES)?,
         })
     }
 }
@@ -330,7 +330,7 @@ fn read_made<D: Disk>(disk: &mut D, config: Config, shape: Shape) -> Result<Star
     }
     Ok(Start {
         shape,
-        metas: MetaRecords::read(disk)?,
+        metas: MetaFile::read(disk)?,
         tail: 0,
     })
 }
@@ -368,7 +368,7 @@ fn make_new<D: Disk>(
     changed.merge(creation);
     Ok(Start {
         shape,
-        metas: MetaRecords::blank(),
+        metas: MetaFile::blank(),
         tail,
     })
 }

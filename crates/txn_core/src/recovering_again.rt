@@ -21,14 +21,14 @@ ghost use Rattle.record_file.specs.Redone.{Redoes};
 ghost use Rattle.recovery.specs.Finding.{IsCareful, IsMade};
 ghost use Rattle.txn_core.specs.Again.{IsOld, IsRecovered, RefusesAgain, own_damage};
 ghost use Rattle.txn_core.specs.Base.{SameStore, committed, content};
-ghost use Rattle.txn_core.specs.MetaRecords.{AreMetasOf};
+ghost use Rattle.record_file.specs.MetaFile.{AreMetasOf};
 ghost use Rattle.txn_core.specs.Opening.{IsStore};
 
 use crate::AgainFault;
 use crate::base::Base;
-use crate::meta_records::MetaRecords;
 use disk_model::Disk;
 use rec_bytes::{Damage, META, Shape, VERSION, version_of};
+use record_file::MetaFile;
 use recovery::{Found, RecoverFault, recover};
 
 /// The store's own record isn't that of this store: it breaks the rule of the meta records.
@@ -73,7 +73,7 @@ impl<'d, D: Disk> Base<'d, D> {
 }
 
 // Recovers the disk of a store of this shape, and reads its meta records.
-fn find_again<D: Disk>(disk: &mut D, shape: Shape) -> Result<MetaRecords, AgainFault>
+fn find_again<D: Disk>(disk: &mut D, shape: Shape) -> Result<MetaFile, AgainFault>
     ensures crash { D.tells_reads → D.tells_images → (space : AKey → ARec)
         → Redoes (D.reads disk.old) space
         → AtEachMoment D.Disk disk.old disk.new
@@ -106,7 +106,7 @@ fn find_again<D: Disk>(disk: &mut D, shape: Shape) -> Result<MetaRecords, AgainF
 
 // Reads the meta records of a store that was found, if it is of this shape and of the newest
 // version.
-fn read_same<D: Disk>(disk: &mut D, found: Shape, shape: Shape) -> Result<MetaRecords, AgainFault>
+fn read_same<D: Disk>(disk: &mut D, found: Shape, shape: Shape) -> Result<MetaFile, AgainFault>
     ensures same { OnOk result (found ≡ shape) }
     ensures other { D.tells_reads
         → IfErr result (λ fault. (fault ≡ AgainFault.Disk)
@@ -122,7 +122,7 @@ fn read_same<D: Disk>(disk: &mut D, found: Shape, shape: Shape) -> Result<MetaRe
     if found != shape {
         return Err(AgainFault::Damaged(OWN_DAMAGE));
     }
-    let Ok(metas) = MetaRecords::read(disk) else {
+    let Ok(metas) = MetaFile::read(disk) else {
         return Err(AgainFault::Disk);
     };
     if version_of(&metas.own()) < VERSION {

@@ -4,6 +4,7 @@ ghost use Rattle.txn_core.specs.OnlyReading.{only_reads_base_none, only_reads_ba
 ghost use Rattle.txn_core.specs.Store.{state_of};
 
 use crate::Store;
+use crate::fetching::found;
 use disk_model::Disk;
 use rec_bytes::{Key, Meta, Reads, Rec, Shape, Space, SpaceFault, meta_key};
 
@@ -24,7 +25,7 @@ impl<'d, D: Disk> Reads for Store<'d, D> {
 
     fn get(&mut self, key: Key) -> Result<Rec, SpaceFault> {
         self.reads = self.reads.saturating_add(1);
-        if let Some(rec) = self.draft.find(key) {
+        if let Some(rec) = found(&self.draft, key) {
             return Ok(rec);
         }
         match self.base.fetch(key) {
@@ -34,7 +35,7 @@ impl<'d, D: Disk> Reads for Store<'d, D> {
     }
 
     fn meta(&self, file: u8) -> Meta {
-        match self.draft.find(meta_key(file)) {
+        match found(&self.draft, meta_key(file)) {
             Some(rec) => Meta::of(&rec),
             None => Meta::of(&self.base.meta_record(file)),
         }

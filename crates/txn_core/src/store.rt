@@ -27,7 +27,14 @@ ghost use Rattle.record_file.specs.Records.{IsUnmade};
 ghost use Rattle.record_file.specs.Redone.{Redoes};
 ghost use Rattle.recovery.specs.Finding.{IsCareful, IsMade};
 ghost use Rattle.txn_core.specs.Config.{Suits, shape_of};
-ghost use Rattle.txn_core.specs.Kept.{FitsCommit, FitsTransaction, IsKept, IsOnDisk, most_changed};
+ghost use Rattle.txn_core.specs.Kept.{
+  FitsCommit,
+  FitsTransaction,
+  IsKept,
+  IsOnDisk,
+  kept_pages,
+  most_changed,
+};
 ghost use Rattle.txn_core.specs.Opening.{
   HasOpeningEntry,
   IsOldOrNew,
@@ -98,6 +105,9 @@ impl<'d, D: Disk> Store<'d, D> {
         ensures log { D.tells_reads → IfOk result
             (λ store. HasOpeningEntry (D.reads disk.old) store.base.shape
             (D.reads store.base.disk.now)) }
+
+        // So many pages of records are kept, also by later calls.
+        ensures pages { IfOk result (λ store. store.base.cache.cap ≡ kept_pages) }
 
         ensures same_disk { IfOk result
             (λ store. store.base.disk.ghost_name ≡ disk.entry.ghost_name) }

@@ -6,7 +6,7 @@ use Rattle.rec_bytes.specs.Space.{laid_over}
 use Rattle.rec_bytes.specs.declared.shape.Shape.{Shape}
 use Rattle.record_file.specs.Records.{record_at}
 use Rattle.txn_core.specs.Config.{Suits}
-use Rattle.txn_core.specs.MetaRecords.{with_metas}
+use Rattle.record_file.specs.MetaFile.{with_metas}
 use Rattle.txn_core.specs.Opening.{HasOnly, IsStore, OnlyDiffers, RefusesOpening, raising_entries}
 use Rattle.txn_core.specs.declared.opening.Start.{Start}
 use Rattle.txn_core.proofs.Finding.{differs_untouched, if_ok_all, if_ok_both, if_ok_on, made_crash, made_log, made_opened, none_made, one_shape, redoes_own, refuses_differs, unmade_crash, unmade_left, unmade_mid, unmade_opened}

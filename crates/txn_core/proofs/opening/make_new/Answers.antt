@@ -7,7 +7,7 @@ use Rattle.redo_log.specs.Entries.{AllHaveEntries, HasEntries, IsEntryOf, entry_
 use Rattle.std.proofs.Common.{List}
 use Rattle.disk_model.specs.Spans.{AtEachMoment}
 use Rattle.txn_core.specs.Kept.{IsKept}
-use Rattle.txn_core.specs.MetaRecords.{blank_metas}
+use Rattle.record_file.specs.MetaFile.{blank_metas}
 use Rattle.txn_core.proofs.Kept.{kept_appended}
 use Rattle.rec_bytes.proofs.PairLaws.{growth_by_le}
 use Rattle.txn_core.proofs.Sets.{length-merged}

@@ -6,7 +6,7 @@ use Rattle.rec_bytes.specs.Shape.{version_of}
 use Rattle.rec_bytes.specs.Space.{laid_over}
 use Rattle.redo_log.specs.Entries.{HasEntries, entry_bytes}
 use Rattle.record_file.specs.Records.{record_at}
-use Rattle.txn_core.specs.MetaRecords.{with_metas}
+use Rattle.record_file.specs.MetaFile.{with_metas}
 use Rattle.txn_core.specs.Opening.{raising_entries}
 use Rattle.txn_core.proofs.Kept.{appended_space, kept_appended, kept_now}
 use Rattle.txn_core.proofs.Raising.{FindsMerged-first, entries_newest, entries_old, raise_crash, raised_newest, raised_old, settled_appended, version_held}

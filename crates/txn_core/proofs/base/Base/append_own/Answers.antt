@@ -32,6 +32,7 @@ invariant_of-self-2 g c =
     let b = c.args.self.now in
     record {
       allowed = b.allowed;
+      room = b.room;
       cached = λ reads. cached_appended g.D.Disk b.disk.now c.append.new.disk b.cache b.own.pairs b.tail (c.append.ensures.elsewhere reads) (b.cached reads);
       bounded = record { room = omega (arith, c.merge.ensures.room, b.bounded.room); few = b.bounded.few; closed = b.bounded.closed; most = omega (arith, ap (λ (pairs : Pairs). length pairs) c.merge.ensures.pairs, c.requires.few) };
       kept = λ live.
@@ -59,6 +60,7 @@ invariant_of-self g c =
     let b = c.args.self.now in
     record {
       allowed = b.allowed;
+      room = b.room;
       cached = λ reads. cached_appended g.D.Disk b.disk.now c.append.new.disk b.cache b.own.pairs b.tail (c.append.ensures.elsewhere reads) (b.cached reads);
       bounded = b.bounded;
       kept = λ live. absurd (false≢true live);

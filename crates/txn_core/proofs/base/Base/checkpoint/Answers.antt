@@ -1,11 +1,14 @@
 use Rattle.std.proofs.Common.{rules, refl, sym, ◌∙◌, ap, subst, arith, length}
+use Rattle.std.proofs.lemmas.Bool.{false≢true}
 use Rattle.std.proofs.lemmas.Result.{err_from_is_err_and}
 use Rattle.rec_bytes.specs.Pairs.{Pairs}
 use Rattle.rec_bytes.specs.Space.{laid_over}
 use Rattle.rec_bytes.specs.declared.key.Key.{Key}
 use Rattle.rec_bytes.specs.declared.record.Rec.{Rec}
 use Rattle.record_file.specs.Records.{record_at}
-use Rattle.txn_core.specs.MetaRecords.{AreMetasOf}
+use Rattle.record_file.specs.MetaFile.{AreMetasOf}
+use Rattle.page_cache.specs.Pages.{Pages}
+use Rattle.page_cache.proofs.Forgetting.{without_pages-room}
 use Rattle.txn_core.proofs.Kept.{checkpoint_crash, checkpoint_read, kept_settled, on_disk, on_disk_at, plain_space}
 use Rattle.txn_core.proofs.base.Base.checkpoint.Goals as goal
 
@@ -26,12 +29,25 @@ returns-in_err-checkpoint-clause-failed g c =
           (λ reads images. checkpoint_crash g.D.Disk b.disk.now c.checkpoint.new.disk b.metas.records b.changed.pairs b.tail kept reads images (c.checkpoint.ensures.crash reads images));
     })
 
+pub invariant_of-self : goal.invariant_of-self
+invariant_of-self g c =
+    let b = c.args.self.now in
+    let disk = g.D.Disk in
+    record {
+      allowed = b.allowed;
+      room = ap (λ (pages : Pages). pages.cap) c.forget_all.ensures.pages ∙ without_pages-room b.changed.pairs b.cache ∙ b.room;
+      cached = λ reads. c.forget_all.ensures.agrees (disk.reads b.disk.now) (disk.reads c.checkpoint.new.disk) c.checkpoint.ensures.elsewhere (b.cached reads);
+      bounded = b.bounded;
+      kept = λ live. absurd (false≢true live);
+    }
+
 pub invariant_of-self-2 : goal.invariant_of-self-2
 invariant_of-self-2 g c =
     let b = c.args.self.now in
     let disk = g.D.Disk in
     record {
       allowed = b.allowed;
+      room = ap (λ (pages : Pages). pages.cap) c.forget_all.ensures.pages ∙ without_pages-room b.changed.pairs b.cache ∙ b.room;
       cached = λ reads. c.forget_all.ensures.agrees (disk.reads b.disk.now) (disk.reads c.checkpoint.new.disk) c.checkpoint.ensures.elsewhere (b.cached reads);
       bounded = record { room = omega (arith, c.clear.ensures.room, ap (λ (pairs : Pairs). length pairs) c.clear.ensures.pairs, b.bounded.room); few = b.bounded.few; closed = b.bounded.closed; most = omega (arith, ap (λ (pairs : Pairs). length pairs) c.clear.ensures.pairs) };
       kept = λ live.

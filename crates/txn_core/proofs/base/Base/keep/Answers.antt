@@ -10,6 +10,7 @@ invariant_of-self-2 g c =
     let same = c.reserve.ensures.pairs in
     record {
       allowed = c.args.self.now.allowed;
+      room = c.args.self.now.room;
       cached = c.args.self.now.cached;
       bounded = record {
         room = was.room;

@@ -2,6 +2,7 @@ use Rattle.std.proofs.Common.{rules, refl, ◌∙◌, ap, subst, arith, length}
 use Rattle.rec_bytes.specs.Pairs.{Pairs}
 use Rattle.rec_bytes.specs.Space.{laid_over}
 use Rattle.record_file.specs.Records.{record_at}
+use Rattle.page_cache.specs.Pages.{Pages}
 use Rattle.txn_core.specs.Again.{IsOld}
 use Rattle.txn_core.proofs.Kept.{kept_settled, on_disk, plain_space}
 use Rattle.txn_core.proofs.base.Base.recover_again.Goals as goal
@@ -11,6 +12,7 @@ invariant_of-self-2 g c =
     let b = c.args.self.now in
     record {
       allowed = b.allowed;
+      room = ap (λ (pages : Pages). pages.cap) c.clear.ensures.empty ∙ b.room;
       cached = λ reads. c.clear.ensures.agrees (g.D.Disk.reads c.find_again.new.disk);
       bounded = record { room = omega (arith, c.clear-2.ensures.room, ap (λ (pairs : Pairs). length pairs) c.clear-2.ensures.pairs, b.bounded.room); few = b.bounded.few; closed = b.bounded.closed; most = omega (arith, ap (λ (pairs : Pairs). length pairs) c.clear-2.ensures.pairs) };
       kept = λ live. kept_settled g.D.Disk c.find_again.new.disk c.in_ok-self.field-0.records c.clear-2.new.self.pairs c.clear-2.ensures.pairs c.in_ok-self.ensures.emptied c.in_ok-self.ensures.settled c.in_ok-self.ensures.metas;

@@ -6,7 +6,7 @@ use Rattle.rec_bytes.specs.Pairs.{Pairs}
 use Rattle.rec_bytes.specs.Space.{laid_over}
 use Rattle.rec_bytes.proofs.Spaces.{laid_over-merged}
 use Rattle.record_file.specs.Records.{record_at}
-use Rattle.txn_core.specs.MetaRecords.{with_metas}
+use Rattle.record_file.specs.MetaFile.{with_metas}
 use Rattle.txn_core.specs.Base.{SameBeneath, committed, working}
 use Rattle.txn_core.specs.declared.base.Base.{Base}
 use Rattle.txn_core.proofs.store.Store.keep.Goals as goal
