@@ -1,8 +1,7 @@
--- One byte at each pending place of some files.
-use Rattle.std.proofs.Common.{◌≡◌, ◌⊎◌, inl, inr, ⊎_elim, ℕ, suc, ◌+◌, ◌-◌, ◌<◌, ◌≤◌, min, Bool, true, false, not, cond, ◌&&◌, ◌||◌, leb, ltb, List, [], ◌∷◌, ◌++◌, length, get_or, take, drop, replicate, ap, ◌∙◌, refl, sym, arith}
-use Rattle.std.proofs.lemmas.Bool.{cases_lt, cond-true, cond-false, and_from, and_left, and_right, le-leb, lt-leb, lt-ltb, le-ltb}
+-- Bytes that are put in a range of a file where a call counts, and one byte at each pending place.
+use Rattle.std.proofs.Common.{◌≡◌, ⊎_elim, ℕ, suc, ◌+◌, ◌-◌, ◌<◌, ◌≤◌, min, Bool, true, false, not, cond, ◌&&◌, ◌||◌, leb, ltb, List, [], ◌∷◌, length, get_or, take, drop, ap, ◌∙◌, refl, sym, arith}
+use Rattle.std.proofs.lemmas.Bool.{cases_lt, and_from, and_left, and_right, le-leb, lt-leb, lt-ltb, le-ltb}
 use Rattle.std.proofs.lemmas.Grind.{common_steps}
-use Rattle.std.proofs.lemmas.List.{get_or-replicate}
 use Rattle.std.specs.List.{AllByRecursion}
 use Rattle.std.proofs.Math.Seq.{drop-cons}
 use Rattle.disk_model.specs.declared.call_log.KeptCall.{KeptCall}
@@ -10,30 +9,33 @@ use Rattle.disk_model.specs.declared.call_log.KeptCall.TheVariants as kept
 use Rattle.disk_model.specs.Calls.{covers, syncs, is_synced, is_pending, in_range}
 use Rattle.disk_model.specs.CallLog.{call_of, calls_of, IsKeptWithin, kept_covers, kept_syncs, kept_synced, kept_pending}
 
--- a place that is filled, and one that is not
-get_or-copies : (old : List ℕ) (start count byte i : ℕ) → start + count ≤ length old → start ≤ i → i < start + count → get_or (take start old ++ replicate count byte ++ drop (start + count) old) i 0 ≡ byte
-get_or-copies old start count byte i fits low high = grind (arith, common_steps, get_or-replicate)
-
-get_or-others : (old : List ℕ) (start count byte i : ℕ) → start + count ≤ length old → (i < start) ⊎ (start + count ≤ i) → get_or (take start old ++ replicate count byte ++ drop (start + count) old) i 0 ≡ get_or old i 0
-get_or-others old start count byte i fits (inl below) = grind (arith, common_steps)
-get_or-others old start count byte i fits (inr above) = grind (arith, common_steps)
-
-pub get_or-filled : (old : List ℕ) (at len byte i start count : ℕ) → start ≡ min at (length old) → count ≡ min len (length old - start)
-    → get_or (take start old ++ replicate count byte ++ drop (start + count) old) i 0 ≡ cond ((leb at i && ltb i (at + len)) && ltb i (length old)) byte (get_or old i 0)
-get_or-filled old at len byte i start count begins counts =
-    let fits : start + count ≤ length old = omega arith in
+-- a range that is cut at the end of a file
+pub range-cut : (at len size i start count : ℕ) → start ≡ min at size → count ≡ min len (size - start) → (leb start i && ltb i (start + count)) ≡ ((leb at i && ltb i (at + len)) && ltb i size)
+range-cut at len size i start count begins counts =
     ⊎_elim
-    (λ before. get_or-others old start count byte i fits (⊎_elim (λ known. inl (omega arith)) (λ past. inr (omega arith)) (cases_lt i (length old))) ∙ sym (cond-false _ byte (get_or old i 0) (and_left (leb at i && ltb i (at + len)) (ltb i (length old)) (and_left (leb at i) (ltb i (at + len)) (lt-leb at i before)))))
+    (λ before. ⊎_elim
+    (λ known. and_left (leb start i) (ltb i (start + count)) (lt-leb start i (omega arith)))
+    (λ past. and_right (leb start i) (ltb i (start + count)) (le-ltb i (start + count) (omega arith)))
+    (cases_lt i size)
+    ∙ sym (and_left (leb at i && ltb i (at + len)) (ltb i size) (and_left (leb at i) (ltb i (at + len)) (lt-leb at i before))))
     (λ from. ⊎_elim
     (λ within. ⊎_elim
     (λ known.
-    get_or-copies old start count byte i fits (omega arith) (omega arith)
-    ∙ sym (cond-true _ byte (get_or old i 0) (and_from (leb at i && ltb i (at + len)) (ltb i (length old)) (and_from (leb at i) (ltb i (at + len)) (le-leb at i from) (lt-ltb i (at + len) within)) (lt-ltb i (length old) known))))
-    (λ past. get_or-others old start count byte i fits (inr (omega arith)) ∙ sym (cond-false _ byte (get_or old i 0) (and_right (leb at i && ltb i (at + len)) (ltb i (length old)) (le-ltb i (length old) past))))
-    (cases_lt i (length old)))
-    (λ behind. get_or-others old start count byte i fits (inr (omega arith)) ∙ sym (cond-false _ byte (get_or old i 0) (and_left (leb at i && ltb i (at + len)) (ltb i (length old)) (and_right (leb at i) (ltb i (at + len)) (le-ltb i (at + len) behind)))))
+    and_from (leb start i) (ltb i (start + count)) (le-leb start i (omega arith)) (lt-ltb i (start + count) (omega arith))
+    ∙ sym (and_from (leb at i && ltb i (at + len)) (ltb i size) (and_from (leb at i) (ltb i (at + len)) (le-leb at i from) (lt-ltb i (at + len) within)) (lt-ltb i size known)))
+    (λ past.
+    and_right (leb start i) (ltb i (start + count)) (le-ltb i (start + count) (omega arith))
+    ∙ sym (and_right (leb at i && ltb i (at + len)) (ltb i size) (le-ltb i size past)))
+    (cases_lt i size))
+    (λ behind.
+    and_right (leb start i) (ltb i (start + count)) (le-ltb i (start + count) (omega arith))
+    ∙ sym (and_left (leb at i && ltb i (at + len)) (ltb i size) (and_right (leb at i) (ltb i (at + len)) (le-ltb i (at + len) behind))))
     (cases_lt i (at + len)))
     (cases_lt i at)
+
+-- these bytes have new values from one place on and before another, where a test passes
+abbrev pub ArePut : ℕ → ℕ → (ℕ → Bool) → (ℕ → ℕ) → List ℕ → List ℕ → Type 0
+ArePut at end test value first bytes = (k : ℕ) → get_or bytes k 0 ≡ cond ((leb at k && ltb k end) && test k) (value k) (get_or first k 0)
 
 part-length : (bytes : List ℕ) (start len : ℕ) → start + len ≤ length bytes → length (take len (drop start bytes)) ≡ len
 part-length bytes start len within = grind (arith, common_steps)
@@ -78,3 +80,28 @@ pub drop_before : (calls : List KeptCall) (i : ℕ) (d : KeptCall) → 0 < i →
 drop_before calls i d some within =
     let is : suc (i - 1) ≡ i = omega arith in
     drop-cons calls (i - 1) d (omega arith) ∙ ap (λ k. get_or calls (i - 1) d ∷ drop k calls) is
+
+pub and_true : (b : Bool) → (b && true) ≡ b
+and_true true = refl
+and_true false = refl
+
+or_none : (a b : Bool) → (a || (b && false)) ≡ a
+or_none true b = refl
+or_none false true = refl
+or_none false false = refl
+
+-- what is pending by the calls that count at a place, with a call more before them: n of the calls don't count there
+pub kept_pending-before : (call : KeptCall) (later : List KeptCall) (n number file place : ℕ) → kept_pending (drop (n - number) (call ∷ later)) file place ≡ (kept_pending (drop (n - (number + 1)) later) file place || ((kept_covers call file place && not (kept_synced later file)) && leb n number))
+kept_pending-before call later n number file place =
+    let here = kept_covers call file place && not (kept_synced later file) in
+    ⊎_elim
+    (λ uncounted.
+    let more : n - number ≡ suc (n - (number + 1)) = omega arith in
+    ap (λ k. kept_pending (drop k (call ∷ later)) file place) more
+    ∙ sym (ap (λ b. kept_pending (drop (n - (number + 1)) later) file place || (here && b)) (lt-leb n number uncounted) ∙ or_none (kept_pending (drop (n - (number + 1)) later) file place) here))
+    (λ counted.
+    let none : n - number ≡ 0 = omega arith in
+    let none_later : n - (number + 1) ≡ 0 = omega arith in
+    ap (λ k. kept_pending (drop k (call ∷ later)) file place) none
+    ∙ sym (ap (λ k. kept_pending (drop k later) file place || (here && leb n number)) none_later ∙ ap (λ b. kept_pending later file place || (here && b)) (le-leb n number counted) ∙ ap (λ b. kept_pending later file place || b) (and_true here)))
+    (cases_lt number n)

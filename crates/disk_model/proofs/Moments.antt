@@ -6,34 +6,34 @@ use Rattle.std.proofs.lemmas.List.{take-append-le}
 use Rattle.std.proofs.Math.Nat.{le_refl}
 use Rattle.std.proofs.Math.Seq.{take-length}
 use Rattle.fault_count.specs.Cause.{raised}
-use Rattle.disk_model.specs.Contents.{Files, Holds, Same, SameOutside}
+use Rattle.disk_model.specs.Contents.{Files, Same, SameOutside}
 use Rattle.disk_model.specs.Disk.{TornIn, NoMore, Settled, Elapses}
 use Rattle.disk_model.specs.PlainDisk.{contents}
 use Rattle.disk_model.specs.Calls.{Call, Wrote, Tore, Synced, Allows}
 use Rattle.disk_model.specs.MemoryDisk.{MemoryDiskState, content_of, MayLeave, LeftSince, IsAfterFailedWrite}
-use Rattle.disk_model.proofs.Images.{Reaches-wrote, Reaches-tore, TornIn-push, SameOutside-push, NoMore-synced, Settled-synced, Holds-wrote, content-synced}
+use Rattle.disk_model.proofs.Images.{Reaches-wrote, Reaches-tore, TornIn-push, SameOutside-push, NoMore-synced, Settled-synced, content-synced}
 
 -- the images of some moment since t calls were kept
-abbrev pub Since : Files → List Call → ℕ → Files → Type 0
-Since base calls t image = (k : ℕ) × (t ≤ k) × (k ≤ length calls) × Allows base (take k calls) image
+abbrev pub Since : Files → Files → List Call → ℕ → Files → Type 0
+Since base pokes calls t image = (k : ℕ) × (t ≤ k) × (k ≤ length calls) × Allows base pokes (take k calls) image
 
-pub Elapses-same : (base : Files) (calls : List Call) → Elapses (length calls) (length calls) (Since base calls) (Since base calls) (Allows base calls)
-Elapses-same base calls = record { later = le_refl (length calls); nothing_else = λ t image early since. inl since; keeps = λ t image early past. past }
+pub Elapses-same : (base pokes : Files) (calls : List Call) → Elapses (length calls) (length calls) (Since base pokes calls) (Since base pokes calls) (Allows base pokes calls)
+Elapses-same base pokes calls = record { later = le_refl (length calls); nothing_else = λ t image early since. inl since; keeps = λ t image early past. past }
 
-pub Elapses-push : (base : Files) (calls : List Call) (call : Call) → Elapses (length calls) (length (calls ++ call ∷ [])) (Since base calls) (Since base (calls ++ call ∷ [])) (Allows base (calls ++ call ∷ []))
-Elapses-push base calls call =
+pub Elapses-push : (base pokes : Files) (calls : List Call) (call : Call) → Elapses (length calls) (length (calls ++ call ∷ [])) (Since base pokes calls) (Since base pokes (calls ++ call ∷ [])) (Allows base pokes (calls ++ call ∷ []))
+Elapses-push base pokes calls call =
     let more = length-append calls (call ∷ []) in
     record {
       later = omega (arith, more);
       nothing_else = λ t image early since. ⊎_elim
           (λ last.
           let is_now : since.0 ≡ length (calls ++ call ∷ []) = omega (arith, more, since.2, last) in
-          inr (subst (λ cs. Allows base cs image) (take-length (calls ++ call ∷ [])) (subst (λ k. Allows base (take k (calls ++ call ∷ [])) image) is_now since.3)))
-          (λ before. inl (since.0, since.1, before, subst (λ cs. Allows base cs image) (take-append-le since.0 calls (call ∷ []) before) since.3))
+          inr (subst (λ cs. Allows base pokes cs image) (take-length (calls ++ call ∷ [])) (subst (λ k. Allows base pokes (take k (calls ++ call ∷ [])) image) is_now since.3)))
+          (λ before. inl (since.0, since.1, before, subst (λ cs. Allows base pokes cs image) (take-append-le since.0 calls (call ∷ []) before) since.3))
           (cases_lt (length calls) since.0);
       keeps = λ t image early past.
           let within : past.0 ≤ length (calls ++ call ∷ []) = omega (arith, more, past.2) in
-          (past.0, past.1, within, subst (λ cs. Allows base cs image) (sym (take-append-le past.0 calls (call ∷ []) past.2)) past.3);
+          (past.0, past.1, within, subst (λ cs. Allows base pokes cs image) (sym (take-append-le past.0 calls (call ∷ []) past.2)) past.3);
     }
 
 -- a fact that holds after each outcome of a write
@@ -53,8 +53,8 @@ pub crash-write : {T E : Type 0} (result : Result T E) (old new : MemoryDiskStat
     → TornIn file at (length bytes) (MayLeave old) (MayLeave new)
 crash-write result old new file at bytes ok err =
     after_write (λ disk. TornIn file at (length bytes) (MayLeave old) (MayLeave disk)) result old new file at bytes ok err
-    (TornIn-push (contents old.base) old.calls (Wrote file at bytes) file at (length bytes) (Reaches-wrote file at bytes))
-    (TornIn-push (contents old.base) old.calls (Tore file at (length bytes)) file at (length bytes) (Reaches-tore file at (length bytes)))
+    (TornIn-push (contents old.base) (contents old.pokes) old.calls (Wrote file at bytes) file at (length bytes) (Reaches-wrote file at bytes))
+    (TornIn-push (contents old.base) (contents old.pokes) old.calls (Tore file at (length bytes)) file at (length bytes) (Reaches-tore file at (length bytes)))
     (λ image leaves. (image, leaves, λ other place out. refl))
 
 pub elsewhere-write : {T E : Type 0} (result : Result T E) (old new : MemoryDiskState) (file at : ℕ) (bytes : List ℕ)
@@ -63,8 +63,8 @@ pub elsewhere-write : {T E : Type 0} (result : Result T E) (old new : MemoryDisk
     → SameOutside file at (length bytes) (content_of old) (content_of new)
 elsewhere-write result old new file at bytes ok err =
     after_write (λ disk. SameOutside file at (length bytes) (content_of old) (content_of disk)) result old new file at bytes ok err
-    (SameOutside-push (contents old.base) old.calls (Wrote file at bytes) file at (length bytes) (Reaches-wrote file at bytes))
-    (SameOutside-push (contents old.base) old.calls (Tore file at (length bytes)) file at (length bytes) (Reaches-tore file at (length bytes)))
+    (SameOutside-push (contents old.base) (contents old.pokes) old.calls (Wrote file at bytes) file at (length bytes) (Reaches-wrote file at bytes))
+    (SameOutside-push (contents old.base) (contents old.pokes) old.calls (Tore file at (length bytes)) file at (length bytes) (Reaches-tore file at (length bytes)))
     (λ other place out. refl)
 
 pub time-write : {T E : Type 0} (result : Result T E) (old new : MemoryDiskState) (file at : ℕ) (bytes : List ℕ)
@@ -73,15 +73,9 @@ pub time-write : {T E : Type 0} (result : Result T E) (old new : MemoryDiskState
     → Elapses (length old.calls) (length new.calls) (LeftSince old) (LeftSince new) (MayLeave new)
 time-write result old new file at bytes ok err =
     after_write (λ disk. Elapses (length old.calls) (length disk.calls) (LeftSince old) (LeftSince disk) (MayLeave disk)) result old new file at bytes ok err
-    (Elapses-push (contents old.base) old.calls (Wrote file at bytes))
-    (Elapses-push (contents old.base) old.calls (Tore file at (length bytes)))
-    (Elapses-same (contents old.base) old.calls)
-
-pub written-write : {T E : Type 0} (result : Result T E) (old new : MemoryDiskState) (file at : ℕ) (bytes : List ℕ)
-    → OnOk result (new ≡ record old { calls = old.calls ++ Wrote file at bytes ∷ []; made = raised old.made })
-    → OnOk result (Holds file at bytes (content_of new))
-written-write (Ok x) old new file at bytes ok = subst (λ disk. Holds file at bytes (content_of disk)) (sym ok) (Holds-wrote (contents old.base) old.calls file at bytes)
-written-write (Err e) old new file at bytes ok = tt
+    (Elapses-push (contents old.base) (contents old.pokes) old.calls (Wrote file at bytes))
+    (Elapses-push (contents old.base) (contents old.pokes) old.calls (Tore file at (length bytes)))
+    (Elapses-same (contents old.base) (contents old.pokes) old.calls)
 
 -- a fact that holds after each outcome of a sync
 after_sync : {T E : Type 0} (P : MemoryDiskState → Type 0) (result : Result T E) (old new : MemoryDiskState) (file : ℕ)
@@ -99,7 +93,7 @@ pub keeps-sync : {T E : Type 0} (result : Result T E) (old new : MemoryDiskState
     → Same (content_of old) (content_of new)
 keeps-sync result old new file ok err =
     after_sync (λ disk. Same (content_of old) (content_of disk)) result old new file ok err
-    (content-synced (contents old.base) old.calls file)
+    (content-synced (contents old.base) (contents old.pokes) old.calls file)
     (λ other place. refl)
 
 pub crash-sync : {T E : Type 0} (result : Result T E) (old new : MemoryDiskState) (file : ℕ)
@@ -108,7 +102,7 @@ pub crash-sync : {T E : Type 0} (result : Result T E) (old new : MemoryDiskState
     → NoMore (MayLeave old) (MayLeave new)
 crash-sync result old new file ok err =
     after_sync (λ disk. NoMore (MayLeave old) (MayLeave disk)) result old new file ok err
-    (NoMore-synced (contents old.base) old.calls file)
+    (NoMore-synced (contents old.base) (contents old.pokes) old.calls file)
     (λ image leaves. leaves)
 
 pub time-sync : {T E : Type 0} (result : Result T E) (old new : MemoryDiskState) (file : ℕ)
@@ -117,18 +111,11 @@ pub time-sync : {T E : Type 0} (result : Result T E) (old new : MemoryDiskState)
     → Elapses (length old.calls) (length new.calls) (LeftSince old) (LeftSince new) (MayLeave new)
 time-sync result old new file ok err =
     after_sync (λ disk. Elapses (length old.calls) (length disk.calls) (LeftSince old) (LeftSince disk) (MayLeave disk)) result old new file ok err
-    (Elapses-push (contents old.base) old.calls (Synced file))
-    (Elapses-same (contents old.base) old.calls)
+    (Elapses-push (contents old.base) (contents old.pokes) old.calls (Synced file))
+    (Elapses-same (contents old.base) (contents old.pokes) old.calls)
 
 pub settled-sync : {T E : Type 0} (result : Result T E) (old new : MemoryDiskState) (file : ℕ)
     → OnOk result (new ≡ record old { calls = old.calls ++ Synced file ∷ []; made = raised old.made })
     → OnOk result (Settled file (content_of old) (MayLeave new))
-settled-sync (Ok x) old new file ok = subst (λ disk. Settled file (content_of old) (MayLeave disk)) (sym ok) (Settled-synced (contents old.base) old.calls file)
+settled-sync (Ok x) old new file ok = subst (λ disk. Settled file (content_of old) (MayLeave disk)) (sym ok) (Settled-synced (contents old.base) (contents old.pokes) old.calls file)
 settled-sync (Err e) old new file ok = tt
-
-pub time-read : {T E : Type 0} (result : Result T E) (old new : MemoryDiskState)
-    → OnOk result (new ≡ record old { made = raised old.made })
-    → OnErr result (new ≡ record old { made = raised old.made; faults = raised old.faults })
-    → Elapses (length old.calls) (length new.calls) (LeftSince old) (LeftSince new) (MayLeave new)
-time-read (Ok x) old new ok err = subst (λ (disk : MemoryDiskState). Elapses (length old.calls) (length disk.calls) (LeftSince old) (LeftSince disk) (MayLeave disk)) (sym ok) (Elapses-same (contents old.base) old.calls)
-time-read (Err e) old new ok err = subst (λ (disk : MemoryDiskState). Elapses (length old.calls) (length disk.calls) (LeftSince old) (LeftSince disk) (MayLeave disk)) (sym err) (Elapses-same (contents old.base) old.calls)

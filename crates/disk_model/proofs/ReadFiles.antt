@@ -1,15 +1,15 @@
 -- What a read gives, and which places are pending, as one more call is kept.
-use Rattle.std.proofs.Common.{◌≡◌, ⊎_elim, ℕ, zero, suc, ◌+◌, ◌-◌, ◌<◌, ◌≤◌, true, not, cond, ◌&&◌, ltb, List, [], ◌∷◌, ◌++◌, length, get_or, set, ap, ◌∙◌, refl, sym, arith}
+use Rattle.std.proofs.Common.{◌≡◌, ⊎_elim, ℕ, zero, suc, ◌+◌, ◌-◌, ◌<◌, ◌≤◌, true, not, cond, ◌&&◌, ltb, List, [], ◌∷◌, ◌++◌, length, length-append, get_or, set, drop, ap, ◌∙◌, refl, sym, arith}
 use Rattle.std.proofs.lemmas.Bool.{cases_Bool, false≢true, cond-true, cond-false, or_cases, and_parts, both_ways, and_from, and_left, lt-ltb}
 use Rattle.std.proofs.lemmas.Grind.{common_steps}
 use Rattle.std.proofs.lemmas.List.{length-map, get_or_default, get_or_read}
 use Rattle.std.specs.List.{AllByRecursion}
 use Rattle.disk_model.specs.Contents.{Files, InRange}
-use Rattle.disk_model.specs.PlainDisk.{file_of, rooms_of, contents}
-use Rattle.disk_model.specs.Calls.{Call, Wrote, Tore, Synced, FitsFile, in_range, covers, is_synced, is_pending, laid, content_after}
+use Rattle.disk_model.specs.PlainDisk.{file_of, rooms_of, rooms, contents}
+use Rattle.disk_model.specs.Calls.{Call, Wrote, Tore, Synced, FitsFile, in_range, covers, is_synced, is_pending, laid, calls_at, pending_since, content_since}
 use Rattle.disk_model.specs.MemoryDisk.{IsRead}
 use Rattle.disk_model.proofs.Files.{overwritten, SameOutside-write, rooms_of-write}
-use Rattle.disk_model.proofs.Images.{content_after-push, in_range-holds, in_range-is}
+use Rattle.disk_model.proofs.Images.{content_since-push, laid-at, in_range-holds, in_range-is}
 
 room_at : (files : List (List ℕ)) (file : ℕ) → get_or (rooms_of files) file 0 ≡ length (file_of files file)
 room_at [] file = refl
@@ -49,25 +49,36 @@ pending_within base (call ∷ calls) file place fits pending =
     (λ here. covers_within base call file place fits.0 (and_parts (covers call file place) (not (is_synced calls file)) here).0)
     (or_cases (is_pending calls file place) (covers call file place && not (is_synced calls file)) pending)
 
+-- what holds of each in a list holds of each in the end of it
+pub all-drop : {X : Type 0} (P : X → Type 0) (n : ℕ) (xs : List X) → AllByRecursion P xs → AllByRecursion P (drop n xs)
+all-drop P zero xs all = all
+all-drop P (suc n) [] all = tt
+all-drop P (suc n) (x ∷ xs) all = all-drop P n xs all.1
+
+pub pending_since_within : (base : List (List ℕ)) (pokes : Files) (calls : List Call) (file place : ℕ) → AllByRecursion (FitsFile base) calls → pending_since pokes calls file place ≡ true → place < length (file_of base file)
+pending_since_within base pokes calls file place fits pending = pending_within base (calls_at pokes calls file place) file place (all-drop (FitsFile base) (pokes file place) calls fits) pending
+
 fits-push : (base : List (List ℕ)) (calls : List Call) (call : Call) → AllByRecursion (FitsFile base) calls → FitsFile base call → AllByRecursion (FitsFile base) (calls ++ call ∷ [])
 fits-push base [] call before new = (new, tt)
 fits-push base (first ∷ calls) call before new = (before.0, fits-push base calls call before.1 new)
 
-pub IsRead-tore : (base files : List (List ℕ)) (calls : List Call) (file at n : ℕ) → IsRead base files calls → at + n ≤ length (file_of base file) → IsRead base files (calls ++ Tore file at n ∷ [])
-IsRead-tore base files calls file at n read fits = record {
+-- a call more is kept, and these files have what it lays
+IsRead-push : (base pokes files new : List (List ℕ)) (calls : List Call) (call : Call) → IsRead base pokes files calls → rooms_of new ≡ rooms_of base
+    → ((f p : ℕ) → contents new f p ≡ laid call (content_since (contents base) (contents pokes) calls) f p) → FitsFile base call → IsRead base pokes new (calls ++ call ∷ [])
+IsRead-push base pokes files new calls call read rooms lays fits = record {
   count = read.count;
-  same_rooms = read.same_rooms;
-  reads = λ other place. read.reads other place ∙ sym (ap (λ (c : Files). c other place) (content_after-push (contents base) calls (Tore file at n)));
-  fits = fits-push base calls (Tore file at n) read.fits fits;
+  same_rooms = rooms;
+  poke_rooms = read.poke_rooms;
+  past = λ f p. omega (arith, read.past f p, length-append calls (call ∷ []));
+  reads = λ f p. lays f p ∙ sym (content_since-push (contents base) (contents pokes) calls call f p (read.past f p));
+  fits = fits-push base calls call read.fits fits;
 }
 
-pub IsRead-synced : (base files : List (List ℕ)) (calls : List Call) (file : ℕ) → IsRead base files calls → IsRead base files (calls ++ Synced file ∷ [])
-IsRead-synced base files calls file read = record {
-  count = read.count;
-  same_rooms = read.same_rooms;
-  reads = λ other place. read.reads other place ∙ sym (ap (λ (c : Files). c other place) (content_after-push (contents base) calls (Synced file)));
-  fits = fits-push base calls (Synced file) read.fits tt;
-}
+pub IsRead-tore : (base pokes files : List (List ℕ)) (calls : List Call) (file at n : ℕ) → IsRead base pokes files calls → at + n ≤ length (file_of base file) → IsRead base pokes files (calls ++ Tore file at n ∷ [])
+IsRead-tore base pokes files calls file at n read fits = IsRead-push base pokes files files calls (Tore file at n) read read.same_rooms read.reads fits
+
+pub IsRead-synced : (base pokes files : List (List ℕ)) (calls : List Call) (file : ℕ) → IsRead base pokes files calls → IsRead base pokes files (calls ++ Synced file ∷ [])
+IsRead-synced base pokes files calls file read = IsRead-push base pokes files files calls (Synced file) read read.same_rooms read.reads tt
 
 byte-overwritten : (old : List ℕ) (at : ℕ) (bytes : List ℕ) (place : ℕ) → at + length bytes ≤ length old → at ≤ place → place < at + length bytes → get_or (overwritten old at bytes) place 0 ≡ get_or bytes (place - at) 0
 byte-overwritten old at bytes place fits low high = grind (arith, common_steps)
@@ -89,36 +100,28 @@ contents-wrote files file at bytes new other place known fits is =
     ∙ sym (cond-false (in_range file at (length bytes) other place) _ _ out))
     (cases_Bool (in_range file at (length bytes) other place))
 
-pub laid-same : (call : Call) (a b : Files) (other place : ℕ) → ((f p : ℕ) → a f p ≡ b f p) → laid call a other place ≡ laid call b other place
-laid-same (Wrote file at bytes) a b other place same = ap (λ x. cond (in_range file at (length bytes) other place) (get_or bytes (place - at) 0) x) (same other place)
-laid-same (Tore file at n) a b other place same = same other place
-laid-same (Synced file) a b other place same = same other place
-
-pub IsRead-wrote : (base files : List (List ℕ)) (calls : List Call) (file at : ℕ) (bytes new : List ℕ) → IsRead base files calls → file < length files → at + length bytes ≤ length (file_of base file)
-    → new ≡ overwritten (file_of files file) at bytes → IsRead base (set files file new) (calls ++ Wrote file at bytes ∷ [])
-IsRead-wrote base files calls file at bytes new read known fits is =
+pub IsRead-wrote : (base pokes files : List (List ℕ)) (calls : List Call) (file at : ℕ) (bytes new : List ℕ) → IsRead base pokes files calls → file < length files → at + length bytes ≤ length (file_of base file)
+    → new ≡ overwritten (file_of files file) at bytes → IsRead base pokes (set files file new) (calls ++ Wrote file at bytes ∷ [])
+IsRead-wrote base pokes files calls file at bytes new read known fits is =
     let room : at + length bytes ≤ length (file_of files file) = omega (arith, same_room files base file read.same_rooms) in
-    record {
-      count = read.count;
-      same_rooms = rooms_of-write files file at bytes new room is ∙ read.same_rooms;
-      reads = λ other place.
-          contents-wrote files file at bytes new other place known room is
-          ∙ laid-same (Wrote file at bytes) (contents files) (content_after (contents base) calls) other place read.reads
-          ∙ sym (ap (λ (c : Files). c other place) (content_after-push (contents base) calls (Wrote file at bytes)));
-      fits = fits-push base calls (Wrote file at bytes) read.fits fits;
-    }
+    IsRead-push base pokes files (set files file new) calls (Wrote file at bytes) read
+    (rooms_of-write files file at bytes new room is ∙ read.same_rooms)
+    (λ other place.
+    contents-wrote files file at bytes new other place known room is
+    ∙ laid-at (Wrote file at bytes) (contents files) (content_since (contents base) (contents pokes) calls) other place (read.reads other place))
+    fits
 
 -- the files as they are read with one byte at each pending place
-pub filled-pending : (base files : List (List ℕ)) (calls : List Call) (byte file place : ℕ) → IsRead base files calls
-    → cond (is_pending calls file place && ltb place (length (file_of files file))) byte (contents files file place) ≡ cond (is_pending calls file place) byte (content_after (contents base) calls file place)
-filled-pending base files calls byte file place read =
+pub filled-pending : (base pokes files : List (List ℕ)) (calls : List Call) (byte file place : ℕ) → IsRead base pokes files calls
+    → cond (pending_since (contents pokes) calls file place && ltb place (length (file_of files file))) byte (contents files file place) ≡ cond (pending_since (contents pokes) calls file place) byte (content_since (contents base) (contents pokes) calls file place)
+filled-pending base pokes files calls byte file place read =
     ⊎_elim
     (λ pending.
-    let known : place < length (file_of files file) = omega (arith, pending_within base calls file place read.fits pending, same_room files base file read.same_rooms) in
-    cond-true _ byte (contents files file place) (and_from (is_pending calls file place) (ltb place (length (file_of files file))) pending (lt-ltb place (length (file_of files file)) known))
-    ∙ sym (cond-true (is_pending calls file place) byte (content_after (contents base) calls file place) pending))
+    let known : place < length (file_of files file) = omega (arith, pending_since_within base (contents pokes) calls file place read.fits pending, same_room files base file read.same_rooms) in
+    cond-true _ byte (contents files file place) (and_from (pending_since (contents pokes) calls file place) (ltb place (length (file_of files file))) pending (lt-ltb place (length (file_of files file)) known))
+    ∙ sym (cond-true (pending_since (contents pokes) calls file place) byte (content_since (contents base) (contents pokes) calls file place) pending))
     (λ settled.
-    cond-false _ byte (contents files file place) (and_left (is_pending calls file place) (ltb place (length (file_of files file))) settled)
+    cond-false _ byte (contents files file place) (and_left (pending_since (contents pokes) calls file place) (ltb place (length (file_of files file))) settled)
     ∙ read.reads file place
-    ∙ sym (cond-false (is_pending calls file place) byte (content_after (contents base) calls file place) settled))
-    (cases_Bool (is_pending calls file place))
+    ∙ sym (cond-false (pending_since (contents pokes) calls file place) byte (content_since (contents base) (contents pokes) calls file place) settled))
+    (cases_Bool (pending_since (contents pokes) calls file place))

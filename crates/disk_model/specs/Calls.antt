@@ -21,6 +21,7 @@ use Rattle.std.specs.Prelude.{
   ⊤,
   length,
   slice_index,
+  drop,
 }
 use Rattle.disk_model.specs.Contents.{Files}
 use Rattle.disk_model.specs.PlainDisk.{file_of}
@@ -72,11 +73,25 @@ abbrev pub content_after : Files → List Call → Files
 content_after base [] = base
 content_after base (call ∷ calls) = content_after (laid call base) calls
 
+-- the calls that count at a place: those that were kept since it was poked, where that is told by
+-- how many had been kept then
+abbrev pub calls_at : Files → List Call → ℕ → ℕ → List Call
+calls_at pokes calls file place = drop (pokes file place) calls
+
+-- whether a place is pending by the calls that count there
+abbrev pub pending_since : Files → List Call → ℕ → ℕ → Bool
+pending_since pokes calls file place = is_pending (calls_at pokes calls file place) file place
+
+-- a content with the bytes of each write laid over it where the write counts
+abbrev pub content_since : Files → Files → List Call → Files
+content_since base pokes calls file place =
+    content_after base (calls_at pokes calls file place) file place
+
 -- an image has, at each place that is not pending, the byte that a read gives
-abbrev pub Allows : Files → List Call → Files → Type 0
-Allows base calls image =
-    (file place : ℕ) → is_pending calls file place ≡ false
-    → image file place ≡ content_after base calls file place
+abbrev pub Allows : Files → Files → List Call → Files → Type 0
+Allows base pokes calls image =
+    (file place : ℕ) → pending_since pokes calls file place ≡ false
+    → image file place ≡ content_since base pokes calls file place
 
 -- how many bytes the writes that succeeded had
 abbrev pub bytes_kept : List Call → ℕ
@@ -91,6 +106,12 @@ synced_content base [] = base
 synced_content base (call ∷ calls) =
     synced_content (λ file place. if is_synced calls file then laid call base file place
     else base file place) calls
+
+-- a content with the bytes of each write laid over it where the write counts and a later call
+-- synced it
+abbrev pub synced_since : Files → Files → List Call → Files
+synced_since base pokes calls file place =
+    synced_content base (calls_at pokes calls file place) file place
 
 -- a call's range lies within its file
 abbrev pub FitsFile : List (List ℕ) → Call → Type 0

@@ -14,9 +14,11 @@ ghost use Rattle.std.specs.Prelude.{
   ◌||◌,
   if◌then◌else◌,
   nat_lt,
+  nat_le,
   length,
   slice_index,
   slice_index_or,
+  drop,
   ◌-◌,
   ◌^◌,
   IfOk,
@@ -39,15 +41,16 @@ ghost use Rattle.disk_model.specs.Calls.{
   Synced,
   bytes_kept,
   in_range,
-  is_pending,
+  pending_since,
   laid,
-  synced_content,
+  synced_since,
   FitsFile,
 };
 ghost use Rattle.disk_model.specs.PlainDisk.{file_of, rooms_of, contents};
 ghost use Rattle.disk_model.specs.Contents.{IsFile, number_of_files};
 
 use crate::plain_file::PlainFile;
+use crate::poke_times::PokeTimes;
 use crate::rooms::FILES;
 use std::alloc::{AllocError, Global};
 use std::marker::Model;
@@ -174,36 +177,38 @@ impl CallLog {
         self.calls.push(KeptCall::Synced { file }).unwrap();
     }
 
-    /// Forgets the calls. Their room stays.
-    pub(crate) fn clear(&mut self)
-        ensures { self.new ≡ record self.old { calls = [] } }
+    /// How many calls are kept.
+    pub(crate) fn count(&self) -> u32
+        ensures { result ≡ length self.now.calls }
     {
-        self.calls.clear();
-        self.bytes.clear();
+        prove!(self.calls.len() <= self.room.calls as usize);
+        self.calls.len() as u32
     }
 
     /// Puts this byte at each place of the files that is pending.
-    pub(crate) fn fill(&self, files: &mut [PlainFile], byte: u8)
-        requires { length files.old ≡ number_of_files }
+    pub(crate) fn fill(&self, files: &mut [PlainFile], pokes: &[PokeTimes], byte: u8)
+        requires files { length files.old ≡ number_of_files }
+        requires pokes { length pokes.now ≡ number_of_files }
         ensures rooms { rooms_of files.new ≡ rooms_of files.old }
         ensures bytes { (file place : ℕ)
             → contents files.new file place
-            ≡ (if is_pending self.now.calls file place && nat_lt place
+            ≡ (if pending_since (contents pokes.now) self.now.calls file place && nat_lt place
             (length (file_of files.old file)) then byte else contents files.old file place) }
     {
-        fill_pending(&self.calls, files, byte);
+        fill_pending(&self.calls, files, pokes, byte);
     }
 
-    /// Lays over the files the bytes of each write that a later call synced.
-    pub(crate) fn lay_synced(&self, files: &mut [PlainFile])
+    /// Lays over the files the bytes of each write that counts and that a later call synced.
+    pub(crate) fn lay_synced(&self, files: &mut [PlainFile], pokes: &[PokeTimes])
         requires files { length files.old ≡ number_of_files }
+        requires pokes { length pokes.now ≡ number_of_files }
         requires fits { AllByRecursion (FitsFile files.old) self.now.calls }
         ensures rooms { rooms_of files.new ≡ rooms_of files.old }
         ensures bytes { (file place : ℕ)
             → contents files.new file place
-            ≡ synced_content (contents files.old) self.now.calls file place }
+            ≡ synced_since (contents files.old) (contents pokes.now) self.now.calls file place }
     {
-        lay_all(&self.calls, &self.bytes, files);
+        lay_all(&self.calls, &self.bytes, files, pokes);
     }
 }
 
@@ -233,36 +238,47 @@ fn count_sync(call: KeptCall, counts: &mut [usize; FILES])
     }
 }
 
-// Lays over the files the bytes of each write that a later call synced.
-fn lay_all(calls: &[KeptCall], bytes: &[u8], files: &mut [PlainFile])
+// Lays over the files the bytes of each write that counts and that a later call synced.
+fn lay_all(calls: &[KeptCall], bytes: &[u8], files: &mut [PlainFile], pokes: &[PokeTimes])
     requires calls { All (λ call. IsFile (kept_file call)) calls.now }
     requires within { AllByRecursion (IsKeptWithin (length bytes.now)) calls.now }
     requires fits { AllByRecursion (FitsFile files.old) (calls_of calls.now bytes.now) }
     requires files { length files.old ≡ number_of_files }
+    requires pokes { length pokes.now ≡ number_of_files }
     ensures rooms { rooms_of files.new ≡ rooms_of files.old }
     ensures bytes { (file place : ℕ)
         → contents files.new file place
-        ≡ synced_content (contents files.old) (calls_of calls.now bytes.now) file place }
+        ≡ synced_since (contents files.old) (contents pokes.now) (calls_of calls.now bytes.now) file
+        place }
 {
     let mut counts = sync_counts(calls);
     for i in 0..calls.len() {
-        lay_call(calls[i], bytes, &mut counts, files);
+        lay_call(calls[i], i, bytes, &mut counts, files, pokes);
     }
 }
 
-// Lays the bytes of a write over its file where a later call syncs it, or takes a sync off the
-// count.
-fn lay_call(call: KeptCall, bytes: &[u8], counts: &mut [usize; FILES], files: &mut [PlainFile])
+// Lays the bytes of a write over its file where it counts and a later call syncs it, or takes a
+// sync off the count.
+fn lay_call(
+    call: KeptCall,
+    number: usize,
+    bytes: &[u8],
+    counts: &mut [usize; FILES],
+    files: &mut [PlainFile],
+    pokes: &[PokeTimes],
+)
     requires within { IsKeptWithin (length bytes.now) call }
     requires fits { FitsFile files.old (call_of bytes.now call) }
     requires files { length files.old ≡ number_of_files }
+    requires pokes { length pokes.now ≡ number_of_files }
     requires counts { (file : ℕ) → IsTrue (kept_syncs call file) → 0 < slice_index counts.old file }
     ensures counts { (file : ℕ) → slice_index counts.old file
         ≡ (if kept_syncs call file then 1 else 0) + slice_index counts.new file }
     ensures rooms { rooms_of files.new ≡ rooms_of files.old }
     ensures bytes { (file place : ℕ)
         → contents files.new file place
-        ≡ (if nat_lt 0 (slice_index counts.new file)
+        ≡ (if nat_lt 0 (slice_index counts.new file) && nat_le
+        (contents pokes.now file place) number
         then laid (call_of bytes.now call) (contents files.old) file place
         else contents files.old file place) }
 {
@@ -272,87 +288,124 @@ fn lay_call(call: KeptCall, bytes: &[u8], counts: &mut [usize; FILES], files: &m
             at,
             start,
             len,
-        } => lay_write(file, at, &bytes[start..start + len], counts, files),
+        } => lay_write(
+            file,
+            at,
+            &bytes[start..start + len],
+            number,
+            counts,
+            files,
+            pokes,
+        ),
         KeptCall::Tore { .. } => {}
         KeptCall::Synced { file } => counts[file as usize] -= 1,
     }
 }
 
-// Lays the bytes of a write over its file, where a later call syncs it.
-fn lay_write(file: u8, at: u64, part: &[u8], counts: &[usize; FILES], files: &mut [PlainFile])
+// Lays the bytes of a write over its file, where it counts and a later call syncs the file.
+fn lay_write(
+    file: u8,
+    at: u64,
+    part: &[u8],
+    number: usize,
+    counts: &[usize; FILES],
+    files: &mut [PlainFile],
+    pokes: &[PokeTimes],
+)
     requires file { IsFile file }
     requires fits { at + length part.now ≤ length (file_of files.old file) }
     requires files { length files.old ≡ number_of_files }
+    requires pokes { length pokes.now ≡ number_of_files }
     ensures rooms { rooms_of files.new ≡ rooms_of files.old }
     ensures bytes { (other place : ℕ)
         → contents files.new other place
-        ≡ (if nat_lt 0 (slice_index counts.now other)
+        ≡ (if nat_lt 0 (slice_index counts.now other) && nat_le
+        (contents pokes.now other place) number
         then laid (Wrote file at part.now) (contents files.old) other place
         else contents files.old other place) }
 {
     if counts[file as usize] > 0 {
-        files[file as usize].write(at as usize, part);
+        files[file as usize].lay(at as usize, part, &pokes[file as usize], number);
     }
 }
 
-// Fills each range that no later call synced, from the newest call to the oldest.
-fn fill_pending(calls: &[KeptCall], files: &mut [PlainFile], byte: u8)
+// Fills each range that no later call synced, where its call counts, from the newest call to the
+// oldest.
+fn fill_pending(calls: &[KeptCall], files: &mut [PlainFile], pokes: &[PokeTimes], byte: u8)
     requires calls { All (λ call. IsFile (kept_file call)) calls.now }
     requires files { length files.old ≡ number_of_files }
+    requires pokes { length pokes.now ≡ number_of_files }
     ensures rooms { rooms_of files.new ≡ rooms_of files.old }
     ensures bytes { (file place : ℕ)
         → contents files.new file place
-        ≡ (if kept_pending calls.now file place && nat_lt place (length (file_of files.old file))
-        then byte else contents files.old file place) }
+        ≡ (if kept_pending (drop (contents pokes.now file place) calls.now) file place && nat_lt
+        place (length (file_of files.old file)) then byte else contents files.old file place) }
 {
     let mut synced = [false; FILES];
     let mut i = calls.len();
     while i > 0 {
         i -= 1;
-        fill_call(calls[i], &mut synced, files, byte);
+        fill_call(calls[i], i, &mut synced, files, pokes, byte);
     }
 }
 
-// Fills the range of a kept call, where no later call synced its file, or notes its sync.
-fn fill_call(call: KeptCall, synced: &mut [bool; FILES], files: &mut [PlainFile], byte: u8)
+// Fills the range of a kept call where it counts and no later call synced its file, or notes its
+// sync.
+fn fill_call(
+    call: KeptCall,
+    number: usize,
+    synced: &mut [bool; FILES],
+    files: &mut [PlainFile],
+    pokes: &[PokeTimes],
+    byte: u8,
+)
     requires call { IsFile (kept_file call) }
     requires files { length files.old ≡ number_of_files }
+    requires pokes { length pokes.now ≡ number_of_files }
     ensures synced { (file : ℕ) → slice_index_or synced.new file false
         ≡ (kept_syncs call file || slice_index_or synced.old file false) }
     ensures rooms { rooms_of files.new ≡ rooms_of files.old }
     ensures bytes { (file place : ℕ)
         → contents files.new file place
-        ≡ (if (kept_covers call file place && not
-        (slice_index_or synced.old file false)) && nat_lt place (length (file_of files.old file))
+        ≡ (if ((kept_covers call file place && not (slice_index_or synced.old file false)) && nat_le
+        (contents pokes.now file place) number) && nat_lt place (length (file_of files.old file))
         then byte else contents files.old file place) }
 {
     match call {
-        KeptCall::Wrote { file, at, len, .. } => fill_range(file, at, len, synced, files, byte),
-        KeptCall::Tore { file, at, len } => fill_range(file, at, len, synced, files, byte),
+        KeptCall::Wrote { file, at, len, .. } => {
+            fill_range(file, at, len, number, synced, files, pokes, byte)
+        }
+        KeptCall::Tore { file, at, len } => {
+            fill_range(file, at, len, number, synced, files, pokes, byte)
+        }
         KeptCall::Synced { file } => synced[file as usize] = true,
     }
 }
 
-// Fills a range of a file, where no later call synced the file.
+// Fills a range of a file where its call counts and no later call synced the file.
 fn fill_range(
     file: u8,
     at: u64,
     len: usize,
+    number: usize,
     synced: &[bool; FILES],
     files: &mut [PlainFile],
+    pokes: &[PokeTimes],
     byte: u8,
 )
     requires file { IsFile file }
     requires files { length files.old ≡ number_of_files }
+    requires pokes { length pokes.now ≡ number_of_files }
     ensures rooms { rooms_of files.new ≡ rooms_of files.old }
     ensures bytes { (other place : ℕ)
         → contents files.new other place
-        ≡ (if (in_range file at len other place && not
-        (slice_index_or synced.now other false)) && nat_lt place (length (file_of files.old other))
+        ≡ (if ((in_range file at len other place && not
+        (slice_index_or synced.now other false)) && nat_le (contents pokes.now other place) number)
+        && nat_lt place (length (file_of files.old other))
         then byte else contents files.old other place) }
 {
     if synced[file as usize] {
         return;
     }
-    files[file as usize].fill(at as usize, len, byte);
+    files[file as usize].fill(at as usize, len, byte, &pokes[file as usize], number);
 }

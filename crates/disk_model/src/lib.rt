@@ -4,6 +4,7 @@
 #![tactic(auto)]
 
 mod call_log;
+mod calls;
 mod disk;
 mod fault_plan;
 mod generator;
@@ -11,9 +12,11 @@ mod marks;
 mod memory_disk;
 mod plain_disk;
 mod plain_file;
+mod poke_times;
 mod rooms;
 
 pub use call_log::Room;
+pub use calls::Calls;
 pub use disk::Disk;
 pub use fault_plan::FaultPlan;
 pub use memory_disk::{Crash, MemoryDisk};

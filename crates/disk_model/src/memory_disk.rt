@@ -9,6 +9,7 @@ ghost use Rattle.std.specs.Prelude.{
   ◌++◌,
   ◌∷◌,
   [],
+  ℕ,
   length,
   IsErr,
   IfOk,
@@ -32,6 +33,7 @@ ghost use Rattle.disk_model.specs.MemoryDisk.{
   content_of,
   MayLeave,
   LeftSince,
+  ArePoked,
   NextFails,
   PassesFile,
   PassesBytes,
@@ -48,7 +50,8 @@ use crate::disk::Disk;
 use crate::fault_plan::{FaultPlan, next_call_fails};
 use crate::marks::{draw_marked, no_marks};
 use crate::plain_disk::files_of_zeros;
-use crate::plain_file::{PlainFile, copies, copy_over};
+use crate::plain_file::{PlainFile, copies};
+use crate::poke_times::{PokeTimes, never_poked};
 use fault_count::{Count, Failed};
 use std::alloc::{AllocError, Global};
 use std::marker::Model;
@@ -74,6 +77,8 @@ pub enum Crash {
 pub struct MemoryDisk {
     // The files as they were on the disk at first.
     base: Vec<PlainFile>,
+    // When each place of them was poked.
+    pokes: Vec<PokeTimes>,
     // The files as they are read.
     files: Vec<PlainFile>,
     log: CallLog,
@@ -89,8 +94,9 @@ impl Model for MemoryDisk {
 
     ghost view = { λ d. record {
       base = d.base.items;
+      pokes = d.pokes.items;
       calls = d.log.calls;
-      fails = d.plan.fails.items;
+      fails = d.plan.fails;
       stop = d.plan.stop;
       most_calls = d.log.most_calls;
       most_bytes = d.log.most_bytes;
@@ -98,7 +104,7 @@ impl Model for MemoryDisk {
       faults = d.faults;
     } };
 
-    ghost invariant = { λ d. IsRead d.base.items d.files.items d.log.calls };
+    ghost invariant = { λ d. IsRead d.base.items d.pokes.items d.files.items d.log.calls };
 }
 
 impl MemoryDisk {
@@ -111,11 +117,13 @@ impl MemoryDisk {
     ) -> Result<MemoryDisk, AllocError>
         ensures rooms { IfOk result (λ disk. rooms_of disk.base ≡ rooms limit) }
         ensures zeros { IfOk result (λ disk. AllZeros disk.base) }
+        ensures unpoked { IfOk result (λ disk. AllZeros disk.pokes) }
         ensures fresh { IfOk result (λ disk. disk
             ≡ record {
               base = disk.base;
+              pokes = disk.pokes;
               calls = [];
-              fails = plan.fails.items;
+              fails = plan.fails;
               stop = plan.stop;
               most_calls = room.calls;
               most_bytes = room.bytes;
@@ -137,11 +145,13 @@ impl MemoryDisk {
         ensures image { IfOk result (λ disk. MayLeave self.now (contents disk.base)) }
         ensures exact { IfOk result (λ disk. Same (left_by choice self.now) (contents disk.base)) }
         ensures rooms { IfOk result (λ disk. rooms_of disk.base ≡ rooms_of self.now.base) }
+        ensures unpoked { IfOk result (λ disk. AllZeros disk.pokes) }
         ensures fresh { IfOk result (λ disk. disk
             ≡ record {
               base = disk.base;
+              pokes = disk.pokes;
               calls = [];
-              fails = plan.fails.items;
+              fails = plan.fails;
               stop = plan.stop;
               most_calls = room.calls;
               most_bytes = room.bytes;
@@ -160,21 +170,27 @@ impl MemoryDisk {
         self.base[file as usize].room() as u64
     }
 
-    /// Changes one byte in what a read gives and in every image alike, for tests of damage. What is
-    /// read is first taken as what is on the disk, as if each file had been synced, and no call is
-    /// kept. The plan and the counts stay.
+    /// Changes one byte in what a read gives and in every image alike, of this moment and of each
+    /// one before, for tests of damage. The place isn't pending until a later write covers it. The
+    /// kept calls, their room, the plan and the counts stay.
     pub fn poke(&mut self, file: u8, at: u64, byte: u8)
         requires file { IsFile file }
         requires within { at < length (file_of self.old.base file) }
         ensures read { Same (poked file at byte (content_of self.old)) (content_of self.new) }
-        ensures image { (image : Files) → MayLeave self.new image
-            → Same (content_of self.new) image }
+        ensures image { ArePoked file at byte (MayLeave self.old) (MayLeave self.new) }
+        ensures since { (t : ℕ) → ArePoked file at byte (LeftSince self.old t)
+            (LeftSince self.new t) }
+        ensures base { Same (poked file at byte (contents self.old.base))
+            (contents self.new.base) }
+        ensures pokes { Same (poked file at (length self.old.calls) (contents self.old.pokes))
+            (contents self.new.pokes) }
         ensures rooms { rooms_of self.new.base ≡ rooms_of self.old.base }
-        ensures others { self.new ≡ record self.old { base = self.new.base; calls = [] } }
+        ensures others { self.new
+            ≡ record self.old { base = self.new.base; pokes = self.new.pokes } }
     {
+        self.base[file as usize].write(at as usize, &[byte]);
         self.files[file as usize].write(at as usize, &[byte]);
-        copy_over(&self.files, &mut self.base);
-        self.log.clear();
+        self.pokes[file as usize].poke(at as usize, self.log.count());
     }
 
     // The files that this choice of an image leaves.
@@ -200,7 +216,7 @@ impl MemoryDisk {
             Same (left_by Crash.Old self.now) (contents files.items)) }
     {
         let mut files = copies(alloc, &self.base)?;
-        self.log.lay_synced(&mut files);
+        self.log.lay_synced(&mut files, &self.pokes);
         Ok(files)
     }
 
@@ -212,7 +228,7 @@ impl MemoryDisk {
             Same (left_by (Crash.Fill byte) self.now) (contents files.items)) }
     {
         let mut files = copies(alloc, &self.files)?;
-        self.log.fill(&mut files, byte);
+        self.log.fill(&mut files, &self.pokes, byte);
         Ok(files)
     }
 
@@ -224,7 +240,7 @@ impl MemoryDisk {
             Same (left_by (Crash.Mixed seed) self.now) (contents files.items)) }
     {
         let mut marks = no_marks(alloc, &self.files)?;
-        self.log.fill(&mut marks, 1);
+        self.log.fill(&mut marks, &self.pokes, 1);
         let mut files = copies(alloc, &self.files)?;
         draw_marked(&mut files, &marks, seed);
         Ok(files)
@@ -238,11 +254,13 @@ impl MemoryDisk {
         plan: FaultPlan,
     ) -> Result<MemoryDisk, AllocError>
         requires { length base.items ≡ number_of_files }
-        ensures { IfOk result (λ disk. disk
+        ensures unpoked { IfOk result (λ disk. AllZeros disk.pokes) }
+        ensures fresh { IfOk result (λ disk. disk
             ≡ record {
               base = base.items;
+              pokes = disk.pokes;
               calls = [];
-              fails = plan.fails.items;
+              fails = plan.fails;
               stop = plan.stop;
               most_calls = room.calls;
               most_bytes = room.bytes;
@@ -252,6 +270,7 @@ impl MemoryDisk {
     {
         Ok(MemoryDisk {
             files: copies(alloc, &base)?,
+            pokes: never_poked(alloc, &base)?,
             base,
             log: CallLog::new(alloc, room)?,
             plan,
@@ -274,6 +293,7 @@ impl MemoryDisk {
             }) }
         ensures err { OnErr result (IsAfterFailedWrite self.old file at
             (length bytes.now) self.new) }
+        ensures written { OnOk result (Holds file at bytes.now (content_of self.new)) }
         ensures cause { HasCause self.old.faults self.new.faults result }
     {
         let planned = next_call_fails(&self.plan, &mut self.made);

@@ -16,6 +16,7 @@ ghost use Rattle.std.specs.Prelude.{
   nat_le,
   nat_lt,
   ◌&&◌,
+  ◌-◌,
   if◌then◌else◌,
 };
 ghost use Rattle.disk_model.specs.Generator.{drawn, state_after};
@@ -24,6 +25,7 @@ ghost use Rattle.disk_model.specs.Places.{count_below};
 ghost use Rattle.disk_model.specs.PlainDisk.{rooms_of};
 
 use crate::generator::Generator;
+use crate::poke_times::PokeTimes;
 use std::alloc::{AllocError, Global};
 use std::marker::Model;
 
@@ -77,25 +79,30 @@ impl PlainFile {
         self.bytes[at..at + bytes.len()].copy_from_slice(bytes);
     }
 
-    /// Puts this byte at each place from `at` on, up to `len` of them or the end.
-    pub(crate) fn fill(&mut self, at: usize, len: usize, byte: u8)
+    /// Puts the bytes in the place of those from `at` on, at each place where the kept call of this
+    /// number counts.
+    pub(crate) fn lay(&mut self, at: usize, bytes: &[u8], pokes: &PokeTimes, call: usize)
+        requires { at + length bytes.now ≤ length self.old }
         ensures room { length self.new ≡ length self.old }
         ensures bytes { (i : ℕ) → slice_index self.new i
-            ≡ (if (nat_le at i && nat_lt i (at + len)) && nat_lt i (length self.old) then byte
+            ≡ (if (nat_le at i && nat_lt i (at + length bytes.now)) && nat_le
+            (slice_index pokes.now i) call then slice_index bytes.now (i - at)
             else slice_index self.old i) }
+    {
+        lay_bytes(&mut self.bytes, at, bytes, pokes, call);
+    }
+
+    /// Puts this byte at each place from `at` on, up to `len` of them or the end, where the kept
+    /// call of this number counts.
+    pub(crate) fn fill(&mut self, at: usize, len: usize, byte: u8, pokes: &PokeTimes, call: usize)
+        ensures room { length self.new ≡ length self.old }
+        ensures bytes { (i : ℕ) → slice_index self.new i
+            ≡ (if ((nat_le at i && nat_lt i (at + len)) && nat_lt i (length self.old)) && nat_le
+            (slice_index pokes.now i) call then byte else slice_index self.old i) }
     {
         let start = at.min(self.bytes.len());
         let count = len.min(self.bytes.len() - start);
-        self.put_copies(start, count, byte);
-    }
-
-    // Puts this byte in the place of those from `at` on, `count` of them.
-    fn put_copies(&mut self, at: usize, count: usize, byte: u8)
-        requires { at + count ≤ length self.old }
-        ensures { self.new ≡ take at self.old ++ replicate count byte ++ drop
-            (at + count) self.old }
-    {
-        self.bytes[at..at + count].fill(byte);
+        fill_bytes(&mut self.bytes, start, start + count, byte, pokes, call);
     }
 
     /// Puts the next drawn byte at each place that is marked.
@@ -110,14 +117,6 @@ impl PlainFile {
             ≡ state_after generator.old (count_below (is_marked marks.now) (length marks.now)) }
     {
         draw_bytes(&mut self.bytes, &marks.bytes, generator);
-    }
-
-    /// Puts the bytes of another file with the same room in the place of these.
-    pub(crate) fn copy_from(&mut self, other: &PlainFile)
-        requires { length other.now ≡ length self.old }
-        ensures { self.new ≡ other.now }
-    {
-        self.bytes.copy_from_slice(&other.bytes);
     }
 
     /// A file of the same bytes.
@@ -146,13 +145,33 @@ fn draw_bytes(bytes: &mut [u8], marks: &[u8], generator: &mut Generator)
     }
 }
 
-/// Puts these files in the place of others with the same rooms.
-pub(crate) fn copy_over(files: &[PlainFile], others: &mut [PlainFile])
-    requires { rooms_of files.now ≡ rooms_of others.old }
-    ensures { others.new ≡ files.now }
+// Puts the bytes in the place of those from `at` on, where the call counts.
+fn lay_bytes(bytes: &mut [u8], at: usize, part: &[u8], pokes: &PokeTimes, call: usize)
+    requires { at + length part.now ≤ length bytes.old }
+    ensures { (i : ℕ) → slice_index bytes.new i
+        ≡ (if (nat_le at i && nat_lt i (at + length part.now)) && nat_le
+        (slice_index pokes.now i) call then slice_index part.now (i - at)
+        else slice_index bytes.old i) }
 {
-    for i in 0..others.len() {
-        others[i].copy_from(&files[i]);
+    for k in 0..part.len() {
+        if pokes.counts(at + k, call) {
+            bytes[at + k] = part[k];
+        }
+    }
+}
+
+// Puts this byte at each place from `start` on and before `end`, where the call counts.
+fn fill_bytes(bytes: &mut [u8], start: usize, end: usize, byte: u8, pokes: &PokeTimes, call: usize)
+    requires order { start ≤ end }
+    requires within { end ≤ length bytes.old }
+    ensures { (i : ℕ) → slice_index bytes.new i
+        ≡ (if (nat_le start i && nat_lt i end) && nat_le (slice_index pokes.now i) call then byte
+        else slice_index bytes.old i) }
+{
+    for i in start..end {
+        if pokes.counts(i, call) {
+            bytes[i] = byte;
+        }
     }
 }
 

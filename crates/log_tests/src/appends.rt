@@ -2,7 +2,7 @@
 ghost use Rattle.std.specs.Prelude.{◌≡◌, ◌<◌, ◌^◌, length, IfOk};
 ghost use Rattle.redo_log.specs.Entries.{IsEntryOf};
 
-use disk_model::{Crash, Disk, FaultPlan, MemoryDisk, Room};
+use disk_model::{Calls, Crash, Disk, FaultPlan, MemoryDisk, Room};
 use fault_count::Failed;
 use rec_bytes::{Key, LOG, NODES, Rec, WriteSet};
 use redo_log::{EntryAnswer, append, entry_at, write_at};
@@ -62,11 +62,11 @@ fn log_of(disk: &mut MemoryDisk) -> Result<([u32; 3], EntryAnswer), Fail> {
 fn try_stops(rt: &impl Abort, alloc: Global, choice: Crash, first: u64) -> Result<(), Fail> {
     for stop in 7..12 {
         let plan = FaultPlan {
-            fails: Vec::new(alloc),
+            fails: Calls::new(Vec::new(alloc)),
             stop: Some(stop),
         };
         let no_faults = FaultPlan {
-            fails: Vec::new(alloc),
+            fails: Calls::new(Vec::new(alloc)),
             stop: None,
         };
         let mut disk = disk_with_entry(alloc, plan)?;
@@ -104,7 +104,7 @@ fn a_stop_leaves_the_old_entries_or_one_more(rt: HostRuntime) -> Result<(), Fail
 fn a_call_that_fails_leaves_the_old_entries_or_one_more(rt: HostRuntime) -> Result<(), Fail> {
     for call in 7..11 {
         let plan = FaultPlan {
-            fails: Vec::from_slice(rt.alloc(), &[call])?,
+            fails: Calls::new(Vec::from_slice(rt.alloc(), &[call])?),
             stop: None,
         };
         let mut disk = disk_with_entry(rt.alloc(), plan)?;

@@ -1,5 +1,5 @@
 //! The disks of plain memory: what they keep, fail to do, and leave after a loss of power.
-use disk_model::{Crash, Disk, FaultPlan, MemoryDisk, PlainDisk, Room};
+use disk_model::{Calls, Crash, Disk, FaultPlan, MemoryDisk, PlainDisk, Room};
 use fault_count::Failed;
 use std::alloc::Global;
 use std::test::Fail;
@@ -12,7 +12,7 @@ const ROOM: Room = Room {
 // A plan in which no call fails.
 fn no_faults(alloc: Global) -> FaultPlan {
     FaultPlan {
-        fails: Vec::new(alloc),
+        fails: Calls::new(Vec::new(alloc)),
         stop: None,
     }
 }
@@ -44,7 +44,7 @@ fn leaves_each_image_after_the_faults_of_a_plan(rt: HostRuntime) -> Result<(), F
     ];
     for (fails, stop, choice, before, after) in cases {
         let plan = FaultPlan {
-            fails: Vec::from_slice(rt.alloc(), &[fails])?,
+            fails: Calls::new(Vec::from_slice(rt.alloc(), &[fails])?),
             stop,
         };
         let mut disk = MemoryDisk::new(rt.alloc(), 1, ROOM, plan)?;
@@ -62,14 +62,35 @@ fn leaves_each_image_after_the_faults_of_a_plan(rt: HostRuntime) -> Result<(), F
 
 #[test]
 fn a_poked_byte_is_read_and_left_by_each_crash(rt: HostRuntime) -> Result<(), Fail> {
-    let mut disk = MemoryDisk::new(rt.alloc(), 1, ROOM, no_faults(rt.alloc()))?;
-    disk.write(2, 0, b"abc")?;
-    assert!(rt; disk.room(2) == 64);
-    disk.poke(2, 1, b'z');
-    assert!(rt; &front(&mut disk) == b"azc\0");
-    for choice in [Crash::Old, Crash::New, Crash::Fill(7), Crash::Mixed(1)] {
+    // Three bytes are pending when the second is poked, and no call more has room. In the last rows
+    // a later write covers it. What is read before a loss of power and after it.
+    let cases: [(&[u8], Crash, &[u8], &[u8]); 7] = [
+        (b"", Crash::Old, b"azc\0", b"uz\0\0"),
+        (b"", Crash::New, b"azc\0", b"azc\0"),
+        (b"", Crash::Fill(7), b"azc\0", b"\x07z\x07\0"),
+        (b"", Crash::Mixed(1), b"azc\0", b"\xd6z\x59\0"),
+        (b"q", Crash::Old, b"aqc\0", b"uz\0\0"),
+        (b"q", Crash::New, b"aqc\0", b"aqc\0"),
+        (b"q", Crash::Fill(7), b"aqc\0", b"\x07\x07\x07\0"),
+    ];
+    for (later, choice, before, after) in cases {
+        let room = Room {
+            calls: if later.is_empty() { 3 } else { 4 },
+            bytes: 6,
+        };
+        let mut disk = MemoryDisk::new(rt.alloc(), 1, room, no_faults(rt.alloc()))?;
+        disk.write(2, 0, b"uv")?;
+        disk.sync(2)?;
+        disk.write(2, 0, b"abc")?;
+        assert!(rt; disk.room(2) == 64);
+        disk.poke(2, 1, b'z');
+        assert!(rt; &front(&mut disk) == b"azc\0", "{choice:?}");
+        if !later.is_empty() {
+            disk.write(2, 1, later)?;
+        }
+        assert!(rt; front(&mut disk).as_slice() == before, "{choice:?}");
         let mut left = disk.after_crash(rt.alloc(), choice, ROOM, no_faults(rt.alloc()))?;
-        assert!(rt; &front(&mut left) == b"azc\0", "{choice:?}");
+        assert!(rt; front(&mut left).as_slice() == after, "{choice:?}");
     }
     Ok(())
 }

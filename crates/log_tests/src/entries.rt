@@ -1,7 +1,7 @@
 //! What stands in the log, and the gate that is closed.
 ghost use Rattle.std.specs.Prelude.{◌≤◌, length};
 
-use disk_model::{Disk, FaultPlan, MemoryDisk, PlainDisk, Room};
+use disk_model::{Calls, Disk, FaultPlan, MemoryDisk, PlainDisk, Room};
 use fault_count::Failed;
 use rec_bytes::{Key, LOG, NODES, Rec};
 use redo_log::{EntryAnswer, LAST_PLACE, LogReader, entry_at, reset, write_at};
@@ -136,7 +136,7 @@ fn answers_that_the_disk_failed(rt: HostRuntime) -> Result<(), Fail> {
         bytes: 16,
     };
     let plan = FaultPlan {
-        fails: Vec::new(rt.alloc()),
+        fails: Calls::new(Vec::new(rt.alloc())),
         stop: Some(1),
     };
     let mut disk = MemoryDisk::new(rt.alloc(), 16, room, plan)?;
@@ -154,7 +154,7 @@ fn a_reader_makes_one_call_for_a_piece(rt: HostRuntime) -> Result<(), Fail> {
         bytes: 32,
     };
     let plan = FaultPlan {
-        fails: Vec::new(rt.alloc()),
+        fails: Calls::new(Vec::new(rt.alloc())),
         stop: Some(6),
     };
     let mut disk = MemoryDisk::new(rt.alloc(), 16, room, plan)?;

@@ -1,6 +1,6 @@
 //! Recoveries and checkpoints over a disk in memory, whose log and records are written here byte by
 //! byte.
-use disk_model::{Crash, Disk, FaultPlan, MemoryDisk, Room};
+use disk_model::{Calls, Crash, Disk, FaultPlan, MemoryDisk, Room};
 use rec_bytes::{Key, LOG, META, NAMES, NODES, Rec, Shape};
 use record_file::read_record;
 use std::alloc::{AllocError, Global};
@@ -74,7 +74,7 @@ pub(crate) fn left_of(
     stop: Option<u64>,
 ) -> Result<MemoryDisk, AllocError> {
     let plan = FaultPlan {
-        fails: Vec::new(alloc),
+        fails: Calls::new(Vec::new(alloc)),
         stop,
     };
     disk.after_crash(alloc, choice, ROOM, plan)
@@ -83,7 +83,7 @@ pub(crate) fn left_of(
 /// A disk of zeros.
 pub(crate) fn blank_disk(alloc: Global) -> Result<MemoryDisk, AllocError> {
     let plan = FaultPlan {
-        fails: Vec::new(alloc),
+        fails: Calls::new(Vec::new(alloc)),
         stop: None,
     };
     MemoryDisk::new(alloc, 16, ROOM, plan)

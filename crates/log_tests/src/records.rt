@@ -1,5 +1,5 @@
 //! Records in their files, and through the pages that were used last.
-use disk_model::{Disk, FaultPlan, MemoryDisk, PlainDisk, Room};
+use disk_model::{Calls, Disk, FaultPlan, MemoryDisk, PlainDisk, Room};
 use page_cache::PageCache;
 use rec_bytes::{Key, META, NAMES, NODES, Rec};
 use record_file::{read_record, write_record};
@@ -32,7 +32,7 @@ fn got(alloc: Global, pages: usize, ids: &[u32]) -> Result<Vec<bool>, AllocError
         bytes: 64,
     };
     let plan = FaultPlan {
-        fails: Vec::new(alloc),
+        fails: Calls::new(Vec::new(alloc)),
         stop: Some(4),
     };
     let mut disk = MemoryDisk::new(alloc, 256, room, plan)?;

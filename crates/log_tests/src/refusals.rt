@@ -1,6 +1,6 @@
 //! Disks that are refused, and disks over which a recovery has nothing to write.
 use crate::logged_store::{SHAPE, blank_disk, logged_store};
-use disk_model::{Crash, Disk, FaultPlan, MemoryDisk, Room};
+use disk_model::{Calls, Crash, Disk, FaultPlan, MemoryDisk, Room};
 use rec_bytes::{Damage, LOG, META, NODES};
 use recovery::{Found, RecoverFault, recover};
 use std::alloc::Global;
@@ -28,7 +28,7 @@ fn patched(
         disk.write(*file, *at, bytes)?;
     }
     let plan = FaultPlan {
-        fails: Vec::new(alloc),
+        fails: Calls::new(Vec::new(alloc)),
         stop: None,
     };
     Ok(disk.after_crash(alloc, Crash::New, NO_WRITES, plan)?)

@@ -1,6 +1,6 @@
 //! Checkpoints and recoveries that are stopped, or fail, at each of their calls of the disk.
 use crate::logged_store::{ROOM, SHAPE, is_recovered, left_of, logged, logged_store};
-use disk_model::{Crash, FaultPlan, MemoryDisk};
+use disk_model::{Calls, Crash, FaultPlan, MemoryDisk};
 use fault_count::Failed;
 use rec_bytes::WriteSet;
 use recovery::{Found, RecoverFault, checkpoint, recover};
@@ -105,7 +105,7 @@ fn a_checkpoint_is_stopped_at_each_call(rt: HostRuntime) -> Result<(), Fail> {
 /// A store of which the call of this number fails.
 fn failing_store(alloc: Global, store: &MemoryDisk, call: u64) -> Result<MemoryDisk, AllocError> {
     let plan = FaultPlan {
-        fails: Vec::from_slice(alloc, &[call])?,
+        fails: Calls::new(Vec::from_slice(alloc, &[call])?),
         stop: None,
     };
     store.after_crash(alloc, Crash::New, ROOM, plan)

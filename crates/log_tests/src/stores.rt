@@ -1,7 +1,7 @@
 //! A store over a disk in memory, whose calls are counted from 1: making a store takes 26, and a
 //! commit of a few records 4.
 use crate::turned_disk::TurnedDisk;
-use disk_model::{Crash, Disk, FaultPlan, MemoryDisk, Room};
+use disk_model::{Calls, Crash, Disk, FaultPlan, MemoryDisk, Room};
 use fault_count::Failed;
 use rec_bytes::{
     Damage, DiskFault, GROUPS, INDEX, Key, LOG, META, Meta, NAMES, NIL, NODES, RELATIONSHIPS,
@@ -33,7 +33,7 @@ pub(crate) fn plan(
     fails: &[u64],
     stop: Option<u64>,
 ) -> Result<FaultPlan, AllocError> {
-    let fails = Vec::from_slice(alloc, fails)?;
+    let fails = Calls::new(Vec::from_slice(alloc, fails)?);
     Ok(FaultPlan { fails, stop })
 }
 

@@ -1,7 +1,7 @@
 //! Runs one after another over a disk: faults, files that hold something else, and other shapes.
 use super::{Ended, PLAIN, Streams, run_on};
 use crate::Exit;
-use disk_model::{Disk, FaultPlan, MemoryDisk, PlainDisk, Room};
+use disk_model::{Calls, Disk, FaultPlan, MemoryDisk, PlainDisk, Room};
 use std::alloc::{AllocError, Global};
 use std::process::Abort;
 use std::test::Fail;
@@ -23,7 +23,7 @@ pub(crate) fn plan(
     fails: &[u64],
     stop: Option<u64>,
 ) -> Result<FaultPlan, AllocError> {
-    let fails = Vec::from_slice(alloc, fails)?;
+    let fails = Calls::new(Vec::from_slice(alloc, fails)?);
     Ok(FaultPlan { fails, stop })
 }
 

@@ -1,4 +1,4 @@
-use Rattle.std.proofs.Common.{◌≡◌, ◌+◌, ◌<◌, [], ◌∷◌, ℕ, cond, length, get_or, drop, ap, add-one, ◌∙◌, sym, arith}
+use Rattle.std.proofs.Common.{◌≡◌, ◌+◌, ◌-◌, ◌<◌, [], ◌∷◌, ℕ, cond, length, get_or, drop, ap, add-one, ◌∙◌, sym, arith}
 use Rattle.std.proofs.lemmas.List.{drop_all}
 use Rattle.std.proofs.Math.Seq.{drop-cons}
 use Rattle.disk_model.specs.declared.call_log.KeptCall.TheVariants as kept
@@ -25,12 +25,17 @@ loop-i-preserved c =
       rooms = c.lay_call.ensures.rooms ∙ c.loop-i.invariant.rooms;
       counts = counts;
       bytes = λ file place.
-          lay-step call later bytes (contents c.loop-i.files) (contents c.lay_call.new.files) (λ f. get_or c.lay_call.new.counts f 0) counts c.lay_call.ensures.bytes file place
-          ∙ sym (ap (λ cs. synced_content (contents c.loop-i.files) (calls_of cs bytes) file place) more)
+          let n = contents c.args.pokes.now file place in
+          lay-step call later bytes i n (contents c.loop-i.files) (contents c.lay_call.new.files) (λ f. get_or c.lay_call.new.counts f 0) file place counts (c.lay_call.ensures.bytes file place)
+          ∙ sym (ap (λ cs. synced_content (contents c.loop-i.files) (drop (n - i) (calls_of cs bytes)) file place) more)
           ∙ c.loop-i.invariant.bytes file place;
     }
 
 pub returns-clause-bytes : goal.returns-clause-bytes
 returns-clause-bytes c file place =
-    let none : drop c.loop-i.i c.args.calls.now ≡ [] = drop_all c.loop-i.i c.args.calls.now (omega arith) in
-    sym (ap (λ cs. synced_content (contents c.loop-i.files) (calls_of cs c.args.bytes.now) file place) none) ∙ c.loop-i.invariant.bytes file place
+    let n = contents c.args.pokes.now file place in
+    let i = c.loop-i.i in
+    let none : drop i c.args.calls.now ≡ [] = drop_all i c.args.calls.now (omega arith) in
+    sym (ap (λ cs. synced_content (contents c.loop-i.files) (drop (n - i) (calls_of cs c.args.bytes.now)) file place) none
+    ∙ ap (λ cs. synced_content (contents c.loop-i.files) cs file place) (drop_all (n - i) [] (omega arith)))
+    ∙ c.loop-i.invariant.bytes file place

@@ -1,7 +1,7 @@
 use Rattle.std.proofs.Common.{◌≡◌, ◌∙◌, ap, sym, subst, length, take, drop, ◌++◌, arith}
 use Rattle.std.specs.List.{AllByRecursion}
 use Rattle.std.proofs.lemmas.List.{take_at}
-use Rattle.disk_model.specs.Calls.{FitsFile, synced_content}
+use Rattle.disk_model.specs.Calls.{FitsFile, calls_at, synced_since}
 use Rattle.disk_model.specs.Crash.{left_by}
 use Rattle.disk_model.specs.MemoryDisk.{MemoryDiskState}
 use Rattle.disk_model.specs.PlainDisk.{contents}
@@ -26,6 +26,7 @@ returns-clause-exact c file place =
     let whole : take files.len (new ++ drop (length new) files.items) ≡ new = take_at new (drop (length new) files.items) files.len count in
     ap (λ fs. contents fs file place) whole
     ∙ c.lay_synced.ensures.bytes file place
-    ∙ ap (λ fs. synced_content (contents fs) disk.log.calls file place) copied
-    ∙ synced_content-is disk.log.calls (contents disk.base.items) file place
+    ∙ ap (λ fs. synced_since (contents fs) (contents c.deref-2.result.now) disk.log.calls file place) copied
+    ∙ ap (λ ps. synced_since (contents disk.base.items) (contents ps) disk.log.calls file place) c.deref-2.ensures.value
+    ∙ synced_content-is (calls_at (contents disk.pokes.items) disk.log.calls file place) (contents disk.base.items) file place
     ∙ ap (λ (d : MemoryDiskState). left_by Old d file place) c.self.view_is
