@@ -59,7 +59,8 @@ use std::marker::Model;
 /// Which image a loss of power leaves. At each place that is not pending it has what a read gives.
 #[derive(Clone, Copy, Debug)]
 pub enum Crash {
-    /// Each pending byte as it was at the file's last sync that succeeded, or at first.
+    /// Each pending byte as it was at the file's last sync that succeeded or at the place's last
+    /// poke, whichever came later, or at first.
     Old,
     /// Each pending byte as a read gives it.
     New,
