@@ -10,7 +10,7 @@ ROOT = pathlib.Path(__file__).resolve().parent.parent
 NIPAKEEL = ROOT / "nipakeel"
 # The program itself. The script above finds it, and builds it where it is missing.
 PROGRAM = ROOT / "crates/graph_console/out/graph_console"
-SECONDS = 60
+SECONDS = 300
 # The reply to `check` where the store keeps all its rules.
 SOUND = b"sound\n"
 # The words with which a new store makes a node dense by its third edge.
