@@ -106,7 +106,7 @@ impl<'d, D: Disk> Store<'d, D> {
             (λ store. HasOpeningEntry (D.reads disk.old) store.base.shape
             (D.reads store.base.disk.now)) }
 
-        // So many pages of records are kept, also by later calls.
+        // There is room for so many pages of records, also after later calls.
         ensures pages { IfOk result (λ store. store.base.cache.cap ≡ kept_pages) }
 
         ensures same_disk { IfOk result
