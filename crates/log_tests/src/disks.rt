@@ -1,7 +1,8 @@
 //! The disks of plain memory: what they keep, fail to do, and leave after a loss of power.
 use disk_model::{Calls, Crash, Disk, FaultPlan, MemoryDisk, PlainDisk, Room};
 use fault_count::Failed;
-use std::alloc::Global;
+use std::alloc::{AllocError, Global};
+use std::process::Abort;
 use std::test::Fail;
 
 const ROOM: Room = Room {
@@ -24,6 +25,28 @@ fn front(disk: &mut MemoryDisk) -> [u8; 4] {
     out
 }
 
+// What is read after some calls of which these fail, and what this loss of power then leaves.
+fn fronts_after_faults(
+    alloc: Global,
+    fails: u64,
+    stop: Option<u64>,
+    choice: Crash,
+) -> Result<([u8; 4], [u8; 4]), AllocError> {
+    let plan = FaultPlan {
+        fails: Calls::new(Vec::from_slice(alloc, &[fails])?),
+        stop,
+    };
+    let mut disk = MemoryDisk::new(alloc, 1, ROOM, plan)?;
+    let _ = disk.write(2, 0, b"ab");
+    let _ = disk.sync(2);
+    let _ = disk.write(2, 1, b"x");
+    let _ = disk.write(2, 1, b"bxy");
+    let _ = disk.write(1, 5, b"q");
+    let read = front(&mut disk);
+    let mut left = disk.after_crash(alloc, choice, ROOM, no_faults(alloc))?;
+    Ok((read, front(&mut left)))
+}
+
 #[test]
 fn leaves_each_image_after_the_faults_of_a_plan(rt: HostRuntime) -> Result<(), Fail> {
     // The calls are write, sync, write, write, a write to file 1, read. The call that fails, the
@@ -43,21 +66,39 @@ fn leaves_each_image_after_the_faults_of_a_plan(rt: HostRuntime) -> Result<(), F
         (9, Some(3), Crash::New, b"\x09\x09\x09\x09", b"ab\0\0"),
     ];
     for (fails, stop, choice, before, after) in cases {
-        let plan = FaultPlan {
-            fails: Calls::new(Vec::from_slice(rt.alloc(), &[fails])?),
-            stop,
-        };
-        let mut disk = MemoryDisk::new(rt.alloc(), 1, ROOM, plan)?;
-        let _ = disk.write(2, 0, b"ab");
-        let _ = disk.sync(2);
-        let _ = disk.write(2, 1, b"x");
-        let _ = disk.write(2, 1, b"bxy");
-        let _ = disk.write(1, 5, b"q");
-        assert!(rt; front(&mut disk).as_slice() == before, "call {fails} fails");
-        let mut left = disk.after_crash(rt.alloc(), choice, ROOM, no_faults(rt.alloc()))?;
-        assert!(rt; front(&mut left).as_slice() == after, "call {fails} fails");
+        let (read, left) = fronts_after_faults(rt.alloc(), fails, stop, choice)?;
+        assert!(rt; read.as_slice() == before, "call {fails} fails");
+        assert!(rt; left.as_slice() == after, "call {fails} fails");
     }
     Ok(())
+}
+
+// What is read after a poke between pending bytes and a later write, and what this loss of power then
+// leaves. Of the calls that are kept, no more has room.
+fn fronts_after_poke(
+    rt: &impl Abort,
+    alloc: Global,
+    later: &[u8],
+    choice: Crash,
+) -> Result<([u8; 4], [u8; 4]), Fail> {
+    let room = Room {
+        calls: if later.is_empty() { 3 } else { 4 },
+        bytes: 6,
+    };
+    let mut disk = MemoryDisk::new(alloc, 1, room, no_faults(alloc))?;
+    disk.write(2, 0, b"uv")?;
+    disk.sync(2)?;
+    disk.write(2, 0, b"abc")?;
+    assert!(rt; disk.room(2) == 64);
+    disk.poke(2, 1, b'z');
+    assert!(rt; &front(&mut disk) == b"azc\0", "{choice:?}");
+    assert!(rt; later.len() < 4);
+    if !later.is_empty() {
+        disk.write(2, 1, later)?;
+    }
+    let read = front(&mut disk);
+    let mut left = disk.after_crash(alloc, choice, ROOM, no_faults(alloc))?;
+    Ok((read, front(&mut left)))
 }
 
 #[test]
@@ -74,23 +115,9 @@ fn a_poked_byte_is_read_and_left_by_each_crash(rt: HostRuntime) -> Result<(), Fa
         (b"q", Crash::Fill(7), b"aqc\0", b"\x07\x07\x07\0"),
     ];
     for (later, choice, before, after) in cases {
-        let room = Room {
-            calls: if later.is_empty() { 3 } else { 4 },
-            bytes: 6,
-        };
-        let mut disk = MemoryDisk::new(rt.alloc(), 1, room, no_faults(rt.alloc()))?;
-        disk.write(2, 0, b"uv")?;
-        disk.sync(2)?;
-        disk.write(2, 0, b"abc")?;
-        assert!(rt; disk.room(2) == 64);
-        disk.poke(2, 1, b'z');
-        assert!(rt; &front(&mut disk) == b"azc\0", "{choice:?}");
-        if !later.is_empty() {
-            disk.write(2, 1, later)?;
-        }
-        assert!(rt; front(&mut disk).as_slice() == before, "{choice:?}");
-        let mut left = disk.after_crash(rt.alloc(), choice, ROOM, no_faults(rt.alloc()))?;
-        assert!(rt; front(&mut left).as_slice() == after, "{choice:?}");
+        let (read, left) = fronts_after_poke(&rt, rt.alloc(), later, choice)?;
+        assert!(rt; read.as_slice() == before, "{choice:?}");
+        assert!(rt; left.as_slice() == after, "{choice:?}");
     }
     Ok(())
 }

@@ -33,19 +33,27 @@ fn changed_records(rt: &impl Abort, alloc: Global) -> Result<WriteSet, AllocErro
     Ok(changed)
 }
 
-/// A recovery finds the store, and after it each loss of power leaves what the entries said.
-fn check_recovers(
+/// Whether a recovery finds the store, and each loss of power after it leaves what the entries said.
+fn recovers(rt: &impl Abort, alloc: Global, disk: &mut MemoryDisk) -> Result<bool, Fail> {
+    let is_found = recover(disk) == Ok(Found::Made(SHAPE));
+    let mut old = left_of(alloc, disk, Crash::Old, None)?;
+    let mut filled = left_of(alloc, disk, Crash::Fill(1), None)?;
+    Ok(is_found && is_recovered(rt, &mut old)? && is_recovered(rt, &mut filled)?)
+}
+
+/// Stops a recovery at this call. Gives what it answers, and whether the next one, over what the
+/// loss of power leaves, makes it good.
+fn stopped_recovery(
     rt: &impl Abort,
     alloc: Global,
-    disk: &mut MemoryDisk,
-    what: &str,
-) -> Result<(), Fail> {
-    assert!(rt; recover(disk) == Ok(Found::Made(SHAPE)), "{what}");
-    for choice in [Crash::Old, Crash::Fill(1)] {
-        let mut left = left_of(alloc, disk, choice, None)?;
-        assert!(rt; is_recovered(rt, &mut left)?, "{what}, {choice:?}");
-    }
-    Ok(())
+    disk: &MemoryDisk,
+    choice: Crash,
+    stop: u64,
+) -> Result<(Result<Found, RecoverFault>, bool), Fail> {
+    let mut stopped = left_of(alloc, disk, choice, Some(stop))?;
+    let answer = recover(&mut stopped);
+    let mut left = left_of(alloc, &stopped, choice, None)?;
+    Ok((answer, recovers(rt, alloc, &mut left)?))
 }
 
 /// A recovery is stopped at each call, and the next one comes to its end. Gives how many calls the
@@ -55,48 +63,58 @@ fn check_stopped_recoveries(
     alloc: Global,
     disk: &MemoryDisk,
     choice: Crash,
-    what: &str,
 ) -> Result<u64, Fail> {
-    let mut calls = 0;
     for stop in 1..=RECOVERY_CALLS + 1 {
-        let mut stopped = left_of(alloc, disk, choice, Some(stop))?;
-        let answer = recover(&mut stopped);
-        let mut left = left_of(alloc, &stopped, choice, None)?;
-        check_recovers(rt, alloc, &mut left, what)?;
+        let (answer, made_good) = stopped_recovery(rt, alloc, disk, choice, stop)?;
+        assert!(rt; made_good, "{choice:?} at call {stop}");
         if answer.is_ok() {
-            break;
+            return Ok(stop - 1);
         }
-        assert!(rt; answer == Err(RecoverFault::Disk), "{what}");
-        calls = stop;
+        assert!(rt;
+            answer == Err(RecoverFault::Disk),
+            "{choice:?} at call {stop}"
+        );
     }
-    Ok(calls)
+    Ok(RECOVERY_CALLS + 1)
 }
 
 #[test]
 fn a_recovery_is_stopped_at_each_call(rt: HostRuntime) -> Result<(), Fail> {
-    let alloc = rt.alloc();
-    let store = logged_store(&rt, alloc)?;
-    let settled = left_of(alloc, &store, Crash::New, None)?;
+    let store = logged_store(&rt, rt.alloc())?;
+    let settled = left_of(rt.alloc(), &store, Crash::New, None)?;
     for choice in CHOICES {
-        let what = format!(in alloc; "{choice:?}")?;
-        let calls = check_stopped_recoveries(&rt, alloc, &settled, choice, &what)?;
-        assert!(rt; calls == RECOVERY_CALLS, "{what}");
+        let calls = check_stopped_recoveries(&rt, rt.alloc(), &settled, choice)?;
+        assert!(rt; calls == RECOVERY_CALLS, "{choice:?}");
     }
+    Ok(())
+}
+
+/// Stops a checkpoint at this call, and then each recovery of what is left.
+fn check_stopped_checkpoint(
+    rt: &impl Abort,
+    alloc: Global,
+    store: &MemoryDisk,
+    changed: &WriteSet,
+    choice: Crash,
+    stop: u64,
+) -> Result<(), Fail> {
+    let mut stopped = left_of(alloc, store, Crash::New, Some(stop))?;
+    let answer = checkpoint(&mut stopped, changed);
+    assert!(rt;
+        answer.is_ok() == (stop > CHECKPOINT_CALLS),
+        "{choice:?} at call {stop}"
+    );
+    check_stopped_recoveries(rt, alloc, &stopped, choice)?;
     Ok(())
 }
 
 #[test]
 fn a_checkpoint_is_stopped_at_each_call(rt: HostRuntime) -> Result<(), Fail> {
-    let alloc = rt.alloc();
-    let store = logged_store(&rt, alloc)?;
-    let changed = changed_records(&rt, alloc)?;
+    let store = logged_store(&rt, rt.alloc())?;
+    let changed = changed_records(&rt, rt.alloc())?;
     for choice in CHOICES {
         for stop in 1..=CHECKPOINT_CALLS + 1 {
-            let what = format!(in alloc; "{choice:?} at call {stop}")?;
-            let mut stopped = left_of(alloc, &store, Crash::New, Some(stop))?;
-            let answer = checkpoint(&mut stopped, &changed);
-            assert!(rt; answer.is_ok() == (stop > CHECKPOINT_CALLS), "{what}");
-            check_stopped_recoveries(&rt, alloc, &stopped, choice, &what)?;
+            check_stopped_checkpoint(&rt, rt.alloc(), &store, &changed, choice, stop)?;
         }
     }
     Ok(())
@@ -111,22 +129,48 @@ fn failing_store(alloc: Global, store: &MemoryDisk, call: u64) -> Result<MemoryD
     store.after_crash(alloc, Crash::New, ROOM, plan)
 }
 
+/// A checkpoint fails in this call, and a recovery then finds the store.
+fn check_failed_checkpoint(
+    rt: &impl Abort,
+    alloc: Global,
+    store: &MemoryDisk,
+    changed: &WriteSet,
+    call: u64,
+) -> Result<(), Fail> {
+    let mut disk = failing_store(alloc, store, call)?;
+    assert!(rt;
+        checkpoint(&mut disk, changed) == Err(Failed),
+        "call {call}"
+    );
+    assert!(rt; recovers(rt, alloc, &mut disk)?, "call {call}");
+    Ok(())
+}
+
+/// A recovery fails in this call, and the next one finds the store.
+fn check_failed_recovery(
+    rt: &impl Abort,
+    alloc: Global,
+    store: &MemoryDisk,
+    call: u64,
+) -> Result<(), Fail> {
+    let mut disk = failing_store(alloc, store, call)?;
+    assert!(rt;
+        recover(&mut disk) == Err(RecoverFault::Disk),
+        "call {call}"
+    );
+    assert!(rt; recovers(rt, alloc, &mut disk)?, "call {call}");
+    Ok(())
+}
+
 #[test]
 fn a_call_that_fails_leaves_the_records(rt: HostRuntime) -> Result<(), Fail> {
-    let alloc = rt.alloc();
-    let store = logged_store(&rt, alloc)?;
-    let changed = changed_records(&rt, alloc)?;
+    let store = logged_store(&rt, rt.alloc())?;
+    let changed = changed_records(&rt, rt.alloc())?;
     for call in 1..=CHECKPOINT_CALLS {
-        let what = format!(in alloc; "checkpoint, call {call}")?;
-        let mut disk = failing_store(alloc, &store, call)?;
-        assert!(rt; checkpoint(&mut disk, &changed) == Err(Failed), "{what}");
-        check_recovers(&rt, alloc, &mut disk, &what)?;
+        check_failed_checkpoint(&rt, rt.alloc(), &store, &changed, call)?;
     }
     for call in 1..=RECOVERY_CALLS {
-        let what = format!(in alloc; "recovery, call {call}")?;
-        let mut disk = failing_store(alloc, &store, call)?;
-        assert!(rt; recover(&mut disk) == Err(RecoverFault::Disk), "{what}");
-        check_recovers(&rt, alloc, &mut disk, &what)?;
+        check_failed_recovery(&rt, rt.alloc(), &store, call)?;
     }
     Ok(())
 }
