@@ -8,32 +8,33 @@ use Rattle.plain_graph.specs.declared.command.Target.{Target}
 use Rattle.plain_graph.specs.declared.command.Target.TheVariants as targets
 use Rattle.plain_graph.specs.declared.direction.Direction.{Direction}
 use Rattle.plain_graph.specs.declared.direction.Direction.TheVariants as directions
-use Rattle.plain_graph.specs.declared.pairs.Pair.{Pair}
 use Rattle.plain_graph.specs.declared.query.Query.{Query}
 use Rattle.gremlin_parse.specs.Grammar.{most_id, Part, Blanks, Gap, Exactly, Name, Number, Written, target_parts, direction_name, IsBounded, parts_of, IsCommand, KeepsBounds, NeedsNoMemory}
 use Rattle.gremlin_parse.specs.Queries.{IsKeptQuery}
 use Rattle.gremlin_parse.specs.Keywords.{Entry, InTable, plain, TakesWord}
 use Rattle.gremlin_parse.specs.Symbols.{Contents, ReadsAll}
-use Rattle.gremlin_parse.specs.Commands.{IsLastOf, head_words, element_of, target_name, target_id, target_names, direction_named, direction_names, production, LastContent, LastOf, IsPlain, KeepsTail, last_parts, command_of, IsLast, IsAfter, SpellsAfter, IsTail, LacksMemory}
+use Rattle.gremlin_parse.specs.Arguments.{target_names, direction_named, direction_names}
+use Rattle.gremlin_parse.specs.Lasts.{Lacks, last_parts}
+use Rattle.gremlin_parse.specs.Commands.{IsLastOf, head_words, element_of, last_part, production, LastContent, LastOf, IsPlain, Asks, KeepsTail, command_of, plain_command, IsLast, IsAfter, SpellsAfter, IsTail, LacksMemory}
 use Rattle.gremlin_parse.specs.declared.head.Head.{Head}
 use Rattle.gremlin_parse.specs.declared.head.Head.TheVariants as heads
+use Rattle.gremlin_parse.specs.declared.word.Word.{Word}
 use Rattle.gremlin_parse.specs.declared.word.Word.TheVariants as words
 use Rattle.gremlin_parse.proofs.Runs.{Halts}
 use Rattle.gremlin_parse.proofs.Tables.{lookup_in, ThenWord-after, words_agree}
-use Rattle.gremlin_parse.proofs.Symbols.{NameByte}
+use Rattle.gremlin_parse.proofs.Symbols.{NameByte, no_blanks}
 use Rattle.gremlin_parse.proofs.Productions.{HaltsAt, follows_halts, read_follows}
 use Rattle.gremlin_parse.proofs.Spelling.{AllowsAll, parts_with, ThenParts, then_parts_map, then_parts_choice, follows_of_parts, parts_of_follows, follows_agree, read_allowed, read_bounded}
-use Rattle.gremlin_parse.proofs.Pairs.{pairs_agree}
-use Rattle.gremlin_parse.proofs.QueryLaws.{queries_agree}
-use Rattle.gremlin_parse.proofs.Heads.{word_of, entry_word, head_table, enders, production_is, production_halts, last_closes, no_word_in_nothing}
+use Rattle.gremlin_parse.proofs.Lasts.{one_last}
+use Rattle.gremlin_parse.proofs.Heads.{word_of, entry_word, head_table, production_is, production_halts, last_closes, no_word_in_nothing}
 
 -- ---- the command that is spelled
 
-last_of_halts : (command : Command) (head : Head) (contents : Contents (production head)) → HaltsAt (enders head) (IsLastOf command head contents)
+last_of_halts : (command : Command) (head : Head) (contents : Contents (production head)) → HaltsAt no_blanks (IsLastOf command head contents)
 last_of_halts command head contents = λ class halts rest (last, is, made). (last_closes head).ends class halts rest (last, made)
 
 pub spells_halts : (command : Command) (head : Head) → Halts is_name_byte (SpellsAfter command head)
-spells_halts command head = follows_halts NameByte (enders head NameByte) (production head) (production_halts head) (IsLastOf command head) (λ contents. last_of_halts command head contents NameByte)
+spells_halts command head = follows_halts NameByte (no_blanks NameByte) (production head) (production_halts head) (IsLastOf command head) (λ contents. last_of_halts command head contents NameByte)
 
 -- the contents of a spelled command
 pub record Spelled (command : Command) (head : Head) (bytes : List ℕ) : Type 0 where
@@ -78,14 +79,7 @@ tail_of_word command head bytes rest (run, cut, is) spells = inr ((run, head), l
 
 -- the same last bytes are of the same command
 last_agrees : (head : Head) (contents : Contents (production head)) (one two : LastContent head) (rest : List ℕ) → LastOf head one rest → LastOf head two rest → command_of head contents two ≡ command_of head contents one
-last_agrees (heads.Alone word) contents one two rest made other = refl
-last_agrees heads.Node contents one two rest made other = ap (λ (pairs : List Pair). commands.Node contents.1.0 pairs) (pairs_agree one two rest made other)
-last_agrees heads.Edge contents one two rest made other = ap (λ (pairs : List Pair). commands.Edge contents.1.0 contents.1.1.1.0 contents.1.1.1.1.1.0 pairs) (pairs_agree one two rest made other)
-last_agrees heads.Set contents one two rest made other = refl
-last_agrees heads.Unset contents one two rest made other = refl
-last_agrees heads.Delete contents one two rest made other = refl
-last_agrees heads.Expand contents one two rest made other = refl
-last_agrees heads.Query contents one two rest made other = ap (λ (query : Query). commands.Query query) (queries_agree one two rest made other)
+last_agrees head contents one two rest made other = ap (command_of head contents) (one_last (last_part head) one two rest made other)
 
 same_command : (command other : Command) (head : Head) (contents : Contents (production head)) (rest : List ℕ) → IsLastOf command head contents rest → IsLastOf other head contents rest → other ≡ command
 same_command command other head contents rest (last, is, made) (second, is_other, others) = is_other ∙ last_agrees head contents last second rest made others ∙ sym is
@@ -97,11 +91,11 @@ commands_agree command other bytes (inl (blank, end)) (inr two) = absurd (no_wor
 commands_agree command other bytes (inr one) (inl (empty, end)) = absurd (no_word_in_nothing (SpellsAfter command) bytes end one)
 commands_agree command other bytes (inr one) (inr two) =
     let word = words_agree head_words head_table (SpellsAfter command) (SpellsAfter other) (spells_halts command) (spells_halts other) bytes one two in
-    let found = follows_agree (enders word.kind) (production word.kind) (production_is word.kind) (IsLastOf command word.kind) (IsLastOf other word.kind) (last_of_halts command word.kind) (last_of_halts other word.kind) word.rest word.one word.two in
+    let found = follows_agree no_blanks (production word.kind) (production_is word.kind) (IsLastOf command word.kind) (IsLastOf other word.kind) (last_of_halts command word.kind) (last_of_halts other word.kind) word.rest word.one word.two in
     same_command command other word.kind found.contents found.rest found.one found.two
 
 -- Where a word of a command that asks for memory stands, no other command does.
-pub lacks_memory : (head : Head) → ((contents : Contents (production head)) (last : LastContent head) → ¬ NeedsNoMemory (command_of head contents last)) → (bytes rest : List ℕ) → bytes ≢ [] → TakesWord head_words bytes head rest → LacksMemory bytes
+lacks_memory : (head : Head) → ((contents : Contents (production head)) (last : LastContent head) → ¬ NeedsNoMemory (command_of head contents last)) → (bytes rest : List ℕ) → bytes ≢ [] → TakesWord head_words bytes head rest → LacksMemory bytes
 lacks_memory head asks bytes rest some takes = λ command none tail. refuse command none tail
   where
     refuse : (command : Command) → NeedsNoMemory command → ¬ IsTail command bytes
@@ -110,16 +104,30 @@ lacks_memory head asks bytes rest some takes = λ command none tail. refuse comm
         let spelled = contents_of_spelled command head rest (ThenWord-after head_words head_table (SpellsAfter command) (spells_halts command) bytes rest head takes word) in
         asks spelled.contents spelled.last (subst NeedsNoMemory spelled.is none)
 
+asks_memory : (head : Head) → Asks head → (contents : Contents (production head)) (last : LastContent head) → ¬ NeedsNoMemory (command_of head contents last)
+asks_memory (heads.Alone word) asks contents last = absurd asks
+asks_memory heads.Delete asks contents last = absurd asks
+asks_memory head asks contents last = λ none. none
+
+pub lacks_asked : (head : Head) → Asks head → (bytes rest : List ℕ) → bytes ≢ [] → TakesWord head_words bytes head rest → LacksMemory bytes
+lacks_asked head asks bytes rest some takes = lacks_memory head (asks_memory head asks) bytes rest some takes
+
+-- What is read last asks for memory only where the command does.
+pub last_asks : (head : Head) → Lacks (last_part head) → Asks head
+last_asks (heads.Alone word) lacks = absurd lacks
+last_asks heads.Delete lacks = absurd lacks
+last_asks head lacks = tt
+
 -- ---- the parts of a command
 
 -- the parts after a command's first word
 abbrev pub tail_parts : (head : Head) → Contents (production head) → LastContent head → List Part
-tail_parts head contents last = parts_with (production head) contents ++ last_parts head last
+tail_parts head contents last = parts_with (production head) contents ++ last_parts (last_part head) last
 
 -- the parts of an element between others
-element_parts : (word name : List ℕ) (id : ℕ) (more : List Part) → InTable (name, tt) (plain target_names) → ((Blanks ∷ Exactly word ∷ Gap ∷ []) ++ target_parts (element_of name id)) ++ more ≡ Blanks ∷ Exactly word ∷ Gap ∷ Exactly name ∷ Gap ∷ Number most_id id ∷ more
+element_parts : (word name : List ℕ) (id : ℕ) (more : List Part) → InTable (name, tt) (plain target_names) → ((Exactly word ∷ Gap ∷ []) ++ target_parts (element_of name id)) ++ more ≡ Exactly word ∷ Gap ∷ Exactly name ∷ Gap ∷ Number most_id id ∷ more
 element_parts word name id more allowed =
-    let Made : Entry (Unit {0}) → Type 0 = λ entry. ((Blanks ∷ Exactly word ∷ Gap ∷ []) ++ target_parts (element_of entry.0 id)) ++ more ≡ Blanks ∷ Exactly word ∷ Gap ∷ Exactly entry.0 ∷ Gap ∷ Number most_id id ∷ more in
+    let Made : Entry (Unit {0}) → Type 0 = λ entry. ((Exactly word ∷ Gap ∷ []) ++ target_parts (element_of entry.0 id)) ++ more ≡ Exactly word ∷ Gap ∷ Exactly entry.0 ∷ Gap ∷ Number most_id id ∷ more in
     let Here : Entry (Unit {0}) → Type 0 = λ entry. (name, tt) ≡ entry in
     ⊎_elim
     (λ (node : Here (codes "node", tt)). subst Made (sym node) refl)
@@ -133,40 +141,28 @@ named_direction name (inr (inl enters)) = let same : name ≡ codes "in" = ap (�
 named_direction name (inr (inr (inl both))) = let same : name ≡ codes "both" = ap (λ (e : Entry (Unit {0})). e.0) both in subst (λ n. direction_name (direction_named n) ≡ n) (sym same) refl
 named_direction name (inr (inr (inr none))) = absurd none
 
-pub command_parts : (head : Head) (contents : Contents (production head)) (last : LastContent head) → IsPlain head → AllowsAll (production head) contents → parts_of (command_of head contents last) ≡ Blanks ∷ Exactly (word_of head) ∷ tail_parts head contents last
+pub command_parts : (head : Head) (contents : Contents (production head)) (last : LastContent head) → IsPlain head → AllowsAll (production head) contents → parts_of (command_of head contents last) ≡ Exactly (word_of head) ∷ tail_parts head contents last
 command_parts (heads.Alone words.Begin) contents last plain allows = refl
-command_parts (heads.Alone words.Commit) contents last plain allows = refl
-command_parts (heads.Alone words.Rollback) contents last plain allows = refl
-command_parts (heads.Alone words.Checkpoint) contents last plain allows = refl
-command_parts (heads.Alone words.Check) contents last plain allows = refl
-command_parts (heads.Alone words.Stats) contents last plain allows = refl
-command_parts (heads.Alone words.Reopen) contents last plain allows = refl
-command_parts (heads.Alone words.Quit) contents last plain allows = refl
-command_parts heads.Node contents last plain allows = refl
-command_parts heads.Edge contents last plain allows = refl
 command_parts heads.Set contents last plain allows = element_parts (codes "set") contents.1.0 contents.1.1.1.0 (Gap ∷ Name contents.1.1.1.1.1.0 ∷ Gap ∷ Written contents.1.1.1.1.1.1.1.0 ∷ Blanks ∷ []) allows.1.0
 command_parts heads.Unset contents last plain allows = element_parts (codes "unset") contents.1.0 contents.1.1.1.0 (Gap ∷ Name contents.1.1.1.1.1.0 ∷ Blanks ∷ []) allows.1.0
 command_parts heads.Delete contents last plain allows = element_parts (codes "delete") contents.1.0 contents.1.1.1.0 (Blanks ∷ []) allows.1.0
 command_parts heads.Expand contents last plain allows =
-    ap (λ (name : List ℕ). Blanks ∷ Exactly (codes "expand") ∷ Gap ∷ Number most_id contents.1.0 ∷ Gap ∷ Exactly name ∷ Gap ∷ Name contents.1.1.1.1.1.0 ∷ Blanks ∷ []) (named_direction contents.1.1.1.0 allows.1.1.1.0)
-command_parts heads.Query contents last plain allows = absurd plain
+    ap (λ (name : List ℕ). Exactly (codes "expand") ∷ Gap ∷ Number most_id contents.1.0 ∷ Gap ∷ Exactly name ∷ Gap ∷ Name contents.1.1.1.1.1.0 ∷ Blanks ∷ []) (named_direction contents.1.1.1.0 allows.1.1.1.0)
+command_parts heads.Query contents last plain allows = cc
+command_parts head contents last plain allows = refl
 
 pub is_command : (head : Head) (contents : Contents (production head)) (last : LastContent head) → IsPlain head → IsCommand (command_of head contents last)
 is_command (heads.Alone words.Begin) contents last plain = tt
-is_command (heads.Alone words.Commit) contents last plain = tt
-is_command (heads.Alone words.Rollback) contents last plain = tt
-is_command (heads.Alone words.Checkpoint) contents last plain = tt
-is_command (heads.Alone words.Check) contents last plain = tt
-is_command (heads.Alone words.Stats) contents last plain = tt
-is_command (heads.Alone words.Reopen) contents last plain = tt
-is_command (heads.Alone words.Quit) contents last plain = tt
-is_command heads.Node contents last plain = tt
-is_command heads.Edge contents last plain = tt
-is_command heads.Set contents last plain = tt
-is_command heads.Unset contents last plain = tt
-is_command heads.Delete contents last plain = tt
-is_command heads.Expand contents last plain = tt
-is_command heads.Query contents last plain = absurd plain
+is_command heads.Query contents last plain = cc
+is_command head contents last plain = tt
+
+abbrev target_name : Target → List ℕ
+target_name (targets.Node id) = codes "node"
+target_name (targets.Edge id) = codes "edge"
+
+abbrev target_id : Target → ℕ
+target_id (targets.Node id) = id
+target_id (targets.Edge id) = id
 
 -- the element of its name and its identifier
 pub element_is : (target : Target) → element_of (target_name target) (target_id target) ≡ target
@@ -196,20 +192,23 @@ pub record Sentence (command : Command) : Type 0 where
   pub last : LastContent head
   pub is : command ≡ command_of head contents last
 
+one_word : (word : Word) → Sentence (plain_command word)
+one_word word = record { head = heads.Alone word; plain = refl; contents = tt; allowed = tt; last = tt; is = refl }
+
 pub sentence_of : (command : Command) → IsCommand command → (command ≡ commands.Blank) ⊎ Sentence command
 sentence_of commands.Blank is = inl refl
-sentence_of commands.Begin is = inr (record { head = heads.Alone words.Begin; plain = tt; contents = (tt, tt); allowed = (tt, tt); last = tt; is = refl })
-sentence_of commands.Commit is = inr (record { head = heads.Alone words.Commit; plain = tt; contents = (tt, tt); allowed = (tt, tt); last = tt; is = refl })
-sentence_of commands.Rollback is = inr (record { head = heads.Alone words.Rollback; plain = tt; contents = (tt, tt); allowed = (tt, tt); last = tt; is = refl })
-sentence_of commands.Checkpoint is = inr (record { head = heads.Alone words.Checkpoint; plain = tt; contents = (tt, tt); allowed = (tt, tt); last = tt; is = refl })
-sentence_of commands.Check is = inr (record { head = heads.Alone words.Check; plain = tt; contents = (tt, tt); allowed = (tt, tt); last = tt; is = refl })
-sentence_of commands.Stats is = inr (record { head = heads.Alone words.Stats; plain = tt; contents = (tt, tt); allowed = (tt, tt); last = tt; is = refl })
-sentence_of commands.Reopen is = inr (record { head = heads.Alone words.Reopen; plain = tt; contents = (tt, tt); allowed = (tt, tt); last = tt; is = refl })
-sentence_of commands.Quit is = inr (record { head = heads.Alone words.Quit; plain = tt; contents = (tt, tt); allowed = (tt, tt); last = tt; is = refl })
-sentence_of (commands.Node label pairs) is = inr (record { head = heads.Node; plain = tt; contents = (tt, (label, tt)); allowed = (tt, (tt, tt)); last = pairs; is = refl })
+sentence_of commands.Begin is = inr (one_word words.Begin)
+sentence_of commands.Commit is = inr (one_word words.Commit)
+sentence_of commands.Rollback is = inr (one_word words.Rollback)
+sentence_of commands.Checkpoint is = inr (one_word words.Checkpoint)
+sentence_of commands.Check is = inr (one_word words.Check)
+sentence_of commands.Stats is = inr (one_word words.Stats)
+sentence_of commands.Reopen is = inr (one_word words.Reopen)
+sentence_of commands.Quit is = inr (one_word words.Quit)
+sentence_of (commands.Node label pairs) is = inr (record { head = heads.Node; plain = refl; contents = (tt, (label, tt)); allowed = (tt, (tt, tt)); last = pairs; is = refl })
 sentence_of (commands.Edge from label to pairs) is = inr (record {
   head = heads.Edge;
-  plain = tt;
+  plain = refl;
   contents = (tt, (from, (tt, (label, (tt, (to, tt))))));
   allowed = (tt, (tt, (tt, (tt, (tt, (tt, tt))))));
   last = pairs;
@@ -217,39 +216,39 @@ sentence_of (commands.Edge from label to pairs) is = inr (record {
 })
 sentence_of (commands.Set target key value) is = inr (record {
   head = heads.Set;
-  plain = tt;
-  contents = (tt, (target_name target, (tt, (target_id target, (tt, (key, (tt, (value, (tt, tt)))))))));
-  allowed = (tt, (name_allowed target, (tt, (tt, (tt, (tt, (tt, (tt, (tt, tt)))))))));
+  plain = refl;
+  contents = (tt, (target_name target, (tt, (target_id target, (tt, (key, (tt, (value, tt))))))));
+  allowed = (tt, (name_allowed target, (tt, (tt, (tt, (tt, (tt, (tt, tt))))))));
   last = tt;
   is = ap (λ (t : Target). commands.Set t key value) (sym (element_is target));
 })
 sentence_of (commands.Unset target key) is = inr (record {
   head = heads.Unset;
-  plain = tt;
-  contents = (tt, (target_name target, (tt, (target_id target, (tt, (key, (tt, tt)))))));
-  allowed = (tt, (name_allowed target, (tt, (tt, (tt, (tt, (tt, tt)))))));
+  plain = refl;
+  contents = (tt, (target_name target, (tt, (target_id target, (tt, (key, tt))))));
+  allowed = (tt, (name_allowed target, (tt, (tt, (tt, (tt, tt))))));
   last = tt;
   is = ap (λ (t : Target). commands.Unset t key) (sym (element_is target));
 })
 sentence_of (commands.Delete target) is = inr (record {
   head = heads.Delete;
-  plain = tt;
-  contents = (tt, (target_name target, (tt, (target_id target, (tt, tt)))));
-  allowed = (tt, (name_allowed target, (tt, (tt, (tt, tt)))));
+  plain = refl;
+  contents = (tt, (target_name target, (tt, (target_id target, tt))));
+  allowed = (tt, (name_allowed target, (tt, (tt, tt))));
   last = tt;
   is = ap (λ (t : Target). commands.Delete t) (sym (element_is target));
 })
 sentence_of (commands.Expand id direction label) is = inr (record {
   head = heads.Expand;
-  plain = tt;
-  contents = (tt, (id, (tt, (direction_name direction, (tt, (label, (tt, tt)))))));
-  allowed = (tt, (tt, (tt, (direction_allowed direction, (tt, (tt, (tt, tt)))))));
+  plain = refl;
+  contents = (tt, (id, (tt, (direction_name direction, (tt, (label, tt))))));
+  allowed = (tt, (tt, (tt, (direction_allowed direction, (tt, (tt, tt))))));
   last = tt;
   is = ap (λ (d : Direction). commands.Expand id d label) (sym (direction_is direction));
 })
 sentence_of (commands.Query query) is = absurd is
 
-pub sentence_parts : (command : Command) → (sentence : Sentence command) → parts_of command ≡ Blanks ∷ Exactly (word_of sentence.head) ∷ tail_parts sentence.head sentence.contents sentence.last
+pub sentence_parts : (command : Command) → (sentence : Sentence command) → parts_of command ≡ Exactly (word_of sentence.head) ∷ tail_parts sentence.head sentence.contents sentence.last
 sentence_parts command sentence = ap parts_of sentence.is ∙ command_parts sentence.head sentence.contents sentence.last sentence.plain sentence.allowed
 
 -- ---- what readers have read
@@ -260,32 +259,19 @@ spells_read head contents last bytes rest reads made =
     read_follows (production head) contents (IsLastOf (command_of head contents last) head) bytes rest reads (last, refl, made)
 
 -- Its parts are within their bounds.
-pub read_keeps : (head : Head) → IsPlain head → (contents : Contents (production head)) (last : LastContent head) (bytes rest : List ℕ) → ReadsAll (production head) contents bytes rest → AllByRecursion IsBounded (last_parts head last) → KeepsBounds (command_of head contents last)
+pub read_keeps : (head : Head) → IsPlain head → (contents : Contents (production head)) (last : LastContent head) (bytes rest : List ℕ) → ReadsAll (production head) contents bytes rest → AllByRecursion IsBounded (last_parts (last_part head) last) → KeepsBounds (command_of head contents last)
 read_keeps head plain contents last bytes rest reads within =
-    subst (AllByRecursion IsBounded) (sym (command_parts head contents last plain (read_allowed (production head) contents bytes rest reads))) (tt, (tt, read_bounded (production head) contents bytes rest reads (last_parts head last) within))
+    subst (AllByRecursion IsBounded) (sym (command_parts head contents last plain (read_allowed (production head) contents bytes rest reads))) (tt, read_bounded (production head) contents bytes rest reads (last_parts (last_part head) last) within)
 
 -- A command but a query keeps its bounds, whatever bytes spell it.
 pub plain_keeps : (head : Head) → IsPlain head → (command : Command) (rest bytes : List ℕ) → SpellsAfter command head rest → KeepsBounds command → KeepsTail command bytes
 plain_keeps head plain command rest bytes spells keeps =
     let spelled = contents_of_spelled command head rest spells in
-    subst (λ c. KeepsTail c bytes) (sym spelled.is) (of_head head plain spelled.contents spelled.last (subst KeepsBounds spelled.is keeps))
+    keeps_command command (subst IsCommand (sym spelled.is) (is_command head spelled.contents spelled.last plain)) keeps
   where
-    of_head : (head : Head) → IsPlain head → (contents : Contents (production head)) (last : LastContent head) → KeepsBounds (command_of head contents last) → KeepsTail (command_of head contents last) bytes
-    of_head (heads.Alone words.Begin) plain contents last keeps = keeps
-    of_head (heads.Alone words.Commit) plain contents last keeps = keeps
-    of_head (heads.Alone words.Rollback) plain contents last keeps = keeps
-    of_head (heads.Alone words.Checkpoint) plain contents last keeps = keeps
-    of_head (heads.Alone words.Check) plain contents last keeps = keeps
-    of_head (heads.Alone words.Stats) plain contents last keeps = keeps
-    of_head (heads.Alone words.Reopen) plain contents last keeps = keeps
-    of_head (heads.Alone words.Quit) plain contents last keeps = keeps
-    of_head heads.Node plain contents last keeps = keeps
-    of_head heads.Edge plain contents last keeps = keeps
-    of_head heads.Set plain contents last keeps = keeps
-    of_head heads.Unset plain contents last keeps = keeps
-    of_head heads.Delete plain contents last keeps = keeps
-    of_head heads.Expand plain contents last keeps = keeps
-    of_head heads.Query plain contents last keeps = absurd plain
+    keeps_command : (command : Command) → IsCommand command → KeepsBounds command → KeepsTail command bytes
+    keeps_command (commands.Query query) is keeps = absurd is
+    keeps_command command is keeps = keeps
 
 -- a query after its word
 pub query_spelled : (query : Query) (bytes rest : List ℕ) → TakesWord head_words bytes heads.Query rest → IsKeptQuery query rest → KeepsTail (commands.Query query) bytes

@@ -1,13 +1,13 @@
 -- Commands and queries by their first word: the table of words, and where reading stops at one and after it.
-use Rattle.std.proofs.Common.{◌≡◌, ◌≢◌, inr, ℕ, Some, true, List, [], ◌∷◌, ◌++◌, codes, refl, sym, ap, ◌∙◌, subst, ⊎_elim}
-use Rattle.std.specs.List.{AllByRecursion}
+use Rattle.std.proofs.Common.{◌≡◌, ◌≢◌, inr, ℕ, Some, Bool, true, false, not, List, [], ◌∷◌, ◌++◌, codes, refl, sym, ap, ◌∙◌, subst}
 use Rattle.plain_graph.specs.Names.{is_name_byte}
 use Rattle.gremlin_parse.specs.Grammar.{is_blank}
 use Rattle.gremlin_parse.specs.Faults.{EndsRun}
 use Rattle.gremlin_parse.specs.Keywords.{Entry, InTable, lookup, TakesWord, LeavesTable, ThenWord}
 use Rattle.gremlin_parse.specs.Symbols.{Contents, ReadsAll, LeavesOne}
-use Rattle.gremlin_parse.specs.Stopping.{Bads, IsStop, StopsWith, IsEnd}
-use Rattle.gremlin_parse.specs.Commands.{StopsAfter, head_words, production, IsLast, BadLast, IsAfter, BadAfter, IsSomeTail, BadTail}
+use Rattle.gremlin_parse.specs.Stopping.{Bads, IsStop, StopsWith}
+use Rattle.gremlin_parse.specs.Commands.{StopsAfter, head_words, arguments_of, last_part, production, IsLast, BadLast, IsAfter, BadAfter, IsSomeTail, BadTail}
+use Rattle.gremlin_parse.specs.Lasts.{is_query}
 use Rattle.gremlin_parse.specs.declared.bad_token.BadToken.{BadToken}
 use Rattle.gremlin_parse.specs.declared.head.Head.{Head}
 use Rattle.gremlin_parse.specs.declared.head.Head.TheVariants as heads
@@ -15,15 +15,13 @@ use Rattle.gremlin_parse.specs.declared.word.Word.TheVariants as words
 use Rattle.gremlin_parse.specs.declared.stop.Stop.{Stop}
 use Rattle.gremlin_parse.specs.declared.stop.Stop.TheVariants as stops
 use Rattle.gremlin_parse.proofs.Runs.{Halts}
-use Rattle.gremlin_parse.proofs.Stops.{stops_of_same}
-use Rattle.gremlin_parse.proofs.Tables.{IsWordTable, lookup_in, ThenWord-after, continues_table, stops_in_table, no_word}
-use Rattle.gremlin_parse.proofs.Words.{entry_named}
+use Rattle.gremlin_parse.proofs.Tables.{IsWordTable, word_table, passes_in, lookup_in, ThenWord-after, continues_table, stops_in_table, no_word}
+use Rattle.gremlin_parse.proofs.Words.{are_named, entry_named}
 use Rattle.gremlin_parse.proofs.Symbols.{NameByte, no_blanks, halts, first_fails, first_ends}
-use Rattle.gremlin_parse.proofs.Productions.{Enders, is_production, Closes, Goes, follows_halts, bad_follows_halts, some_line, stop_after, stop_among, stop_after_all}
+use Rattle.gremlin_parse.proofs.Productions.{is_production, Closes, Goes, follows_halts, bad_follows_halts, some_line, stop_after, stop_among, stop_after_all}
 use Rattle.gremlin_parse.proofs.Repeats.{stop_of_second}
-use Rattle.gremlin_parse.proofs.Pairs.{pairs_close}
-use Rattle.gremlin_parse.proofs.Ends.{every, end_halts, AtEnd, stop_at_end}
-use Rattle.gremlin_parse.proofs.QueryLaws.{queries_close}
+use Rattle.gremlin_parse.proofs.Arguments.{spaced_is, spaced_halts}
+use Rattle.gremlin_parse.proofs.Lasts as of_kind
 
 -- ---- the table
 
@@ -46,128 +44,71 @@ word_of heads.Query = codes "g"
 
 pub named : (head : Head) → lookup head_words (word_of head) ≡ Some head
 named (heads.Alone words.Begin) = refl
-named (heads.Alone words.Commit) = refl
-named (heads.Alone words.Rollback) = refl
-named (heads.Alone words.Checkpoint) = refl
-named (heads.Alone words.Check) = refl
-named (heads.Alone words.Stats) = refl
-named (heads.Alone words.Reopen) = refl
-named (heads.Alone words.Quit) = refl
-named heads.Node = refl
-named heads.Edge = refl
-named heads.Set = refl
-named heads.Unset = refl
-named heads.Delete = refl
-named heads.Expand = refl
-named heads.Query = refl
+named head = refl
 
 pub entry_word : (entry : Entry Head) → InTable entry head_words → entry.0 ≡ word_of entry.1
-entry_word = entry_named word_of head_words (refl, (refl, (refl, (refl, (refl, (refl, (refl, (refl, (refl, (refl, (refl, (refl, (refl, (refl, (refl, tt)))))))))))))))
+entry_word = entry_named word_of head_words (are_named word_of head_words refl)
 
 pub head_table : IsWordTable head_words
-head_table = record {
-  words = (refl, (refl, (refl, (refl, (refl, (refl, (refl, (refl, (refl, (refl, (refl, (refl, (refl, (refl, (refl, tt)))))))))))))));
-  named = (refl, (refl, (refl, (refl, (refl, (refl, (refl, (refl, (refl, (refl, (refl, (refl, (refl, (refl, (refl, tt)))))))))))))));
-}
+head_table = word_table head_words refl
 
 -- Each word begins with a byte that is no blank.
-head_starts : AllByRecursion (λ (e : Entry Head). first_fails is_blank e.0 ≡ true) head_words
-head_starts = (refl, (refl, (refl, (refl, (refl, (refl, (refl, (refl, (refl, (refl, (refl, (refl, (refl, (refl, (refl, tt)))))))))))))))
-
-starts_of : (table : List (Entry Head)) → AllByRecursion (λ (e : Entry Head). first_fails is_blank e.0 ≡ true) table → (entry : Entry Head) → InTable entry table → first_fails is_blank entry.0 ≡ true
-starts_of [] all entry within = absurd within
-starts_of (first ∷ table) all entry within = ⊎_elim (λ (same : entry ≡ first). ap (λ (e : Entry Head). first_fails is_blank e.0) same ∙ all.0) (λ (later : InTable entry table). starts_of table all.1 entry later) within
+word_starts : (entry : Entry Head) → InTable entry head_words → first_fails is_blank entry.0 ≡ true
+word_starts = passes_in (λ (e : Entry Head). first_fails is_blank e.0) head_words refl
 
 pub word_halts : (After : Head → List ℕ → Type 0) → Halts is_blank (ThenWord head_words After)
 word_halts After = λ bytes (entry, within, (prefix, rest, whole, word_is, after)).
-    subst (EndsRun is_blank) (sym (whole ∙ ap (λ w. w ++ rest) word_is)) (first_ends is_blank entry.0 rest (starts_of head_words head_starts entry within))
+    subst (EndsRun is_blank) (sym (whole ∙ ap (λ w. w ++ rest) word_is)) (first_ends is_blank entry.0 rest (word_starts entry within))
 
 -- ---- what stands after each word
 
--- which classes what stands after a production begins with no byte of
-abbrev pub enders : Head → Enders
-enders heads.Node = no_blanks
-enders heads.Edge = no_blanks
-enders heads.Query = no_blanks
-enders _ = every
+-- what stands last begins with a blank, or the line ends
+pub production_is : (head : Head) → is_production no_blanks (production head) ≡ true
+production_is head = spaced_is (arguments_of head)
 
-pub production_is : (head : Head) → is_production (enders head) (production head) ≡ true
-production_is (heads.Alone word) = refl
-production_is heads.Node = refl
-production_is heads.Edge = refl
-production_is heads.Set = refl
-production_is heads.Unset = refl
-production_is heads.Delete = refl
-production_is heads.Expand = refl
-production_is heads.Query = refl
+pub production_halts : (head : Head) → halts NameByte (no_blanks NameByte) (production head) ≡ true
+production_halts head = spaced_halts (arguments_of head)
 
-pub production_halts : (head : Head) → halts NameByte (enders head NameByte) (production head) ≡ true
-production_halts (heads.Alone word) = refl
-production_halts heads.Node = refl
-production_halts heads.Edge = refl
-production_halts heads.Set = refl
-production_halts heads.Unset = refl
-production_halts heads.Delete = refl
-production_halts heads.Expand = refl
-production_halts heads.Query = refl
-
--- nothing after a production's symbols
-abbrev pub Nothing : List ℕ → Type 0
-Nothing rest = (last : Unit {0}) × (rest ≡ [])
-
-abbrev pub BadNothing : Bads
-BadNothing kind left rest = (last : Unit {0}) × ⊥
-
-nothing_closes : Closes every Nothing BadNothing
-nothing_closes = record {
-  ends = λ class is rest (last, end). end_halts class is rest end;
-  bads_end = λ kind left class is rest bad. absurd bad.1;
-  within = λ kind place rest bad. absurd bad.1;
-  line = [];
-  some = (tt, refl);
-}
-
-pub stop_at_nothing : (Lack : Type 0) (rest : List ℕ) (stop : Stop) → StopsWith (AtEnd rest) stop → IsStop Nothing BadNothing Lack rest stop
-stop_at_nothing Lack rest stops.Memory at = absurd at
-stop_at_nothing Lack rest (stops.Syntax left) at =
-    let stop = stop_at_end Lack rest (stops.Syntax left) at in (
-      stops_of_same Nothing IsEnd rest left (λ more end. (tt, end)) (λ more same (last, end). end) stop.0,
-      λ kind place bad. bad.1,
-    )
-stop_at_nothing Lack rest (stops.Bad kind left) at = absurd at
-
-pub last_closes : (head : Head) → Closes (enders head) (IsLast head) (BadLast head)
-last_closes (heads.Alone word) = nothing_closes
-last_closes heads.Node = pairs_close
-last_closes heads.Edge = pairs_close
-last_closes heads.Set = nothing_closes
-last_closes heads.Unset = nothing_closes
-last_closes heads.Delete = nothing_closes
-last_closes heads.Expand = nothing_closes
-last_closes heads.Query = queries_close
+pub last_closes : (head : Head) → Closes no_blanks (IsLast head) (BadLast head)
+last_closes head = of_kind.last_closes (last_part head)
 
 after_halts : (head : Head) → Halts is_name_byte (IsAfter head)
-after_halts head = follows_halts NameByte (enders head NameByte) (production head) (production_halts head) (λ _. IsLast head) (λ _. (last_closes head).ends NameByte)
+after_halts head = follows_halts NameByte (no_blanks NameByte) (production head) (production_halts head) (λ _. IsLast head) (λ _. (last_closes head).ends NameByte)
 
 pub bad_after_halts : (kind : BadToken) (left : ℕ) (head : Head) → Halts is_name_byte (BadAfter head kind left)
-bad_after_halts kind left head = bad_follows_halts NameByte (enders head NameByte) (production head) (production_halts head) (BadLast head) kind left ((last_closes head).bads_end kind left NameByte)
+bad_after_halts kind left head = bad_follows_halts NameByte (no_blanks NameByte) (production head) (production_halts head) (BadLast head) kind left ((last_closes head).bads_end kind left NameByte)
 
 after_line : (head : Head) → (line : List ℕ) × IsAfter head line
-after_line head = some_line (enders head) (production head) (production_is head) (λ _. IsLast head) (λ _. ((last_closes head).line, (last_closes head).some))
+after_line head = some_line no_blanks (production head) (production_is head) (λ _. IsLast head) (λ _. ((last_closes head).line, (last_closes head).some))
 
 -- ---- stops after the first word
 
 -- a stop in one of the symbols after the word
 pub stop_in_head : (head : Head) (Lack : Type 0) (bytes : List ℕ) (stop : Stop) → LeavesOne (production head) bytes stop → StopsAfter head Lack bytes stop
-stop_in_head head Lack bytes stop leaves = stop_among (enders head) (production head) (production_is head) (IsLast head) (BadLast head) (last_closes head) Lack bytes stop leaves
+stop_in_head head Lack bytes stop leaves = stop_among no_blanks (production head) (production_is head) (IsLast head) (BadLast head) (last_closes head) Lack bytes stop leaves
 
 -- a stop after all of them
 pub stop_after_head : (head : Head) (Lack : Type 0) (contents : Contents (production head)) (bytes rest : List ℕ) (stop : Stop) → ReadsAll (production head) contents bytes rest → IsStop (IsLast head) (BadLast head) Lack rest stop → StopsAfter head Lack bytes stop
-stop_after_head head Lack contents bytes rest stop reads at = stop_after_all (enders head) (production head) (production_is head) (IsLast head) (BadLast head) (last_closes head) Lack contents bytes rest stop reads at
+stop_after_head head Lack contents bytes rest stop reads at = stop_after_all no_blanks (production head) (production_is head) (IsLast head) (BadLast head) (last_closes head) Lack contents bytes rest stop reads at
 
--- no memory for a copy
-pub stop_of_memory : (head : Head) (bytes : List ℕ) (stop : Stop) → stop ≡ stops.Memory → StopsAfter head (Unit {0}) bytes stop
-stop_of_memory head bytes stop memory = subst (StopsAfter head (Unit {0}) bytes) (sym memory) tt
+-- where less is known of a want of memory
+pub stop_lacks : (Line : List ℕ → Type 0) (Bad : Bads) (Less More : Type 0) (bytes : List ℕ) (stop : Stop) → (Less → More) → IsStop Line Bad Less bytes stop → IsStop Line Bad More bytes stop
+stop_lacks Line Bad Less More bytes stops.Memory lacks at = lacks at
+stop_lacks Line Bad Less More bytes (stops.Syntax left) lacks at = at
+stop_lacks Line Bad Less More bytes (stops.Bad kind left) lacks at = at
+
+pub is_not : (query plain : Bool) → plain ≡ not query → plain ≡ false → query ≡ true
+is_not true plain is none = refl
+is_not false plain is none = let clash : true ≡ false = sym is ∙ none in cc
+
+pub is_so : (query plain : Bool) → plain ≡ not query → plain ≡ true → query ≡ false
+is_so true plain is so = let clash : false ≡ true = sym is ∙ so in cc
+is_so false plain is so = refl
+
+-- what is no command is the query
+pub query_head : (head : Head) → is_query (last_part head) ≡ true → head ≡ heads.Query
+query_head heads.Query query = refl
+query_head head query = cc
 
 -- ---- stops at and after the first word
 
@@ -207,7 +148,7 @@ tail_after_word Lack LackLeft bytes rest head stop some lack takes at =
 -- No word of the table stands in nothing.
 pub no_word_in_nothing : (After : Head → List ℕ → Type 0) (bytes : List ℕ) → bytes ≡ [] → ¬ ThenWord head_words After bytes
 no_word_in_nothing After bytes end = λ (entry, within, (prefix, rest, whole, word_is, after)).
-    let starts = starts_of head_words head_starts entry within in
+    let starts = word_starts entry within in
     nothing entry.0 rest starts (sym end ∙ whole ∙ ap (λ w. w ++ rest) word_is)
   where
     nothing : (word rest : List ℕ) → first_fails is_blank word ≡ true → [] ≡ word ++ rest → ⊥

@@ -1,5 +1,5 @@
 -- What a reader's stop says of the line: its leftmost fault, and that it spells no command.
-use Rattle.std.proofs.Common.{◌≡◌, ◌≢◌, ◌≤◌, ◌<◌, ◌+◌, ◌-◌, inl, inr, ℕ, List, ◌++◌, length, take, refl, sym, ap, ◌∙◌, subst, ⊎_elim, add-zero, length-append, arith}
+use Rattle.std.proofs.Common.{◌≡◌, ◌≢◌, ◌≤◌, ◌<◌, ◌+◌, ◌-◌, ℕ, List, ◌++◌, length, take, refl, sym, ap, ◌∙◌, subst, ⊎_elim, add-zero, length-append, arith}
 use Rattle.std.proofs.lemmas.List.{append-nil}
 use Rattle.std.proofs.lemmas.Bool.{cases_lt}
 use Rattle.plain_graph.specs.declared.command.Command.{Command}
@@ -33,10 +33,7 @@ viable_is_before Language line read unread left at stop line_is left_is viable =
     (cases_lt at (length read))
 
 bad_within : (kind : BadToken) (line : List ℕ) (at : ℕ) → HasBad kind line at → at ≤ length line
-bad_within kind line at (inl has) =
-    let len : length line ≡ length has.prefix + length (has.token ++ has.rest) = ap length has.line_is ∙ length-append has.prefix (has.token ++ has.rest) in
-    omega (arith, has.place, len)
-bad_within kind line at (inr (left, place, found)) = omega (arith, place)
+bad_within kind line at (left, place, found) = omega (arith, place)
 
 bad_line_at : (kind : BadToken) (line : List ℕ) (at : ℕ) → HasBad kind line at → BadLine kind (length line - at) line
 bad_line_at kind line at has = let within = bad_within kind line at has in (at, omega arith, has)

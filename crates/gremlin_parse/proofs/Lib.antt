@@ -4,6 +4,7 @@ pub mod Differing
 pub mod Names
 pub mod Decimals
 pub mod TimesLaws
+pub mod Closed
 pub mod Texts
 pub mod Integers
 pub mod Tables
@@ -27,7 +28,8 @@ pub mod OrderTokens
 pub mod RepeatReads
 pub mod QueryLaws
 pub mod Words
-pub mod Elements
+pub mod Arguments
+pub mod Lasts
 pub mod Heads
 pub mod Commands
 pub mod Lines

@@ -34,7 +34,7 @@ pair_spelled = record {
 abbrev pub AtEnd : Language
 AtEnd bytes = IsMadeOf (Blanks ∷ []) bytes
 
-end_blanks : (bytes : List ℕ) → AtEnd bytes → AreBlanks bytes
+pub end_blanks : (bytes : List ℕ) → AtEnd bytes → AreBlanks bytes
 end_blanks bytes (prefix, rest, whole, are, end) = subst AreBlanks (sym (whole ∙ ap (λ r. prefix ++ r) end)) (with_nothing prefix are)
   where
     with_nothing : (blanks : List ℕ) → AreBlanks blanks → AreBlanks (blanks ++ [])
@@ -42,24 +42,24 @@ end_blanks bytes (prefix, rest, whole, are, end) = subst AreBlanks (sym (whole �
     with_nothing (b ∷ blanks) are = (are.0, with_nothing blanks are.1)
 
 -- A name stands in no blanks.
-no_name : (gap more : List ℕ) → AreBlanks (gap ++ more) → StartsName more → ⊥
+pub no_name : (gap more : List ℕ) → AreBlanks (gap ++ more) → StartsName more → ⊥
 no_name [] [] are starts = starts
 no_name [] (b ∷ more) are starts = let clash : true ≡ false = sym are.0 ∙ name_start_is_no_blank b starts in cc
 no_name (b ∷ gap) more are starts = no_name gap more are.1 starts
 
-first_blanks : (read : List ℕ) (b : ℕ) (more : List ℕ) → AreBlanks (read ++ b ∷ more) → AreBlanks (read ++ b ∷ [])
+pub first_blanks : (read : List ℕ) (b : ℕ) (more : List ℕ) → AreBlanks (read ++ b ∷ more) → AreBlanks (read ++ b ∷ [])
 first_blanks [] b more are = (are.0, tt)
 first_blanks (c ∷ read) b more are = (are.0, first_blanks read b more are.1)
 
-some_byte : (read : List ℕ) (b : ℕ) → read ++ b ∷ [] ≢ []
+pub some_byte : (read : List ℕ) (b : ℕ) → read ++ b ∷ [] ≢ []
 some_byte [] b = λ none. cc
 some_byte (c ∷ read) b = λ none. cc
 
-end_halts : HaltsAt no_blanks AtEnd
+pub end_halts : HaltsAt no_blanks AtEnd
 end_halts = λ class halts bytes (prefix, rest, whole, are, end).
     subst (EndsRun (passes class)) (sym whole) (part_halts class true AnyBlanks [] (ap (λ t. t && true) halts) tt tt prefix rest are (λ _. subst (EndsRun (passes class)) (sym end) tt))
 
-end_no_bad : HasNoBad (Blanks ∷ [])
+pub end_no_bad : HasNoBad (Blanks ∷ [])
 end_no_bad kind left bytes = λ bad. ⊎_elim (λ here. absurd here.5) (λ ((prefix, rest, whole, are, later) : Then Blanks (BadParts [] kind left) bytes). later) bad
 
 not_a_pair : (After : Language) (bytes : List ℕ) → AtEnd bytes → ¬ Follows pair_symbols (λ _. After) bytes

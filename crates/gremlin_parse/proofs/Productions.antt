@@ -1,14 +1,13 @@
 -- Where reading stops in a production, from what is left to the whole, for every fault at once.
 use Rattle.std.proofs.Common.{◌≡◌, ◌≢◌, ◌≤◌, ◌+◌, inl, inr, ℕ, nat_eq, cond, Bool, true, false, ◌&&◌, Some, List, [], ◌∷◌, ◌++◌, length, codes, refl, sym, ap, ◌∙◌, subst, ⊎_elim, append_assoc, length-append, arith}
 use Rattle.std.specs.List.{AllByRecursion}
-use Rattle.std.specs.Cmp.Lexicographic.{pointwise, other_text}
-use Rattle.std.proofs.lemmas.Bool.{cases_Bool}
-use Rattle.plain_graph.specs.Names.{IsName}
-use Rattle.gremlin_parse.specs.Grammar.{Gap, Exactly, Name, Number, Times, AreBlanks, is_blank}
+use Rattle.std.specs.Cmp.Lexicographic.{pointwise}
+use Rattle.plain_graph.specs.Names.{IsName, is_name_byte}
+use Rattle.gremlin_parse.specs.Grammar.{Gap, Exactly, Name, Number, Times, AreBlanks, is_blank, quote_byte}
 use Rattle.gremlin_parse.specs.Faults.{EndsRun, IsOutOfBounds}
-use Rattle.gremlin_parse.specs.Reading.{StopsBefore, Then, StartsName, StartsNumber}
+use Rattle.gremlin_parse.specs.Reading.{first_byte, StopsBefore, Then, StartsName, StartsNumber}
 use Rattle.gremlin_parse.specs.Keywords.{Entry, InTable, lookup, ThenWord, plain}
-use Rattle.gremlin_parse.specs.Symbols.{Symbol, AnyBlanks, AnyGap, Sign, OneWord, AnyName, AnyNumber, AnyTimes, AnyValue, Content, Contents, part, Takes, Reads, ReadsAll, IsBad, LeavesAt, Leaves, LeavesOne, Follows, BadFollows}
+use Rattle.gremlin_parse.specs.Symbols.{Symbol, AnyBlanks, AnyGap, Sign, OneWord, AnyName, AnyNumber, AnyTimes, AnyValue, AnyClosed, Content, Contents, part, Takes, Reads, ReadsAll, IsBad, LeavesAt, Leaves, LeavesOne, Follows, BadFollows}
 use Rattle.gremlin_parse.specs.Stopping.{Bads, IsStop}
 use Rattle.gremlin_parse.specs.declared.bad_token.BadToken.{BadToken}
 use Rattle.gremlin_parse.specs.declared.stop.Stop.{Stop}
@@ -18,9 +17,9 @@ use Rattle.gremlin_parse.proofs.Stops.{Continues, stops_after, stops_here, stops
 use Rattle.gremlin_parse.proofs.Differing.{LeavesWord-refuses}
 use Rattle.gremlin_parse.proofs.Names.{name_starts, StartsName-first_byte}
 use Rattle.gremlin_parse.proofs.Decimals.{number_starts, StartsNumber-first_byte}
-use Rattle.gremlin_parse.proofs.Tables.{IsWordTable, is_word, stops_in_table, no_word}
+use Rattle.gremlin_parse.proofs.Tables.{pointwise_same, all_of, IsWordTable, is_word, stops_in_table, no_word}
 use Rattle.gremlin_parse.proofs.ValueStops.{value_stops, value_refuses, no_bad_value}
-use Rattle.gremlin_parse.proofs.Symbols.{One, Class, passes, class_of, are_keywords, is_symbol, halts, takes_unique, takes_again, after_symbol, part_halts, bad_halts, not_bad, example}
+use Rattle.gremlin_parse.proofs.Symbols.{One, Class, passes, class_of, are_keywords, is_symbol, halts, takes_unique, closed_bytes, closed_run, closed_starts, takes_again, after_symbol, part_halts, bad_halts, not_bad, example}
 
 -- ---- productions
 
@@ -167,9 +166,6 @@ Then-number-starts After most number bytes (prefix, rest, whole, part_is, after)
 Then-times-starts : (After : List ℕ → Type 0) (number : ℕ) (bytes : List ℕ) → Then (Times number) After bytes → StartsNumber bytes
 Then-times-starts After number bytes (prefix, rest, whole, part_is, after) = subst StartsNumber (sym whole) (number_starts prefix rest part_is.0)
 
-pointwise_same : (word : List ℕ) → pointwise nat_eq word word ≡ true
-pointwise_same word = ⊎_elim (λ (same : pointwise nat_eq word word ≡ true). same) (λ (other : pointwise nat_eq word word ≡ false). absurd (other_text word word (sym other) refl)) (cases_Bool (pointwise nat_eq word word))
-
 -- words that stand for themselves are a table
 listed : (words : List (List ℕ)) (entry : Entry (Unit {0})) → InTable entry (plain words) → lookup (plain words) entry.0 ≡ Some entry.1
 listed [] entry within = absurd within
@@ -185,10 +181,6 @@ listed (word ∷ words) entry within =
     there : lookup (plain words) entry.0 ≡ Some entry.1 → (t : Bool) → cond t (Some tt) (lookup (plain words) entry.0) ≡ Some entry.1
     there later true = refl
     there later false = later
-
-all_of : (P : Entry (Unit {0}) → Type 0) (table : List (Entry (Unit {0}))) → ((entry : Entry (Unit {0})) → InTable entry table → P entry) → AllByRecursion P table
-all_of P [] each = tt
-all_of P (first ∷ table) each = (each first (inl refl), all_of P table (λ entry within. each entry (inr within)))
 
 keywords_are_words : (words : List (List ℕ)) → are_keywords words ≡ true → AllByRecursion (λ (entry : Entry (Unit {0})). is_word entry.0 ≡ true) (plain words)
 keywords_are_words [] are = tt
@@ -236,6 +228,25 @@ refuses_at AnyTimes After is ends line some bytes left (left_is, numberless) = r
   stop = subst (StopsBefore (One AnyTimes After) bytes) (sym left_is) (stops_here (One AnyTimes After) bytes (codes "0" ++ line) (0, tt, (codes "0", line, refl, (refl, refl), some)) (λ more same (number, allows, then). numberless (StartsNumber-first_byte more bytes same (Then-times-starts After number more then))));
   no_bad = λ kind place (number, bad, rest, takes, at). numberless (subst StartsNumber (sym takes.bytes_are) (number_starts takes.prefix rest takes.is.0));
 }
+refuses_at (AnyClosed double) After is ends line some bytes left (inl (left_is, nameless)) = record {
+  stop = subst (StopsBefore (One (AnyClosed double) After) bytes) (sym left_is) (stops_here (One (AnyClosed double) After) bytes ((codes "a" ++ quote_byte double ∷ []) ++ line) (codes "a", tt, (codes "a" ++ quote_byte double ∷ [], line, refl, (refl, (refl, tt)), some)) (λ more same (name, allows, (prefix, rest, whole, part_is, after)). nameless (StartsName-first_byte more bytes same (closed_starts double name more prefix rest part_is whole))));
+  no_bad = λ kind place (name, bad, rest, takes, at). nameless (closed_starts double name bytes takes.prefix rest takes.is takes.bytes_are);
+}
+refuses_at (AnyClosed double) After is ends line some bytes left (inr (name, unread, whole, name_is, stops, differs, left_is)) = record {
+  stop = record {
+    read = name;
+    unread = unread;
+    bytes_are = whole;
+    left_is = left_is;
+    viable = (quote_byte double ∷ line, (name, tt, (name ++ quote_byte double ∷ [], line, sym (append_assoc name (quote_byte double ∷ []) line), (refl, name_is), some)));
+    none = λ more same (other, allows, (prefix, rest, there, part_is, after)).
+        let run = closed_run double other name rest more part_is.1 name_is (EndsRun-first_byte is_name_byte unread more same stops) (sym (closed_bytes double other (name ++ more) prefix rest part_is.0 there)) in
+        differs (sym same ∙ sym (ap first_byte run.1));
+  };
+  no_bad = λ kind place (other, bad, rest, takes, at).
+      let run = closed_run double other name rest unread takes.is.1 name_is stops (sym (closed_bytes double other bytes takes.prefix rest takes.is.0 takes.bytes_are) ∙ whole) in
+      differs (sym (ap first_byte run.1));
+}
 refuses_at AnyValue After is ends line some bytes left leaves = record { stop = value_stops After ends line bytes left some leaves; no_bad = no_bad_value bytes left leaves }
 
 -- No line of the symbol stands where reading stops in it.
@@ -248,6 +259,10 @@ no_one (OneWord (word ∷ words)) After is ends bytes left leaves = λ (this, wi
 no_one AnyName After is ends bytes left leaves = λ (name, allows, then). leaves.1 (Then-name-starts After name bytes then)
 no_one (AnyNumber most) After is ends bytes left leaves = λ (number, allows, then). leaves.1 (Then-number-starts After most number bytes then)
 no_one AnyTimes After is ends bytes left leaves = λ (number, allows, then). leaves.1 (Then-times-starts After number bytes then)
+no_one (AnyClosed double) After is ends bytes left (inl (left_is, nameless)) = λ (name, allows, (prefix, rest, whole, part_is, after)). nameless (closed_starts double name bytes prefix rest part_is whole)
+no_one (AnyClosed double) After is ends bytes left (inr (name, unread, whole, name_is, stops, differs, left_is)) = λ (other, allows, (prefix, rest, there, part_is, after)).
+    let run = closed_run double other name rest unread part_is.1 name_is stops (sym (closed_bytes double other bytes prefix rest part_is.0 there) ∙ whole) in
+    differs (sym (ap first_byte run.1))
 no_one AnyValue After is ends bytes left leaves = value_refuses After ends bytes left leaves
 
 module _ (enders : Enders) (symbol : Symbol) (symbols : List Symbol) (is : is_production enders (symbol ∷ symbols) ≡ true) (Last : List ℕ → Type 0) (Bad : Bads) (closes : Closes enders Last Bad) where

@@ -11,15 +11,15 @@ use Rattle.plain_graph.specs.declared.filter.Filter.{Filter}
 use Rattle.plain_graph.specs.declared.filter.Filter.TheVariants as filters
 use Rattle.plain_graph.specs.declared.query.Step.TheVariants as steps
 use Rattle.gremlin_parse.specs.Numbers.{is_digit}
-use Rattle.gremlin_parse.specs.Grammar.{most_id}
+use Rattle.gremlin_parse.specs.Grammar.{most_id, quote_byte}
 use Rattle.gremlin_parse.specs.Keywords.{Entry, InTable, plain}
 use Rattle.gremlin_parse.specs.Symbols.{Sign, OneWord, AnyNumber, AnyValue, is_integer_start}
 use Rattle.gremlin_parse.specs.Values.{is_quote, IsWritten}
 use Rattle.plain_graph.specs.declared.value.Value.{Value}
 use Rattle.plain_graph.specs.declared.filter.Relation.{Relation}
 use Rattle.gremlin_parse.specs.Reading.{StartsNumber}
-use Rattle.gremlin_parse.specs.Turns.{Token, ThenOther, WithBlanks, Loosely, LineFrom, sign_at}
-use Rattle.gremlin_parse.specs.Queries.{step_words, body_words, as_step_word, bare_step, Into, OfQuery, OfBody, NamesFor, OfStep, OfHop, OfLabels, Quoted, OneName, Key, OrderKey, Place, Start, Source, Opening, FirstId, AfterId, NextId, Steps, StepName, Opens, Closing, FirstName, AfterName, AfterKey, ValueOf, AfterP, RelationName, OpensValue, Compared, ClosesValue, ClosesFilter, relation_names, relation_of, relation_filter, Most, OrderCloses, Ordered, OrderedName, ByFirst, AfterOrderKey, OrderDirection, AfterOrderWord, DirectionName, ByCloses, ordered_words, sort_names, is_descending, direction_of, plain_order, reordered, Quote, InQuotes, Unquote, BodyFirst, Underscore, AfterAnonymous, BodyName, OpensBody, InBody, AfterBody, TimesWord, OpensTimes, TimesOf, body_name, query_from, with_step, opened, opened_names, opened_body, after_step, after_filter, after_names, after_quoted, value_filter, quote_byte, turn, is_loose}
+use Rattle.gremlin_parse.specs.Turns.{Turn, Other, Nothing, Token, ThenOther, WithBlanks, Loosely, LineFrom, sign_at}
+use Rattle.gremlin_parse.specs.Queries.{step_words, body_words, as_step_word, bare_step, Into, OfQuery, OfBody, NamesFor, OfStep, OfHop, OfLabels, Quoted, OneName, Key, OrderKey, Place, Start, Source, Opening, FirstId, AfterId, NextId, Steps, StepName, Opens, Closing, FirstName, AfterName, AfterKey, ValueOf, AfterP, RelationName, OpensValue, Compared, ClosesValue, ClosesFilter, relation_names, relation_of, relation_filter, Most, OrderCloses, Ordered, OrderedName, ByFirst, AfterOrderKey, OrderDirection, AfterOrderWord, DirectionName, ByCloses, ordered_words, sort_names, is_descending, direction_of, plain_order, reordered, Quote, InQuotes, BodyFirst, Underscore, AfterAnonymous, BodyName, OpensBody, InBody, AfterBody, TimesWord, OpensTimes, TimesOf, body_name, query_from, with_step, opened, opened_names, opened_body, after_step, after_filter, after_names, after_quoted, value_filter, turn, is_loose}
 use Rattle.plain_graph.specs.declared.value.Value.TheVariants as values
 use Rattle.gremlin_parse.specs.declared.step_word.BareStep.TheVariants as bare
 use Rattle.gremlin_parse.specs.declared.step_word.BodyWord.{BodyWord}
@@ -27,10 +27,10 @@ use Rattle.gremlin_parse.specs.declared.step_word.BodyWord.TheVariants as of_bod
 use Rattle.gremlin_parse.specs.declared.step_word.StepWord.{StepWord}
 use Rattle.gremlin_parse.specs.declared.step_word.StepWord.TheVariants as words
 use Rattle.gremlin_parse.proofs.Decimals.{number_starts}
-use Rattle.gremlin_parse.proofs.Tables.{IsWordTable, StandsWhole, all_in}
+use Rattle.gremlin_parse.proofs.Tables.{word_table, IsWordTable, StandsWhole, all_in}
 use Rattle.gremlin_parse.proofs.Values.{StartsKind, value_starts}
-use Rattle.gremlin_parse.proofs.Symbols.{NameByte}
-use Rattle.gremlin_parse.proofs.Turns.{Language, Begins, NoSign, IsEnded, IsPlace, place_halts}
+use Rattle.gremlin_parse.proofs.Symbols.{NoByte, Blank}
+use Rattle.gremlin_parse.proofs.Turns.{Language, Begins, NoSign, StartsApart, turn_halts, IsEnded, IsPlace, place_halts}
 use Rattle.gremlin_parse.proofs.Moves.{line_join}
 
 -- ---- a line of each place
@@ -117,13 +117,6 @@ after_quoted_line (OneName purpose names) name = by_sign (AfterName purpose (nam
 after_quoted_line (Key into) name = by_sign (AfterKey into name) 41 (after_filter into (filters.Has name)) (rest_after into) refl (after_filter_line into (filters.Has name))
 after_quoted_line (OrderKey query) name = by_sign (AfterOrderKey query name) 41 (Steps (reordered query (Some name) false)) [] refl (steps_line (reordered query (Some name) false))
 
-pub quote_is : (quoted : Quoted) (name : List ℕ) (double : Bool) → sign_at (turn (Unquote quoted name double)).signs (quote_byte double) ≡ Some (after_quoted quoted name)
-quote_is quoted name true = refl
-quote_is quoted name false = refl
-
-unquote_line : (quoted : Quoted) (name : List ℕ) (double : Bool) → Line (Unquote quoted name double) (quote_byte double ∷ 41 ∷ rest_of_quoted quoted)
-unquote_line quoted name double = by_sign (Unquote quoted name double) (quote_byte double) (after_quoted quoted name) (41 ∷ rest_of_quoted quoted) (quote_is quoted name double) (after_quoted_line quoted name)
-
 -- ---- what has to hold of each
 
 pub no_signs : (bytes : List ℕ) → NoSign {Place = Place} [] bytes
@@ -138,30 +131,22 @@ number_apart next [] starts = tt
 number_apart next (b ∷ bytes) starts = ap (λ (t : Bool). cond t (Some next) None) (not_close b starts)
 
 pub step_table : IsWordTable step_words
-step_table = record {
-  words = (refl, (refl, (refl, (refl, (refl, (refl, (refl, (refl, (refl, (refl, (refl, (refl, (refl, (refl, (refl, (refl, (refl, (refl, tt))))))))))))))))));
-  named = (refl, (refl, (refl, (refl, (refl, (refl, (refl, (refl, (refl, (refl, (refl, (refl, (refl, (refl, (refl, (refl, (refl, (refl, tt))))))))))))))))));
-}
+step_table = word_table step_words refl
 
 pub ordered_table : IsWordTable ordered_words
-ordered_table = record {
-  words = (refl, (refl, (refl, (refl, (refl, (refl, (refl, (refl, (refl, (refl, (refl, (refl, (refl, (refl, (refl, (refl, (refl, (refl, (refl, tt)))))))))))))))))));
-  named = (refl, (refl, (refl, (refl, (refl, (refl, (refl, (refl, (refl, (refl, (refl, (refl, (refl, (refl, (refl, (refl, (refl, (refl, (refl, tt)))))))))))))))))));
-}
+ordered_table = word_table ordered_words refl
 
 -- the words of a body among those of steps
 pub body_table : IsWordTable (map as_step_word body_words)
-body_table = record {
-  words = (refl, (refl, (refl, (refl, (refl, tt)))));
-  named = (refl, (refl, (refl, (refl, (refl, tt)))));
-}
+body_table = word_table (map as_step_word body_words) refl
 
 body_apart : (next : Place) (bytes : List ℕ) → StandsWhole (map as_step_word body_words) bytes → NoSign ((95, next) ∷ []) bytes
 body_apart next bytes stands = subst (NoSign ((95, next) ∷ [])) (sym stands.bytes_are) (all_in (λ (e : Entry StepWord). NoSign ((95, next) ∷ []) (e.0 ++ stands.rest)) (map as_step_word body_words) stands.entry (refl, (refl, (refl, (refl, (refl, tt))))) stands.within)
 
-unquote_halts_names : (quoted : Quoted) (name : List ℕ) (double : Bool) → place_halts turn is_loose NameByte (Unquote quoted name double) ≡ true
-unquote_halts_names quoted name true = refl
-unquote_halts_names quoted name false = refl
+quoted_halts : (quoted : Quoted) (name : List ℕ) → place_halts turn is_loose NoByte (after_quoted quoted name) ≡ true
+quoted_halts (OneName purpose names) name = refl
+quoted_halts (Key into) name = refl
+quoted_halts (OrderKey query) name = refl
 
 -- ---- what an argument of has begins with
 
@@ -320,35 +305,24 @@ begins_number : (bytes : List ℕ) → Begins {Word = StepWord} {Place = Place} 
 begins_number bytes (inl (number, allows, (prefix, rest, whole, is, after))) = subst StartsNumber (sym whole) (number_starts prefix rest is.0)
 begins_number bytes (inr (kind, left, (number, bad, rest, takes, at))) = subst StartsNumber (sym takes.bytes_are) (number_starts takes.prefix rest takes.is.0)
 
+-- a place where no sign stands
+other_is : (place : Place) (other : Other StepWord Place) → turn place ≡ record { ends = None; signs = []; other = other } → turn_halts Blank (turn place) ≡ true → IsEnded turn is_loose other → IsPlace turn is_loose place
+other_is place other is halts ended = record {
+  no_blank = halts;
+  apart = subst (λ (t : Turn StepWord Place Query). StartsApart turn is_loose t.signs t.other) (sym is) (λ bytes begins. no_signs bytes);
+  ended = subst (λ (t : Turn StepWord Place Query). IsEnded turn is_loose t.other) (sym is) ended;
+  alone = subst (λ (t : Turn StepWord Place Query). (end : Query) → t.ends ≡ Some end → t.other ≡ Nothing) (sym is) (λ end ends. cc);
+}
+
 pub are : (place : Place) → IsPlace turn is_loose place
-are Start = record { no_blank = refl; apart = λ bytes none. absurd none; ended = tt; alone = λ end ends. refl }
-are Source = record { no_blank = refl; apart = λ bytes none. absurd none; ended = tt; alone = λ end ends. refl }
-are (Opening edges) = record { no_blank = refl; apart = λ bytes none. absurd none; ended = tt; alone = λ end ends. refl }
 are (FirstId edges) = record {
   no_blank = refl;
   apart = λ bytes begins. number_apart (Steps (query_from edges [])) bytes (begins_number bytes begins);
   ended = (refl, λ id. refl, (41 ∷ [], λ id. loose_line (AfterId edges (id ∷ [])) (41 ∷ []) (after_id_line edges (id ∷ []))));
   alone = λ end ends. cc;
 }
-are (AfterId edges ids) = record { no_blank = refl; apart = λ bytes none. absurd none; ended = tt; alone = λ end ends. refl }
-are (NextId edges ids) = record {
-  no_blank = refl;
-  apart = λ bytes begins. no_signs bytes;
-  ended = (refl, λ id. refl, (41 ∷ [], λ id. loose_line (AfterId edges (ids ++ id ∷ [])) (41 ∷ []) (after_id_line edges (ids ++ id ∷ []))));
-  alone = λ end ends. cc;
-}
-are (Steps query) = record { no_blank = refl; apart = λ bytes none. absurd none; ended = tt; alone = λ end ends. refl }
-are (StepName query) = record {
-  no_blank = refl;
-  apart = λ bytes begins. no_signs bytes;
-  ended = (step_table, λ word. refl);
-  alone = λ end ends. cc;
-}
-are (Opens query word) = record { no_blank = refl; apart = λ bytes none. absurd none; ended = tt; alone = λ end ends. refl }
-are (Closing query step) = record { no_blank = refl; apart = λ bytes none. absurd none; ended = tt; alone = λ end ends. refl }
-are (FirstName purpose) = record { no_blank = refl; apart = λ bytes none. absurd none; ended = tt; alone = λ end ends. refl }
-are (AfterName purpose names) = record { no_blank = refl; apart = λ bytes none. absurd none; ended = tt; alone = λ end ends. refl }
-are (AfterKey into key) = record { no_blank = refl; apart = λ bytes none. absurd none; ended = tt; alone = λ end ends. refl }
+are (NextId edges ids) = other_is _ _ refl refl (refl, λ id. refl, (41 ∷ [], λ id. loose_line (AfterId edges (ids ++ id ∷ [])) (41 ∷ []) (after_id_line edges (ids ++ id ∷ []))))
+are (StepName query) = other_is _ _ refl refl (step_table, λ word. refl)
 are (ValueOf into key) = record {
   no_blank = refl;
   apart = λ bytes begins. ⊎_elim
@@ -364,96 +338,29 @@ are (ValueOf into key) = record {
   );
   alone = λ end ends. cc;
 }
-are (AfterP into key) = record { no_blank = refl; apart = λ bytes none. absurd none; ended = tt; alone = λ end ends. refl }
-are (RelationName into key) = record {
-  no_blank = refl;
-  apart = λ bytes begins. no_signs bytes;
-  ended = (refl, λ word. refl, (40 ∷ 48 ∷ 41 ∷ 41 ∷ rest_after into, λ word. loose_line (OpensValue into key (relation_of word)) (40 ∷ 48 ∷ 41 ∷ 41 ∷ rest_after into) (opens_value_line into key (relation_of word))));
-  alone = λ end ends. cc;
-}
-are (OpensValue into key relation) = record { no_blank = refl; apart = λ bytes none. absurd none; ended = tt; alone = λ end ends. refl }
-are (Compared into key relation) = record {
-  no_blank = refl;
-  apart = λ bytes begins. no_signs bytes;
-  ended = (refl, λ value. refl, (41 ∷ 41 ∷ rest_after into, λ value. loose_line (ClosesValue into (relation_filter key relation value)) (41 ∷ 41 ∷ rest_after into) (closes_value_line into (relation_filter key relation value))));
-  alone = λ end ends. cc;
-}
-are (ClosesValue into filter) = record { no_blank = refl; apart = λ bytes none. absurd none; ended = tt; alone = λ end ends. refl }
-are (ClosesFilter into filter) = record { no_blank = refl; apart = λ bytes none. absurd none; ended = tt; alone = λ end ends. refl }
-are (Most query) = record {
-  no_blank = refl;
-  apart = λ bytes begins. no_signs bytes;
-  ended = (refl, λ most. refl, (41 ∷ [], λ most. loose_line (Closing query (steps.Limit most)) (41 ∷ []) (closes_line query (steps.Limit most))));
-  alone = λ end ends. cc;
-}
-are (OrderCloses query) = record { no_blank = refl; apart = λ bytes none. absurd none; ended = tt; alone = λ end ends. refl }
-are (Ordered query) = record { no_blank = refl; apart = λ bytes none. absurd none; ended = tt; alone = λ end ends. refl }
-are (OrderedName query) = record {
-  no_blank = refl;
-  apart = λ bytes begins. no_signs bytes;
-  ended = (ordered_table, λ word. refl);
-  alone = λ end ends. cc;
-}
+are (RelationName into key) = other_is _ _ refl refl (refl, λ word. refl, (40 ∷ 48 ∷ 41 ∷ 41 ∷ rest_after into, λ word. loose_line (OpensValue into key (relation_of word)) (40 ∷ 48 ∷ 41 ∷ 41 ∷ rest_after into) (opens_value_line into key (relation_of word))))
+are (Compared into key relation) = other_is _ _ refl refl (refl, λ value. refl, (41 ∷ 41 ∷ rest_after into, λ value. loose_line (ClosesValue into (relation_filter key relation value)) (41 ∷ 41 ∷ rest_after into) (closes_value_line into (relation_filter key relation value))))
+are (Most query) = other_is _ _ refl refl (refl, λ most. refl, (41 ∷ [], λ most. loose_line (Closing query (steps.Limit most)) (41 ∷ []) (closes_line query (steps.Limit most))))
+are (OrderedName query) = other_is _ _ refl refl (ordered_table, λ word. refl)
 are (ByFirst query) = record {
   no_blank = refl;
   apart = λ bytes begins. direction_apart query bytes begins;
   ended = direction_ended query None;
   alone = λ end ends. cc;
 }
-are (AfterOrderKey query key) = record { no_blank = refl; apart = λ bytes none. absurd none; ended = tt; alone = λ end ends. refl }
-are (OrderDirection query key) = record {
-  no_blank = refl;
-  apart = λ bytes begins. no_signs bytes;
-  ended = direction_ended query key;
-  alone = λ end ends. cc;
-}
-are (AfterOrderWord query key) = record { no_blank = refl; apart = λ bytes none. absurd none; ended = tt; alone = λ end ends. refl }
-are (DirectionName query key) = record {
-  no_blank = refl;
-  apart = λ bytes begins. no_signs bytes;
-  ended = sort_ended query key;
-  alone = λ end ends. cc;
-}
-are (ByCloses query key descending) = record { no_blank = refl; apart = λ bytes none. absurd none; ended = tt; alone = λ end ends. refl }
-are (Quote quoted) = record { no_blank = refl; apart = λ bytes none. absurd none; ended = tt; alone = λ end ends. refl }
-are (InQuotes quoted double) = record {
-  no_blank = refl;
-  apart = λ bytes begins. no_signs bytes;
-  ended = (refl, λ name. unquote_halts_names quoted name double, (quote_byte double ∷ 41 ∷ rest_of_quoted quoted, λ name. unquote_line quoted name double));
-  alone = λ end ends. cc;
-}
-are (Unquote quoted name true) = record { no_blank = refl; apart = λ bytes none. absurd none; ended = tt; alone = λ end ends. refl }
-are (Unquote quoted name false) = record { no_blank = refl; apart = λ bytes none. absurd none; ended = tt; alone = λ end ends. refl }
+are (OrderDirection query key) = other_is _ _ refl refl (direction_ended query key)
+are (DirectionName query key) = other_is _ _ refl refl (sort_ended query key)
+are (InQuotes quoted double) = other_is _ _ refl refl (refl, quoted_halts quoted, (41 ∷ rest_of_quoted quoted, λ name. loose_line (after_quoted quoted name) (41 ∷ rest_of_quoted quoted) (after_quoted_line quoted name)))
 are (BodyFirst query) = record {
   no_blank = refl;
   apart = λ bytes begins. body_apart (Underscore query) bytes begins;
   ended = (body_table, λ word. refl);
   alone = λ end ends. cc;
 }
-are (Underscore query) = record { no_blank = refl; apart = λ bytes none. absurd none; ended = tt; alone = λ end ends. refl }
-are (AfterAnonymous query) = record { no_blank = refl; apart = λ bytes none. absurd none; ended = tt; alone = λ end ends. refl }
-are (BodyName query body) = record {
-  no_blank = refl;
-  apart = λ bytes begins. no_signs bytes;
-  ended = (body_table, λ word. refl);
-  alone = λ end ends. cc;
-}
-are (OpensBody query body word) = record { no_blank = refl; apart = λ bytes none. absurd none; ended = tt; alone = λ end ends. refl }
-are (InBody query body) = record { no_blank = refl; apart = λ bytes none. absurd none; ended = tt; alone = λ end ends. refl }
-are (AfterBody query body) = record { no_blank = refl; apart = λ bytes none. absurd none; ended = tt; alone = λ end ends. refl }
-are (TimesWord query body) = record {
-  no_blank = refl;
-  apart = λ bytes begins. no_signs bytes;
-  ended = (refl, λ word. refl, (40 ∷ 49 ∷ 41 ∷ [], λ word. loose_line (OpensTimes query body) (40 ∷ 49 ∷ 41 ∷ []) (opens_times_line query body)));
-  alone = λ end ends. cc;
-}
-are (OpensTimes query body) = record { no_blank = refl; apart = λ bytes none. absurd none; ended = tt; alone = λ end ends. refl }
-are (TimesOf query body) = record {
-  no_blank = refl;
-  apart = λ bytes begins. no_signs bytes;
-  ended = (refl, λ times. refl, (41 ∷ [], λ times. loose_line (Closing query (steps.Repeat body times)) (41 ∷ []) (closes_line query (steps.Repeat body times))));
-  alone = λ end ends. cc;
-}
+are (BodyName query body) = other_is _ _ refl refl (body_table, λ word. refl)
+are (TimesWord query body) = other_is _ _ refl refl (refl, λ word. refl, (40 ∷ 49 ∷ 41 ∷ [], λ word. loose_line (OpensTimes query body) (40 ∷ 49 ∷ 41 ∷ []) (opens_times_line query body)))
+are (TimesOf query body) = other_is _ _ refl refl (refl, λ times. refl, (41 ∷ [], λ times. loose_line (Closing query (steps.Repeat body times)) (41 ∷ []) (closes_line query (steps.Repeat body times))))
+are place = record { no_blank = refl; apart = λ bytes none. absurd none; ended = tt; alone = λ end ends. refl }
 
 -- ---- a line of each of the other places
 
@@ -461,7 +368,7 @@ most_line : (query : Query) → Line (Most query) (48 ∷ 41 ∷ [])
 most_line query = line_join turn is_loose (Most query) (48 ∷ 41 ∷ []) (inr (0, tt, tt, (codes "0", 41 ∷ [], refl, (refl, refl), loose_line (Closing query (steps.Limit 0)) (41 ∷ []) (closes_line query (steps.Limit 0)))))
 
 in_quotes_line : (quoted : Quoted) (double : Bool) → Line (InQuotes quoted double) (97 ∷ quote_byte double ∷ 41 ∷ rest_of_quoted quoted)
-in_quotes_line quoted double = line_join turn is_loose (InQuotes quoted double) (97 ∷ quote_byte double ∷ 41 ∷ rest_of_quoted quoted) (inr (codes "a", tt, tt, (codes "a", quote_byte double ∷ 41 ∷ rest_of_quoted quoted, refl, (refl, (refl, tt)), unquote_line quoted (codes "a") double)))
+in_quotes_line quoted double = line_join turn is_loose (InQuotes quoted double) (97 ∷ quote_byte double ∷ 41 ∷ rest_of_quoted quoted) (inr (codes "a", tt, tt, (codes "a" ++ quote_byte double ∷ [], 41 ∷ rest_of_quoted quoted, refl, (refl, (refl, tt)), loose_line (after_quoted quoted (codes "a")) (41 ∷ rest_of_quoted quoted) (after_quoted_line quoted (codes "a")))))
 
 quote_line : (quoted : Quoted) → Line (Quote quoted) (39 ∷ 97 ∷ 39 ∷ 41 ∷ rest_of_quoted quoted)
 quote_line quoted = by_sign (Quote quoted) 39 (InQuotes quoted false) (97 ∷ 39 ∷ 41 ∷ rest_of_quoted quoted) refl (in_quotes_line quoted false)
@@ -554,7 +461,6 @@ some (DirectionName query key) = (_, sort_line query key)
 some (ByCloses query key descending) = (_, by_closes_line query key descending)
 some (Quote quoted) = (_, quote_line quoted)
 some (InQuotes quoted double) = (_, in_quotes_line quoted double)
-some (Unquote quoted name double) = (_, unquote_line quoted name double)
 some (BodyFirst query) = body_some (BodyFirst query) query [] refl
 some (Underscore query) = let later = body_some (BodyName query []) query [] refl in (95 ∷ 46 ∷ later.0, by_sign (Underscore query) 95 (AfterAnonymous query) (46 ∷ later.0) refl (by_sign (AfterAnonymous query) 46 (BodyName query []) later.0 refl later.1))
 some (AfterAnonymous query) = let later = body_some (BodyName query []) query [] refl in (46 ∷ later.0, by_sign (AfterAnonymous query) 46 (BodyName query []) later.0 refl later.1)

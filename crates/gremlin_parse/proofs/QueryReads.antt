@@ -2,9 +2,9 @@
 use Rattle.std.proofs.Common.{◌≡◌, ◌≢◌, ◌≤◌, ◌<◌, ◌+◌, ◌⊎◌, inl, inr, ℕ, zero, suc, min, nat_eq, cond, Bool, true, false, Option, Some, None, IfSome, IfNone, List, [], ◌∷◌, ◌++◌, length, refl, sym, ap, ◌∙◌, subst, ⊎_elim, length-append, arith}
 use Rattle.std.proofs.lemmas.Bool.{cases_Bool}
 use borrow.Author.Tests.{eqb-true}
-use Rattle.gremlin_parse.specs.Grammar.{most_id, most_limit}
+use Rattle.gremlin_parse.specs.Grammar.{most_id, most_limit, quote_byte}
 use Rattle.gremlin_parse.specs.Reading.{first_byte}
-use Rattle.gremlin_parse.specs.Symbols.{OneWord, AnyName, AnyNumber, AnyValue, AnyBlanks, Sign, Reads, ReadsToken, ReadsId, Leaves}
+use Rattle.gremlin_parse.specs.Symbols.{OneWord, AnyClosed, AnyNumber, AnyValue, AnyBlanks, Sign, Reads, ReadsToken, ReadsId, Leaves}
 use Rattle.gremlin_parse.specs.Keywords.{Entry, whole_word, TakesWord}
 use Rattle.gremlin_parse.specs.Stopping.{StopsWith}
 use Rattle.plain_graph.specs.declared.query.BodyStep.{BodyStep}
@@ -25,7 +25,7 @@ use Rattle.gremlin_parse.specs.declared.step_word.BodyWord.TheVariants as of_bod
 use Rattle.gremlin_parse.specs.declared.step_word.StepWord.TheVariants as words
 use Rattle.gremlin_parse.specs.Stages.{first_items, is_by, added_count, items_after, items_from, stage_of, step_fault, steps_in}
 use Rattle.gremlin_parse.specs.Turns.{Turn, LeavesWords, IsBadWord, sign_at, KeptFrom}
-use Rattle.gremlin_parse.specs.Queries.{Into, OfQuery, OfBody, NamesFor, OfStep, OfHop, OfLabels, Quoted, OneName, Key, OrderKey, Place, Start, Source, Opening, FirstId, AfterId, NextId, Steps, query_from, query_of, StepName, Opens, Closing, FirstName, AfterName, AfterKey, ValueOf, AfterP, RelationName, OpensValue, Compared, ClosesValue, ClosesFilter, relation_names, relation_name, relation_of, relation_filter, Most, Ordered, OrderedName, opened, opened_names, opened_body, after_step, after_filter, after_names, words_after, step_words, steps_place, plain_order, is_order, put_step, after_word, IsOrderStep, with_step, bare_step, needs_name, value_filter, Quote, InQuotes, Unquote, one_of, QuotesAt, LeavesBoth, NeitherFirst, LeadsTo, StopsFrom, after_quoted, quote_byte, IsKeptQuery, StopsInQuery, turn, is_loose}
+use Rattle.gremlin_parse.specs.Queries.{Into, OfQuery, OfBody, NamesFor, OfStep, OfHop, OfLabels, Quoted, OneName, Key, OrderKey, Place, Start, Source, Opening, FirstId, AfterId, NextId, Steps, query_from, query_of, StepName, Opens, Closing, FirstName, AfterName, AfterKey, ValueOf, AfterP, RelationName, OpensValue, Compared, ClosesValue, ClosesFilter, relation_names, relation_name, relation_of, relation_filter, Most, Ordered, OrderedName, opened, opened_names, opened_body, after_step, after_filter, after_names, words_after, step_words, steps_place, plain_order, is_order, put_step, after_word, IsOrderStep, with_step, bare_step, needs_name, value_filter, Quote, InQuotes, one_of, QuotesAt, LeavesBoth, NeitherFirst, LeadsTo, StopsFrom, after_quoted, IsKeptQuery, StopsInQuery, turn, is_loose}
 use Rattle.gremlin_parse.specs.declared.step_word.StepWord.{StepWord}
 use Rattle.gremlin_parse.specs.declared.stage.Items.{Items}
 use Rattle.gremlin_parse.specs.declared.stage.Stage.{Stage}
@@ -35,7 +35,7 @@ use Rattle.gremlin_parse.proofs.Turns.{NoSign}
 use Rattle.gremlin_parse.proofs.Walks.{kept_end, reaches_here, stop_after_blanks, Skips, LeavesOther, LeavesPlace, reaches_next, reaches_on, stop_at_place}
 use Rattle.gremlin_parse.proofs.OrderLaws.{items_from-put_step, steps_in-put_step, order_is_last}
 use Rattle.gremlin_parse.proofs.Tables.{IsWordTable, all_in, lookup_in, whole_word_of}
-use Rattle.gremlin_parse.proofs.QueryPlaces.{are, some, step_table, ordered_table, quote_is, no_signs}
+use Rattle.gremlin_parse.proofs.QueryPlaces.{are, some, step_table, ordered_table, no_signs}
 
 pub on : (place : Place) (bytes : List ℕ) (middle : Place) (left : List ℕ) (next : Place) (rest : List ℕ) → LeadsTo place bytes middle left → LeadsTo middle left next rest → LeadsTo place bytes next rest
 on place bytes middle left next rest one two = reaches_on turn is_loose are some place bytes middle left next rest one two
@@ -99,11 +99,6 @@ token_shorter b bytes rest (middle, reads, blanks) =
 
 -- ---- a name between quotes
 
-after_is_loose : (quoted : Quoted) (name : List ℕ) → is_loose (after_quoted quoted name) ≡ true
-after_is_loose (OneName purpose names) name = refl
-after_is_loose (Key into) name = refl
-after_is_loose (OrderKey query) name = refl
-
 quote_at : (place : Place) (quoted : Quoted) (bytes : List ℕ) (double : Bool) → QuotesAt place quoted bytes → sign_at (turn place).signs (quote_byte double) ≡ Some (InQuotes quoted double)
 quote_at place quoted bytes true quotes = quotes.double
 quote_at place quoted bytes false quotes = quotes.single
@@ -111,32 +106,30 @@ quote_at place quoted bytes false quotes = quotes.single
 quote_leads : (place : Place) (quoted : Quoted) (double : Bool) (bytes rest : List ℕ) → QuotesAt place quoted bytes → Reads (Sign (quote_byte double ∷ [])) tt bytes rest → LeadsTo place bytes (InQuotes quoted double) rest
 quote_leads place quoted double bytes rest quotes reads = sign_leads place (quote_byte double) (InQuotes quoted double) bytes rest (quote_at place quoted bytes double quotes) refl reads
 
-name_leads : (quoted : Quoted) (name : List ℕ) (double : Bool) (bytes rest : List ℕ) → Reads AnyName name bytes rest → LeadsTo (InQuotes quoted double) bytes (Unquote quoted name double) rest
-name_leads quoted name double bytes rest reads =
-    reaches_next turn is_loose are some (InQuotes quoted double) bytes (Unquote quoted name double) rest rest
+after_is_loose : (quoted : Quoted) (name : List ℕ) → is_loose (after_quoted quoted name) ≡ true
+after_is_loose (OneName purpose names) name = refl
+after_is_loose (Key into) name = refl
+after_is_loose (OrderKey query) name = refl
+
+name_leads : (quoted : Quoted) (name : List ℕ) (double : Bool) (bytes middle rest : List ℕ) → Reads (AnyClosed double) name bytes middle → Reads AnyBlanks tt middle rest → LeadsTo (InQuotes quoted double) bytes (after_quoted quoted name) rest
+name_leads quoted name double bytes middle rest reads blanks =
+    reaches_next turn is_loose are some (InQuotes quoted double) bytes (after_quoted quoted name) middle rest
     (record { prefix = reads.takes.prefix; bytes_are = reads.takes.bytes_are; how = inr (name, refl, tt, reads.bounded, reads.takes.is, reads.takes.ends) })
-    refl
+    (subst (λ (t : Bool). Skips t middle rest) (sym (after_is_loose quoted name)) blanks)
 
-pub quoted_name_read : (bytes at_name at_quote rest name : List ℕ) (double : Bool) → Reads (Sign (quote_byte double ∷ [])) tt bytes at_name → Reads AnyName name at_name at_quote → ReadsToken (quote_byte double ∷ []) at_quote rest → (place : Place) (quoted : Quoted) → QuotesAt place quoted bytes → LeadsTo place bytes (after_quoted quoted name) rest
-quoted_name_read bytes at_name at_quote rest name double sign reads token place quoted quotes =
-    let one = on place bytes (InQuotes quoted double) at_name (Unquote quoted name double) at_quote (quote_leads place quoted double bytes at_name quotes sign) (name_leads quoted name double at_name at_quote reads) in
-    on place bytes (Unquote quoted name double) at_quote (after_quoted quoted name) rest one (token_leads (Unquote quoted name double) (quote_byte double) (after_quoted quoted name) at_quote rest (quote_is quoted name double) (after_is_loose quoted name) token)
+pub quoted_name_read : (bytes at_name middle rest name : List ℕ) (double : Bool) → Reads (Sign (quote_byte double ∷ [])) tt bytes at_name → Reads (AnyClosed double) name at_name middle → Reads AnyBlanks tt middle rest → (place : Place) (quoted : Quoted) → QuotesAt place quoted bytes → LeadsTo place bytes (after_quoted quoted name) rest
+quoted_name_read bytes at_name middle rest name double sign reads blanks place quoted quotes =
+    on place bytes (InQuotes quoted double) at_name (after_quoted quoted name) rest (quote_leads place quoted double bytes at_name quotes sign) (name_leads quoted name double at_name middle rest reads blanks)
 
-pub stop_in_name : (bytes at_name : List ℕ) (double : Bool) (stop : Stop) → Reads (Sign (quote_byte double ∷ [])) tt bytes at_name → Leaves AnyName at_name stop → (place : Place) (quoted : Quoted) → QuotesAt place quoted bytes → StopsFrom place bytes stop
+pub stop_in_name : (bytes at_name : List ℕ) (double : Bool) (stop : Stop) → Reads (Sign (quote_byte double ∷ [])) tt bytes at_name → Leaves (AnyClosed double) at_name stop → (place : Place) (quoted : Quoted) → QuotesAt place quoted bytes → StopsFrom place bytes stop
 stop_in_name bytes at_name double stop sign leaves place quoted quotes =
     (quote_leads place quoted double bytes at_name quotes sign).stops stop (stop_at (InQuotes quoted double) at_name stop (record { no_end = λ end ends. cc; no_sign = no_signs at_name; other = leaves }))
 
-pub stop_at_quote : (bytes at_name at_quote name : List ℕ) (double : Bool) (stop : Stop) → Reads (Sign (quote_byte double ∷ [])) tt bytes at_name → Reads AnyName name at_name at_quote → Leaves (Sign (quote_byte double ∷ [])) at_quote stop → (place : Place) (quoted : Quoted) → QuotesAt place quoted bytes → StopsFrom place bytes stop
-stop_at_quote bytes at_name at_quote name double stop sign reads leaves place quoted quotes =
-    let one = on place bytes (InQuotes quoted double) at_name (Unquote quoted name double) at_quote (quote_leads place quoted double bytes at_name quotes sign) (name_leads quoted name double at_name at_quote reads) in
-    let left = leaves_sign (quote_byte double) (after_quoted quoted name) at_quote stop leaves in
-    one.stops stop (stop_at (Unquote quoted name double) at_quote stop (record { no_end = λ end ends. cc; no_sign = left.0; other = left.1 }))
-
-pub quoted_within : (bytes at_name at_quote rest name : List ℕ) (double : Bool) → Reads (Sign (quote_byte double ∷ [])) tt bytes at_name → Reads AnyName name at_name at_quote → ReadsToken (quote_byte double ∷ []) at_quote rest → length rest ≤ length bytes
-quoted_within bytes at_name at_quote rest name double sign reads token =
+pub quoted_within : (bytes at_name middle rest name : List ℕ) (double : Bool) → Reads (Sign (quote_byte double ∷ [])) tt bytes at_name → Reads (AnyClosed double) name at_name middle → Reads AnyBlanks tt middle rest → length rest ≤ length bytes
+quoted_within bytes at_name middle rest name double sign reads blanks =
     let first : length bytes ≡ length sign.takes.prefix + length at_name = ap length sign.takes.bytes_are ∙ length-append sign.takes.prefix at_name in
-    let second : length at_name ≡ length reads.takes.prefix + length at_quote = ap length reads.takes.bytes_are ∙ length-append reads.takes.prefix at_quote in
-    let third = token_shorter (quote_byte double) at_quote rest token in
+    let second : length at_name ≡ length reads.takes.prefix + length middle = ap length reads.takes.bytes_are ∙ length-append reads.takes.prefix middle in
+    let third : length middle ≡ length blanks.takes.prefix + length rest = ap length blanks.takes.bytes_are ∙ length-append blanks.takes.prefix rest in
     omega (arith, first, second, third)
 
 -- ---- the source

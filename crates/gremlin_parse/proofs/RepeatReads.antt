@@ -27,7 +27,7 @@ use Rattle.gremlin_parse.specs.declared.step_word.StepWord.TheVariants as words
 use Rattle.gremlin_parse.specs.declared.stop.Stop.{Stop}
 use Rattle.gremlin_parse.specs.declared.stop.Stop.TheVariants as stops
 use Rattle.gremlin_parse.proofs.Stops.{first_byte-append}
-use Rattle.gremlin_parse.proofs.Tables.{IsWordTable, whole_word_of}
+use Rattle.gremlin_parse.proofs.Tables.{word_table, IsWordTable, whole_word_of}
 use Rattle.gremlin_parse.proofs.Turns.{NoSign, NoSign-first_byte, sign_refuses}
 use Rattle.gremlin_parse.proofs.Moves.{LooseLine, LooseBad, AtEnd, Any, line_split, line_join, bad_split, bad_join}
 use Rattle.gremlin_parse.proofs.Walks.{reaches_next}
@@ -86,10 +86,7 @@ leaves_among table fault bytes (stops.Bad kind left) leaves = bad_among table fa
 -- ---- the fault of a name
 
 body_words_are : IsWordTable body_words
-body_words_are = record {
-  words = (refl, (refl, (refl, (refl, (refl, tt)))));
-  named = (refl, (refl, (refl, (refl, (refl, tt)))));
-}
+body_words_are = word_table body_words refl
 
 -- A name that was read without a fault is none of a 33rd step.
 pub read_early : (before : ℕ) (bytes rest : List ℕ) (word : BodyWord) → ((kind : BadToken) (place : ℕ) → ¬ IsBadWord body_words (λ _ _. late_fault before) kind place bytes) → TakesWord body_words bytes word rest → late_fault before ≡ None

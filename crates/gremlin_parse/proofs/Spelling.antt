@@ -5,7 +5,7 @@ use Rattle.gremlin_parse.specs.Numbers.{is_digit, value_after, IsNumber}
 use Rattle.gremlin_parse.specs.Grammar.{Number, Part, IsMadeOf, IsBounded}
 use Rattle.gremlin_parse.specs.Faults.{EndsRun, IsOutOfBounds}
 use Rattle.gremlin_parse.specs.Reading.{Then, IsBadPart, BadThen, BadParts}
-use Rattle.gremlin_parse.specs.Symbols.{Symbol, AnyBlanks, AnyGap, Sign, OneWord, AnyName, AnyNumber, AnyTimes, AnyValue, Content, Contents, part, Allows, IsBad, ReadsAll, Follows, BadFollows}
+use Rattle.gremlin_parse.specs.Symbols.{Symbol, AnyBlanks, AnyGap, Sign, OneWord, AnyName, AnyNumber, AnyTimes, AnyValue, AnyClosed, Content, Contents, part, Allows, IsBad, ReadsAll, Follows, BadFollows}
 use Rattle.gremlin_parse.specs.Stopping.{Bads, BadInOne}
 use Rattle.gremlin_parse.specs.declared.bad_token.BadToken.{BadToken}
 use Rattle.gremlin_parse.specs.declared.bad_token.BadToken.TheVariants.{LongName, LongText, WideNumber, WrongTimes, UnfitStep, LateStep}
@@ -146,6 +146,7 @@ bad_part (OneWord words) kind left bytes bad = absurd bad.1
 bad_part AnyName kind left bytes (name, bad, rest, takes, place) = (takes.prefix, rest, takes.bytes_are, takes.is, takes.ends, bad, place)
 bad_part (AnyNumber most) kind left bytes (number, bad, rest, takes, place) = (takes.prefix, rest, takes.bytes_are, takes.is, wide_ends kind most number takes.prefix rest bad takes.is.1 takes.ends, bad, place)
 bad_part AnyTimes kind left bytes (number, bad, rest, takes, place) = (takes.prefix, rest, takes.bytes_are, takes.is, times_end number takes.prefix rest takes.is.1 takes.ends, bad, place)
+bad_part (AnyClosed double) kind left bytes (name, bad, rest, takes, place) = (takes.prefix, rest, takes.bytes_are, takes.is, tt, bad, place)
 bad_part AnyValue kind left bytes (value, bad, rest, takes, place) = (takes.prefix, rest, takes.bytes_are, takes.is, bad_value_ends value kind takes.prefix rest takes.is bad takes.ends, bad, place)
 
 part_bad : (symbol : Symbol) (content : Content symbol) (kind : BadToken) (left : ℕ) (bytes : List ℕ) → IsBadPart (part symbol content) kind left bytes → IsBad symbol kind left bytes
@@ -156,6 +157,7 @@ part_bad (OneWord words) content kind left bytes bad = absurd bad.5
 part_bad AnyName name kind left bytes (token, rest, whole, part_is, ends, bad, place) = (name, bad, rest, record { prefix = token; bytes_are = whole; is = part_is; ends = ends }, place)
 part_bad (AnyNumber most) number kind left bytes (token, rest, whole, part_is, ends, bad, place) = (number, bad, rest, record { prefix = token; bytes_are = whole; is = part_is; ends = inr ends }, place)
 part_bad AnyTimes number kind left bytes (token, rest, whole, part_is, ends, bad, place) = (number, bad, rest, record { prefix = token; bytes_are = whole; is = part_is; ends = end_times number token rest part_is ends }, place)
+part_bad (AnyClosed double) name kind left bytes (token, rest, whole, part_is, ends, bad, place) = (name, bad, rest, record { prefix = token; bytes_are = whole; is = part_is; ends = tt }, place)
 part_bad AnyValue value kind left bytes (token, rest, whole, part_is, ends, bad, place) = (value, bad, rest, record { prefix = token; bytes_are = whole; is = part_is; ends = value_ends_token value token rest ends }, place)
 
 abbrev pub HasNoBad : List Part → Type 0
@@ -205,6 +207,7 @@ then_of_bad_follows enders (symbol ∷ symbols) is Bad kind left bytes bad =
     allowed AnyName here = tt
     allowed (AnyNumber most) here = tt
     allowed AnyTimes here = tt
+    allowed (AnyClosed double) here = tt
     allowed AnyValue here = tt
 
 -- Parts within their bounds leave no bad token, where none is left after them.

@@ -1,16 +1,16 @@
 -- Each symbol of a production: it stands whole in one way, and what may follow it is told by a byte.
-use Rattle.std.proofs.Common.{◌≡◌, ◌≢◌, ◌<◌, inl, inr, ℕ, Bool, true, false, not, ◌&&◌, Some, None, List, [], ◌∷◌, ◌++◌, codes, pos, refl, sym, ap, ◌∙◌, subst, ⊎_elim, arith}
+use Rattle.std.proofs.Common.{◌≡◌, ◌≢◌, ◌<◌, inl, inr, ℕ, Bool, true, false, not, ◌&&◌, Some, None, List, [], ◌∷◌, ◌++◌, codes, pos, refl, sym, ap, ◌∙◌, subst, ⊎_elim, append_assoc, arith}
 use Rattle.std.proofs.lemmas.List.{append_cancel_left}
 use Rattle.std.proofs.lemmas.Bool.Decides.{nat_tests}
 use Rattle.plain_graph.specs.Names.{IsName, is_name_byte, is_name_start}
 use Rattle.gremlin_parse.specs.Numbers.{is_digit}
 use Rattle.plain_graph.specs.declared.value.Value.{Value}
 use Rattle.plain_graph.specs.declared.value.Value.TheVariants as values
-use Rattle.gremlin_parse.specs.Grammar.{Part, Blanks, Gap, Exactly, Name, Number, Times, Written, Called, IsPart, IsBounded, AreBlanks, is_blank}
+use Rattle.gremlin_parse.specs.Grammar.{Part, Blanks, Gap, Exactly, Name, Number, Times, Written, Closed, Called, quote_byte, IsPart, IsBounded, AreBlanks, is_blank}
 use Rattle.gremlin_parse.specs.Faults.{EndsRun, IsOutOfBounds}
 use Rattle.gremlin_parse.specs.Reading.{first_byte, Passes, Then, StartsName, StartsNumber}
 use Rattle.gremlin_parse.specs.Keywords.{Entry, InTable, plain}
-use Rattle.gremlin_parse.specs.Symbols.{Symbol, AnyBlanks, AnyGap, Sign, OneWord, AnyName, AnyNumber, AnyTimes, AnyValue, Content, part, Allows, Ends, Takes, IsBad}
+use Rattle.gremlin_parse.specs.Symbols.{Symbol, AnyBlanks, AnyGap, Sign, OneWord, AnyName, AnyNumber, AnyTimes, AnyValue, AnyClosed, Content, part, Allows, Ends, Takes, IsBad}
 use Rattle.gremlin_parse.specs.declared.bad_token.BadToken.{BadToken}
 use Rattle.gremlin_parse.specs.declared.bad_token.BadToken.TheVariants.{LongName, LongText, WideNumber, WrongTimes, UnfitStep, LateStep}
 use Rattle.gremlin_parse.proofs.Runs.{both, turned, Halts, run_is_unique, EndsRun-first_byte}
@@ -23,6 +23,25 @@ use Rattle.gremlin_parse.proofs.Values.{StartsKind, starts_kind, value_starts, o
 
 unit : (content other : Unit {0}) → content ≡ other
 unit content other = refl
+
+quote_is_no_name_byte : (double : Bool) → is_name_byte (quote_byte double) ≡ false
+quote_is_no_name_byte true = refl
+quote_is_no_name_byte false = refl
+
+pub closed_bytes : (double : Bool) (name bytes prefix rest : List ℕ) → prefix ≡ name ++ quote_byte double ∷ [] → bytes ≡ prefix ++ rest → bytes ≡ name ++ quote_byte double ∷ rest
+closed_bytes double name bytes prefix rest is whole = whole ∙ ap (λ p. p ++ rest) is ∙ append_assoc name (quote_byte double ∷ []) rest
+
+-- A name before a closing quote is the run of name bytes.
+pub closed_run : (double : Bool) (name run rest more : List ℕ) → IsName name → IsName run → EndsRun is_name_byte more → name ++ quote_byte double ∷ rest ≡ run ++ more → (name ≡ run) × (quote_byte double ∷ rest ≡ more)
+closed_run double name run rest more is runs ends whole = run_is_unique is_name_byte name run (quote_byte double ∷ rest) more (IsName-passes name is) (IsName-passes run runs) (quote_is_no_name_byte double) ends whole
+
+closed_unique : (double : Bool) (name other rest more : List ℕ) → IsName name → IsName other → name ++ quote_byte double ∷ rest ≡ other ++ quote_byte double ∷ more → (name ≡ other) × (rest ≡ more)
+closed_unique double name other rest more is others whole =
+    let same = closed_run double name other rest (quote_byte double ∷ more) is others (quote_is_no_name_byte double) whole in
+    (same.0, tails (quote_byte double) rest more same.1)
+  where
+    tails : (b : ℕ) (rest more : List ℕ) → b ∷ rest ≡ b ∷ more → rest ≡ more
+    tails b rest more same = cc
 
 -- The symbol that stands whole at the head has one content, and one rest.
 pub takes_unique : (symbol : Symbol) (content other : Content symbol) (bytes rest more : List ℕ) → Takes symbol content bytes rest → Takes symbol other bytes more → (content ≡ other) × (rest ≡ more)
@@ -44,6 +63,9 @@ takes_unique (AnyNumber most) number other bytes rest more one two =
     one_number number other bytes rest more (record { prefix = one.prefix; bytes_are = one.bytes_are; is = one.is; ends = one.ends }) (record { prefix = two.prefix; bytes_are = two.bytes_are; is = two.is; ends = two.ends })
 takes_unique AnyTimes number other bytes rest more one two =
     one_number number other bytes rest more (record { prefix = one.prefix; bytes_are = one.bytes_are; is = one.is; ends = one.ends }) (record { prefix = two.prefix; bytes_are = two.bytes_are; is = two.is; ends = two.ends })
+takes_unique (AnyClosed double) name other bytes rest more one two =
+    let same = closed_unique double name other rest more one.is.1 two.is.1 (sym (closed_bytes double name bytes one.prefix rest one.is.0 one.bytes_are) ∙ closed_bytes double other bytes two.prefix more two.is.0 two.bytes_are) in
+    same
 takes_unique AnyValue value other bytes rest more one two = one_value value other bytes rest more one two
 
 -- what ends a symbol depends on the first byte only
@@ -57,6 +79,7 @@ Ends-first_byte (AnyNumber most) number prefix rest more same ends =
     ⊎_elim (λ (zero : prefix ≡ codes "0"). inl zero) (λ (stops : EndsRun is_digit rest). inr (EndsRun-first_byte is_digit rest more same stops)) ends
 Ends-first_byte AnyTimes number prefix rest more same ends =
     ⊎_elim (λ (zero : prefix ≡ codes "0"). inl zero) (λ (stops : EndsRun is_digit rest). inr (EndsRun-first_byte is_digit rest more same stops)) ends
+Ends-first_byte (AnyClosed double) name prefix rest more same ends = tt
 Ends-first_byte AnyValue value prefix rest more same ends = EndsWritten-first_byte value prefix rest more same ends
 
 -- bytes of the symbol, and then of the language
@@ -87,6 +110,7 @@ class_of AnyName = NameByte
 class_of (AnyNumber most) = Digit
 class_of AnyTimes = Digit
 class_of AnyValue = NameByte
+class_of (AnyClosed double) = NoByte
 
 -- the word is one of name bytes and has some
 abbrev pub is_keyword : List ℕ → Bool
@@ -108,6 +132,7 @@ is_symbol AnyName = true
 is_symbol (AnyNumber most) = true
 is_symbol AnyTimes = true
 is_symbol AnyValue = true
+is_symbol (AnyClosed double) = true
 
 keyword_passes : (words : List (List ℕ)) → are_keywords words ≡ true → (word : List ℕ) → InTable (word, tt) (plain words) → Passes is_name_byte word
 keyword_passes [] are word within = absurd within
@@ -133,6 +158,7 @@ ends_symbol (OneWord words) is word allows prefix part_is rest ends =
 ends_symbol AnyName is content allows prefix part_is rest ends = ends
 ends_symbol (AnyNumber most) is number allows prefix part_is rest ends = inr ends
 ends_symbol AnyTimes is number allows prefix part_is rest ends = inr ends
+ends_symbol (AnyClosed double) is name allows prefix part_is rest ends = tt
 ends_symbol AnyValue is value allows prefix part_is rest ends = ends_value value prefix rest ends
 
 -- a symbol that stands whole, and bytes of the language after it
@@ -265,6 +291,10 @@ halts class end (AnyName ∷ symbols) = no_names class
 halts class end (AnyNumber most ∷ symbols) = no_digits class
 halts class end (AnyTimes ∷ symbols) = no_digits class
 halts class end (AnyValue ∷ symbols) = no_values class
+halts class end (AnyClosed double ∷ symbols) = no_names class
+
+pub closed_starts : (double : Bool) (name bytes prefix rest : List ℕ) → (prefix ≡ name ++ quote_byte double ∷ []) × IsName name → bytes ≡ prefix ++ rest → StartsName bytes
+closed_starts double name bytes prefix rest (same, is) whole = subst StartsName (sym (closed_bytes double name bytes prefix rest same whole)) (name_starts name (quote_byte double ∷ rest) is)
 
 -- the first byte of a symbol and of what follows it
 pub part_halts : (class : Class) (end : Bool) (symbol : Symbol) (symbols : List Symbol) → halts class end (symbol ∷ symbols) ≡ true → (content : Content symbol) → Allows symbol content → (prefix rest : List ℕ) → IsPart (part symbol content) prefix → (halts class end symbols ≡ true → EndsRun (passes class) rest) → EndsRun (passes class) (prefix ++ rest)
@@ -277,6 +307,7 @@ part_halts class end (OneWord words) symbols is word allows prefix rest part_is 
 part_halts class end AnyName symbols is name allows prefix rest part_is later = name_ends (passes class) (name_fails class is) (prefix ++ rest) (name_starts prefix rest (subst IsName (sym part_is.0) part_is.1))
 part_halts class end (AnyNumber most) symbols is number allows prefix rest part_is later = number_ends (passes class) (digit_fails class is) (prefix ++ rest) (number_starts prefix rest part_is.0)
 part_halts class end AnyTimes symbols is number allows prefix rest part_is later = number_ends (passes class) (digit_fails class is) (prefix ++ rest) (number_starts prefix rest part_is.0)
+part_halts class end (AnyClosed double) symbols is name allows prefix rest part_is later = name_ends (passes class) (name_fails class is) (prefix ++ rest) (closed_starts double name (prefix ++ rest) prefix rest part_is refl)
 part_halts class end AnyValue symbols is value allows prefix rest part_is later = value_ends class is value (prefix ++ rest) (value_starts value prefix rest part_is)
 
 -- A bad token begins with no byte of the class.
@@ -291,6 +322,7 @@ bad_halts class end (AnyNumber most) symbols is kind left bytes (number, bad, re
     subst (EndsRun (passes class)) (sym takes.bytes_are) (number_ends (passes class) (digit_fails class is) (takes.prefix ++ rest) (number_starts takes.prefix rest takes.is.0))
 bad_halts class end AnyTimes symbols is kind left bytes (number, bad, rest, takes, place) =
     subst (EndsRun (passes class)) (sym takes.bytes_are) (number_ends (passes class) (digit_fails class is) (takes.prefix ++ rest) (number_starts takes.prefix rest takes.is.0))
+bad_halts class end (AnyClosed double) symbols is kind left bytes (name, bad, rest, takes, place) = name_ends (passes class) (name_fails class is) bytes (closed_starts double name bytes takes.prefix rest takes.is takes.bytes_are)
 bad_halts class end AnyValue symbols is kind left bytes (value, bad, rest, takes, place) =
     subst (EndsRun (passes class)) (sym takes.bytes_are) (value_ends class is value (takes.prefix ++ rest) (value_starts value takes.prefix rest takes.is))
 
@@ -332,6 +364,12 @@ not_bad WideNumber (Written (values.Text text)) within = λ bad. bad
 not_bad WrongTimes (Written (values.Text text)) within = λ bad. bad
 not_bad UnfitStep (Written (values.Text text)) within = λ bad. bad
 not_bad LateStep (Written (values.Text text)) within = λ bad. bad
+not_bad LongName (Closed double name) within = λ bad. absurd (omega arith)
+not_bad LongText (Closed double name) within = λ bad. bad
+not_bad WideNumber (Closed double name) within = λ bad. bad
+not_bad WrongTimes (Closed double name) within = λ bad. bad
+not_bad UnfitStep (Closed double name) within = λ bad. bad
+not_bad LateStep (Closed double name) within = λ bad. bad
 not_bad kind (Called word fault) within = λ bad. let clash : None ≡ Some kind = sym within ∙ bad in cc
 
 -- some part of the symbol
@@ -350,4 +388,5 @@ example (OneWord (word ∷ words)) is = record { content = word; allowed = inl r
 example AnyName is = record { content = codes "a"; allowed = tt; prefix = codes "a"; is = (refl, (refl, tt)) }
 example AnyTimes is = record { content = 1; allowed = tt; prefix = codes "1"; is = (refl, refl) }
 example (AnyNumber most) is = record { content = 0; allowed = tt; prefix = codes "0"; is = (refl, refl) }
+example (AnyClosed double) is = record { content = codes "a"; allowed = tt; prefix = codes "a" ++ quote_byte double ∷ []; is = (refl, (refl, tt)) }
 example AnyValue is = record { content = values.Int (pos 0); allowed = tt; prefix = codes "0"; is = inl (0, refl, (refl, refl)) }

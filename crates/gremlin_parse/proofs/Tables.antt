@@ -1,14 +1,15 @@
 -- A word of a table is the run of name bytes at the head: one word, or a stop after its longest prefix.
-use Rattle.std.proofs.Common.{◌≡◌, ◌≤◌, ◌+◌, ◌-◌, ◌⊎◌, inl, inr, ℕ, suc, zero, max, nat_eq, cond, Bool, true, false, ◌&&◌, Some, None, List, [], ◌∷◌, ◌++◌, length, map, take, drop, refl, sym, ap, ◌∙◌, subst, ⊎_elim, append_assoc, length-append, arith}
+use Rattle.std.proofs.Common.{◌≡◌, ◌≤◌, ◌+◌, ◌-◌, ◌⊎◌, inl, inr, ℕ, suc, zero, max, nat_eq, cond, Bool, true, false, not, ◌&&◌, Some, None, List, [], ◌∷◌, ◌++◌, length, map, take, drop, refl, sym, ap, ◌∙◌, subst, ⊎_elim, append_assoc, length-append, arith}
 use Rattle.std.specs.List.{AllByRecursion}
-use Rattle.std.specs.Cmp.Lexicographic.{pointwise, same_text}
+use Rattle.std.specs.Cmp.Lexicographic.{pointwise, same_text, other_text}
+use Rattle.std.proofs.lemmas.Bool.{cases_Bool}
 use Rattle.std.proofs.lemmas.Bool.Decides.{nat_tests}
 use borrow.Author.Tests.{eqb-true}
 use Rattle.plain_graph.specs.Names.{is_name_byte}
 use Rattle.gremlin_parse.specs.Faults.{EndsRun}
 use Rattle.gremlin_parse.specs.Reading.{first_byte, Passes, CutsRun, StopsBefore}
 use Rattle.gremlin_parse.specs.Keywords.{Entry, lookup, InTable, common, reach, whole_word, TakesWord, LeavesTable, ThenWord}
-use Rattle.gremlin_parse.proofs.Runs.{both, Halts, run_is_unique, EndsRun-first_byte}
+use Rattle.gremlin_parse.proofs.Runs.{both, turned, Halts, run_is_unique, EndsRun-first_byte}
 use Rattle.gremlin_parse.proofs.Stops.{Continues}
 
 abbrev pub is_word : List ℕ → Bool
@@ -105,10 +106,55 @@ common_run (b ∷ word) [] (c ∷ rest) passes ends = other (nat_eq c b) refl
     other false differs = refl
 common_run (b ∷ word) (c ∷ run) rest passes ends = ap (λ n. cond (nat_eq c b) (1 + n) 0) (common_run word run rest passes.1 ends)
 
+pub pointwise_same : (word : List ℕ) → pointwise nat_eq word word ≡ true
+pointwise_same word = ⊎_elim (λ (same : pointwise nat_eq word word ≡ true). same) (λ (other : pointwise nat_eq word word ≡ false). absurd (other_text word word (sym other) refl)) (cases_Bool (pointwise nat_eq word word))
+
 module _ {K : Type 0} where
+  -- Each entry passes a test, which computes over the table.
+  abbrev pub all_pass : (Entry K → Bool) → List (Entry K) → Bool
+  all_pass test [] = true
+  all_pass test (first ∷ table) = test first && all_pass test table
+
+  -- No word stands twice.
+  abbrev pub are_distinct : List (Entry K) → Bool
+  are_distinct [] = true
+  are_distinct (first ∷ table) = all_pass (λ entry. not (pointwise nat_eq first.0 entry.0)) table && are_distinct table
+
+  abbrev pub is_word_table : List (Entry K) → Bool
+  is_word_table table = all_pass (λ entry. is_word entry.0) table && are_distinct table
+
+  pub passes_in : (test : Entry K → Bool) (table : List (Entry K)) → all_pass test table ≡ true → (entry : Entry K) → InTable entry table → test entry ≡ true
+  passes_in test [] all entry within = absurd within
+  passes_in test (first ∷ table) all entry within =
+      let two = both (test first) (all_pass test table) all in
+      ⊎_elim (λ (same : entry ≡ first). ap test same ∙ two.0) (λ (later : InTable entry table). passes_in test table two.1 entry later) within
+
+  pub all_of : (P : Entry K → Type 0) (table : List (Entry K)) → ((entry : Entry K) → InTable entry table → P entry) → AllByRecursion P table
+  all_of P [] each = tt
+  all_of P (first ∷ table) each = (each first (inl refl), all_of P table (λ entry within. each entry (inr within)))
+
+  found_in : (table : List (Entry K)) → are_distinct table ≡ true → (entry : Entry K) → InTable entry table → lookup table entry.0 ≡ Some entry.1
+  found_in [] distinct entry within = absurd within
+  found_in (first ∷ table) distinct entry within =
+      let two = both (all_pass (λ (e : Entry K). not (pointwise nat_eq first.0 e.0)) table) (are_distinct table) distinct in
+      ⊎_elim
+      (λ (same : entry ≡ first). subst (λ (e : Entry K). lookup (first ∷ table) e.0 ≡ Some e.1) (sym same) (ap (λ t. cond t (Some first.1) (lookup table first.0)) (pointwise_same first.0)))
+      (λ (later : InTable entry table).
+      let other = turned (pointwise nat_eq first.0 entry.0) (passes_in (λ (e : Entry K). not (pointwise nat_eq first.0 e.0)) table two.0 entry later) in
+      ap (λ t. cond t (Some first.1) (lookup table entry.0)) other ∙ found_in table two.1 entry later)
+      within
+
   pub record IsWordTable (table : List (Entry K)) : Type 0 where
     pub words : AllByRecursion (λ (entry : Entry K). is_word entry.0 ≡ true) table
     pub named : AllByRecursion (λ (entry : Entry K). lookup table entry.0 ≡ Some entry.1) table
+
+  pub word_table : (table : List (Entry K)) → is_word_table table ≡ true → IsWordTable table
+  word_table table is =
+      let two = both (all_pass (λ (e : Entry K). is_word e.0) table) (are_distinct table) is in
+      record {
+        words = all_of (λ (e : Entry K). is_word e.0 ≡ true) table (λ entry within. passes_in (λ (e : Entry K). is_word e.0) table two.0 entry within);
+        named = all_of (λ (e : Entry K). lookup table e.0 ≡ Some e.1) table (λ entry within. found_in table two.1 entry within);
+      }
 
   pub all_in : (P : Entry K → Type 0) (table : List (Entry K)) (entry : Entry K) → AllByRecursion P table → InTable entry table → P entry
   all_in P [] entry all within = absurd within

@@ -13,7 +13,7 @@ use Rattle.gremlin_parse.specs.declared.bad_token.BadToken.{BadToken}
 use Rattle.gremlin_parse.proofs.Runs.{Halts, EndsRun-first_byte}
 use Rattle.gremlin_parse.proofs.Stops.{stops_of_same}
 use Rattle.gremlin_parse.proofs.Decimals.{number_starts, StartsNumber-first_byte}
-use Rattle.gremlin_parse.proofs.Tables.{IsWordTable, stops_in_table, no_word}
+use Rattle.gremlin_parse.proofs.Tables.{IsWordTable, word_table, stops_in_table, no_word}
 use Rattle.gremlin_parse.proofs.Texts.{no_quote, pieces_go_on, pieces_more, StartsEscape-first_byte}
 use Rattle.gremlin_parse.proofs.Values.{StartsKind, value_starts, integer_no_quote, name_no_quote, quoted_bytes}
 use Rattle.gremlin_parse.proofs.Symbols.{One}
@@ -154,7 +154,7 @@ text_stops After line bytes left some (quote, after, is, whole, leaves) = subst 
 -- ---- in true or false
 
 truth_table : IsWordTable truth_words
-truth_table = record { words = (refl, (refl, tt)); named = (refl, (refl, tt)) }
+truth_table = word_table truth_words refl
 
 -- a value that begins as neither a number nor a text does
 record TruthLine (value : Value) (bytes : List ℕ) : Type 0 where

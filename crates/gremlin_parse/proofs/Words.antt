@@ -1,17 +1,22 @@
 -- A word that a table was asked for, as a symbol of the grammar.
-use Rattle.std.proofs.Common.{◌≡◌, inl, inr, ℕ, List, [], ◌∷◌, map, refl, sym, ap, ◌∙◌, subst}
+use Rattle.std.proofs.Common.{◌≡◌, inl, inr, ℕ, nat_eq, true, List, [], ◌∷◌, map, refl, sym, ap, ◌∙◌, subst}
 use Rattle.std.specs.List.{AllByRecursion}
+use Rattle.std.specs.Cmp.Lexicographic.{pointwise, same_text}
 use Rattle.gremlin_parse.specs.Keywords.{Entry, InTable, plain, TakesWord, LeavesTable}
 use Rattle.gremlin_parse.specs.Symbols.{OneWord, Reads, Leaves}
 use Rattle.gremlin_parse.specs.Stopping.{StopsWith}
 use Rattle.gremlin_parse.specs.declared.stop.Stop.{Stop}
 use Rattle.gremlin_parse.specs.declared.stop.Stop.TheVariants as stops
-use Rattle.gremlin_parse.proofs.Tables.{lookup_in, forget, leaves_plain}
+use Rattle.gremlin_parse.proofs.Tables.{all_pass, all_of, passes_in, lookup_in, forget, leaves_plain}
 
 module _ {K : Type 0} (name : K → List ℕ) where
   -- Each word of the table is the name of what it stands for.
   abbrev pub AreNamed : List (Entry K) → Type 0
   AreNamed table = AllByRecursion (λ (e : Entry K). e.0 ≡ name e.1) table
+
+  -- by a test that computes over the table
+  pub are_named : (table : List (Entry K)) → all_pass (λ (e : Entry K). pointwise nat_eq e.0 (name e.1)) table ≡ true → AreNamed table
+  are_named table all = all_of (λ (e : Entry K). e.0 ≡ name e.1) table (λ entry within. same_text entry.0 (name entry.1) (sym (passes_in (λ (e : Entry K). pointwise nat_eq e.0 (name e.1)) table all entry within)))
 
   pub entry_named : (table : List (Entry K)) → AreNamed table → (entry : Entry K) → InTable entry table → entry.0 ≡ name entry.1
   entry_named [] named entry within = absurd within

@@ -1,23 +1,25 @@
--- Commands and queries by their first word: the table of words, and the production after each.
-use Rattle.std.specs.Prelude.{◌≡◌, ◌⊎◌, ℕ, nat_eq, cond, List, [], ◌∷◌, codes}
-use Rattle.std.specs.Cmp.Lexicographic.{pointwise}
+-- Commands and queries by their first word: the table of words, and what stands after each.
+use Rattle.std.specs.Prelude.{◌≡◌, ◌⊎◌, ℕ, false, List, [], ◌∷◌, codes}
 use Rattle.plain_graph.specs.declared.command.Command.{Command}
 use Rattle.plain_graph.specs.declared.command.Command.TheVariants as commands
 use Rattle.plain_graph.specs.declared.command.Target.{Target}
 use Rattle.plain_graph.specs.declared.command.Target.TheVariants as targets
-use Rattle.plain_graph.specs.declared.direction.Direction.{Direction}
-use Rattle.plain_graph.specs.declared.direction.Direction.TheVariants as directions
-use Rattle.plain_graph.specs.declared.pairs.Pair.{Pair}
-use Rattle.plain_graph.specs.declared.query.Query.{Query}
-use Rattle.gremlin_parse.specs.Grammar.{Part, Exactly, IsMadeOf, KeepsBounds, pairs_to_end, most_id}
-use Rattle.gremlin_parse.specs.Grammar.{NeedsNoMemory}
+use Rattle.gremlin_parse.specs.Grammar.{Exactly, KeepsBounds, NeedsNoMemory}
 use Rattle.gremlin_parse.specs.Keywords.{Entry, ThenWord}
-use Rattle.gremlin_parse.specs.Symbols.{Symbol, AnyBlanks, AnyGap, OneWord, AnyName}
-use Rattle.gremlin_parse.specs.Symbols.{AnyNumber, AnyValue, Contents, Follows}
-use Rattle.gremlin_parse.specs.Symbols.{BadFollows}
-use Rattle.gremlin_parse.specs.Stopping.{Bads, IsStop, BadInOne}
+use Rattle.gremlin_parse.specs.Symbols.{Symbol, Contents, Follows, BadFollows}
+use Rattle.gremlin_parse.specs.Stopping.{Bads, IsStop}
 use Rattle.gremlin_parse.specs.Reading.{Then}
-use Rattle.gremlin_parse.specs.Queries.{QueryTo, IsKeptQuery, BadQuery}
+use Rattle.gremlin_parse.specs.Queries.{IsKeptQuery}
+use Rattle.gremlin_parse.specs.Arguments.{kind_named, direction_named, spaced}
+use Rattle.gremlin_parse.specs.Arguments.{contents_in, listed}
+use Rattle.gremlin_parse.specs.Lasts.{is_query, LastContentOf, LastIs, SomeLast, BadInLast}
+use Rattle.gremlin_parse.specs.Lasts.{last_content}
+use Rattle.gremlin_parse.specs.declared.argument.Givens.{Givens}
+use Rattle.gremlin_parse.specs.declared.last.Last.{Last}
+use Rattle.gremlin_parse.specs.declared.argument.Argument.{Argument}
+use Rattle.gremlin_parse.specs.declared.argument.Argument.TheVariants as arguments
+use Rattle.gremlin_parse.specs.declared.last.LastPart.{LastPart}
+use Rattle.gremlin_parse.specs.declared.last.LastPart.TheVariants as lasts
 use Rattle.gremlin_parse.specs.declared.word.Word.{Word}
 use Rattle.gremlin_parse.specs.declared.word.Word.TheVariants as words
 use Rattle.gremlin_parse.specs.declared.head.Head.{Head}
@@ -39,93 +41,38 @@ head_words =
     ∷ (codes "delete", heads.Delete) ∷ (codes "expand", heads.Expand)
     ∷ (codes "g", heads.Query) ∷ []
 
--- the words for what a command changes
-abbrev pub target_words : List (Entry TargetWord)
-target_words = (codes "node", target_kinds.Node) ∷ (codes "edge", target_kinds.Edge) ∷ []
-
-abbrev pub target_names : List (List ℕ)
-target_names = codes "node" ∷ codes "edge" ∷ []
-
 -- the element of an identifier
 abbrev pub target_of : TargetWord → ℕ → Target
 target_of target_kinds.Node id = targets.Node id
 target_of target_kinds.Edge id = targets.Edge id
 
--- what one of the two names stands for
-abbrev pub kind_named : List ℕ → TargetWord
-kind_named name = cond (pointwise nat_eq (codes "node") name) target_kinds.Node target_kinds.Edge
-
--- the words for a direction
-abbrev pub direction_words : List (Entry Direction)
-direction_words =
-    (codes "out", directions.Outgoing) ∷ (codes "in", directions.Incoming)
-    ∷ (codes "both", directions.Both) ∷ []
-
-abbrev pub direction_names : List (List ℕ)
-direction_names = codes "out" ∷ codes "in" ∷ codes "both" ∷ []
-
--- the direction that one of the three names stands for
-abbrev pub direction_named : List ℕ → Direction
-direction_named name =
-    cond (pointwise nat_eq (codes "out") name) directions.Outgoing
-    (cond (pointwise nat_eq (codes "in") name) directions.Incoming directions.Both)
-
--- blanks to the line's end
-abbrev pub to_end : List Symbol
-to_end = AnyBlanks ∷ []
-
--- an element, after one blank or more
-abbrev pub element_symbols : List Symbol
-element_symbols = AnyGap ∷ OneWord target_names ∷ AnyGap ∷ AnyNumber most_id ∷ []
-
-abbrev pub target_name : Target → List ℕ
-target_name (targets.Node id) = codes "node"
-target_name (targets.Edge id) = codes "edge"
-
-abbrev pub target_id : Target → ℕ
-target_id (targets.Node id) = id
-target_id (targets.Edge id) = id
-
-abbrev pub element_contents : Target → Contents element_symbols
-element_contents target = (tt, (target_name target, (tt, (target_id target, tt))))
-
 -- the element of a name and an identifier
 abbrev pub element_of : List ℕ → ℕ → Target
 element_of name id = target_of (kind_named name) id
 
--- the symbols after the first word
+-- the arguments after the first word
+abbrev pub arguments_of : Head → List Argument
+arguments_of heads.Node = arguments.Name ∷ []
+arguments_of heads.Edge = arguments.Number ∷ arguments.Name ∷ arguments.Number ∷ []
+arguments_of heads.Set =
+    arguments.Element ∷ arguments.Number ∷ arguments.Name ∷ arguments.Value ∷ []
+arguments_of heads.Unset = arguments.Element ∷ arguments.Number ∷ arguments.Name ∷ []
+arguments_of heads.Delete = arguments.Element ∷ arguments.Number ∷ []
+arguments_of heads.Expand = arguments.Number ∷ arguments.Direction ∷ arguments.Name ∷ []
+arguments_of _ = []
+
+-- what stands after them
+abbrev pub last_part : Head → LastPart
+last_part heads.Node = lasts.Pairs
+last_part heads.Edge = lasts.Pairs
+last_part heads.Query = lasts.Query
+last_part _ = lasts.End
+
 abbrev pub production : Head → List Symbol
-production (heads.Alone word) = to_end
-production heads.Node = AnyGap ∷ AnyName ∷ []
-production heads.Edge =
-    AnyGap ∷ AnyNumber most_id ∷ AnyGap ∷ AnyName ∷ AnyGap ∷ AnyNumber most_id ∷ []
-production heads.Set =
-    AnyGap ∷ OneWord target_names ∷ AnyGap ∷ AnyNumber most_id ∷ AnyGap ∷ AnyName ∷ AnyGap
-    ∷ AnyValue
-    ∷ to_end
-production heads.Unset =
-    AnyGap ∷ OneWord target_names ∷ AnyGap ∷ AnyNumber most_id ∷ AnyGap ∷ AnyName ∷ to_end
-production heads.Delete = AnyGap ∷ OneWord target_names ∷ AnyGap ∷ AnyNumber most_id ∷ to_end
-production heads.Expand =
-    AnyGap ∷ AnyNumber most_id ∷ AnyGap ∷ OneWord direction_names ∷ AnyGap ∷ AnyName ∷ to_end
-production heads.Query = []
+production head = spaced (arguments_of head)
 
--- what stands after the production's symbols: pairs, a query, and else nothing
 abbrev pub LastContent : Head → Type 0
-LastContent heads.Node = List Pair
-LastContent heads.Edge = List Pair
-LastContent heads.Query = Query
-LastContent _ = Unit {0}
-
-abbrev pub last_parts : (head : Head) → LastContent head → List Part
-last_parts (heads.Alone word) last = []
-last_parts heads.Node pairs = pairs_to_end pairs
-last_parts heads.Edge pairs = pairs_to_end pairs
-last_parts heads.Set last = []
-last_parts heads.Unset last = []
-last_parts heads.Delete last = []
-last_parts heads.Expand last = []
-last_parts heads.Query query = []
+LastContent head = LastContentOf (last_part head)
 
 abbrev pub plain_command : Word → Command
 plain_command words.Begin = commands.Begin
@@ -154,22 +101,30 @@ command_of heads.Expand contents last =
     commands.Expand contents.1.0 (direction_named contents.1.1.1.0) contents.1.1.1.1.1.0
 command_of heads.Query contents query = commands.Query query
 
+-- the command of a first word and of what a line has after it
+abbrev pub built : Head → Givens → Last → Command
+built head givens last =
+    command_of head (contents_in (arguments_of head) (listed givens))
+    (last_content (last_part head) last)
+
 -- all but a query is spelled by parts
 abbrev pub IsPlain : Head → Type 0
-IsPlain heads.Query = ⊥
-IsPlain _ = Unit {0}
+IsPlain head = is_query (last_part head) ≡ false
 
--- what stands after the production's symbols, of this content
+-- Memory is asked for to keep what stands there.
+abbrev pub Asks : Head → Type 0
+Asks (heads.Alone word) = ⊥
+Asks heads.Delete = ⊥
+Asks _ = Unit {0}
+
 abbrev pub LastOf : (head : Head) → LastContent head → List ℕ → Type 0
-LastOf heads.Query query rest = QueryTo query rest
-LastOf head last rest = IsMadeOf (last_parts head last) rest
+LastOf head last rest = LastIs (last_part head) last rest
 
 abbrev pub IsLast : Head → List ℕ → Type 0
-IsLast head rest = (last : LastContent head) × LastOf head last rest
+IsLast head rest = SomeLast (last_part head) rest
 
 abbrev pub BadLast : Head → Bads
-BadLast heads.Query kind left rest = BadQuery kind left rest
-BadLast head kind left rest = BadInOne (last_parts head) kind left rest
+BadLast head kind left rest = BadInLast (last_part head) kind left rest
 
 -- after the first word, some command or query
 abbrev pub IsAfter : Head → List ℕ → Type 0

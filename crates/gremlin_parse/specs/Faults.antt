@@ -3,14 +3,12 @@ use Rattle.std.specs.Prelude.{◌≡◌, ◌⊎◌, ℕ, ◌≤◌, ◌<◌, Boo
 use Rattle.std.specs.Prelude.{take}
 use Rattle.std.specs.Int.RustNames.{FitsSigned}
 use mir.Syntax.{w64}
-use Rattle.plain_graph.specs.declared.command.Command.{Command}
 use Rattle.plain_graph.specs.declared.value.Value.{Value}
 use Rattle.plain_graph.specs.declared.value.Value.TheVariants as values
 use Rattle.plain_graph.specs.Names.{is_name_byte}
 use Rattle.gremlin_parse.specs.Numbers.{is_digit}
-use Rattle.gremlin_parse.specs.Grammar.{Part, Name, Number, Times, Written, Called, IsPart}
-use Rattle.gremlin_parse.specs.Grammar.{IsMadeOf}
-use Rattle.gremlin_parse.specs.Grammar.{parts_of, IsCommand, most_name_bytes}
+use Rattle.gremlin_parse.specs.Grammar.{Part, Name, Number, Times, Written, Closed, Called}
+use Rattle.gremlin_parse.specs.Grammar.{most_name_bytes}
 use Rattle.gremlin_parse.specs.Grammar.{most_text_bytes}
 use Rattle.gremlin_parse.specs.declared.bad_token.BadToken.{BadToken}
 use Rattle.gremlin_parse.specs.declared.bad_token.BadToken.TheVariants.{LongName, LongText}
@@ -44,6 +42,7 @@ EndsToken (Name name) rest = EndsRun is_name_byte rest
 EndsToken (Number most number) rest = EndsRun is_digit rest
 EndsToken (Times number) rest = (number ≡ 0) ⊎ EndsRun is_digit rest
 EndsToken (Written value) rest = EndsValue value rest
+EndsToken (Closed double name) rest = Unit {0}
 EndsToken _ rest = ⊥
 
 -- The value is out of its bounds.
@@ -55,26 +54,9 @@ IsBadValue _ _ = ⊥
 -- The part is a token out of its bounds.
 abbrev pub IsOutOfBounds : Part → BadToken → Type 0
 IsOutOfBounds (Name name) LongName = most_name_bytes < length name
+IsOutOfBounds (Closed double name) LongName = most_name_bytes < length name
 IsOutOfBounds (Number most number) WideNumber = most < number
 IsOutOfBounds (Times number) WrongTimes = (number < 1) ⊎ (16 < number)
 IsOutOfBounds (Written value) kind = IsBadValue value kind
 IsOutOfBounds (Called word fault) kind = fault ≡ Some kind
 IsOutOfBounds _ _ = ⊥
-
--- Such a token stands whole in the line at this place, where the grammar has it.
-pub record HasBadToken (kind : BadToken) (line : List ℕ) (at : ℕ) : Type 0 where
-  pub command : Command
-  pub in_grammar : IsCommand command
-  pub before : List Part
-  pub part : Part
-  pub after : List Part
-  pub parts_are : parts_of command ≡ before ++ part ∷ after
-  pub prefix : List ℕ
-  pub token : List ℕ
-  pub rest : List ℕ
-  pub line_is : line ≡ prefix ++ (token ++ rest)
-  pub prefix_is : IsMadeOf before prefix
-  pub token_is : IsPart part token
-  pub ends : EndsToken part rest
-  pub bad : IsOutOfBounds part kind
-  pub place : at ≡ length prefix

@@ -1,5 +1,5 @@
 -- Which lines spell which commands. A command is spelled by parts, one after the other.
-use Rattle.std.specs.Prelude.{◌≡◌, ◌≢◌, ℕ, ◌≤◌, Bool, true, ◌==◌, ◌||◌, Option, None}
+use Rattle.std.specs.Prelude.{◌≡◌, ◌≢◌, ℕ, ◌≤◌, Bool, true, ◌==◌, ◌||◌, cond, Option, Some, None}
 use Rattle.std.specs.Prelude.{List, [], ◌∷◌, ◌++◌, length, codes, flat_map}
 use Rattle.std.specs.List.{AllByRecursion}
 use Rattle.plain_graph.specs.Names.{IsName}
@@ -39,9 +39,13 @@ is_blank b = b == 32 || b == 9
 abbrev pub AreBlanks : List ℕ → Type 0
 AreBlanks bytes = AllByRecursion (λ b. is_blank b ≡ true) bytes
 
+-- a double quote, or a single one
+abbrev pub quote_byte : Bool → ℕ
+quote_byte double = cond double 34 39
+
 -- A part of a spelled command: any blanks, one blank or more, a word or a sign of the grammar,
--- a name, a number of at most so much, a number of times, a value, or a word with the fault that it
--- has there, if any.
+-- a name, a number of at most so much, a number of times, a value, a name and the quote that closes
+-- it, or a word with the fault that it has there, if any.
 pub data Part : Type 0 where
   Blanks : Part
   Gap : Part
@@ -50,6 +54,7 @@ pub data Part : Type 0 where
   Number : (most : ℕ) → (number : ℕ) → Part
   Times : (number : ℕ) → Part
   Written : (value : Value) → Part
+  Closed : (double : Bool) → (name : List ℕ) → Part
   Called : (word : List ℕ) → (fault : Option BadToken) → Part
 
 abbrev pub IsPart : Part → List ℕ → Type 0
@@ -60,6 +65,7 @@ IsPart (Name name) bytes = (bytes ≡ name) × IsName name
 IsPart (Number most number) bytes = IsNumber number bytes
 IsPart (Times number) bytes = IsNumber number bytes
 IsPart (Written value) bytes = IsWritten value bytes
+IsPart (Closed double name) bytes = (bytes ≡ name ++ quote_byte double ∷ []) × IsName name
 IsPart (Called word fault) bytes = bytes ≡ word
 
 -- the bytes are these parts, one after the other
@@ -71,7 +77,7 @@ IsMadeOf (part ∷ parts) bytes =
 
 -- a word and nothing else
 abbrev pub alone : List ℕ → List Part
-alone word = Blanks ∷ Exactly word ∷ Blanks ∷ []
+alone word = Exactly word ∷ Blanks ∷ []
 
 abbrev pub target_parts : Target → List Part
 target_parts (targets.Node id) = Exactly (codes "node") ∷ Gap ∷ Number most_id id ∷ []
@@ -91,9 +97,14 @@ pair_parts pair = Gap ∷ Name pair.key ∷ Exactly (codes "=") ∷ Written pair
 abbrev pub pairs_to_end : List Pair → List Part
 pairs_to_end pairs = flat_map pair_parts pairs ++ Blanks ∷ []
 
--- the parts that spell a command
+-- a name after one blank or more, or none, and any blanks
+abbrev pub name_to_end : Option (List ℕ) → List Part
+name_to_end None = Blanks ∷ []
+name_to_end (Some name) = Gap ∷ Name name ∷ Blanks ∷ []
+
+-- the parts that spell a command, from its first letter
 abbrev pub parts_of : Command → List Part
-parts_of commands.Blank = Blanks ∷ []
+parts_of commands.Blank = []
 parts_of commands.Begin = alone (codes "begin")
 parts_of commands.Commit = alone (codes "commit")
 parts_of commands.Rollback = alone (codes "rollback")
@@ -103,21 +114,21 @@ parts_of commands.Stats = alone (codes "stats")
 parts_of commands.Reopen = alone (codes "reopen")
 parts_of commands.Quit = alone (codes "quit")
 parts_of (commands.Node label pairs) =
-    Blanks ∷ Exactly (codes "node") ∷ Gap ∷ Name label ∷ pairs_to_end pairs
+    Exactly (codes "node") ∷ Gap ∷ Name label ∷ pairs_to_end pairs
 parts_of (commands.Edge from label to pairs) =
-    Blanks ∷ Exactly (codes "edge") ∷ Gap ∷ Number most_id from ∷ Gap ∷ Name label ∷ Gap
+    Exactly (codes "edge") ∷ Gap ∷ Number most_id from ∷ Gap ∷ Name label ∷ Gap
     ∷ Number most_id to
     ∷ pairs_to_end pairs
 parts_of (commands.Set target key value) =
-    (Blanks ∷ Exactly (codes "set") ∷ Gap ∷ []) ++ target_parts target
+    (Exactly (codes "set") ∷ Gap ∷ []) ++ target_parts target
     ++ Gap ∷ Name key ∷ Gap ∷ Written value ∷ Blanks ∷ []
 parts_of (commands.Unset target key) =
-    (Blanks ∷ Exactly (codes "unset") ∷ Gap ∷ []) ++ target_parts target
+    (Exactly (codes "unset") ∷ Gap ∷ []) ++ target_parts target
     ++ Gap ∷ Name key ∷ Blanks ∷ []
 parts_of (commands.Delete target) =
-    (Blanks ∷ Exactly (codes "delete") ∷ Gap ∷ []) ++ target_parts target ++ Blanks ∷ []
+    (Exactly (codes "delete") ∷ Gap ∷ []) ++ target_parts target ++ Blanks ∷ []
 parts_of (commands.Expand id direction label) =
-    Blanks ∷ Exactly (codes "expand") ∷ Gap ∷ Number most_id id ∷ Gap
+    Exactly (codes "expand") ∷ Gap ∷ Number most_id id ∷ Gap
     ∷ Exactly (direction_name direction)
     ∷ Gap ∷ Name label ∷ Blanks ∷ []
 parts_of (commands.Query query) = []
@@ -136,6 +147,7 @@ IsBounded (Name name) = length name ≤ most_name_bytes
 IsBounded (Number most number) = number ≤ most
 IsBounded (Times number) = (1 ≤ number) × (number ≤ 16)
 IsBounded (Written value) = IsKept value
+IsBounded (Closed double name) = length name ≤ most_name_bytes
 IsBounded (Called word fault) = fault ≡ None
 
 abbrev pub KeepsBounds : Command → Type 0

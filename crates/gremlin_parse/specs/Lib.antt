@@ -14,5 +14,7 @@ pub mod Stages
 pub mod Queries
 pub mod Comparisons
 pub mod Orders
+pub mod Arguments
+pub mod Lasts
 pub mod Commands
 pub mod Lines

@@ -2,9 +2,9 @@
 use Rattle.std.specs.Prelude.{◌≡◌, ◌⊎◌, ℕ, ◌+◌, ◌≤◌, List, length, codes}
 use Rattle.plain_graph.specs.declared.command.Command.{Command}
 use Rattle.plain_graph.specs.declared.command.Command.TheVariants as commands
-use Rattle.gremlin_parse.specs.Grammar.{Blanks, Exactly, IsMadeOf, parts_of, KeepsBounds}
-use Rattle.gremlin_parse.specs.Faults.{StopsAt, HasBadToken}
-use Rattle.gremlin_parse.specs.Reading.{Then}
+use Rattle.gremlin_parse.specs.Grammar.{Blanks, Exactly, IsMadeOf, parts_of, IsCommand, KeepsBounds}
+use Rattle.gremlin_parse.specs.Faults.{StopsAt}
+use Rattle.gremlin_parse.specs.Reading.{Then, BadParts}
 use Rattle.gremlin_parse.specs.Queries.{QueryTo, IsKeptQuery, BadQuery}
 use Rattle.gremlin_parse.specs.declared.bad_token.BadToken.{BadToken}
 use Rattle.gremlin_parse.specs.declared.bad_token.BadToken.TheVariants.{LongName, LongText}
@@ -16,19 +16,37 @@ use Rattle.gremlin_parse.specs.declared.line_fault.LineFault.TheVariants.{NameLe
 use Rattle.gremlin_parse.specs.declared.line_fault.LineFault.TheVariants.{NumberRange, StepKind}
 use Rattle.gremlin_parse.specs.declared.line_fault.LineFault.TheVariants.{TooManySteps, TimesRange}
 
--- g, any blanks before it, and bytes of the language after it
+-- what stands in a line before a command: any blanks
+abbrev pub AfterFront : (List ℕ → Type 0) → List ℕ → Type 0
+AfterFront Tail line = Then Blanks Tail line
+
+-- g, and bytes of the language after it
 abbrev pub AfterG : (List ℕ → Type 0) → List ℕ → Type 0
-AfterG Language line = Then Blanks (Then (Exactly (codes "g")) Language) line
+AfterG Language bytes = Then (Exactly (codes "g")) Language bytes
+
+-- the bytes spell the command but for the bounds, from its first letter
+abbrev pub IsLooseTail : Command → List ℕ → Type 0
+IsLooseTail (commands.Query query) bytes = AfterG (QueryTo query) bytes
+IsLooseTail command bytes = IsMadeOf (parts_of command) bytes
+
+-- the bytes spell the command, from its first letter
+abbrev pub IsKeptTail : Command → List ℕ → Type 0
+IsKeptTail (commands.Query query) bytes = AfterG (IsKeptQuery query) bytes
+IsKeptTail command bytes = IsMadeOf (parts_of command) bytes × KeepsBounds command
+
+-- A token with such a fault stands whole `left` bytes from the end, where the grammar has it.
+abbrev pub IsFaultyTail : BadToken → ℕ → List ℕ → Type 0
+IsFaultyTail kind left bytes =
+    ((command : Command) × IsCommand command × BadParts (parts_of command) kind left bytes)
+    ⊎ AfterG (BadQuery kind left) bytes
 
 -- the line spells the command but for the bounds
 abbrev pub SpellsLoosely : List ℕ → Command → Type 0
-SpellsLoosely line (commands.Query query) = AfterG (QueryTo query) line
-SpellsLoosely line command = IsMadeOf (parts_of command) line
+SpellsLoosely line command = AfterFront (IsLooseTail command) line
 
 -- the line spells the command
 abbrev pub Spells : List ℕ → Command → Type 0
-Spells line (commands.Query query) = AfterG (IsKeptQuery query) line
-Spells line command = IsMadeOf (parts_of command) line × KeepsBounds command
+Spells line command = AfterFront (IsKeptTail command) line
 
 -- a line of the loose grammar
 abbrev pub IsLine : List ℕ → Type 0
@@ -37,8 +55,7 @@ IsLine line = (command : Command) × SpellsLoosely line command
 -- A token with such a fault stands whole in the line at this place, where the grammar has it.
 abbrev pub HasBad : BadToken → List ℕ → ℕ → Type 0
 HasBad kind line at =
-    HasBadToken kind line at
-    ⊎ ((left : ℕ) × (at + left ≡ length line) × AfterG (BadQuery kind left) line)
+    (left : ℕ) × (at + left ≡ length line) × AfterFront (IsFaultyTail kind left) line
 
 -- The line has the fault at its place.
 abbrev pub HasFault : List ℕ → LineFault → Type 0

@@ -15,7 +15,7 @@ use Rattle.plain_graph.specs.declared.query.Step.TheVariants as steps
 use Rattle.plain_graph.specs.declared.value.Value.{Value}
 use Rattle.gremlin_parse.specs.Grammar.{most_id, most_limit}
 use Rattle.gremlin_parse.specs.Keywords.{Entry, lookup}
-use Rattle.gremlin_parse.specs.Symbols.{Sign, OneWord, AnyName, AnyNumber, AnyTimes, AnyValue}
+use Rattle.gremlin_parse.specs.Symbols.{Sign, OneWord, AnyClosed, AnyNumber, AnyTimes, AnyValue}
 use Rattle.gremlin_parse.specs.Stages.{is_by, stage_of, step_fault, steps_in, late_fault}
 use Rattle.gremlin_parse.specs.Stopping.{Bads, IsStop, StopsWith}
 use Rattle.gremlin_parse.specs.Turns.{Other, Nothing, Words, Token, Either, Turn, LineFrom}
@@ -189,7 +189,6 @@ pub data Place : Type 0 where
   ByCloses : (query : Query) → (key : Option (List ℕ)) → (descending : Bool) → Place
   Quote : (quoted : Quoted) → Place
   InQuotes : (quoted : Quoted) → (double : Bool) → Place
-  Unquote : (quoted : Quoted) → (name : List ℕ) → (double : Bool) → Place
   BodyFirst : (query : Query) → Place
   Underscore : (query : Query) → Place
   AfterAnonymous : (query : Query) → Place
@@ -280,9 +279,6 @@ value_filter key value = filters.HasValue key relations.Eq value
 -- the elements whose value of the key compares so with this one
 abbrev pub relation_filter : List ℕ → Relation → Value → Filter
 relation_filter key relation value = filters.HasValue key relation value
-
-abbrev pub quote_byte : Bool → ℕ
-quote_byte double = cond double 34 39
 
 -- one of these signs alone
 abbrev pub one_of : List (ℕ × Place) → Turn StepWord Place Query
@@ -403,8 +399,7 @@ turn (ByCloses query key descending) =
     one_of ((41, Steps (reordered query key descending)) ∷ [])
 turn (Quote quoted) = one_of ((39, InQuotes quoted false) ∷ (34, InQuotes quoted true) ∷ [])
 turn (InQuotes quoted double) =
-    record { ends = None; signs = []; other = Token AnyName (λ name. Unquote quoted name double) }
-turn (Unquote quoted name double) = one_of ((quote_byte double, after_quoted quoted name) ∷ [])
+    record { ends = None; signs = []; other = Token (AnyClosed double) (after_quoted quoted) }
 turn (BodyFirst query) =
     record { ends = None; signs = (95, Underscore query) ∷ []; other = body_name query [] }
 turn (Underscore query) = one_of ((95, AfterAnonymous query) ∷ [])
@@ -432,7 +427,6 @@ turn (TimesOf query body) =
 -- underscores.
 abbrev pub is_loose : Place → Bool
 is_loose (InQuotes quoted double) = false
-is_loose (Unquote quoted name double) = false
 is_loose (Underscore query) = false
 is_loose _ = true
 

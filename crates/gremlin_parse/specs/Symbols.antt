@@ -1,23 +1,24 @@
 -- Productions: symbols of the grammar, one after the other, and what readers of symbols promise.
-use Rattle.std.specs.Prelude.{◌≡◌, ◌⊎◌, ℕ, ◌==◌, ◌||◌, Bool, true, false, List, [], ◌∷◌, ◌++◌}
-use Rattle.std.specs.Prelude.{length, codes}
+use Rattle.std.specs.Prelude.{◌≡◌, ◌≢◌, ◌⊎◌, ℕ, ◌==◌, ◌||◌, Bool, true, false, Some}
+use Rattle.std.specs.Prelude.{List, [], ◌∷◌, ◌++◌, length, codes}
 use Rattle.plain_graph.specs.declared.value.Value.{Value}
 use Rattle.plain_graph.specs.declared.value.Value.TheVariants as values
-use Rattle.plain_graph.specs.Names.{is_name_byte}
+use Rattle.plain_graph.specs.Names.{IsName, is_name_byte}
 use Rattle.gremlin_parse.specs.Numbers.{is_digit}
 use Rattle.gremlin_parse.specs.Values.{is_quote}
 use Rattle.gremlin_parse.specs.Texts.{LeavesQuoted}
 use Rattle.gremlin_parse.specs.Grammar.{Part, Blanks, Gap, Exactly, Name, Number, Times, Written}
-use Rattle.gremlin_parse.specs.Grammar.{IsPart, IsBounded, is_blank, most_id}
+use Rattle.gremlin_parse.specs.Grammar.{Closed, quote_byte, IsPart, IsBounded, is_blank, most_id}
 use Rattle.gremlin_parse.specs.Faults.{EndsRun, IsOutOfBounds}
-use Rattle.gremlin_parse.specs.Reading.{Passes, LeavesWord, Then, StartsName, StartsNumber}
+use Rattle.gremlin_parse.specs.Reading.{first_byte, Passes, LeavesWord, Then, StartsName}
+use Rattle.gremlin_parse.specs.Reading.{StartsNumber}
 use Rattle.gremlin_parse.specs.Keywords.{Entry, InTable, LeavesTable, plain}
 use Rattle.gremlin_parse.specs.declared.bad_token.BadToken.{BadToken}
 use Rattle.gremlin_parse.specs.declared.stop.Stop.{Stop}
 use Rattle.gremlin_parse.specs.declared.stop.Stop.TheVariants as stops
 
 -- A symbol stands for parts: any blanks, one blank or more, a sign, one of several words, a name,
--- a number of at most so much, a number of times, or a value.
+-- a number of at most so much, a number of times, a value, or a name and its closing quote.
 pub data Symbol : Type 0 where
   AnyBlanks : Symbol
   AnyGap : Symbol
@@ -27,6 +28,7 @@ pub data Symbol : Type 0 where
   AnyNumber : (most : ℕ) → Symbol
   AnyTimes : Symbol
   AnyValue : Symbol
+  AnyClosed : (double : Bool) → Symbol
 
 -- what tells the parts of a symbol apart
 abbrev pub Content : Symbol → Type 0
@@ -38,6 +40,7 @@ Content AnyName = List ℕ
 Content (AnyNumber most) = ℕ
 Content AnyTimes = ℕ
 Content AnyValue = Value
+Content (AnyClosed double) = List ℕ
 
 abbrev pub part : (symbol : Symbol) → Content symbol → Part
 part AnyBlanks content = Blanks
@@ -48,6 +51,7 @@ part AnyName name = Name name
 part (AnyNumber most) number = Number most number
 part AnyTimes number = Times number
 part AnyValue value = Written value
+part (AnyClosed double) name = Closed double name
 
 -- The symbol has a part of this content.
 abbrev pub Allows : (symbol : Symbol) → Content symbol → Type 0
@@ -59,6 +63,7 @@ Allows AnyName name = Unit {0}
 Allows (AnyNumber most) number = Unit {0}
 Allows AnyTimes number = Unit {0}
 Allows AnyValue value = Unit {0}
+Allows (AnyClosed double) name = Unit {0}
 
 -- what stands after the bytes of a value ends it
 abbrev pub EndsWritten : Value → List ℕ → List ℕ → Type 0
@@ -77,6 +82,7 @@ Ends AnyName name prefix rest = EndsRun is_name_byte rest
 Ends (AnyNumber most) number prefix rest = (prefix ≡ codes "0") ⊎ EndsRun is_digit rest
 Ends AnyTimes number prefix rest = (prefix ≡ codes "0") ⊎ EndsRun is_digit rest
 Ends AnyValue value prefix rest = EndsWritten value prefix rest
+Ends (AnyClosed double) name prefix rest = Unit {0}
 
 -- The symbol stands whole at the head, with this content, before the rest.
 pub record Takes (symbol : Symbol) (content : Content symbol) (bytes rest : List ℕ) : Type 0 where
@@ -120,6 +126,14 @@ abbrev pub LeavesTruth : List ℕ → ℕ → Type 0
 LeavesTruth bytes left =
     EndsRun is_integer_start bytes × EndsRun is_quote bytes × LeavesTable truth_words bytes left
 
+-- The bytes begin with no name, or with one that no such quote follows.
+abbrev pub LeavesClosed : Bool → List ℕ → ℕ → Type 0
+LeavesClosed double bytes left =
+    ((left ≡ length bytes) × (¬ StartsName bytes))
+    ⊎ ((name : List ℕ) × (rest : List ℕ) × (bytes ≡ name ++ rest) × IsName name
+    × EndsRun is_name_byte rest × (first_byte rest ≢ Some (quote_byte double))
+    × (left ≡ length rest))
+
 -- No part of the symbol goes on so before the last `left` bytes.
 abbrev pub LeavesAt : Symbol → List ℕ → ℕ → Type 0
 LeavesAt AnyBlanks bytes left = ⊥
@@ -131,6 +145,7 @@ LeavesAt (AnyNumber most) bytes left = (left ≡ length bytes) × (¬ StartsNumb
 LeavesAt AnyTimes bytes left = (left ≡ length bytes) × (¬ StartsNumber bytes)
 LeavesAt AnyValue bytes left =
     LeavesNegative bytes left ⊎ LeavesText bytes left ⊎ LeavesTruth bytes left
+LeavesAt (AnyClosed double) bytes left = LeavesClosed double bytes left
 
 -- No part of the symbol stands there, or one that is out of its bounds.
 abbrev pub Leaves : Symbol → List ℕ → Stop → Type 0

@@ -1,6 +1,6 @@
 ghost use Rattle.std.specs.Prelude.{IfOk, IfErr};
 ghost use Rattle.gremlin_parse.specs.Grammar.{direction_name};
-ghost use Rattle.gremlin_parse.specs.Commands.{direction_names};
+ghost use Rattle.gremlin_parse.specs.Arguments.{direction_names};
 ghost use Rattle.gremlin_parse.specs.Symbols.{OneWord, Reads, Leaves};
 
 use crate::keyword::read_keyword;

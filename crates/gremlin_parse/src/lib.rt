@@ -2,12 +2,14 @@
 //! fault with its place. A line is read once; each of its names and texts is copied once.
 #![tactic(auto)]
 
+mod argument;
 mod bad_token;
 mod command;
 mod comparison;
 mod direction;
 mod head;
 mod keyword;
+mod last;
 mod line_fault;
 mod number;
 mod order;

@@ -1,12 +1,16 @@
 ghost use Rattle.std.specs.Prelude.{◌≡◌, ◌≢◌, ◌<◌, ◌≤◌, ◌∷◌, [], cond, length, Some};
 ghost use Rattle.std.specs.Prelude.{IfOk, IfErr, IfSome, IfNone};
 ghost use Rattle.gremlin_parse.specs.Reading.{first_byte};
-ghost use Rattle.gremlin_parse.specs.Queries.{Place, Quoted, QuotesAt, LeavesBoth, quote_byte};
+ghost use Rattle.gremlin_parse.specs.Grammar.{quote_byte};
+ghost use Rattle.gremlin_parse.specs.Queries.{Place, Quoted, QuotesAt, LeavesBoth};
 ghost use Rattle.gremlin_parse.specs.Queries.{LeadsTo, StopsFrom, after_quoted};
-ghost use Rattle.gremlin_parse.specs.Symbols.{Sign, Reads, ReadsToken};
+ghost use Rattle.gremlin_parse.specs.Symbols.{Sign, AnyClosed, Reads, ReadsToken, Leaves};
 
-use crate::parts::{read_name, read_token, skip_blanks};
+use crate::bad_token::BadToken;
+use crate::keyword::word_len;
+use crate::parts::{read_sign, skip_blanks};
 use crate::stop::Stop;
+use plain_graph::{NAME_BYTES, is_name_start};
 
 /// Whether the first of the two bytes stands at the head, and the bytes after it or the other one.
 ///
@@ -78,8 +82,33 @@ pub(crate) fn read_quoted_name(bytes: &[u8]) -> Result<(&[u8], &[u8]), Stop>
         QuotesAt place quoted bytes.now → StopsFrom place bytes.now stop) }
 {
     let (double, at_name) = read_either(bytes, b'"', b'\'')?;
-    let (name, at_quote) = read_name(at_name)?;
-    let rest = read_token(at_quote, quote(double))?;
+    let (name, rest) = read_closed_name(at_name, double)?;
+    Ok((name, skip_blanks(rest)))
+}
+
+/// The name at the head and its closing quote, and the bytes after it.
+///
+/// # Errors
+/// A fault of syntax if no name begins here or no such quote follows it, and `LongName` if the name
+/// has more than 48 bytes.
+fn read_closed_name(bytes: &[u8], double: bool) -> Result<(&[u8], &[u8]), Stop>
+    ensures ok { IfOk result (λ cut. Reads (AnyClosed double) cut.0.now bytes.now cut.1.now) }
+    ensures err { IfErr result (Leaves (AnyClosed double) bytes.now) }
+{
+    let left = bytes.len();
+    match bytes {
+        [first, ..] if is_name_start(*first) => {}
+        _ => return Err(Stop::Syntax { left }),
+    }
+    let len = word_len(bytes);
+    let (name, at_quote) = bytes.split_at(len);
+    let rest = read_sign(at_quote, quote(double))?;
+    if len > NAME_BYTES {
+        return Err(Stop::Bad {
+            token: BadToken::LongName,
+            left,
+        });
+    }
     Ok((name, rest))
 }
 

@@ -1,7 +1,7 @@
 use Rattle.std.proofs.Common.{refl}
 use Rattle.std.proofs.lemmas.Result.{err_from_is_err_and}
 use Rattle.gremlin_parse.specs.Grammar.{direction_name}
-use Rattle.gremlin_parse.specs.Commands.{direction_words}
+use Rattle.gremlin_parse.specs.Arguments.{direction_words}
 use Rattle.gremlin_parse.proofs.Words.{word_read, word_leaves}
 use Rattle.gremlin_parse.proofs.direction.read_direction.Goals as goal
 

@@ -1,0 +1,5 @@
+use Rattle.gremlin_parse.proofs.Arguments.{first_read}
+use Rattle.gremlin_parse.proofs.argument.+read_arguments.Goals as goal
+
+pub returns-clause-ok : goal.returns-clause-ok
+returns-clause-ok t c = first_read c.args.arguments.now c.in_ok-first.first c.in_ok-others.others c.args.bytes.now c.in_ok-at_argument.at_argument.now c.in_ok-first.after.now c.in_ok-others.rest.now c.in-len1-up.len_at_least c.requires c.in_ok-at_argument.ensures.ok c.in_ok-first.ensures.ok c.in_ok-others.ensures.ok

@@ -1,0 +1,37 @@
+use Rattle.std.proofs.Common.{None, sym, subst}
+use Rattle.std.specs.List.{AllByRecursion}
+use Rattle.std.proofs.lemmas.Result.{err_from_is_err_and}
+use Rattle.gremlin_parse.specs.Grammar.{IsBounded}
+use Rattle.gremlin_parse.specs.Stopping.{IsStop}
+use Rattle.gremlin_parse.specs.Lasts.{last_content, last_parts, LastIs, SomeLast, BadInLast, Lacks}
+use Rattle.gremlin_parse.specs.declared.last.LastPart.{LastPart}
+use Rattle.gremlin_parse.proofs.Lasts.{stop_at_nothing}
+use Rattle.gremlin_parse.proofs.last.read_last.Goals as goal
+
+pub returns-in_err-read_end-in-End-clause-err : goal.returns-in_err-read_end-in-End-clause-err
+returns-in_err-read_end-in-End-clause-err c =
+    let p = err_from_is_err_and c.from_residual.result c.from_residual.ensures.1 in
+    let stop = c.in_err-read_end-in-End.field-0.0 in
+    rw (p.1, p.2) (subst (λ (k : LastPart). IsStop (SomeLast k) (BadInLast k) (Lacks k) c.args.bytes.now stop) (sym c.in-End.is) (stop_at_nothing ⊥ c.args.bytes.now c.skip_blanks.result.now stop c.skip_blanks.ensures c.in_err-read_end-in-End.ensures.err))
+
+pub returns-in_err-pairs-in-Pairs-clause-err : goal.returns-in_err-pairs-in-Pairs-clause-err
+returns-in_err-pairs-in-Pairs-clause-err c =
+    let p = err_from_is_err_and c.from_residual-in_err-pairs-in-Pairs.result c.from_residual-in_err-pairs-in-Pairs.ensures.1 in
+    rw (p.1, p.2) (subst (λ (k : LastPart). IsStop (SomeLast k) (BadInLast k) (Lacks k) c.args.bytes.now c.in_err-pairs-in-Pairs.field-0.0) (sym c.in-Pairs.is) c.in_err-pairs-in-Pairs.ensures.err)
+
+pub returns-in_err-name-in-MaybeName-clause-err : goal.returns-in_err-name-in-MaybeName-clause-err
+returns-in_err-name-in-MaybeName-clause-err c =
+    let p = err_from_is_err_and c.from_residual-in_err-name-in-MaybeName.result c.from_residual-in_err-name-in-MaybeName.ensures.1 in
+    rw (p.1, p.2) (subst (λ (k : LastPart). IsStop (SomeLast k) (BadInLast k) (Lacks k) c.args.bytes.now c.in_err-name-in-MaybeName.field-0.0) (sym c.in-MaybeName.is) c.in_err-name-in-MaybeName.ensures.err)
+
+pub returns-in_ok-pairs-in-Pairs-clause-ok : goal.returns-in_ok-pairs-in-Pairs-clause-ok
+returns-in_ok-pairs-in-Pairs-clause-ok c = subst (λ (k : LastPart). LastIs k (last_content k (record { pairs = c.in_ok-pairs-in-Pairs.pairs; name = None })) c.args.bytes.now) (sym c.in-Pairs.is) c.in_ok-pairs-in-Pairs.ensures.ok
+
+pub returns-in_ok-pairs-in-Pairs-clause-bounds : goal.returns-in_ok-pairs-in-Pairs-clause-bounds
+returns-in_ok-pairs-in-Pairs-clause-bounds c = subst (λ (k : LastPart). AllByRecursion IsBounded (last_parts k (last_content k (record { pairs = c.in_ok-pairs-in-Pairs.pairs; name = None })))) (sym c.in-Pairs.is) c.in_ok-pairs-in-Pairs.ensures.bounds
+
+pub returns-in_ok-name-in-MaybeName-clause-ok : goal.returns-in_ok-name-in-MaybeName-clause-ok
+returns-in_ok-name-in-MaybeName-clause-ok c = subst (λ (k : LastPart). LastIs k (last_content k (record { pairs = c.new-in-MaybeName-2.result; name = c.in_ok-name-in-MaybeName.name })) c.args.bytes.now) (sym c.in-MaybeName.is) c.in_ok-name-in-MaybeName.ensures.ok
+
+pub returns-in_ok-name-in-MaybeName-clause-bounds : goal.returns-in_ok-name-in-MaybeName-clause-bounds
+returns-in_ok-name-in-MaybeName-clause-bounds c = subst (λ (k : LastPart). AllByRecursion IsBounded (last_parts k (last_content k (record { pairs = c.new-in-MaybeName-2.result; name = c.in_ok-name-in-MaybeName.name })))) (sym c.in-MaybeName.is) c.in_ok-name-in-MaybeName.ensures.bounds
