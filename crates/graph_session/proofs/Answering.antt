@@ -10,16 +10,19 @@ use Rattle.plain_graph.specs.Reply.{Broken, Sound}
 use Rattle.plain_graph.specs.Reply.{Counted, DamagedRecord, Done, Faulted, NoMemory, EdgeMade, NodeMade, Refused, Reply, Results, Silent, reply_text}
 use Rattle.plain_graph.specs.declared.refusal.Refusal.{Refusal}
 use Rattle.graph_session.specs.Answer.{AnswersLine, Delivers, Gives, Settles, Terminal}
-use Rattle.graph_session.specs.Console.{IsAt, Onward, SessionView}
+use Rattle.graph_session.specs.Console.{HasNoDraft, IsAt, Onward, SessionView}
 use Rattle.graph_session.specs.DiskUse.{TellsNoChange, UsesDisk}
+use Rattle.graph_session.specs.Effects.{Stays}
 use Rattle.graph_session.specs.Exchange.{ConsoleStep, Exchange, IsDone, told_fault}
+use Rattle.graph_session.specs.Known.{as_known}
+use Rattle.graph_session.specs.MayStep.{MayStep}
 use Rattle.graph_session.specs.Moments.{ComesTo}
 use Rattle.graph_session.specs.Refusals.{IsRefused}
 use Rattle.graph_session.specs.State.{IsQuit, IsSilent, NeverLacksMemory, State}
 use Rattle.graph_session.specs.declared.turn.Turn.{Turn}
 use Rattle.graph_session.specs.declared.turn.Turn.TheVariants.{Go, Quit, SinkFault}
 use Rattle.graph_session.proofs.DiskUse.{uses-none}
-use Rattle.graph_session.proofs.Staying.{Stays, comes-stays, stays-none}
+use Rattle.graph_session.proofs.Staying.{comes-stays, stays-none}
 
 -- the reply says that the command was carried out
 abbrev pub IsGood : Reply → Type 0
@@ -133,14 +136,14 @@ module _ {D : Type 0} {g : DiskGhosts D} (only : OnlyNow g) {session : SessionVi
 module _ {D K : Type 0} {g : DiskGhosts D} {sink : SinkGhosts K} {line : InputLine} {old new : Terminal D K} {turn : Turn} where
   -- the reply of a settled line was given to the sink
   pub answers-given : (reply : Reply) → Gives sink (reply_text reply) old.output new.output turn → ¬ IsQuit line → Onward g old.session new.session
-      → ((state : State) → IsAt g old.session state → Settles g line old.session new.session state reply) → AnswersLine g sink line old new turn
-  answers-given reply gives runs onward settles = record {
-    answers = λ state at. record {
-      reply = reply;
-      settles = settles state at;
-      text = gives.delivers;
-      quit = (λ e. absurd (gives.goes e), λ h. absurd (runs h));
-    };
+      → (HasNoDraft old.session → MayStep g line old.session reply new.session)
+      → ((known : Bool) (state : State) → IsAt (as_known known g) old.session state → Settles (as_known known g) line old.session new.session state reply) → AnswersLine g sink line old new turn
+  answers-given reply gives runs onward may settles = record {
+    reply = reply;
+    text = gives.delivers;
+    quit = (λ e. absurd (gives.goes e), λ h. absurd (runs h));
+    may = may;
+    settles = settles;
     cause = gives.cause;
     later = gives.later;
     onward = onward;
@@ -156,12 +159,11 @@ module _ {D K : Type 0} {g : DiskGhosts D} (only : OnlyNow g) {sink : SinkGhosts
   -- the line gets no reply
   pub answers-silent : turn ≢ SinkFault → IsSilent line → ((turn ≡ Quit) ↔ IsQuit line) → AnswersLine g sink line terminal terminal turn
   answers-silent goes silent quit = record {
-    answers = λ state at. record {
-      reply = Silent;
-      settles = settles-silent only at silent;
-      text = λ told. delivers-nothing turn (sink.taken terminal.output) goes;
-      quit = quit;
-    };
+    reply = Silent;
+    text = λ told. delivers-nothing turn (sink.taken terminal.output) goes;
+    quit = quit;
+    may = λ none. inl (silent, refl, refl);
+    settles = λ known state at. settles-silent {g = as_known known g} only at silent;
     cause = λ e. absurd (goes e);
     later = omega arith;
     onward = onward-none only;

@@ -1,14 +1,15 @@
 -- A session after a line that reads.
 use Rattle.std.proofs.Common.{◌≡◌, ℕ, List, [], refl, ap}
 use Rattle.disk_model.specs.declared.disk.Disk.{Ghosts}
+use Rattle.rec_bytes.specs.Pairs.{Held}
 use Rattle.rec_bytes.specs.Space as spaces
 use Rattle.txn_core.specs.Base.{OnlyReadsBase}
 use Rattle.txn_core.specs.Store as store
 use Rattle.txn_core.specs.declared.store.Store.{Store}
+use Rattle.graph_session.specs.Effects.{Stays}
 use Rattle.graph_session.specs.declared.health.Health.{Health}
 use Rattle.graph_session.proofs.StoreRecords.{committed-read, draft-kept, working-read}
 use Rattle.graph_session.proofs.Moves.{seen_as}
-use Rattle.graph_session.proofs.Staying.{Stays}
 
 module _ {D : Type 0} {g : Ghosts D} where
   -- calls that only read leave the session as it was
@@ -26,5 +27,6 @@ module _ {D : Type 0} {g : Ghosts D} where
     is_open = reads.in_transaction;
     weight = λ opened. refl;
     names = refl;
+    written = ap (λ (held : Held). held.pairs) reads.own;
     working = λ told. working-read s.base t.base reads;
   }

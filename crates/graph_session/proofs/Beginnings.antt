@@ -1,5 +1,5 @@
 -- What a session begins with over a store that was opened and whose names were loaded, and why there is none.
-use Rattle.std.proofs.Common.{◌≡◌, ◌⊎◌, ◌∙◌, ◌≤◌, Bool, true, false, cond, nat_lt, IsTrue, Some, None, Err, List, [], inl, inr, refl, sym, ap, subst, arith}
+use Rattle.std.proofs.Common.{◌≡◌, ◌⊎◌, ◌∙◌, ◌≤◌, Bool, true, false, cond, nat_lt, IsTrue, None, Err, [], inl, inr, refl, sym, ap, subst, arith}
 use Rattle.std.proofs.lemmas.List.{append-nil}
 use Rattle.fault_count.specs.Cause.{Rose}
 use Rattle.disk_model.specs.Contents.{Files}
@@ -40,12 +40,14 @@ use Rattle.rec_bytes.specs.Fault.{NotDamaged}
 use Rattle.name_store.specs.Loading.{AreLoadable, IsLoadFault, IsNameDamage, after_names, name_mark}
 use Rattle.name_store.specs.Loading.IsNameDamage.{HighMark, SameText, WrongForm, WrongText}
 use Rattle.name_store.proofs.NameDamage.{AreLoadable-AreInRange}
-use Rattle.graph_session.specs.Console.{IsAt, SessionView, TellsAll}
+use Rattle.graph_session.specs.Console.{IsAt, SessionView}
+use Rattle.graph_session.specs.Known.{as_known}
 use Rattle.graph_session.specs.Opening.{IsUnopened, LeavesByOpening, LeavesOldOrSame, LeavesRefused, Opens, RefusesContent, StandsForOne, Starts, StartsAs, unloaded}
-use Rattle.graph_session.specs.Stands.{IsMade, Stands}
+use Rattle.graph_session.specs.Stands.{Stands}
 use Rattle.graph_session.specs.State.{Live, State}
 use Rattle.graph_session.specs.Versions.{IsWellFormedIn}
 use Rattle.graph_session.specs.declared.health.Health.TheVariants as healths
+use Rattle.graph_session.proofs.Knowing.{on_disk-known, told_of}
 use Rattle.graph_session.proofs.Openings.{starts-stands}
 use Rattle.graph_session.proofs.Stands.{Redoes-only, Stands-only, all-admitted, own-one, redone-held, unmade-not_found, unmade-recoverable}
 use Rattle.graph_session.proofs.States.{same_one}
@@ -268,8 +270,8 @@ module _ {D : Type 0} {g : Ghosts D} (counts : CountsNow g) (config : Config) (o
   loaded-leaves : LeavesByOpening g config old loaded.base.disk.now
   loaded-leaves = loading-leaves g config old opened.base.disk.now loaded.base.disk.now counts (opening-leaves g config old opened.base.disk.now opens.allowed opens.leaves) reads.disk
 
-  store-of : (g.tells_reads → StandsForOne g old) → g.tells_reads → IsWellFormed (committed opened) opened.base.shape
-  store-of stands told = let one = stands told in opened-store (g.reads old) config opened.base.shape (committed opened) opens.allowed (opens.opened told) one.shape one.graph one.stands
+  store-of : (known : Bool) → ((as_known known g).tells_reads → StandsForOne (as_known known g) old) → (as_known known g).tells_reads → IsWellFormed (committed opened) opened.base.shape
+  store-of known stands told = let one = stands told in opened-store (g.reads old) config opened.base.shape (committed opened) opens.allowed (opens.opened (told_of known g told)) one.shape one.graph one.stands
 
   -- The records of a store whose names are damaged stay, but for the version.
   refused-leaves : (found : IsStore (g.reads old) opened.base.shape) → committed opened ≡ raised opened.base.shape found.space → g.tells_reads → LeavesRefused g old loaded.base.disk.now
@@ -296,23 +298,24 @@ module _ {D : Type 0} {g : Ghosts D} (counts : CountsNow g) (config : Config) (o
       → (g.tells_reads → session.console.names ≡ names_of (state_of opened).records) → session.disk ≡ loaded.base.disk.now → state_of loaded ≡ after_names (state_of opened)
       → Opens g config old session
   loaded-opens session shape health live closed draft same_committed same_working names disk state = record {
-    begins = λ stands. (
+    begins = λ known stands. (
       beginning opened.base.shape (committed opened),
-      begins-starts g config old opened.base.shape (committed opened) opens.suits opens.opened stands,
-      begins-at g session opened.base.shape (committed opened) (record {
+      begins-starts (as_known known g) config old opened.base.shape (committed opened) opens.suits (λ told. opens.opened (told_of known g told)) stands,
+      begins-at (as_known known g) session opened.base.shape (committed opened) (record {
         shape_is = shape ∙ reads.shape;
         health = health;
         live = live ∙ reads.live ∙ opens.live;
         closed = closed ∙ reads.in_transaction ∙ opens.closed;
         no_draft = draft ∙ draft-read opened loaded (name_mark (state_of opened).records) state opens.draft;
-        store = store-of stands;
+        store = store-of known stands;
         committed = same_committed ∙ committed-read opened.base loaded.base reads;
         working = same_working ∙ working-read opened.base loaded.base reads ∙ working-none opened.base opens.own;
-        names = λ told. names told ∙ ap names_of (drafted-none opened opens.draft ∙ working-none opened.base opens.own);
-        stored = subst (λ (d : D). IsOnDisk g d (λ left. Redoes left (committed opened))) (sym disk) (same-stored opened loaded reads (committed opened) opens.stored);
+        names = λ told. names (told_of known g told) ∙ ap names_of (drafted-none opened opens.draft ∙ working-none opened.base opens.own);
+        stored = on_disk-known known (subst (λ (d : D). IsOnDisk g d (λ left. Redoes left (committed opened))) (sym disk) (same-stored opened loaded reads (committed opened) opens.stored));
       }),
     );
     recoverable = λ told. opens-recoverable (g.reads old) config opened.base.shape (committed opened) (opens.opened told);
+    no_draft = draft ∙ draft-read opened loaded (name_mark (state_of opened).records) state opens.draft;
     crash = subst (λ (d : D). LeavesByOpening g config old d) (sym disk) loaded-leaves;
     later = omega (arith, opens.later, later, ap g.faults disk);
   }

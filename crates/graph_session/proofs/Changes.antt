@@ -1,9 +1,9 @@
 -- A change of the graph.
-use Rattle.std.proofs.Common.{◌≡◌, ◌⊎◌, ◌∙◌, ◌+◌, ℕ, IsTrue, false, Some, is_some, List, [], ◌++◌, Contains, append_assoc, inl, inr, refl, sym, ap, subst, arith}
+use Rattle.std.proofs.Common.{◌≡◌, ◌∙◌, ◌+◌, ℕ, false, Some, is_some, List, [], ◌++◌, Contains, append_assoc, inl, inr, refl, sym, ap, subst, arith}
 use Rattle.std.proofs.lemmas.List.{append-nil}
 use Rattle.fault_count.specs.Cause.{Rose}
 use Rattle.disk_model.specs.Contents.{Files}
-use Rattle.disk_model.specs.Spans.{AtEachMoment, OnlyReads}
+use Rattle.disk_model.specs.Spans.{AtEachMoment}
 use Rattle.disk_model.specs.declared.disk.Disk.{Ghosts}
 use Rattle.disk_model.proofs.Spans.{at_each_moment_on}
 use Rattle.stream_io.specs.Lines.{Whole}
@@ -14,11 +14,11 @@ use Rattle.plain_graph.specs.declared.command.Command.{Command}
 use Rattle.plain_graph.specs.declared.command.Command.TheVariants as commands
 use Rattle.rec_bytes.specs.declared.key.Key.{Key}
 use Rattle.rec_bytes.specs.declared.record.Rec.{Rec}
-use Rattle.record_file.specs.Redone.{Redoes}
 use Rattle.store_rules.specs.Graph.{graph_of}
 use Rattle.store_rules.specs.Rules.{IsWellFormed}
 use Rattle.graph_session.specs.Answer.{Settles}
-use Rattle.graph_session.specs.Console.{BeginWith, IsAt, SessionView, TellsAll}
+use Rattle.graph_session.specs.Console.{IsAt, SessionView, TellsAll}
+use Rattle.graph_session.specs.Effects.{CommitsAlone, CommitsFrom, FailsAlone, IsAloneInDoubt, Keeps, Stays}
 use Rattle.graph_session.specs.Exchange.{CarriesOut, LeavesChange, LeavesOpen, MakesChange, ShowsSome, opening}
 use Rattle.graph_session.specs.Refusals.{IsAccepted, IsReached, SpellsOnly}
 use Rattle.graph_session.specs.Stands.{HoldsAdmitted, IsAdmitted, IsAdmittedByEither}
@@ -29,11 +29,11 @@ use Rattle.graph_session.proofs.Conditions.{NeedsNone, NeedsOne, reached}
 use Rattle.graph_session.proofs.DiskUse.{change-needs, uses-reads, uses-writes}
 use Rattle.graph_session.proofs.Held.{committed-one, held}
 use Rattle.graph_session.proofs.Known.{begin-all, begin-same, known-one, known-two}
-use Rattle.graph_session.proofs.Stands.{IsOneOf, IsStored, all-admitted, either-admitted, either-held, held-admitted, own-one, redone-held}
+use Rattle.graph_session.proofs.Stands.{IsOneOf, all-admitted, either-admitted, either-held, held-admitted, own-one, redone-held}
 use Rattle.graph_session.proofs.States.{is_closed, is_live, not_failed, same_one}
-use Rattle.graph_session.proofs.Staying.{KeepsBeneath, Stays, comes-stays, crash-kept, images-kept, reads-kept}
+use Rattle.graph_session.proofs.Staying.{comes-stays, crash-kept, images-kept, reads-kept}
 use Rattle.graph_session.proofs.Storage.{stopped}
-use Rattle.graph_session.proofs.Transactions.{Ends, first-one, in_doubt}
+use Rattle.graph_session.proofs.Transactions.{first-one, in_doubt}
 
 change-none : (command : Command) → IsChange command → ¬ NeedsNone command
 change-none command change (inl e) = subst IsChange e change
@@ -99,47 +99,10 @@ shows-none state (commands.Delete target) change = refl
 shows-none state (commands.Expand id direction label) change = absurd change
 shows-none state (commands.Query query) change = absurd change
 
--- The change is in the open transaction, which weighs so much more. The names grew.
-pub record Keeps {D : Type 0} (g : Ghosts D) (old new : SessionView D) (weight : ℕ) : Type 0 where
-  pub beneath : KeepsBeneath g old new
-  pub health : new.console.health ≡ old.console.health
-  pub is_open : new.console.is_open ≡ old.console.is_open
-  pub weighs : new.console.weight ≡ old.console.weight + weight
-  pub brought : (more : List (List ℕ)) × (new.console.names ≡ old.console.names ++ more)
-
 -- The records are those of a well-formed store, and these are the names of its graph.
 pub record IsGrown (state : State) (records : Key → Rec) (names : List (List ℕ)) : Type 0 where
   pub store : IsWellFormed records state.shape
   pub named : names ≡ (graph_of records).names
-
--- The change is committed.
-pub record CommitsAlone {D : Type 0} (g : Ghosts D) (old new : SessionView D) (now : Key → Rec) : Type 0 where
-  pub ends : Ends old new
-  pub health : new.console.health ≡ old.console.health
-  pub live : IsTrue new.console.is_live
-  pub committed : g.tells_reads → new.console.committed ≡ now
-  pub working : g.tells_reads → new.console.working ≡ new.console.committed
-  pub stored : IsStored g new.disk (λ left. Redoes left now)
-
--- The disk failed in the commit, and has what was committed, or the change too.
-pub record IsAloneInDoubt {D : Type 0} (g : Ghosts D) (old new : SessionView D) (now : Key → Rec) : Type 0 where
-  pub ends : Ends old new
-  pub health : new.console.health ≡ healths.Failed
-  pub brought : BeginWith new.console.names old.console.names
-  pub stored : IsStored g new.disk (λ left. Redoes left old.console.committed ⊎ Redoes left now)
-
--- The disk was read until a change was made, and then it was committed.
-pub record CommitsFrom {D : Type 0} (g : Ghosts D) (old new : SessionView D) (now : Key → Rec) : Type 0 where
-  pub mid : D
-  pub reads : OnlyReads g old.disk mid
-  pub crash : TellsAll g → AtEachMoment g mid new.disk (λ left. Redoes left old.console.committed ⊎ Redoes left now)
-
--- The disk failed as a change alone was made, and was only read.
-pub record FailsAlone {D : Type 0} (g : Ghosts D) (old new : SessionView D) : Type 0 where
-  pub ends : Ends old new
-  pub health : new.console.health ≡ healths.Failed
-  pub names : new.console.names ≡ old.console.names
-  pub disk : OnlyReads g old.disk new.disk
 
 -- the state in which this transaction is open
 abbrev pub with_change : State → Graph → ℕ → State

@@ -1,5 +1,5 @@
 -- A line that asks whether the store keeps its rules.
-use Rattle.std.proofs.Common.{◌≡◌, ◌∙◌, List, ℕ, [], inl, inr, refl, sym, ap}
+use Rattle.std.proofs.Common.{◌≡◌, List, ℕ, [], inl, inr, refl}
 use Rattle.fault_count.specs.Cause.{Rose}
 use Rattle.disk_model.specs.declared.disk.Disk.{Ghosts}
 use Rattle.stream_io.specs.Lines.{Whole}
@@ -11,6 +11,7 @@ use Rattle.store_rules.specs.Rules.{IsWellFormed}
 use Rattle.store_rules.specs.Views.{Records}
 use Rattle.graph_session.specs.Answer.{Settles}
 use Rattle.graph_session.specs.Console.{IsAt, SessionView}
+use Rattle.graph_session.specs.Effects.{Stays}
 use Rattle.graph_session.specs.Refusals.{IsReached, SpellsOnly}
 use Rattle.graph_session.specs.State.{State}
 use Rattle.graph_session.specs.declared.health.Health.TheVariants as healths
@@ -20,7 +21,7 @@ use Rattle.graph_session.proofs.DiskUse.{uses-reads}
 use Rattle.graph_session.proofs.Queries.{named-working}
 use Rattle.graph_session.proofs.Spelling.{IsSpared, spared-only}
 use Rattle.graph_session.proofs.States.{not_failed}
-use Rattle.graph_session.proofs.Staying.{Stays, comes-stays}
+use Rattle.graph_session.proofs.Staying.{comes-stays}
 
 -- a verdict that a rule is broken isn't that all are kept
 pub broken-unsound : (damage : Damage) → ¬ (verdicts.Broken damage ≡ verdicts.Sound)

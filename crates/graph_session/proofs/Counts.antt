@@ -21,6 +21,7 @@ use Rattle.store_rules.proofs.GraphRows.{count_edges}
 use Rattle.store_rules.proofs.PropertyCounts.{count_blocks, count_properties}
 use Rattle.graph_session.specs.Answer.{Settles}
 use Rattle.graph_session.specs.Console.{ConsoleView, HoldsGraphs, IsAt, SessionView}
+use Rattle.graph_session.specs.Effects.{Stays}
 use Rattle.graph_session.specs.Refusals.{SpellsOnly}
 use Rattle.graph_session.specs.State.{State, seen}
 use Rattle.graph_session.specs.declared.health.Health.TheVariants as healths
@@ -29,7 +30,7 @@ use Rattle.graph_session.proofs.Conditions.{NeedsNone, NeedsOne, idle-accepted, 
 use Rattle.graph_session.proofs.DiskUse.{uses-same}
 use Rattle.graph_session.proofs.Held.{held}
 use Rattle.graph_session.proofs.States.{not_failed}
-use Rattle.graph_session.proofs.Staying.{Stays, comes-stays}
+use Rattle.graph_session.proofs.Staying.{comes-stays}
 
 -- a node is in the graph where its record is in use
 pub is_some-node : (records : Key → Rec) (x : ℕ) → is_some (node_of records x) ≡ is_live records nodes_file x

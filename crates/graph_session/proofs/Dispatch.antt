@@ -17,13 +17,16 @@ use Rattle.graph_session.specs.Answer.{AnswersLine, Gives, Terminal}
 use Rattle.graph_session.specs.Answering.{reply_of}
 use Rattle.graph_session.specs.Console.{SessionView}
 use Rattle.graph_session.specs.Refusals.{SpellsOnly, refusal_of}
-use Rattle.graph_session.specs.Settling.{IsLoud, IsServed, SettlesCommand, told_by, told_of}
+use Rattle.graph_session.specs.Known.{as_known}
+use Rattle.graph_session.specs.MayStep.{IsServed}
+use Rattle.graph_session.specs.Settling.{AnswersCommand, IsLoud, SettlesCommand, told_by, told_of}
 use Rattle.graph_session.specs.declared.health.Health.TheVariants as healths
 use Rattle.graph_session.specs.declared.turn.Turn.{Turn}
 use Rattle.graph_session.specs.declared.turn.Turn.TheVariants as turns
+use Rattle.graph_session.proofs.Anyhow.{may-served}
 use Rattle.graph_session.proofs.Answering.{answers-given, answers-silent, onward-none, settles-memory_at_once, settles-refused_at_once}
 use Rattle.graph_session.proofs.Conditions.{failed-refused, fault-refused, long-refused}
-use Rattle.graph_session.proofs.Spelling.{IsMute, lacks-memory, quit-only}
+use Rattle.graph_session.proofs.Spelling.{IsMute, lacks-memory, quit-only, silent-mute, spells-same}
 use Rattle.graph_session.proofs.States.{is_failed}
 
 -- only want of memory is no refusal
@@ -48,7 +51,11 @@ module _ {D K : Type 0} {g : DiskGhosts D} {sink : SinkGhosts K} {line : List �
   pub answers-settled : (reply : Reply) → command ≢ commands.Quit → IsServed old.session.console command → SettlesCommand g command old.session new.session reply
       → Gives sink (reply_text reply) old.output new.output turn → AnswersLine g sink (Whole line) old new turn
   answers-settled reply other served settles gives =
-      answers-given {line = Whole line} reply gives (quit-only only other) settles.onward (λ state at. settles.settles line state only served at)
+      answers-given {line = Whole line} reply gives (quit-only only other) settles.onward (λ none. may-served only served (settles.may none)) (λ known state at. settles.settles known line state only served at)
+
+  -- and one that was answered at once
+  pub answers-command : command ≢ commands.Quit → IsServed old.session.console command → AnswersCommand g sink command old new turn → AnswersLine g sink (Whole line) old new turn
+  answers-command other served answers = answers-settled answers.reply other served answers.settles answers.gives
 
 blank-not_quit : ¬ (commands.Quit ≡ commands.Blank)
 blank-not_quit e = cc
@@ -69,22 +76,23 @@ module _ {D K : Type 0} (g : DiskGhosts D) (only_now : OnlyNow g) (sink : SinkGh
       → AnswersLine g sink (Whole line) (record { session = session; output = before }) (record { session = session; output = after }) turn
   answers-failed {line = line} only failed loud other gives =
       answers-given {line = Whole line} (Refused refusals.Failed) gives (quit-only only (λ e. loud (inr e))) (onward-none {g = g} only_now)
-      (λ state at. settles-refused_at_once {g = g} only_now {line = Whole line} at refusals.Failed (λ told. failed-refused state only (is_failed at failed) loud other))
+      (λ none. inr (inl (inr (inr (refl, failed, (λ silent. loud (silent-mute only silent)), λ spells. other (spells-same only commands.Reopen spells))), refl)))
+      (λ known state at. settles-refused_at_once {g = as_known known g} only_now {line = Whole line} at refusals.Failed (λ told. failed-refused state only (is_failed at failed) loud other))
 
   -- the line is too long
   pub answers-long : Gives sink (reply_text (Refused refusals.LongLine)) before after turn
       → AnswersLine g sink Long (record { session = session; output = before }) (record { session = session; output = after }) turn
   answers-long gives =
-      answers-given {line = Long} (Refused refusals.LongLine) gives (λ quit. quit) (onward-none {g = g} only_now)
-      (λ state at. settles-refused_at_once {g = g} only_now {line = Long} at refusals.LongLine (λ told. long-refused state))
+      answers-given {line = Long} (Refused refusals.LongLine) gives (λ quit. quit) (onward-none {g = g} only_now) (λ none. inr (inl (inl (refusals.LongLine, refl, inl (refl, refl)), refl)))
+      (λ known state at. settles-refused_at_once {g = as_known known g} only_now {line = Long} at refusals.LongLine (λ told. long-refused state))
 
   module _ (line : List ℕ) where
     answers-refused : (fault : LineFault) (why : Refusal) → IsLeftmostFault line fault → refusal_of fault ≡ Some why → ¬ Spells line commands.Quit
         → Gives sink (reply_text (Refused why)) before after turn
         → AnswersLine g sink (Whole line) (record { session = session; output = before }) (record { session = session; output = after }) turn
     answers-refused fault why leftmost is quit gives =
-        answers-given {line = Whole line} (Refused why) gives quit (onward-none {g = g} only_now)
-        (λ state at. settles-refused_at_once {g = g} only_now {line = Whole line} at why (λ told. fault-refused state line fault why leftmost is))
+        answers-given {line = Whole line} (Refused why) gives quit (onward-none {g = g} only_now) (λ none. inr (inl (inl (why, refl, inr (line, refl, fault, leftmost, is)), refl)))
+        (λ known state at. settles-refused_at_once {g = as_known known g} only_now {line = Whole line} at why (λ told. fault-refused state line fault why leftmost is))
 
     -- the line spells no command
     pub answers-fault : (fault : LineFault) → (fault ≢ faults.Memory → IsLeftmostFault line fault) → (fault ≢ faults.Memory → (command : Command) → ¬ Spells line command)
@@ -97,8 +105,8 @@ module _ {D K : Type 0} (g : DiskGhosts D) (only_now : OnlyNow g) (sink : SinkGh
             → AnswersLine g sink (Whole line) (record { session = session; output = before }) (record { session = session; output = after }) turn
         by None is given =
             let lacks = memory (memory-only fault is) in
-            answers-given {line = Whole line} (Faulted [] NoMemory) given (lacks commands.Quit tt) (onward-none {g = g} only_now)
-            (λ state at. settles-memory_at_once {g = g} only_now {line = Whole line} at (lacks-memory line lacks))
+            answers-given {line = Whole line} (Faulted [] NoMemory) given (lacks commands.Quit tt) (onward-none {g = g} only_now) (λ none. inr (inl (inr (inl (refl, lacks-memory line lacks)), refl)))
+            (λ known state at. settles-memory_at_once {g = as_known known g} only_now {line = Whole line} at (lacks-memory line lacks))
         by (Some why) is given = answers-refused fault why (leftmost (refused-other fault why is)) is (none (refused-other fault why is) commands.Quit) given
 
 pub loud-not_mute : (command : Command) → IsLoud command → ¬ IsMute command

@@ -1,5 +1,5 @@
 -- A change, from its draft to its reply.
-use Rattle.std.proofs.Common.{◌≡◌, ◌∙◌, ◌+◌, ◌<◌, ◌≤◌, ℕ, true, Ok, Err, Result, Some, List, [], length, take, inl, inr, refl, sym, ap, subst, arith}
+use Rattle.std.proofs.Common.{◌≡◌, ◌∙◌, ◌+◌, ◌<◌, ◌≤◌, ℕ, Bool, true, Ok, Err, Result, Some, List, [], length, take, inl, inr, refl, sym, ap, subst, arith}
 use Rattle.fault_count.specs.Cause.{Rose}
 use Rattle.disk_model.specs.Spans.{OnlyReads}
 use Rattle.disk_model.specs.declared.disk.Disk.{Ghosts}
@@ -10,6 +10,7 @@ use Rattle.plain_graph.specs.Refusals.{FirstReason, NoReason, change_reasons}
 use Rattle.plain_graph.specs.Reply.{DiskFailed, Faulted, NoMemory, Reply}
 use Rattle.plain_graph.specs.declared.command.Command.{Command}
 use Rattle.plain_graph.specs.declared.refusal.Refusal.TheVariants as refusals
+use Rattle.rec_bytes.specs.Pairs.{Held}
 use Rattle.rec_bytes.specs.declared.key.Key.{Key}
 use Rattle.rec_bytes.specs.declared.record.Rec.{Rec}
 use Rattle.rec_bytes.specs.declared.shape.Shape.{Shape}
@@ -22,6 +23,9 @@ use Rattle.graph_session.specs.Answering.{reply_of}
 use Rattle.graph_session.specs.Console.{IsAt, SessionView}
 use Rattle.graph_session.specs.DiskUse.{UsesDisk}
 use Rattle.graph_session.specs.Drafting.{Discards, Drafts, Finishes, HasDraft, HasStore, IsStopped, KeepsDraft, OnlyDrafts, TellsChange}
+use Rattle.graph_session.specs.Effects.{Keeps, Stays}
+use Rattle.graph_session.specs.Known.{as_known}
+use Rattle.graph_session.specs.MayStep.{MayAnswer}
 use Rattle.graph_session.specs.Refusals.{SpellsOnly}
 use Rattle.graph_session.specs.Session.{view}
 use Rattle.graph_session.specs.Settling.{SettlesCommand}
@@ -31,33 +35,32 @@ use Rattle.graph_session.specs.declared.answer.Answer.TheVariants as answers
 use Rattle.graph_session.specs.declared.changing.Drafted.{Drafted}
 use Rattle.graph_session.specs.declared.health.Health.TheVariants as healths
 use Rattle.graph_session.specs.declared.session.Session.{Session}
-use Rattle.graph_session.proofs.Answering.{IsGood, settles-damaged, settles-memory, settles-refused}
-use Rattle.graph_session.proofs.Changes.{Keeps, change-reached, settles-change_fault, settles-kept}
+use Rattle.graph_session.proofs.Anyhow.{made-good, may-change, may-stopped}
+use Rattle.graph_session.proofs.Answering.{settles-damaged, settles-memory, settles-refused}
+use Rattle.graph_session.proofs.Changes.{change-reached, settles-change_fault, settles-kept}
 use Rattle.graph_session.proofs.Conditions.{accepted, heavy-refused, refused, weight-light}
 use Rattle.graph_session.proofs.DiskUse.{change-needs, uses-reads}
 use Rattle.graph_session.proofs.Drafts.{Sees, sees-as}
 use Rattle.graph_session.proofs.StoreRecords.{committed-beneath, committed-read, drafted-none, working-beneath, working-read}
 use Rattle.graph_session.proofs.Held.{held, names-working, seen_open, take-brought}
+use Rattle.graph_session.proofs.Knowing.{keeps-known, stays-known, told_of}
 use Rattle.graph_session.proofs.Spelling.{change-spared, spared-only}
 use Rattle.graph_session.proofs.States.{is_open}
-use Rattle.graph_session.proofs.Staying.{Stays, comes-stays}
+use Rattle.graph_session.proofs.Staying.{comes-stays}
 
--- the answer of a change that is made is none of a fault
-pub tells-good : (answer : Answer) → TellsChange answer → IsGood (reply_of answer)
-tells-good answers.Done tells = tt
-tells-good (answers.NodeMade id) tells = tt
-tells-good (answers.EdgeMade id) tells = tt
-tells-good (answers.Counted counts) tells = absurd tells
-tells-good answers.Sound tells = absurd tells
-tells-good (answers.Broken damage) tells = absurd tells
-tells-good (answers.Refused why) tells = absurd tells
-tells-good answers.NoMemory tells = absurd tells
-tells-good answers.DiskFailed tells = absurd tells
-tells-good (answers.Damaged damage) tells = absurd tells
+module _ {D : Type 0} {g : Ghosts D} where
+  -- a change that was not made
+  module _ {old new : SessionView D} {state : State} (at : IsAt g old state) (live : old.console.health ≡ healths.Live) {line : List ℕ} {command : Command} (spelled : SpellsOnly line command)
+      (change : IsChange command) (stays : Stays g old new) where
+    pub unmade-uses : {reply : Reply} → UsesDisk g (Whole line) state reply old.disk new.disk
+    unmade-uses = uses-reads state spelled (change-needs command change) (change-reached at live spelled change) stays.beneath.disk
+
+    pub unmade-memory : Settles g (Whole line) old new state (Faulted [] NoMemory)
+    unmade-memory = settles-memory at stays (λ spares. change-spared command change (spared-only spelled spares)) unmade-uses
 
 module _ {D : Type 0} {g : Ghosts D} where
   -- the store, and the graph that a line sees
-  module _ (old : Session D g) {state : State} (at : IsAt g (view old) state) (live : old.health ≡ healths.Live) (told : g.tells_reads) where
+  module _ (known : Bool) (old : Session D g) {state : State} (at : IsAt (as_known known g) (view old) state) (live : old.health ≡ healths.Live) (told : (as_known known g).tells_reads) where
     pub has-store : HasStore old
     has-store =
         let none : drafted old.store ≡ working old.store = drafted-none old.store at.no_draft in
@@ -69,20 +72,11 @@ module _ {D : Type 0} {g : Ghosts D} where
     pub has-sees : Sees (state_of old.store) state
     has-sees = record { shape = at.shape; graph = sym (held at live told).working_graph ∙ ap graph_of (sym (drafted-none old.store at.no_draft)) }
 
-  -- a change that was not made
-  module _ {old new : SessionView D} {state : State} (at : IsAt g old state) (live : old.console.health ≡ healths.Live) {line : List ℕ} {command : Command} (spelled : SpellsOnly line command)
-      (change : IsChange command) (stays : Stays g old new) where
-    pub unmade-uses : {reply : Reply} → UsesDisk g (Whole line) state reply old.disk new.disk
-    unmade-uses = uses-reads state spelled (change-needs command change) (change-reached at live spelled change) stays.beneath.disk
-
-    pub unmade-memory : Settles g (Whole line) old new state (Faulted [] NoMemory)
-    unmade-memory = settles-memory at stays (λ spares. change-spared command change (spared-only spelled spares)) unmade-uses
-
   -- no change was drafted
-  module _ {old new : SessionView D} {state : State} (at : IsAt g old state) (live : old.console.health ≡ healths.Live) {line : List ℕ} {command : Command} (spelled : SpellsOnly line command)
-      (change : IsChange command) (base : Session D g) (now : D) (has : g.tells_reads → HasStore base) (sees : g.tells_reads → Sees (state_of base.store) state) where
+  module _ (known : Bool) {old new : SessionView D} {state : State} (at : IsAt (as_known known g) old state) (live : old.console.health ≡ healths.Live) {line : List ℕ} {command : Command} (spelled : SpellsOnly line command)
+      (change : IsChange command) (base : Session D g) (now : D) (has : (as_known known g).tells_reads → HasStore base) (sees : (as_known known g).tells_reads → Sees (state_of base.store) state) where
     pub settles-stopped : (why : Answer) → IsStopped command base now why → (¬ (why ≡ answers.DiskFailed) → Stays g old new)
-        → (why ≡ answers.DiskFailed → Rose (g.faults base.store.base.disk.now) (g.faults now) → Settles g (Whole line) old new state (Faulted [] DiskFailed)) → Settles g (Whole line) old new state (reply_of why)
+        → (why ≡ answers.DiskFailed → Rose (g.faults base.store.base.disk.now) (g.faults now) → Settles (as_known known g) (Whole line) old new state (Faulted [] DiskFailed)) → Settles (as_known known g) (Whole line) old new state (reply_of why)
     settles-stopped answers.Done stopped stays fault = absurd stopped
     settles-stopped (answers.NodeMade id) stopped stays fault = absurd stopped
     settles-stopped (answers.EdgeMade id) stopped stays fault = absurd stopped
@@ -90,13 +84,13 @@ module _ {D : Type 0} {g : Ghosts D} where
     settles-stopped answers.Sound stopped stays fault = absurd stopped
     settles-stopped (answers.Broken damage) stopped stays fault = absurd stopped
     settles-stopped (answers.Refused why) stopped stays fault =
-        settles-refused at (stays (λ e. cc)) why (λ told. refused state spelled (change-reached at live spelled change) why (sees-as (sees told) (λ limit graph. FirstReason change_reasons limit graph command why) (stopped told (has told))))
-        (unmade-uses at live spelled change (stays (λ e. cc)))
-    settles-stopped answers.NoMemory stopped stays fault = unmade-memory at live spelled change (stays (λ e. cc))
+        settles-refused at (stays-known known (stays (λ e. cc))) why (λ told. refused state spelled (change-reached at live spelled change) why (sees-as (sees told) (λ limit graph. FirstReason change_reasons limit graph command why) (stopped (told_of known g told) (has told))))
+        (unmade-uses at live spelled change (stays-known known (stays (λ e. cc))))
+    settles-stopped answers.NoMemory stopped stays fault = unmade-memory at live spelled change (stays-known known (stays (λ e. cc)))
     settles-stopped answers.DiskFailed stopped stays fault = fault refl stopped
     settles-stopped (answers.Damaged damage) stopped stays fault =
-        settles-damaged damage.file damage.id state (comes-stays at (stays (λ e. cc))) (λ told. stopped told (has told))
-        (unmade-uses at live spelled change (stays (λ e. cc)))
+        settles-damaged damage.file damage.id state (comes-stays at (stays-known known (stays (λ e. cc)))) (λ told. stopped (told_of known g told) (has told))
+        (unmade-uses at live spelled change (stays-known known (stays (λ e. cc))))
 
   -- a change in the open transaction
   module _ {old mid : Session D g} (new : Session D g) (live : old.health ≡ healths.Live) (opened : old.store.base.in_transaction ≡ true) (only : OnlyDrafts old mid) where
@@ -113,6 +107,7 @@ module _ {D : Type 0} {g : Ghosts D} where
       is_open = drops.in_transaction ∙ only.base.in_transaction;
       weight = λ is. drops.weight ∙ only.weight;
       names = drops.names ∙ ap (take count) only.brought.1 ∙ take-brought old.names.names only.brought.0 count counts;
+      written = drops.own ∙ ap (λ (held : Held). held.pairs) only.base.own;
       working = λ told. working-beneath mid.store.base new.store.base drops.beneath drops.own ∙ working-read old.store.base mid.store.base only.base;
     }
 
@@ -131,34 +126,34 @@ module _ {D : Type 0} {g : Ghosts D} where
       brought = (only.brought.0, kept.names ∙ only.brought.1);
     }
 
-    module _ {command : Command} (change : IsChange command) {line : List ℕ} {state : State} (spelled : SpellsOnly line command) (at : IsAt g (view old) state) (made : Drafted)
+    module _ (known : Bool) {command : Command} (change : IsChange command) {line : List ℕ} {state : State} (spelled : SpellsOnly line command) (at : IsAt (as_known known g) (view old) state) (made : Drafted)
         (has : g.tells_reads → HasStore old → HasDraft command old mid made) (transaction : Transaction) (is : state.open_one ≡ Some transaction) where
-      has-draft : g.tells_reads → HasDraft command old mid made
-      has-draft told = has told (has-store old at live told)
+      has-draft : (as_known known g).tells_reads → HasDraft command old mid made
+      has-draft told = has (told_of known g told) (has-store known old at live told)
 
-      same-graph : g.tells_reads → graph_in (state_of old.store) ≡ transaction.graph
-      same-graph told = sym (has-sees old at live told).graph ∙ seen_open state transaction is
+      same-graph : (as_known known g).tells_reads → graph_in (state_of old.store) ≡ transaction.graph
+      same-graph told = sym (has-sees known old at live told).graph ∙ seen_open state transaction is
 
-      weighs-it : g.tells_reads → Weighs state.shape.threshold transaction.graph command made.weight
+      weighs-it : (as_known known g).tells_reads → Weighs state.shape.threshold transaction.graph command made.weight
       weighs-it told =
           subst (λ (threshold : ℕ). Weighs threshold transaction.graph command made.weight) (ap (λ (shape : Shape). shape.threshold) (sym at.shape))
           (subst (λ (graph : Graph). Weighs old.store.base.shape.threshold graph command made.weight) (same-graph told) (has-draft told).weighs)
 
       -- no reason refuses the change in the graph that the line sees
-      is-free : g.tells_reads → NoReason change_reasons state.shape.limit (seen state) command
-      is-free told = sees-as (has-sees old at live told) (λ limit graph. NoReason change_reasons limit graph command) (has-draft told).free
+      is-free : (as_known known g).tells_reads → NoReason change_reasons state.shape.limit (seen state) command
+      is-free told = sees-as (has-sees known old at live told) (λ limit graph. NoReason change_reasons limit graph command) (has-draft told).free
 
-      settles-full : Stays g (view old) (view new) → most_weight < mid.weight + made.weight → Settles g (Whole line) (view old) (view new) state (reply_of (answers.Refused refusals.TransactionFull))
+      settles-full : Stays g (view old) (view new) → most_weight < mid.weight + made.weight → Settles (as_known known g) (Whole line) (view old) (view new) state (reply_of (answers.Refused refusals.TransactionFull))
       settles-full stays more =
-          settles-refused at stays refusals.TransactionFull
+          settles-refused at (stays-known known stays) refusals.TransactionFull
           (λ told.
           heavy-refused state spelled (is-free told) (change-reached at live spelled change) transaction is made.weight (weighs-it told)
           (let a = at.weight transaction is in let b = only.weight in omega (arith, a, b, more)))
-          (unmade-uses at live spelled change stays)
+          (unmade-uses at live spelled change (stays-known known stays))
 
-      settles-made : TellsChange made.answer → KeepsDraft made.weight mid new → Settles g (Whole line) (view old) (view new) state (reply_of made.answer)
+      settles-made : TellsChange command made.answer → KeepsDraft made.weight mid new → Settles (as_known known g) (Whole line) (view old) (view new) state (reply_of made.answer)
       settles-made tells kept =
-          settles-kept at live transaction is spelled change (reply_of made.answer) (tells-good made.answer tells) made.weight (keeps-kept made.weight kept)
+          settles-kept at live transaction is spelled change (reply_of made.answer) (made-good command (reply_of made.answer) tells) made.weight (keeps-known known (keeps-kept made.weight kept))
           (λ told. record {
             store =
                 subst (λ (shape : Shape). IsWellFormed (working new.store) shape) (only.base.shape ∙ sym at.shape)
@@ -179,37 +174,53 @@ module _ {D : Type 0} {g : Ghosts D} where
     later-on disk same = subst (λ (now : D). g.faults old.store.base.disk.now ≤ g.faults now) (sym same) only.later
 
     module _ {command : Command} (change : IsChange command) (count : ℕ) (counts : count ≡ length old.names.names) where
-      settles-unmade : {line : List ℕ} {state : State} → SpellsOnly line command → IsAt g (view old) state → (why : Answer) → IsStopped command old mid.store.base.disk.now why → Discards count mid new
-          → Settles g (Whole line) (view old) (view new) state (reply_of why)
-      settles-unmade {state = state} spelled at why stopped drops =
+      settles-unmade : (known : Bool) {line : List ℕ} {state : State} → SpellsOnly line command → IsAt (as_known known g) (view old) state → (why : Answer) → IsStopped command old mid.store.base.disk.now why → Discards count mid new
+          → Settles (as_known known g) (Whole line) (view old) (view new) state (reply_of why)
+      settles-unmade known {state = state} spelled at why stopped drops =
           let stays = stays-discarded count counts drops in
-          settles-stopped at live spelled change old mid.store.base.disk.now (has-store old at live) (has-sees old at live) why stopped (λ other. stays)
-          (λ is rose. let one = is_open at opened in settles-change_fault at live one.0 one.1 spelled change stays
+          settles-stopped known at live spelled change old mid.store.base.disk.now (has-store known old at live) (has-sees known old at live) why stopped (λ other. stays)
+          (λ is rose. let one = is_open at opened in settles-change_fault at live one.0 one.1 spelled change (stays-known known stays)
           (subst (λ (disk : D). Rose (g.faults old.store.base.disk.now) (g.faults disk)) (sym drops.beneath.disk) rose))
 
       pub settles-finish : (result : Result Drafted Answer) (answer : Answer) → Drafts command old mid result → Finishes result count mid new answer
           → SettlesCommand g command (view old) (view new) (reply_of answer)
       settles-finish (Ok made) answer drafts (inl (told_so, kept)) = record {
-        settles = λ line state spelled served at.
+        settles = λ known line state spelled served at.
             let one = is_open at opened in
-            subst (λ (a : Answer). Settles g (Whole line) (view old) (view new) state (reply_of a)) (sym told_so) (settles-made change spelled at made drafts.1 one.0 one.1 drafts.0 kept);
+            subst (λ (a : Answer). Settles (as_known known g) (Whole line) (view old) (view new) state (reply_of a)) (sym told_so) (settles-made known change spelled at made drafts.1 one.0 one.1 drafts.0 kept);
+        may = λ none.
+            subst (λ (a : Answer). MayAnswer g command (view old) (reply_of a) (view new)) (sym told_so)
+            (may-change g (view old) (reply_of made.answer) (view new) command change
+            (inl (drafts.0, inl (opened, made.weight, keeps-kept made.weight kept, subst (λ (n : ℕ). n ≤ most_weight) (sym kept.weight) kept.fits))));
         onward = record { disk_later = later-on new.store.base.disk.now kept.beneath.disk };
       }
       settles-finish (Ok made) answer drafts (inr (inl (told_so, more), drops)) = record {
-        settles = λ line state spelled served at.
+        settles = λ known line state spelled served at.
             let one = is_open at opened in
-            subst (λ (a : Answer). Settles g (Whole line) (view old) (view new) state (reply_of a)) (sym told_so)
-            (settles-full change spelled at made drafts.1 one.0 one.1 (stays-discarded count counts drops) more);
+            subst (λ (a : Answer). Settles (as_known known g) (Whole line) (view old) (view new) state (reply_of a)) (sym told_so)
+            (settles-full known change spelled at made drafts.1 one.0 one.1 (stays-discarded count counts drops) more);
+        may = λ none.
+            subst (λ (a : Answer). MayAnswer g command (view old) (reply_of a) (view new)) (sym told_so)
+            (may-change g (view old) (reply_of (answers.Refused refusals.TransactionFull)) (view new) command change (inr (inl ((refusals.TransactionFull, refl), stays-discarded count counts drops))));
         onward = record { disk_later = later-on new.store.base.disk.now drops.beneath.disk };
       }
       settles-finish (Ok made) answer drafts (inr (inr told_so, drops)) = record {
-        settles = λ line state spelled served at.
-            subst (λ (a : Answer). Settles g (Whole line) (view old) (view new) state (reply_of a)) (sym told_so)
-            (unmade-memory at live spelled change (stays-discarded count counts drops));
+        settles = λ known line state spelled served at.
+            subst (λ (a : Answer). Settles (as_known known g) (Whole line) (view old) (view new) state (reply_of a)) (sym told_so)
+            (unmade-memory at live spelled change (stays-known known (stays-discarded count counts drops)));
+        may = λ none.
+            subst (λ (a : Answer). MayAnswer g command (view old) (reply_of a) (view new)) (sym told_so)
+            (may-change g (view old) (reply_of answers.NoMemory) (view new) command change (inr (inr (inl (refl, stays-discarded count counts drops)))));
         onward = record { disk_later = later-on new.store.base.disk.now drops.beneath.disk };
       }
       settles-finish (Err why) answer drafts (told_so, drops) = record {
-        settles = λ line state spelled served at.
-            subst (λ (a : Answer). Settles g (Whole line) (view old) (view new) state (reply_of a)) (sym told_so) (settles-unmade spelled at why drafts drops);
+        settles = λ known line state spelled served at.
+            subst (λ (a : Answer). Settles (as_known known g) (Whole line) (view old) (view new) state (reply_of a)) (sym told_so) (settles-unmade known spelled at why drafts drops);
+        may = λ none.
+            let stays = stays-discarded count counts drops in
+            subst (λ (a : Answer). MayAnswer g command (view old) (reply_of a) (view new)) (sym told_so)
+            (may-change g (view old) (reply_of why) (view new) command change
+            (may-stopped command old mid.store.base.disk.now why drafts (λ other. stays)
+            (λ is rose. (subst (λ (disk : D). Rose (g.faults old.store.base.disk.now) (g.faults disk)) (sym drops.beneath.disk) rose, inl (opened, stays)))));
         onward = record { disk_later = later-on new.store.base.disk.now drops.beneath.disk };
       }

@@ -1,5 +1,5 @@
 -- A change that is a transaction by itself, from its draft to its reply.
-use Rattle.std.proofs.Common.{◌≡◌, ◌⊎◌, ◌∙◌, ◌≤◌, ℕ, false, Ok, Err, Result, List, [], ◌++◌, length, take, inl, inr, true≢false, refl, sym, ap, subst, arith}
+use Rattle.std.proofs.Common.{◌≡◌, ◌⊎◌, ◌∙◌, ◌≤◌, ℕ, Bool, false, Ok, Err, Result, List, [], ◌++◌, length, take, inl, inr, true≢false, refl, sym, ap, subst, arith}
 use Rattle.fault_count.specs.Cause.{Rose}
 use Rattle.disk_model.specs.Spans.{AtEachMoment, OnlyReads}
 use Rattle.disk_model.specs.declared.disk.Disk.{Ghosts}
@@ -20,6 +20,9 @@ use Rattle.graph_session.specs.Answer.{Settles}
 use Rattle.graph_session.specs.Answering.{reply_of}
 use Rattle.graph_session.specs.Console.{IsAt}
 use Rattle.graph_session.specs.Drafting.{CommitsRecords, DoubtsRecords, Drafts, DropsAlone, FinishesAlone, HasDraft, HasStore, IsStopped, OnlyDrafts, TellsChange, TriesCommit}
+use Rattle.graph_session.specs.Effects.{CommitsAlone, CommitsFrom, FailsAlone, IsAloneInDoubt, Stays}
+use Rattle.graph_session.specs.Known.{as_known}
+use Rattle.graph_session.specs.MayStep.{MayAnswer}
 use Rattle.graph_session.specs.Refusals.{IsAccepted, SpellsOnly}
 use Rattle.graph_session.specs.Session.{view}
 use Rattle.graph_session.specs.Settling.{SettlesCommand}
@@ -29,14 +32,15 @@ use Rattle.graph_session.specs.declared.answer.Answer.TheVariants as answers
 use Rattle.graph_session.specs.declared.changing.Drafted.{Drafted}
 use Rattle.graph_session.specs.declared.health.Health.TheVariants as healths
 use Rattle.graph_session.specs.declared.session.Session.{Session}
-use Rattle.graph_session.proofs.Changes.{CommitsAlone, CommitsFrom, FailsAlone, IsAloneInDoubt, change-reached, settles-alone, settles-alone_fault, settles-alone_read_fault}
+use Rattle.graph_session.proofs.Changes.{change-reached, settles-alone, settles-alone_fault, settles-alone_read_fault}
 use Rattle.graph_session.proofs.Conditions.{accepted, alone-light}
 use Rattle.graph_session.proofs.Drafts.{Sees, sees-as, stored-either}
 use Rattle.graph_session.proofs.StoreRecords.{committed-beneath, committed-read, drafted-none, length-none, working-none}
-use Rattle.graph_session.proofs.Finishing.{settles-stopped, tells-good, unmade-memory}
+use Rattle.graph_session.proofs.Anyhow.{made-good, may-change, may-stopped}
+use Rattle.graph_session.proofs.Finishing.{settles-stopped, unmade-memory}
 use Rattle.graph_session.proofs.Held.{held, seen_closed, take-brought}
+use Rattle.graph_session.proofs.Knowing.{alone_in_doubt-known, commits_alone-known, fails_alone-known, from-known, stays-known, told_of}
 use Rattle.graph_session.proofs.States.{is_closed}
-use Rattle.graph_session.proofs.Staying.{Stays}
 use Rattle.graph_session.proofs.Streams.{Rose-from}
 
 module _ {D : Type 0} {g : Ghosts D} {begun mid : Session D g} (old new : Session D g) (live : old.health ≡ healths.Live) (closed : old.store.base.in_transaction ≡ false) (idle : length old.store.base.own.pairs ≡ 0)
@@ -60,7 +64,7 @@ module _ {D : Type 0} {g : Ghosts D} {begun mid : Session D g} (old new : Sessio
   later-mid : g.faults old.store.base.disk.now ≤ g.faults mid.store.base.disk.now
   later-mid = subst (λ (disk : D). g.faults disk ≤ g.faults mid.store.base.disk.now) same.disk only.later
 
-  module _ {state : State} (at : IsAt g (view old) state) (told : g.tells_reads) where
+  module _ (known : Bool) {state : State} (at : IsAt (as_known known g) (view old) state) (told : (as_known known g).tells_reads) where
     begun-graph : graph_of (drafted begun.store) ≡ state.committed
     begun-graph = ap graph_of drafted-begun ∙ (held at live told).committed_graph
 
@@ -98,6 +102,7 @@ module _ {D : Type 0} {g : Ghosts D} {begun mid : Session D g} (old new : Sessio
       is_open = drops.closes.in_transaction ∙ sym closed;
       weight = λ is. absurd (true≢false (sym is ∙ closed));
       names = names-dropped;
+      written = drops.closes.own ∙ sym (length-none old.store.base.own.pairs idle);
       working = λ told. working-none new.store.base drops.closes.own ∙ committed-dropped ∙ sym (working-none old.store.base (length-none old.store.base.own.pairs idle));
     }
 
@@ -116,11 +121,16 @@ module _ {D : Type 0} {g : Ghosts D} {begun mid : Session D g} (old new : Sessio
     later-dropped : g.faults old.store.base.disk.now ≤ g.faults new.store.base.disk.now
     later-dropped = subst (λ (disk : D). g.faults old.store.base.disk.now ≤ g.faults disk) (sym drops.beneath.disk) later-mid
 
-    unmade-alone : {command : Command} → IsChange command → {line : List ℕ} {state : State} → SpellsOnly line command → IsAt g (view old) state → IsStopped command begun mid.store.base.disk.now answer
-        → Settles g (Whole line) (view old) (view new) state (reply_of answer)
-    unmade-alone change spelled at stopped =
-        settles-stopped at live spelled change begun mid.store.base.disk.now (has-begun at) (sees-begun at) answer stopped stays-dropped
-        (λ is rose. settles-alone_read_fault at live closed spelled change (fails-dropped is) (rose-dropped rose))
+    may-unmade : (command : Command) → IsChange command → IsStopped command begun mid.store.base.disk.now answer → MayAnswer g command (view old) (reply_of answer) (view new)
+    may-unmade command change stopped =
+        may-change g (view old) (reply_of answer) (view new) command change
+        (may-stopped command begun mid.store.base.disk.now answer stopped stays-dropped (λ is rose. (rose-dropped rose, inr (closed, inl (fails-dropped is)))))
+
+    unmade-alone : (known : Bool) {command : Command} → IsChange command → {line : List ℕ} {state : State} → SpellsOnly line command → IsAt (as_known known g) (view old) state → IsStopped command begun mid.store.base.disk.now answer
+        → Settles (as_known known g) (Whole line) (view old) (view new) state (reply_of answer)
+    unmade-alone known change spelled at stopped =
+        settles-stopped known at live spelled change begun mid.store.base.disk.now (has-begun known at) (sees-begun known at) answer stopped stays-dropped
+        (λ is rose. settles-alone_read_fault at live closed spelled change (fails_alone-known known (fails-dropped is)) (rose-dropped rose))
 
   module _ (made : Drafted) (answer : Answer) (tries : TriesCommit (drafted mid.store) mid new made.answer answer) where
     from-mid : CommitsFrom g (view old) (view new) (drafted mid.store)
@@ -155,35 +165,51 @@ module _ {D : Type 0} {g : Ghosts D} {begun mid : Session D g} (old new : Sessio
           stored = record { read = stored.read; images = λ told. stored.images told.0 told.1 };
         }
 
-    module _ {command : Command} (change : IsChange command) (tells : TellsChange made.answer) (has : g.tells_reads → HasStore begun → HasDraft command begun mid made) {line : List ℕ} {state : State}
-        (spelled : SpellsOnly line command) (at : IsAt g (view old) state) where
-      alone-draft : g.tells_reads → HasDraft command begun mid made
-      alone-draft told = has told (has-begun at told)
+    may-tried : (command : Command) → IsChange command → TellsChange command made.answer → MayAnswer g command (view old) (reply_of answer) (view new)
+    may-tried command change tells = by tries.ends
+      where
+        by : ((answer ≡ made.answer) × CommitsRecords (drafted mid.store) mid new) ⊎ ((answer ≡ answers.DiskFailed) × DoubtsRecords (drafted mid.store) mid new)
+            → MayAnswer g command (view old) (reply_of answer) (view new)
+        by (inl (is, commits)) =
+            subst (λ (a : Answer). MayAnswer g command (view old) (reply_of a) (view new)) (sym is)
+            (may-change g (view old) (reply_of made.answer) (view new) command change (inl (tells, inr (closed, drafted mid.store, from-mid, commits-mid commits))))
+        by (inr (is, doubts)) =
+            subst (λ (a : Answer). MayAnswer g command (view old) (reply_of a) (view new)) (sym is)
+            (may-change g (view old) (reply_of answers.DiskFailed) (view new) command change
+            (inr (inr (inr (inr (
+              (refl, Rose-from (g.faults old.store.base.disk.now) (g.faults mid.store.base.disk.now) (g.faults new.store.base.disk.now) later-mid doubts.rose),
+              inr (closed, inr (drafted mid.store, from-mid, doubts-mid doubts)),
+            ))))))
 
-      alone-store : g.tells_reads → IsWellFormed (drafted mid.store) state.shape
+    module _ (known : Bool) {command : Command} (change : IsChange command) (tells : TellsChange command made.answer) (has : g.tells_reads → HasStore begun → HasDraft command begun mid made) {line : List ℕ} {state : State}
+        (spelled : SpellsOnly line command) (at : IsAt (as_known known g) (view old) state) where
+      alone-draft : (as_known known g).tells_reads → HasDraft command begun mid made
+      alone-draft told = has (told_of known g told) (has-begun known at told)
+
+      alone-store : (as_known known g).tells_reads → IsWellFormed (drafted mid.store) state.shape
       alone-store told = subst (λ (shape : Shape). IsWellFormed (drafted mid.store) shape) (shape-mid ∙ sym at.shape) (alone-draft told).store.store
 
-      alone-changes : g.tells_reads → Changes state.shape.limit state.committed command (reply_of made.answer) (graph_of (drafted mid.store))
+      alone-changes : (as_known known g).tells_reads → Changes state.shape.limit state.committed command (reply_of made.answer) (graph_of (drafted mid.store))
       alone-changes told =
           subst (λ (limit : ℕ). Changes limit state.committed command (reply_of made.answer) (graph_of (drafted mid.store))) (ap (λ (shape : Shape). shape.limit) (same.shape ∙ sym at.shape))
-          (subst (λ (graph : Graph). Changes begun.store.base.shape.limit graph command (reply_of made.answer) (graph_of (drafted mid.store))) (begun-graph at told) (alone-draft told).changes)
+          (subst (λ (graph : Graph). Changes begun.store.base.shape.limit graph command (reply_of made.answer) (graph_of (drafted mid.store))) (begun-graph known at told) (alone-draft told).changes)
 
-      settles-tried : Settles g (Whole line) (view old) (view new) state (reply_of answer)
+      settles-tried : Settles (as_known known g) (Whole line) (view old) (view new) state (reply_of answer)
       settles-tried = by tries.ends
         where
-          is_accepted : g.tells_reads → IsAccepted state (Whole line)
+          is_accepted : (as_known known g).tells_reads → IsAccepted state (Whole line)
           is_accepted told =
-              accepted state spelled (change-reached at live spelled change) (sees-as (sees-begun at told) (λ limit graph. NoReason change_reasons limit graph command) (alone-draft told).free) (alone-light state command (is_closed at closed))
+              accepted state spelled (change-reached at live spelled change) (sees-as (sees-begun known at told) (λ limit graph. NoReason change_reasons limit graph command) (alone-draft told).free) (alone-light state command (is_closed at closed))
 
           by : ((answer ≡ made.answer) × CommitsRecords (drafted mid.store) mid new) ⊎ ((answer ≡ answers.DiskFailed) × DoubtsRecords (drafted mid.store) mid new)
-              → Settles g (Whole line) (view old) (view new) state (reply_of answer)
+              → Settles (as_known known g) (Whole line) (view old) (view new) state (reply_of answer)
           by (inl (is, commits)) =
-              subst (λ (a : Answer). Settles g (Whole line) (view old) (view new) state (reply_of a)) (sym is)
-              (settles-alone at live closed (drafted mid.store) spelled change (reply_of made.answer) (tells-good made.answer tells) from-mid (commits-mid commits)
+              subst (λ (a : Answer). Settles (as_known known g) (Whole line) (view old) (view new) state (reply_of a)) (sym is)
+              (settles-alone at live closed (drafted mid.store) spelled change (reply_of made.answer) (made-good command (reply_of made.answer) tells) (from-known known from-mid) (commits_alone-known known (commits-mid commits))
               (λ told. record { store = alone-store told; named = commits.names ∙ (alone-draft told).store.names }) is_accepted alone-changes)
           by (inr (is, doubts)) =
-              subst (λ (a : Answer). Settles g (Whole line) (view old) (view new) state (reply_of a)) (sym is)
-              (settles-alone_fault at live closed (drafted mid.store) spelled change (reply_of made.answer) from-mid (doubts-mid doubts)
+              subst (λ (a : Answer). Settles (as_known known g) (Whole line) (view old) (view new) state (reply_of a)) (sym is)
+              (settles-alone_fault at live closed (drafted mid.store) spelled change (reply_of made.answer) (from-known known from-mid) (alone_in_doubt-known known (doubts-mid doubts))
               (λ told. record { store = alone-store told; named = doubts.names ∙ (alone-draft told).store.names }) is_accepted alone-changes
               (Rose-from (g.faults old.store.base.disk.now) (g.faults mid.store.base.disk.now) (g.faults new.store.base.disk.now) later-mid doubts.rose))
 
@@ -191,17 +217,23 @@ module _ {D : Type 0} {g : Ghosts D} {begun mid : Session D g} (old new : Sessio
     pub settles-finish_alone : (result : Result Drafted Answer) (answer : Answer) → Drafts command begun mid result → FinishesAlone result count mid new answer
         → SettlesCommand g command (view old) (view new) (reply_of answer)
     settles-finish_alone (Ok made) answer drafts (inl tries) = record {
-      settles = λ line state spelled served at. settles-tried made answer tries change drafts.0 drafts.1 spelled at;
+      settles = λ known line state spelled served at. settles-tried made answer tries known change drafts.0 drafts.1 spelled at;
+      may = λ none. may-tried made answer tries command change drafts.0;
       onward = record { disk_later = later-tried made answer tries };
     }
     settles-finish_alone (Ok made) answer drafts (inr (is, drops)) = record {
-      settles = λ line state spelled served at.
-          subst (λ (a : Answer). Settles g (Whole line) (view old) (view new) state (reply_of a)) (sym is)
-          (unmade-memory at live spelled change (stays-dropped count counts answer drops (λ failed. let clash : answers.NoMemory ≡ answers.DiskFailed = sym is ∙ failed in cc)));
+      settles = λ known line state spelled served at.
+          subst (λ (a : Answer). Settles (as_known known g) (Whole line) (view old) (view new) state (reply_of a)) (sym is)
+          (unmade-memory at live spelled change (stays-known known (stays-dropped count counts answer drops (λ failed. let clash : answers.NoMemory ≡ answers.DiskFailed = sym is ∙ failed in cc))));
+      may = λ none.
+          subst (λ (a : Answer). MayAnswer g command (view old) (reply_of a) (view new)) (sym is)
+          (may-change g (view old) (reply_of answers.NoMemory) (view new) command change
+          (inr (inr (inl (refl, stays-dropped count counts answer drops (λ failed. let clash : answers.NoMemory ≡ answers.DiskFailed = sym is ∙ failed in cc))))));
       onward = record { disk_later = later-dropped count counts answer drops };
     }
     settles-finish_alone (Err why) answer drafts (is, drops) = record {
-      settles = λ line state spelled served at.
-          unmade-alone count counts answer drops change spelled at (subst (λ (a : Answer). IsStopped command begun mid.store.base.disk.now a) (sym is) drafts);
+      settles = λ known line state spelled served at.
+          unmade-alone count counts answer drops known change spelled at (subst (λ (a : Answer). IsStopped command begun mid.store.base.disk.now a) (sym is) drafts);
+      may = λ none. may-unmade count counts answer drops command change (subst (λ (a : Answer). IsStopped command begun mid.store.base.disk.now a) (sym is) drafts);
       onward = record { disk_later = later-dropped count counts answer drops };
     }

@@ -1,4 +1,5 @@
 pub mod Answering
+pub mod Anyhow
 pub mod Asking
 pub mod Beginnings
 pub mod Changes
@@ -14,6 +15,7 @@ pub mod Finishing
 pub mod FinishingAlone
 pub mod Held
 pub mod Known
+pub mod Knowing
 pub mod ListedLines
 pub mod Moves
 pub mod Openings

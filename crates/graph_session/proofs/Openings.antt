@@ -11,7 +11,6 @@ use Rattle.rec_bytes.specs.declared.key.Key.{Key}
 use Rattle.rec_bytes.specs.declared.record.Rec.{Rec}
 use Rattle.rec_bytes.specs.declared.shape.Shape.{Shape}
 use Rattle.record_file.specs.Redone.{Redoes}
-use Rattle.store_rules.specs.Graph.{graph_of}
 use Rattle.txn_core.specs.Opening.{IsOldOrRaised, IsStore}
 use Rattle.txn_core.specs.declared.config.Config.{Config}
 use Rattle.graph_session.specs.Console.{TellsAll}
@@ -23,7 +22,7 @@ use Rattle.graph_session.proofs.States.{same_one}
 use Rattle.graph_session.proofs.Versions.{graph_of-raised, newest-well_formed}
 
 -- what redoes to the records of a made store, as they were or in the newest version, stands for its graph
-redone-made : (content left : Files) (shape : Shape) (graph : Graph) (space : Key → Rec) → IsMade content shape graph → Redoes content space → IsOldOrRaised shape space left → IsMade left shape graph
+pub redone-made : (content left : Files) (shape : Shape) (graph : Graph) (space : Key → Rec) → IsMade content shape graph → Redoes content space → IsOldOrRaised shape space left → IsMade left shape graph
 redone-made content left shape graph space made redoes (inl same) = record {
   space = made.space;
   redoes = subst (λ (records : Key → Rec). Redoes left records) (Redoes-only content space made.space redoes made.redoes) same;
@@ -38,7 +37,7 @@ redone-made content left shape graph space made redoes (inr newest) = record {
 }
 
 -- a content has a store of one shape
-store-shape : (content : Files) (shape : Shape) (graph : Graph) → IsMade content shape graph → (other : Shape) (store : IsStore content other) → other ≡ shape
+pub store-shape : (content : Files) (shape : Shape) (graph : Graph) → IsMade content shape graph → (other : Shape) (store : IsStore content other) → other ≡ shape
 store-shape content shape graph made other store =
     let same : store.space ≡ made.space = Redoes-only content store.space made.space store.redoes made.redoes in
     same_one other shape (sym store.made.own ∙ ap (λ (records : Key → Rec). shape_of_record (records own_key)) same ∙ made.store.made.own)

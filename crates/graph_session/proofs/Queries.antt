@@ -30,6 +30,7 @@ use Rattle.graph_session.specs.Answer.{Settles}
 use Rattle.graph_session.specs.Answering.{reply_of}
 use Rattle.graph_session.specs.Console.{IsAt, SessionView}
 use Rattle.graph_session.specs.EdgeResults.{GivesEdges, answer_for}
+use Rattle.graph_session.specs.Effects.{Stays}
 use Rattle.graph_session.specs.Exchange.{AreFirst, CarriesOut, LeavesOpen, ShowsSome, Stops, expansion, told_fault}
 use Rattle.graph_session.specs.QueryResults.{GivesQuery, IsQueryReply, Means}
 use Rattle.graph_session.specs.Refusals.{IsReached, SpellsOnly}
@@ -42,7 +43,7 @@ use Rattle.graph_session.proofs.DiskUse.{NeedsDisk, uses-reads}
 use Rattle.graph_session.proofs.Held.{held, names-working}
 use Rattle.graph_session.proofs.Spelling.{IsSpared, spared-only}
 use Rattle.graph_session.proofs.States.{not_failed}
-use Rattle.graph_session.proofs.Staying.{Stays, comes-stays}
+use Rattle.graph_session.proofs.Staying.{comes-stays}
 
 -- the command has results
 abbrev pub HasResults : Command → Type 0

@@ -1,5 +1,5 @@
 -- A store that is found again, and its names.
-use Rattle.std.proofs.Common.{◌≡◌, ◌⊎◌, ⊎_elim, ◌∙◌, ℕ, ◌≤◌, false, List, [], length, inl, inr, refl, sym, ap, subst, arith}
+use Rattle.std.proofs.Common.{◌≡◌, ◌⊎◌, ⊎_elim, ◌∙◌, ℕ, ◌≤◌, Bool, false, List, [], length, inl, inr, refl, sym, ap, subst, arith}
 use Rattle.fault_count.specs.Cause.{Rose}
 use Rattle.disk_model.specs.Spans.{AtEachMoment, OnlyReads}
 use Rattle.disk_model.specs.declared.disk.Disk.{Ghosts}
@@ -22,6 +22,8 @@ use Rattle.txn_core.specs.Store.{content, drafted}
 use Rattle.txn_core.specs.declared.store.Store.{Store}
 use Rattle.graph_session.specs.Answering.{reply_of}
 use Rattle.graph_session.specs.Console.{BeginWith, IsAt}
+use Rattle.graph_session.specs.Effects.{Ends, IsFound, IsLost, LeavesSame}
+use Rattle.graph_session.specs.Known.{as_known}
 use Rattle.graph_session.specs.Naming.{IsNamed, IsUnnamed, TakesNames}
 use Rattle.graph_session.specs.Settling.{SettlesCommand}
 use Rattle.graph_session.specs.State.{State}
@@ -29,12 +31,12 @@ use Rattle.graph_session.specs.declared.answer.Answer.{Answer}
 use Rattle.graph_session.specs.declared.answer.Answer.TheVariants as answers
 use Rattle.graph_session.specs.declared.health.Health.{Health}
 use Rattle.graph_session.specs.declared.health.Health.TheVariants as healths
+use Rattle.graph_session.proofs.Knowing.{found-known, lost-known, told_all, told_of}
 use Rattle.graph_session.proofs.Known.{known-admitted}
 use Rattle.graph_session.proofs.Moves.{seen_as}
 use Rattle.graph_session.proofs.StoreRecords.{committed-read, drafted-none, length-none, working-none}
 use Rattle.graph_session.proofs.Streams.{Rose-from}
-use Rattle.graph_session.proofs.Storage.{IsFound, IsLost, LeavesSame, leaves-same_read, settles-reopen, settles-reopen_damaged, settles-reopen_fault}
-use Rattle.graph_session.proofs.Transactions.{Ends}
+use Rattle.graph_session.proofs.Storage.{leaves-same_read, settles-reopen, settles-reopen_damaged, settles-reopen_fault}
 use Rattle.graph_session.proofs.Versions.{newest-made, newest-not_old}
 
 -- files that were left as they were are so after calls that only read
@@ -49,30 +51,37 @@ module _ {D : Type 0} {g : Ghosts D} where
     leaves : LeavesSame g s.base.disk.now t.base.disk.now
     leaves told space redoes = crash told.0 told.1 space redoes
 
+    leaves_known : (known : Bool) → LeavesSame (as_known known g) s.base.disk.now t.base.disk.now
+    leaves_known known told = leaves (told_all known g told)
+
     lost-at_once : IsLost g (seen_as s health weight names) (seen_as t healths.Failed weight names)
     lost-at_once = record { ends = record { shape = same.shape; is_open = closed; no_draft = draft }; health = refl; names = refl; read = read }
 
     -- the disk failed in the recovery
     pub lost_disk : Rose (g.faults s.base.disk.now) (g.faults t.base.disk.now) → SettlesCommand g commands.Reopen (seen_as s health weight names) (seen_as t healths.Failed weight names) (Faulted [] DiskFailed)
-    lost_disk rose = record { settles = λ line state only served at. settles-reopen_fault counts at was_closed only leaves lost-at_once rose; onward = record { disk_later = later_on } }
+    lost_disk rose = record { settles = λ known line state only served at. settles-reopen_fault {g = as_known known g} counts at was_closed only (leaves_known known) (lost-known known lost-at_once) rose; may = λ none. inr (was_closed, leaves, inr (inl ((refl, rose), lost-at_once))); onward = record { disk_later = later_on } }
 
     -- what is read was told to be no store of the newest version
     pub lost_damaged : (file id : ℕ) → (g.tells_reads → (space : Key → Rec) → Redoes (content s) space → finding.IsMade space s.base.shape → ¬ IsOld space → ⊥)
         → SettlesCommand g commands.Reopen (seen_as s health weight names) (seen_as t healths.Failed weight names) (Faulted [] (DamagedRecord file id))
     lost_damaged file id sound = record {
-      settles = λ line state only served at. settles-reopen_damaged counts at was_closed only file id leaves lost-at_once (λ told. none at told);
+      settles = λ known line state only served at. settles-reopen_damaged {g = as_known known g} counts at was_closed only file id (leaves_known known) (lost-known known lost-at_once) (λ told. none known at told);
+      may = λ undrafted. inr (was_closed, leaves, inr (inr ((file, id, refl), lost-at_once)));
       onward = record { disk_later = later_on };
     }
       where
-        none : {state : State} → IsAt g (seen_as s health weight names) state → g.tells_reads → ⊥
-        none {state = state} at told =
+        none : (known : Bool) {state : State} → IsAt (as_known known g) (seen_as s health weight names) state → (as_known known g).tells_reads → ⊥
+        none known {state = state} at told =
             let had = (at.reads told).2 in
-            sound told had.space had.redoes (subst (λ (shape : Shape). finding.IsMade had.space shape) at.shape (newest-made had.space state.shape had.store)) (newest-not_old had.space state.shape had.store)
+            sound (told_of known g told) had.space had.redoes (subst (λ (shape : Shape). finding.IsMade had.space shape) at.shape (newest-made had.space state.shape had.store)) (newest-not_old had.space state.shape had.store)
 
     module _ (own : t.base.own ≡ s.base.own) (no_own : length s.base.own.pairs ≡ 0) (recovered : IsRecovered s.base t.base) (u : Store D g) (reads : OnlyReadsBase t.base u.base) (no_draft : u.draft.pairs ≡ [])
         (later_still : g.faults t.base.disk.now ≤ g.faults u.base.disk.now) where
       leaves_all : LeavesSame g s.base.disk.now u.base.disk.now
       leaves_all = leaves-same_read g s.base.disk.now t.base.disk.now u.base.disk.now counts leaves reads.disk
+
+      leaves_all_known : (known : Bool) → LeavesSame (as_known known g) s.base.disk.now u.base.disk.now
+      leaves_all_known known told = leaves_all (told_all known g told)
 
       ends : (healthier : Health) (weigher : ℕ) (named : List (List ℕ)) → Ends (seen_as s health weight names) (seen_as u healthier weigher named)
       ends healthier weigher named = record { shape = reads.shape ∙ same.shape; is_open = reads.in_transaction ∙ closed; no_draft = no_draft }
@@ -106,18 +115,19 @@ module _ {D : Type 0} {g : Ghosts D} where
       lost healthier weigher named is = record { ends = ends healthier weigher named; health = is.failed; names = is.same; read = read_on }
 
       -- the names in memory begin with those of the graph that the disk has
-      names-begin : {state : State} → IsAt g (seen_as s health weight names) state → g.tells_reads → BeginWith names (names_of (drafted t))
-      names-begin at told =
+      names-begin : (known : Bool) {state : State} → IsAt (as_known known g) (seen_as s health weight names) state → (as_known known g).tells_reads → BeginWith names (names_of (drafted t))
+      names-begin known at told =
           let had = at.reads told in
           subst (λ (first : List (List ℕ)). BeginWith names first)
-          (ap (λ (graph : Graph). graph.names) had.2.graph_is ∙ ap names_of (sym (drafted-space told had.2.space had.2.redoes)))
+          (ap (λ (graph : Graph). graph.names) had.2.graph_is ∙ ap names_of (sym (drafted-space (told_of known g told) had.2.space had.2.redoes)))
           (known-admitted at told had.0 had.1)
 
       -- the store was found, and its names were taken again
       pub named_again : (healthier : Health) (weigher : ℕ) (named : List (List ℕ)) (answer : Answer) → TakesNames t u names named healthier answer
           → SettlesCommand g commands.Reopen (seen_as s health weight names) (seen_as u healthier weigher named) (reply_of answer)
       named_again healthier weigher named answers.Done takes = record {
-        settles = λ line state only served at. settles-reopen at was_closed (found healthier weigher named takes) only leaves_all;
+        settles = λ known line state only served at. settles-reopen {g = as_known known g} at was_closed (found-known known (found healthier weigher named takes)) only (leaves_all_known known);
+        may = λ none. inr (was_closed, leaves_all, inl (refl, found healthier weigher named takes));
         onward = record { disk_later = far };
       }
       named_again healthier weigher named (answers.NodeMade id) takes = absurd takes
@@ -128,11 +138,14 @@ module _ {D : Type 0} {g : Ghosts D} where
       named_again healthier weigher named (answers.Refused why) takes = absurd takes
       named_again healthier weigher named answers.NoMemory takes = absurd takes
       named_again healthier weigher named answers.DiskFailed takes = record {
-        settles = λ line state only served at. settles-reopen_fault counts at was_closed only leaves_all (lost healthier weigher named takes.0) (Rose-from (g.faults s.base.disk.now) (g.faults t.base.disk.now) (g.faults u.base.disk.now) later_on takes.1);
+        settles = λ known line state only served at. settles-reopen_fault {g = as_known known g} counts at was_closed only (leaves_all_known known) (lost-known known (lost healthier weigher named takes.0)) (Rose-from (g.faults s.base.disk.now) (g.faults t.base.disk.now) (g.faults u.base.disk.now) later_on takes.1);
+        may = λ none.
+            inr (was_closed, leaves_all, inr (inl ((refl, Rose-from (g.faults s.base.disk.now) (g.faults t.base.disk.now) (g.faults u.base.disk.now) later_on takes.1), lost healthier weigher named takes.0)));
         onward = record { disk_later = far };
       }
       named_again healthier weigher named (answers.Damaged damage) takes = record {
-        settles = λ line state only served at.
-            settles-reopen_damaged counts at was_closed only damage.file damage.id leaves_all (lost healthier weigher named takes.0) (λ told. takes.1 told (names-begin at told));
+        settles = λ known line state only served at.
+            settles-reopen_damaged {g = as_known known g} counts at was_closed only damage.file damage.id (leaves_all_known known) (lost-known known (lost healthier weigher named takes.0)) (λ told. takes.1 (told_of known g told) (names-begin known at told));
+        may = λ none. inr (was_closed, leaves_all, inr (inr ((damage.file, damage.id, refl), lost healthier weigher named takes.0)));
         onward = record { disk_later = far };
       }

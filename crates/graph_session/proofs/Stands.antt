@@ -1,7 +1,6 @@
 -- What a content of the disk stands for is one graph.
 use Rattle.std.proofs.Common.{◌≡◌, ◌⊎◌, ◌∙◌, ℕ, List, [], ◌∷◌, Some, None, Contains, slice_index_or, inl, inr, refl, sym, ap, subst, arith}
 use Rattle.disk_model.specs.Contents.{Files}
-use Rattle.disk_model.specs.declared.disk.Disk.{Ghosts}
 use Rattle.plain_graph.specs.Graph.{Graph}
 use Rattle.rec_bytes.specs.Creation.{own_key}
 use Rattle.rec_bytes.specs.Format.{own_id}
@@ -19,10 +18,8 @@ use Rattle.recovery.specs.Finding as finding
 use Rattle.recovery.specs.Finding.{IsRecoverable}
 use Rattle.store_rules.specs.Graph.{graph_of}
 use Rattle.store_rules.specs.Rules.{IsWellFormed}
-use Rattle.graph_session.specs.Console.{TellsAll}
 use Rattle.graph_session.specs.Stands.{AreAdmitted, HoldsAdmitted, IsAdmitted, IsAdmittedByEither, IsMade, IsServed, Stands}
 use Rattle.graph_session.specs.State.{Admits, Live, Standing, State, graphs_from}
-use Rattle.graph_session.specs.Versions.{IsWellFormedIn}
 use Rattle.graph_session.proofs.Versions.{newest-well_formed}
 
 -- a content redoes to one space
@@ -127,8 +124,3 @@ admits-only state graph live admits = only (subst (λ (standing : Standing). Con
 -- the records of a live console's graph
 pub own-one : (state : State) (space : Key → Rec) → state.standing ≡ Live → IsWellFormed space state.shape → graph_of space ≡ state.committed → IsOneOf state space
 own-one state space live store same = record { store = store; admits = subst (λ (graph : Graph). Admits state graph) (sym same) (admits-own state live) }
-
--- what is read, and each image, has the fact
-pub record IsStored {D : Type 0} (g : Ghosts D) (disk : D) (holds : Files → Type 0) : Type 0 where
-  pub read : g.tells_reads → holds (g.reads disk)
-  pub images : TellsAll g → (image : Files) → g.may_leave disk image → holds image

@@ -6,6 +6,7 @@ use Rattle.disk_model.specs.declared.disk.Disk.{Ghosts}
 use Rattle.disk_model.proofs.Spans.{OnlyNow, at_each_moment_weaker, only_reads_none}
 use Rattle.record_file.proofs.Redone.{Redoes-kept}
 use Rattle.graph_session.specs.Console.{IsAt, SessionView, TellsAll}
+use Rattle.graph_session.specs.Effects.{Stays}
 use Rattle.graph_session.specs.Moments.{ComesTo}
 use Rattle.graph_session.specs.Stands.{AreAdmitted, HoldsAdmitted, IsAdmittedByEither}
 use Rattle.graph_session.specs.State.{State, Transaction}
@@ -13,23 +14,6 @@ use Rattle.graph_session.specs.State.{State, Transaction}
 -- what is read stays admitted
 pub held-kept : (state : State) (old new : Files) → Same old new → HoldsAdmitted state old → HoldsAdmitted state new
 held-kept state old new same (graph, admits, made) = (graph, admits, record { space = made.space; redoes = Redoes-kept made.space old new made.redoes same; store = made.store; graph_is = made.graph_is })
-
--- What lies beneath the open transaction is as it was, over a disk that was only read.
-pub record KeepsBeneath {D : Type 0} (g : Ghosts D) (old new : SessionView D) : Type 0 where
-  pub shape : new.console.shape ≡ old.console.shape
-  pub is_live : new.console.is_live ≡ old.console.is_live
-  pub committed : g.tells_reads → new.console.committed ≡ old.console.committed
-  pub no_draft : new.console.draft ≡ []
-  pub disk : OnlyReads g old.disk new.disk
-
--- The session is as it was, over a disk that was only read.
-pub record Stays {D : Type 0} (g : Ghosts D) (old new : SessionView D) : Type 0 where
-  pub beneath : KeepsBeneath g old new
-  pub health : new.console.health ≡ old.console.health
-  pub is_open : new.console.is_open ≡ old.console.is_open
-  pub weight : old.console.is_open ≡ true → new.console.weight ≡ old.console.weight
-  pub names : new.console.names ≡ old.console.names
-  pub working : g.tells_reads → new.console.working ≡ old.console.working
 
 module _ {D : Type 0} {g : Ghosts D} where
   -- nothing was called
@@ -40,6 +24,7 @@ module _ {D : Type 0} {g : Ghosts D} where
     is_open = refl;
     weight = λ opened. refl;
     names = refl;
+    written = refl;
     working = λ told. refl;
   }
 

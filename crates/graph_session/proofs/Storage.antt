@@ -1,5 +1,5 @@
 -- A checkpoint, and a store that is found again.
-use Rattle.std.proofs.Common.{◌≡◌, ◌⊎◌, ◌∙◌, ℕ, IsTrue, false, List, [], ◌∷◌, inl, inr, refl, sym, ap, subst, arith}
+use Rattle.std.proofs.Common.{◌≡◌, ◌⊎◌, ◌∙◌, ℕ, false, List, [], ◌∷◌, inl, inr, refl, sym, ap, subst, arith}
 use Rattle.std.proofs.lemmas.List.{append-nil}
 use Rattle.fault_count.specs.Cause.{Rose}
 use Rattle.disk_model.specs.Contents.{Files}
@@ -17,6 +17,7 @@ use Rattle.store_rules.specs.Graph.{graph_of, names_of}
 use Rattle.store_rules.specs.Rules.{IsWellFormed}
 use Rattle.graph_session.specs.Answer.{Settles}
 use Rattle.graph_session.specs.Console.{IsAt, SessionView, TellsAll}
+use Rattle.graph_session.specs.Effects.{IsBrought, IsFound, IsLost, IsStopped, LeavesCommitted, LeavesSame}
 use Rattle.graph_session.specs.Exchange.{failing}
 use Rattle.graph_session.specs.Moments.{ComesTo}
 use Rattle.graph_session.specs.Refusals.{IsReached, SpellsOnly}
@@ -28,30 +29,8 @@ use Rattle.graph_session.proofs.Conditions.{NeedsOne, idle-accepted, reached}
 use Rattle.graph_session.proofs.DiskUse.{uses-writes}
 use Rattle.graph_session.proofs.Held.{committed-one, held, seen_closed}
 use Rattle.graph_session.proofs.Known.{begin-same, known-admitted, known-one}
-use Rattle.graph_session.proofs.Stands.{IsOneOf, IsStored, all-admitted, own-one, redone-admitted, redone-held}
+use Rattle.graph_session.proofs.Stands.{IsOneOf, all-admitted, own-one, redone-admitted, redone-held}
 use Rattle.graph_session.proofs.States.{is_closed, not_failed, not_open}
-use Rattle.graph_session.proofs.Transactions.{Ends}
-
--- All that was committed is in its files.
-pub record IsBrought {D : Type 0} (g : Ghosts D) (old new : SessionView D) : Type 0 where
-  pub ends : Ends old new
-  pub health : new.console.health ≡ old.console.health
-  pub live : IsTrue new.console.is_live
-  pub names : new.console.names ≡ old.console.names
-  pub committed : g.tells_reads → new.console.committed ≡ old.console.committed
-  pub working : g.tells_reads → new.console.working ≡ new.console.committed
-  pub stored : IsStored g new.disk (λ left. Redoes left old.console.committed)
-
--- The disk failed, and has what was committed.
-pub record IsStopped {D : Type 0} (g : Ghosts D) (old new : SessionView D) : Type 0 where
-  pub ends : Ends old new
-  pub health : new.console.health ≡ healths.Failed
-  pub names : new.console.names ≡ old.console.names
-  pub stored : IsStored g new.disk (λ left. Redoes left old.console.committed)
-
--- at each moment of the checkpoint a crash leaves what was committed
-abbrev pub LeavesCommitted : {D : Type 0} → Ghosts D → SessionView D → D → Type 0
-LeavesCommitted g old new = TellsAll g → AtEachMoment g old.disk new (λ left. Redoes left old.console.committed)
 
 -- the state in which the disk has the committed graph
 abbrev pub stopped : State → State
@@ -130,28 +109,6 @@ module _ {D : Type 0} {g : Ghosts D} {old new : SessionView D} {state : State} (
       settles-fault {line = Whole line} {before = state} (Faulted [] DiskFailed) (stopped state) (record { is_at = stopped-at left; crash = checkpoint-crash at live (stopped state) new.disk leaves }) rose
       (λ told. (refl, checkpoint-reached at live only closed, commands.Checkpoint, only.spelled, refl, refl))
       (uses-writes state only tt (checkpoint-reached at live only closed) (inr (inr (inl only.spelled))) (λ none. none))
-
--- The store that the disk has is served again, with the names of its graph.
-pub record IsFound {D : Type 0} (g : Ghosts D) (old new : SessionView D) : Type 0 where
-  pub ends : Ends old new
-  pub health : new.console.health ≡ healths.Live
-  pub live : IsTrue new.console.is_live
-  pub names : g.tells_reads → (space : Key → Rec) → Redoes (g.reads old.disk) space → new.console.names ≡ names_of space
-  pub committed : g.tells_reads → (space : Key → Rec) → Redoes (g.reads old.disk) space → new.console.committed ≡ space
-  pub working : g.tells_reads → new.console.working ≡ new.console.committed
-  pub read : g.tells_reads → (space : Key → Rec) → Redoes (g.reads old.disk) space → Redoes (g.reads new.disk) space
-  pub images : TellsAll g → (image : Files) → g.may_leave new.disk image → Redoes image new.console.committed
-
--- It is not served again. What is read redoes to the same.
-pub record IsLost {D : Type 0} (g : Ghosts D) (old new : SessionView D) : Type 0 where
-  pub ends : Ends old new
-  pub health : new.console.health ≡ healths.Failed
-  pub names : new.console.names ≡ old.console.names
-  pub read : g.tells_reads → (space : Key → Rec) → Redoes (g.reads old.disk) space → Redoes (g.reads new.disk) space
-
--- at each moment of the recovery a crash leaves a content from before, or one that redoes to what was read
-abbrev pub LeavesSame : {D : Type 0} → Ghosts D → D → D → Type 0
-LeavesSame g old new = TellsAll g → (space : Key → Rec) → Redoes (g.reads old) space → AtEachMoment g old new (λ left. g.may_leave old left ⊎ Redoes left space)
 
 -- and so it is after further reads
 pub leaves-same_read : {D : Type 0} (g : Ghosts D) (old mid new : D) → CountsNow g → LeavesSame g old mid → OnlyReads g mid new → LeavesSame g old new

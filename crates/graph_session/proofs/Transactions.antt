@@ -1,5 +1,5 @@
 -- A transaction begins, and ends.
-use Rattle.std.proofs.Common.{◌≡◌, ◌⊎◌, ◌∙◌, ℕ, IsTrue, true, false, Some, None, List, [], ◌∷◌, take, inl, inr, refl, sym, ap, arith}
+use Rattle.std.proofs.Common.{◌≡◌, ◌∙◌, ℕ, true, false, Some, None, List, [], ◌∷◌, take, inl, inr, refl, sym, ap, arith}
 use Rattle.std.proofs.lemmas.List.{append-nil}
 use Rattle.fault_count.specs.Cause.{Rose}
 use Rattle.disk_model.specs.Spans.{AtEachMoment}
@@ -11,10 +11,10 @@ use Rattle.plain_graph.specs.Graph.{Graph}
 use Rattle.plain_graph.specs.Reply.{DiskFailed, Done, Faulted}
 use Rattle.plain_graph.specs.declared.command.Command.TheVariants as commands
 use Rattle.rec_bytes.specs.Format.{names_file}
-use Rattle.record_file.specs.Redone.{Redoes}
 use Rattle.store_rules.specs.Views.{high}
 use Rattle.graph_session.specs.Answer.{Settles}
 use Rattle.graph_session.specs.Console.{IsAt, SessionView, TellsAll}
+use Rattle.graph_session.specs.Effects.{Begins, Commits, Drops, IsLeftOpen, LeavesEither}
 use Rattle.graph_session.specs.Exchange.{failing, opening}
 use Rattle.graph_session.specs.Refusals.{IsAccepted, IsReached, SpellsOnly}
 use Rattle.graph_session.specs.Stands.{IsAdmittedByEither}
@@ -25,55 +25,9 @@ use Rattle.graph_session.proofs.Conditions.{NeedsNone, NeedsOne, idle-accepted, 
 use Rattle.graph_session.proofs.DiskUse.{uses-same, uses-writes}
 use Rattle.graph_session.proofs.Held.{committed-one, held, names-cut, seen_closed, seen_open, working-open}
 use Rattle.graph_session.proofs.Known.{begin-all, begin-same, known-two}
-use Rattle.graph_session.proofs.Stands.{IsOneOf, IsStored, all-admitted, either-admitted, either-held, held-admitted, own-one, redone-held}
+use Rattle.graph_session.proofs.Stands.{IsOneOf, all-admitted, either-admitted, either-held, held-admitted, own-one, redone-held}
 use Rattle.graph_session.proofs.States.{is_closed, is_live, is_open, not_failed, not_open, same_one}
-use Rattle.graph_session.proofs.Staying.{KeepsBeneath, crash-kept, images-kept, reads-kept}
-
--- The session has an open transaction, over a disk that was not called.
-pub record Begins {D : Type 0} (g : Ghosts D) (old new : SessionView D) : Type 0 where
-  pub beneath : KeepsBeneath g old new
-  pub same_disk : new.disk ≡ old.disk
-  pub health : new.console.health ≡ old.console.health
-  pub is_open : new.console.is_open ≡ true
-  pub weight : new.console.weight ≡ start_weight
-  pub names : new.console.names ≡ old.console.names
-  pub working : g.tells_reads → new.console.working ≡ old.console.committed
-
--- The open transaction was dropped, with the names that it brought, over a disk that was not called.
-pub record Drops {D : Type 0} (g : Ghosts D) (old new : SessionView D) : Type 0 where
-  pub beneath : KeepsBeneath g old new
-  pub same_disk : new.disk ≡ old.disk
-  pub health : new.console.health ≡ old.console.health
-  pub is_open : new.console.is_open ≡ false
-  pub names : new.console.names ≡ take (high new.console.committed names_file) old.console.names
-  pub working : g.tells_reads → new.console.working ≡ old.console.committed
-
--- No transaction is open any more, over the same store.
-pub record Ends {D : Type 0} (old new : SessionView D) : Type 0 where
-  pub shape : new.console.shape ≡ old.console.shape
-  pub is_open : new.console.is_open ≡ false
-  pub no_draft : new.console.draft ≡ []
-
--- What the transaction had is committed.
-pub record Commits {D : Type 0} (g : Ghosts D) (old new : SessionView D) : Type 0 where
-  pub ends : Ends old new
-  pub health : new.console.health ≡ old.console.health
-  pub live : IsTrue new.console.is_live
-  pub names : new.console.names ≡ old.console.names
-  pub committed : g.tells_reads → new.console.committed ≡ old.console.working
-  pub working : g.tells_reads → new.console.working ≡ new.console.committed
-  pub stored : IsStored g new.disk (λ left. Redoes left old.console.working)
-
--- The disk failed, and has what was committed, or what the transaction had.
-pub record IsLeftOpen {D : Type 0} (g : Ghosts D) (old new : SessionView D) : Type 0 where
-  pub ends : Ends old new
-  pub health : new.console.health ≡ healths.Failed
-  pub names : new.console.names ≡ old.console.names
-  pub stored : IsStored g new.disk (λ left. Redoes left old.console.committed ⊎ Redoes left old.console.working)
-
--- at each moment of the commit a crash leaves the one or the other
-abbrev pub LeavesEither : {D : Type 0} → Ghosts D → SessionView D → D → Type 0
-LeavesEither g old new = TellsAll g → AtEachMoment g old.disk new (λ left. Redoes left old.console.committed ⊎ Redoes left old.console.working)
+use Rattle.graph_session.proofs.Staying.{crash-kept, images-kept, reads-kept}
 
 begin-closed : ¬ NeedsOne commands.Begin
 begin-closed (inl e) = cc

@@ -6,9 +6,11 @@ use Rattle.stream_io.specs.Lines.{InputLine}
 use Rattle.stream_io.specs.Streams.{TakesFront}
 use Rattle.stream_io.specs.declared.streams.Sink.{Ghosts as SinkGhosts}
 use Rattle.plain_graph.specs.Reply.{Reply, reply_text}
-use Rattle.graph_session.specs.Console.{IsAt, Onward, SessionView}
+use Rattle.graph_session.specs.Console.{HasNoDraft, IsAt, Onward, SessionView}
 use Rattle.graph_session.specs.DiskUse.{UsesDisk}
 use Rattle.graph_session.specs.Exchange.{TakesStep}
+use Rattle.graph_session.specs.Known.{as_known}
+use Rattle.graph_session.specs.MayStep.{MayStep}
 use Rattle.graph_session.specs.Moments.{ComesTo}
 use Rattle.graph_session.specs.State.{State, IsQuit}
 use Rattle.graph_session.specs.declared.turn.Turn.{Turn}
@@ -46,21 +48,18 @@ pub record Terminal (D K : Type 0) : Type 0 where
   pub session : SessionView D
   pub output : K
 
--- The line was settled, and its reply given to the sink where that tells what it takes. Only quit
--- ends the run.
-pub record Answers {D K : Type 0} (disk : DiskGhosts D) (sink : SinkGhosts K) (line : InputLine)
-    (old new : Terminal D K) (turn : Turn) (before : State) : Type 0 where
+-- What one call says of its line: its reply, which is given to the sink where that tells what it
+-- takes; what the line does over any disk; and from each state that the session is at, how it is
+-- settled, also where nothing is known of what the disk reads. Only quit ends the run.
+pub record AnswersLine {D K : Type 0} (disk : DiskGhosts D) (sink : SinkGhosts K) (line : InputLine)
+    (old new : Terminal D K) (turn : Turn) : Type 0 where
   pub reply : Reply
-  pub settles : Settles disk line old.session new.session before reply
   pub text : sink.tells
       → Delivers turn (sink.taken old.output) (sink.taken new.output) (reply_text reply)
   pub quit : (turn ≡ Quit) ↔ IsQuit line
-
--- What one call says of its line, from each state that the session is at.
-pub record AnswersLine {D K : Type 0} (disk : DiskGhosts D) (sink : SinkGhosts K) (line : InputLine)
-    (old new : Terminal D K) (turn : Turn) : Type 0 where
-  pub answers : (state : State) → IsAt disk old.session state
-      → Answers disk sink line old new turn state
+  pub may : HasNoDraft old.session → MayStep disk line old.session reply new.session
+  pub settles : (known : Bool) (state : State) → IsAt (as_known known disk) old.session state
+      → Settles (as_known known disk) line old.session new.session state reply
   pub cause : turn ≡ SinkFault → Rose (sink.faults old.output) (sink.faults new.output)
   pub later : sink.faults old.output ≤ sink.faults new.output
   pub onward : Onward disk old.session new.session

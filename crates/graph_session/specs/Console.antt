@@ -13,7 +13,8 @@ use Rattle.graph_session.specs.State.{Admits, IsFailed, Live, State, Transaction
 use Rattle.graph_session.specs.declared.health.Health.{Health}
 
 -- What a console has in memory, and the records beneath it: those of the last commit, those that
--- the open transaction has with its own, and the draft of a change over them.
+-- the open transaction has with its own, which are those that it has written, and the draft of a
+-- change over them.
 pub record ConsoleView : Type 0 where
   pub shape : Shape
   pub health : Health
@@ -23,12 +24,17 @@ pub record ConsoleView : Type 0 where
   pub names : List (List ℕ)
   pub committed : Key → Rec
   pub working : Key → Rec
+  pub written : Pairs
   pub draft : Pairs
 
 -- a console, and the disk that it works on
 pub record SessionView (D : Type 0) : Type 0 where
   pub console : ConsoleView
   pub disk : D
+
+-- no change is drafted: so it is between two lines
+abbrev pub HasNoDraft : {D : Type 0} → SessionView D → Type 0
+HasNoDraft session = session.console.draft ≡ []
 
 -- the disk tells what it reads and which images it may leave
 abbrev pub TellsAll : {D : Type 0} → Ghosts D → Type 0

@@ -21,6 +21,7 @@ use Rattle.graph_ops.specs.Store.{IsStore, graph_in}
 use Rattle.graph_ops.specs.declared.change_fault.ChangeFault.{ChangeFault}
 use Rattle.graph_ops.specs.declared.change_fault.ChangeFault.TheVariants as faults
 use Rattle.graph_session.specs.Answering.{reply_of}
+use Rattle.graph_session.specs.MayStep.{TellsMade}
 use Rattle.graph_session.specs.declared.answer.Answer.{Answer}
 use Rattle.graph_session.specs.declared.answer.Answer.TheVariants as answers
 use Rattle.graph_session.specs.declared.changing.Drafted.{Drafted}
@@ -40,17 +41,8 @@ answer_for faults.Disk = answers.DiskFailed
 answer_for (faults.Damaged damage) = answers.Damaged damage
 
 -- the answer of a change that is made
-abbrev pub TellsChange : Answer → Type 0
-TellsChange answers.Done = Unit {0}
-TellsChange (answers.NodeMade id) = Unit {0}
-TellsChange (answers.EdgeMade id) = Unit {0}
-TellsChange (answers.Counted counts) = ⊥
-TellsChange answers.Sound = ⊥
-TellsChange (answers.Broken damage) = ⊥
-TellsChange (answers.Refused why) = ⊥
-TellsChange answers.NoMemory = ⊥
-TellsChange answers.DiskFailed = ⊥
-TellsChange (answers.Damaged damage) = ⊥
+abbrev pub TellsChange : Command → Answer → Type 0
+TellsChange command answer = TellsMade command (reply_of answer)
 
 -- the command is refused so by the graph of the space
 abbrev pub Refuses : Command → Space → Refusal → Type 0
@@ -93,7 +85,7 @@ module _ {D : Type 0} {g : Ghosts D} where
 
   -- what came of drafting
   abbrev pub Drafts : Command → Session D g → Session D g → Result Drafted Answer → Type 0
-  Drafts command old new (Ok made) = TellsChange made.answer
+  Drafts command old new (Ok made) = TellsChange command made.answer
       × (g.tells_reads → HasStore old → HasDraft command old new made)
   Drafts command old new (Err why) = IsStopped command old new.store.base.disk.now why
 

@@ -4,8 +4,11 @@ pub mod Console
 pub mod DiskUse
 pub mod Drafting
 pub mod EdgeResults
+pub mod Effects
 pub mod Exchange
+pub mod Known
 pub mod LineBuffer
+pub mod MayStep
 pub mod Moments
 pub mod Naming
 pub mod Opening

@@ -1,5 +1,5 @@
 -- What opening a session comes to.
-use Rattle.std.specs.Prelude.{◌≡◌, ◌⊎◌, ◌≤◌, None}
+use Rattle.std.specs.Prelude.{◌≡◌, ◌⊎◌, ◌≤◌, Bool, None}
 use Rattle.fault_count.specs.Cause.{Rose}
 use Rattle.disk_model.specs.Contents.{Files}
 use Rattle.disk_model.specs.Spans.{AtEachMoment, OnlyReads}
@@ -20,7 +20,8 @@ use Rattle.txn_core.specs.declared.open_fault.OpenFault.{OpenFault}
 use Rattle.txn_core.specs.declared.open_fault.OpenFault.TheVariants as faults
 use Rattle.txn_core.specs.Opening.{IsOldOrRaised, IsRefusal, IsStore, OnlyDiffers, RefusesOpening}
 use Rattle.name_store.specs.Loading.{IsNameDamage}
-use Rattle.graph_session.specs.Console.{IsAt, SessionView, TellsAll}
+use Rattle.graph_session.specs.Console.{HasNoDraft, IsAt, SessionView, TellsAll}
+use Rattle.graph_session.specs.Known.{as_known}
 use Rattle.graph_session.specs.Stands.{IsMade, Stands}
 use Rattle.graph_session.specs.State.{Live, State}
 
@@ -64,13 +65,16 @@ LeavesByOpening g config old new =
     TellsAll g → IsRecoverable (g.reads old)
     → AtEachMoment g old new (LeavesOldOrSame (g.reads old) (g.may_leave old) config)
 
--- A session was opened. Where what the disk reads stands for a graph, it is at a state that it
--- begins with.
+-- A session was opened. Where what the disk reads stands for a graph, or isn't known, it is at a
+-- state that it begins with.
 pub record Opens {D : Type 0} (g : Ghosts D) (config : Config) (old : D) (new : SessionView D)
     : Type 0 where
-  pub begins : (g.tells_reads → StandsForOne g old) → (state : State) × StartsAs g old config state
-      × IsAt g new state
+  pub begins : (known : Bool)
+      → ((as_known known g).tells_reads → StandsForOne (as_known known g) old)
+      → (state : State) × StartsAs (as_known known g) old config state
+      × IsAt (as_known known g) new state
   pub recoverable : g.tells_reads → IsRecoverable (g.reads old)
+  pub no_draft : HasNoDraft new
   pub crash : LeavesByOpening g config old new.disk
   pub later : g.faults old ≤ g.faults new.disk
 

@@ -19,6 +19,7 @@ module _ {D : Type 0} {g : Ghosts D} where
       names = session.names.names;
       committed = committed session.store;
       working = working session.store;
+      written = session.store.base.own.pairs;
       draft = session.store.draft.pairs;
     };
     disk = session.store.base.disk.now;

@@ -1,27 +1,22 @@
 -- What a call says that settles a line of a command.
-use Rattle.std.specs.Prelude.{◌≡◌, ◌⊎◌, ◌≤◌, ℕ, Option, None, Some, List}
+use Rattle.std.specs.Prelude.{Bool, ℕ, Option, None, Some, List}
 use Rattle.disk_model.specs.declared.disk.Disk.{Ghosts}
 use Rattle.stream_io.specs.declared.streams.Sink.{Ghosts as SinkGhosts}
 use Rattle.stream_io.specs.Lines.{Whole}
-use Rattle.plain_graph.specs.Reply.{Reply}
+use Rattle.plain_graph.specs.Reply.{Reply, reply_text}
 use Rattle.plain_graph.specs.declared.command.Command.{Command}
 use Rattle.plain_graph.specs.declared.command.Command.TheVariants as commands
 use Rattle.plain_graph.specs.declared.refusal.Refusal.{Refusal}
 use Rattle.gremlin_parse.specs.declared.line_fault.LineFault.{LineFault}
 use Rattle.graph_session.specs.declared.answer.Answer.{Answer}
 use Rattle.graph_session.specs.declared.answer.Answer.TheVariants as answers
-use Rattle.graph_session.specs.Answer.{Answers, Settles, Terminal}
-use Rattle.graph_session.specs.Console.{ConsoleView, IsAt, Onward, SessionView}
+use Rattle.graph_session.specs.Answer.{Gives, Settles, Terminal}
+use Rattle.graph_session.specs.Console.{HasNoDraft, IsAt, Onward, SessionView}
+use Rattle.graph_session.specs.Known.{as_known}
+use Rattle.graph_session.specs.MayStep.{IsServed, MayAnswer}
 use Rattle.graph_session.specs.Refusals.{SpellsOnly, refusal_of}
 use Rattle.graph_session.specs.State.{State}
-use Rattle.graph_session.specs.declared.health.Health.TheVariants as healths
 use Rattle.graph_session.specs.declared.turn.Turn.{Turn}
-use Rattle.graph_session.specs.declared.turn.Turn.TheVariants.{SinkFault}
-use Rattle.fault_count.specs.Cause.{Rose}
-
--- a console that the disk has failed serves `reopen` alone
-abbrev pub IsServed : ConsoleView → Command → Type 0
-IsServed console command = (console.health ≡ healths.Live) ⊎ (command ≡ commands.Reopen)
 
 -- the answer of a line that spells no command: want of memory, or a refusal
 abbrev pub told_by : Option Refusal → Answer
@@ -48,19 +43,19 @@ IsPlain (commands.Expand id direction label) = ⊥
 IsPlain (commands.Query query) = ⊥
 IsPlain _ = Unit {0}
 
--- A session settles each line that spells just this command, from each state that it is at.
+-- A session settles each line that spells just this command, from each state that it is at. What it
+-- does over any disk is said beside it.
 pub record SettlesCommand {D : Type 0} (g : Ghosts D) (command : Command) (old new : SessionView D)
     (reply : Reply) : Type 0 where
-  pub settles : (line : List ℕ) (state : State) → SpellsOnly line command
-      → IsServed old.console command → IsAt g old state → Settles g (Whole line) old new state reply
+  pub settles : (known : Bool) (line : List ℕ) (state : State) → SpellsOnly line command
+      → IsServed old.console command → IsAt (as_known known g) old state
+      → Settles (as_known known g) (Whole line) old new state reply
+  pub may : HasNoDraft old → MayAnswer g command old reply new
   pub onward : Onward g old new
 
--- A session answers each line that spells just this command, from each state that it is at.
+-- A session settles each line that spells just this command, and its reply was given to the sink.
 pub record AnswersCommand {D K : Type 0} (g : Ghosts D) (sink : SinkGhosts K) (command : Command)
     (old new : Terminal D K) (turn : Turn) : Type 0 where
-  pub answers : (line : List ℕ) (state : State) → SpellsOnly line command
-      → IsServed old.session.console command → IsAt g old.session state
-      → Answers g sink (Whole line) old new turn state
-  pub cause : turn ≡ SinkFault → Rose (sink.faults old.output) (sink.faults new.output)
-  pub later : sink.faults old.output ≤ sink.faults new.output
-  pub onward : Onward g old.session new.session
+  pub reply : Reply
+  pub settles : SettlesCommand g command old.session new.session reply
+  pub gives : Gives sink (reply_text reply) old.output new.output turn

@@ -1,5 +1,5 @@
 -- What a line is answered with that asks whether the store keeps its rules, whatever is in it.
-use Rattle.std.specs.Prelude.{◌≡◌, List, []}
+use Rattle.std.specs.Prelude.{◌≡◌, []}
 use Rattle.stream_io.specs.declared.streams.Sink.{Ghosts as SinkGhosts}
 use Rattle.plain_graph.specs.Reply.{Broken, Counted, DamagedRecord, DiskFailed, Done, EdgeMade}
 use Rattle.plain_graph.specs.Reply.{Fault, Faulted, NoMemory, NodeMade, PastCount, Refused, Reply}

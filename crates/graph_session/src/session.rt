@@ -3,6 +3,7 @@ ghost use Rattle.stream_io.specs.Lines.{Long, Whole};
 ghost use Rattle.recovery.specs.Finding.{IsCareful};
 ghost use Rattle.graph_session.specs.Answer.{AnswersLine};
 ghost use Rattle.graph_session.specs.Answering.{reply_of};
+ghost use Rattle.graph_session.specs.Console.{HasNoDraft};
 ghost use Rattle.graph_session.specs.Refusals.{SpellsOnly};
 ghost use Rattle.plain_graph.specs.Forms.{HasForm};
 ghost use Rattle.graph_session.specs.Settling.{IsLoud, IsPlain, SettlesCommand, told_of};
@@ -51,6 +52,8 @@ impl<'d, D: Disk> Session<'d, D> {
         // `reopen` leaves files that are no store, or a broken one, as they were.
         ensures careful { Spells line.now commands.Reopen
             → IsCareful D.Disk (view self.old).disk (view self.new).disk }
+        // Between two lines no change is drafted, so what `answers` says over any disk holds.
+        ensures no_draft { HasNoDraft (view self.old) → HasNoDraft (view self.new) }
         ensures same_disk { HaveSameDisk self.old self.new }
     {
         match parse_line(self.alloc, line) {
@@ -63,6 +66,7 @@ impl<'d, D: Disk> Session<'d, D> {
     pub fn too_long<K: Sink>(&mut self, output: &mut K) -> Turn
         ensures answers { AnswersLine D.Disk K.Sink Long
             (with_sink self.old output.old) (with_sink self.new output.new) result }
+        ensures no_draft { HasNoDraft (view self.old) → HasNoDraft (view self.new) }
         ensures same_disk { HaveSameDisk self.old self.new }
     {
         give_answer(output, Answer::Refused(Refusal::LongLine))

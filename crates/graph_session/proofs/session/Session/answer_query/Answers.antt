@@ -1,8 +1,11 @@
 use Rattle.std.proofs.Common.{refl}
+use Rattle.graph_session.specs.Session.{view}
+use Rattle.graph_session.proofs.Anyhow.{may-query}
 use Rattle.graph_session.proofs.Asking.{stays-read}
+use Rattle.graph_session.proofs.Moves.{seen_as}
+use Rattle.graph_session.proofs.Knowing.{stays-known, told_of}
 use Rattle.graph_session.proofs.StoreRecords.{drafted-none}
 use Rattle.graph_session.proofs.Queries.{settles-given_query}
-use Rattle.graph_session.proofs.Spelling.{quit-only}
 use Rattle.graph_session.proofs.session.Session.answer_query.Goals as goal
 
 pub returns-clause-answers : goal.returns-clause-answers
@@ -10,15 +13,16 @@ returns-clause-answers g c =
     let given = c.give_query.ensures in
     let s = c.args.self.now in
     record {
-      answers = λ line state only served at. record {
-        reply = given.reply;
-        settles =
-            settles-given_query at c.requires (stays-read s.store c.give_query.new.space given.read.onward given.read.same at.no_draft s.health s.weight s.names.names) only given (λ told. told)
+      reply = given.reply;
+      settles = record {
+        settles = λ known line state only served at.
+            settles-given_query at c.requires (stays-known known (stays-read s.store c.give_query.new.space given.read.onward given.read.same at.no_draft s.health s.weight s.names.names)) only given (λ told. told_of known g.D.Disk told)
             (drafted-none s.store at.no_draft) refl (λ rose. rose);
-        text = given.gives.delivers;
-        quit = (λ e. absurd (given.gives.goes e), λ h. absurd (quit-only only (λ e. cc) h));
+        may = λ none. (
+          may-query g.D.Disk (view s) (seen_as c.give_query.new.space s.health s.weight s.names.names) c.args.query.now given.reply given.form given.told,
+          stays-read s.store c.give_query.new.space given.read.onward given.read.same none s.health s.weight s.names.names,
+        );
+        onward = record { disk_later = given.read.later };
       };
-      cause = given.gives.cause;
-      later = given.gives.later;
-      onward = record { disk_later = given.read.later };
+      gives = given.gives;
     }

@@ -17,7 +17,7 @@ returns-in-Err-clause-unopened g c =
         blank = λ told images unmade. c.in-Err.ensures.left_new told images unmade;
       });
       careful = c.in-Err.ensures.careful;
-      untouched = λ told refusal_is. inl (c.in-Err.ensures.untouched told refusal_is);
+      untouched = λ told refused. inl (c.in-Err.ensures.untouched told refused);
       later = c.in-Err.ensures.later_refused;
       cause = c.in-Err.ensures.cause;
     }
