@@ -1,6 +1,9 @@
 pub mod Admitted
 mod AskedFor
+mod Events
 pub mod Failing
+pub mod Histories
+pub mod Keeping
 pub mod LineLaws
 pub mod Opened
 pub mod Restarts

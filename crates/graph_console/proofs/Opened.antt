@@ -1,5 +1,5 @@
 -- The whole run, by what opening the store came to.
-use Rattle.std.proofs.Common.{◌≡◌, ◌≢◌, ◌⊎◌, ⊎_elim, inl, inr, ℕ, [], List, ◌++◌, take, refl, sym, subst, arith}
+use Rattle.std.proofs.Common.{◌≡◌, ◌≢◌, ◌⊎◌, ⊎_elim, inl, inr, ℕ, ◌≤◌, [], List, ◌++◌, take, refl, sym, subst, arith}
 use Rattle.disk_model.specs.Contents.{Files}
 use Rattle.disk_model.specs.Spans.{AtEachMoment}
 use Rattle.disk_model.specs.declared.disk.Disk.{Ghosts}
@@ -14,7 +14,7 @@ use Rattle.txn_core.specs.declared.open_fault.OpenFault.TheVariants as faults
 use Rattle.console_words.specs.declared.run_options.RunOptions.{RunOptions}
 use Rattle.graph_session.specs.Console.{IsAt, SessionView}
 use Rattle.graph_session.specs.Exchange.{Exchange}
-use Rattle.graph_session.specs.Opening.{IsUnopened, LeavesOldOrSame, Opens, StartsAs}
+use Rattle.graph_session.specs.Opening.{IsUnopened, LeavesByOpening, LeavesOldOrSame, StartsAs}
 use Rattle.graph_session.specs.Stands.{IsAdmitted}
 use Rattle.graph_session.specs.State.{State}
 use Rattle.graph_session.proofs.Openings.{opens_admitted}
@@ -73,11 +73,11 @@ module _ (tells : Type 0) (terms wider : Terms tells) (begins : (state : State) 
   serves_wider exits.InputTooLong input left written s = runs_wider _ s
 
 -- What a session served is served by the program that opened it.
-pub serves_opened : {D : Type 0} (g : Ghosts D) (options : RunOptions) (old : D) (session : SessionView D) (new : D) → Opens g (config_for options) old session → HoldsGraph g old
+pub serves_opened : {D : Type 0} (g : Ghosts D) (options : RunOptions) (old : D) (session : SessionView D) (new : D) → LeavesByOpening g (config_for options) old session.disk → g.faults old ≤ g.faults session.disk → HoldsGraph g old
     → (state : State) → StartsAs g old (config_for options) state → IsAt g session state → (exit : Exit) (old_taken new_taken input left : List ℕ)
     → Writes old_taken new_taken (Serves (terms_from g state session.disk new) exit input left)
     → Writes old_taken new_taken (Serves (terms_for g options old new) exit input left)
-serves_opened g options old session new opens holds state starts is_at exit old_taken new_taken input left w = (
+serves_opened g options old session new leaves later holds state starts is_at exit old_taken new_taken input left w = (
   w.0,
   w.1,
   serves_wider g.tells_reads (terms_from g state session.disk new) (terms_for g options old new)
@@ -86,10 +86,10 @@ serves_opened g options old session new opens holds state starts is_at exit old_
         durable = ends.durable;
         crash = λ told.
             leaves_from g old session.disk new first run last steps
-            (subst (λ (s : State). AtEachMoment g old session.disk (λ content. g.may_leave old content ⊎ IsAdmitted s content)) (sym is) (opens_admitted g old (config_for options) state starts session.disk opens.crash told (holds told.0)))
+            (subst (λ (s : State). AtEachMoment g old session.disk (λ content. g.may_leave old content ⊎ IsAdmitted s content)) (sym is) (opens_admitted g old (config_for options) state starts session.disk leaves told (holds told.0)))
             (λ content left. subst (λ (s : State). IsAdmitted s content) (sym is) (is_at.images told content left))
             (ends.crash told);
-        counts = counts_within (g.faults old) (g.faults session.disk) (g.faults new) (g.faults new) run opens.later ends.counts (omega arith);
+        counts = counts_within (g.faults old) (g.faults session.disk) (g.faults new) (g.faults new) run later ends.counts (omega arith);
       })
       (λ why never. absurd never) exit input left w.0 w.2,
 )

@@ -1,5 +1,5 @@
 -- The store that a sample begins with: a disk of zeros, in which none was made.
-use Rattle.std.proofs.Common.{◌≡◌, inl, ℕ, zero, suc, ◌+◌, List, replicate, refl, subst, ap, None}
+use Rattle.std.proofs.Common.{◌≡◌, inl, ℕ, zero, suc, ◌+◌, true, List, replicate, refl, subst, ap, None}
 use Rattle.disk_model.specs.Contents.{Files, bytes_from}
 use Rattle.disk_model.specs.declared.disk.Disk.{Ghosts}
 use Rattle.plain_graph.specs.Graph.{Graph, empty_graph}
@@ -33,7 +33,7 @@ state_is state threshold limit graph of_threshold of_limit of_graph closed live 
 pub opens_empty : {D : Type 0} (g : Ghosts D) (options : SampleOptions) (config : Config) (old : D) (new : SessionView D) → config ≡ sample_config options → g.tells_reads → IsUnmade (g.reads old) → Opens g config old new → IsAt g new (sample_store options)
 opens_empty g options config old new asked told unmade opens =
     let shape : Shape = record { threshold = 50; limit = options.count + 16 } in
-    let begins = (subst (λ (c : Config). Opens g c old new) asked opens).begins (λ _. record { shape = shape; graph = empty_graph; stands = inl (unmade, refl) }) in
+    let begins = (subst (λ (c : Config). Opens g c old new) asked opens).begins true (λ _. record { shape = shape; graph = empty_graph; stands = inl (unmade, refl) }) in
     subst (λ (state : State). IsAt g new state)
     (state_is begins.0 50 (options.count + 16) empty_graph begins.1.suits.0 begins.1.suits.1 (begins.1.same told shape empty_graph (inl (unmade, refl))) begins.1.closed begins.1.live)
     begins.2

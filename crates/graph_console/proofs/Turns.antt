@@ -1,22 +1,35 @@
 -- What a line's answer says of a turn of the program's loop.
-use Rattle.std.proofs.Common.{◌≡◌, inl, inr, [], Some, refl}
+use Rattle.std.proofs.Common.{◌≡◌, ◌↔◌, Bool, inl, inr, [], Some, refl}
 use Rattle.disk_model.specs.declared.disk.Disk.{Ghosts as DiskGhosts}
 use Rattle.disk_model.proofs.Spans.{OnlyNow}
 use Rattle.stream_io.specs.Lines.{InputLine}
+use Rattle.plain_graph.specs.Reply.{Reply, reply_text}
 use Rattle.stream_io.specs.Answers.{TakesLine}
 use Rattle.stream_io.specs.declared.streams.Sink.{Ghosts as SinkGhosts}
 use Rattle.stream_io.specs.declared.streams.Source.{Ghosts as SourceGhosts}
-use Rattle.graph_session.specs.Answer.{Answers, Terminal}
+use Rattle.graph_session.specs.Answer.{AnswersLine, Delivers, Settles, Terminal}
 use Rattle.graph_session.specs.Console.{IsAt, SessionView}
 use Rattle.graph_session.specs.Exchange.{Exchange}
+use Rattle.graph_session.specs.Known.{as_known}
 use Rattle.graph_session.specs.Moments.{ComesTo}
-use Rattle.graph_session.specs.State.{State, health_at}
+use Rattle.graph_session.specs.State.{IsQuit, State, health_at}
 use Rattle.graph_session.specs.declared.health.Health.{Health}
 use Rattle.graph_session.specs.declared.health.Health.TheVariants.{Live, Failed}
 use Rattle.graph_session.specs.declared.turn.Turn.{Turn}
 use Rattle.graph_session.specs.declared.turn.Turn.TheVariants.{Go, Quit, SinkFault}
 use Rattle.graph_session.proofs.Staying.{comes-stays, stays-none}
 use Rattle.graph_console.specs.Serve.{Exchanges, Loop, Progress, TurnSays, bytes_ahead, exit_after_turn, exit_at_end, progress}
+
+-- The line was settled from a state, and its reply given to the sink.
+pub record Answers {D K : Type 0} (disk : DiskGhosts D) (sink : SinkGhosts K) (line : InputLine) (old new : Terminal D K) (turn : Turn) (before : State) : Type 0 where
+  pub reply : Reply
+  pub settles : Settles disk line old.session new.session before reply
+  pub text : sink.tells → Delivers turn (sink.taken old.output) (sink.taken new.output) (reply_text reply)
+  pub quit : (turn ≡ Quit) ↔ IsQuit line
+
+pub answers_at : {D K : Type 0} {disk : DiskGhosts D} {sink : SinkGhosts K} {line : InputLine} {old new : Terminal D K} {turn : Turn} → AnswersLine disk sink line old new turn
+    → (known : Bool) (state : State) → IsAt (as_known known disk) old.session state → Answers (as_known known disk) sink line old new turn state
+answers_at answers known state at = record { reply = answers.reply; settles = answers.settles known state at; text = answers.text; quit = answers.quit }
 
 -- the terminal of a loop
 abbrev pub terminal_of : {S K D : Type 0} → Loop S K D → Terminal D K

@@ -1,4 +1,6 @@
 pub mod Exit
+pub mod History
+pub mod Lives
 pub mod Program
 pub mod Run
 pub mod Sample

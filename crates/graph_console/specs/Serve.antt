@@ -1,5 +1,5 @@
 -- What one turn of the program's loop does.
-use Rattle.std.specs.Prelude.{◌≡◌, ◌≢◌, ◌⊎◌, ℕ, ◌^◌, true, List, [], ◌++◌, Option, Some, None}
+use Rattle.std.specs.Prelude.{◌≡◌, ◌≢◌, ◌⊎◌, ℕ, ◌^◌, Bool, true, List, [], ◌++◌, Option, Some, None}
 use Rattle.fault_count.specs.Cause.{Rose}
 use Rattle.disk_model.specs.declared.disk.Disk.{Ghosts as DiskGhosts}
 use Rattle.stream_io.specs.Answers.{TakesLine, Drops, Stops}
@@ -10,6 +10,7 @@ use Rattle.stream_io.specs.declared.streams.Source.{Ghosts as SourceGhosts}
 use Rattle.plain_graph.specs.Reply.{reply_text}
 use Rattle.graph_session.specs.Console.{IsAt, SessionView}
 use Rattle.graph_session.specs.Exchange.{Exchange, TakesStep}
+use Rattle.graph_session.specs.Known.{as_known}
 use Rattle.graph_session.specs.Moments.{ComesTo}
 use Rattle.graph_session.specs.State.{State, IsQuit, health_at}
 use Rattle.graph_session.specs.declared.health.Health.{Health}
@@ -120,6 +121,8 @@ module _ {S K D : Type 0}
     (source : SourceGhosts S) (sink : SinkGhosts K) (disk : DiskGhosts D) where
   abbrev pub Turns : Option Exit → Loop S K D → Loop S K D → Type 0
   Turns exit old new =
-      (state : State) → IsAt disk old.session state → source.tells → sink.tells
-      → TurnSays disk.tells_reads state (ComesTo disk old.session new.session state)
+      (known : Bool) (state : State) → IsAt (as_known known disk) old.session state
+      → source.tells → sink.tells
+      → TurnSays (as_known known disk).tells_reads state
+      (ComesTo (as_known known disk) old.session new.session state)
       (progress source sink disk old) (progress source sink disk new) exit

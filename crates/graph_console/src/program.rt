@@ -1,4 +1,4 @@
-ghost use Rattle.std.specs.Prelude.{◌≡◌, ◌≢◌, ◌⊎◌, map, string_bytes, true};
+ghost use Rattle.std.specs.Prelude.{Bool, ◌≡◌, ◌≢◌, ◌⊎◌, ◌+◌, ◌^◌, ◌≤◌, length, map, string_bytes, true};
 ghost use Rattle.fault_count.specs.Cause.{Rose};
 ghost use Rattle.console_words.specs.Words.{AsksFor};
 ghost use Rattle.console_words.specs.declared.run_options.RunOptions.{RunOptions};
@@ -8,6 +8,7 @@ ghost use Rattle.rec_bytes.specs.Shape.{is_allowed};
 ghost use Rattle.rec_bytes.specs.declared.shape.Shape.{Shape};
 ghost use Rattle.txn_core.specs.Config.{Suits, shape_of};
 ghost use Rattle.recovery.specs.Finding.{IsCareful};
+ghost use Rattle.graph_session.specs.Known.{as_known};
 ghost use Rattle.graph_session.specs.Opening.{IsUnopened, LeavesRefused, StandsForOne};
 ghost use Rattle.graph_session.specs.Stands.{Stands};
 ghost use Rattle.graph_console.specs.Program.{AskForNothing, AskForSample, EndsWithLine};
@@ -44,11 +45,13 @@ pub fn graph_main<S: Source, K: Sink, D: Disk>(
     // exit says. The run starts with the graph that the disk holds. At its end each content that a
     // crash may leave stands for a graph that the run's last state admits. At each moment it left a
     // content from before, or one that a state of the run admits. No opening reads each record, so
-    // this is said of a disk that stands for a graph.
-    ensures serves { (options : RunOptions)
+    // this is said of a disk that stands for a graph; of any other, and where what the disk reads
+    // is not known, the lines, the exits, the order of the replies and the counted faults are said.
+    ensures serves { (known : Bool) (options : RunOptions)
         → AsksFor (map string_bytes words.items) (Asked.Run options)
-        → HoldsGraph D.Disk disk.old
-        → ServesOn S.Source K.Sink (terms_for D.Disk options disk.old disk.new) result
+        → HoldsGraph (as_known known D.Disk) disk.old
+        → ServesOn S.Source K.Sink
+        (terms_for (as_known known D.Disk) options disk.old disk.new) result
         (streams input.old output.old) (streams input.new output.new) }
 
     // Where the store was not opened, one line says why, and the disk holds what it held or a new
@@ -88,6 +91,10 @@ pub fn graph_main<S: Source, K: Sink, D: Disk>(
     ensures refused { AskForNothing (map string_bytes words.items)
         → (result ≡ Exit.Usage) ⊎ (result ≡ Exit.OutputFault) ⊎ (result ≡ Exit.NoMemory) }
 
+    // At most 2^30 bytes are taken from the input.
+    ensures within { S.tells
+        → length (S.left input.old) ≤ 2 ^ 30 + length (S.left input.new) }
+
     // Where nothing is served, and by a sample, neither the input is read nor the disk used.
     ensures unread { AskForNothing (map string_bytes words.items)
         ⊎ AskForSample (map string_bytes words.items) ⊎ IsUnopenedExit result
@@ -125,8 +132,9 @@ fn run<S: Source, K: Sink, D: Disk>(
     disk: &mut D,
 ) -> Exit
     requires { is_allowed (shape_of (config_for options)) ≡ true }
-    ensures serves { HoldsGraph D.Disk disk.old
-        → ServesOn S.Source K.Sink (terms_for D.Disk options disk.old disk.new) result
+    ensures serves { (known : Bool) → HoldsGraph (as_known known D.Disk) disk.old
+        → ServesOn S.Source K.Sink
+        (terms_for (as_known known D.Disk) options disk.old disk.new) result
         (streams input.old output.old) (streams input.new output.new) }
     ensures unopened { IsUnopenedExit result → K.tells
         → Writes (K.taken output.old) (K.taken output.new) (EndsUnopened
@@ -138,6 +146,8 @@ fn run<S: Source, K: Sink, D: Disk>(
         → Stands (D.reads disk.old) shape graph
         → (result ≢ Exit.BadFiles)
         × (result ≡ Exit.ConfigDiffers → ¬ Suits (config_for options) shape) }
+    ensures within { S.tells
+        → length (S.left input.old) ≤ 2 ^ 30 + length (S.left input.new) }
     ensures known { result ≢ Exit.Usage }
     ensures unread { IsUnopenedExit result → input.new ≡ input.old }
     ensures cause { HasStreamCause S.Source K.Sink result
@@ -175,7 +185,7 @@ fn config_of(options: RunOptions) -> Config
 }
 
 /// Ends the program for want of memory, before the input is read.
-pub(crate) fn end_without_memory<K: Sink>(output: &mut K) -> Exit
+pub fn end_without_memory<K: Sink>(output: &mut K) -> Exit
     ensures { EndsWithLine K.Sink memory_line Exit.NoMemory output.old output.new result }
 {
     end_with_line(output, no_memory(), Exit::NoMemory)

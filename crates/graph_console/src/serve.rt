@@ -1,6 +1,7 @@
-ghost use Rattle.std.specs.Prelude.{◌≡◌, ◌+◌, ◌^◌, ◌<◌, ◌≤◌, false, length, IfNone, IfSome};
+ghost use Rattle.std.specs.Prelude.{Bool, ◌≡◌, ◌+◌, ◌^◌, ◌<◌, ◌≤◌, false, length, IfNone, IfSome};
 ghost use Rattle.stream_io.specs.Reading.{IsFresh, used};
 ghost use Rattle.graph_session.specs.Console.{IsAt, Onward};
+ghost use Rattle.graph_session.specs.Known.{as_known};
 ghost use Rattle.graph_session.specs.Session.{HaveSameDisk, view};
 ghost use Rattle.graph_session.specs.State.{State};
 ghost use Rattle.graph_console.specs.Program.{HasStreamCause, ServesOn, streams, terms_from};
@@ -19,10 +20,14 @@ pub(crate) fn serve<S: Source, K: Sink, D: Disk>(
     output: &mut K,
 ) -> Exit
     requires fresh { IsFresh reader.old }
-    ensures serves { (first : State) → IsAt D.Disk (view session.old) first
-        → ServesOn S.Source K.Sink
-        (terms_from D.Disk first (view session.old).disk (view session.new).disk) result
+    ensures serves { (known : Bool) (first : State)
+        → IsAt (as_known known D.Disk) (view session.old) first
+        → ServesOn S.Source K.Sink (terms_from (as_known known D.Disk) first
+        (view session.old).disk (view session.new).disk) result
         (streams input.old output.old) (streams input.new output.new) }
+    // At most 2^30 bytes are taken from the input.
+    ensures within { S.tells
+        → length (S.left input.old) ≤ 2 ^ 30 + length (S.left input.new) }
     ensures exits { IsRunExit result }
     ensures cause { HasStreamCause S.Source K.Sink result
         (streams input.old output.old) (streams input.new output.new) }
@@ -47,6 +52,7 @@ fn serve_line<S: Source, K: Sink, D: Disk>(
         (loop reader.new input.new output.new (view session.new)) }
     ensures counted { S.tells → reader.new.taken + length (S.left input.new)
         ≡ reader.old.taken + length (S.left input.old) }
+    ensures limit { reader.new.taken ≤ 2 ^ 30 }
     ensures stays_ended { reader.new.ended ≡ false → reader.old.ended ≡ false }
     ensures goes_on { IfNone result
         ((used reader.old < used reader.new) × (used reader.new ≤ 2 ^ 30)) }

@@ -5,6 +5,7 @@ use Rattle.txn_core.specs.declared.open_fault.OpenFault.TheVariants.{Memory}
 use Rattle.console_words.specs.declared.asked.Asked.TheVariants.{Run, Sample}
 use Rattle.console_words.specs.declared.run_options.RunOptions.{RunOptions}
 use Rattle.console_words.specs.declared.sample_options.SampleOptions.{SampleOptions}
+use Rattle.graph_session.specs.Known.{as_known}
 use Rattle.graph_session.specs.Opening.{IsUnopened}
 use Rattle.graph_console.specs.Program.{Serves, Writes, config_for, terms_for}
 use Rattle.graph_console.specs.Sample.{Samples}
@@ -15,7 +16,7 @@ use Rattle.graph_console.proofs.Samples.{ends_first}
 use Rattle.graph_console.proofs.program.graph_main.Goals as goal
 
 pub returns-in-Err-Usage-clause-serves : goal.returns-in-Err-Usage-clause-serves
-returns-in-Err-Usage-clause-serves g c = λ options asks holds s k. absurd (rw c.deref.ensures.value at (c.in-Err-Usage.ensures.usage (ap Err c.in-Err-Usage.field-0-is)) (Run options) asks)
+returns-in-Err-Usage-clause-serves g c = λ known options asks holds s k. absurd (rw c.deref.ensures.value at (c.in-Err-Usage.ensures.usage (ap Err c.in-Err-Usage.field-0-is)) (Run options) asks)
 
 pub returns-in-Err-Usage-clause-usage : goal.returns-in-Err-Usage-clause-usage
 returns-in-Err-Usage-clause-usage g c = λ is. rw c.deref.ensures.value at (c.in-Err-Usage.ensures.usage (ap Err c.in-Err-Usage.field-0-is))
@@ -34,8 +35,8 @@ returns-in-Err-Memory-clause-samples g c = λ options asks k.
     ends_first (Unit {0}) options _ _ c.end_without_memory.result (c.end_without_memory.ensures.written k)
 
 pub returns-in-Err-Memory-clause-serves : goal.returns-in-Err-Memory-clause-serves
-returns-in-Err-Memory-clause-serves g c = λ options asks holds s k.
-    serves_unopened g.D.Disk.tells_reads (terms_for g.D.Disk options c.args.disk.now c.args.disk.now) Memory (unopened_memory g.D.Disk g.met.D.Disk.only_now (config_for options) c.args.disk.now)
+returns-in-Err-Memory-clause-serves g c = λ known options asks holds s k.
+    serves_unopened (as_known known g.D.Disk).tells_reads (terms_for (as_known known g.D.Disk) options c.args.disk.now c.args.disk.now) Memory (unopened_memory (as_known known g.D.Disk) g.met.D.Disk.only_now (config_for options) c.args.disk.now)
     _ _ c.end_without_memory.result _ _ (c.end_without_memory.ensures.written k)
 
 pub returns-in-Err-Memory-clause-unopened : goal.returns-in-Err-Memory-clause-unopened
@@ -47,12 +48,12 @@ pub run-requires : goal.run-requires
 run-requires g c = run_allowed _ c.in-Run.options c.in-Ok.asked c.in-Ok.ensures.taken c.in-Run.is
 
 pub returns-in-Run-clause-serves : goal.returns-in-Run-clause-serves
-returns-in-Run-clause-serves g c = λ options asks holds s k.
+returns-in-Run-clause-serves g c = λ known options asks holds s k.
     let same : options ≡ c.in-Run.options = same_run options c.in-Run.options c.in-Ok.asked (rw c.deref.ensures.value at c.in-Ok.ensures.only (Run options) asks) c.in-Run.is in
     subst
     (λ (o : RunOptions). Writes (g.K.Sink.taken c.args.output.now) (g.K.Sink.taken c.run.new.output)
-    (Serves (terms_for g.D.Disk o c.args.disk.now c.run.new.disk) c.run.result (g.S.Source.left c.args.input.now) (g.S.Source.left c.run.new.input)))
-    (sym same) (c.run.ensures.serves holds s k)
+    (Serves (terms_for (as_known known g.D.Disk) o c.args.disk.now c.run.new.disk) c.run.result (g.S.Source.left c.args.input.now) (g.S.Source.left c.run.new.input)))
+    (sym same) (c.run.ensures.serves known holds s k)
 
 pub returns-in-Run-clause-unopened : goal.returns-in-Run-clause-unopened
 returns-in-Run-clause-unopened g c = λ options asks ends k.
@@ -111,7 +112,7 @@ pub sample-requires : goal.sample-requires
 sample-requires g c = sample_within _ c.in-Sample.options c.in-Ok.asked c.in-Ok.ensures.taken c.in-Sample.is
 
 pub returns-clause-serves : goal.returns-clause-serves
-returns-clause-serves g c = λ options asks holds s k. absurd (run-not_sample options c.in-Sample.options c.in-Ok.asked (rw c.deref.ensures.value at c.in-Ok.ensures.only (Run options) asks) c.in-Sample.is)
+returns-clause-serves g c = λ known options asks holds s k. absurd (run-not_sample options c.in-Sample.options c.in-Ok.asked (rw c.deref.ensures.value at c.in-Ok.ensures.only (Run options) asks) c.in-Sample.is)
 
 pub returns-clause-unopened : goal.returns-clause-unopened
 returns-clause-unopened g c = λ options asks ends k. absurd (run-not_sample options c.in-Sample.options c.in-Ok.asked (rw c.deref.ensures.value at c.in-Ok.ensures.only (Run options) asks) c.in-Sample.is)

@@ -1,12 +1,14 @@
-use Rattle.std.proofs.Common.{◌≡◌, inl, inr, subst, rules}
+use Rattle.std.proofs.Common.{◌≡◌, inl, inr, true, subst, rules}
 use Rattle.disk_model.proofs.Spans.{only_reads_none}
 use Rattle.recovery.specs.Finding.{IsCareful}
 use Rattle.fault_count.specs.Cause.{Rose}
 use Rattle.txn_core.specs.Config.{Suits}
 use Rattle.txn_core.specs.declared.config.Config.{Config}
 use Rattle.txn_core.specs.declared.open_fault.OpenFault.TheVariants.{Memory}
+use Rattle.graph_session.specs.Known.{as_known}
 use Rattle.graph_session.specs.Opening.{IsUnopened, LeavesRefused, Opens}
 use Rattle.graph_session.specs.Session.{view}
+use Rattle.graph_session.proofs.Knowing.{leaves-known, unopened-known}
 use Rattle.graph_console.specs.Program.{Serves, Writes, config_for, terms_for}
 use Rattle.graph_console.specs.Unopened.{EndsUnopened}
 use Rattle.graph_console.proofs.Failing.{failed_rose}
@@ -14,8 +16,8 @@ use Rattle.graph_console.proofs.Opened.{at_equal, bad_files, disk_failed, ends_u
 use Rattle.graph_console.proofs.program.run.Goals as goal
 
 pub returns-in_default-clause-serves : goal.returns-in_default-clause-serves
-returns-in_default-clause-serves g c = λ holds s k.
-    serves_unopened g.D.Disk.tells_reads (terms_for g.D.Disk c.args.options c.args.disk.now c.args.disk.now) Memory (unopened_memory g.D.Disk g.met.D.Disk.only_now (config_for c.args.options) c.args.disk.now)
+returns-in_default-clause-serves g c = λ known holds s k.
+    serves_unopened (as_known known g.D.Disk).tells_reads (terms_for (as_known known g.D.Disk) c.args.options c.args.disk.now c.args.disk.now) Memory (unopened_memory (as_known known g.D.Disk) g.met.D.Disk.only_now (config_for c.args.options) c.args.disk.now)
     _ _ c.end_without_memory.result _ _ (c.end_without_memory.ensures.written k)
 
 pub returns-in_default-clause-unopened : goal.returns-in_default-clause-unopened
@@ -24,31 +26,31 @@ returns-in_default-clause-unopened g c = λ ends k.
     _ _ c.end_without_memory.result ends (c.end_without_memory.ensures.written k)
 
 pub returns-in-Ok-open-clause-serves : goal.returns-in-Ok-open-clause-serves
-returns-in-Ok-open-clause-serves g c = λ holds s k.
+returns-in-Ok-open-clause-serves g c = λ known holds s k.
     let config_is : c.config_of.result ≡ config_for c.args.options = c.config_of.ensures in
     let opens = subst (λ (config : Config). Opens g.D.Disk config c.args.disk.now (view c.in-Ok-open.session)) config_is c.in-Ok-open.ensures.opened in
-    let begins = opens.begins holds in
+    let begins = opens.begins known holds in
     at_equal
     (λ (disk : g.row.D.Denot). Writes (g.K.Sink.taken c.args.output.now) (g.K.Sink.taken c.serve-exit.new.output)
-    (Serves (terms_for g.D.Disk c.args.options c.args.disk.now disk) c.serve-exit.result (g.S.Source.left c.args.input.now) (g.S.Source.left c.serve-exit.new.input)))
+    (Serves (terms_for (as_known known g.D.Disk) c.args.options c.args.disk.now disk) c.serve-exit.result (g.S.Source.left c.args.input.now) (g.S.Source.left c.serve-exit.new.input)))
     (view c.serve-exit.new.session).disk _
-    (serves_opened g.D.Disk c.args.options c.args.disk.now (view c.in-Ok-open.session) (view c.serve-exit.new.session).disk opens holds begins.0 begins.1 begins.2 c.serve-exit.result _ _ _ _
-    (c.serve-exit.ensures.serves begins.0 begins.2 s k))
+    (serves_opened (as_known known g.D.Disk) c.args.options c.args.disk.now (view c.in-Ok-open.session) (view c.serve-exit.new.session).disk (leaves-known known g.D.Disk (config_for c.args.options) c.args.disk.now (view c.in-Ok-open.session).disk opens.crash) opens.later holds begins.0 begins.1 begins.2 c.serve-exit.result _ _ _ _
+    (c.serve-exit.ensures.serves known begins.0 begins.2 s k))
     (search rules)
 
 pub returns-in-Ok-open-clause-store_failed : goal.returns-in-Ok-open-clause-store_failed
 returns-in-Ok-open-clause-store_failed g c = λ told stands s k is.
-    failed_rose g.D.Disk c.args.options c.args.disk.now _ told c.serve-exit.result _ _ _ _ (returns-in-Ok-open-clause-serves g c (λ _. stands) s k) is
+    failed_rose g.D.Disk c.args.options c.args.disk.now _ told c.serve-exit.result _ _ _ _ (returns-in-Ok-open-clause-serves g c true (λ _. stands) s k) is
 
 pub returns-clause-serves : goal.returns-clause-serves
-returns-clause-serves g c = λ holds s k.
+returns-clause-serves g c = λ known holds s k.
     let config_is : c.config_of.result ≡ config_for c.args.options = c.config_of.ensures in
     let unopened = subst (λ (config : Config). IsUnopened g.D.Disk config c.args.disk.now c.in-Err.field-0.disk.now c.in-Err.field-0.why) config_is c.in-Err.ensures.unopened in
     at_equal
     (λ (disk : g.row.D.Denot). Writes (g.K.Sink.taken c.args.output.now) (g.K.Sink.taken c.end_unopened.new.output)
-    (Serves (terms_for g.D.Disk c.args.options c.args.disk.now disk) c.end_unopened.result (g.S.Source.left c.args.input.now) (g.S.Source.left c.args.input.now)))
+    (Serves (terms_for (as_known known g.D.Disk) c.args.options c.args.disk.now disk) c.end_unopened.result (g.S.Source.left c.args.input.now) (g.S.Source.left c.args.input.now)))
     c.in-Err.field-0.disk.now _
-    (serves_unopened g.D.Disk.tells_reads (terms_for g.D.Disk c.args.options c.args.disk.now c.in-Err.field-0.disk.now) c.in-Err.field-0.why unopened _ _ c.end_unopened.result _ _ (c.end_unopened.ensures.written k))
+    (serves_unopened (as_known known g.D.Disk).tells_reads (terms_for (as_known known g.D.Disk) c.args.options c.args.disk.now c.in-Err.field-0.disk.now) c.in-Err.field-0.why (unopened-known known unopened) _ _ c.end_unopened.result _ _ (c.end_unopened.ensures.written k))
     (search rules)
 
 pub returns-clause-unopened : goal.returns-clause-unopened

@@ -2,6 +2,7 @@ use Rattle.std.proofs.Common.{◌≡◌, ◌∙◌, ◌++◌, inl, refl, arith}
 use Rattle.plain_graph.specs.Reply.{reply_text}
 use Rattle.graph_session.specs.State.{IsQuit}
 use Rattle.disk_model.proofs.Spans.{at_each_moment_none}
+use Rattle.graph_session.specs.Known.{as_known}
 use Rattle.graph_session.specs.Session.{view}
 use Rattle.graph_console.specs.Program.{terms_from}
 use Rattle.graph_console.specs.Serve.{Progress, loop, progress}
@@ -12,11 +13,12 @@ use Rattle.graph_console.proofs.serve.serve.Goals as goal
 
 pub lines-init : goal.lines-init
 lines-init g c = record {
-  serving = λ first is_at s k.
-      serving_first g.D.Disk.tells_reads first _ (progress g.S.Source g.K.Sink g.D.Disk (loop c.args.reader.now c.args.input.now c.args.output.now (view c.args.session.now))) (record {
+  serving = λ known first is_at s k.
+      serving_first (as_known known g.D.Disk).tells_reads first _ (progress g.S.Source g.K.Sink g.D.Disk (loop c.args.reader.now c.args.input.now c.args.output.now (view c.args.session.now))) (record {
         is_at = is_at;
-        crash = λ told. at_each_moment_none g.D.Disk (view c.args.session.now).disk _ g.met.D.Disk.only_now told.1 (λ image left. inl left);
+        crash = λ told. at_each_moment_none (as_known known g.D.Disk) (view c.args.session.now).disk _ g.met.D.Disk.only_now told.1 (λ image left. inl left);
       }) c.requires.fresh;
+  counted = λ s. refl;
   onward = onward_none;
   input_later = omega arith;
   output_later = omega arith;
@@ -24,29 +26,33 @@ lines-init g c = record {
 }
 
 pub returns-in-Some-clause-serves : goal.returns-in-Some-clause-serves
-returns-in-Some-clause-serves g c = λ first is_at s k.
+returns-in-Some-clause-serves g c = λ known first is_at s k.
     let start : Progress = progress g.S.Source g.K.Sink g.D.Disk (loop c.args.reader.now c.args.input.now c.args.output.now (view c.args.session.now)) in
     let old : Progress = progress g.S.Source g.K.Sink g.D.Disk (loop c.lines.reader c.lines.input c.lines.output (view c.lines.session)) in
     let new : Progress = progress g.S.Source g.K.Sink g.D.Disk (loop c.serve_line.new.reader c.serve_line.new.input c.serve_line.new.output (view c.serve_line.new.session)) in
-    let so_far = c.lines.invariant.serving first is_at s k in
-    served g.D.Disk.tells_reads first _ _ _ start old new so_far (carries (view c.serve_line.new.session) so_far.steps so_far.arrives)
-    (terms_from g.D.Disk first (view c.args.session.now).disk (view c.serve_line.new.session).disk) refl
+    let so_far = c.lines.invariant.serving known first is_at s k in
+    served (as_known known g.D.Disk).tells_reads first _ _ _ start old new so_far (carries {g = as_known known g.D.Disk} (view c.serve_line.new.session) so_far.steps so_far.arrives)
+    (terms_from (as_known known g.D.Disk) first (view c.args.session.now).disk (view c.serve_line.new.session).disk) refl
     (λ run last since counts. record { durable = since.is_at.images; crash = since.crash; counts = counts })
-    c.serve_line.ensures.onward.disk_later (c.serve_line.ensures.counted s) c.in-Some.exit (c.in-Some.ensures.turns so_far.state so_far.arrives.is_at s k)
+    c.serve_line.ensures.onward.disk_later (c.serve_line.ensures.counted s) c.in-Some.exit (c.in-Some.ensures.turns known so_far.state so_far.arrives.is_at s k)
 
 pub lines-preserved : goal.lines-preserved
 lines-preserved g c = record {
-  serving = λ first is_at s k.
+  serving = λ known first is_at s k.
       let start : Progress = progress g.S.Source g.K.Sink g.D.Disk (loop c.args.reader.now c.args.input.now c.args.output.now (view c.args.session.now)) in
       let old : Progress = progress g.S.Source g.K.Sink g.D.Disk (loop c.lines.reader c.lines.input c.lines.output (view c.lines.session)) in
       let new : Progress = progress g.S.Source g.K.Sink g.D.Disk (loop c.serve_line.new.reader c.serve_line.new.input c.serve_line.new.output (view c.serve_line.new.session)) in
-      let so_far = c.lines.invariant.serving first is_at s k in
-      let says = c.in_default.ensures.turns so_far.state so_far.arrives.is_at s k in
-      serving_on g.D.Disk.tells_reads first _ _ _ start old new so_far (carries (view c.serve_line.new.session) so_far.steps so_far.arrives)
+      let so_far = c.lines.invariant.serving known first is_at s k in
+      let says = c.in_default.ensures.turns known so_far.state so_far.arrives.is_at s k in
+      serving_on (as_known known g.D.Disk).tells_reads first _ _ _ start old new so_far (carries {g = as_known known g.D.Disk} (view c.serve_line.new.session) so_far.steps so_far.arrives)
       (λ after x. (¬ IsQuit x.line) × (new.taken ≡ old.taken ++ reply_text x.reply)) says says.more.0 says.more.1
       c.serve_line.ensures.onward.disk_later c.serve_line.ensures.stays_ended (c.serve_line.ensures.counted s);
+  counted = λ s. c.serve_line.ensures.counted s ∙ c.lines.invariant.counted s;
   onward = onward_on c.lines.invariant.onward c.serve_line.ensures.onward;
   input_later = omega (arith, c.lines.invariant.input_later, c.serve_line.ensures.input_later);
   output_later = omega (arith, c.lines.invariant.output_later, c.serve_line.ensures.output_later);
   same_disk = c.serve_line.ensures.same_disk ∙ c.lines.invariant.same_disk;
 }
+
+pub returns-in-Some-clause-within : goal.returns-in-Some-clause-within
+returns-in-Some-clause-within g c = λ s. omega (arith, c.requires.fresh.taken, c.serve_line.ensures.counted s, c.lines.invariant.counted s, c.serve_line.ensures.limit)

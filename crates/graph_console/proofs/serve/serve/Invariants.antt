@@ -1,6 +1,7 @@
-use Rattle.std.proofs.Common.{◌-◌, ◌^◌, ◌≤◌}
+use Rattle.std.proofs.Common.{Bool, ◌≡◌, ◌+◌, length, ◌-◌, ◌^◌, ◌≤◌}
 use Rattle.stream_io.specs.Reading.{used}
 use Rattle.graph_session.specs.Console.{IsAt, Onward}
+use Rattle.graph_session.specs.Known.{as_known}
 use Rattle.graph_session.specs.Session.{HaveSameDisk, view}
 use Rattle.graph_session.specs.State.{State}
 use Rattle.graph_console.specs.Serve.{loop, progress}
@@ -10,10 +11,11 @@ use Rattle.graph_console.proofs.serve.serve.Given as goal
 
 abbrev pub invariant-lines : goal.invariant-lines
 invariant-lines g l = record {
-  serving : (first : State) → IsAt g.D.Disk (view l.fn.session) first → g.S.Source.tells → g.K.Sink.tells
-      → Serving g.D.Disk.tells_reads first (IsAtSince g.D.Disk (view l.fn.session) (view l.session) first)
+  serving : (known : Bool) (first : State) → IsAt (as_known known g.D.Disk) (view l.fn.session) first → g.S.Source.tells → g.K.Sink.tells
+      → Serving (as_known known g.D.Disk).tells_reads first (IsAtSince (as_known known g.D.Disk) (view l.fn.session) (view l.session) first)
       (progress g.S.Source g.K.Sink g.D.Disk (loop l.fn.reader l.fn.input l.fn.output (view l.fn.session)))
       (progress g.S.Source g.K.Sink g.D.Disk (loop l.reader l.input l.output (view l.session)));
+  counted : g.S.Source.tells → l.reader.taken + length (g.S.Source.left l.input) ≡ l.fn.reader.taken + length (g.S.Source.left l.fn.input);
   onward : Onward g.D.Disk (view l.fn.session) (view l.session);
   input_later : g.S.Source.faults l.fn.input ≤ g.S.Source.faults l.input;
   output_later : g.K.Sink.faults l.fn.output ≤ g.K.Sink.faults l.output;

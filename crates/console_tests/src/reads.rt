@@ -1,16 +1,14 @@
 //! What a line has shown when a read of the disk fails, and which reads are made: a page that was
 //! read is there for the next record of it.
-use super::stored::{CALLS, ROOM, plan, run};
+use crate::runs::{CALLS, ROOM, plan, run};
 use disk_model::MemoryDisk;
 use std::alloc::{AllocError, Global};
-use std::process::Abort;
 use std::test::Fail;
 
 /// What lines answer over a store that other lines have made and a `reopen` has opened again,
 /// where the first read of the disk after it fails, where the second does, and so on up to where
 /// none of them does.
 fn answers_with_a_read_that_fails(
-    rt: &impl Abort,
     alloc: Global,
     made: &str,
     made_replies: &str,
@@ -22,7 +20,7 @@ fn answers_with_a_read_that_fails(
     let mut answers = Vec::new(alloc);
     for call in 1..=CALLS {
         let mut disk = MemoryDisk::new(alloc, 128, ROOM, plan(alloc, &[call], None)?)?;
-        let ended = run(rt, alloc, input.as_bytes(), &mut disk)?;
+        let ended = run(alloc, input.as_bytes(), &mut disk)?;
         if let Some(answer) = ended.output.taken().strip_prefix(before.as_bytes()) {
             let answer = String::from_utf8_lossy(alloc, answer)?;
             let is_whole = answer.as_str() == whole;
@@ -54,14 +52,13 @@ fn a_query_has_shown_what_it_read_before_a_fault(rt: HostRuntime) -> Result<(), 
         format!(in alloc; "{first_page}==>v[64]\nend\n==>65\nend\n")?,
     ];
     let answers = answers_with_a_read_that_fails(
-        &rt,
         alloc,
         made.as_str(),
         replies.as_str(),
         "g.V()\ng.V().count()\n",
         want[2].as_str(),
     )?;
-    assert_eq!(rt; answers.as_slice(), want.as_slice());
+    assert!(rt; answers.as_slice() == want.as_slice());
     Ok(())
 }
 
@@ -80,16 +77,15 @@ fn an_edge_is_read_with_its_page(rt: HostRuntime) -> Result<(), Fail> {
         "==>e[0][0-A->1]\nend\n==>v[1]\nend\n",
     ];
     let answers = answers_with_a_read_that_fails(
-        &rt,
         alloc,
         made.as_str(),
         replies.as_str(),
         "expand 0 out A\ng.V(0).out()\n",
         want[2],
     )?;
-    assert_eq!(rt; answers.len(), want.len());
+    assert!(rt; answers.len() == want.len());
     for (answer, wanted) in answers.iter().zip(want) {
-        assert_eq!(rt; answer.as_str(), wanted);
+        assert!(rt; answer.as_str() == wanted);
     }
     Ok(())
 }

@@ -1,17 +1,8 @@
-//! The console program: lines of the input in, replies out. `graph_main` is the program over any
-//! source, sink and disk; `main` gives it the real ones.
+//! The console program: `main` gives `graph_main` the real source, sink and disk.
 #![tactic(auto)]
 
-mod exit;
-mod program;
-mod sample;
-mod serve;
-#[cfg(test)]
-mod tests;
-
-pub use exit::Exit;
+use graph_console::{end_without_memory, graph_main};
 use host_edge::{FileDisk, StdSink, StdSource};
-pub use program::graph_main;
 use std::alloc::AllocError;
 use std::process::ExitCode;
 use std::rt::Env;
@@ -34,7 +25,7 @@ fn main(rt: HostRuntime) -> ExitCode {
     let mut disk = FileDisk::new(rt);
     let exit = match words {
         Ok(words) => graph_main(alloc, words, &mut input, &mut output, &mut disk),
-        Err(AllocError) => program::end_without_memory(&mut output),
+        Err(AllocError) => end_without_memory(&mut output),
     };
     ExitCode::from(exit.code())
 }

@@ -1,9 +1,8 @@
 //! Scripts that are stopped at each call of the disk: what is opened afterwards is what was
 //! answered, with the line in which the stop came or without it.
-use super::Ended;
-use super::stored::{CALLS, COUNT, ROOM, plan, run, run_words};
-use crate::Exit;
+use crate::runs::{CALLS, COUNT, Ended, ROOM, plan, run, run_words};
 use disk_model::{Crash, MemoryDisk};
+use graph_console::Exit;
 use std::alloc::{AllocError, Global};
 use std::process::Abort;
 use std::test::Fail;
@@ -201,23 +200,18 @@ fn check_left(
     choice: Crash,
 ) -> Result<(), AllocError> {
     let mut left = left_of(alloc, disk, choice, None)?;
-    let again = run(rt, alloc, script.probe, &mut left)?;
+    let again = run(alloc, script.probe, &mut left)?;
     let probed = again.output.taken();
-    assert_eq!(rt; again.exit, Exit::Done, "{choice:?}");
+    assert!(rt; again.exit == Exit::Done, "{choice:?}");
     assert!(rt; is_kept(script, ended, probed), "{choice:?}: {probed:?}");
     Ok(())
 }
 
 /// The lines over a disk that stops at this call. A node with a third edge is dense.
-fn run_stopped(
-    rt: &impl Abort,
-    alloc: Global,
-    lines: &[u8],
-    stop: u64,
-) -> Result<(Ended, MemoryDisk), AllocError> {
+fn run_stopped(alloc: Global, lines: &[u8], stop: u64) -> Result<(Ended, MemoryDisk), AllocError> {
     let mut disk = MemoryDisk::new(alloc, 16, ROOM, plan(alloc, &[], Some(stop))?)?;
     let words = ["nipakeel", "run", "--threshold", "2"];
-    let ended = run_words(rt, alloc, &words, lines, &mut disk)?;
+    let ended = run_words(alloc, &words, lines, &mut disk)?;
     Ok((ended, disk))
 }
 
@@ -231,7 +225,7 @@ fn check_script(
     let lines = lines_of(alloc, script.rows)?;
     let replies = replies_of(alloc, script.rows)?;
     for stop in 1..=CALLS {
-        let (ended, disk) = run_stopped(rt, alloc, &lines, stop)?;
+        let (ended, disk) = run_stopped(alloc, &lines, stop)?;
         check_left(rt, alloc, script, &ended, &disk, choice)?;
         if ended.output.taken() == replies.as_slice() {
             return Ok(());
@@ -283,9 +277,9 @@ fn check_openings(rt: &impl Abort, alloc: Global, script: Script) -> Result<(), 
     let lines = lines_of(alloc, script.rows)?;
     let replies = replies_of(alloc, script.rows)?;
     for stop in 1..=CALLS {
-        let (ended, disk) = run_stopped(rt, alloc, &lines, stop)?;
+        let (ended, disk) = run_stopped(alloc, &lines, stop)?;
         let mut left = left_of(alloc, &disk, Crash::Fill(1), Some(1 + stop % 32))?;
-        let _ = run(rt, alloc, b"stats\n", &mut left)?;
+        let _ = run(alloc, b"stats\n", &mut left)?;
         check_left(rt, alloc, script, &ended, &left, Crash::Fill(7))?;
         if ended.output.taken() == replies.as_slice() {
             break;
@@ -304,14 +298,13 @@ fn openings_are_stopped_too(rt: HostRuntime) -> Result<(), Fail> {
 
 /// Opens what a loss of power leaves, up to this call, and counts its nodes.
 fn count_left(
-    rt: &impl Abort,
     alloc: Global,
     disk: &MemoryDisk,
     choice: Crash,
     stop: Option<u64>,
 ) -> Result<(Ended, MemoryDisk), AllocError> {
     let mut left = left_of(alloc, disk, choice, stop)?;
-    let ended = run(rt, alloc, COUNT, &mut left)?;
+    let ended = run(alloc, COUNT, &mut left)?;
     Ok((ended, left))
 }
 
@@ -324,10 +317,10 @@ fn check_stopped_twice(
     stop: u64,
     counted: &[u8],
 ) -> Result<bool, AllocError> {
-    let (first, left) = count_left(rt, alloc, disk, Crash::Fill(9), Some(stop))?;
-    let (_, left_again) = count_left(rt, alloc, &left, Crash::Fill(9), Some(stop))?;
-    let (last, _) = count_left(rt, alloc, &left_again, Crash::Fill(1), None)?;
-    assert_eq!(rt; last.output.taken(), counted, "stop {stop}");
+    let (first, left) = count_left(alloc, disk, Crash::Fill(9), Some(stop))?;
+    let (_, left_again) = count_left(alloc, &left, Crash::Fill(9), Some(stop))?;
+    let (last, _) = count_left(alloc, &left_again, Crash::Fill(1), None)?;
+    assert!(rt; last.output.taken() == counted, "stop {stop}");
     Ok(first.output.taken() == counted)
 }
 
@@ -337,8 +330,8 @@ fn an_entry_stands_over_an_old_gate(rt: HostRuntime) -> Result<(), Fail> {
     let script: &[u8] =
         b"node a\ncheckpoint\nbegin\nnode a\nnode a\nnode a\nnode a\nnode a\nnode a\nnode a\ncommit\n";
     let mut disk = MemoryDisk::new(alloc, 16, ROOM, plan(alloc, &[], None)?)?;
-    let made = run(&rt, alloc, script, &mut disk)?;
-    assert_eq!(rt; made.exit, Exit::Done);
+    let made = run(alloc, script, &mut disk)?;
+    assert!(rt; made.exit == Exit::Done);
     for stop in 1..=CALLS {
         if check_stopped_twice(&rt, alloc, &disk, stop, b"==>8\nend\n")? {
             break;

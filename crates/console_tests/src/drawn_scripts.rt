@@ -1,9 +1,9 @@
 //! Scripts that are drawn: nodes, edges and their properties come and go, with loops and edges side
 //! by side. Each reply is the one that plain lists foretell.
-use super::lists::{Console, Element, Given, Line, Pair, Pairs, Way};
-use super::{PLAIN, run_on};
-use crate::Exit;
+use crate::lists::{Console, Element, Given, Line, Pair, Pairs, Way};
+use crate::runs::run_words;
 use disk_model::PlainDisk;
+use graph_console::Exit;
 use std::alloc::{AllocError, Global};
 use std::process::Abort;
 use std::test::Fail;
@@ -15,7 +15,7 @@ const LINES: usize = 600;
 
 /// The graph of a script: few edges anywhere, or few or many edges of which most are at one node, a
 /// hub.
-#[derive(Clone, Copy, Debug, Drop, PartialEq, Eq)]
+#[derive(Clone, Copy, Drop, PartialEq, Eq)]
 enum Graph {
     Even,
     Hub,
@@ -213,7 +213,7 @@ impl Draws {
 
 /// How a script is drawn: its seed, its graph, the store's threshold, and which share of the words
 /// of transactions stands in it: one of so many.
-#[derive(Clone, Copy, Debug, Drop)]
+#[derive(Clone, Copy, Drop)]
 struct Kind {
     seed: u64,
     graph: Graph,
@@ -262,11 +262,11 @@ fn check_drawn(rt: &impl Abort, alloc: Global, kind: Kind) -> Result<(), AllocEr
     let limit_option = format!(in alloc; "--limit={limit}")?;
     let words: &[&str] = &["nipakeel", "run", &limit_option, &threshold_option];
     let mut disk = PlainDisk::new(alloc, limit)?;
-    let ended = run_on(rt, alloc, words, input.as_bytes(), &PLAIN, &mut disk)?;
-    assert_eq!(rt; ended.exit, Exit::Done, "{kind:?}");
+    let ended = run_words(alloc, words, input.as_bytes(), &mut disk)?;
+    assert!(rt; ended.exit == Exit::Done);
     assert!(rt;
         ended.output.taken() == want.as_bytes(),
-        "{kind:?}: {input}"
+        "threshold {threshold}: {input}"
     );
     Ok(())
 }

@@ -7,7 +7,7 @@ const LEAST_WEIGHT: u64 = 7;
 const MOST_WEIGHT: u64 = 2_048;
 
 /// A node or an edge by its identifier.
-#[derive(Clone, Copy, Debug, Drop, PartialEq, Eq)]
+#[derive(Clone, Copy, Drop, PartialEq, Eq)]
 pub(crate) enum Element {
     Node(u32),
     Edge(u32),
@@ -23,7 +23,7 @@ impl Element {
 }
 
 /// A value: a number, a truth, or a text of so many letters.
-#[derive(Clone, Copy, Debug, Drop)]
+#[derive(Clone, Copy, Drop)]
 pub(crate) enum Given {
     Number(i64),
     Truth(bool),
@@ -57,7 +57,7 @@ impl Given {
 }
 
 /// A key and its value. Keys are letters.
-#[derive(Clone, Copy, Debug, Drop)]
+#[derive(Clone, Copy, Drop)]
 pub(crate) struct Pair {
     pub key: char,
     pub value: Given,
@@ -78,7 +78,7 @@ fn pairs_text(alloc: Global, pairs: Pairs) -> Result<String, AllocError> {
 }
 
 /// Which edges at a node a line asks for: those that leave it, those that enter it, or both.
-#[derive(Clone, Copy, Debug, Drop)]
+#[derive(Clone, Copy, Drop)]
 pub(crate) enum Way {
     Out,
     In,
@@ -96,7 +96,7 @@ impl Way {
 }
 
 /// A line of a script. Labels and types are letters.
-#[derive(Clone, Copy, Debug, Drop)]
+#[derive(Clone, Copy, Drop)]
 pub(crate) enum Line {
     Node {
         label: char,

@@ -1,0 +1,154 @@
+use crate::fault::RowFault;
+use crate::run::{put_run, put_run_in_pieces};
+use crate::script::{PLAIN, Script, Settings, Shown};
+use crate::text::{cut, number_of, push_bytes, put, put_numbers};
+use disk_model::{Disk, PlainDisk};
+use std::alloc::{AllocError, Global};
+
+/// The room of a disk that a title makes, in nodes.
+const ROOM: u32 = 16;
+
+/// How many files a disk has.
+const FILES: u64 = 9;
+
+/// The greatest place of a file that a row may name, and the most bytes there.
+const MOST: u64 = 1 << 30;
+
+/// What the rows so far have left: the disk and what is set, the run whose input isn't complete,
+/// and what is to be written.
+#[derive(Drop)]
+pub(crate) struct Stage {
+    alloc: Global,
+    disk: PlainDisk,
+    room: u32,
+    in_pieces: bool,
+    settings: Settings,
+    script: Option<Script>,
+    written: Vec<u8>,
+}
+
+impl Stage {
+    /// The stage before the first row.
+    pub(crate) fn new(alloc: Global) -> Result<Stage, AllocError> {
+        Ok(Stage {
+            alloc,
+            disk: PlainDisk::new(alloc, ROOM)?,
+            room: ROOM,
+            in_pieces: false,
+            settings: PLAIN,
+            script: None,
+            written: Vec::new(alloc),
+        })
+    }
+
+    /// What is to be written so far.
+    pub(crate) fn written(&self) -> &[u8] {
+        &self.written
+    }
+
+    /// Carries out a row. A run is carried out when the row after its input comes.
+    pub(crate) fn take(&mut self, row: &[u8]) -> Result<(), RowFault> {
+        match row.first() {
+            None => Ok(()),
+            Some(b'#') => self.begin_section(row),
+            Some(b'@') => self.take_setting(row),
+            Some(b'$') => self.begin_run(row),
+            Some(_) => match &mut self.script {
+                Some(script) => script.add(row),
+                None => Err(RowFault::Malformed),
+            },
+        }
+    }
+
+    /// Carries out the run whose input is complete, if there is one.
+    pub(crate) fn end_run(&mut self) -> Result<(), RowFault> {
+        let Some(script) = self.script.take() else {
+            return Ok(());
+        };
+        if self.in_pieces {
+            put_run_in_pieces(self.alloc, &mut self.written, &script, self.room)
+        } else {
+            put_run(self.alloc, &mut self.written, &script, &mut self.disk)
+        }
+    }
+
+    fn begin_section(&mut self, title: &[u8]) -> Result<(), RowFault> {
+        self.end_run()?;
+        self.make_disk(ROOM)?;
+        self.in_pieces = false;
+        self.settings = PLAIN;
+        Ok(put(&mut self.written, &[title, b"\n"])?)
+    }
+
+    fn begin_run(&mut self, row: &[u8]) -> Result<(), RowFault> {
+        self.end_run()?;
+        self.script = Some(Script::new(self.alloc, row, self.settings)?);
+        self.settings = PLAIN;
+        Ok(())
+    }
+
+    fn take_setting(&mut self, row: &[u8]) -> Result<(), RowFault> {
+        self.end_run()?;
+        if row == b"@pieces".as_slice() {
+            self.in_pieces = true;
+            return Ok(());
+        }
+        let (word, rest) = cut(row)?;
+        match word {
+            b"@disk" => self.take_disk(rest)?,
+            b"@poke" => self.poke(rest)?,
+            b"@show" => self.show(rest)?,
+            b"@fail-read" => self.settings.failing_read = number_of(rest)?,
+            b"@fail-put" => self.settings.failing_put = number_of(rest)?,
+            b"@first" => self.settings.shown = Shown::First(number_of(rest)?),
+            b"@last" => self.settings.shown = Shown::Last(number_of(rest)?),
+            _ => return Err(RowFault::Malformed),
+        }
+        Ok(())
+    }
+
+    fn take_disk(&mut self, room: &[u8]) -> Result<(), RowFault> {
+        match u32::try_from(number_of(room)?) {
+            Ok(room) => Ok(self.make_disk(room)?),
+            Err(_) => Err(RowFault::Malformed),
+        }
+    }
+
+    fn make_disk(&mut self, room: u32) -> Result<(), AllocError> {
+        self.disk = PlainDisk::new(self.alloc, room)?;
+        self.room = room;
+        Ok(())
+    }
+
+    /// Puts bytes into a file, where its number and the place stand before them.
+    fn poke(&mut self, row: &[u8]) -> Result<(), RowFault> {
+        let (file, rest) = cut(row)?;
+        let (place, rest) = cut(rest)?;
+        let (file, place) = (number_of(file)?, number_of(place)?);
+        let mut bytes = Vec::new(self.alloc);
+        push_bytes(&mut bytes, rest)?;
+        if file >= FILES || place > MOST || bytes.len() as u64 > MOST {
+            return Err(RowFault::Malformed);
+        }
+        let file = file as u8;
+        match (self.disk.write(file, place, &bytes), self.disk.sync(file)) {
+            (Ok(()), Ok(())) => Ok(()),
+            _ => Err(RowFault::Malformed),
+        }
+    }
+
+    /// Writes bytes of a file as numbers.
+    fn show(&mut self, row: &[u8]) -> Result<(), RowFault> {
+        let (file, rest) = cut(row)?;
+        let (place, count) = cut(rest)?;
+        let (file, place, count) = (number_of(file)?, number_of(place)?, number_of(count)?);
+        if file >= FILES || place > MOST || count > MOST {
+            return Err(RowFault::Malformed);
+        }
+        let mut bytes = vec![in self.alloc; 0; count as usize]?;
+        if self.disk.read(file as u8, place, &mut bytes).is_err() {
+            return Err(RowFault::Malformed);
+        }
+        Ok(put_numbers(&mut self.written, &bytes)?)
+    }
+}

@@ -1,0 +1,27 @@
+use Rattle.std.proofs.Common.{◌≡◌, ◌≢◌, ◌∙◌, List, ℕ, true, false, [], ◌++◌, ap, refl, sym, subst}
+use Rattle.stream_io.specs.Lines.{Whole}
+use Rattle.graph_session.specs.Answer.{Delivers}
+use Rattle.graph_session.specs.declared.turn.Turn.{Turn}
+use Rattle.graph_session.specs.declared.turn.Turn.TheVariants.{Go, Quit, SinkFault}
+use Rattle.graph_console.specs.Sample.{tells_failure}
+use Rattle.graph_console.proofs.sample.asking.ask.Goals as goal
+
+-- what was delivered to an empty sink that did not fail is the text
+delivered : (turn : Turn) (old new text : List ℕ) → turn ≢ SinkFault → old ≡ [] → Delivers turn old new text → text ≡ new
+delivered Go old new text goes none is = sym (is ∙ ap (λ (taken : List ℕ). taken ++ text) none)
+delivered Quit old new text goes none is = sym (is ∙ ap (λ (taken : List ℕ). taken ++ text) none)
+delivered SinkFault old new text goes none is = absurd (goes refl)
+
+pub returns : goal.returns
+returns g c = λ state at.
+    let answers = c.step.ensures.answers in
+    let settled = answers.settles true state at in
+    record {
+      exchange = record { line = Whole c.args.line.now; disk_failed = settled.disk_failed; reply = answers.reply };
+      after = settled.after;
+      line_is = refl;
+      text_is = delivered c.step.result c.in_ok-page.page.taken c.step.new.output.taken _ c.in_default.not-SinkFault (let is = c.in_ok-page.ensures in cc) (answers.text tt);
+      step = settled.step;
+      is_at = settled.arrives.is_at;
+      well = subst (λ (text : List ℕ). tells_failure text ≡ false) c.taken.ensures (sym c.tells_failure.ensures ∙ c.if-tells_failure.false);
+    }

@@ -1,0 +1,13 @@
+//! The console over any source, sink and disk: lines of the input in, replies out. `graph_main` is
+//! the whole program, and each of its exits has a status.
+#![tactic(auto)]
+
+mod exit;
+mod lives;
+mod program;
+mod sample;
+mod serve;
+
+pub use exit::Exit;
+pub use lives::keeps_over_runs;
+pub use program::{end_without_memory, graph_main};

@@ -1,0 +1,37 @@
+ghost use Rattle.std.specs.Prelude.{◌≡◌, ℕ, List};
+ghost use Rattle.disk_model.specs.Contents.{Files};
+ghost use Rattle.plain_graph.specs.Graph.{Graph};
+ghost use Rattle.rec_bytes.specs.declared.shape.Shape.{Shape as AShape};
+ghost use Rattle.console_words.specs.declared.run_options.RunOptions.{RunOptions};
+ghost use Rattle.graph_session.specs.Exchange.{Exchange};
+ghost use Rattle.graph_session.specs.Stands.{Stands};
+ghost use Rattle.graph_session.specs.State.{State};
+ghost use Rattle.graph_console.specs.History.{Transactions, last_graph};
+ghost use Rattle.graph_console.specs.Lives.{Event, Happen, IsKept, Leads, World, start_of};
+ghost use Rattle.graph_console.specs.Program.{Serves, terms_for};
+ghost use Rattle.graph_console.specs.Run.{Run};
+ghost use Rattle.graph_console.specs.declared.exit.Exit.{Exit as AnExit};
+
+use disk_model::Disk;
+
+/// What holds over every list of runs of the program and of stops: it runs again on what any moment
+/// of an earlier run left, its opening stopped and begun again, and `reopen` asked after a failure.
+pub fn keeps_over_runs<D: Disk>()
+    // Each image stands for a graph that the runs may leave: so each run begins with one to which
+    // the first exchanges of the run before it led, or that run's last ones where it ended.
+    ensures kept { D.tells_reads → D.tells_images
+        → (start : Graph) (shape : AShape) (disk : D) (events : List (Event D)) (end : World D)
+        → ((image : Files) → D.may_leave disk image → Stands image shape start)
+        → Happen D.Disk (start_of D.Disk disk) events end → IsKept D.Disk start events end }
+    // A run and a refused opening are what `graph_main` says of them.
+    ensures events { (options : RunOptions) (exit : AnExit) (first last : D)
+        (input left written : List ℕ)
+        → Serves (terms_for D.Disk options first last) exit input left written
+        → Leads D.Disk first last }
+    // The committed graph of a state is that of the last transaction of the exchanges that lead to
+    // it.
+    ensures transactions { (first : State) (run : List Exchange) (last : State)
+        (graphs : List Graph) → Transactions D.tells_reads first run last graphs
+        → Run D.tells_reads first run last
+        × (last.committed ≡ last_graph first.committed graphs) }
+{}
