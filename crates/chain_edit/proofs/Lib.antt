@@ -1,9 +1,11 @@
 pub mod AllPushed
 pub mod AllUnlinked
+pub mod Broken
 pub mod ChainSteps
 pub mod Damages
 pub mod Edits
 pub mod InRange
+pub mod Lengths
 pub mod LinkLaws
 pub mod OwnedHeads
 pub mod Pushes

@@ -1,5 +1,7 @@
+pub mod Breaks
 pub mod Chains
 pub mod Heads
+pub mod Length
 pub mod Links
 pub mod Listed
 pub mod Pushing

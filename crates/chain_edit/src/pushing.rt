@@ -4,6 +4,8 @@ ghost use Rattle.rec_bytes.specs.Space.{after_get, WritesOnly};
 ghost use Rattle.store_rules.specs.Rules.{first_of};
 ghost use Rattle.rel_store.specs.RelRecord.{rel_key};
 ghost use Rattle.rec_bytes.specs.Fault.{HasFaultCause, NotDamaged, OnDamage};
+ghost use Rattle.store_rules.specs.Breaking.{IsHeadOf};
+ghost use Rattle.chain_edit.specs.Breaks.{IsBreakFault};
 ghost use Rattle.chain_edit.specs.Heads.{head_of, IsHead};
 ghost use Rattle.chain_edit.specs.Links.{IsKnownLink, IsRightLink};
 ghost use Rattle.chain_edit.specs.Pushing.{CanPush, HasPushed, IsPushFault, pushed};
@@ -27,6 +29,9 @@ pub fn push_front<S: Space>(space: &mut S, head: Head, node: u32, rel: u32) -> R
     ensures first { S.tells → IfOk result
         (λ first. first ≡ first_of (S.state space.old).records (head_of head)) }
     ensures damaged { S.tells → IfErr result (IsPushFault (S.state space.old) (head_of head)) }
+    ensures breaks { S.tells → (n : ℕ)
+        → IsHeadOf (S.state space.old).records (head_of head) n
+        → IfErr result (IsBreakFault (S.state space.old)) }
     ensures sound { S.tells
         → IsRightLink (S.state space.old) (first_of (S.state space.old).records (head_of head))
         → NotDamaged result }

@@ -1,8 +1,10 @@
-ghost use Rattle.std.specs.Prelude.{◌≡◌, ◌≢◌, ◌∷◌, [], ℕ, List, IfErr, OnOk};
+ghost use Rattle.std.specs.Prelude.{◌≡◌, ◌≢◌, ◌∷◌, [], ℕ, List, Some, IfErr, OnOk};
 ghost use Rattle.rec_bytes.specs.Key.{IsKey};
 ghost use Rattle.rec_bytes.specs.Space.{after_get, HasCause, WritesOnly};
 ghost use Rattle.rel_store.specs.RelRecord.{rel_key};
 ghost use Rattle.rec_bytes.specs.Fault.{HasFaultCause, NotDamaged, OnDamage};
+ghost use Rattle.store_rules.specs.Views.{RelRow, rel_at};
+ghost use Rattle.chain_edit.specs.Breaks.{IsBreakFault};
 ghost use Rattle.chain_edit.specs.Chains.{next_of, prev_of};
 ghost use Rattle.chain_edit.specs.Heads.{head_of, IsHead};
 ghost use Rattle.chain_edit.specs.Links.{IsKnownLink, IsRightLink};
@@ -28,6 +30,8 @@ pub fn unlink<S: Space>(space: &mut S, head: Head, node: u32, rel: u32) -> Resul
     ensures ok { S.tells
         → OnOk result (S.state space.new ≡ unlinked (S.state space.old) (head_of head) node rel) }
     ensures damaged { S.tells → IfErr result (IsUnlinkFault (S.state space.old) node rel) }
+    ensures breaks { S.tells → (row : RelRow) → rel_at (S.state space.old).records rel ≡ Some row
+        → IfErr result (IsBreakFault (S.state space.old)) }
     ensures sound { S.tells
         → IsRightLink (S.state space.old) (prev_of (S.state space.old).records node rel)
         → IsRightLink (S.state space.old) (next_of (S.state space.old).records node rel)

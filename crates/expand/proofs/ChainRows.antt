@@ -1,7 +1,7 @@
 -- The rows that the chain of a node lists are a part of all rows.
 use Rattle.std.proofs.Common.{◌≡◌, ◌≢◌, ◌<◌, ◌≤◌, ℕ, nat_eq, Bool, true, Some, List, length, map, inl, inr, refl, sym, ap, ◌∙◌, subst, ⊎_elim, arith}
 use Rattle.std.specs.Cmp.{IsEquivalence}
-use Rattle.std.specs.List.{Contains, filter}
+use Rattle.std.specs.List.{AllPairs, Contains, filter}
 use Rattle.std.proofs.lemmas.Bool.{and_parts, eqb-true, or_cases, or_left, or_right}
 use Rattle.std.proofs.lemmas.List.Folds.{Any-from_list_any, list_any-from_Any}
 use Rattle.std.proofs.lemmas.Map.Keys.{IsDistinct-from_apart}
@@ -19,7 +19,7 @@ use Rattle.store_rules.proofs.NumberLaws.{eq_false, eq_true}
 use Rattle.store_rules.proofs.OnceLaws.{once_walk}
 use Rattle.store_rules.proofs.ViewLaws.{kind_below, row_some, some_row}
 use Rattle.rel_store.specs.declared.edge_row.EdgeRow.{EdgeRow}
-use Rattle.chain_edit.specs.Chains.{next_of}
+use Rattle.chain_edit.specs.Chains.{IsChainFrom, next_of}
 use Rattle.chain_edit.specs.Walking.{edge_at}
 use Rattle.expand.specs.declared.matching.End.TheVariants as ends
 use Rattle.expand.specs.Expanding.{edge_row_at, rows_of}
@@ -54,6 +54,9 @@ module _ (s : Records) (shape : Shape) (store : IsWellFormed s shape) (n : ℕ) 
   members = listed.members
 
   -- the links of the node lead through just these
+  pub chained : IsChainFrom s n (first_link s n) members
+  chained = listed.chain
+
   pub walk : IsWalk (next_of s n) (first_link s n) members
   walk = walk_of_chain _ _ format.nil (first_link s n) listed.members listed.chain
 
@@ -106,6 +109,14 @@ length-part wide test rows edges part passes =
     let member : Contains rows found.1 = (found.0, found.2, found.3) in
     let kept = filter_contains test edges found.1 (part.only found.1 member) (passes found.1 member) in
     list_any-from_Any (same_id q) (filter test edges) (kept.0, found.1, kept.1, kept.2, found.4))
+
+-- rows of which none comes twice are no more than those that have them all
+pub length-members : (rows others : List EdgeRow) → AllPairs (λ a b. id_of a < id_of b) rows → ((row : EdgeRow) → Contains rows row → Contains others row) → length rows ≤ length others
+length-members rows others up within =
+    length-le_from_is_member same_id_laws rows others (IsDistinct-from_apart same_id rows (λ i j d lt low. eq_false _ _ (let l = up i j d lt low in λ e. omega (arith, l, e)))) (λ q is.
+    let found = Any-from_list_any (same_id q) rows is in
+    let kept = within found.1 (found.0, found.2, found.3) in
+    list_any-from_Any (same_id q) others (kept.0, found.1, kept.1, kept.2, found.4))
 
 -- ---- a direction and types
 

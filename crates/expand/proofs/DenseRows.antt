@@ -1,11 +1,12 @@
 -- What walks in the chains of a dense node's groups say of the store.
-use Rattle.std.proofs.Common.{◌≡◌, ◌≢◌, ◌<◌, ◌+◌, ℕ, true, List, length, map, refl, sym, ap, ◌∙◌, subst, arith}
+use Rattle.std.proofs.Common.{◌≡◌, ◌≢◌, ◌<◌, ◌+◌, ℕ, true, List, length, map, refl, sym, ap, ◌∙◌, subst, inr, arith}
 use Rattle.std.specs.List.{Contains}
 use Rattle.std.proofs.lemmas.List.{length-map}
 use Rattle.plain_graph.specs.declared.direction.Direction.{Direction}
 use Rattle.rec_bytes.specs.Format as format
 use Rattle.rec_bytes.specs.Space.{State}
 use Rattle.store_rules.specs.Chains.{In, IsWalk}
+use Rattle.store_rules.specs.Rules.{first_of}
 use Rattle.store_rules.specs.Views.{first_link, kind_at, rec_at}
 use Rattle.store_rules.proofs.ChainLaws.{walk_of_chain}
 use Rattle.store_rules.proofs.ViewLaws.{kind_below}
@@ -16,12 +17,14 @@ use Rattle.chain_edit.specs.Chains.{next_of}
 use Rattle.chain_edit.specs.Walking.{ReadsAtMost, edge_at}
 use Rattle.chain_edit.proofs.Walks.{walk_is}
 use Rattle.group_store.specs.GroupChain.{next_group}
+use Rattle.group_store.specs.Sides.{group_head}
 use Rattle.group_store.specs.Walking.{group_row_at}
 use Rattle.expand.specs.Costs.{met_count, type_count}
 use Rattle.expand.specs.Expanding.{CanWalkGroups, HasDenseRows, IsStore, graph_in, name_of, rows_of}
-use Rattle.expand.specs.FirstLinks.{first_links}
+use Rattle.expand.specs.FirstLinks.{first_links, first_numbers}
 use Rattle.expand.specs.Matching.{IsPart, is_met}
-use Rattle.expand.specs.Walking.{AreWalks}
+use Rattle.expand.specs.Walking.{AllBelong, AreOfGroups, AreWalks}
+use Rattle.expand.proofs.BrokenChains.{link_of, owned, stands_belongs}
 use Rattle.expand.proofs.ChainRows.{length-part, rows_part}
 use Rattle.expand.proofs.ChainWalks.{walks_are}
 use Rattle.expand.proofs.GroupHeads.{all_met, chain, firsts_are, groups, heads_differ, heads_in, heads_own, only_met}
@@ -46,11 +49,37 @@ module _ (s : State) (store : IsStore s) (row : NodeRow) (dense : kind_at s.reco
   low : (x : ℕ) → In x chains.members → x < rel_mark s
   low x i = kind_below (rel_mark s) (rec_at s.records format.relationships_file x) x (live x i)
 
-  walks : AreWalks (next_of s.records n) (first_links direction labels (map (group_row_at s.records) members)) chains.members
-  walks = subst (λ firsts. AreWalks (next_of s.records n) firsts chains.members) (firsts_are s.records direction labels members) chains.walks
+  walks : AreWalks s.records n (first_numbers direction labels (map (group_row_at s.records) members)) chains.members
+  walks = subst (λ firsts. AreWalks s.records n firsts chains.members) (firsts_are s.records direction labels members) chains.walks
 
   group_walk : IsWalk (next_group s.records) row.first members
   group_walk = subst (λ f. IsWalk (next_group s.records) f members) (sym first) (walk_of_chain _ _ format.nil (first_link s.records n) members (chain s.records s.shape store n dense).chain)
+
+  -- what is met in a chain belongs there
+  of_groups : AreOfGroups s n (first_links direction labels (map (group_row_at s.records) members))
+  of_groups = record {
+    dense = dense;
+    groups = map (group_row_at s.records) members;
+    listed = record {
+      members = members;
+      list = record {
+        walk = walk_of_chain _ _ format.nil (first_link s.records n) members (chain s.records s.shape store n dense).chain;
+        only = (chain s.records s.shape store n dense).only;
+      };
+      are = refl;
+    };
+    direction = direction;
+    labels = labels;
+    are = refl;
+  }
+
+  all_belong : AllBelong s n (first_links direction labels (map (group_row_at s.records) members))
+  all_belong link is xs walk x i =
+      let links = first_links direction labels (map (group_row_at s.records) members) in
+      let h = group_head link.group link.side in
+      let listed = store.linked.listed.each h n (inr (owned s n links of_groups link is)) in
+      let other = subst (λ f. IsWalk (next_of s.records n) f listed.members) (sym (link_of s n links of_groups link is).first) (walk_of_chain _ _ format.nil (first_of s.records h) listed.members listed.chain) in
+      stands_belongs s n links of_groups link is x (listed.only x (subst (In x) (walk_is (next_of s.records n) link.first xs listed.members walk other) i))
 
   -- the links lead through all of them
   pub can_walk : CanWalkGroups s row direction labels members chains.members
@@ -65,6 +94,34 @@ module _ (s : State) (store : IsStore s) (row : NodeRow) (dense : kind_at s.reco
       few = length-once_below chains.members (rel_mark s) chains.once low;
       low = low;
     };
+    belong = all_belong;
+  }
+
+  -- the rows of all that stand at their heads are a part of all rows
+  part : IsPart (is_met direction labels n) (map (edge_at s.records) chains.members) (rows_of s.records)
+  part = rows_part s.records (is_met direction labels n) chains.members chains.once live
+      (λ x some met. let k = all_met s.records s.shape store n dense direction labels x some met in chains.all k.0 x k.1 k.2)
+
+  met : (r : EdgeRow) → Contains (map (edge_at s.records) chains.members) r → is_met direction labels n r ≡ true
+  met r is =
+      let found = contains_map (edge_at s.records) chains.members r is in
+      let k = chains.only found.0 found.1 in
+      subst (λ (e : EdgeRow). is_met direction labels n e ≡ true) (sym found.2) (only_met s.records s.shape store n dense direction labels k.0 found.0 k.1 k.2).1
+
+  pub types_are : length members ≡ type_count (graph_in s) n
+  types_are = groups_count s.records s.shape store n dense
+
+  -- as many groups as types, and as many members as relationships that are met
+  pub dense_few : (new : State) → ReadsAtMost (length members + length chains.members) s new → ReadsAtMost (type_count (graph_in s) n + met_count (graph_in s) direction (map (name_of s.records) labels) n) s new
+  dense_few new reads = record {
+    count = reads.count;
+    within =
+        let le = reads.within in
+        let few = length-part (is_met direction labels n) (is_met direction labels n) (map (edge_at s.records) chains.members) (rows_of s.records) part met in
+        let fewer = met_le s.records s.shape store direction labels n in
+        let long = length-map chains.members (edge_at s.records) in
+        omega (arith, le, few, fewer, long, types_are);
+    is = reads.is;
   }
 
   module _ (new : State) (rows : List EdgeRow) (has : HasDenseRows s new row direction labels rows) where
@@ -74,29 +131,9 @@ module _ (s : State) (store : IsStore s) (row : NodeRow) (dense : kind_at s.reco
 
     -- and the rows of relationships those of all that stand at their heads
     rows_are : rows ≡ map (edge_at s.records) chains.members
-    rows_are = has.walked.are ∙ ap (map (edge_at s.records)) (walks_are (next_of s.records n) (first_links direction labels has.groups) has.walked.members chains.members has.walked.walks
-        (subst (λ rows. AreWalks (next_of s.records n) (first_links direction labels rows) chains.members) (sym groups_are) walks))
+    rows_are = has.walked.are ∙ ap (map (edge_at s.records)) (walks_are s.records n (first_numbers direction labels has.groups) has.walked.members chains.members has.walked.walks
+        (subst (λ rows. AreWalks s.records n (first_numbers direction labels rows) chains.members) (sym groups_are) walks))
 
     -- so they are a part of all rows
     pub dense_part : IsPart (is_met direction labels n) rows (rows_of s.records)
-    dense_part = subst (λ xs. IsPart (is_met direction labels n) xs (rows_of s.records)) (sym rows_are)
-        (rows_part s.records (is_met direction labels n) chains.members chains.once live
-        (λ x some met. let k = all_met s.records s.shape store n dense direction labels x some met in chains.all k.0 x k.1 k.2))
-
-    met : (r : EdgeRow) → Contains rows r → is_met direction labels n r ≡ true
-    met r is =
-        let found = contains_map (edge_at s.records) chains.members r (subst (λ xs. Contains xs r) rows_are is) in
-        let k = chains.only found.0 found.1 in
-        subst (λ (e : EdgeRow). is_met direction labels n e ≡ true) (sym found.2) (only_met s.records s.shape store n dense direction labels k.0 found.0 k.1 k.2).1
-
-    -- as many reads as types, and as relationships that are met
-    pub dense_most : ReadsAtMost (type_count (graph_in s) n + met_count (graph_in s) direction (map (name_of s.records) labels) n) s new
-    dense_most = record {
-      count = length has.groups + length rows;
-      within =
-          let types = ap length groups_are ∙ length-map members (group_row_at s.records) ∙ groups_count s.records s.shape store n dense in
-          let few = length-part (is_met direction labels n) (is_met direction labels n) rows (rows_of s.records) dense_part met in
-          let fewer = met_le s.records s.shape store direction labels n in
-          omega (arith, types, few, fewer);
-      is = has.read;
-    }
+    dense_part = subst (λ xs. IsPart (is_met direction labels n) xs (rows_of s.records)) (sym rows_are) part

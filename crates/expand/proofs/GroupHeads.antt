@@ -31,7 +31,8 @@ use Rattle.group_store.specs.Walking.{group_row_at}
 use Rattle.group_store.proofs.ChainHeads.{at_group}
 use Rattle.group_store.proofs.GroupRules.{IsGroupChain-HasGroups, row_of_group}
 use Rattle.expand.specs.declared.matching.End.TheVariants as ends
-use Rattle.expand.specs.FirstLinks.{first_links, first_on, sides_of}
+use Rattle.expand.specs.declared.first_links.FirstLink.{FirstLink}
+use Rattle.expand.specs.FirstLinks.{first_links, first_numbers, first_on, link_on, links_of, numbers_of, sides_of}
 use Rattle.expand.specs.Matching.{is_at, is_met, is_met_at, is_wanted}
 use Rattle.expand.proofs.ChainRows.{at_met}
 use Rattle.expand.proofs.HeadChains.{Own, Stands}
@@ -72,7 +73,7 @@ in_side directions.Outgoing side is = in_two (IsSideOf directions.Outgoing) Out 
 in_side directions.Incoming side is = in_two (IsSideOf directions.Incoming) Into Loop side tt tt is
 in_side directions.Both side is = tt
 
-place_is : (side : Side) → IsFirstPlace (place_of side)
+pub place_is : (side : Side) → IsFirstPlace (place_of side)
 place_is Out = inl refl
 place_is Into = inr (inl refl)
 place_is Loop = inr (inr refl)
@@ -151,22 +152,23 @@ heads_in s direction labels [] = []
 heads_in s direction labels (g ∷ gs) = cond (is_wanted labels (type_of s g)) (map (group_head g) (sides_of direction)) [] ++ heads_in s direction labels gs
 
 -- their first links are those that the rows of the groups have
-pub firsts_are : (s : Records) (direction : Direction) (labels gs : List ℕ) → map (first_of s) (heads_in s direction labels gs) ≡ first_links direction labels (map (group_row_at s) gs)
+pub firsts_are : (s : Records) (direction : Direction) (labels gs : List ℕ) → map (first_of s) (heads_in s direction labels gs) ≡ first_numbers direction labels (map (group_row_at s) gs)
 firsts_are s direction labels [] = refl
 firsts_are s direction labels (g ∷ gs) =
     map-append (first_of s) (cond (is_wanted labels (type_of s g)) (map (group_head g) (sides_of direction)) []) (heads_in s direction labels gs)
     ∙ (λ i. one (is_wanted labels (type_of s g)) i ++ firsts_are s direction labels gs i)
+    ∙ sym (map-append (λ (link : FirstLink). link.first) (cond (is_wanted labels (type_of s g)) (links_of direction (group_row_at s g)) []) (first_links direction labels (map (group_row_at s) gs)))
   where
     of_side : (side : Side) → first_of s (group_head g side) ≡ first_on (group_row_at s g) side
     of_side Out = refl
     of_side Into = refl
     of_side Loop = refl
 
-    of_sides : (sides : List Side) → map (first_of s) (map (group_head g) sides) ≡ map (first_on (group_row_at s g)) sides
+    of_sides : (sides : List Side) → map (first_of s) (map (group_head g) sides) ≡ numbers_of (map (link_on (group_row_at s g)) sides)
     of_sides [] = refl
     of_sides (side ∷ sides) = λ i. of_side side i ∷ of_sides sides i
 
-    one : (wanted : Bool) → map (first_of s) (cond wanted (map (group_head g) (sides_of direction)) []) ≡ cond wanted (map (first_on (group_row_at s g)) (sides_of direction)) []
+    one : (wanted : Bool) → map (first_of s) (cond wanted (map (group_head g) (sides_of direction)) []) ≡ numbers_of (cond wanted (links_of direction (group_row_at s g)) [])
     one true = of_sides (sides_of direction)
     one false = refl
 
@@ -208,7 +210,7 @@ in_heads s direction labels (k ∷ gs) g side (inr later) wanted aside =
 abbrev Differ : Head → Head → Type 0
 Differ h k = h ≢ k
 
-heads_apart : (s : Records) (direction : Direction) (labels gs : List ℕ) → AreOnce gs → AllPairs Differ (heads_in s direction labels gs)
+pub heads_apart : (s : Records) (direction : Direction) (labels gs : List ℕ) → AreOnce gs → AllPairs Differ (heads_in s direction labels gs)
 heads_apart s direction labels [] once = pairs_none Differ
 heads_apart s direction labels (g ∷ gs) once =
     pairs_append Differ (cond (is_wanted labels (type_of s g)) (map (group_head g) (sides_of direction)) []) (heads_in s direction labels gs)

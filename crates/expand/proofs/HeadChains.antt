@@ -25,7 +25,7 @@ module _ (s : Records) (shape : Shape) (store : IsWellFormed s shape) (n : ℕ) 
   -- what is met in the chains of the heads stands at one of them, and all that does is met once
   pub record HaveChains (heads : List Head) : Type 0 where
     pub members : List ℕ
-    pub walks : AreWalks (next_of s n) (map (first_of s) heads) members
+    pub walks : AreWalks s n (map (first_of s) heads) members
     pub only : (x : ℕ) → In x members → (h : Head) × Contains heads h × Stands h x
     pub all : (h : Head) (x : ℕ) → Contains heads h → Stands h x → In x members
     pub once : AreOnce members
@@ -48,7 +48,7 @@ module _ (s : Records) (shape : Shape) (store : IsWellFormed s shape) (n : ℕ) 
       let walk = walk_of_chain _ _ format.nil (first_of s head) l.members l.chain in
       record {
         members = l.members ++ rest.members;
-        walks = (l.members, rest.members, walk, rest.walks, refl);
+        walks = (l.members, rest.members, l.chain, rest.walks, refl);
         only = λ x i. ⊎_elim
             (λ j. (head, contains_first head heads, l.only x j))
             (λ j. let r = rest.only x j in (r.0, contains_later head heads r.0 r.1, r.2))

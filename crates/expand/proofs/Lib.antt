@@ -1,13 +1,17 @@
 pub mod Ascending
+pub mod BrokenChains
 pub mod ChainRows
 pub mod ChainWalks
+pub mod DenseDegrees
 pub mod DenseRows
 pub mod DenseWalks
 pub mod GroupHeads
+pub mod GroupSums
 pub mod HeadChains
 pub mod LoadedRows
 pub mod ManyEdges
 pub mod Members
 pub mod ModelEdges
 pub mod ReadCounts
+pub mod RowCounts
 pub mod TypeCounts

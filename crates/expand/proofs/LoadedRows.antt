@@ -1,31 +1,40 @@
 -- What a load of a node and a walk of its chain say of the store.
-use Rattle.std.proofs.Common.{◌≡◌, ◌≢◌, ◌≤◌, ◌+◌, ℕ, nat_eq, true, false, cond, None, Some, List, Result, Ok, Err, IfErr, IfOk, OnOk, length, map, refl, sym, ap, ◌∙◌, subst, arith}
+use Rattle.std.proofs.Common.{◌≡◌, ◌≢◌, ◌≤◌, ◌+◌, ◌<◌, ℕ, nat_eq, Bool, true, false, cond, None, Some, List, Result, Ok, Err, IfErr, IfOk, length, map, refl, sym, ap, ◌∙◌, subst, ⊎_elim, arith}
 use Rattle.std.specs.List.{Contains}
 use Rattle.std.proofs.lemmas.Bool.{eqb-true, true≢false}
+use Rattle.std.proofs.lemmas.List.{length-map}
 use Rattle.plain_graph.specs.Graph.{degree_in, has_node}
 use Rattle.plain_graph.specs.declared.direction.Direction.{Direction}
+use Rattle.rec_bytes.specs.declared.damage.Damage.{Damage}
 use Rattle.rec_bytes.specs.declared.row_fault.RowFault.{RowFault}
+use Rattle.rec_bytes.specs.declared.shape.Shape.{Shape}
+use Rattle.rec_bytes.specs.RecordFiles.{room_of}
 use Rattle.rec_bytes.specs.declared.row_fault.RowFault.TheVariants as row
 use Rattle.rec_bytes.specs.Format as format
 use Rattle.rec_bytes.specs.Record.{field}
 use Rattle.rec_bytes.specs.Space.{State, after_gets}
+use Rattle.store_rules.specs.Breaking.{Breaks, NodeKeeps}
+use Rattle.store_rules.specs.Breaking.Breaks.{NodeChain, RecordRange, WrongMeta}
 use Rattle.store_rules.specs.Chains.{IsWalk}
 use Rattle.store_rules.specs.Graph.{graph_of}
 use Rattle.store_rules.specs.Rules.{IsWellFormed}
-use Rattle.store_rules.specs.Views.{Records, first_link, high, kind_at, rec_at}
+use Rattle.store_rules.specs.Views.{Records, first_link, high, kind_at, rec_at, rel_in}
 use Rattle.store_rules.proofs.GraphRows.{no_node, node_there}
-use Rattle.store_rules.proofs.NumberLaws.{eq_true}
-use Rattle.store_rules.proofs.ViewLaws.{kind_below, kind_low}
+use Rattle.store_rules.proofs.ChainLaws.{walk_of_chain}
+use Rattle.store_rules.proofs.NumberLaws.{eq_false, eq_true, nat_cases}
+use Rattle.store_rules.proofs.ViewLaws.{kind_below, kind_low, some_row}
 use Rattle.node_store.specs.declared.node_row.NodeRow.{NodeRow}
-use Rattle.node_store.specs.Loading.{IsNodeFault, after_load, row_at}
-use Rattle.node_store.specs.NodeRecord.{row_of}
+use Rattle.node_store.specs.Loading.{IsKnown, IsNodeDamage, IsNodeFault, after_load, row_at}
+use Rattle.row_store.specs.Loading.IsRowDamage.{HighMark as HighRow, UnknownKind}
+use Rattle.node_store.specs.NodeRecord.{node_key, row_of}
 use Rattle.node_store.proofs.Rows.{kind-row_at-None, kind-row_at-Some}
 use Rattle.rel_store.specs.declared.edge_row.EdgeRow.{EdgeRow}
 use Rattle.rel_store.specs.Loading.{rel_mark, rel_room}
 use Rattle.rec_bytes.specs.declared.fault.Fault.{Fault}
 use Rattle.rec_bytes.specs.declared.fault.Fault.TheVariants as chain
-use Rattle.chain_edit.specs.Chains.{next_of}
+use Rattle.chain_edit.specs.Chains.{IsChainFrom, next_of, prev_of}
 use Rattle.chain_edit.specs.Walking.{HasWalked, IsSoundWalk, IsWalkDamage, IsWalkFault, ReadsAtMost, edge_at}
+use Rattle.chain_edit.specs.Walking.IsWalkDamage.{HighMark, NoWalk}
 use Rattle.chain_edit.proofs.Walks as walks
 use Rattle.chain_edit.proofs.Walks.{sound_below}
 use Rattle.group_store.specs.Loading.{group_mark}
@@ -34,8 +43,7 @@ use Rattle.expand.specs.declared.expand_fault.ExpandFault.{ExpandFault}
 use Rattle.expand.specs.declared.expand_fault.ExpandFault.TheVariants.{Damaged, Disk, Memory, NoNode}
 use Rattle.expand.specs.Costs.{dense_reads, met_count, most_reads, type_count}
 use Rattle.expand.specs.ExpandFault.{of_fault, of_row}
-use Rattle.expand.specs.Expanding.{CanWalkGroups, HasDenseRows, IsDenseDamage, IsDenseFault, IsExpandFault, IsStore, TellsNode, graph_in, name_of, rows_of}
-use Rattle.expand.specs.Expanding.IsExpandDamage.{OfChain, OfDense, OfNode}
+use Rattle.expand.specs.Expanding.{Blames, CanWalkGroups, HasDenseRows, IsDenseRow, IsExpandFault, IsStore, TellsNode, graph_in, name_of, rows_of}
 use Rattle.expand.specs.Matching.{IsPart, is_at, is_met}
 use Rattle.expand.proofs.ChainRows as chain_rows
 use Rattle.expand.proofs.ChainRows.{length-part, part_met}
@@ -43,7 +51,7 @@ use Rattle.expand.proofs.ChainWalks.{Rows}
 use Rattle.expand.proofs.DenseRows as dense_rows
 use Rattle.expand.proofs.Members.{contains_map}
 use Rattle.expand.proofs.ModelEdges.{length-at_node}
-use Rattle.expand.proofs.ReadCounts.{records-after_load, reads_then, shape-after_load}
+use Rattle.expand.proofs.ReadCounts.{load_reads, records-after_load, reads_then, shape-after_load}
 
 -- no row: no node has the identifier
 pub none_there : (s : State) (n : ℕ) → None ≡ row_at s.records n → has_node (graph_in s) n ≡ false
@@ -71,8 +79,18 @@ module _ (s : State) (n : ℕ) (row : NodeRow) (found : Some row ≡ row_at s.re
   kind_is : kind_at s.records format.nodes_file n ≡ field 1 (rec_at s.records format.nodes_file n) format.kind
   kind_is = let r = rec_at s.records format.nodes_file n in kind_low (high s.records format.nodes_file) r n (kind_below (high s.records format.nodes_file) r n used)
 
-  dense_test : row.dense ≡ nat_eq (kind_at s.records format.nodes_file n) format.dense
+  pub dense_test : row.dense ≡ nat_eq (kind_at s.records format.nodes_file n) format.dense
   dense_test = ap (λ (r : NodeRow). r.dense) row_is ∙ ap (λ kind. nat_eq kind format.dense) (sym kind_is)
+
+  -- its kind is one that nodes have
+  known_sparse : IsKnown s n → row.dense ≡ false → kind_at s.records format.nodes_file n ≡ format.sparse
+  known_sparse known thin =
+      let r = rec_at s.records format.nodes_file n in
+      let kind = field 1 r format.kind in
+      ⊎_elim (λ (is : kind ≡ format.sparse). kind_is ∙ is) (λ (ne : kind ≢ format.sparse).
+      absurd (known.kind (kind_below (high s.records format.nodes_file) r n used)
+      (rw (eq_false kind format.free_kind (λ e. used (kind_is ∙ e)), eq_false kind format.sparse ne, (sym (ap (λ k. nat_eq k format.dense) kind_is) ∙ sym dense_test ∙ thin)) refl)))
+      (nat_cases kind format.sparse)
 
   is_sparse : IsStore s → row.dense ≡ false → kind_at s.records format.nodes_file n ≡ format.sparse
   is_sparse store thin = sparse_unless s.records s.shape n store.ranges used (λ e. true≢false (sym (eq_true _ _ e) ∙ sym dense_test ∙ thin))
@@ -81,7 +99,7 @@ module _ (s : State) (n : ℕ) (row : NodeRow) (found : Some row ≡ row_at s.re
   sparse_bound : (direction : Direction) (labels : List ℕ) → row.dense ≡ false → most_reads s direction labels n ≡ degree_in (graph_in s) n + 1
   sparse_bound direction labels thin = ap (λ t. cond t (dense_reads s direction labels n) (degree_in (graph_in s) n + 1)) (sym dense_test ∙ thin)
 
-  dense_bound : (direction : Direction) (labels : List ℕ) → row.dense ≡ true → most_reads s direction labels n ≡ dense_reads s direction labels n
+  pub dense_bound : (direction : Direction) (labels : List ℕ) → row.dense ≡ true → most_reads s direction labels n ≡ dense_reads s direction labels n
   dense_bound direction labels thick = ap (λ t. cond t (dense_reads s direction labels n) (degree_in (graph_in s) n + 1)) (sym dense_test ∙ thick)
 
   module _ (mid : State) (loaded : mid ≡ after_load s n) where
@@ -95,17 +113,37 @@ module _ (s : State) (n : ℕ) (row : NodeRow) (found : Some row ≡ row_at s.re
     mark_stays : rel_mark mid ≡ rel_mark s
     mark_stays = ap (λ (r : Records). high r format.relationships_file) records_stay
 
-    store_stays : IsStore s → IsStore mid
+    pub store_stays : IsStore s → IsStore mid
     store_stays store = subst (λ (r : Records). IsWellFormed r mid.shape) (sym records_stay) (subst (IsWellFormed s.records) (sym shape_stays) store)
 
     -- ---- of a sparse node
 
     module _ (mark : ℕ) (marked : mark ≡ rel_mark s) (thin : row.dense ≡ false) where
-      -- a record that the walk calls damaged breaks a rule of the chain
-      pub chain_fault : (fault : Fault) → IsWalkFault mid row.first n mark fault → IsExpandFault s n (of_fault fault)
-      chain_fault chain.Memory told = tt
-      chain_fault chain.Disk told = tt
-      chain_fault (chain.Damaged damage) told = OfChain row (sym found) thin (subst (λ m. IsWalkDamage (after_load s n) row.first n m damage) marked (subst (λ t. IsWalkDamage t row.first n mark damage) loaded told))
+      -- where the node has a chain, the walk ends within the mark
+      ends : NodeKeeps s.records n → kind_at s.records format.nodes_file n ≡ format.sparse → (xs : List ℕ) × IsSoundWalk mid row.first n mark xs
+      ends keeps is =
+          let head = keeps.chain is in (
+            head.0,
+            subst (λ m. IsSoundWalk mid row.first n m head.0) (mark_stays ∙ sym marked) (sound_below mid row.first n head.0
+                (subst (λ (r : Records). IsChainFrom r n row.first head.0) (sym records_stay) (subst (λ first. IsChainFrom s.records n first head.0) (sym first_is) head.1.chain))
+                (λ x i.
+                let stands = head.1.only x i in
+                let low = kind_below (rel_mark s) (rec_at s.records format.relationships_file x) x (some_row (kind_at s.records format.relationships_file x) (rel_in (rec_at s.records format.relationships_file x) x) stands.row stands.live).0 in
+                let same = mark_stays in omega arith)),
+          )
+
+      -- a record that the walk calls damaged breaks a rule
+      pub chain_fault : IsKnown s n → (fault : Fault) → IsWalkFault mid (node_key n) row.first n mark fault → IsExpandFault s n (of_fault fault)
+      chain_fault known chain.Memory told = tt
+      chain_fault known chain.Disk told = tt
+      chain_fault known (chain.Damaged damage) told = by damage told
+        where
+          below : n < high s.records format.nodes_file
+          below = kind_below (high s.records format.nodes_file) (rec_at s.records format.nodes_file n) n used
+
+          by : (damage : Damage) → IsWalkDamage mid (node_key n) row.first n mark damage → Breaks s.records s.shape damage
+          by damage (NoWalk none) = NodeChain n below (λ keeps. let walk = ends keeps (known_sparse known thin) in none walk.0 walk.1)
+          by damage (HighMark above) = WrongMeta format.relationships_file (omega arith) (λ meta. let right = meta.high in let mark = mark_stays in let room = ap (λ (shape : Shape). room_of shape format.relationships_file) shape_stays in omega arith)
 
       module _ (store : IsStore s) where
         pub sparse : kind_at s.records format.nodes_file n ≡ format.sparse
@@ -116,16 +154,34 @@ module _ (s : State) (n : ℕ) (row : NodeRow) (found : Some row ≡ row_at s.re
         members = chain_rows.members s.records s.shape store n sparse
 
         -- they are met after the load
+        chained : IsChainFrom mid.records n row.first members
+        chained = subst (λ (r : Records). IsChainFrom r n row.first members) (sym records_stay) (subst (λ first. IsChainFrom s.records n first members) (sym first_is) (chain_rows.chained s.records s.shape store n sparse))
+
         walk : IsWalk (next_of mid.records n) row.first members
-        walk = subst (λ (r : Records). IsWalk (next_of r n) row.first members) (sym records_stay) (subst (λ first. IsWalk (next_of s.records n) first members) (sym first_is) (chain_rows.walk s.records s.shape store n sparse))
+        walk = walk_of_chain (next_of mid.records n) (prev_of mid.records n) format.nil row.first members chained
 
         -- the chain ends within the mark
         pub sound : IsSoundWalk mid row.first n mark members
-        sound = subst (λ m. IsSoundWalk mid row.first n m members) (mark_stays ∙ sym marked) (sound_below mid row.first n members walk (λ x i. let low = chain_rows.low s.records s.shape store n sparse x i in let same = mark_stays in omega arith))
+        sound = subst (λ m. IsSoundWalk mid row.first n m members) (mark_stays ∙ sym marked) (sound_below mid row.first n members chained (λ x i. let low = chain_rows.low s.records s.shape store n sparse x i in let same = mark_stays in omega arith))
 
         -- there is room for as many as were given out
         pub room : rel_mark mid ≤ rel_room mid
         room = ((store_stays store).ranges.metas format.relationships_file refl).high
+
+        -- each of them is at the node
+        at_node : (r : EdgeRow) → Contains (map (edge_at s.records) members) r → is_at n r ≡ true
+        at_node r is =
+            let found = contains_map (edge_at s.records) members r is in
+            subst (λ (e : EdgeRow). is_at n e ≡ true) (sym found.2) (chain_rows.at_node s.records s.shape store n sparse found.0 found.1)
+
+        -- as many reads as relationships, and one for the node
+        pub sparse_reads : (direction : Direction) (labels : List ℕ) (new : State) → ReadsAtMost (length members) mid new → ReadsAtMost (most_reads s direction labels n) s new
+        sparse_reads direction labels new reads =
+            let few = length-part (is_at n) (is_at n) (map (edge_at s.records) members) (rows_of s.records) (chain_rows.part s.records s.shape store n sparse) at_node in
+            let same = length-at_node s.records s.shape store n in
+            let long = length-map members (edge_at s.records) in
+            let more : ReadsAtMost (degree_in (graph_in s) n) mid new = record { count = reads.count; within = let le = reads.within in omega arith; is = reads.is } in
+            subst (λ most. ReadsAtMost most s new) (sym (sparse_bound direction labels thin)) (reads_then s mid new n (degree_in (graph_in s) n) loaded more)
 
         module _ (rows : List EdgeRow) (walked : HasWalked mid row.first n mark rows) where
           -- the rows are theirs
@@ -139,49 +195,38 @@ module _ (s : State) (n : ℕ) (row : NodeRow) (found : Some row ≡ row_at s.re
           pub sparse_part : (direction : Direction) (labels : List ℕ) → IsPart (is_met direction labels n) rows (rows_of s.records)
           sparse_part direction labels = part_met direction labels n rows (rows_of s.records) whole
 
-          -- each of them is at the node
-          at_node : (r : EdgeRow) → Contains rows r → is_at n r ≡ true
-          at_node r is =
-              let found = contains_map (edge_at s.records) members r (subst (λ xs. Contains xs r) rows_are is) in
-              subst (λ (e : EdgeRow). is_at n e ≡ true) (sym found.2) (chain_rows.at_node s.records s.shape store n sparse found.0 found.1)
-
-          -- as many reads as relationships, and one for the node
-          pub sparse_reads : (direction : Direction) (labels : List ℕ) (new : State) → new ≡ after_gets (length rows) mid → ReadsAtMost (most_reads s direction labels n) s new
-          sparse_reads direction labels new reads =
-              let few = length-part (is_at n) (is_at n) rows (rows_of s.records) whole at_node in
-              let same = length-at_node s.records s.shape store n in
-              let more : ReadsAtMost (degree_in (graph_in s) n) mid new = record { count = length rows; within = omega arith; is = reads } in
-              subst (λ most. ReadsAtMost most s new) (sym (sparse_bound direction labels thin)) (reads_then s mid new n (degree_in (graph_in s) n) loaded more)
-
     -- ---- of a dense one
 
     module _ (thick : row.dense ≡ true) where
-      -- a record that is called damaged breaks a rule of the groups or of their chains
-      pub dense_fault : (found : Result Rows ExpandFault) → IfErr found (IsDenseFault mid row) → IfErr found (IsExpandFault s n)
+      pub id_is : row.id ≡ n
+      id_is = ap (λ (r : NodeRow). r.id) row_is
+
+      -- a record that is called damaged breaks a rule
+      pub dense_fault : {T : Type 0} (found : Result T ExpandFault) → IfErr found (Blames mid) → IfErr found (IsExpandFault s n)
       dense_fault (Ok rows) told = tt
       dense_fault (Err (NoNode id)) told = absurd told
       dense_fault (Err Memory) told = tt
       dense_fault (Err Disk) told = tt
-      dense_fault (Err (Damaged damage)) told = OfDense row (sym found) thick (subst (λ (t : State). IsDenseDamage t row damage) loaded told)
+      dense_fault (Err (Damaged damage)) told = subst (λ (r : Records). Breaks r s.shape damage) records_stay (subst (λ (shape : Shape). Breaks mid.records shape damage) shape_stays told)
 
       -- the node is there
-      pub dense_tells : (found : Result Rows ExpandFault) → IfErr found (IsDenseFault mid row) → TellsNode found n (has_node (graph_in s) n)
+      pub dense_tells : {T : Type 0} (found : Result T ExpandFault) → IfErr found (Blames mid) → TellsNode found n (has_node (graph_in s) n)
       dense_tells (Ok rows) told = one_there
       dense_tells (Err (NoNode id)) told = absurd told
       dense_tells (Err Memory) told = one_there
       dense_tells (Err Disk) told = tt
       dense_tells (Err (Damaged damage)) told = tt
 
+      pub mid_dense : kind_at mid.records format.nodes_file row.id ≡ format.dense
+      mid_dense = ap (λ x. kind_at mid.records format.nodes_file x) id_is ∙ ap (λ (r : Records). kind_at r format.nodes_file n) records_stay ∙ eqb-true _ _ (sym dense_test ∙ thick)
+
+      pub mid_first : row.first ≡ first_link mid.records row.id
+      mid_first = first_is ∙ ap (λ (r : Records). first_link r n) (sym records_stay) ∙ ap (first_link mid.records) (sym id_is)
+
+      pub mid_row : IsDenseRow mid row
+      mid_row = record { dense = mid_dense; first = mid_first }
+
       module _ (store : IsStore s) where
-        id_is : row.id ≡ n
-        id_is = ap (λ (r : NodeRow). r.id) row_is
-
-        mid_dense : kind_at mid.records format.nodes_file row.id ≡ format.dense
-        mid_dense = ap (λ x. kind_at mid.records format.nodes_file x) id_is ∙ ap (λ (r : Records). kind_at r format.nodes_file n) records_stay ∙ eqb-true _ _ (sym dense_test ∙ thick)
-
-        mid_first : row.first ≡ first_link mid.records row.id
-        mid_first = first_is ∙ ap (λ (r : Records). first_link r n) (sym records_stay) ∙ ap (first_link mid.records) (sym id_is)
-
         -- the walks have an end
         pub walkable : (direction : Direction) (labels : List ℕ) → (groups : List ℕ) × (members : List ℕ) × CanWalkGroups mid row direction labels groups members
         walkable direction labels = (
@@ -190,6 +235,10 @@ module _ (s : State) (n : ℕ) (row : NodeRow) (found : Some row ≡ row_at s.re
           dense_rows.can_walk mid (store_stays store) row mid_dense mid_first direction labels,
         )
 
+        pub can_walk : (direction : Direction) (labels : List ℕ) → CanWalkGroups mid row direction labels (dense_rows.members mid (store_stays store) row mid_dense mid_first direction labels)
+            (dense_rows.chains mid (store_stays store) row mid_dense mid_first direction labels).members
+        can_walk direction labels = dense_rows.can_walk mid (store_stays store) row mid_dense mid_first direction labels
+
         module _ (direction : Direction) (labels : List ℕ) (new : State) where
           -- the rows are a part of all rows
           pub dense_part : (rows : List EdgeRow) → HasDenseRows mid new row direction labels rows → IsPart (is_met direction labels n) rows (rows_of s.records)
@@ -197,10 +246,10 @@ module _ (s : State) (n : ℕ) (row : NodeRow) (found : Some row ≡ row_at s.re
               (subst (λ x. IsPart (is_met direction labels x) rows (rows_of mid.records)) id_is (dense_rows.dense_part mid (store_stays store) row mid_dense mid_first direction labels new rows has))
 
           -- as many reads as types and as relationships that are met, and one for the node
-          pub dense_most : (found : Result Rows ExpandFault) → IfOk found (λ (rows : Rows). HasDenseRows mid new row direction labels rows.items) → OnOk found (ReadsAtMost (most_reads s direction labels n) s new)
-          dense_most (Err fault) has = tt
-          dense_most (Ok rows) has =
-              let more = dense_rows.dense_most mid (store_stays store) row mid_dense mid_first direction labels new rows.items has in
+          pub dense_most : ReadsAtMost (length (dense_rows.members mid (store_stays store) row mid_dense mid_first direction labels) + length (dense_rows.chains mid (store_stays store) row mid_dense mid_first direction labels).members) mid new
+              → ReadsAtMost (most_reads s direction labels n) s new
+          dense_most reads =
+              let more = dense_rows.dense_few mid (store_stays store) row mid_dense mid_first direction labels new reads in
               let count = λ (r : Records) (x : ℕ). type_count (graph_of r) x + met_count (graph_of r) direction (map (name_of r) labels) x in
               subst (λ most. ReadsAtMost most s new) (sym (dense_bound direction labels thick))
               (reads_then s mid new n (count s.records n) loaded
@@ -231,7 +280,20 @@ chain_tells s n there (chain.Damaged damage) = tt
 
 -- ---- faults
 
--- a record that the load calls damaged breaks a rule of nodes
+-- a record that the load calls damaged breaks a rule
 pub row_fault : (s : State) (n : ℕ) (fault : RowFault) → IsNodeFault s n fault → IsExpandFault s n (of_row fault)
 row_fault s n row.Disk told = tt
-row_fault s n (row.Damaged damage) told = OfNode told
+row_fault s n (row.Damaged damage) told = by damage told
+  where
+    by : (damage : Damage) → IsNodeDamage s n damage → Breaks s.records s.shape damage
+    by damage (HighRow above) = WrongMeta format.nodes_file (omega arith) (λ meta. let right = meta.high in omega arith)
+    by damage (UnknownKind lt none) = RecordRange format.nodes_file n refl lt refl (λ fits. let is = fits.is in cc)
+
+-- ---- at most one read
+
+pub load_most : (s mid : State) (n : ℕ) (direction : Direction) (labels : List ℕ) → mid ≡ after_load s n → ReadsAtMost (most_reads s direction labels n) s mid
+load_most s mid n direction labels loaded = by (nat_eq (kind_at s.records format.nodes_file n) format.dense)
+  where
+    by : (is : Bool) → ReadsAtMost (cond is (dense_reads s direction labels n) (degree_in (graph_in s) n + 1)) s mid
+    by true = load_reads s mid n (type_count (graph_in s) n + met_count (graph_in s) direction (map (name_of s.records) labels) n) loaded
+    by false = load_reads s mid n (degree_in (graph_in s) n) loaded

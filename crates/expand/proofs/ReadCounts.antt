@@ -53,6 +53,10 @@ reads_both s mid new first then before more = record {
   is = more.is ∙ ap (after_gets more.count) before.is ∙ gets_add more.count before.count s;
 }
 
+-- and so are they of as many and more
+pub reads_wider : {k : ℕ} {s t : State} (more : ℕ) → ReadsAtMost k s t → ReadsAtMost (k + more) s t
+reads_wider more r = record { count = r.count; within = let le = r.within in omega arith; is = r.is }
+
 -- those of groups, and then as many as relationships were given out
 pub reads_marks : (s mid new : State) (most : ℕ) → ReadsAtMost most s mid → ReadsAtMost (rel_mark mid) mid new → ReadsAtMost (most + rel_mark s) s new
 reads_marks s mid new most before more = reads_both s mid new most (rel_mark s) before (subst (λ mark. ReadsAtMost mark mid new) (mark_then s mid before.count before.is) more)

@@ -1,29 +1,29 @@
 -- What is found of the edges of a node, and what it costs.
-use Rattle.std.specs.Prelude.{◌≡◌, ◌<◌, ◌≤◌, ℕ, ◌+◌, Bool, true, false, Option, List, length, map}
-use Rattle.std.specs.Prelude.{Result, Ok, Err, All, Some}
+use Rattle.std.specs.Prelude.{◌≡◌, ◌<◌, ◌≤◌, ℕ, ◌+◌, Bool, true, false, Option, None, List, length, map}
+use Rattle.std.specs.Prelude.{Result, Ok, Err, All}
 use Rattle.std.specs.List.{AllZip}
 use Rattle.plain_graph.specs.Graph.{Edge, Graph}
 use Rattle.plain_graph.specs.declared.direction.Direction.{Direction}
-use Rattle.rec_bytes.specs.declared.damage.Damage.{Damage}
+use Rattle.rec_bytes.specs.Format as format
 use Rattle.rec_bytes.specs.Format.{names_file, relationships_file}
 use Rattle.rec_bytes.specs.Space.{State, after_gets}
+use Rattle.store_rules.specs.Breaking.{Breaks}
 use Rattle.store_rules.specs.Graph.{graph_of}
 use Rattle.store_rules.specs.Rows.{collect}
 use Rattle.store_rules.specs.Rules.{IsWellFormed}
-use Rattle.store_rules.specs.Views.{Records, high, kind_at, rec_at, row_if, text_of}
+use Rattle.store_rules.specs.Views.{Records, first_link, high, kind_at, rec_at, row_if, text_of}
 use Rattle.node_store.specs.declared.node_row.NodeRow.{NodeRow}
-use Rattle.node_store.specs.Loading.{IsNodeDamage, after_load, row_at}
+use Rattle.node_store.specs.Loading.{row_at}
 use Rattle.rel_store.specs.declared.edge_row.EdgeRow.{EdgeRow}
 use Rattle.rel_store.specs.Loading.{rel_mark, rel_room}
-use Rattle.chain_edit.specs.Walking.{IsWalkDamage, edge_at}
+use Rattle.chain_edit.specs.Walking.{edge_at}
 use Rattle.group_store.specs.declared.group_row.GroupRow.{GroupRow}
-use Rattle.group_store.specs.Walking as groups
 use Rattle.group_store.specs.Walking.{HasGroupRows, IsWalkable, group_row_at}
 use Rattle.expand.specs.declared.expand_fault.ExpandFault.{ExpandFault}
 use Rattle.expand.specs.declared.expand_fault.ExpandFault.TheVariants.{NoNode, Memory, Disk}
 use Rattle.expand.specs.declared.expand_fault.ExpandFault.TheVariants.{Damaged}
-use Rattle.expand.specs.FirstLinks.{first_links}
-use Rattle.expand.specs.Walking.{AreSoundWalks, AreWalksDamage, HaveWalked}
+use Rattle.expand.specs.FirstLinks.{first_links, first_numbers}
+use Rattle.expand.specs.Walking.{AllBelong, AreSoundWalks, HaveWalked}
 
 -- the records are those of a well-formed store
 abbrev pub IsStore : State → Type 0
@@ -79,50 +79,35 @@ pub record HasDenseRows (s t : State) (row : NodeRow) (direction : Direction) (l
     (rows : List EdgeRow) : Type 0 where
   pub groups : List GroupRow
   pub listed : HasGroupRows s.records row.id row.first groups
-  pub walked : HaveWalked s row.id (first_links direction labels groups) rows
+  pub walked : HaveWalked s row.id (first_numbers direction labels groups) rows
   pub read : t ≡ after_gets (length groups + length rows) s
 
 -- the links lead through these groups of the dense node, and in chains of them through these
--- relationships
+-- relationships, each of which belongs there
 pub record CanWalkGroups (s : State) (row : NodeRow) (direction : Direction) (labels : List ℕ)
     (groups members : List ℕ) : Type 0 where
   pub walkable : IsWalkable s row.id row.first groups
   pub mark : rel_mark s ≤ rel_room s
   pub sound : AreSoundWalks s row.id
-      (first_links direction labels (map (group_row_at s.records) groups)) (rel_mark s) members
+      (first_numbers direction labels (map (group_row_at s.records) groups)) (rel_mark s) members
+  pub belong : AllBelong s row.id
+      (first_links direction labels (map (group_row_at s.records) groups))
 
--- The record that is said to be damaged breaks a rule: that of the groups of a dense node, or the
--- one of their chains.
-pub data IsDenseDamage (s : State) (row : NodeRow) : Damage → Type 0 where
-  OfGroups : {damage : Damage} → groups.IsWalkDamage s row.id row.first damage
-      → IsDenseDamage s row damage
-  OfGroupChains : {damage : Damage} (direction : Direction) (labels : List ℕ)
-      (groups : List GroupRow) → HasGroupRows s.records row.id row.first groups
-      → AreWalksDamage s row.id (first_links direction labels groups) damage
-      → IsDenseDamage s row damage
+-- the row is that of the dense node
+pub record IsDenseRow (s : State) (row : NodeRow) : Type 0 where
+  pub dense : kind_at s.records format.nodes_file row.id ≡ format.dense
+  pub first : row.first ≡ first_link s.records row.id
 
--- what holds where a fault is given; no node is said to be missing
-abbrev pub IsDenseFault : State → NodeRow → ExpandFault → Type 0
-IsDenseFault s row (NoNode id) = ⊥
-IsDenseFault s row Memory = Unit {0}
-IsDenseFault s row Disk = Unit {0}
-IsDenseFault s row (Damaged damage) = IsDenseDamage s row damage
+-- A record that is said to be damaged breaks the rule that is named. No node is said to be missing.
+abbrev pub Blames : State → ExpandFault → Type 0
+Blames s (NoNode id) = ⊥
+Blames s Memory = Unit {0}
+Blames s Disk = Unit {0}
+Blames s (Damaged damage) = Breaks s.records s.shape damage
 
--- The record that is said to be damaged breaks a rule: the one of the node, of a sparse node's
--- chain, or of a dense one's groups and their chains.
-pub data IsExpandDamage (s : State) (node : ℕ) : Damage → Type 0 where
-  OfNode : {damage : Damage} → IsNodeDamage s node damage → IsExpandDamage s node damage
-  OfChain : {damage : Damage} (row : NodeRow) → row_at s.records node ≡ Some row
-      → row.dense ≡ false
-      → IsWalkDamage (after_load s node) row.first node (rel_mark s) damage
-      → IsExpandDamage s node damage
-  OfDense : {damage : Damage} (row : NodeRow) → row_at s.records node ≡ Some row
-      → row.dense ≡ true → IsDenseDamage (after_load s node) row damage
-      → IsExpandDamage s node damage
-
--- what holds where a fault is given
+-- The same, or the node is missing.
 abbrev pub IsExpandFault : State → ℕ → ExpandFault → Type 0
-IsExpandFault s node (NoNode id) = Unit {0}
+IsExpandFault s node (NoNode id) = (id ≡ node) × (row_at s.records node ≡ None)
 IsExpandFault s node Memory = Unit {0}
 IsExpandFault s node Disk = Unit {0}
-IsExpandFault s node (Damaged damage) = IsExpandDamage s node damage
+IsExpandFault s node (Damaged damage) = Breaks s.records s.shape damage

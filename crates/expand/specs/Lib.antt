@@ -1,4 +1,5 @@
 pub mod Costs
+pub mod Degrees
 pub mod ExpandFault
 pub mod Expanding
 pub mod FirstLinks

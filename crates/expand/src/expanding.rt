@@ -1,4 +1,4 @@
-ghost use Rattle.std.specs.Prelude.{◌≡◌, ◌+◌, ◌<◌, IfErr, IfOk, OnOk, map};
+ghost use Rattle.std.specs.Prelude.{◌≡◌, ◌+◌, ◌<◌, IfErr, IfOk, map};
 ghost use Rattle.plain_graph.specs.Graph.{degree_in, has_node};
 ghost use Rattle.plain_graph.specs.Meaning.{edges_at};
 ghost use Rattle.rel_store.specs.Loading.{rel_mark};
@@ -51,14 +51,15 @@ pub fn expand<R: Reads>(
         → TellsNode result node (has_node (graph_in (R.state space.old)) node) }
     ensures sound { R.tells → IsStore (R.state space.old) → NotDamaged result }
     ensures damaged { R.tells → IfErr result (IsExpandFault (R.state space.old) node) }
-    ensures reads { R.tells → IsStore (R.state space.old) → OnOk result
-        (ReadsAtMost (most_reads (R.state space.old) direction labels.now node)
-        (R.state space.old) (R.state space.new)) }
+    // whatever is answered
+    ensures reads { R.tells → IsStore (R.state space.old)
+        → ReadsAtMost (most_reads (R.state space.old) direction labels.now node)
+        (R.state space.old) (R.state space.new) }
     // so where a node has more edges than a sparse one may have
     ensures dense_reads { R.tells → IsStore (R.state space.old)
         → (R.state space.old).shape.threshold < degree_in (graph_in (R.state space.old)) node
-        → OnOk result (ReadsAtMost (dense_reads (R.state space.old) direction labels.now node)
-        (R.state space.old) (R.state space.new)) }
+        → ReadsAtMost (dense_reads (R.state space.old) direction labels.now node)
+        (R.state space.old) (R.state space.new) }
     ensures at_most { ReadsAtMost
         (group_mark (R.state space.old) + rel_mark (R.state space.old) + 1)
         (R.state space.old) (R.state space.new) }

@@ -4,6 +4,7 @@
 //! their rows.
 #![tactic(auto)]
 
+mod degrees;
 mod expand_fault;
 mod expanding;
 mod first_links;
@@ -11,5 +12,6 @@ mod loading;
 mod matching;
 mod walking;
 
+pub use degrees::degree;
 pub use expand_fault::ExpandFault;
 pub use expanding::expand;

@@ -1,6 +1,6 @@
 //! Where the rows of the relationships at a node come from.
 
-ghost use Rattle.std.specs.Prelude.{◌≡◌, ◌+◌, ℕ, List, IfErr, IfOk, OnOk};
+ghost use Rattle.std.specs.Prelude.{◌≡◌, ◌+◌, ℕ, List, IfErr, IfOk, length};
 ghost use Rattle.plain_graph.specs.Graph.{has_node};
 ghost use Rattle.rel_store.specs.Loading.{rel_mark};
 ghost use Rattle.chain_edit.specs.Walking.{ReadsAtMost};
@@ -8,9 +8,10 @@ ghost use Rattle.group_store.specs.Loading.{group_mark};
 ghost use Rattle.expand.specs.Costs.{most_reads};
 ghost use Rattle.expand.specs.ExpandFault.{HasExpandCause, NotDamaged};
 ghost use Rattle.expand.specs.Expanding.{
+  Blames,
   CanWalkGroups,
   HasDenseRows,
-  IsDenseFault,
+  IsDenseRow,
   IsExpandFault,
   IsStore,
   TellsNode,
@@ -22,11 +23,11 @@ ghost use Rattle.expand.specs.Matching.{IsPart, is_met};
 use crate::ExpandFault;
 use crate::first_links::first_links;
 use crate::walking::walk_all;
-use chain_edit::walk;
+use chain_edit::{Chain, walk};
 use group_store::groups;
 use node_store::{NodeRow, load};
 use plain_graph::Direction;
-use rec_bytes::{RELATIONSHIPS, Reads};
+use rec_bytes::{Key, NODES, RELATIONSHIPS, Reads};
 use rel_store::EdgeRow;
 use std::alloc::Global;
 
@@ -46,9 +47,9 @@ pub(crate) fn load_rows<R: Reads>(
         → TellsNode result node (has_node (graph_in (R.state space.old)) node) }
     ensures sound { R.tells → IsStore (R.state space.old) → NotDamaged result }
     ensures damaged { R.tells → IfErr result (IsExpandFault (R.state space.old) node) }
-    ensures reads { R.tells → IsStore (R.state space.old) → OnOk result
-        (ReadsAtMost (most_reads (R.state space.old) direction labels.now node)
-        (R.state space.old) (R.state space.new)) }
+    ensures reads { R.tells → IsStore (R.state space.old)
+        → ReadsAtMost (most_reads (R.state space.old) direction labels.now node)
+        (R.state space.old) (R.state space.new) }
     ensures at_most { ReadsAtMost
         (group_mark (R.state space.old) + rel_mark (R.state space.old) + 1)
         (R.state space.old) (R.state space.new) }
@@ -62,7 +63,15 @@ pub(crate) fn load_rows<R: Reads>(
     if row.dense {
         return dense_rows(alloc, space, &row, direction, labels);
     }
-    let rows = walk(alloc, space, row.first, node, mark)?;
+    let chain = Chain {
+        owner: Key {
+            file: NODES,
+            id: node,
+        },
+        node,
+        first: row.first,
+    };
+    let rows = walk(alloc, space, &chain, mark)?;
     Ok(rows)
 }
 
@@ -78,7 +87,11 @@ fn dense_rows<R: Reads>(
         (R.state space.new) row.now direction labels.now rows.items) }
     ensures at_most { ReadsAtMost (group_mark (R.state space.old) + rel_mark (R.state space.old))
         (R.state space.old) (R.state space.new) }
-    ensures damaged { R.tells → IfErr result (IsDenseFault (R.state space.old) row.now) }
+    ensures few_reads { R.tells → (groups members : List ℕ)
+        → CanWalkGroups (R.state space.old) row.now direction labels.now groups members
+        → ReadsAtMost (length groups + length members) (R.state space.old) (R.state space.new) }
+    ensures damaged { R.tells → IsDenseRow (R.state space.old) row.now
+        → IfErr result (Blames (R.state space.old)) }
     ensures sound { R.tells → (groups members : List ℕ)
         → CanWalkGroups (R.state space.old) row.now direction labels.now groups members
         → NotDamaged result }
@@ -86,7 +99,7 @@ fn dense_rows<R: Reads>(
     ensures cause { HasExpandCause (R.faults space.old) (R.faults space.new) result }
 {
     let groups = groups(alloc, space, row)?;
-    let firsts = first_links(alloc, &groups, direction, labels)?;
-    let rows = walk_all(alloc, space, row.id, &firsts)?;
+    let links = first_links(alloc, &groups, direction, labels)?;
+    let rows = walk_all(alloc, space, row.id, &links)?;
     Ok(rows)
 }

@@ -20,7 +20,7 @@ use std::alloc::{AllocError, Global};
 
 /// An end of a relationship.
 #[derive(Clone, Copy)]
-enum End {
+pub(crate) enum End {
     /// The node that it leaves.
     Source,
     /// The node that it enters.
@@ -94,7 +94,7 @@ fn picked(
 }
 
 /// The node at an end.
-fn end_of(end: End, row: &EdgeRow) -> u32
+pub(crate) fn end_of(end: End, row: &EdgeRow) -> u32
     ensures { result ≡ end_of end row.now }
 {
     match end {

@@ -14,7 +14,6 @@ use Rattle.plain_graph.specs.declared.refusal.Refusal.TheVariants as refusals
 use Rattle.rec_bytes.specs.declared.shape.Shape.{Shape}
 use Rattle.rec_bytes.specs.Format as format
 use Rattle.rec_bytes.specs.Space.{SameButReads, State, meta_of}
-use Rattle.store_rules.specs.Views.{Records}
 use Rattle.store_rules.proofs.GraphRows.{count_edges}
 use Rattle.node_store.specs.declared.node_row.NodeRow.{NodeRow}
 use Rattle.node_store.specs.Loading as nodes

@@ -1,5 +1,5 @@
 -- An edge that left the chains of its ends, whose groups are dropped if they are empty.
-use Rattle.std.proofs.Common.{◌≡◌, ◌≢◌, ℕ, nat_eq, cond, List, [], ◌++◌, sym, ap, ◌∙◌, subst, inl, inr, refl}
+use Rattle.std.proofs.Common.{◌≡◌, ◌≢◌, ℕ, nat_eq, cond, List, [], ◌++◌, sym, ap, ◌∙◌, subst, inl, inr, ⊎_elim, refl}
 use Rattle.plain_graph.specs.Graph.{Graph, RemovesEdge}
 use Rattle.rec_bytes.specs.Format as format
 use Rattle.rec_bytes.specs.Space.{State}
@@ -8,10 +8,10 @@ use Rattle.store_rules.specs.Graph.{graph_of}
 use Rattle.store_rules.specs.Rules as rules
 use Rattle.store_rules.specs.Rules.{KeepsRules, Owns}
 use Rattle.store_rules.specs.Views.{group_at, kind_at}
-use Rattle.store_rules.proofs.NumberLaws.{eq_false, eq_true}
+use Rattle.store_rules.proofs.NumberLaws.{eq_false, eq_true, nat_cases}
 use Rattle.chain_edit.specs.Heads.{head_of}
 use Rattle.group_store.specs.Closing.{CanClose, HasClosed}
-use Rattle.graph_ops.specs.EdgeDeleting.{IsBareEdge, PartsEdge, TakesEdge}
+use Rattle.graph_ops.specs.EdgeDeleting.{IsBareEdge, KeepsKinds, PartsEdge, TakesEdge}
 use Rattle.graph_ops.specs.Store.{graph_in}
 use Rattle.graph_ops.specs.declared.edge_end.EdgeEnd.{EdgeEnd}
 
@@ -28,18 +28,25 @@ module _ (s u : State) (names : List (List ℕ)) (id : ℕ) (source target : Edg
   source_closes = record { keeps = parts.keeps; owns = owns_still (head_of source.head) source.node bare.leaves.owns }
 
   -- what is left keeps the rules, and the graph
-  taken : (t : State) → KeepsRules t.records t.shape u.shape.threshold [] → t.shape ≡ u.shape → graph_of t.records ≡ graph_of u.records → TakesEdge s t names id
-  taken t keeps shape graph = record {
+  taken : (t : State) → KeepsRules t.records t.shape u.shape.threshold [] → t.shape ≡ u.shape → graph_of t.records ≡ graph_of u.records → KeepsKinds u t → TakesEdge s t names id
+  taken t keeps shape graph kinds = record {
     store = record {
       store = subst (λ m. KeepsRules t.records t.shape m []) (sym (ap (λ z. z.threshold) shape)) keeps;
       names = parts.names ∙ sym (ap (λ (z : Graph). z.names) graph);
     };
     removes = subst (RemovesEdge (graph_in s) id) (sym graph) parts.removes;
+    kinds = λ n. kinds n ∙ parts.kinds n;
   }
+
+  -- a head that is closed leaves all nodes what they are
+  closed_kinds : (v w : State) (node most : ℕ) (empty : List ℕ) → HasClosed v w node most empty → KeepsKinds v w
+  closed_kinds v w node most empty closed n = ⊎_elim
+      (λ (e : n ≡ node). subst (λ m. kind_at w.records format.nodes_file m ≡ kind_at v.records format.nodes_file m) (sym e) closed.kind)
+      (λ (ne : n ≢ node). closed.regroups.kinds n ne) (nat_cases n node)
 
   module _ (v : State) (closed : HasClosed u v source.node u.shape.threshold rest) where
     pub loop_taken : source.node ≡ target.node → TakesEdge s v names id
-    loop_taken loop = taken v (subst (KeepsRules v.records v.shape u.shape.threshold) none closed.keeps) closed.regroups.shape closed.regroups.graph
+    loop_taken loop = taken v (subst (KeepsRules v.records v.shape u.shape.threshold) none closed.keeps) closed.regroups.shape closed.regroups.graph (closed_kinds u v source.node u.shape.threshold rest closed)
       where
         none : rest ≡ []
         none = rw (eq_true source.node target.node loop) refl
@@ -67,3 +74,4 @@ module _ (s u : State) (names : List (List ℕ)) (id : ℕ) (source target : Edg
 
     pub pair_taken : (w : State) → HasClosed v w target.node u.shape.threshold [] → TakesEdge s w names id
     pair_taken w last = taken w last.keeps (last.regroups.shape ∙ closed.regroups.shape) (last.regroups.graph ∙ closed.regroups.graph)
+        (λ n. closed_kinds v w target.node u.shape.threshold [] last n ∙ closed_kinds u v source.node u.shape.threshold rest closed n)

@@ -1,17 +1,23 @@
 -- A new relationship that joined the chains of its ends, as the rules ask of one.
-use Rattle.std.proofs.Common.{◌≡◌, ◌≢◌, ◌⊎◌, ℕ, ◌+◌, ◌<◌, ◌^◌, None, Some, List, sym, ap, ◌∙◌, subst, inl, inr, ⊎_elim, arith, refl}
+use Rattle.std.proofs.Common.{◌≡◌, ◌≢◌, ◌⊎◌, ℕ, ◌+◌, ◌<◌, ◌^◌, None, Some, List, sym, ap, ◌∙◌, subst, inl, inr, ⊎_elim, arith, refl, ◌≤◌}
 use Rattle.rec_bytes.specs.declared.record.Rec.{Rec}
 use Rattle.rec_bytes.specs.declared.key.Key.{Key}
 use Rattle.rec_bytes.specs.declared.shape.Shape.{Shape}
 use Rattle.rec_bytes.specs.Format as format
-use Rattle.rec_bytes.specs.Record.{field}
+use Rattle.rec_bytes.specs.Record.{field, with_field}
 use Rattle.rec_bytes.specs.Space.{State}
 use Rattle.store_rules.specs.Chains.{In, next_in, prev_in}
 use Rattle.store_rules.specs.Ends.{IsEndHead, group_of_head}
 use Rattle.store_rules.specs.Ranges.{AreInRange, Fits}
 use Rattle.store_rules.specs.Rules.{AllListed, Head, IsEnd, IsInGroup, IsOn, KeepsRules, Owns, StandsAt, first_of}
-use Rattle.store_rules.specs.Views.{Records, RelRow, degree, group_at, high, key_in, kind_at, rec_at, rel_at, rel_in}
+use Rattle.store_rules.specs.Views.{GroupRow, Records, RelRow, degree, group_at, high, key_in, kind_at, rec_at, rel_at, rel_in, is_group_kind}
 use Rattle.store_rules.proofs.Changes as ch
+use Rattle.rec_bytes.proofs.Spaces.{put_other}
+use Rattle.store_rules.proofs.CountLaws.{HasOneMore, counts_away}
+use Rattle.store_rules.proofs.GroupLaws.{same_group}
+use Rattle.chain_edit.specs.Pushing.{pushed}
+use Rattle.group_store.specs.Counting.{one_more, tallied}
+use Rattle.group_store.proofs.HeadCounts.{more_here}
 use Rattle.store_rules.proofs.EdgeChange as ec
 use Rattle.store_rules.proofs.EdgeChange.{IsGoodRow}
 use Rattle.store_rules.proofs.EdgeMade.{IsEdgeMade, made_row, no_row}
@@ -22,7 +28,7 @@ use Rattle.store_rules.proofs.NumberLaws.{nat_cases}
 use Rattle.store_rules.proofs.Relinks as re
 use Rattle.store_rules.proofs.Relinks.{IsFirstLink, IsRelinked, owned_link, relinked_both}
 use Rattle.store_rules.proofs.UsedKinds.{rel_kind}
-use Rattle.store_rules.proofs.ViewLaws.{kind_low, some_row}
+use Rattle.store_rules.proofs.ViewLaws.{kind_below, kind_low, some_row}
 use Rattle.chain_edit.specs.Chains.{Differ, prev_of}
 use Rattle.chain_edit.specs.Links.{IsRightLink}
 use Rattle.chain_edit.specs.Listed.{AreHeads, with_one}
@@ -31,7 +37,7 @@ use Rattle.chain_edit.proofs.ChainSteps.{on_test}
 use Rattle.chain_edit.proofs.OwnedHeads.{end_in, end_on, ends_differ, heads_differ, in_head_group, on_has_group, only_head, other_record, owned_heads, owner_kind, owner_used}
 use Rattle.graph_ops.specs.EdgeEnds.{both_joined, joined}
 use Rattle.graph_ops.proofs.EdgeLists.{first_used, joined_listed, prev_joined}
-use Rattle.graph_ops.proofs.EdgeSteps.{IsNode, degree_joined, differ_stays, first_stays, links_joined, node_stays, record_joined, shape_joined, used_low}
+use Rattle.graph_ops.proofs.EdgeSteps.{IsNode, number_pushed, degree_joined, differ_stays, first_joined, first_stays, links_joined, node_stays, record_joined, shape_joined, target_joined, used_low}
 
 some_same : (a b : RelRow) → Some a ≡ Some b → a ≡ b
 some_same a b q = cc
@@ -111,7 +117,7 @@ module _ (s : Records) (m : State) (shape : Shape) (id : ℕ) (rec : Rec) (row :
   first_link_of : (a : Head) (n : ℕ) → Own a n → IsFirstLink m.records a
   first_link_of a n o = ⊎_elim
       (λ z. inl (ec.kind_beside s m.records id edge.made.change format.nodes_file a.key.id refl (λ q. omega arith) ∙ z.0, z.1))
-      (λ z. inr (ec.kind_beside s m.records id edge.made.change format.groups_file a.key.id refl (λ q. omega arith) ∙ z.0, z.1, z.2)) (owned_link s shape well.ranges a n o)
+      (λ z. inr (ap is_group_kind (ec.kind_beside s m.records id edge.made.change format.groups_file a.key.id refl (λ q. omega arith)) ∙ z.0, z.1, z.2)) (owned_link s shape well.ranges a n o)
 
   used_of : (a : Head) (n : ℕ) → Own a n → kind_at s format.nodes_file n ≢ format.free_kind
   used_of = owner_used (kind_at s format.nodes_file) (group_at s)
@@ -200,9 +206,63 @@ module _ (s : Records) (m : State) (shape : Shape) (id : ℕ) (rec : Rec) (row :
   loop_head : row.from ≡ row.to → k ≡ h
   loop_head loop = only_head s empty well.grouped k h row.from row (subst (Own k) (sym loop) edge.target.owns) edge.source.owns edge.target.on edge.source.on
 
+  -- ---- the numbers of counted groups
+  apart_key : (a : Head) (n g : ℕ) (group : GroupRow) → Own a n → group_at s g ≡ Some group → group.owner ≢ n → key_in format.groups_file g ≢ a.key
+  apart_key a n g group (inl o) is ne q = let f = ap (λ (z : Key). z.file) (q ∙ ap (λ (z : Head). z.key) o.is) in omega arith
+  apart_key a n g group (inr o) is ne q =
+      ne (ap (λ (z : GroupRow). z.owner) (same_group group o.row (sym is ∙ ap (λ (z : Key). group_at s z.id) (q ∙ o.key) ∙ o.group)) ∙ o.owner)
+
+  first_low : (a : Head) (n : ℕ) → Own a n → (8 ≤ a.field) × (a.field + 4 ≤ 32)
+  first_low a n (inl o) = let q = ap (λ (z : Head). z.field) o.is in (omega arith, omega arith)
+  first_low a n (inr o) = ⊎_elim (λ (q : a.field ≡ 20). (omega arith, omega arith)) (λ z. ⊎_elim (λ (q : a.field ≡ 24). (omega arith, omega arith)) (λ (q : a.field ≡ 28). (omega arith, omega arith)) z) o.field
+
+  module _ (g : ℕ) (group : GroupRow) (is : group_at s g ≡ Some group) (counted : kind_at s format.groups_file g ≡ format.counted) where
+    group_made : rec_at m.records format.groups_file g ≡ rec_at s format.groups_file g
+    group_made = ec.rec_beside s m.records id edge.made.change format.groups_file g refl (λ q. omega arith)
+
+    byte_s : field 1 (rec_at s format.groups_file g) format.kind ≡ format.counted
+    byte_s = sym (kind_low (high s format.groups_file) (rec_at s format.groups_file g) g (kind_below (high s format.groups_file) (rec_at s format.groups_file g) g (λ q. let z = sym q ∙ counted in omega arith))) ∙ counted
+
+    -- at one head, after a state in which the group is as it was
+    step : (p : State) (a : Head) (n : ℕ) → IsEndHead s a n row → rec_at p.records format.groups_file g ≡ rec_at s format.groups_file g → group.owner ≡ n → (f : ℕ)
+        → HasOneMore (rec_at s format.groups_file g) (rec_at (joined p a n id f).records format.groups_file g) group row
+    unfolding joined
+    step p a n end same own f =
+        let low = first_low a n end.owns in
+        subst (λ (r : Rec). HasOneMore (rec_at s format.groups_file g) r group row)
+        (sym (put_other (tallied one_more (pushed p a n id) a).records (key_in format.nodes_file n) (with_field 4 ((tallied one_more (pushed p a n id) a).records (key_in format.nodes_file n)) format.node_degree f) (key_in format.groups_file g)
+        (λ q. let w = ap (λ (z : Key). z.file) q in omega arith)))
+        (more_here s shape well row a n end g group is counted (pushed p a n id)
+        (λ at w. number_pushed p a n id (key_in format.groups_file g) 4 at (λ q. let z : 3 ≡ 2 = q in omega arith) (let b = w.1 in omega arith) (λ _. inr (let b = w.0 in let c = low.1 in omega arith)) ∙ ap (λ r. field 4 r at) same)
+        (number_pushed p a n id (key_in format.groups_file g) 1 format.kind (λ q. let z : 3 ≡ 2 = q in omega arith) (omega arith) (λ _. inl (let c = low.0 in omega arith)) ∙ ap (λ r. field 1 r format.kind) same ∙ byte_s) own)
+
+    away : (p : State) (a : Head) (n f : ℕ) → Own a n → group.owner ≢ n → rec_at (joined p a n id f).records format.groups_file g ≡ rec_at p.records format.groups_file g
+    away p a n f o ne = record_joined p a n id f (key_in format.groups_file g) (λ q. let z : 3 ≡ 2 = q in omega arith) (apart_key a n g group o is ne) (λ q. let w = ap (λ (z : Key). z.file) q in omega arith)
+
+    loop_counts : row.from ≡ row.to → HasOneMore (rec_at s format.groups_file g) (rec_at one.records format.groups_file g) group row
+    unfolding one
+    loop_counts loop = ⊎_elim (λ (own : group.owner ≡ row.from). step m h row.from edge.source group_made own d)
+        (λ (ne : group.owner ≢ row.from).
+        let same = away m h row.from d edge.source.owns ne ∙ group_made in
+        counts_away (rec_at s format.groups_file g) (rec_at (joined m h row.from id d).records format.groups_file g) group row (λ at w. ap (λ r. field 4 r at) same)
+        (λ end. ⊎_elim (λ q. ne (sym q)) (λ q. ne (sym q ∙ sym loop)) end)) (nat_cases group.owner row.from)
+
+    pair_counts : row.from ≢ row.to → HasOneMore (rec_at s format.groups_file g) (rec_at two.records format.groups_file g) group row
+    unfolding two one
+    pair_counts differ = ⊎_elim
+        (λ (own : group.owner ≡ row.from).
+        subst (λ (r : Rec). HasOneMore (rec_at s format.groups_file g) r group row) (sym (away (joined m h row.from id d) k row.to e edge.target.owns (λ q. differ (sym own ∙ q)))) (step m h row.from edge.source group_made own d))
+        (λ (ne : group.owner ≢ row.from).
+        let one_same = away m h row.from d edge.source.owns ne ∙ group_made in
+        ⊎_elim (λ (own : group.owner ≡ row.to). step (joined m h row.from id d) k row.to edge.target one_same own e)
+        (λ (no : group.owner ≢ row.to).
+        let same = away (joined m h row.from id d) k row.to e edge.target.owns no ∙ one_same in
+        counts_away (rec_at s format.groups_file g) (rec_at (joined (joined m h row.from id d) k row.to id e).records format.groups_file g) group row (λ at w. ap (λ r. field 4 r at) same)
+        (λ end. ⊎_elim (λ q. ne (sym q)) (λ q. no (sym q)) end)) (nat_cases group.owner row.to)) (nat_cases group.owner row.from)
+
   -- ---- what stands at each head, in the words of the new store
   module _ (t : Records) (links : IsRelinked m.records t) where
-    at_new : rel_at t id ≡ Some row
+    pub at_new : rel_at t id ≡ Some row
     at_new = ec.rels_relinked m.records t links id ∙ made_row s m.records shape id rec edge.made (λ q. let z = edge.kind in omega arith) ∙ ap (λ r. Some r) edge.is
 
     at_other : (x : ℕ) → x ≢ id → rel_at t x ≡ rel_at s x
@@ -233,8 +293,10 @@ module _ (s : Records) (m : State) (shape : Shape) (id : ℕ) (rec : Rec) (row :
         (λ a n x o p. ⊎_elim (λ b. ⊎_elim (stands_new a x) (λ z. stands_at a h x z.0 z.1 edge.source.on) b) (λ z. stands_at a k x z.0 z.1 edge.target.on) p)
         (λ a n x o p. ⊎_elim (λ (q : x ≡ id). ⊎_elim (λ z. inl (inr (z, q))) (λ z. inr (z, q)) (ends_new a n x o q p)) (λ (ne : x ≢ id). inl (inl (stands_old a x ne p))) (nat_cases x id))
 
-    edge_of_links : AllListed t Own Now → ((n : ℕ) → IsEnd n row → degree t n ≡ degree s n + 1) → ((n : ℕ) → ¬ IsEnd n row → degree t n ≡ degree s n) → IsEdgeMade s m.records t shape id rec row most empty
-    edge_of_links listed more as_before = record {
+    edge_of_links : AllListed t Own Now → ((n : ℕ) → IsEnd n row → degree t n ≡ degree s n + 1) → ((n : ℕ) → ¬ IsEnd n row → degree t n ≡ degree s n)
+        → ((g : ℕ) (group : GroupRow) → group_at s g ≡ Some group → kind_at s format.groups_file g ≡ format.counted → HasOneMore (rec_at s format.groups_file g) (rec_at t format.groups_file g) group row)
+        → IsEdgeMade s m.records t shape id rec row most empty
+    edge_of_links listed more as_before counts = record {
       made = edge.made;
       links = links;
       is = edge.is;
@@ -246,6 +308,7 @@ module _ (s : Records) (m : State) (shape : Shape) (id : ℕ) (rec : Rec) (row :
       more = more;
       as_before = as_before;
       few = edge.few;
+      counts = counts;
     }
 
   -- ---- degrees
@@ -270,19 +333,74 @@ module _ (s : Records) (m : State) (shape : Shape) (id : ℕ) (rec : Rec) (row :
   loop_made : row.from ≡ row.to → IsEdgeMade s m.records one.records shape id rec row most empty
   loop_made loop = edge_of_links one.records one_links (loop_stands one.records one_links loop one_listed)
       (λ n end. let same : row.from ≡ n = ⊎_elim (λ z. z) (λ z. loop ∙ z) end in subst (λ z. degree one.records z ≡ degree s z + 1) same one_degree)
-      (λ n out. one_else n (λ q. out (inl (sym q))))
+      (λ n out. one_else n (λ q. out (inl (sym q)))) (λ g group is counted. loop_counts g group is counted loop)
 
   pair_made : row.from ≢ row.to → IsEdgeMade s m.records two.records shape id rec row most empty
   pair_made differ = edge_of_links two.records (two_links differ) (both_stand two.records (two_links differ) (two_listed differ))
       (λ n end. ⊎_elim
       (λ (z : row.from ≡ n). subst (λ z. degree two.records z ≡ degree s z + 1) z (two_else row.from differ ∙ one_degree))
       (λ (z : row.to ≡ n). subst (λ z. degree two.records z ≡ degree s z + 1) z two_degree) end)
-      (λ n out. two_else n (λ q. out (inr (sym q))) ∙ one_else n (λ q. out (inl (sym q))))
+      (λ n out. two_else n (λ q. out (inr (sym q))) ∙ one_else n (λ q. out (inl (sym q)))) (λ g group is counted. pair_counts g group is counted differ)
 
   -- the relationship as the rules ask of one that was made
   pub edge_joined : IsEdgeMade s m.records (both_joined m h k row.from row.to id d e).records shape id rec row most empty
   unfolding one two
   edge_joined = on_test (λ (u : State). IsEdgeMade s m.records u.records shape id rec row most empty) row.from row.to (joined m h row.from id d) (joined (joined m h row.from id d) k row.to id e) loop_made pair_made
+
+  -- ---- what is first
+  head_aside : (a : Head) (n : ℕ) → Own a n → a.key ≡ key_in format.nodes_file n → a.field + 4 ≤ format.node_degree
+  head_aside a n (inl o) e = let f = ap (λ (z : Head). z.field) o.is in omega arith
+  head_aside a n (inr o) e = let f = ap (λ (z : Key). z.file) (sym o.key ∙ e) in absurd (omega arith)
+
+  -- the record of a head of one node is none that a step at another node's head sets
+  head_apart : (a b : Head) (n j : ℕ) → Own a n → Own b j → n ≢ j → (a.key.file ≢ format.relationships_file) × (a.key ≢ b.key) × (a.key ≢ key_in format.nodes_file j)
+  head_apart a b n j (inl o) q ne =
+      let is = ap (λ (z : Head). z.key) o.is in (
+        (λ e. let f = sym (ap (λ (z : Key). z.file) is) ∙ e in absurd (omega arith)),
+        (λ e. other_record (kind_at s format.nodes_file) (group_at s) b j n q ne (sym is ∙ e)),
+        (λ e. ne (ap (λ (z : Key). z.id) (sym is ∙ e))),
+      )
+  head_apart a b n j (inr o) q ne = (
+    (λ e. let f = sym (ap (λ (z : Key). z.file) o.key) ∙ e in absurd (omega arith)),
+    (λ e. apart_key b j o.row.id o.row q o.group (λ z. ne (sym o.owner ∙ z)) (sym o.key ∙ e)),
+    (λ e. let f = ap (λ (z : Key). z.file) (sym o.key ∙ e) in absurd (omega arith)),
+  )
+
+  one_first : first_of one.records h ≡ id
+  unfolding one
+  one_first = let low = first_low h row.from edge.source.owns in first_joined m h row.from id d (omega arith) (head_aside h row.from edge.source.owns) (let b = edge.small in omega arith)
+
+  two_first : first_of two.records k ≡ id
+  unfolding two
+  two_first = let low = first_low k row.to edge.target.owns in first_joined one k row.to id e (omega arith) (head_aside k row.to edge.target.owns) (let b = edge.small in omega arith)
+
+  -- the other end's head is left
+  one_then : row.from ≢ row.to → first_of two.records h ≡ id
+  unfolding two
+  one_then differ =
+      let apart = head_apart h k row.from row.to edge.source.owns edge.target.owns differ in
+      ap (λ (r : Rec). field 4 r h.field) (record_joined one k row.to id e h.key apart.0 apart.1 apart.2) ∙ one_first
+
+  pub first_source : first_of (both_joined m h k row.from row.to id d e).records h ≡ id
+  unfolding one two
+  first_source = on_test (λ (u : State). first_of u.records h ≡ id) row.from row.to (joined m h row.from id d) (joined (joined m h row.from id d) k row.to id e) (λ _. one_first) one_then
+
+  pub first_target : first_of (both_joined m h k row.from row.to id d e).records k ≡ id
+  unfolding one two
+  first_target = on_test (λ (u : State). first_of u.records k ≡ id) row.from row.to (joined m h row.from id d) (joined (joined m h row.from id d) k row.to id e)
+      (λ loop. ap (first_of (joined m h row.from id d).records) (loop_head loop) ∙ one_first) (λ _. two_first)
+
+  -- and of a loop the links of the target
+  pub loop_target : row.from ≡ row.to → (at : ℕ) → 24 ≤ at → at + 4 ≤ 64 → field 4 (rec_at (both_joined m h k row.from row.to id d e).records format.relationships_file id) at ≡ field 4 rec at
+  loop_target loop at high inside =
+      let source : field 4 (rec_at m.records format.relationships_file id) format.relationship_source ≡ row.from = ap (λ r. field 4 r format.relationship_source) edge.made.here ∙ ap (λ (r : RelRow). r.from) edge.is in
+      let file : h.key.file ≢ format.relationships_file = no_rel h row.from edge.source.owns in
+      on_test (λ (u : State). field 4 (rec_at u.records format.relationships_file id) at ≡ field 4 rec at) row.from row.to (joined m h row.from id d) (joined (joined m h row.from id d) k row.to id e)
+      (λ _. target_joined m h row.from id d at high inside file source ∙ ap (λ r. field 4 r at) edge.made.here) (λ differ. absurd (differ loop))
+    where
+      no_rel : (a : Head) (n : ℕ) → Own a n → a.key.file ≢ format.relationships_file
+      no_rel a n (inl o) e = let f = sym (ap (λ (z : Head). z.key.file) o.is) ∙ e in absurd (omega arith)
+      no_rel a n (inr o) e = let f = sym (ap (λ (z : Key). z.file) o.key) ∙ e in absurd (omega arith)
 
   -- ---- the links that are read
   made_range : AreInRange m.records shape

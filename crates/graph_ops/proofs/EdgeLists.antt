@@ -21,7 +21,22 @@ use Rattle.chain_edit.proofs.Edits.{prev_of-backed_other}
 use Rattle.chain_edit.proofs.LinkLaws.{field-set_other, prev_of-set_next}
 use Rattle.chain_edit.proofs.OwnedHeads.{owned_heads}
 use Rattle.graph_ops.specs.EdgeEnds.{joined, parted}
+use Rattle.group_store.specs.Counting.{one_less, one_more, tallied}
+use Rattle.group_store.proofs.Tallies.{field-tallied, file-tallied}
 use Rattle.graph_ops.proofs.EdgeSteps.{IsUsedLink}
+
+-- the number of a head's relationships is no link
+listed_tallied : (change : ℕ → ℕ) (one : State) (kind : ℕ → ℕ) (groups : ℕ → Option GroupRow) (head : Head) (at : Head → ℕ → Type 0) → AllListed one.records (Owns kind groups) at → AllListed (tallied change one head).records (Owns kind groups) at
+listed_tallied change one kind groups head at all = all_listed_stays one.records (tallied change one head).records (Owns kind groups) at
+    (λ h n x o a. ap (λ r. next_in r n) (rel x)) (λ h n x o a. ap (λ r. prev_in r n) (rel x))
+    (λ h n o. field-tallied change one head h.key 4 h.field (low h n o)) all
+  where
+    rel : (x : ℕ) → rec_at (tallied change one head).records format.relationships_file x ≡ rec_at one.records format.relationships_file x
+    rel x = file-tallied change one head (key_in format.relationships_file x) (λ e. let z : 2 ≡ 3 = e in omega arith)
+
+    low : (h : Head) (n : ℕ) → Owns kind groups h n → h.field + 4 ≤ 32
+    low h n (inl o) = let e = ap (λ (z : Head). z.field) o.is in omega arith
+    low h n (inr o) = ⊎_elim (λ (e : h.field ≡ 20). omega arith) (λ k. ⊎_elim (λ (e : h.field ≡ 24). omega arith) (λ (e : h.field ≡ 28). omega arith) k) o.field
 
 -- the degree is no link
 module _ (one : Records) (kind : ℕ → ℕ) (groups : ℕ → Option GroupRow) (node d : ℕ) where
@@ -74,8 +89,8 @@ module _ (s : State) (kind : ℕ → ℕ) (groups : ℕ → Option GroupRow) (at
         → ((h : Head) (n x : ℕ) → Owns kind groups h n → h ≢ head → at h x → at head x ⊎ (x ≡ rel) → Differ s.records node n x)
         → AllListed (joined s head node rel d).records (Owns kind groups) (with_one at head rel)
     unfolding joined
-    joined_listed alone apart = listed_degree (pushed s head node rel).records kind groups node d (with_one at head rel)
-        (all_listed_pushed s (Owns kind groups) at (owned_heads kind groups) all head node rel owned small fresh alone apart)
+    joined_listed alone apart = listed_degree (tallied one_more (pushed s head node rel) head).records kind groups node d (with_one at head rel)
+        (listed_tallied one_more (pushed s head node rel) kind groups head (with_one at head rel) (all_listed_pushed s (Owns kind groups) at (owned_heads kind groups) all head node rel owned small fresh alone apart))
 
     -- none is before it yet at another end
     pub prev_joined : (m : ℕ) → prev_of (joined s head node rel d).records m rel ≡ prev_of s.records m rel
@@ -85,7 +100,8 @@ module _ (s : State) (kind : ℕ → ℕ) (groups : ℕ → Option GroupRow) (at
         let back = backed (after_get s) node first rel in
         let linked = next_set back node rel first in
         let p = (owned_heads kind groups).place head node owned in
-        ap (λ r. prev_in r m) (degree_rel (pushed s head node rel).records kind groups node d rel)
+        ap (λ r. prev_in r m) (degree_rel (tallied one_more (pushed s head node rel) head).records kind groups node d rel)
+        ∙ ap (λ r. prev_in r m) (file-tallied one_more (pushed s head node rel) head (key_in format.relationships_file rel) (λ e. let z : 2 ≡ 3 = e in omega arith))
         ∙ ap (λ r. prev_in r m) (put_other linked.records head.key (with_field 4 (s.records head.key) head.field rel) (key_in format.relationships_file rel)
         (λ e. p.elsewhere (ap (λ (k : Key). k.file) (sym e))))
         ∙ prev_of-set_next back.records node rel first m rel ∙ prev_of-backed_other (after_get s) node first rel m rel (λ e. absurd (not_first e))
@@ -94,5 +110,5 @@ module _ (s : State) (kind : ℕ → ℕ) (groups : ℕ → Option GroupRow) (at
   pub parted_listed : at head rel → ((h : Head) (n x : ℕ) → Owns kind groups h n → h ≢ head → at h x → at head x → Differ s.records node n x)
       → AllListed (parted s head node rel d).records (Owns kind groups) (without_one at head rel)
   unfolding parted
-  parted_listed member apart = listed_degree (unlinked s head node rel).records kind groups node d (without_one at head rel)
-      (all_listed_unlinked s (Owns kind groups) at (owned_heads kind groups) all head node rel owned member apart)
+  parted_listed member apart = listed_degree (tallied one_less (unlinked s head node rel) head).records kind groups node d (without_one at head rel)
+      (listed_tallied one_less (unlinked s head node rel) kind groups head (without_one at head rel) (all_listed_unlinked s (Owns kind groups) at (owned_heads kind groups) all head node rel owned member apart))

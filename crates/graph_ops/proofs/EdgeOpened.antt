@@ -1,5 +1,5 @@
 -- The heads where a new edge is to stand, which were opened one after the other.
-use Rattle.std.proofs.Common.{◌≡◌, ◌≢◌, ℕ, ◌<◌, List, [], ◌++◌, sym, ap, ◌∙◌, subst, inl, inr, ⊎_elim, arith}
+use Rattle.std.proofs.Common.{◌≡◌, ◌≢◌, ℕ, ◌<◌, Some, List, [], ◌++◌, sym, ap, ◌∙◌, subst, inl, inr, ⊎_elim, arith}
 use Rattle.plain_graph.specs.Graph.{Graph, edge_number, has_edge, has_node, with_row}
 use Rattle.plain_graph.specs.Properties.{no_properties}
 use Rattle.rec_bytes.specs.declared.key.Key.{Key}
@@ -13,7 +13,7 @@ use Rattle.store_rules.specs.Views.{GroupRow, RelRow, degree, group_at, kind_at}
 use Rattle.store_rules.proofs.GroupLaws.{same_group}
 use Rattle.store_rules.proofs.OnceLaws.{in_parts}
 use Rattle.chain_edit.specs.Heads.{head_of}
-use Rattle.group_store.specs.Opening.{OpensChain}
+use Rattle.group_store.specs.Opening.{IsCountedHead, OpensChain}
 use Rattle.graph_ops.specs.declared.edge_end.EdgeEnd.{EdgeEnd}
 use Rattle.graph_ops.specs.EdgeJoining.{CanJoin, MayStandAt, edge_row}
 use Rattle.graph_ops.specs.EdgePlacing.{KeepsGraph, PutsEdge}
@@ -49,6 +49,14 @@ module _ (s t : State) (m : ℕ) (change : Regroups s t m) (h : Head) (n : ℕ) 
   pub end_stays : (row : RelRow) → IsEndHead s.records h n row → IsEndHead t.records h n row
   end_stays row end = record { owns = owns_stays end.owns; on = on_stays row end.owns end.on }
 
+-- its group is counted still
+counted_stays : (s t : State) (m : ℕ) → ((g : ℕ) (row : GroupRow) → group_at s.records g ≡ Some row → row.owner ≢ m → kind_at t.records format.groups_file g ≡ kind_at s.records format.groups_file g)
+    → (h : Head) (n : ℕ) → n ≢ m → Owns (kind_at s.records format.nodes_file) (group_at s.records) h n → IsCountedHead s.records h → IsCountedHead t.records h
+counted_stays s t m kinds h n ne (inl o) counted file = absurd (let e = ap (λ (z : Head). z.key.file) o.is in omega arith)
+counted_stays s t m kinds h n ne (inr o) counted file =
+    ap (λ (k : Key). kind_at t.records format.groups_file k.id) o.key ∙ kinds o.row.id o.row o.group (λ e. ne (sym o.owner ∙ e))
+    ∙ ap (λ (k : Key). kind_at s.records format.groups_file k.id) (sym o.key) ∙ counted file
+
 -- ---- the graph stays
 pub keeps_graph : (s t : State) (n : ℕ) → Regroups s t n → KeepsGraph s t
 keeps_graph s t n change = record { shape = change.shape; graph = change.graph; metas = change.metas }
@@ -66,6 +74,7 @@ puts_through s t u names from label to id keeps puts = record {
   fresh = ap (λ g. has_edge g id) (sym keeps.graph) ∙ puts.fresh;
   nodes = puts.nodes ∙ ap (λ (g : Graph). g.nodes) keeps.graph;
   edges = puts.edges ∙ ap (λ (g : Graph). with_row edge_number (record { id = id; label = label; from = from; to = to; properties = no_properties }) g.edges) keeps.graph;
+  first = puts.first;
   metas = λ file a b. puts.metas file a b ∙ keeps.metas file b;
 }
 
@@ -91,6 +100,7 @@ module _ (s : State) (names : List (List ℕ)) (label : ℕ) (source target : Ed
         head = (opened id).stands;
         degree = (opened id).regroups.degrees source.node ∙ leaves;
         few = λ sparse. subst (λ n. n < t.shape.threshold) ((opened id).regroups.degrees source.node ∙ leaves) ((opened id).few sparse);
+        counted = (opened id).counted;
       }
 
   module _ (t u : State) (differ : source.node ≢ target.node) (first : (id : ℕ) → OpensChain s t (head_of source.head) source.node (row id) [])
@@ -103,6 +113,7 @@ module _ (s : State) (names : List (List ℕ)) (label : ℕ) (source target : Ed
           head = end_stays t u target.node b (head_of source.head) source.node differ (row id) (first id).stands;
           degree = b.degrees source.node ∙ a.degrees source.node ∙ leaves;
           few = λ sparse. subst (λ (h : Shape). source.degree < h.threshold) (sym b.shape) (subst (λ n. n < t.shape.threshold) (a.degrees source.node ∙ leaves) ((first id).few (sym (b.kinds source.node differ) ∙ sparse)));
+          counted = counted_stays t u target.node (second id).group_kinds (head_of source.head) source.node differ (first id).stands.owns (first id).counted;
         }
 
     target_stands : (id : ℕ) → MayStandAt u target (row id)
@@ -110,7 +121,7 @@ module _ (s : State) (names : List (List ℕ)) (label : ℕ) (source target : Ed
         let a = (first id).regroups in
         let b = (second id).regroups in
         let same = b.degrees target.node ∙ a.degrees target.node ∙ enters in
-        record { head = (second id).stands; degree = same; few = λ sparse. subst (λ n. n < u.shape.threshold) same ((second id).few sparse) }
+        record { head = (second id).stands; degree = same; few = λ sparse. subst (λ n. n < u.shape.threshold) same ((second id).few sparse); counted = (second id).counted }
 
     pub opened_both : CanJoin u names label source target
     opened_both = record {

@@ -1,16 +1,16 @@
 -- A relationship that left the chains of its ends, as the rules ask of one that goes.
-use Rattle.std.proofs.Common.{◌≡◌, ◌≢◌, ◌⊎◌, ℕ, ◌+◌, ◌-◌, ◌<◌, ◌^◌, nat_eq, true, not, ◌&&◌, None, Some, [], sym, ap, ◌∙◌, subst, inl, inr, ⊎_elim, arith, refl}
+use Rattle.std.proofs.Common.{◌≡◌, ◌≢◌, ◌⊎◌, ℕ, ◌+◌, ◌-◌, ◌<◌, ◌^◌, nat_eq, true, not, ◌&&◌, None, Some, [], sym, ap, ◌∙◌, subst, inl, inr, ⊎_elim, arith, refl, ◌≤◌}
 use Rattle.rec_bytes.specs.declared.key.Key.{Key}
 use Rattle.rec_bytes.specs.declared.shape.Shape.{Shape}
 use Rattle.rec_bytes.specs.Format as format
-use Rattle.rec_bytes.specs.Record.{field}
+use Rattle.rec_bytes.specs.Record.{field, with_field}
 use Rattle.rec_bytes.specs.Space.{State}
 use Rattle.rec_bytes.proofs.Numbers.{field-lt}
 use Rattle.store_rules.specs.Chains.{In, next_in, prev_in}
 use Rattle.store_rules.specs.Ends.{IsEndHead, group_of_head}
 use Rattle.store_rules.specs.Ranges.{AreInRange}
 use Rattle.store_rules.specs.Rules.{AllListed, Head, IsEnd, IsInGroup, IsOn, IsWellFormed, Owns, StandsAt, first_of, stands_in}
-use Rattle.store_rules.specs.Views.{Records, RelRow, degree, group_at, high, is_at, key_in, kind_at, rec_at, rel_at, rel_in}
+use Rattle.store_rules.specs.Views.{Records, RelRow, degree, group_at, high, is_at, key_in, kind_at, rec_at, rel_at, rel_in, GroupRow}
 use Rattle.store_rules.proofs.Changes as ch
 use Rattle.store_rules.proofs.Counts.{ids_with}
 use Rattle.store_rules.proofs.EdgeChange as ec
@@ -23,10 +23,17 @@ use Rattle.store_rules.proofs.OnceLaws.{in_left, in_right}
 use Rattle.store_rules.proofs.Relinks as re
 use Rattle.store_rules.proofs.Relinks.{IsRelinked, owned_link, relinked_both}
 use Rattle.store_rules.proofs.UsedKinds.{rel_kind}
-use Rattle.store_rules.proofs.ViewLaws.{kind_below, some_row}
+use Rattle.store_rules.proofs.ViewLaws.{kind_below, some_row, kind_low}
 use Rattle.chain_edit.specs.Chains.{Differ, next_of, prev_of}
 use Rattle.chain_edit.specs.Heads.{IsPlace}
 use Rattle.chain_edit.specs.Links.{IsRightLink}
+use Rattle.rec_bytes.specs.declared.record.Rec.{Rec}
+use Rattle.rec_bytes.proofs.Spaces.{put_other}
+use Rattle.store_rules.proofs.CountLaws.{HasOneMore, counts_away}
+use Rattle.store_rules.proofs.GroupLaws.{same_group}
+use Rattle.chain_edit.specs.Unlinking.{unlinked}
+use Rattle.group_store.specs.Counting.{one_less, tallied}
+use Rattle.group_store.proofs.HeadCounts.{less_here}
 use Rattle.chain_edit.specs.Listed.{AreHeads, without_one}
 use Rattle.chain_edit.proofs.AllPushed.{all_listed_same, all_listed_stays}
 use Rattle.chain_edit.proofs.ChainSteps.{on_test}
@@ -34,7 +41,7 @@ use Rattle.chain_edit.proofs.InRange.{right_next, right_prev}
 use Rattle.chain_edit.proofs.OwnedHeads.{end_in, end_on, heads_differ, only_head, other_record, owned_heads, owner_kind}
 use Rattle.graph_ops.specs.EdgeEnds.{both_parted, end_groups, parted}
 use Rattle.graph_ops.proofs.EdgeLists.{next_used, parted_listed, prev_used}
-use Rattle.graph_ops.proofs.EdgeSteps.{IsNode, degree_parted, differ_stays, first_stays, links_parted, node_stays, record_parted, shape_parted}
+use Rattle.graph_ops.proofs.EdgeSteps.{IsNode, number_unlinked, degree_parted, differ_stays, first_stays, links_parted, node_stays, record_parted, shape_parted}
 
 some_same : (a b : RelRow) → Some a ≡ Some b → a ≡ b
 some_same a b q = cc
@@ -194,12 +201,63 @@ module _ (s : State) (shape : Shape) (id : ℕ) (row : RelRow) (h k : Head) (edg
   two_else n ne = ap (λ r. field 4 r format.node_degree) (record_parted one k row.to id e (key_in format.nodes_file n) (λ q. omega arith)
       (other_record (kind_at s.records format.nodes_file) (group_at s.records) k row.to n edge.target.owns ne) (λ q. ne (ap (λ (z : Key). z.id) q)))
 
+  -- ---- the numbers of counted groups
+  apart_key : (a : Head) (n g : ℕ) (group : GroupRow) → Own a n → group_at s.records g ≡ Some group → group.owner ≢ n → key_in format.groups_file g ≢ a.key
+  apart_key a n g group (inl o) is ne q = let f = ap (λ (z : Key). z.file) (q ∙ ap (λ (z : Head). z.key) o.is) in omega arith
+  apart_key a n g group (inr o) is ne q =
+      ne (ap (λ (z : GroupRow). z.owner) (same_group group o.row (sym is ∙ ap (λ (z : Key). group_at s.records z.id) (q ∙ o.key) ∙ o.group)) ∙ o.owner)
+
+  first_low : (a : Head) (n : ℕ) → Own a n → (8 ≤ a.field) × (a.field + 4 ≤ 32)
+  first_low a n (inl o) = let q = ap (λ (z : Head). z.field) o.is in (omega arith, omega arith)
+  first_low a n (inr o) = ⊎_elim (λ (q : a.field ≡ 20). (omega arith, omega arith)) (λ z. ⊎_elim (λ (q : a.field ≡ 24). (omega arith, omega arith)) (λ (q : a.field ≡ 28). (omega arith, omega arith)) z) o.field
+
+  module _ (g : ℕ) (group : GroupRow) (is : group_at s.records g ≡ Some group) (counted : kind_at s.records format.groups_file g ≡ format.counted) where
+    byte_s : field 1 (rec_at s.records format.groups_file g) format.kind ≡ format.counted
+    byte_s = sym (kind_low (high s.records format.groups_file) (rec_at s.records format.groups_file g) g (kind_below (high s.records format.groups_file) (rec_at s.records format.groups_file g) g (λ q. let z = sym q ∙ counted in omega arith))) ∙ counted
+
+    step : (p : State) (a : Head) (n : ℕ) → IsEndHead s.records a n row → rec_at p.records format.groups_file g ≡ rec_at s.records format.groups_file g → group.owner ≡ n → (f : ℕ)
+        → HasOneMore (rec_at (parted p a n id f).records format.groups_file g) (rec_at s.records format.groups_file g) group row
+    unfolding parted
+    step p a n end same own f =
+        let low = first_low a n end.owns in
+        subst (λ (r : Rec). HasOneMore r (rec_at s.records format.groups_file g) group row)
+        (sym (put_other (tallied one_less (unlinked p a n id) a).records (key_in format.nodes_file n) (with_field 4 ((tallied one_less (unlinked p a n id) a).records (key_in format.nodes_file n)) format.node_degree f) (key_in format.groups_file g)
+        (λ q. let w = ap (λ (z : Key). z.file) q in omega arith)))
+        (less_here s.records shape store row a n end g group is counted (unlinked p a n id)
+        (λ at w. number_unlinked p a n id (key_in format.groups_file g) 4 at (λ q. let z : 3 ≡ 2 = q in omega arith) (let b = w.1 in omega arith) (λ _. inr (let b = w.0 in let c = low.1 in omega arith)) ∙ ap (λ r. field 4 r at) same)
+        (number_unlinked p a n id (key_in format.groups_file g) 1 format.kind (λ q. let z : 3 ≡ 2 = q in omega arith) (omega arith) (λ _. inl (let c = low.0 in omega arith)) ∙ ap (λ r. field 1 r format.kind) same ∙ byte_s) own id edge.live)
+
+    away : (p : State) (a : Head) (n f : ℕ) → Own a n → group.owner ≢ n → rec_at (parted p a n id f).records format.groups_file g ≡ rec_at p.records format.groups_file g
+    away p a n f o ne = record_parted p a n id f (key_in format.groups_file g) (λ q. let z : 3 ≡ 2 = q in omega arith) (apart_key a n g group o is ne) (λ q. let w = ap (λ (z : Key). z.file) q in omega arith)
+
+    loop_counts : row.from ≡ row.to → HasOneMore (rec_at one.records format.groups_file g) (rec_at s.records format.groups_file g) group row
+    unfolding one
+    loop_counts loop = ⊎_elim (λ (own : group.owner ≡ row.from). step s h row.from edge.source refl own d)
+        (λ (ne : group.owner ≢ row.from).
+        let same = away s h row.from d edge.source.owns ne in
+        counts_away (rec_at (parted s h row.from id d).records format.groups_file g) (rec_at s.records format.groups_file g) group row (λ at w. sym (ap (λ r. field 4 r at) same))
+        (λ end. ⊎_elim (λ q. ne (sym q)) (λ q. ne (sym q ∙ sym loop)) end)) (nat_cases group.owner row.from)
+
+    pair_counts : row.from ≢ row.to → HasOneMore (rec_at two.records format.groups_file g) (rec_at s.records format.groups_file g) group row
+    unfolding two one
+    pair_counts differ = ⊎_elim
+        (λ (own : group.owner ≡ row.from).
+        subst (λ (r : Rec). HasOneMore r (rec_at s.records format.groups_file g) group row) (sym (away (parted s h row.from id d) k row.to e edge.target.owns (λ q. differ (sym own ∙ q)))) (step s h row.from edge.source refl own d))
+        (λ (ne : group.owner ≢ row.from).
+        let one_same = away s h row.from d edge.source.owns ne in
+        ⊎_elim (λ (own : group.owner ≡ row.to). step (parted s h row.from id d) k row.to edge.target one_same own e)
+        (λ (no : group.owner ≢ row.to).
+        let same = away (parted s h row.from id d) k row.to e edge.target.owns no ∙ one_same in
+        counts_away (rec_at (parted (parted s h row.from id d) k row.to id e).records format.groups_file g) (rec_at s.records format.groups_file g) group row (λ at w. sym (ap (λ r. field 4 r at) same))
+        (λ end. ⊎_elim (λ q. ne (sym q)) (λ q. no (sym q)) end)) (nat_cases group.owner row.to)) (nat_cases group.owner row.from)
+
   -- ---- given back
   pub record HasParted (u : Records) : Type 0 where
     pub links : IsRelinked s.records u
     pub listed : AllListed u Own (But At id)
     pub less : (n : ℕ) → IsEnd n row → degree u n + 1 ≡ degree s.records n
     pub as_before : (n : ℕ) → ¬ IsEnd n row → degree u n ≡ degree s.records n
+    pub counts : (g : ℕ) (group : GroupRow) → group_at s.records g ≡ Some group → kind_at s.records format.groups_file g ≡ format.counted → HasOneMore (rec_at u format.groups_file g) (rec_at s.records format.groups_file g) group row
 
   loop_parted : row.from ≡ row.to → HasParted one.records
   loop_parted loop = record {
@@ -207,6 +265,7 @@ module _ (s : State) (shape : Shape) (id : ℕ) (row : RelRow) (h k : Head) (edg
     listed = loop_listed loop;
     less = λ n end. let same : row.from ≡ n = ⊎_elim (λ z. z) (λ z. loop ∙ z) end in subst (λ z. degree one.records z + 1 ≡ degree s.records z) same one_degree;
     as_before = λ n out. one_else n (λ q. out (inl (sym q)));
+    counts = λ g group is counted. loop_counts g group is counted loop;
   }
 
   pair_parted : row.from ≢ row.to → HasParted two.records
@@ -217,6 +276,7 @@ module _ (s : State) (shape : Shape) (id : ℕ) (row : RelRow) (h k : Head) (edg
         (λ (q : row.from ≡ n). subst (λ z. degree two.records z + 1 ≡ degree s.records z) q (ap (λ z. z + 1) (two_else row.from differ) ∙ one_degree))
         (λ (q : row.to ≡ n). subst (λ z. degree two.records z + 1 ≡ degree s.records z) q two_degree) end;
     as_before = λ n out. two_else n (λ q. out (inr (sym q))) ∙ one_else n (λ q. out (inl (sym q)));
+    counts = λ g group is counted. pair_counts g group is counted differ;
   }
 
   pub edge_parted : HasParted (both_parted s h k row.from row.to id d e).records
@@ -254,6 +314,7 @@ module _ (s : State) (shape : Shape) (id : ℕ) (row : RelRow) (h k : Head) (edg
     still = λ g i. absurd i;
     less = λ n end. ap (λ r. field 4 r format.node_degree + 1) (node_same n) ∙ parts.less n end;
     as_before = λ n out. ap (λ r. field 4 r format.node_degree) (node_same n) ∙ parts.as_before n out;
+    counts = λ g group is counted. subst (λ (r : Rec). HasOneMore r (rec_at s.records format.groups_file g) group row) (sym (group_same g)) (parts.counts g group is counted);
   }
     where
       rel_other : (x : ℕ) → x ≢ id → rel_at t x ≡ rel_at s.records x

@@ -13,7 +13,7 @@ use Rattle.rec_bytes.proofs.Spaces.{put_same, put_other}
 use Rattle.store_rules.specs.Chains.{In, prev_in}
 use Rattle.store_rules.specs.Ends.{IsEndHead, group_of_head}
 use Rattle.store_rules.specs.Ranges.{Fits, layout_by, may, must}
-use Rattle.store_rules.specs.Rules.{Head, IsEnd, IsSplit, IsWellFormed, KeepsRules, Owns, first_of}
+use Rattle.store_rules.specs.Rules.{Head, IsEnd, IsOn, IsSplit, IsWellFormed, KeepsRules, Owns, first_of}
 use Rattle.store_rules.specs.Views as views
 use Rattle.store_rules.specs.Views.{Records, degree, group_at, high, is_live, key_in, kind_at, rec_at, rel_in, text_of}
 use Rattle.store_rules.proofs.Changes as ch
@@ -31,12 +31,13 @@ use Rattle.rel_store.proofs.RelRecords.{HasNumbers, blank-rel_record, kind-rel_r
 use Rattle.chain_edit.specs.Heads.{head_of}
 use Rattle.chain_edit.specs.Links.{IsRightLink}
 use Rattle.chain_edit.proofs.OwnedHeads.{owner_used}
+use Rattle.group_store.specs.Opening.{IsCountedHead}
 use Rattle.graph_ops.specs.declared.edge_end.EdgeEnd.{EdgeEnd}
 use Rattle.graph_ops.specs.EdgeEnds.{both_joined, joined}
 use Rattle.graph_ops.specs.EdgeJoining.{CanJoin, HasPlaced, MayStandAt, edge_row, new_row, one_more}
-use Rattle.graph_ops.specs.EdgePlacing.{PutsEdge}
+use Rattle.graph_ops.specs.EdgePlacing.{IsFirst, PutsEdge}
 use Rattle.graph_ops.specs.Store.{graph_in}
-use Rattle.graph_ops.proofs.EdgeJoined.{IsLoneEdge, edge_joined, made_right, one_right}
+use Rattle.graph_ops.proofs.EdgeJoined.{IsLoneEdge, at_new, edge_joined, first_source, first_target, loop_target, made_right, one_right}
 use Rattle.graph_ops.proofs.NodePut.{number_in}
 
 -- ---- the record of a new relationship
@@ -65,6 +66,13 @@ module _ (id label from to : ℕ) (label_small : label < 2 ^ 32) (from_small : f
       by : (b : Bool) → field 4 rec (cond b 16 24) ≡ format.nil
       by true = number-rel_record (new_row id label from to) format.relationship_source_previous format.nil numbers refl
       by false = number-rel_record (new_row id label from to) format.relationship_target_previous format.nil numbers refl
+
+  -- the links of its target are none
+  pub new_pair : (field 4 rec format.relationship_target_previous ≡ format.nil) × (field 4 rec format.relationship_target_next ≡ format.nil)
+  new_pair = (
+    number-rel_record (new_row id label from to) format.relationship_target_previous format.nil numbers refl,
+    number-rel_record (new_row id label from to) format.relationship_target_next format.nil numbers refl,
+  )
 
   pub new_fits : (marks : ℕ → ℕ) → from < marks format.nodes_file → to < marks format.nodes_file → Fits marks format.relationships_file rec
   new_fits marks from_low to_low = record {
@@ -96,6 +104,15 @@ module _ (id label from to : ℕ) (label_small : label < 2 ^ 32) (from_small : f
       all_open true false = refl
       all_open false true = refl
       all_open false false = refl
+
+-- ---- numbers of a store
+small_label : (v : Records) (shape : Shape) (number : ℕ) {most : ℕ} {empty : List ℕ} → KeepsRules v shape most empty → number < high v format.names_file → number < 2 ^ 32
+small_label v shape number well known = let h = (well.ranges.metas format.names_file refl).high in omega (arith, known, h)
+
+small_node : (v : Records) (shape : Shape) (a : Head) (n : ℕ) {most : ℕ} {empty : List ℕ} → KeepsRules v shape most empty → Owns (kind_at v format.nodes_file) (group_at v) a n → n < 2 ^ 32
+small_node v shape a n well o =
+    let low = kind_below (high v format.nodes_file) (rec_at v format.nodes_file n) n (owner_used (kind_at v format.nodes_file) (group_at v) a n o) in
+    let r = high_most v shape format.nodes_file well.ranges refl in omega arith
 
 -- ---- over a store that has the type
 module _ (v m : Records) (t : State) (shape : Shape) (id number from to : ℕ) (h k : Head) (free : List ℕ) {most : ℕ} {empty : List ℕ} (well : KeepsRules v shape most empty) (split : IsSplit v format.relationships_file (is_live v format.relationships_file) free)
@@ -204,6 +221,40 @@ module _ (s t : State) (names : List (List ℕ)) (number : ℕ) (label : List �
   pub second_right : IsRightLink (joined t from_head source.node id (one_more source.degree)) (first_of (joined t from_head source.node id (one_more source.degree)).records to_head)
   second_right = one_right s.records t s.shape id edge_rec row from_head to_head lone can.keeps (one_more source.degree) (one_more target.degree) (more_of source leaves) (more_of target enters) same_shape
 
+  change : ec.IsEdgeChange s.records ends.records id
+  change = ec.changed_relinked s.records t.records ends.records id edge.made.change edge.links
+
+  -- it stands at the heads
+  end_now : (a : Head) (n : ℕ) → IsEndHead s.records a n row → IsEndHead ends.records a n row
+  end_now a n end = record {
+    owns = subst (λ kinds. Owns kinds (group_at ends.records) a n) (sym (ec.kinds_same s.records ends.records id change)) (subst (λ groups. Owns (kind_at s.records format.nodes_file) groups a n) (sym (ec.groups_same s.records ends.records id change)) end.owns);
+    on = subst (λ groups. IsOn groups a row) (sym (ec.groups_same s.records ends.records id change)) end.on;
+  }
+
+  -- and their groups have counts
+  counted_now : (a : Head) → IsCountedHead s.records a → IsCountedHead ends.records a
+  counted_now a counted file = ec.kind_same s.records ends.records id change format.groups_file a.key.id refl (λ e. omega arith) ∙ counted file
+
+  first : IsFirst ends.records id source.node target.node
+  first =
+      let d = one_more source.degree in
+      let e = one_more target.degree in
+      let a = more_of source leaves in
+      let b = more_of target enters in
+      let label_small = small_label s.records s.shape number can.keeps known.0 in
+      let from_small = small_node s.records s.shape from_head source.node can.keeps leaves.head.owns in
+      let to_small = small_node s.records s.shape to_head target.node can.keeps enters.head.owns in
+      record {
+        row = row;
+        there = at_new s.records t s.shape id edge_rec row from_head to_head lone can.keeps d e a b ends.records edge.links;
+        from_is = refl;
+        to_is = refl;
+        source = record { head = from_head; end = end_now from_head source.node leaves.head; first = first_source s.records t s.shape id edge_rec row from_head to_head lone can.keeps d e a b; counted = counted_now from_head leaves.counted };
+        target = record { head = to_head; end = end_now to_head target.node enters.head; first = first_target s.records t s.shape id edge_rec row from_head to_head lone can.keeps d e a b; counted = counted_now to_head enters.counted };
+        previous = λ loop. loop_target s.records t s.shape id edge_rec row from_head to_head lone can.keeps d e a b loop format.relationship_target_previous (omega arith) (omega arith) ∙ (new_pair id number source.node target.node label_small from_small to_small).0;
+        next = λ loop. loop_target s.records t s.shape id edge_rec row from_head to_head lone can.keeps d e a b loop format.relationship_target_next (omega arith) (omega arith) ∙ (new_pair id number source.node target.node label_small from_small to_small).1;
+      }
+
   puts : ends.shape ≡ s.shape → PutsEdge s ends names source.node label target.node id
   puts shape = record {
     store = record {
@@ -217,6 +268,7 @@ module _ (s t : State) (names : List (List ℕ)) (number : ℕ) (label : List �
     nodes = made_nodes s.records t.records ends.records s.shape id edge_rec row edge can.keeps;
     edges = made_edges s.records t.records ends.records s.shape id edge_rec row edge can.keeps
         ∙ ap (λ l. with_row edge_number (record { id = id; label = l; from = source.node; to = target.node; properties = no_properties }) (graph_in s).edges) known.1;
+    first = first;
     metas = λ file ne _. ap metas.meta_of (ec.meta_same s.records ends.records id (ec.changed_relinked s.records t.records ends.records id edge.made.change edge.links) file ne);
   }
 

@@ -1,5 +1,5 @@
 -- A relationship that joins a chain of a node, or leaves it: links and degrees alone are set.
-use Rattle.std.proofs.Common.{◌≡◌, ◌≢◌, ◌⊎◌, ℕ, ◌+◌, ◌<◌, ◌^◌, nat_eq, Bool, true, false, cond, sym, ap, ◌∙◌, subst, inl, inr, ⊎_elim, arith, refl}
+use Rattle.std.proofs.Common.{◌≡◌, ◌≢◌, ◌⊎◌, ℕ, ◌+◌, ◌<◌, ◌≤◌, ◌^◌, nat_eq, Bool, true, false, cond, sym, ap, ◌∙◌, subst, inl, inr, ⊎_elim, arith, refl}
 use Rattle.rec_bytes.specs.declared.key.Key.{Key}
 use Rattle.rec_bytes.specs.declared.record.Rec.{Rec}
 use Rattle.rec_bytes.specs.Format as format
@@ -8,18 +8,22 @@ use Rattle.rec_bytes.specs.Space.{State, after_get, after_put, put}
 use Rattle.rec_bytes.proofs.Spaces.{put_other, put_same, put_twice}
 use Rattle.store_rules.specs.Chains.{place_of}
 use Rattle.store_rules.specs.Rules.{Head, first_of}
-use Rattle.store_rules.specs.Views.{Records, degree, high, key_in, kind_at, rec_at}
+use Rattle.store_rules.specs.Views.{Records, degree, high, key_in, kind_at, rec_at, is_group_kind}
 use Rattle.store_rules.proofs.LinkFits.{IsLink, IsLow}
 use Rattle.store_rules.proofs.Relinks.{IsFirstLink, IsRelinked, kind_stays, relinked_none, set_degree, set_head, set_link}
-use Rattle.store_rules.proofs.ViewLaws.{kind_below}
-use Rattle.chain_edit.specs.Chains.{Differ, next_of, prev_of}
+use Rattle.store_rules.proofs.NumberLaws.{eq_true, nat_cases}
+use Rattle.store_rules.proofs.ViewLaws.{group_used, kind_below}
+use Rattle.rec_bytes.proofs.Numbers.{field-with_field_other, field-with_field_same}
+use Rattle.chain_edit.specs.Chains.{Differ, next_of, next_place, prev_of}
 use Rattle.chain_edit.specs.Heads.{IsPlace}
 use Rattle.chain_edit.specs.Links.{backed, next_set, number_set, prev_set}
 use Rattle.chain_edit.specs.Pushing.{pushed}
 use Rattle.chain_edit.specs.Unlinking.{alone, led, unlinked}
 use Rattle.chain_edit.proofs.ChainSteps.{on_test}
-use Rattle.chain_edit.proofs.Edits.{elsewhere-backed}
-use Rattle.chain_edit.proofs.LinkLaws.{elsewhere-set_next, field-set_same}
+use Rattle.chain_edit.proofs.Edits.{elsewhere-backed, field-backed, place-backed}
+use Rattle.chain_edit.proofs.LinkLaws.{elsewhere-set_next, field-set_other, field-set_same}
+use Rattle.group_store.specs.Counting.{one_less, one_more, tallied}
+use Rattle.group_store.proofs.Tallies.{elsewhere-tallied, field-tallied, less_small, links_tallied, more_small, shape-tallied}
 use Rattle.graph_ops.specs.EdgeEnds.{joined, parted}
 
 -- none, or a relationship in use
@@ -61,6 +65,12 @@ links_next : (s : Records) (t : State) (n rel to : ℕ) → IsRelinked s t.recor
 links_next s t n rel to old related low = set_link s t.records old rel (place_of (rec_at t.records format.relationships_file rel) n + 4) to related (next_link (rec_at t.records format.relationships_file rel) n) low
 
 module _ (s : State) (head : Head) (n rel : ℕ) (first : IsFirstLink s.records head) (place : IsPlace head) (node : IsNode s.records n) (related : kind_at s.records format.relationships_file rel ≡ format.related) where
+  -- a group's head is one of a group in use
+  below : head.key.file ≡ format.groups_file → head.key.id < high s.records format.groups_file
+  below is = ⊎_elim
+      (λ k. absurd (let f = ap (λ (z : Head). z.key.file) k.1 in omega arith))
+      (λ k. kind_below (high s.records format.groups_file) (rec_at s.records format.groups_file head.key.id) head.key.id (group_used (kind_at s.records format.groups_file head.key.id) k.0)) first
+
   -- ---- at the front
   links_pushed : IsUsedLink s.records (first_of s.records head) → IsRelinked s.records (pushed s head n rel).records
   unfolding pushed
@@ -75,7 +85,7 @@ module _ (s : State) (head : Head) (n rel : ℕ) (first : IsFirstLink s.records 
 
   pub links_joined : (d : ℕ) → d < 2 ^ 32 → IsUsedLink s.records (first_of s.records head) → IsRelinked s.records (joined s head n rel d).records
   unfolding joined
-  links_joined d small used = set_degree s.records (pushed s head n rel).records (links_pushed used) n d node small
+  links_joined d small used = set_degree s.records (tallied one_more (pushed s head n rel) head).records (links_tallied s.records (pushed s head n rel) one_more head more_small below (links_pushed used)) n d node small
 
   -- ---- taken out
   links_freed : IsRelinked s.records (put s.records (key_in format.relationships_file rel) (alone (s.records (key_in format.relationships_file rel)) n))
@@ -105,17 +115,48 @@ module _ (s : State) (head : Head) (n rel : ℕ) (first : IsFirstLink s.records 
 
   pub links_parted : (d : ℕ) → d < 2 ^ 32 → IsUsedLink s.records (prev_of s.records n rel) → IsUsedLink s.records (next_of s.records n rel) → IsRelinked s.records (parted s head n rel d).records
   unfolding parted
-  links_parted d small before after = set_degree s.records (unlinked s head n rel).records (links_unlinked before after) n d node small
+  links_parted d small before after = set_degree s.records (tallied one_less (unlinked s head n rel) head).records (links_tallied s.records (unlinked s head n rel) one_less head less_small below (links_unlinked before after)) n d node small
 
 -- ---- degrees, and the records of other nodes and groups
 module _ (s : State) (head : Head) (n rel d : ℕ) where
   pub degree_joined : d < 2 ^ 32 → degree (joined s head n rel d).records n ≡ d
   unfolding joined
-  degree_joined small = field-set_same (pushed s head n rel).records (record { key = key_in format.nodes_file n; field = format.node_degree }) d (omega arith) small
+  degree_joined small = field-set_same (tallied one_more (pushed s head n rel) head).records (record { key = key_in format.nodes_file n; field = format.node_degree }) d (omega arith) small
+
+  -- the head leads to the relationship
+  pub first_joined : head.field + 4 ≤ 32 → (head.key ≡ key_in format.nodes_file n → head.field + 4 ≤ format.node_degree) → rel < 2 ^ 32 → first_of (joined s head n rel d).records head ≡ rel
+  unfolding joined pushed
+  first_joined low aside small =
+      let old = first_of s.records head in
+      let back = backed (after_get s) n old rel in
+      let linked = next_set back n rel old in
+      let one = (tallied one_more (pushed s head n rel) head).records in
+      field-set_other one (record { key = key_in format.nodes_file n; field = format.node_degree }) d head.key 4 head.field (omega arith) (λ e. inl (aside e))
+      ∙ field-tallied one_more (pushed s head n rel) head head.key 4 head.field low
+      ∙ ap (λ r. field 4 r head.field) (put_same linked.records head.key (with_field 4 (s.records head.key) head.field rel))
+      ∙ field-with_field_same 4 (s.records head.key) head.field rel (omega arith) (omega arith)
+
+  -- where it has the node as its source, the links of its target stay
+  pub target_joined : (at : ℕ) → 24 ≤ at → at + 4 ≤ 64 → head.key.file ≢ format.relationships_file → field 4 (rec_at s.records format.relationships_file rel) format.relationship_source ≡ n
+      → field 4 (rec_at (joined s head n rel d).records format.relationships_file rel) at ≡ field 4 (rec_at s.records format.relationships_file rel) at
+  unfolding joined pushed
+  target_joined at high inside no_head source =
+      let key = key_in format.relationships_file rel in
+      let old = first_of s.records head in
+      let back = backed (after_get s) n old rel in
+      let linked = next_set back n rel old in
+      let one = (tallied one_more (pushed s head n rel) head).records in
+      let place : place_of (rec_at s.records format.relationships_file rel) n ≡ 16 = ap (λ t. cond t 16 24) (eq_true _ n source) in
+      ap (λ r. field 4 r at) (put_other one (key_in format.nodes_file n) (with_field 4 (one (key_in format.nodes_file n)) format.node_degree d) key (λ e. let f = ap (λ (k : Key). k.file) e in omega arith))
+      ∙ ap (λ r. field 4 r at) (elsewhere-tallied one_more (pushed s head n rel) head key (λ e. no_head (ap (λ (k : Key). k.file) (sym e))))
+      ∙ ap (λ r. field 4 r at) (put_other linked.records head.key (with_field 4 (s.records head.key) head.field rel) key (λ e. no_head (ap (λ (k : Key). k.file) (sym e))))
+      ∙ field-set_other back.records (next_place back.records n rel) old key 4 at (omega arith) (λ e. inr (let same = place-backed (after_get s) n old rel n rel in omega arith))
+      ∙ field-backed (after_get s) n old rel key 4 at (omega arith) (λ e. inr (
+      let same = ap (λ (k : Key). place_of (s.records k) n) (sym e) in omega arith))
 
   pub degree_parted : d < 2 ^ 32 → degree (parted s head n rel d).records n ≡ d
   unfolding parted
-  degree_parted small = field-set_same (unlinked s head n rel).records (record { key = key_in format.nodes_file n; field = format.node_degree }) d (omega arith) small
+  degree_parted small = field-set_same (tallied one_less (unlinked s head n rel) head).records (record { key = key_in format.nodes_file n; field = format.node_degree }) d (omega arith) small
 
   pub record_joined : (key : Key) → key.file ≢ format.relationships_file → key ≢ head.key → key ≢ key_in format.nodes_file n → (joined s head n rel d).records key ≡ s.records key
   unfolding joined pushed
@@ -123,8 +164,9 @@ module _ (s : State) (head : Head) (n rel d : ℕ) where
       let old = first_of s.records head in
       let back = backed (after_get s) n old rel in
       let linked = next_set back n rel old in
-      let one = (pushed s head n rel).records in
+      let one = (tallied one_more (pushed s head n rel) head).records in
       put_other one (key_in format.nodes_file n) (with_field 4 (one (key_in format.nodes_file n)) format.node_degree d) key no_node
+      ∙ elsewhere-tallied one_more (pushed s head n rel) head key no_head
       ∙ put_other linked.records head.key (with_field 4 (s.records head.key) head.field rel) key no_head
       ∙ elsewhere-set_next back.records n rel old key no_link ∙ elsewhere-backed (after_get s) n old rel key no_link
 
@@ -135,13 +177,48 @@ module _ (s : State) (head : Head) (n rel d : ℕ) where
       let after = next_of s.records n rel in
       let freed = after_put (after_get s) (key_in format.relationships_file rel) (alone (s.records (key_in format.relationships_file rel)) n) in
       let back = backed freed n after before in
-      let one = (unlinked s head n rel).records in
+      let one = (tallied one_less (unlinked s head n rel) head).records in
       let stays : back.records key ≡ s.records key = elsewhere-backed freed n after before key no_link
       ∙ put_other s.records (key_in format.relationships_file rel) (alone (s.records (key_in format.relationships_file rel)) n) key (λ e. no_link (ap (λ (k : Key). k.file) e)) in
       put_other one (key_in format.nodes_file n) (with_field 4 (one (key_in format.nodes_file n)) format.node_degree d) key no_node
+      ∙ elsewhere-tallied one_less (unlinked s head n rel) head key no_head
       ∙ on_test (λ (z : State). z.records key ≡ s.records key) before format.nil (number_set back head after) (next_set back n before after)
       (λ _. put_other back.records head.key (with_field 4 (back.records head.key) head.field after) key no_head ∙ stays)
       (λ _. elsewhere-set_next back.records n before after key no_link ∙ stays)
+
+-- numbers of groups that stand apart from the head's first link
+key_cases : (a b : Key) → (a ≡ b) ⊎ (a ≢ b)
+key_cases a b = ⊎_elim
+    (λ (f : a.file ≡ b.file). ⊎_elim
+    (λ (i : a.id ≡ b.id). inl (ap (λ z. record { file = z; id = a.id }) f ∙ ap (λ z. record { file = b.file; id = z }) i))
+    (λ (i : a.id ≢ b.id). inr (λ e. i (ap (λ (k : Key). k.id) e))) (nat_cases a.id b.id))
+    (λ (f : a.file ≢ b.file). inr (λ e. f (ap (λ (k : Key). k.file) e))) (nat_cases a.file b.file)
+
+module _ (s : State) (head : Head) (n rel : ℕ) where
+  pub number_pushed : (key : Key) (m at : ℕ) → key.file ≢ format.relationships_file → at + m ≤ 64 → (key ≡ head.key → (at + m ≤ head.field) ⊎ (head.field + 4 ≤ at)) → field m ((pushed s head n rel).records key) at ≡ field m (s.records key) at
+  unfolding pushed
+  number_pushed key m at no_link inside aside =
+      let old = first_of s.records head in
+      let back = backed (after_get s) n old rel in
+      let linked = next_set back n rel old in
+      ⊎_elim
+      (λ (e : key ≡ head.key). ap (λ k. field m (put linked.records head.key (with_field 4 (s.records head.key) head.field rel) k) at) e ∙ ap (λ r. field m r at) (put_same linked.records head.key (with_field 4 (s.records head.key) head.field rel))
+      ∙ field-with_field_other 4 (s.records head.key) head.field rel m at inside (⊎_elim (λ low. inr low) (λ high. inl high) (aside e)) ∙ ap (λ k. field m (s.records k) at) (sym e))
+      (λ (ne : key ≢ head.key). ap (λ r. field m r at) (put_other linked.records head.key (with_field 4 (s.records head.key) head.field rel) key ne
+      ∙ elsewhere-set_next back.records n rel old key no_link ∙ elsewhere-backed (after_get s) n old rel key no_link)) (key_cases key head.key)
+
+  pub number_unlinked : (key : Key) (m at : ℕ) → key.file ≢ format.relationships_file → at + m ≤ 64 → (key ≡ head.key → (at + m ≤ head.field) ⊎ (head.field + 4 ≤ at)) → field m ((unlinked s head n rel).records key) at ≡ field m (s.records key) at
+  unfolding unlinked led
+  number_unlinked key m at no_link inside aside =
+      let before = prev_of s.records n rel in
+      let after = next_of s.records n rel in
+      let freed = after_put (after_get s) (key_in format.relationships_file rel) (alone (s.records (key_in format.relationships_file rel)) n) in
+      let back = backed freed n after before in
+      let stays : back.records key ≡ s.records key = elsewhere-backed freed n after before key no_link
+      ∙ put_other s.records (key_in format.relationships_file rel) (alone (s.records (key_in format.relationships_file rel)) n) key (λ e. no_link (ap (λ (k : Key). k.file) e)) in
+      on_test (λ (z : State). field m (z.records key) at ≡ field m (s.records key) at) before format.nil (number_set back head after) (next_set back n before after)
+      (λ _. field-set_other back.records head after key m at inside aside ∙ ap (λ r. field m r at) stays)
+      (λ _. ap (λ r. field m r at) (elsewhere-set_next back.records n before after key no_link ∙ stays))
 
 -- ---- the shape
 shape_backed : (s : State) (n link to : ℕ) → (backed s n link to).shape ≡ s.shape
@@ -150,7 +227,7 @@ shape_backed s n link to = on_test (λ (z : State). z.shape ≡ s.shape) link fo
 
 pub shape_joined : (s : State) (head : Head) (n rel d : ℕ) → (joined s head n rel d).shape ≡ s.shape
 unfolding joined pushed
-shape_joined s head n rel d = shape_backed (after_get s) n (first_of s.records head) rel
+shape_joined s head n rel d = shape-tallied one_more (pushed s head n rel) head ∙ shape_backed (after_get s) n (first_of s.records head) rel
 
 pub shape_parted : (s : State) (head : Head) (n rel d : ℕ) → (parted s head n rel d).shape ≡ s.shape
 unfolding parted unlinked led
@@ -159,12 +236,12 @@ shape_parted s head n rel d =
     let after = next_of s.records n rel in
     let freed = after_put (after_get s) (key_in format.relationships_file rel) (alone (s.records (key_in format.relationships_file rel)) n) in
     let back = backed freed n after before in
-    on_test (λ (z : State). z.shape ≡ s.shape) before format.nil (number_set back head after) (next_set back n before after) (λ _. shape_backed freed n after before) (λ _. shape_backed freed n after before)
+    shape-tallied one_less (unlinked s head n rel) head ∙ on_test (λ (z : State). z.shape ≡ s.shape) before format.nil (number_set back head after) (next_set back n before after) (λ _. shape_backed freed n after before) (λ _. shape_backed freed n after before)
 
 -- ---- what stays where links alone are set
 pub first_stays : (s t : Records) → IsRelinked s t → (h : Head) → IsFirstLink s h → IsFirstLink t h
 first_stays s t links h (inl k) = inl (kind_stays s t links format.nodes_file h.key.id ∙ k.0, k.1)
-first_stays s t links h (inr k) = inr (kind_stays s t links format.groups_file h.key.id ∙ k.0, k.1, k.2)
+first_stays s t links h (inr k) = inr (ap is_group_kind (kind_stays s t links format.groups_file h.key.id) ∙ k.0, k.1, k.2)
 
 pub node_stays : (s t : Records) → IsRelinked s t → (n : ℕ) → IsNode s n → IsNode t n
 node_stays s t links n (inl k) = inl (kind_stays s t links format.nodes_file n ∙ k)

@@ -1,10 +1,10 @@
 -- Which records are written at the ends of a relationship.
-use Rattle.std.proofs.Common.{◌≡◌, ℕ, true, List, [], ◌∷◌, ◌++◌, sym, subst, inl, inr, ⊎_elim, arith, refl}
+use Rattle.std.proofs.Common.{◌≡◌, ◌≤◌, ℕ, true, List, [], ◌∷◌, ◌++◌, length, sym, ap, subst, inl, inr, ⊎_elim, arith, refl}
 use Rattle.rec_bytes.specs.Format as format
 use Rattle.rec_bytes.specs.RecordFiles.{is_meta_file, meta_key_of}
 use Rattle.rec_bytes.specs.declared.key.Key.{Key}
-use Rattle.rec_bytes.specs.Space.{IsAmong, State, WritesOnly}
-use Rattle.rec_bytes.proofs.Spaces.{writes_more, writes_then}
+use Rattle.rec_bytes.specs.Space.{IsAmong, SameButReads, State, WritesOnly}
+use Rattle.rec_bytes.proofs.Spaces.{writes_more, writes_none, writes_then}
 use Rattle.rel_store.specs.RelRecord.{rel_key}
 use Rattle.node_store.specs.NodeRecord.{node_key}
 use Rattle.store_rules.specs.Views.{key_in}
@@ -13,7 +13,7 @@ use Rattle.store_rules.proofs.WriteLaws.{among_both, among_left, among_metas, am
 use Rattle.chain_edit.proofs.ChainSteps.{on_test}
 use Rattle.group_store.specs.Dropping.{lead_key}
 use Rattle.group_store.specs.GroupRecord.{group_key}
-use Rattle.graph_ops.specs.EdgeDeleting.{WritesEnds}
+use Rattle.graph_ops.specs.EdgeDeleting.{WritesEnds, WritesTaken}
 use Rattle.graph_ops.specs.EdgeEnds.{IsEdgeEnd, end_keys}
 use Rattle.graph_ops.specs.declared.edge_end.EdgeEnd.{EdgeEnd}
 
@@ -82,9 +82,6 @@ module _ (s t : State) (rel : ℕ) (source target : EdgeEnd) where
 abbrev ends_keys : ℕ → ℕ → ℕ → ℕ → EdgeEnd → EdgeEnd → List Key
 ends_keys a b c d source target = end_keys a b source ++ end_keys c d target
 
-own_ends : (a b c d : ℕ) (source target : EdgeEnd) → IsEdgeEnd source → IsEdgeEnd target → AreOwn (ends_keys a b c d source target)
-own_ends a b c d source target p q = (refl, (refl, (p.own, (refl, (refl, (refl, (q.own, (refl, tt))))))))
-
 own_lead : (node before : ℕ) → is_meta_file (lead_key node before).file ≡ true
 own_lead node before = on_test (λ (k : Key). is_meta_file k.file ≡ true) before format.nil (node_key node) (group_key before) (λ _. refl) (λ _. refl)
 
@@ -101,22 +98,44 @@ close_in q end a b keys head after before (inr (inr (inl e))) = among_left q key
 close_in q end a b keys head after before (inr (inr (inr (inl e)))) = among_right q keys meta_keys (among_metas format.groups_file q refl e)
 close_in q end a b keys head after before (inr (inr (inr (inr i)))) = absurd i
 
-module _ (s t : State) (rel : ℕ) (source target : EdgeEnd) (is_source : IsEdgeEnd source) (is_target : IsEdgeEnd target) (w : WritesEnds s t rel source target) where
+module _ (s t : State) (rel : ℕ) (source target : EdgeEnd) (w : WritesEnds s t rel source target) where
   abbrev E : List Key
   E = ends_keys w.before_source w.after_source w.before_target w.after_target source target
 
   ends_in : (q : Key) (more : List Key) → IsAmong q (rel_key rel ∷ E ++ meta_keys) → IsAmong q (rel_key rel ∷ (E ++ more) ++ meta_keys)
   ends_in q more i = ⊎_elim (λ e. inl e) (λ j. inr (among_both q E meta_keys (λ m. among_left q (E ++ more) meta_keys (among_left q E more m)) (λ m. among_right q (E ++ more) meta_keys m) j)) i
 
-  pub ends_beside : WritesBeside (rel_key rel) 12 s t
-  ends_beside = beside_more (omega arith) (these_written (rel_key rel) s t E (rel_key rel ∷ E ++ meta_keys) (own_ends w.before_source w.after_source w.before_target w.after_target source target is_source is_target) (λ q i. i) w.only)
+  -- those besides the heads'
+  abbrev R : List Key
+  R = rel_key w.before_source ∷ rel_key w.after_source ∷ key_in format.nodes_file source.node
+      ∷ rel_key w.before_target ∷ rel_key w.after_target ∷ key_in format.nodes_file target.node ∷ []
+
+  apart : (q : Key) (more : List Key) → IsAmong q (rel_key rel ∷ (E ++ more) ++ meta_keys) → IsAmong q (rel_key rel ∷ source.head.key ∷ target.head.key ∷ (R ++ more) ++ meta_keys)
+  apart q more (inl e) = inl e
+  apart q more (inr (inl e)) = inr (inr (inr (inl e)))
+  apart q more (inr (inr (inl e))) = inr (inr (inr (inr (inl e))))
+  apart q more (inr (inr (inr (inl e)))) = inr (inl e)
+  apart q more (inr (inr (inr (inr (inl e))))) = inr (inr (inr (inr (inr (inl e)))))
+  apart q more (inr (inr (inr (inr (inr (inl e)))))) = inr (inr (inr (inr (inr (inr (inl e))))))
+  apart q more (inr (inr (inr (inr (inr (inr (inl e))))))) = inr (inr (inr (inr (inr (inr (inr (inl e)))))))
+  apart q more (inr (inr (inr (inr (inr (inr (inr (inl e)))))))) = inr (inr (inl e))
+  apart q more (inr (inr (inr (inr (inr (inr (inr (inr (inl e))))))))) = inr (inr (inr (inr (inr (inr (inr (inr (inl e))))))))
+  apart q more (inr (inr (inr (inr (inr (inr (inr (inr (inr i))))))))) = inr (inr (inr (inr (inr (inr (inr (inr (inr i))))))))
+
+  these_taken : (v : State) (more : List Key) → length more ≤ 4 → AreOwn more → WritesOnly s v (rel_key rel ∷ (E ++ more) ++ meta_keys) → WritesTaken s v rel source target
+  these_taken v more few own only = record {
+    keys = R ++ more;
+    few = omega arith;
+    own = (refl, (refl, (refl, (refl, (refl, (refl, own))))));
+    only = writes_more s v (rel_key rel ∷ (E ++ more) ++ meta_keys) _ (λ q i. apart q more i) only;
+  }
+
+  pub ends_taken : WritesTaken s t rel source target
+  ends_taken = these_taken t [] (omega arith) tt w.only
 
   module _ (v : State) (first : WritesClosed t v source) where
     abbrev C : List Key
     C = group_key first.1 ∷ lead_key source.node first.0 ∷ []
-
-    own_first : AreOwn (E ++ C)
-    own_first = (refl, (refl, (is_source.own, (refl, (refl, (refl, (is_target.own, (refl, (refl, (own_lead source.node first.0, tt))))))))))
 
     source_only : WritesOnly s v (rel_key rel ∷ (E ++ C) ++ meta_keys)
     source_only = writes_more s v ((rel_key rel ∷ E ++ meta_keys) ++ (group_key first.1 ∷ lead_key source.node first.0 ∷ source.head.key ∷ meta_key_of format.groups_file ∷ [])) _
@@ -124,15 +143,12 @@ module _ (s t : State) (rel : ℕ) (source target : EdgeEnd) (is_source : IsEdge
         (λ m. inr (close_in q source first.1 first.0 (E ++ C) (inr (inr (inl refl))) (among_right (group_key first.1) E C (inl refl)) (among_right (lead_key source.node first.0) E C (inr (inl refl))) m)) i)
         (writes_then s t v _ _ w.only first.2)
 
-    pub source_beside : WritesBeside (rel_key rel) 12 s v
-    source_beside = beside_more (omega arith) (these_written (rel_key rel) s v (E ++ C) (rel_key rel ∷ (E ++ C) ++ meta_keys) own_first (λ q i. i) source_only)
+    pub source_taken : WritesTaken s v rel source target
+    source_taken = these_taken v C (omega arith) (refl, (own_lead source.node first.0, tt)) source_only
 
     module _ (x : State) (last : WritesClosed v x target) where
       abbrev D : List Key
       D = group_key last.1 ∷ lead_key target.node last.0 ∷ []
-
-      own_last : AreOwn ((E ++ C) ++ D)
-      own_last = (refl, (refl, (is_source.own, (refl, (refl, (refl, (is_target.own, (refl, (refl, (own_lead source.node first.0, (refl, (own_lead target.node last.0, tt))))))))))))
 
       target_only : WritesOnly s x (rel_key rel ∷ ((E ++ C) ++ D) ++ meta_keys)
       target_only = writes_more s x ((rel_key rel ∷ (E ++ C) ++ meta_keys) ++ (group_key last.1 ∷ lead_key target.node last.0 ∷ target.head.key ∷ meta_key_of format.groups_file ∷ [])) _
@@ -141,5 +157,42 @@ module _ (s t : State) (rel : ℕ) (source target : EdgeEnd) (is_source : IsEdge
           (λ m. inr (close_in q target last.1 last.0 ((E ++ C) ++ D) (inr (inr (inr (inr (inr (inr (inl refl))))))) (among_right (group_key last.1) (E ++ C) D (inl refl)) (among_right (lead_key target.node last.0) (E ++ C) D (inr (inl refl))) m)) i)
           (writes_then s v x _ _ source_only last.2)
 
-      pub target_beside : WritesBeside (rel_key rel) 12 s x
-      target_beside = these_written (rel_key rel) s x ((E ++ C) ++ D) (rel_key rel ∷ ((E ++ C) ++ D) ++ meta_keys) own_last (λ q i. i) target_only
+      pub target_taken : WritesTaken s x rel source target
+      target_taken = these_taken x (C ++ D) (omega arith) (refl, (own_lead source.node first.0, (refl, (own_lead target.node last.0, tt)))) target_only
+
+-- ---- with the groups of the heads, which were counted before
+
+pub taken_after : (s t u : State) (rel : ℕ) (source target : EdgeEnd) → WritesOnly s t (source.head.key ∷ target.head.key ∷ []) → WritesTaken t u rel source target → WritesTaken s u rel source target
+taken_after s t u rel source target counted taken =
+    let all = rel_key rel ∷ source.head.key ∷ target.head.key ∷ taken.keys ++ meta_keys in
+    record {
+      keys = taken.keys;
+      few = taken.few;
+      own = taken.own;
+      only = writes_more s u (source.head.key ∷ target.head.key ∷ all) all
+          (λ q i. ⊎_elim (λ e. inr (inl e)) (λ j. ⊎_elim (λ e. inr (inr (inl e))) (λ k. k) j) i)
+          (writes_then s t u (source.head.key ∷ target.head.key ∷ []) all counted taken.only);
+    }
+
+pub taken_beside : (s u : State) (rel : ℕ) (source target : EdgeEnd) → IsEdgeEnd source → IsEdgeEnd target → WritesTaken s u rel source target → WritesBeside (rel_key rel) 12 s u
+taken_beside s u rel source target is_source is_target taken = record {
+  keys = source.head.key ∷ target.head.key ∷ taken.keys;
+  few = let few = taken.few in omega arith;
+  own = (is_source.own, (is_target.own, taken.own));
+  only = taken.only;
+}
+
+pub groups_beside : (s t : State) (rel g k : ℕ) → WritesOnly s t (group_key g ∷ group_key k ∷ []) → WritesBeside (rel_key rel) 12 s t
+groups_beside s t rel g k only = beside_more (omega arith) (these_written (rel_key rel) s t (group_key g ∷ group_key k ∷ []) (group_key g ∷ group_key k ∷ []) (refl, (refl, tt))
+    (λ q i. ⊎_elim (λ e. inr (inl e)) (λ j. ⊎_elim (λ e. inr (inr (inl e))) (λ z. absurd z) j) i) only)
+
+-- one record twice
+pub one_head : (s t : State) (key : Key) → WritesOnly s t (key ∷ []) → WritesOnly s t (key ∷ key ∷ [])
+one_head s t key only = writes_more s t (key ∷ []) (key ∷ key ∷ []) (λ q i. ⊎_elim (λ e. inl e) (λ z. absurd z) i) only
+
+pub one_group : (s t : State) (g : ℕ) → WritesOnly s t (group_key g ∷ []) → WritesOnly s t (group_key g ∷ group_key g ∷ [])
+one_group s t g only = one_head s t (group_key g) only
+
+-- what is written after a read
+pub read_then : (s m t : State) (keys : List Key) → SameButReads s m → WritesOnly m t keys → WritesOnly s t keys
+read_then s m t keys same only = writes_then s m t [] keys (writes_none s m [] (ap (λ (z : State). z.written) same)) only

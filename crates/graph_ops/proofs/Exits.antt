@@ -1,6 +1,6 @@
 -- An exit that hands a fault on, and what a fault leaves.
 use Rattle.std.specs.Bool.{OnTrue}
-use Rattle.std.specs.Prelude.{Result, Err, IfErr, IsErrAnd}
+use Rattle.std.specs.Prelude.{Result, Ok, Err, IfErr, IsErrAnd, OnOk}
 use Rattle.std.proofs.Common.{◌≡◌, Bool, true, false, sym, ap, ◌∙◌, subst, ⊎_elim}
 use Rattle.std.proofs.lemmas.Result.{err_from_is_err_and}
 use Rattle.rec_bytes.specs.Space.{SameButReads, State}
@@ -19,6 +19,11 @@ use Rattle.graph_ops.specs.ChangeFault.{IsOutside, LeavesSpace, MayComeLate, is_
 -- what holds of a fault holds of the result that hands it on
 pub fault_exit : {T F : Type 0} (of : F → ChangeFault) (P : ChangeFault → Type 0) (fault : F) (out : Result T ChangeFault) → IsErrAnd out (λ y. y ≡ of fault) → P (of fault) → IfErr out P
 fault_exit of P fault out gives h = let p = err_from_is_err_and out gives in subst (λ o. IfErr o P) (sym p.1) (subst P (sym p.2) h)
+
+-- what holds of a success, for what follows from it
+pub on_ok : {T : Type 0} (r : Result T ChangeFault) (P Q : Type 0) → (P → Q) → OnOk r P → OnOk r Q
+on_ok (Ok x) P Q then h = then h
+on_ok (Err e) P Q then h = h
 
 -- the result is the fault that is handed on
 abbrev the_err : {T : Type 0} → ChangeFault → Result T ChangeFault

@@ -51,14 +51,14 @@ keeps_named s old text store short lacks few =
 
 -- no name touches what the meta records of other files say
 pub metas_same : (s : State) → KeepsElementMetas s s
-metas_same s = record { nodes = refl; edges = refl }
+metas_same s = record { nodes = refl; edges = refl; properties = refl; blocks = refl }
 
 pub metas_then : {s t u : State} → KeepsElementMetas s t → KeepsElementMetas t u → KeepsElementMetas s u
-metas_then h k = record { nodes = k.nodes ∙ h.nodes; edges = k.edges ∙ h.edges }
+metas_then h k = record { nodes = k.nodes ∙ h.nodes; edges = k.edges ∙ h.edges; properties = k.properties ∙ h.properties; blocks = k.blocks ∙ h.blocks }
 
 metas_named : (s : State) (id : ℕ) (text : List ℕ) → KeepsElementMetas s (named s id text)
 unfolding named
-metas_named s id text = record { nodes = refl; edges = refl }
+metas_named s id text = record { nodes = refl; edges = refl; properties = refl; blocks = refl }
 
 pub metas_interned : (s t : State) (old new : List (List ℕ)) (text : List ℕ) → t ≡ interned s old text → UsesName old text new → KeepsElementMetas s t
 metas_interned s t old new text is uses = ⊎_elim

@@ -1,4 +1,6 @@
 pub mod Assigned
+pub mod Broken
+pub mod Counted
 pub mod Deleting
 pub mod EdgeAdded
 pub mod EdgeClosed
@@ -14,9 +16,11 @@ pub mod ElementChanges
 pub mod ElementRooms
 pub mod Elements
 pub mod EndWrites
+pub mod EndsFound
 pub mod Exits
 pub mod Interned
 pub mod JoinWrites
+pub mod KeptLinks
 pub mod LastPairs
 pub mod LineNames
 pub mod NewNames

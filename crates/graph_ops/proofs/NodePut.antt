@@ -8,6 +8,7 @@ use Rattle.rec_bytes.specs.declared.key.Key.{Key}
 use Rattle.rec_bytes.specs.declared.record.Rec.{Rec}
 use Rattle.rec_bytes.specs.Format as format
 use Rattle.rec_bytes.specs.Meta as metas
+use Rattle.rec_bytes.specs.Record.{field}
 use Rattle.rec_bytes.specs.RecordFiles.{meta_key_of}
 use Rattle.rec_bytes.specs.Space.{State, after_put, put}
 use Rattle.rec_bytes.proofs.Spaces.{put_same, put_other}
@@ -15,6 +16,7 @@ use Rattle.store_rules.specs.Graph.{names_of}
 use Rattle.store_rules.specs.Rules.{IsWellFormed}
 use Rattle.store_rules.specs.Views.{Records, high, rec_at, text_of}
 use Rattle.store_rules.proofs.Made.{IsMade}
+use Rattle.store_rules.proofs.ViewLaws.{kind_low}
 use Rattle.store_rules.proofs.NodeChange.{edges_stay, names_stay}
 use Rattle.store_rules.proofs.NodeMade.{IsNewNode, node_added, node_fresh, node_well}
 use Rattle.id_freelist.specs.FreeLists.{IsFreeList}
@@ -75,6 +77,7 @@ module _ (s m t : State) (names : List (List ℕ)) (id number : ℕ) (label : Li
     nodes = node_added s.records after s.shape id number rec made fresh store.store known.0
         ∙ ap (λ l. with_row node_number (record { id = id; label = l; properties = no_properties }) (graph_in s).nodes) known.1;
     edges = edges_stay s.records after id made.change;
+    sparse = kind_low (high after format.nodes_file) (rec_at after format.nodes_file id) id made.below ∙ ap (λ r. field 1 r format.kind) made.here ∙ fresh.kind;
     metas = λ file ne. ap metas.meta_of (other_meta file ne);
   }
 

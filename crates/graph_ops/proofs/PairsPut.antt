@@ -11,7 +11,7 @@ use Rattle.plain_graph.specs.declared.command.Target.TheVariants as targets
 use Rattle.plain_graph.specs.declared.pairs.Pair.{Pair}
 use Rattle.plain_graph.specs.declared.value.Value.{Value}
 use Rattle.plain_graph.proofs.PropertyLaws.{blocks_in-empty, order}
-use Rattle.prop_store.specs.Changing.{HasKey, IsSetRefusal, SetsValue, properties_of, target_of, text_at}
+use Rattle.prop_store.specs.Changing.{ChangesElement, HasKey, IsSetRefusal, SetsValue, properties_of, target_of, text_at}
 use Rattle.prop_store.specs.Owner.{IsOwner}
 use Rattle.prop_store.specs.declared.owner.Owner.{Owner}
 use Rattle.prop_store.specs.declared.set_fault.SetFault.{SetFault}
@@ -21,10 +21,10 @@ use Rattle.rec_bytes.specs.declared.shape.Shape.{Shape}
 use Rattle.rec_bytes.specs.Format as format
 use Rattle.rec_bytes.specs.Key.{IsKey}
 use Rattle.rec_bytes.specs.Space.{State}
-use Rattle.store_rules.specs.Views.{high}
+use Rattle.store_rules.specs.Views.{Records, high}
 use Rattle.store_rules.specs.Writes.{WritesBeside}
 use Rattle.store_rules.proofs.PropertyCounts.{count_blocks, count_properties}
-use Rattle.graph_ops.specs.Assigning.{CanPut, HasPropertyRoom, PutsPairs, assigned_blocks, pair_of, pairs_of}
+use Rattle.graph_ops.specs.Assigning.{CanPut, HasPropertyRoom, KeepsLinks, PutsPairs, assigned_blocks, pair_of, pairs_of}
 use Rattle.graph_ops.specs.ChangeFault.{IsOutside, of_set}
 use Rattle.graph_ops.specs.Owners.{owner_of}
 use Rattle.graph_ops.specs.Store.{IsStore, graph_in}
@@ -52,7 +52,21 @@ text_known s names key store low = number_in s.records names key (get_or names k
 
 -- ---- no pair yet
 pub none_put : (s : State) (names : List (List ℕ)) (target : Target) (ps : List Pair) → IsStore s names → PutsPairs s s names target (take 0 ps)
-none_put s names target ps store = record { store = store; graph = sym (with_properties_same (graph_in s) target) }
+none_put s names target ps store = record {
+  store = store;
+  graph = sym (with_properties_same (graph_in s) target);
+  keeps = record { own = λ n at inside apart. refl; others = λ key a b c d e. refl };
+}
+
+-- so it is after one change of the element's properties, and after several
+pub links_kept : (s t : State) (owner : Owner) → ChangesElement s t owner → KeepsLinks s.records t.records owner
+links_kept s t owner change = record { own = change.changes.own; others = change.changes.others }
+
+pub links_twice : (s t u : Records) (owner : Owner) → KeepsLinks s t owner → KeepsLinks t u owner → KeepsLinks s u owner
+links_twice s t u owner a b = record {
+  own = λ n at inside apart. b.own n at inside apart ∙ a.own n at inside apart;
+  others = λ key p q m n ne. b.others key p q m n ne ∙ a.others key p q m n ne;
+}
 
 -- ---- one pair more
 module _ (s t : State) (names : List (List ℕ)) (target : Target) (pairs : List Pair) (assigned : List Assignment) (i : ℕ) (can : CanPut s names target pairs assigned) (few : length assigned ≤ 32)
@@ -123,6 +137,7 @@ module _ (s t : State) (names : List (List ℕ)) (target : Target) (pairs : List
       names = put.store.names ∙ sym (ap (λ (g : Graph). g.names) sets.graph ∙ names-with_properties (graph_in t) (target_of owner) (λ m. maps.insert m (text_at t a.key) value));
     };
     graph = sets.graph ∙ next_graph value is;
+    keeps = links_twice s.records t.records u.records owner put.keeps (links_kept t u owner sets.changes);
   }
 
   -- ---- a value for which there is room

@@ -1,5 +1,5 @@
 -- The pairs of a line by the numbers of their keys, each key once.
-use Rattle.std.specs.Prelude.{◌≡◌, ◌⊎◌, ℕ, ◌<◌, ◌≤◌, nat_eq, true, if◌then◌else◌, None, List, []}
+use Rattle.std.specs.Prelude.{◌≡◌, ◌≢◌, ◌⊎◌, ℕ, ◌+◌, ◌<◌, ◌≤◌, nat_eq, true, if◌then◌else◌, None, List, []}
 use Rattle.std.specs.Prelude.{◌∷◌, length, map, slice_index_or}
 use Rattle.std.specs.FinMap as maps
 use Rattle.std.specs.List.{All, sum_by}
@@ -9,8 +9,15 @@ use Rattle.plain_graph.specs.Refusals.{most_names, most_properties}
 use Rattle.plain_graph.specs.declared.command.Target.{Target}
 use Rattle.plain_graph.specs.declared.pairs.Pair.{Pair}
 use Rattle.plain_graph.specs.declared.value.Value.TheVariants as values
+use Rattle.prop_store.specs.declared.owner.Owner.{Owner}
+use Rattle.rec_bytes.specs.declared.key.Key.{Key}
 use Rattle.rec_bytes.specs.Format as format
+use Rattle.rec_bytes.specs.Record.{field}
+use Rattle.rec_bytes.specs.RecordFiles.{meta_key_of}
 use Rattle.rec_bytes.specs.Space.{State}
+use Rattle.store_rules.specs.PropertyChange.{Apart, property_place}
+use Rattle.store_rules.specs.Views.{Records, key_in, rec_at}
+use Rattle.graph_ops.specs.Owners.{owner_of}
 use Rattle.graph_ops.specs.Rooms.{HasRoom, LacksRoom}
 use Rattle.graph_ops.specs.Store.{IsStore, graph_in}
 use Rattle.graph_ops.specs.declared.assigning.Assignment.{Assignment}
@@ -90,6 +97,18 @@ IsAssignFault names pairs Memory = Unit {0}
 IsAssignFault names pairs Disk = Unit {0}
 IsAssignFault names pairs (Damaged damage) = ⊥
 
+-- what such a fault counts is so
+abbrev pub IsAssignCount : ChangeFault → Type 0
+IsAssignCount (NoNode id) = ⊥
+IsAssignCount (NoEdge id) = ⊥
+IsAssignCount (HasRelationships id degree) = ⊥
+IsAssignCount (Full file live) = ⊥
+IsAssignCount (NamesFull count) = count ≡ most_names
+IsAssignCount (PropsFull count) = count ≡ most_properties
+IsAssignCount Memory = Unit {0}
+IsAssignCount Disk = Unit {0}
+IsAssignCount (Damaged damage) = ⊥
+
 -- the store has room for so many properties and blocks more
 pub record HasPropertyRoom (s : State) (count block_count : ℕ) : Type 0 where
   pub properties : HasRoom s format.properties_file count
@@ -109,9 +128,20 @@ pub record CanPut (s : State) (names : List (List ℕ)) (target : Target) (pairs
   pub bare : properties_at (graph_in s) target ≡ no_properties
   pub are : AreAssigned names pairs assigned
 
+-- Nothing changed but records of properties and of blocks, and the place of the first property in
+-- the record of the element.
+pub record KeepsLinks (old new : Records) (owner : Owner) : Type 0 where
+  pub own : (n at : ℕ) → at + n ≤ 64 → Apart n at 4 (property_place owner.key.file)
+      → field n (rec_at new owner.key.file owner.key.id) at
+      ≡ field n (rec_at old owner.key.file owner.key.id) at
+  pub others : (key : Key) → key.file ≢ format.properties_file → key.file ≢ format.strings_file
+      → key ≢ meta_key_of format.properties_file → key ≢ meta_key_of format.strings_file
+      → key ≢ key_in owner.key.file owner.key.id → new key ≡ old key
+
 -- The element has these pairs now.
 pub record PutsPairs (s t : State) (names : List (List ℕ)) (target : Target) (pairs : List Pair)
     : Type 0 where
   pub store : IsStore t names
   pub graph : graph_in t
       ≡ with_properties (graph_in s) target (λ properties. with_pairs properties pairs)
+  pub keeps : KeepsLinks s.records t.records (owner_of target)

@@ -1,14 +1,18 @@
 -- What a change of a command leaves of a store, and why one is refused.
-use Rattle.std.specs.Prelude.{ℕ, nat_eq, if◌then◌else◌, List}
+use Rattle.std.specs.Prelude.{◌≡◌, ℕ, nat_eq, if◌then◌else◌, List}
 use Rattle.plain_graph.specs.Changes.{Changes, Weighs}
 use Rattle.plain_graph.specs.Graph.{Graph}
-use Rattle.plain_graph.specs.Refusals.{FirstReason, NoReason, Reason, change_reasons}
+use Rattle.plain_graph.specs.Refusals.{FirstReason, NoReason, Reason, change_reasons, most_names}
+use Rattle.plain_graph.specs.Refusals.{most_properties}
 use Rattle.plain_graph.specs.Reply.{Reply}
 use Rattle.plain_graph.specs.declared.command.Command.{Command}
 use Rattle.plain_graph.specs.declared.refusal.Refusal.{Refusal}
 use Rattle.plain_graph.specs.declared.refusal.Refusal.TheVariants as refusals
 use Rattle.rec_bytes.specs.Format as format
-use Rattle.rec_bytes.specs.Space.{State}
+use Rattle.rec_bytes.specs.RecordFiles.{room_of}
+use Rattle.rec_bytes.specs.declared.shape.Shape.{Shape}
+use Rattle.rec_bytes.specs.Space.{State, meta_of}
+use Rattle.graph_ops.specs.NodeDeleting.{HasDegree}
 use Rattle.graph_ops.specs.Store.{IsStore, graph_in}
 use Rattle.graph_ops.specs.declared.change_fault.ChangeFault.{ChangeFault}
 use Rattle.graph_ops.specs.declared.change_fault.ChangeFault.TheVariants.{NoNode, NoEdge}
@@ -55,3 +59,28 @@ IsRefusedBy reasons limit graph command (Damaged damage) = ⊥
 -- so is a change, for any of its reasons
 abbrev pub IsRefusal : ℕ → Graph → Command → ChangeFault → Type 0
 IsRefusal limit graph command fault = IsRefusedBy change_reasons limit graph command fault
+
+-- What a refusal counts is so: how many relationships the node has, how many records of the file
+-- are live, and how many names or properties there may be.
+abbrev pub IsCounted : State → ChangeFault → Type 0
+IsCounted s (NoNode id) = Unit {0}
+IsCounted s (NoEdge id) = Unit {0}
+IsCounted s (HasRelationships id degree) = HasDegree s.records id degree
+IsCounted s (Full file live) = live ≡ (meta_of s file).live
+IsCounted s (NamesFull count) = count ≡ most_names
+IsCounted s (PropsFull count) = count ≡ most_properties
+IsCounted s Memory = Unit {0}
+IsCounted s Disk = Unit {0}
+IsCounted s (Damaged damage) = Unit {0}
+
+-- So is what a refusal of a value counts. A file is full with as many records as it has room for.
+abbrev pub IsSetCount : Shape → ChangeFault → Type 0
+IsSetCount shape (NoNode id) = Unit {0}
+IsSetCount shape (NoEdge id) = Unit {0}
+IsSetCount shape (HasRelationships id degree) = ⊥
+IsSetCount shape (Full file live) = live ≡ room_of shape file
+IsSetCount shape (NamesFull count) = count ≡ most_names
+IsSetCount shape (PropsFull count) = count ≡ most_properties
+IsSetCount shape Memory = Unit {0}
+IsSetCount shape Disk = Unit {0}
+IsSetCount shape (Damaged damage) = Unit {0}

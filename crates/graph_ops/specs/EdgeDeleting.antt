@@ -1,13 +1,16 @@
 -- An edge that is deleted.
-use Rattle.std.specs.Prelude.{◌≡◌, ◌≢◌, ◌⊎◌, ℕ, ◌+◌, ◌∷◌, ◌++◌, List, Some}
+use Rattle.std.specs.Prelude.{◌≡◌, ◌≢◌, ◌⊎◌, ℕ, ◌+◌, ◌≤◌, ◌∷◌, ◌++◌, List, Some, length}
 use Rattle.plain_graph.specs.Graph.{RemovesEdge}
+use Rattle.rec_bytes.specs.declared.key.Key.{Key}
 use Rattle.rec_bytes.specs.Format as format
 use Rattle.rec_bytes.specs.Space.{State, WritesOnly, meta_of}
 use Rattle.rel_store.specs.RelRecord.{rel_key}
+use Rattle.rel_store.specs.declared.rel_row.RelRow.{RelRow}
+use Rattle.store_rules.specs.Ends.{Regroups}
 use Rattle.store_rules.specs.Graph.{names_of}
 use Rattle.store_rules.specs.Rules.{KeepsRules, Owns, StandsAt}
 use Rattle.store_rules.specs.Views.{Records, degree, group_at, kind_at, node_at, rel_at}
-use Rattle.store_rules.specs.Writes.{meta_keys}
+use Rattle.store_rules.specs.Writes.{AreOwn, meta_keys}
 use Rattle.chain_edit.specs.Heads.{head_of}
 use Rattle.graph_ops.specs.EdgeEnds.{end_groups, end_keys}
 use Rattle.graph_ops.specs.NodeDeleting.{HasDegree}
@@ -33,6 +36,37 @@ pub record IsBareEdge (s : State) (id : ℕ) (source target : EdgeEnd) : Type 0 
   })
   pub leaves : StandsAtEnd s.records id source
   pub enters : StandsAtEnd s.records id target
+
+-- the edge's record is this one, without properties
+abbrev pub HasBareRow : Records → ℕ → RelRow → Type 0
+HasBareRow records id rel =
+    rel_at records id ≡ Some (record {
+      id = id;
+      label = rel.label;
+      from = rel.from;
+      to = rel.to;
+      property = format.nil;
+    })
+
+-- Sparse nodes are sparse still, and dense ones dense.
+abbrev pub KeepsKinds : State → State → Type 0
+KeepsKinds s t =
+    (n : ℕ) → kind_at t.records format.nodes_file n ≡ kind_at s.records format.nodes_file n
+
+-- The edge stands at an end. A group of the end's node may have counts now.
+pub record FindsEnd (s t : State) (names : List (List ℕ)) (id : ℕ) (end : EdgeEnd) : Type 0 where
+  pub store : IsStore t names
+  pub stands : StandsAtEnd t.records id end
+  pub kinds : KeepsKinds s t
+  pub regroups : Regroups s t end.node
+
+-- It stands at both, and the graph is the same.
+pub record FindsEnds (s t : State) (names : List (List ℕ)) (id : ℕ) (source target : EdgeEnd)
+    : Type 0 where
+  pub store : IsStore t names
+  pub bare : IsBareEdge t id source target
+  pub kinds : KeepsKinds s t
+  pub graph : graph_in t ≡ graph_in s
 
 -- The store lacks the edge, and keeps the rules, but that the groups of the heads at its ends may
 -- be empty.
@@ -62,7 +96,16 @@ pub record WritesEnds (old new : State) (id : ℕ) (source target : EdgeEnd) : T
   pub only : WritesOnly old new (rel_key id ∷ end_keys before_source after_source source
       ++ end_keys before_target after_target target ++ meta_keys)
 
+-- So are those of the relationship, of the heads at its ends, and of at most ten others.
+pub record WritesTaken (old new : State) (id : ℕ) (source target : EdgeEnd) : Type 0 where
+  pub keys : List Key
+  pub few : length keys ≤ 10
+  pub own : AreOwn keys
+  pub only : WritesOnly old new (rel_key id ∷ source.head.key ∷ target.head.key
+      ∷ keys ++ meta_keys)
+
 -- The store lacks the edge.
 pub record TakesEdge (s t : State) (names : List (List ℕ)) (id : ℕ) : Type 0 where
   pub store : IsStore t names
   pub removes : RemovesEdge (graph_in s) id (graph_in t)
+  pub kinds : KeepsKinds s t

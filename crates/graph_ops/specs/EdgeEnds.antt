@@ -12,6 +12,7 @@ use Rattle.store_rules.specs.Views.{key_in}
 use Rattle.chain_edit.specs.Heads.{IsHead, head_of}
 use Rattle.chain_edit.specs.Pushing.{pushed}
 use Rattle.chain_edit.specs.Unlinking.{unlinked}
+use Rattle.group_store.specs.Counting.{one_less, one_more, tallied}
 use Rattle.graph_ops.specs.declared.edge_end.EdgeEnd.{EdgeEnd}
 
 -- a node and a head that a store can have, in a file with a meta record
@@ -20,15 +21,18 @@ pub record IsEdgeEnd (end : EdgeEnd) : Type 0 where
   pub head : IsHead (head_of end.head)
   pub own : is_meta_file end.head.key.file ≡ true
 
--- after a relationship was put at the front of a node's chain, and the node got this degree
+-- after a relationship was put at the front of a node's chain and counted there, and the node got
+-- this degree
 unfoldable pub joined : State → Head → ℕ → ℕ → ℕ → State
 joined s head node rel degree =
-    after_set (pushed s head node rel) (key_in format.nodes_file node) 4 format.node_degree degree
+    after_set (tallied one_more (pushed s head node rel) head) (key_in format.nodes_file node) 4
+    format.node_degree degree
 
 -- after it was taken out of the chain, and the node got this degree
 unfoldable pub parted : State → Head → ℕ → ℕ → ℕ → State
 parted s head node rel degree =
-    after_set (unlinked s head node rel) (key_in format.nodes_file node) 4 format.node_degree degree
+    after_set (tallied one_less (unlinked s head node rel) head) (key_in format.nodes_file node) 4
+    format.node_degree degree
 
 -- so at both ends, at the head of the source and that of the target; a loop has one chain
 abbrev pub both_joined : State → Head → Head → ℕ → ℕ → ℕ → ℕ → ℕ → State

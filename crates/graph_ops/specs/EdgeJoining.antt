@@ -15,6 +15,7 @@ use Rattle.id_freelist.specs.Taking.{HasTaken}
 use Rattle.rel_store.specs.declared.rel_row.RelRow.{RelRow}
 use Rattle.rel_store.specs.RelRecord.{rel_key, rel_record}
 use Rattle.chain_edit.specs.Heads.{head_of}
+use Rattle.group_store.specs.Opening.{IsCountedHead}
 use Rattle.graph_ops.specs.declared.edge_end.EdgeEnd.{EdgeEnd}
 
 -- ---- its record
@@ -60,6 +61,7 @@ pub record MayStandAt (s : State) (end : EdgeEnd) (row : views.RelRow) : Type 0 
   pub degree : degree s.records end.node ≡ end.degree
   pub few : kind_at s.records format.nodes_file end.node ≡ format.sparse
       → end.degree < s.shape.threshold
+  pub counted : IsCountedHead s.records (head_of end.head)
 
 -- The store keeps the rules, but that the groups of the two heads may be empty, and a relationship
 -- of the type, whatever its identifier, would stand at both heads. A loop has one head.

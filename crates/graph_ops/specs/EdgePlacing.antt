@@ -1,9 +1,14 @@
 -- What a new edge writes.
-use Rattle.std.specs.Prelude.{◌≡◌, ◌≢◌, ℕ, ◌<◌, true, false, List}
+use Rattle.std.specs.Prelude.{◌≡◌, ◌≢◌, ℕ, ◌<◌, true, false, List, Some}
 use Rattle.plain_graph.specs.Graph.{edge_number, has_edge, has_node, with_row}
 use Rattle.plain_graph.specs.Properties.{no_properties}
 use Rattle.rec_bytes.specs.Format as format
+use Rattle.rec_bytes.specs.Record.{field}
 use Rattle.rec_bytes.specs.Space.{State, meta_of}
+use Rattle.store_rules.specs.Ends.{IsEndHead}
+use Rattle.store_rules.specs.Rules.{Head, first_of}
+use Rattle.store_rules.specs.Views.{Records, RelRow, rec_at, rel_at}
+use Rattle.group_store.specs.Opening.{IsCountedHead}
 use Rattle.graph_ops.specs.Store.{IsStore, graph_in}
 
 -- Groups of nodes are other ones at most, which no graph shows.
@@ -11,6 +16,28 @@ pub record KeepsGraph (s t : State) : Type 0 where
   pub shape : t.shape ≡ s.shape
   pub graph : graph_in t ≡ graph_in s
   pub metas : (file : ℕ) → file ≢ format.groups_file → meta_of t file ≡ meta_of s file
+
+-- The relationship is the first in the chain of the node where its like stand. A group that the
+-- chain is in has counts.
+pub record IsFirstAt (records : Records) (id node : ℕ) (row : RelRow) : Type 0 where
+  pub head : Head
+  pub end : IsEndHead records head node row
+  pub first : first_of records head ≡ id
+  pub counted : IsCountedHead records head
+
+-- The relationship leaves one node for another, and is the first in a chain of each. A loop is in
+-- one chain, by the links of its source, and those of its target are none.
+pub record IsFirst (records : Records) (id from to : ℕ) : Type 0 where
+  pub row : RelRow
+  pub there : rel_at records id ≡ Some row
+  pub from_is : row.from ≡ from
+  pub to_is : row.to ≡ to
+  pub source : IsFirstAt records id from row
+  pub target : IsFirstAt records id to row
+  pub previous : from ≡ to → field 4 (rec_at records format.relationships_file id)
+      format.relationship_target_previous ≡ format.nil
+  pub next : from ≡ to → field 4 (rec_at records format.relationships_file id)
+      format.relationship_target_next ≡ format.nil
 
 -- The store has one more edge, of this type, without properties.
 pub record PutsEdge (s t : State) (names : List (List ℕ)) (from : ℕ) (label : List ℕ) (to id : ℕ)
@@ -25,5 +52,6 @@ pub record PutsEdge (s t : State) (names : List (List ℕ)) (from : ℕ) (label 
       ≡ with_row edge_number
       (record { id = id; label = label; from = from; to = to; properties = no_properties })
       (graph_in s).edges
+  pub first : IsFirst t.records id from to
   pub metas : (file : ℕ) → file ≢ format.relationships_file → file ≢ format.groups_file
       → meta_of t file ≡ meta_of s file

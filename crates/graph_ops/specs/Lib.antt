@@ -1,6 +1,7 @@
 pub mod Assigning
 pub mod Change
 pub mod ChangeFault
+pub mod Damage
 pub mod EdgeAdding
 pub mod EdgeDeleting
 pub mod EdgeEnds

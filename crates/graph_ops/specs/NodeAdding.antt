@@ -4,12 +4,17 @@ use Rattle.plain_graph.specs.Graph.{has_node, node_number, with_row}
 use Rattle.plain_graph.specs.Properties.{no_properties}
 use Rattle.rec_bytes.specs.Format as format
 use Rattle.rec_bytes.specs.Space.{State, meta_of}
+use Rattle.store_rules.specs.Views.{Records, kind_at}
 use Rattle.node_store.specs.declared.node_row.NodeRow.{NodeRow}
 use Rattle.graph_ops.specs.Store.{IsStore, graph_in}
 
 -- as many nodes as the store has room for
 abbrev pub IsFullOfNodes : State → Type 0
 IsFullOfNodes s = length (graph_in s).nodes ≡ s.shape.limit
+
+-- the node is in use, and its first link is to a relationship
+abbrev pub IsSparse : Records → ℕ → Type 0
+IsSparse records id = kind_at records format.nodes_file id ≡ format.sparse
 
 -- a node without relationships and properties
 abbrev pub new_row : ℕ → ℕ → NodeRow
@@ -31,4 +36,5 @@ pub record PutsNode (s t : State) (names : List (List ℕ)) (label : List ℕ) (
       ≡ with_row node_number (record { id = id; label = label; properties = no_properties })
       (graph_in s).nodes
   pub edges : (graph_in t).edges ≡ (graph_in s).edges
+  pub sparse : IsSparse t.records id
   pub metas : (file : ℕ) → file ≢ format.nodes_file → meta_of t file ≡ meta_of s file

@@ -2,11 +2,11 @@
 use Rattle.std.specs.Prelude.{◌≡◌, ◌≢◌, ◌⊎◌, ℕ, None, Some}
 use Rattle.rec_bytes.specs.Format as format
 use Rattle.rec_bytes.specs.Space.{State}
-use Rattle.rec_bytes.specs.declared.damage.Damage.{Damage}
-use Rattle.rec_bytes.specs.declared.row_fault.RowFault.TheVariants as rows
-use Rattle.store_rules.specs.Views.{Records}
+use Rattle.store_rules.specs.Views.{Records, kind_at}
 use Rattle.node_store.specs.declared.node_row.NodeRow.{NodeRow}
-use Rattle.node_store.specs.Loading.{IsNodeFault, row_at}
+use Rattle.node_store.specs.Loading.{row_at}
+use Rattle.prop_store.specs.Fault.{SharesBlock}
+use Rattle.graph_ops.specs.Damage.{IsBroken}
 use Rattle.graph_ops.specs.declared.change_fault.ChangeFault.{ChangeFault}
 use Rattle.graph_ops.specs.declared.change_fault.ChangeFault.TheVariants.{NoNode, NoEdge}
 use Rattle.graph_ops.specs.declared.change_fault.ChangeFault.TheVariants.{HasRelationships, Full}
@@ -19,10 +19,11 @@ pub record HasDegree (records : Records) (id degree : ℕ) : Type 0 where
   pub found : row_at records id ≡ Some row
   pub is : row.degree ≡ degree
 
--- The node has no relationships, and a record of its properties or of their blocks is damaged.
-pub record IsPropertyDamage (s : State) (id : ℕ) (damage : Damage) : Type 0 where
-  pub lone : HasDegree s.records id 0
-  pub file : (damage.file ≡ format.properties_file) ⊎ (damage.file ≡ format.strings_file)
+-- Other nodes are sparse still, or dense.
+abbrev pub KeepsOtherKinds : State → State → ℕ → Type 0
+KeepsOtherKinds s t id =
+    (n : ℕ) → n ≢ id
+    → kind_at t.records format.nodes_file n ≡ kind_at s.records format.nodes_file n
 
 -- why a node of any records isn't deleted, by what was read of them
 abbrev pub IsDeleteCause : State → ℕ → ChangeFault → Type 0
@@ -36,4 +37,4 @@ IsDeleteCause s id (PropsFull count) = ⊥
 IsDeleteCause s id Memory = Unit {0}
 IsDeleteCause s id Disk = Unit {0}
 IsDeleteCause s id (Damaged damage) =
-    IsNodeFault s id (rows.Damaged damage) ⊎ IsPropertyDamage s id damage
+    IsBroken s damage ⊎ (HasDegree s.records id 0 × SharesBlock s.records damage)

@@ -30,3 +30,15 @@ IsMissing graph target (PropsFull count) = ⊥
 IsMissing graph target Memory = ⊥
 IsMissing graph target Disk = Unit {0}
 IsMissing graph target (Damaged damage) = ⊥
+
+-- So it is over any records, where one that is read may be damaged too.
+abbrev pub MayMiss : ChangeFault → Type 0
+MayMiss (NoNode id) = Unit {0}
+MayMiss (NoEdge id) = Unit {0}
+MayMiss (HasRelationships id degree) = ⊥
+MayMiss (Full file live) = ⊥
+MayMiss (NamesFull count) = ⊥
+MayMiss (PropsFull count) = ⊥
+MayMiss Memory = ⊥
+MayMiss Disk = Unit {0}
+MayMiss (Damaged damage) = Unit {0}

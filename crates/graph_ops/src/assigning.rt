@@ -22,6 +22,7 @@ ghost use Rattle.graph_ops.specs.Assigning.{
   ArePlaced,
   CanPut,
   HasPropertyRoom,
+  IsAssignCount,
   IsAssignFault,
   IsReserveFault,
   PutsPairs,
@@ -69,6 +70,7 @@ pub(crate) fn assign_pairs<S: Space>(
     ensures kept { S.tells → OnOk result (IsStore (S.state space.old) names.old.names
         → KeepsElements (S.state space.old) (S.state space.new) names.new.names) }
     ensures refused { IfErr result (IsAssignFault names.old.names pairs.now) }
+    ensures counts { IfErr result IsAssignCount }
     ensures prefix { (rest : List (List ℕ)) × (names.new.names ≡ names.old.names ++ rest) }
     ensures few_names { IfOk result (λ assigned.
         length names.new.names ≤ length names.old.names + length assigned.items) }

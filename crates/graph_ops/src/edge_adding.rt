@@ -8,9 +8,10 @@ ghost use Rattle.plain_graph.specs.Refusals.{most_names};
 ghost use Rattle.plain_graph.specs.Reply.{EdgeMade};
 ghost use Rattle.plain_graph.specs.declared.command.Command.TheVariants as commands;
 ghost use Rattle.store_rules.specs.Writes.{WritesAtMost};
-ghost use Rattle.graph_ops.specs.Change.{IsRefusal, MakesChange};
+ghost use Rattle.graph_ops.specs.Change.{IsCounted, IsRefusal, MakesChange};
 ghost use Rattle.graph_ops.specs.ChangeFault.{HasChangeCause, LeavesSpace};
 ghost use Rattle.graph_ops.specs.EdgeAdding.{IsFullOfEdges, degree_weight, degrees_weight};
+ghost use Rattle.graph_ops.specs.EdgePlacing.{IsFirst};
 ghost use Rattle.graph_ops.specs.NodeDeleting.{HasDegree};
 ghost use Rattle.graph_ops.specs.Store.{IsStore, graph_in};
 
@@ -41,6 +42,8 @@ pub fn add_edge<S: Space>(
     ensures refused { S.tells → IsStore (S.state space.old) names.old.names
         → IfErr result (IsRefusal (S.state space.old).shape.limit (graph_in (S.state space.old))
         (commands.Edge from label.now to pairs.now)) }
+    ensures counts { S.tells → IsStore (S.state space.old) names.old.names
+        → IfErr result (IsCounted (S.state space.old)) }
     ensures full { IsStore (S.state space.old) names.old.names
         → IsFullOfEdges (S.state space.old) → IsErr result }
     ensures names_full { (used : List (List ℕ))
@@ -54,6 +57,9 @@ pub fn add_edge<S: Space>(
         ≡ 9 + properties_weight (with_pairs no_properties pairs.now)
         + (length names.new.names - length names.old.names)
         + degrees_weight (S.state space.old).shape.threshold from from_degree to to_degree) }
+    // where it stands in the chains of its ends
+    ensures first { S.tells → IfOk result (λ added. IsStore (S.state space.old) names.old.names
+        → IsFirst (S.state space.new).records added.id from to) }
     ensures light { IfOk result (λ added. added.weight + start_weight ≤ most_weight) }
     ensures prefix { (rest : List (List ℕ)) × (names.new.names ≡ names.old.names ++ rest) }
     ensures writes { IfOk result (λ added.

@@ -1,4 +1,4 @@
-ghost use Rattle.std.specs.Prelude.{◌≡◌, ◌≢◌, ◌⊎◌, ℕ, List, None, Some, ◌+◌, ◌≤◌, IfErr, IfOk};
+ghost use Rattle.std.specs.Prelude.{◌≡◌, ◌≢◌, ◌⊎◌, ◌∷◌, [], ℕ, List, None, ◌+◌, ◌≤◌, IfErr, IfOk};
 ghost use Rattle.std.specs.Prelude.{OnErr, OnOk};
 ghost use Rattle.plain_graph.specs.Changes.{most_weight, start_weight};
 ghost use Rattle.plain_graph.specs.Reply.{Done};
@@ -7,23 +7,24 @@ ghost use Rattle.plain_graph.specs.declared.command.Target.TheVariants as target
 ghost use Rattle.rec_bytes.specs.Format.{nodes_file, relationships_file};
 ghost use Rattle.rec_bytes.specs.Key.{IsKey};
 ghost use Rattle.store_rules.specs.Views.{key_in};
-ghost use Rattle.rec_bytes.specs.Space.{SameButReads};
+ghost use Rattle.rec_bytes.specs.Space.{SameButReads, WritesOnly};
 ghost use Rattle.node_store.specs.Loading.{IsReadable, row_at};
-ghost use Rattle.rel_store.specs.Loading as rels;
 ghost use Rattle.rel_store.specs.RelRecord.{rel_key};
+ghost use Rattle.group_store.specs.GroupRecord.{group_key};
 ghost use Rattle.store_rules.specs.Writes.{WritesAtMost, WritesBeside};
 ghost use Rattle.graph_ops.specs.Change.{IsRefusal, MakesChange};
 ghost use Rattle.graph_ops.specs.ChangeFault.{HasChangeCause, IsOutside, LeavesSpace, MayComeLate};
-ghost use Rattle.graph_ops.specs.EdgeDeleting.{IsBareEdge, StandsAtEnd, TakesEdge};
+ghost use Rattle.graph_ops.specs.EdgeDeleting.{FindsEnd, FindsEnds, HasBareRow, IsBareEdge};
+ghost use Rattle.graph_ops.specs.EdgeDeleting.{KeepsKinds, TakesEdge, WritesTaken};
 ghost use Rattle.graph_ops.specs.EdgeEnds.{IsEdgeEnd};
 ghost use Rattle.graph_ops.specs.NodeDeleting.{HasDegree};
 ghost use Rattle.graph_ops.specs.Store.{IsStore, graph_in};
 
 use crate::ChangeFault;
-use crate::edge_end::EdgeEnd;
+use crate::edge_end::{BothEnds, EdgeEnd};
 use crate::edge_parting::part_edge;
 use crate::owners::edge_owner;
-use group_store::{Side, close_chain, find_head};
+use group_store::{Side, close_chain, open_head};
 use name_store::Names;
 use prop_store::drop_all;
 use rec_bytes::{CHAIN_RULE, Damage, RELATIONSHIPS, Reads, Space};
@@ -38,6 +39,9 @@ pub fn delete_edge<S: Space>(space: &mut S, names: &Names, id: u32) -> Result<u3
     ensures refused { S.tells → IsStore (S.state space.old) names.now.names
         → IfErr result (IsRefusal (S.state space.old).shape.limit (graph_in (S.state space.old))
         (commands.Delete (targets.Edge id))) }
+    // a dense node stays so, however few relationships it has
+    ensures kinds { S.tells → IfOk result (λ _. IsStore (S.state space.old) names.now.names
+        → KeepsKinds (S.state space.old) (S.state space.new)) }
     ensures leaves { IfErr result (LeavesSpace (S.state space.old) (S.state space.new)) }
     ensures light { IfOk result (λ weight. weight + start_weight ≤ most_weight) }
     ensures writes { IfOk result (λ weight.
@@ -50,36 +54,85 @@ pub fn delete_edge<S: Space>(space: &mut S, names: &Names, id: u32) -> Result<u3
     let Some(rel) = load(space, id)? else {
         return Err(ChangeFault::NoEdge { id });
     };
-    let source = edge_end(space, id, rel, rel.from)?;
-    let target = edge_end(space, id, rel, rel.to)?;
     let dropped = drop_all(space, edge_owner(id))?;
-    take_edge(space, id, source, target)?;
+    take_edge(space, id, rel)?;
     Ok(13 + dropped.properties + dropped.blocks)
 }
 
+/// Takes an edge without properties out of the chains of its ends, gives its identifier back, and
+/// drops the groups at its ends that are empty then. A group that stays has counts.
+fn take_edge<S: Space>(space: &mut S, id: u32, rel: RelRow) -> Result<(), ChangeFault>
+    requires { IsKey (key_in relationships_file id) }
+    ensures taken { S.tells
+        → OnOk result ((names : List (List ℕ)) → IsStore (S.state space.old) names
+        → HasBareRow (S.state space.old).records id rel
+        → TakesEdge (S.state space.old) (S.state space.new) names id) }
+    ensures sound { S.tells → (names : List (List ℕ)) → IsStore (S.state space.old) names
+        → HasBareRow (S.state space.old).records id rel → IfErr result IsOutside }
+    ensures writes { WritesBeside (rel_key id) 12 (S.state space.old) (S.state space.new) }
+    ensures late { IfErr result MayComeLate }
+    ensures onward { S.onward space.old space.new }
+    ensures cause { HasChangeCause (S.faults space.old) (S.faults space.new) result }
+{
+    let ends = edge_ends(space, id, rel)?;
+    unlink_edge(space, id, ends.source, ends.target)
+}
+
+/// The ends of a relationship. The group that it stands in at an end gets counts where it has none.
+fn edge_ends<S: Space>(space: &mut S, id: u32, rel: RelRow) -> Result<BothEnds, ChangeFault>
+    ensures found { S.tells → IfOk result (λ ends. (names : List (List ℕ))
+        → IsStore (S.state space.old) names
+        → HasBareRow (S.state space.old).records id rel
+        → FindsEnds (S.state space.old) (S.state space.new) names id ends.source ends.target) }
+    ensures sound { S.tells → (names : List (List ℕ)) → IsStore (S.state space.old) names
+        → HasBareRow (S.state space.old).records id rel → IfErr result IsOutside }
+    ensures ends { IfOk result (λ ends. IsEdgeEnd ends.source × IsEdgeEnd ends.target) }
+    ensures wrote { IfOk result (λ ends. WritesOnly (S.state space.old) (S.state space.new)
+        (ends.source.head.key ∷ ends.target.head.key ∷ [])) }
+    ensures writes { (g k : ℕ) × WritesOnly (S.state space.old) (S.state space.new)
+        (group_key g ∷ group_key k ∷ []) }
+    ensures late { IfErr result MayComeLate }
+    ensures onward { S.onward space.old space.new }
+    ensures cause { HasChangeCause (S.faults space.old) (S.faults space.new) result }
+{
+    let source = edge_end(space, id, rel, rel.from)?;
+    if rel.from == rel.to {
+        return Ok(BothEnds {
+            source,
+            target: source,
+        });
+    }
+    let target = edge_end(space, id, rel, rel.to)?;
+    Ok(BothEnds { source, target })
+}
+
 /// The end of a relationship at a node.
-fn edge_end<R: Reads>(
-    space: &mut R,
+fn edge_end<S: Space>(
+    space: &mut S,
     id: u32,
     rel: RelRow,
     node: u32,
 ) -> Result<EdgeEnd, ChangeFault>
-    ensures stands { R.tells → IfOk result (λ end. (names : List (List ℕ))
-        → IsStore (R.state space.old) names
-        → Some rel ≡ rels.row_at (R.state space.old).records id
-        → (node ≡ rel.from) ⊎ (node ≡ rel.to)
-        → StandsAtEnd (R.state space.old).records id end) }
-    ensures sound { R.tells → (names : List (List ℕ)) → IsStore (R.state space.old) names
-        → Some rel ≡ rels.row_at (R.state space.old).records id
+    ensures found { S.tells → IfOk result (λ end. (names : List (List ℕ))
+        → IsStore (S.state space.old) names
+        → HasBareRow (S.state space.old).records id rel → (node ≡ rel.from) ⊎ (node ≡ rel.to)
+        → FindsEnd (S.state space.old) (S.state space.new) names id end) }
+    ensures sound { S.tells → (names : List (List ℕ)) → IsStore (S.state space.old) names
+        → HasBareRow (S.state space.old).records id rel
         → (node ≡ rel.from) ⊎ (node ≡ rel.to) → IfErr result IsOutside }
     ensures node { IfOk result (λ end. end.node ≡ node) }
     ensures end { IfOk result IsEdgeEnd }
-    ensures state { SameButReads (R.state space.old) (R.state space.new) }
-    ensures onward { R.onward space.old space.new }
-    ensures cause { HasChangeCause (R.faults space.old) (R.faults space.new) result }
+    ensures wrote { IfOk result (λ end.
+        WritesOnly (S.state space.old) (S.state space.new) (end.head.key ∷ [])) }
+    ensures writes { (g : ℕ) × WritesOnly (S.state space.old) (S.state space.new)
+        (group_key g ∷ []) }
+    ensures late { IfErr result MayComeLate }
+    ensures onward { S.onward space.old space.new }
+    ensures cause { HasChangeCause (S.faults space.old) (S.faults space.new) result }
 {
     let degree = end_degree(space, id, node)?;
-    let head = find_head(space, node, rel.label, Side::at(node, rel.from, rel.to))?;
+    let side = Side::at(node, rel.from, rel.to);
+    let head = open_head(space, node, id, rel.label, side)?;
     Ok(EdgeEnd { node, head, degree })
 }
 
@@ -91,6 +144,7 @@ fn end_degree<R: Reads>(space: &mut R, rel: u32, node: u32) -> Result<u32, Chang
     ensures sound { R.tells → IsReadable (R.state space.old) node
         → (row_at (R.state space.old).records node ≢ None) → IfErr result IsOutside }
     ensures key { IfOk result (λ degree. IsKey (key_in nodes_file node)) }
+    ensures late { IfErr result MayComeLate }
     ensures state { SameButReads (R.state space.old) (R.state space.new) }
     ensures onward { R.onward space.old space.new }
     ensures cause { HasChangeCause (R.faults space.old) (R.faults space.new) result }
@@ -105,9 +159,8 @@ fn end_degree<R: Reads>(space: &mut R, rel: u32, node: u32) -> Result<u32, Chang
     Ok(row.degree)
 }
 
-/// Takes an edge without properties out of the chains of its ends, gives its identifier back, and
-/// drops the groups at its ends that are empty then. The degrees are those before.
-fn take_edge<S: Space>(
+/// The same, by the ends of the edge. The degrees are those before.
+fn unlink_edge<S: Space>(
     space: &mut S,
     id: u32,
     source: EdgeEnd,
@@ -122,7 +175,7 @@ fn take_edge<S: Space>(
         → TakesEdge (S.state space.old) (S.state space.new) names id) }
     ensures sound { S.tells → (names : List (List ℕ)) → IsStore (S.state space.old) names
         → IsBareEdge (S.state space.old) id source target → IfErr result IsOutside }
-    ensures writes { WritesBeside (rel_key id) 12 (S.state space.old) (S.state space.new) }
+    ensures writes { WritesTaken (S.state space.old) (S.state space.new) id source target }
     ensures late { IfErr result MayComeLate }
     ensures onward { S.onward space.old space.new }
     ensures cause { HasChangeCause (S.faults space.old) (S.faults space.new) result }

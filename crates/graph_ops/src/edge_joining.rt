@@ -23,7 +23,7 @@ ghost use Rattle.graph_ops.specs.Rooms.{HasRoom};
 
 use crate::ChangeFault;
 use crate::edge_end::EdgeEnd;
-use chain_edit::push_front;
+use group_store::push_counted;
 use id_freelist::{TakeFault, take};
 use rec_bytes::{
     Damage, Key, META, NIL, NODE_DEGREE, NODES, RELATIONSHIPS, SPLIT_RULE, Space, set_number,
@@ -190,7 +190,7 @@ fn join_end<S: Space>(space: &mut S, rel: u32, end: EdgeEnd) -> Result<(), Chang
         file: NODES,
         id: end.node,
     };
-    push_front(space, end.head, end.node, rel)?;
+    push_counted(space, end.head, end.node, rel)?;
     set_number(space, key, NODE_DEGREE, end.degree.saturating_add(1))?;
     Ok(())
 }

@@ -16,7 +16,7 @@ ghost use Rattle.graph_ops.specs.Store.{IsStore};
 
 use crate::ChangeFault;
 use crate::edge_end::EdgeEnd;
-use chain_edit::unlink;
+use group_store::unlink_counted;
 use id_freelist::give;
 use rec_bytes::{Key, NODE_DEGREE, NODES, RELATIONSHIPS, Space, set_number};
 
@@ -106,7 +106,7 @@ fn part_end<S: Space>(space: &mut S, rel: u32, end: EdgeEnd) -> Result<(), Chang
         file: NODES,
         id: end.node,
     };
-    unlink(space, end.head, end.node, rel)?;
+    unlink_counted(space, end.head, end.node, rel)?;
     set_number(space, key, NODE_DEGREE, end.degree.saturating_sub(1))?;
     Ok(())
 }

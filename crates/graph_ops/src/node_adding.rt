@@ -11,9 +11,9 @@ ghost use Rattle.rec_bytes.specs.Format.{nodes_file};
 ghost use Rattle.rec_bytes.specs.Key.{IsKey};
 ghost use Rattle.store_rules.specs.Views.{key_in};
 ghost use Rattle.store_rules.specs.Writes.{WritesAtMost, WritesBeside};
-ghost use Rattle.graph_ops.specs.Change.{IsRefusal, MakesChange};
+ghost use Rattle.graph_ops.specs.Change.{IsCounted, IsRefusal, MakesChange};
 ghost use Rattle.graph_ops.specs.ChangeFault.{HasChangeCause, IsOutside, LeavesSpace, MayComeLate};
-ghost use Rattle.graph_ops.specs.NodeAdding.{IsFullOfNodes, PutsNode, new_row};
+ghost use Rattle.graph_ops.specs.NodeAdding.{IsFullOfNodes, IsSparse, PutsNode, new_row};
 ghost use Rattle.graph_ops.specs.Rooms.{HasRoom};
 ghost use Rattle.graph_ops.specs.Store.{IsStore, graph_in};
 
@@ -42,6 +42,8 @@ pub fn add_node<S: Space>(
     ensures refused { S.tells → IsStore (S.state space.old) names.old.names
         → IfErr result (IsRefusal (S.state space.old).shape.limit (graph_in (S.state space.old))
         (commands.Node label.now pairs.now)) }
+    ensures counts { S.tells → IsStore (S.state space.old) names.old.names
+        → IfErr result (IsCounted (S.state space.old)) }
     ensures full { IsStore (S.state space.old) names.old.names → IsFullOfNodes (S.state space.old)
         → result ≡ Err (ChangeFault.Full nodes_file (S.state space.old).shape.limit) }
     ensures names_full { (used : List (List ℕ))
@@ -51,6 +53,9 @@ pub fn add_node<S: Space>(
     ensures weight { IfOk result (λ added. added.weight
         ≡ 1 + properties_weight (with_pairs no_properties pairs.now)
         + (length names.new.names - length names.old.names)) }
+    // it becomes dense only where it gets more edges than a sparse one may have
+    ensures sparse { S.tells → IfOk result (λ added. IsStore (S.state space.old) names.old.names
+        → IsSparse (S.state space.new).records added.id) }
     ensures light { IfOk result (λ added. added.weight + start_weight ≤ most_weight) }
     ensures prefix { (rest : List (List ℕ)) × (names.new.names ≡ names.old.names ++ rest) }
     ensures writes { IfOk result (λ added.

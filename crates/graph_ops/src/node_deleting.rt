@@ -6,7 +6,7 @@ ghost use Rattle.plain_graph.specs.declared.command.Target.TheVariants as target
 ghost use Rattle.store_rules.specs.Writes.{WritesAtMost};
 ghost use Rattle.graph_ops.specs.Change.{IsRefusal, MakesChange};
 ghost use Rattle.graph_ops.specs.ChangeFault.{HasChangeCause, LeavesSpace};
-ghost use Rattle.graph_ops.specs.NodeDeleting.{HasDegree, IsDeleteCause};
+ghost use Rattle.graph_ops.specs.NodeDeleting.{HasDegree, IsDeleteCause, KeepsOtherKinds};
 ghost use Rattle.graph_ops.specs.Store.{IsStore, graph_in};
 
 use crate::ChangeFault;
@@ -28,6 +28,8 @@ pub fn delete_node<S: Space>(space: &mut S, names: &Names, id: u32) -> Result<u3
         (commands.Delete (targets.Node id))) }
     ensures found { S.tells → IfErr result (IsDeleteCause (S.state space.old) id) }
     ensures lone { S.tells → OnOk result (HasDegree (S.state space.old).records id 0) }
+    ensures kinds { S.tells → IfOk result (λ _. IsStore (S.state space.old) names.now.names
+        → KeepsOtherKinds (S.state space.old) (S.state space.new) id) }
     ensures leaves { IfErr result (LeavesSpace (S.state space.old) (S.state space.new)) }
     ensures light { IfOk result (λ weight. weight + start_weight ≤ most_weight) }
     ensures writes { IfOk result (λ weight.

@@ -2,9 +2,11 @@ ghost use Rattle.std.specs.Prelude.{◌≡◌, ℕ, List, IfErr, IfOk, OnOk, tru
 ghost use Rattle.plain_graph.specs.Graph.{has_element};
 ghost use Rattle.plain_graph.specs.declared.command.Target.TheVariants as targets;
 ghost use Rattle.rec_bytes.specs.Key.{IsKey};
+ghost use Rattle.prop_store.specs.Owner.{IsInUse};
 ghost use Rattle.rec_bytes.specs.Space.{SameButReads};
 ghost use Rattle.graph_ops.specs.ChangeFault.{HasChangeCause};
-ghost use Rattle.graph_ops.specs.Owners.{IsMissing, owner_of};
+ghost use Rattle.graph_ops.specs.Damage.{BlamesBroken};
+ghost use Rattle.graph_ops.specs.Owners.{IsMissing, MayMiss, owner_of};
 ghost use Rattle.graph_ops.specs.Store.{IsStore, graph_in};
 
 use crate::ChangeFault;
@@ -44,6 +46,10 @@ pub(crate) fn find_owner<R: Reads>(space: &mut R, target: Target) -> Result<Owne
         → OnOk result (has_element (graph_in (R.state space.old)) target ≡ true) }
     ensures refused { R.tells → (names : List (List ℕ)) → IsStore (R.state space.old) names
         → IfErr result (IsMissing (graph_in (R.state space.old)) target) }
+    ensures in_use { R.tells
+        → OnOk result (IsInUse (R.state space.old).records (owner_of target)) }
+    ensures missing { IfErr result MayMiss }
+    ensures damaged { R.tells → IfErr result (BlamesBroken (R.state space.old)) }
     ensures key { IfOk result (λ owner. IsKey owner.key) }
     ensures state { SameButReads (R.state space.old) (R.state space.new) }
     ensures onward { R.onward space.old space.new }

@@ -11,7 +11,7 @@ ghost use Rattle.plain_graph.specs.Refusals.{most_names};
 ghost use Rattle.plain_graph.specs.declared.command.Command.TheVariants as commands;
 ghost use Rattle.graph_ops.specs.Assigning.{ArePlaced, assigned_blocks};
 ghost use Rattle.store_rules.specs.Writes.{WritesAtMost};
-ghost use Rattle.graph_ops.specs.Change.{IsRefusedBy};
+ghost use Rattle.graph_ops.specs.Change.{IsCounted, IsRefusedBy};
 ghost use Rattle.graph_ops.specs.ChangeFault.{HasChangeCause, LeavesSpace};
 ghost use Rattle.graph_ops.specs.Preparing.{IsPrepared, line_reasons};
 ghost use Rattle.graph_ops.specs.Rooms.{KeepsElementMetas};
@@ -52,6 +52,7 @@ pub(crate) fn prepare<S: Space>(
     ensures refused { S.tells → IsStore (S.state space.old) names.old.names → IfErr result
         (IsRefusedBy line_reasons (S.state space.old).shape.limit (graph_in (S.state space.old))
         (commands.Node label.now pairs.now)) }
+    ensures counts { S.tells → IfErr result (IsCounted (S.state space.old)) }
     ensures names_full { (used : List (List ℕ))
         → UsesNames names.old.names (label.now ∷ keys_in pairs.now) used
         → most_names < length used → IsErr result }

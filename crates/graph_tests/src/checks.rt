@@ -6,14 +6,15 @@ ghost use Rattle.rec_bytes.specs.RecordFiles.{is_meta_file};
 ghost use Rattle.rec_bytes.specs.Shape.{is_allowed};
 
 use rec_bytes::{
-    DENSE, Damage, GROUP_FIRST_IN, GROUP_FIRST_LOOP, GROUP_FIRST_OUT, GROUP_NEXT, GROUP_OWNER,
-    GROUP_PREVIOUS, GROUP_TYPE, GROUPED, GROUPS, INDEX, INDEXED, INT, KIND, Key, META, META_HIGH,
-    META_LIVE, MapSpace, Meta, NAME_LENGTH, NAME_TEXT, NAMED, NAMES, NIL, NODE_DEGREE,
-    NODE_FIRST_LINK, NODE_FIRST_PROPERTY, NODES, PROPERTIES, PROPERTY_NEXT, PROPERTY_NUMBER,
-    RELATED, RELATIONSHIP_FIRST_PROPERTY, RELATIONSHIP_SOURCE, RELATIONSHIP_SOURCE_NEXT,
-    RELATIONSHIP_SOURCE_PREVIOUS, RELATIONSHIP_TARGET, RELATIONSHIP_TARGET_NEXT,
-    RELATIONSHIP_TARGET_PREVIOUS, RELATIONSHIP_TYPE, RELATIONSHIPS, Rec, SPARSE, STORE_VERSION,
-    Shape, Space, SpaceFault, TAKEN, TAKEN_REST, change_meta, set_number,
+    COUNTED, DENSE, Damage, GROUP_FIRST_IN, GROUP_FIRST_LOOP, GROUP_FIRST_OUT, GROUP_IN_COUNT,
+    GROUP_LOOP_COUNT, GROUP_NEXT, GROUP_OUT_COUNT, GROUP_OWNER, GROUP_PREVIOUS, GROUP_TYPE,
+    GROUPED, GROUPS, INDEX, INDEXED, INT, KIND, Key, META, META_HIGH, META_LIVE, MapSpace, Meta,
+    NAME_LENGTH, NAME_TEXT, NAMED, NAMES, NIL, NODE_DEGREE, NODE_FIRST_LINK, NODE_FIRST_PROPERTY,
+    NODES, PROPERTIES, PROPERTY_NEXT, PROPERTY_NUMBER, RELATED, RELATIONSHIP_FIRST_PROPERTY,
+    RELATIONSHIP_SOURCE, RELATIONSHIP_SOURCE_NEXT, RELATIONSHIP_SOURCE_PREVIOUS,
+    RELATIONSHIP_TARGET, RELATIONSHIP_TARGET_NEXT, RELATIONSHIP_TARGET_PREVIOUS, RELATIONSHIP_TYPE,
+    RELATIONSHIPS, Rec, SPARSE, STORE_VERSION, Shape, Space, SpaceFault, TAKEN, TAKEN_REST,
+    change_meta, set_number,
 };
 use std::test::Fail;
 use store_check::{Verdict, check};
@@ -178,6 +179,16 @@ fn number(file: u8, id: u32, at: u8, value: u32) -> Edit {
     }
 }
 
+// The first group has these numbers.
+fn counted(out: u32, into: u32, loops: u32) -> [Edit; 4] {
+    [
+        number(GROUPS, 0, KIND, COUNTED as u32),
+        number(GROUPS, 0, GROUP_OUT_COUNT, out),
+        number(GROUPS, 0, GROUP_IN_COUNT, into),
+        number(GROUPS, 0, GROUP_LOOP_COUNT, loops),
+    ]
+}
+
 fn broken(file: u8, id: u32, rule: u8) -> Verdict {
     Verdict::Broken(Damage { file, id, rule })
 }
@@ -249,6 +260,16 @@ fn a_store_is_sound_or_its_least_broken_rule_is_named(rt: HostRuntime) -> Result
 fn the_chains_of_a_dense_node_are_decided(rt: HostRuntime) -> Result<(), Fail> {
     let cases = [
         (&[][..], Verdict::Sound),
+        // the right numbers of a counted group, each of them wrong by one, and some in a group that
+        // is to have none
+        (&counted(2, 1, 1)[..], Verdict::Sound),
+        (&counted(3, 1, 1)[..], broken(GROUPS, 0, 4)),
+        (&counted(2, 0, 1)[..], broken(GROUPS, 0, 4)),
+        (&counted(2, 1, 2)[..], broken(GROUPS, 0, 4)),
+        (
+            &[number(GROUPS, 0, GROUP_LOOP_COUNT, 1)][..],
+            broken(GROUPS, 0, 1),
+        ),
         // a chain that has a relationship of another side, a loop, or one of another type
         (
             &[number(GROUPS, 0, GROUP_FIRST_OUT, 1)][..],

@@ -1,7 +1,11 @@
 use crate::graphs::Graph;
 use graph_ops::{delete_edge, delete_node};
-use rec_bytes::{GROUPS, Reads};
+use rec_bytes::{
+    COUNTED, GROUP_IN_COUNT, GROUP_LOOP_COUNT, GROUP_OUT_COUNT, GROUPED, GROUPS, KIND, Key,
+    MapSpace, Reads, set_byte, set_number,
+};
 use std::test::Fail;
+use store_check::{Verdict, check};
 
 /// An edge that comes, by its source, its type and its target, or one that goes, by its identifier.
 #[derive(Clone, Copy)]
@@ -95,6 +99,59 @@ const TURNS: [&[Step]; 3] = [
         (Turn::Goes(2), 2, 13, 0),
     ],
 ];
+
+// What a change of the nodes 0, 1 and 2 makes of a group that isn't counted: its kind, and how many
+// relationships leave, enter and do both. The node 0 has two to node 1 and one to node 2.
+const RAISES: [(Turn, u8, [u32; 3]); 6] = [
+    (Turn::Comes(0, b"r", 2), COUNTED, [4, 0, 0]),
+    (Turn::Comes(2, b"r", 0), COUNTED, [3, 1, 0]),
+    (Turn::Comes(0, b"r", 0), COUNTED, [3, 0, 1]),
+    (Turn::Goes(1), COUNTED, [2, 0, 0]),
+    // No edge of another type or of other nodes is in it.
+    (Turn::Comes(0, b"s", 2), GROUPED, [0; 3]),
+    (Turn::Comes(1, b"r", 2), GROUPED, [0; 3]),
+];
+
+const GROUP: Key = Key {
+    file: GROUPS,
+    id: 0,
+};
+
+// The kind of the first group, and its numbers.
+fn counts_of(space: &mut MapSpace) -> Result<(u8, [u32; 3]), Fail> {
+    let rec = space.get(GROUP)?;
+    let counts = [
+        rec.number(GROUP_OUT_COUNT),
+        rec.number(GROUP_IN_COUNT),
+        rec.number(GROUP_LOOP_COUNT),
+    ];
+    Ok((rec.byte(KIND), counts))
+}
+
+#[test]
+fn an_old_group_is_counted_by_its_next_edge(rt: HostRuntime) -> Result<(), Fail> {
+    for (turn, kind, counts) in RAISES {
+        let mut graph = Graph::of_nodes(&rt, 2, 3)?;
+        for to in [1, 1, 2] {
+            graph.add_edge(&rt, 0, b"r", to)??;
+        }
+        assert!(rt; counts_of(&mut graph.space)? == (COUNTED, [3, 0, 0]));
+        set_byte(&mut graph.space, GROUP, KIND, GROUPED)?;
+        set_number(&mut graph.space, GROUP, GROUP_OUT_COUNT, 0)?;
+        assert!(rt; check(rt.alloc(), &mut graph.space)? == Verdict::Sound);
+        match turn {
+            Turn::Comes(from, label, to) => {
+                graph.add_edge(&rt, from, label, to)??;
+            }
+            Turn::Goes(gone) => {
+                delete_edge(&mut graph.space, &graph.names, gone)?;
+            }
+        }
+        assert!(rt; counts_of(&mut graph.space)? == (kind, counts));
+        assert!(rt; check(rt.alloc(), &mut graph.space)? == Verdict::Sound);
+    }
+    Ok(())
+}
 
 #[test]
 fn a_node_becomes_dense(rt: HostRuntime) -> Result<(), Fail> {

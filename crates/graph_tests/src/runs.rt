@@ -46,12 +46,13 @@ fn put_node(space: &mut MapSpace, id: u32, first: u32) -> Result<(), SpaceFault>
     node_store::save(space, &row)
 }
 
-// An edge, and the next ones in the chains of its two ends.
+// An edge, and those before it and after it in the chains of its two ends.
 fn put_edge(
     space: &mut MapSpace,
     id: u32,
     ends: (u32, u32),
-    next: (u32, u32),
+    at_source: (u32, u32),
+    at_target: (u32, u32),
 ) -> Result<(), SpaceFault>
     requires { id < 16 }
 {
@@ -60,10 +61,10 @@ fn put_edge(
         label: 0,
         from: ends.0,
         to: ends.1,
-        source_previous: NIL,
-        source_next: next.0,
-        target_previous: NIL,
-        target_next: next.1,
+        source_previous: at_source.0,
+        source_next: at_source.1,
+        target_previous: at_target.0,
+        target_next: at_target.1,
         property: NIL,
     };
     rel_store::save(space, &row)
@@ -77,9 +78,9 @@ fn example(alloc: Global) -> Result<MapSpace, Fail> {
     put_node(&mut space, 0, 0)?;
     put_node(&mut space, 1, 0)?;
     put_node(&mut space, 2, 1)?;
-    put_edge(&mut space, 0, (0, 1), (1, 2))?;
-    put_edge(&mut space, 1, (0, 2), (NIL, NIL))?;
-    put_edge(&mut space, 2, (1, 1), (NIL, NIL))?;
+    put_edge(&mut space, 0, (0, 1), (NIL, 1), (NIL, 2))?;
+    put_edge(&mut space, 1, (0, 2), (0, NIL), (NIL, NIL))?;
+    put_edge(&mut space, 2, (1, 1), (0, NIL), (NIL, NIL))?;
     Ok(space)
 }
 

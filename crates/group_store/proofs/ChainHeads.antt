@@ -1,5 +1,5 @@
 -- The head where an end of a relationship stands, in a store that keeps the rules.
-use Rattle.std.proofs.Common.{◌≡◌, ◌≢◌, ◌⊎◌, ℕ, zero, suc, nat_eq, Bool, true, false, cond, None, Some, List, refl, sym, ap, ◌∙◌, subst, inl, inr, ⊎_elim, arith}
+use Rattle.std.proofs.Common.{◌≡◌, ◌≢◌, ◌⊎◌, ℕ, zero, suc, nat_eq, Bool, true, false, cond, None, Some, List, refl, sym, ap, ◌∙◌, subst, inl, inr, ⊎_elim}
 use Rattle.rec_bytes.specs.declared.shape.Shape.{Shape}
 use Rattle.rec_bytes.specs.Format as format
 use Rattle.rec_bytes.specs.Record.{field}
@@ -8,10 +8,10 @@ use Rattle.store_rules.specs.Ends.{IsEndHead}
 use Rattle.store_rules.specs.Ranges.{AreInRange, Layout, free_layout, layout_by, node_layout}
 use Rattle.store_rules.specs.Rules.{HasGroup, IsEnd, KeepsRules, node_head}
 use Rattle.store_rules.specs.Views as views
-use Rattle.store_rules.specs.Views.{Records, RelRow, first_link, group_at, group_in, high, kind_at, rec_at, rel_at}
+use Rattle.store_rules.specs.Views.{Records, RelRow, first_link, group_at, group_in, high, kind_at, rec_at, rel_at, is_group_kind}
 use Rattle.store_rules.proofs.ChainLaws.{walk_of_chain}
 use Rattle.store_rules.proofs.NumberLaws.{eq_false, eq_true, nat_cases}
-use Rattle.store_rules.proofs.ViewLaws.{kind_below, kind_low, row_some, some_row}
+use Rattle.store_rules.proofs.ViewLaws.{kind_below, kind_low, row_some, some_row, group_used}
 use Rattle.chain_edit.specs.Walking.{ReadsAtMost}
 use Rattle.node_store.specs.Loading as nodes
 use Rattle.node_store.proofs.Rows as node_rows
@@ -76,7 +76,7 @@ module _ (s : Records) (shape : Shape) {most : ℕ} {empty : List ℕ} (well : K
   -- in a group of a dense one
   module _ (g label : ℕ) (side : Side) (row : RelRow) (member : IsGroupOf s n g) (typed : field 4 (rec_at s format.groups_file g) format.group_type ≡ label) (at : IsAt n label side row) where
     there : group_at s g ≡ Some (group_in (rec_at s format.groups_file g) g)
-    there = row_some (kind_at s format.groups_file g) (group_in (rec_at s format.groups_file g) g) (λ e. let k = sym e ∙ member.kind in omega arith)
+    there = row_some (kind_at s format.groups_file g) (group_in (rec_at s format.groups_file g) g) (group_used (kind_at s format.groups_file g) member.kind)
 
     is_dense : kind_at s format.nodes_file n ≡ format.dense
     is_dense = subst (λ m. kind_at s format.nodes_file m ≡ format.dense) member.owner (well.grouped.owned g (group_in (rec_at s format.groups_file g) g) there)

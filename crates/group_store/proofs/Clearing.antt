@@ -15,7 +15,7 @@ use Rattle.node_store.specs.NodeRecord.{node_key}
 use Rattle.store_rules.specs.Chains.{In}
 use Rattle.store_rules.specs.Ends.{Regroups}
 use Rattle.store_rules.specs.Ranges.{Fits, IsBlankOutside, Layout, all_point, bytes_of, is_in, layout_by, may, points}
-use Rattle.store_rules.specs.Rules.{HasGroups, Head, IsEnd, IsGrouped, IsInGroup, IsListed, KeepsRules, Owns, StandsAt, first_of, node_head, stands_in}
+use Rattle.store_rules.specs.Rules.{HasCounts, HasGroups, Head, IsEnd, IsGrouped, IsInGroup, IsListed, KeepsRules, Owns, StandsAt, first_of, node_head, stands_in}
 use Rattle.store_rules.specs.Rows.{ids}
 use Rattle.store_rules.specs.Views as views
 use Rattle.store_rules.specs.Views.{Records, RelRow, degree, first_link, group_at, high, key_in, kind_at, kind_in, rec_at, rel_at, rel_in}
@@ -26,7 +26,9 @@ use Rattle.store_rules.proofs.NumberLaws.{and_parts, eq_true, nat_cases}
 use Rattle.store_rules.proofs.OnceLaws.{length_once, once_walk}
 use Rattle.store_rules.proofs.ViewLaws.{kind_below, kind_low, some_row}
 use Rattle.chain_edit.specs.Chains.{next_of}
+use Rattle.group_store.specs.Leaving.{LeavesOthers}
 use Rattle.group_store.specs.Spreading.{IsLinkedBut, IsSpread, KeepsOthers, StandsBut, cleared}
+use Rattle.group_store.proofs.CountedRels.{counted_other}
 use Rattle.group_store.proofs.GroupSteps.{range_put}
 use Rattle.group_store.proofs.MadeRules.{listed_again}
 use Rattle.group_store.proofs.Regrouping as re
@@ -214,6 +216,9 @@ module _ (s : State) (node most : ℕ) (empty : List ℕ) (keeps : KeepsRules s.
     dense = dense_now;
     walk = walk_of_chain _ _ format.nil (first_link s.records node) node_list.members node_list.chain;
     ends = λ x i. let a = node_list.only x i in (a.row, a.live, end_of x a a.on);
+    exact = λ g row is kind. let ne : row.owner ≢ node = no_group g row is in
+        subst (λ (f : ℕ → Option RelRow). HasCounts (rec_at s.records format.groups_file g) row f (high s.records format.relationships_file)) (sym (counted_other node row.owner node_list.members rels ne)) (keeps.exact g row is kind);
+    counted = λ g row is owner. absurd (no_group g row is owner);
   }
     where
       end_of : (x : ℕ) (a : StandsAt rels groups (node_head node) x) → ((format.nodes_file ≡ format.nodes_file) × IsEnd node a.row) ⊎ ((format.nodes_file ≡ format.groups_file) × IsInGroup groups (node_head node) a.row) → IsEnd node a.row
@@ -222,6 +227,15 @@ module _ (s : State) (node most : ℕ) (empty : List ℕ) (keeps : KeepsRules s.
 
   pub regroups_cleared : Regroups s t node
   regroups_cleared = regroups_of s t node frame refl (λ g row is ne. is)
+
+  pub leaves_cleared : LeavesOthers s t node
+  leaves_cleared = record {
+    files = λ key a b c d. frame.others key a b c d;
+    nodes = λ x n at inside ne. ap (λ r. field n r at) (other x ne);
+    here = λ n at inside one apart. frame.nodes node n at inside one apart;
+    rels = λ x n at some inside beside. refl;
+    groups = λ g q is ne n at inside. refl;
+  }
 
   -- as many as the degree says at most
   pub few_left : length rest ≤ degree s.records node

@@ -37,7 +37,7 @@ module _ (s : State) (file id place node most : ℕ) (empty : List ℕ) (is : fi
       → t.shape ≡ s.shape → HasClosed s t node most empty
   closed_by t true told kept made shape =
       let r = dropped_rules s node id most empty keeps member (is_false (is_filled (rec_at s.records format.groups_file id)) (sym told)) t (made refl) shape in
-      record { keeps = r.0; regroups = r.1 }
+      record { keeps = r.0; regroups = r.1; group_kinds = r.3; kind = r.2 }
     where
       is_false : (b : Bool) → not b ≡ true → b ≡ false
       is_false true e = cc
@@ -45,6 +45,8 @@ module _ (s : State) (file id place node most : ℕ) (empty : List ℕ) (is : fi
   closed_by t false told kept made shape = record {
     keeps = keeps_read s t (kept refl) most empty (is_not s.records s.shape most id empty (is_true (is_filled (rec_at s.records format.groups_file id)) (sym told)) keeps);
     regroups = regroups_read s t (kept refl) node;
+    kind = ap (λ (z : State). kind_at z.records format.nodes_file node) (kept refl);
+    group_kinds = λ g group is ne. ap (λ (z : State). kind_at z.records format.groups_file g) (kept refl);
   }
     where
       is_true : (b : Bool) → not b ≡ false → b ≡ true

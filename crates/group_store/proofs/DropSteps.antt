@@ -21,11 +21,12 @@ use Rattle.group_store.specs.GroupChain.{group_field, next_group, previous_group
 use Rattle.group_store.specs.Links.{IsLinkDamage, IsRightLink, backed}
 use Rattle.group_store.specs.Links.IsLinkDamage.{LeadsNowhere, HighLink}
 use Rattle.group_store.specs.Walking.{IsMemberDamage, IsMemberFault}
-use Rattle.group_store.specs.Walking.IsMemberDamage.{HighMember, NoMember}
+use Rattle.group_store.specs.Walking.IsMemberDamage.{HighMember, NoMember, UnknownMember}
 use Rattle.group_store.proofs.Drops.{has_dropped, linked}
-use Rattle.group_store.proofs.GroupRecords.{group_below}
+use Rattle.group_store.proofs.GroupRecords.{group_below, owned}
 use Rattle.group_store.proofs.GroupWalks.{IsUndamaged}
 use Rattle.group_store.proofs.MakeSteps.{same_writes}
+use Rattle.group_store.proofs.UnknownKinds.{known_kind}
 
 pub member_told : (s : State) (node g : ℕ) (fault : Fault) → IsMemberFault s node g fault → IsDropFault s node g fault
 member_told s node g Memory told = tt
@@ -95,7 +96,8 @@ is_undamaged s node g xs Disk on told = tt
 is_undamaged s node g xs (Damaged damage) on told = by damage told
   where
     by : (damage : Damage) → IsMemberDamage s node g damage → ⊥
-    by damage (NoMember none) = none (on.chain.only g on.member)
+    by damage (NoMember none) = none (owned s.records node g (on.chain.only g on.member))
+    by damage (UnknownMember below unknown) = known_kind s.records node g below (on.chain.only g on.member) unknown
     by damage (HighMember above) = let mark = on.mark in omega arith
 
 -- a link to a member, or to none, is right

@@ -12,8 +12,8 @@ use Rattle.rec_bytes.specs.Space.{State, after_get, after_set}
 use Rattle.rec_bytes.proofs.Spaces.{put_other}
 use Rattle.store_rules.specs.Chains.{In, IsChain, next_in, prev_in}
 use Rattle.store_rules.specs.Ends.{Regroups}
-use Rattle.store_rules.specs.Rules.{HasGroup, HasGroups, Head, IsEnd, IsGrouped, IsInGroup, IsLinked, IsListed, IsSplit, KeepsRules, Owns, StandsAt, first_of, is_filled}
-use Rattle.store_rules.specs.Views.{GroupRow, RelRow, first_link, group_at, group_in, high, is_live, key_in, kind_at, kind_in, rec_at, rel_at, row_if}
+use Rattle.store_rules.specs.Rules.{AreExact, HasGroup, HasGroups, Head, IsEnd, IsGrouped, IsInGroup, IsLinked, IsListed, IsSplit, KeepsRules, Owns, StandsAt, first_of, is_filled}
+use Rattle.store_rules.specs.Views.{GroupRow, RelRow, first_link, group_at, group_in, high, is_live, key_in, kind_at, kind_in, rec_at, rel_at, row_if, is_group_kind}
 use Rattle.store_rules.proofs.Changes as ch
 use Rattle.store_rules.proofs.Frames.{kind_same}
 use Rattle.store_rules.proofs.GroupLaws.{IsFirstPlace}
@@ -21,7 +21,7 @@ use Rattle.store_rules.proofs.LinkFits.{IsLow}
 use Rattle.store_rules.proofs.Made.{IsGone}
 use Rattle.store_rules.proofs.NumberLaws.{nat_cases}
 use Rattle.store_rules.proofs.Shapes.{room_most, room_small}
-use Rattle.store_rules.proofs.ViewLaws.{kind_by, not_live, row_none, some_row}
+use Rattle.store_rules.proofs.ViewLaws.{kind_by, not_live, row_none, some_row, group_used}
 use Rattle.id_freelist.specs.Giving.{CanGive, HasGiven}
 use Rattle.id_freelist.proofs.FreeListLaws.{has_given}
 use Rattle.id_freelist.proofs.Leaving.{is_gone, not_free_id}
@@ -40,6 +40,7 @@ use Rattle.group_store.specs.Spreading.{KeepsOthers}
 use Rattle.group_store.proofs.ChainHeads.{at_group}
 use Rattle.group_store.proofs.Drops as d
 use Rattle.group_store.proofs.GroupRecords.{group_below}
+use Rattle.group_store.proofs.CountedRels.{counts_by}
 use Rattle.group_store.proofs.GroupRules.{HasGroups-IsGroupChain, IsGroupChain-HasGroups, row_of_group}
 use Rattle.group_store.proofs.GroupSteps as steps
 use Rattle.group_store.proofs.GroupSteps.{HasStepped}
@@ -118,11 +119,11 @@ module _ (s : State) (node g most : ℕ) (empty : List ℕ) (well : KeepsRules s
   unfolding after
   after_low = ⊎_elim (λ e. inl e) (λ i. low_member after i) (d.after_member s t node g free xs can gives)
 
-  after_kind : after ≢ format.nil → kind_at s.records format.groups_file after ≡ format.grouped
+  after_kind : after ≢ format.nil → is_group_kind (kind_at s.records format.groups_file after) ≡ true
   unfolding after
   after_kind some = ⊎_elim (λ e. absurd (some e)) (λ i. (chain.only after i).kind) (d.after_member s t node g free xs can gives)
 
-  before_kind : before ≢ format.nil → kind_at s.records format.groups_file before ≡ format.grouped
+  before_kind : before ≢ format.nil → is_group_kind (kind_at s.records format.groups_file before) ≡ true
   unfolding before
   before_kind some = ⊎_elim (λ e. absurd (some (d.before_nil s t node g free xs can gives e))) (λ i. (chain.only before i).kind) (d.before_member s t node g free xs can gives)
 
@@ -160,19 +161,19 @@ module _ (s : State) (node g most : ℕ) (empty : List ℕ) (well : KeepsRules s
   unfolding u follows
   links = on_test (λ (z : State). HasStepped s.records z.records s.shape node) before format.nil (after_set b (node_key node) 4 format.node_first_link after) (link_set b before format.group_next after)
       (λ _. steps.step_first s.records b.records s.shape node backs after b_dense (subst (λ m. IsLow m after) (sym (b_mark format.groups_file)) after_low))
-      (λ some. steps.step_next s.records b.records s.shape node backs before after (b_kind before ∙ before_kind some) (subst (λ m. IsLow m after) (sym (b_mark format.groups_file)) after_low))
+      (λ some. steps.step_next s.records b.records s.shape node backs before after (ap is_group_kind (b_kind before) ∙ before_kind some) (subst (λ m. IsLow m after) (sym (b_mark format.groups_file)) after_low))
 
-  kind_u : kind_at u.records format.groups_file g ≡ format.grouped
+  kind_u : is_group_kind (kind_at u.records format.groups_file g) ≡ true
   unfolding u b before after d.linked
-  kind_u = kind_by (high u.records format.groups_file) (rec_at u.records format.groups_file g) (rec_at s.records format.groups_file g) g (d.group_stays s node before after g 1 format.kind (omega arith) (λ _. inl (omega arith)) (λ _. inl (omega arith)))
-      ∙ ap (λ r. kind_in ((metas.meta_of r).high) (rec_at s.records format.groups_file g) g) (d.meta_stays s node before after) ∙ member.kind
+  kind_u = ap is_group_kind (kind_by (high u.records format.groups_file) (rec_at u.records format.groups_file g) (rec_at s.records format.groups_file g) g (d.group_stays s node before after g 1 format.kind (omega arith) (λ _. inl (omega arith)) (λ _. inl (omega arith)))
+      ∙ ap (λ r. kind_in ((metas.meta_of r).high) (rec_at s.records format.groups_file g) g) (d.meta_stays s node before after)) ∙ member.kind
 
   given_has : HasGiven u.records t.records format.groups_file g links.free
   unfolding u b before after t dropped d.linked
-  given_has = has_given u format.groups_file g links.free refl small (record { list = links.split.walk; fresh = not_free_id u.records format.groups_file g links.free links.split (λ e. let k = sym e ∙ kind_u in omega arith) })
+  given_has = has_given u format.groups_file g links.free refl small (record { list = links.split.walk; fresh = not_free_id u.records format.groups_file g links.free links.split (group_used (kind_at u.records format.groups_file g) kind_u) })
 
   lost : IsGone u.records t.records s.shape format.groups_file g
-  lost = is_gone u.records t.records s.shape format.groups_file g links.free refl links.split (λ e. let k = sym e ∙ kind_u in omega arith) given_has (room_small s.records s.shape format.groups_file well.ranges) (links.ranges.metas format.groups_file refl)
+  lost = is_gone u.records t.records s.shape format.groups_file g links.free refl links.split (group_used (kind_at u.records format.groups_file g) kind_u) given_has (room_small s.records s.shape format.groups_file well.ranges) (links.ranges.metas format.groups_file refl)
 
   lost_frame : IsFrame u.records t.records node
   lost_frame = record {
@@ -308,7 +309,14 @@ module _ (s : State) (node g most : ℕ) (empty : List ℕ) (well : KeepsRules s
   }
     where
       none_left : (h : ℕ) → IsGroupOf t.records node h → h ≢ g
-      none_left h is e = let k = is.kind in let z = ap (kind_at t.records format.groups_file) e ∙ has.gone in omega arith
+      none_left h is e = group_used (kind_at t.records format.groups_file h) is.kind (ap (kind_at t.records format.groups_file) e ∙ has.gone)
+
+  exact_now : AreExact (kind_at t.records format.groups_file) (rec_at t.records format.groups_file) (group_at t.records) (rel_at t.records) (high t.records format.relationships_file)
+  exact_now h q is kind = let ne = not_g h q is in
+      counts_by (rec_at s.records format.groups_file h) (rec_at t.records format.groups_file h) q (rel_at s.records) (rel_at t.records) (high s.records format.relationships_file) (high t.records format.relationships_file)
+      (λ at within. number h 4 at (let b = within.1 in omega arith) ne (inr (let b = within.0 in omega arith)))
+      (fr.rels_same s.records t.records node stepped.frame) (fr.mark_same s.records t.records node stepped.frame format.relationships_file (λ e. omega arith))
+      (well.exact h q (sym (group_stays_at h ne) ∙ is) (sym (d.kind_stays s t node g free xs can gives h ne) ∙ kind))
 
   others : KeepsOthers s.records s.shape most
   others = record { ranges = well.ranges; split = well.split; kept = well.kept; properties = well.properties; named = well.named; names = well.names; degrees = well.degrees }
@@ -323,17 +331,23 @@ module _ (s : State) (node g most : ℕ) (empty : List ℕ) (well : KeepsRules s
         kept = o.kept;
         linked = subst (λ (r : ℕ → Option RelRow). IsLinked t.records (kind_at t.records format.nodes_file) r (group_at t.records)) (sym (fr.rels_same s.records t.records node stepped.frame)) linked_now;
         grouped = grouped_now;
+        exact = exact_now;
         properties = o.properties;
         named = o.named;
         names = o.names;
         degrees = o.degrees;
       }
 
-  pub dropped_rules : (z : State) → z ≡ dropped s node g → z.shape ≡ s.shape → KeepsRules z.records z.shape most empty × Regroups s z node
+  pub dropped_rules : (z : State) → z ≡ dropped s node g → z.shape ≡ s.shape → KeepsRules z.records z.shape most empty × Regroups s z node × (kind_at z.records format.nodes_file node ≡ kind_at s.records format.nodes_file node)
+      × ((h : ℕ) (row : GroupRow) → group_at s.records h ≡ Some row → row.owner ≢ node → kind_at z.records format.groups_file h ≡ kind_at s.records format.groups_file h)
   unfolding t
   dropped_rules z is shape = (
     subst (λ (q : Shape). KeepsRules z.records q most empty) (sym shape) (subst (λ (w : State). KeepsRules w.records s.shape most empty) (sym is) keeps_now),
     fr.regroups_of s z node (subst (λ (w : State). IsFrame s.records w.records node) (sym is) stepped.frame) shape
         (λ h row q ne. ap (λ (w : State). group_at w.records h) is ∙ group_stays_at h (λ e. ne (sym (ap (λ (r : GroupRow). r.owner) (some_row (kind_at s.records format.groups_file h) (group_in (rec_at s.records format.groups_file h) h) row q).1)
         ∙ ap (λ k. field 4 (rec_at s.records format.groups_file k) format.group_owner) e ∙ member.owner)) ∙ q),
+    ap (λ (w : State). kind_at w.records format.nodes_file node) is ∙ fr.dense_same s.records t.records node stepped.frame node dense ∙ sym dense,
+    λ h row q ne. ap (λ (w : State). kind_at w.records format.groups_file h) is
+        ∙ d.kind_stays s t node g free xs can gives h (λ e. ne (sym (ap (λ (r : GroupRow). r.owner) (some_row (kind_at s.records format.groups_file h) (group_in (rec_at s.records format.groups_file h) h) row q).1)
+        ∙ ap (λ k. field 4 (rec_at s.records format.groups_file k) format.group_owner) e ∙ member.owner)),
   )

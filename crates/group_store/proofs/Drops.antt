@@ -13,7 +13,7 @@ use Rattle.rec_bytes.proofs.Numbers.{field-lt}
 use Rattle.rec_bytes.proofs.Spaces.{put_other}
 use Rattle.store_rules.specs.Chains.{In, IsChain, IsWalk}
 use Rattle.store_rules.specs.Rules.{next_free}
-use Rattle.store_rules.specs.Views.{first_link, high, kind_at, kind_in, rec_at}
+use Rattle.store_rules.specs.Views.{first_link, high, kind_at, kind_in, rec_at, is_group_kind}
 use Rattle.store_rules.proofs.ChainLaws.{chain_stays, walk_of_chain, walk_stays}
 use Rattle.store_rules.proofs.NumberLaws.{eq_false, eq_true, nat_cases}
 use Rattle.store_rules.proofs.ViewLaws.{kind_by, kind_low}
@@ -195,10 +195,10 @@ module _ (s end : State) (node g : ℕ) (free xs : List ℕ) (can : CanDrop s no
       kind_low (high end.records 3) (rec_at end.records 3 g) g (omega arith) ∙ ap (λ r. field 1 r format.kind) has.here ∙ free_is_free (meta_in u.records format.groups_file).free
 
   member_now : (m h : ℕ) → h ≢ g → IsGroupOf s.records m h → IsGroupOf end.records m h
-  member_now m h ne is = record { kind = kind_stays h ne ∙ is.kind; owner = number h 4 8 (omega arith) ne (λ _. inl (omega arith)) (λ _. inl (omega arith)) ∙ is.owner }
+  member_now m h ne is = record { kind = ap is_group_kind (kind_stays h ne) ∙ is.kind; owner = number h 4 8 (omega arith) ne (λ _. inl (omega arith)) (λ _. inl (omega arith)) ∙ is.owner }
 
   member_was : (m h : ℕ) → h ≢ g → IsGroupOf end.records m h → IsGroupOf s.records m h
-  member_was m h ne is = record { kind = sym (kind_stays h ne) ∙ is.kind; owner = sym (number h 4 8 (omega arith) ne (λ _. inl (omega arith)) (λ _. inl (omega arith))) ∙ is.owner }
+  member_was m h ne is = record { kind = ap is_group_kind (sym (kind_stays h ne)) ∙ is.kind; owner = sym (number h 4 8 (omega arith) ne (λ _. inl (omega arith)) (λ _. inl (omega arith))) ∙ is.owner }
 
   -- the group is none any more
   none_here : (m h : ℕ) → IsGroupOf end.records m h → h ≢ g

@@ -18,11 +18,11 @@ use Rattle.rec_bytes.specs.declared.fault.Fault.TheVariants.{Memory, Disk, Damag
 use Rattle.group_store.specs.declared.group_row.GroupRow.{GroupRow}
 use Rattle.group_store.specs.Finding.{IsFindFault, IsFound, IsSought}
 use Rattle.group_store.specs.FirstGroup.{IsFirst, IsNodeFault, first_of}
-use Rattle.group_store.specs.GroupChain.{IsDense, IsGroupChain, IsGroupList, LacksGroup, up_to_type}
+use Rattle.group_store.specs.GroupChain.{IsDense, IsGroupChain, IsGroupList, IsOwnedList, LacksGroup, up_to_type}
 use Rattle.rec_bytes.specs.Fault.{of_row}
-use Rattle.group_store.specs.Loading.{group_mark}
+use Rattle.group_store.specs.Loading.{HasNoKind, group_mark}
 use Rattle.group_store.specs.Walking.{IsWalkDamage, IsWalkFault, IsWalkable}
-use Rattle.group_store.specs.Walking.IsWalkDamage.{NoList, HighMark}
+use Rattle.group_store.specs.Walking.IsWalkDamage.{NoList, UnknownGroup, HighMark}
 use Rattle.group_store.proofs.GroupWalks.{mark_then, reads_more, reads_none, reads_one, records_then, room_then}
 use Rattle.group_store.proofs.Seeks.{dense_is, exactly_none, first_is, not_dense}
 
@@ -117,7 +117,11 @@ fault_then s now node first (Err Disk) reads is told = tt
 fault_then s now node first (Err (Damaged damage)) reads is told = inr (subst (λ z. IsWalkDamage s node z damage) is (by damage told))
   where
     by : (damage : Damage) → IsWalkDamage now node first damage → IsWalkDamage s node first damage
-    by damage (NoList none) = NoList (λ xs list. none xs (subst (λ (r : Records). IsGroupList r node first xs) (sym (records_then s now reads.count reads.is)) list))
+    by damage (NoList none) = NoList (λ xs list. none xs (subst (λ (r : Records). IsOwnedList r node first xs) (sym (records_then s now reads.count reads.is)) list))
+    by damage (UnknownGroup g none below unknown) = UnknownGroup g
+        (λ xs list. none xs (subst (λ (r : Records). IsGroupList r node first xs) (sym (records_then s now reads.count reads.is)) list))
+        (let mark = mark_then s now reads.count reads.is in omega arith)
+        (subst (λ (r : Records). HasNoKind r g) (records_then s now reads.count reads.is) unknown)
     by damage (HighMark above) = HighMark (let mark = mark_then s now reads.count reads.is in let room = room_then s now reads.count reads.is in omega arith)
 
 pub find_fault : (s : State) (node : ℕ) (fault : Fault) → IsNodeFault s node fault → IsFindFault s node fault

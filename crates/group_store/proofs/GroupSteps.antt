@@ -6,23 +6,23 @@ use Rattle.rec_bytes.specs.declared.shape.Shape.{Shape}
 use Rattle.rec_bytes.specs.Format as format
 use Rattle.rec_bytes.specs.Meta as metas
 use Rattle.rec_bytes.specs.Record.{field, with_field}
-use Rattle.rec_bytes.specs.RecordFiles.{is_meta_file, meta_key_of, room_of}
+use Rattle.rec_bytes.specs.RecordFiles.{is_meta_file, meta_key_of}
 use Rattle.rec_bytes.specs.Space.{meta_in, put}
 use Rattle.rec_bytes.proofs.Numbers.{field-with_field_other}
 use Rattle.rec_bytes.proofs.Spaces.{put_other, put_other_file, put_same}
 use Rattle.store_rules.specs.Chains.{In}
 use Rattle.store_rules.specs.Ranges.{AreInRange, Fits}
 use Rattle.store_rules.specs.Rules.{Head, IsSplit, next_free, node_head}
-use Rattle.store_rules.specs.Views.{Records, high, is_live, key_in, kind_at, rec_at}
+use Rattle.store_rules.specs.Views.{Records, high, is_group_kind, is_live, key_in, kind_at, rec_at}
 use Rattle.store_rules.proofs.ChainLaws.{walk_stays}
 use Rattle.store_rules.proofs.Changes as ch
 use Rattle.store_rules.proofs.Changes.{IsChanged}
 use Rattle.store_rules.proofs.Frames.{split_same}
-use Rattle.store_rules.proofs.LinkFits.{IsLink, IsLow, fits_dense_first, fits_group_first, fits_group_next, fits_group_previous, fits_link}
+use Rattle.store_rules.proofs.LinkFits.{IsCountPlace, IsLink, IsLow, fits_count, fits_dense_first, fits_group_first, fits_group_next, fits_group_previous, fits_link}
 use Rattle.store_rules.proofs.GroupLaws.{IsFirstPlace}
 use Rattle.store_rules.proofs.MetaLaws.{high_fits, not_meta_key}
 use Rattle.store_rules.proofs.NumberLaws.{nat_cases}
-use Rattle.store_rules.proofs.ViewLaws.{kind_by, kind_low, not_live}
+use Rattle.store_rules.proofs.ViewLaws.{group_used, kind_by, kind_low, not_live}
 use Rattle.chain_edit.proofs.LinkLaws.{field-set_other, set_at}
 use Rattle.group_store.proofs.Regrouping.{IsFrame, frame_both}
 
@@ -108,18 +108,29 @@ module _ (s t : Records) (shape : Shape) (node : ℕ) (h : HasStepped s t shape 
   kind_is : (f x kind : ℕ) → kind_at t f x ≡ kind → x < high t f → field 1 (rec_at t f x) format.kind ≡ kind
   kind_is f x kind is lt = sym (kind_low (high t f) (rec_at t f x) x lt) ∙ is
 
+  group_is : (x : ℕ) → is_group_kind (kind_at t format.groups_file x) ≡ true → x < high t format.groups_file → is_group_kind (field 1 (rec_at t format.groups_file x) format.kind) ≡ true
+  group_is x is lt = ap is_group_kind (sym (kind_low (high t format.groups_file) (rec_at t format.groups_file x) x lt)) ∙ is
+
+  -- a number of a counted group
+  pub step_count : (x at to : ℕ) → IsCountPlace at → kind_at t format.groups_file x ≡ format.counted → to < 2 ^ 32 → HasStepped s (set_at t (number_at format.groups_file x at) to) shape node
+  step_count x at to place is small = step_group x at to (λ e. let z = sym is ∙ e in omega arith) within.0 within.1
+      (λ lt. fits_count (high t) (rec_at t format.groups_file x) at to place small (kind_is format.groups_file x format.counted is lt))
+    where
+      within : (1 ≤ at) × (at + 4 ≤ 64)
+      within = ⊎_elim (λ (e : at ≡ 32). (omega arith, omega arith)) (λ k. ⊎_elim (λ (e : at ≡ 36). (omega arith, omega arith)) (λ (e : at ≡ 40). (omega arith, omega arith)) k) place
+
   -- the link of a group to the one before it, and the first link of one of its chains
-  pub step_previous : (x to : ℕ) → kind_at t format.groups_file x ≡ format.grouped → IsLow (high t format.groups_file) to → HasStepped s (set_at t (number_at format.groups_file x format.group_previous) to) shape node
-  step_previous x to is low = step_group x format.group_previous to (λ e. let z = sym is ∙ e in omega arith) (omega arith) (omega arith)
-      (λ lt. fits_group_previous (high t) (rec_at t format.groups_file x) to (small_low format.groups_file to low) low (kind_is format.groups_file x format.grouped is lt))
+  pub step_previous : (x to : ℕ) → is_group_kind (kind_at t format.groups_file x) ≡ true → IsLow (high t format.groups_file) to → HasStepped s (set_at t (number_at format.groups_file x format.group_previous) to) shape node
+  step_previous x to is low = step_group x format.group_previous to (group_used (kind_at t format.groups_file x) is) (omega arith) (omega arith)
+      (λ lt. fits_group_previous (high t) (rec_at t format.groups_file x) to (small_low format.groups_file to low) low (group_is x is lt))
 
-  pub step_next : (x to : ℕ) → kind_at t format.groups_file x ≡ format.grouped → IsLow (high t format.groups_file) to → HasStepped s (set_at t (number_at format.groups_file x format.group_next) to) shape node
-  step_next x to is low = step_group x format.group_next to (λ e. let z = sym is ∙ e in omega arith) (omega arith) (omega arith)
-      (λ lt. fits_group_next (high t) (rec_at t format.groups_file x) to (small_low format.groups_file to low) low (kind_is format.groups_file x format.grouped is lt))
+  pub step_next : (x to : ℕ) → is_group_kind (kind_at t format.groups_file x) ≡ true → IsLow (high t format.groups_file) to → HasStepped s (set_at t (number_at format.groups_file x format.group_next) to) shape node
+  step_next x to is low = step_group x format.group_next to (group_used (kind_at t format.groups_file x) is) (omega arith) (omega arith)
+      (λ lt. fits_group_next (high t) (rec_at t format.groups_file x) to (small_low format.groups_file to low) low (group_is x is lt))
 
-  pub step_chain : (x at to : ℕ) → IsFirstPlace at → kind_at t format.groups_file x ≡ format.grouped → IsLow (high t format.relationships_file) to → HasStepped s (set_at t (number_at format.groups_file x at) to) shape node
-  step_chain x at to place is low = step_group x at to (λ e. let z = sym is ∙ e in omega arith) within.0 within.1
-      (λ lt. fits_group_first (high t) (rec_at t format.groups_file x) at to place (small_low format.relationships_file to low) low (kind_is format.groups_file x format.grouped is lt))
+  pub step_chain : (x at to : ℕ) → IsFirstPlace at → is_group_kind (kind_at t format.groups_file x) ≡ true → IsLow (high t format.relationships_file) to → HasStepped s (set_at t (number_at format.groups_file x at) to) shape node
+  step_chain x at to place is low = step_group x at to (group_used (kind_at t format.groups_file x) is) within.0 within.1
+      (λ lt. fits_group_first (high t) (rec_at t format.groups_file x) at to place (small_low format.relationships_file to low) low (group_is x is lt))
     where
       within : (1 ≤ at) × (at + 4 ≤ 64)
       within = ⊎_elim (λ (e : at ≡ 20). (omega arith, omega arith)) (λ k. ⊎_elim (λ (e : at ≡ 24). (omega arith, omega arith)) (λ (e : at ≡ 28). (omega arith, omega arith)) k) place

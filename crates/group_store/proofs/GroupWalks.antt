@@ -1,10 +1,10 @@
 -- A walk of a node's groups, step by step.
-use Rattle.std.proofs.Common.{◌≡◌, ◌≢◌, ◌⊎◌, ⊎_elim, inl, inr, ℕ, zero, suc, ◌+◌, ◌≤◌, true, List, [], ◌∷◌, ◌++◌, length, map, refl, sym, ap, ◌∙◌, subst, append_assoc, append-nil, arith, Err, Result}
+use Rattle.std.proofs.Common.{◌≡◌, ◌≢◌, ◌⊎◌, ⊎_elim, inl, inr, ℕ, zero, suc, ◌+◌, ◌<◌, ◌≤◌, true, List, [], ◌∷◌, ◌++◌, length, map, refl, sym, ap, ◌∙◌, subst, append_assoc, append-nil, arith, Err, Result}
 use Rattle.std.proofs.Math.Dec.{eqb}
 use Rattle.std.specs.List.{list_any}
 use Rattle.std.proofs.lemmas.Bool.{or_cases}
 use Rattle.std.proofs.lemmas.Bool.Decides.{nat_tests}
-use Rattle.std.proofs.lemmas.List.{map-append}
+use Rattle.std.proofs.lemmas.List.{length-append, map-append}
 use Rattle.std.proofs.lemmas.Map.Steps.{length-le_from_distinct_below}
 use Rattle.rec_bytes.specs.declared.damage.Damage.{Damage}
 use Rattle.rec_bytes.specs.declared.shape.Shape.{Shape}
@@ -17,17 +17,18 @@ use Rattle.store_rules.specs.Views.{Records, high, rec_at}
 use Rattle.rec_bytes.specs.declared.record.Rec.{Rec}
 use Rattle.rec_bytes.specs.Record.{field}
 use Rattle.chain_edit.specs.Walking.{ReadsAtMost}
-use Rattle.chain_edit.proofs.Walks.{distinct}
+use Rattle.chain_edit.proofs.Walks.{distinct, walk_is}
 use Rattle.rec_bytes.specs.declared.fault.Fault.{Fault}
 use Rattle.rec_bytes.specs.declared.fault.Fault.TheVariants.{Memory, Disk, Damaged}
 use Rattle.group_store.specs.declared.group_row.GroupRow.{GroupRow}
 use Rattle.rec_bytes.specs.Fault.{NotDamaged}
-use Rattle.group_store.specs.GroupChain.{IsGroupList, IsGroupOf, next_group}
-use Rattle.group_store.specs.Loading.{group_mark, group_room}
+use Rattle.group_store.specs.GroupChain.{IsGroupList, IsGroupOf, IsOwnedBy, IsOwnedList, next_group}
+use Rattle.group_store.specs.Loading.{HasNoKind, group_mark, group_room}
 use Rattle.group_store.specs.Walking.{IsMemberDamage, IsMemberFault, IsWalkDamage, IsWalkFault, IsWalkable, group_row_at}
-use Rattle.group_store.specs.Walking.IsMemberDamage.{NoMember, HighMember}
-use Rattle.group_store.specs.Walking.IsWalkDamage.{NoList, HighMark}
-use Rattle.group_store.proofs.GroupRecords.{group_below}
+use Rattle.group_store.specs.Walking.IsMemberDamage.{NoMember, UnknownMember, HighMember}
+use Rattle.group_store.specs.Walking.IsWalkDamage.{NoList, UnknownGroup, HighMark}
+use Rattle.group_store.proofs.GroupRecords.{owned, owned_below}
+use Rattle.group_store.proofs.UnknownKinds.{known_kind}
 
 -- ---- what was met
 
@@ -64,35 +65,61 @@ passed_all records node first at ms none h = record {
 
 -- ---- what is left
 
--- a list to the end is left, of at most so many groups
-abbrev pub IsLeft : Records → ℕ → ℕ → ℕ → Type 0
-IsLeft records node left at = (ys : List ℕ) × IsGroupList records node at ys × (length ys ≤ left)
+-- of these groups a list to the end is left, of at most so many
+abbrev pub IsLeft : Records → List ℕ → ℕ → ℕ → Type 0
+IsLeft records xs left at = (ys : List ℕ) × IsWalk (next_group records) at ys × (length ys ≤ left) × ((g : ℕ) → In g ys → In g xs)
 
 in_any : (q : ℕ) (xs : List ℕ) → list_any (eqb q) xs ≡ true → In q xs
 in_any q [] h = absurd cc
 in_any q (y ∷ ys) h = ⊎_elim (λ (e : eqb q y ≡ true). inl (grind (arith, nat_tests))) (λ k. inr (in_any q ys k)) (or_cases (eqb q y) (list_any (eqb q) ys) h)
 
 -- a list is no longer than the mark
+pub few_owned : (records : Records) (node first : ℕ) (xs : List ℕ) → IsOwnedList records node first xs → length xs ≤ high records format.groups_file
+few_owned records node first xs list =
+    length-le_from_distinct_below xs (high records format.groups_file) (distinct (next_group records) first xs list.walk) (λ q h. owned_below records node q (list.only q (in_any q xs h)))
+
+-- the node owns its groups
+pub owned_list : (records : Records) (node first : ℕ) (xs : List ℕ) → IsGroupList records node first xs → IsOwnedList records node first xs
+owned_list records node first xs list = record { walk = list.walk; only = λ g i. owned records node g (list.only g i) }
+
 pub few_groups : (records : Records) (node first : ℕ) (xs : List ℕ) → IsGroupList records node first xs → length xs ≤ high records format.groups_file
-few_groups records node first xs list =
-    length-le_from_distinct_below xs (high records format.groups_file) (distinct (next_group records) first xs list.walk) (λ q h. group_below records node q (list.only q (in_any q xs h)))
+few_groups records node first xs list = few_owned records node first xs (owned_list records node first xs list)
 
-pub left_more : (records : Records) (node left less at to : ℕ) → left ≡ suc less → at ≢ format.nil → to ≡ next_group records at → IsLeft records node left at → IsLeft records node less to
-left_more records node left less at to one there link (ys, list, few) = step ys list few
+pub left_more : (records : Records) (left less at to : ℕ) (xs : List ℕ) → left ≡ suc less → at ≢ format.nil → to ≡ next_group records at → IsLeft records xs left at → IsLeft records xs less to
+left_more records left less at to xs one there link (ys, walk, few, within) = step ys walk few within
   where
-    step : (ys : List ℕ) → IsGroupList records node at ys → length ys ≤ left → IsLeft records node less to
-    step [] list few = absurd (there list.walk)
-    step (y ∷ ys) list few =
-        let to_is : next_group records y ≡ to = ap (next_group records) (sym list.walk.0) ∙ sym link in
-        (ys, record { walk = subst (λ z. IsWalk (next_group records) z ys) to_is list.walk.2; only = λ g i. list.only g (inr i) }, omega arith)
+    step : (ys : List ℕ) → IsWalk (next_group records) at ys → length ys ≤ left → ((g : ℕ) → In g ys → In g xs) → IsLeft records xs less to
+    step [] walk few within = absurd (there walk)
+    step (y ∷ ys) walk few within =
+        let to_is : next_group records y ≡ to = ap (next_group records) (sym walk.0) ∙ sym link in
+        (ys, subst (λ z. IsWalk (next_group records) z ys) to_is walk.2, omega arith, λ g i. within g (inr i))
 
-pub left_member : (records : Records) (node left at : ℕ) → at ≢ format.nil → IsLeft records node left at → IsGroupOf records node at
-left_member records node left at there ([], list, few) = absurd (there list.walk)
-left_member records node left at there (y ∷ ys, list, few) = subst (IsGroupOf records node) (sym list.walk.0) (list.only y (inl refl))
+pub left_member : (records : Records) (left at : ℕ) (xs : List ℕ) → at ≢ format.nil → IsLeft records xs left at → In at xs
+left_member records left at xs there ([], walk, few, within) = absurd (there walk)
+left_member records left at xs there (y ∷ ys, walk, few, within) = within at (inl walk.0)
 
-pub left_none : (records : Records) (node left at : ℕ) → left ≡ 0 → IsLeft records node left at → at ≡ format.nil
-left_none records node left at none ([], list, few) = list.walk
-left_none records node left at none (y ∷ ys, list, few) = absurd (omega arith)
+pub left_none : (records : Records) (left at : ℕ) (xs : List ℕ) → left ≡ 0 → IsLeft records xs left at → at ≡ format.nil
+left_none records left at xs none ([], walk, few, within) = walk
+left_none records left at xs none (y ∷ ys, walk, few, within) = absurd (omega arith)
+
+-- ---- how many were met, by a walk that ends
+
+met_and_left : (records : Records) (node first at left : ℕ) (ms xs : List ℕ) → HasPassed records node first at ms → (rest : IsLeft records xs left at) → IsWalk (next_group records) first xs → length xs ≡ length ms + length rest.0
+met_and_left records node first at left ms xs met (ys, left_walk, few, within) walk =
+    ap length (walk_is (next_group records) first xs (ms ++ ys) walk (met.walk ys left_walk)) ∙ length-append ms ys
+
+some_left : (records : Records) (left at : ℕ) (xs : List ℕ) → at ≢ format.nil → (rest : IsLeft records xs left at) → 1 ≤ length rest.0
+some_left records left at xs there ([], walk, few, within) = absurd (there walk)
+some_left records left at xs there (y ∷ ys, walk, few, within) = omega arith
+
+pub few_then : (records : Records) (node first at left : ℕ) (ms xs : List ℕ) → HasPassed records node first at ms → IsLeft records xs left at → IsWalk (next_group records) first xs → length ms ≤ length xs
+few_then records node first at left ms xs met rest walk = let long = met_and_left records node first at left ms xs met rest walk in omega arith
+
+pub few_next : (records : Records) (node first at left : ℕ) (ms xs : List ℕ) → at ≢ format.nil → HasPassed records node first at ms → IsLeft records xs left at → IsWalk (next_group records) first xs → length ms + 1 ≤ length xs
+few_next records node first at left ms xs there met rest walk =
+    let long = met_and_left records node first at left ms xs met rest walk in
+    let some = some_left records left at xs there rest in
+    omega arith
 
 -- ---- reads
 
@@ -130,17 +157,24 @@ room_then s now n reads = ap group_room reads ∙ ap (λ (shape : Shape). room_o
 
 -- what is no group on the way
 pub walk_fault : (s now : State) (n node first left at : ℕ) (fault : Fault) → now ≡ after_gets n s → at ≢ format.nil
-    → ((xs : List ℕ) → IsGroupList s.records node first xs → IsLeft s.records node left at) → IsMemberFault now node at fault → IsWalkFault s node first fault
+    → ((xs : List ℕ) → IsWalk (next_group s.records) first xs → length xs ≤ group_mark s → IsLeft s.records xs left at) → IsMemberFault now node at fault → IsWalkFault s node first fault
 walk_fault s now n node first left at Memory reads there rest told = tt
 walk_fault s now n node first left at Disk reads there rest told = tt
 walk_fault s now n node first left at (Damaged damage) reads there rest told = by damage told
   where
     by : (damage : Damage) → IsMemberDamage now node at damage → IsWalkDamage s node first damage
-    by damage (NoMember none) = NoList (λ xs list. none (subst (λ (r : Records). IsGroupOf r node at) (sym (records_then s now n reads)) (left_member s.records node left at there (rest xs list))))
+    by damage (NoMember none) = NoList (λ xs list. none (subst (λ (r : Records). IsOwnedBy r node at) (sym (records_then s now n reads))
+        (list.only at (left_member s.records left at xs there (rest xs list.walk (few_owned s.records node first xs list))))))
+    by damage (UnknownMember below unknown) =
+        let below_then : at < group_mark s = let mark = mark_then s now n reads in omega arith in
+        let unknown_then : HasNoKind s.records at = subst (λ (r : Records). HasNoKind r at) (records_then s now n reads) unknown in
+        UnknownGroup at (λ xs list. known_kind s.records node at below_then
+        (list.only at (left_member s.records left at xs there (rest xs list.walk (few_groups s.records node first xs list)))) unknown_then) below_then unknown_then
     by damage (HighMember above) = HighMark (let mark = mark_then s now n reads in let room = room_then s now n reads in omega arith)
 
 pub none_damaged : (s : State) (node first : ℕ) (xs : List ℕ) (damage : Damage) → IsWalkable s node first xs → IsWalkDamage s node first damage → ⊥
-none_damaged s node first xs damage can (NoList none) = none xs can.list
+none_damaged s node first xs damage can (NoList none) = none xs (owned_list s.records node first xs can.list)
+none_damaged s node first xs damage can (UnknownGroup g none below unknown) = none xs can.list
 none_damaged s node first xs damage can (HighMark above) = let mark = can.mark in omega arith
 
 -- ---- rows

@@ -26,6 +26,18 @@ opened_writes s t node first id w = record {
       (λ q i. ⊎_elim (λ e. inr (inl e)) (λ j. ⊎_elim (λ e. inr (inr (inl e))) (λ k. ⊎_elim (λ e. inl e) (λ l. ⊎_elim (λ e. inr (inr (inr (among_metas format.groups_file q refl e)))) (λ e. absurd e) l) k) j) i) w;
 }
 
+-- a group that is found or made, and then counted
+pub found_writes : (s m t : State) (id first node : ℕ) → WritesOnly s m (group_key id ∷ group_key first ∷ node_key node ∷ meta_key_of format.groups_file ∷ []) → WritesOnly m t (group_key id ∷ [])
+    → WritesOnly s t (group_key id ∷ group_key first ∷ node_key node ∷ meta_key_of format.groups_file ∷ [])
+found_writes s m t id first node w v = record { each = λ q k. ⊎_elim (λ old. w.each q old) (λ i. inr (⊎_elim (λ e. inl e) (λ e. absurd e) i)) (v.each q k) }
+
+-- the same, by the order of a group that is made
+pub raised_writes : (s m t : State) (id first node : ℕ) → WritesOnly s m (group_key id ∷ group_key first ∷ node_key node ∷ meta_key_of format.groups_file ∷ []) → WritesOnly m t (group_key id ∷ [])
+    → WritesOnly s t (group_key first ∷ group_key id ∷ node_key node ∷ meta_key_of format.groups_file ∷ [])
+raised_writes s m t id first node w v = record {
+  each = λ q k. ⊎_elim (λ old. inl old) (λ i. inr (⊎_elim (λ e. inr (inl e)) (λ j. ⊎_elim (λ e. inl e) (λ l. inr (inr l)) j) i)) ((found_writes s m t id first node w v).each q k);
+}
+
 -- ---- after other records were written
 
 pub own_both : (xs ys : List Key) → AreOwn xs → AreOwn ys → AreOwn (xs ++ ys)

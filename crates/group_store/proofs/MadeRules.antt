@@ -1,7 +1,7 @@
 -- A group that is made keeps the rules, but that it is empty.
-use Rattle.std.proofs.Common.{◌≡◌, ◌≢◌, ◌⊎◌, ℕ, ◌+◌, ◌<◌, ◌≤◌, ◌^◌, nat_eq, nat_lt, not, Bool, true, false, ◌&&◌, ◌||◌, Option, None, Some, List, [], ◌∷◌, sym, ap, ◌∙◌, subst, inl, inr, ⊎_elim, arith, refl}
+use Rattle.std.proofs.Common.{◌≡◌, ◌≢◌, ◌⊎◌, ℕ, ◌+◌, ◌<◌, ◌≤◌, ◌^◌, nat_eq, nat_lt, not, Bool, true, false, cond, ◌&&◌, ◌||◌, Option, None, Some, List, [], ◌∷◌, sym, ap, ◌∙◌, subst, inl, inr, ⊎_elim, arith, refl}
 use Rattle.std.specs.List.{list_any}
-use Rattle.std.proofs.lemmas.Bool.{cases_lt}
+use Rattle.std.proofs.lemmas.Bool.{cases_lt, eqb-true}
 use Rattle.std.proofs.lemmas.Bool.Decides.{nat_tests}
 use Rattle.id_freelist.specs.FreeLists.{IsFreeList}
 use Rattle.id_freelist.specs.Taking.{CanTake, HasTaken, free_taken, mark_taken, taken}
@@ -22,9 +22,9 @@ use Rattle.rec_bytes.proofs.Tables.{field-with_fields_other}
 use Rattle.rel_store.proofs.RelRecords.{byte-zeros}
 use Rattle.store_rules.specs.Chains.{In, IsChain, next_in, prev_in}
 use Rattle.store_rules.specs.Ranges.{Fits, bytes_of, is_in, layout_by, may, must}
-use Rattle.store_rules.specs.Rules.{HasGroups, Head, IsEnd, IsGrouped, IsInGroup, IsListed, Owns, first_of, is_filled}
+use Rattle.store_rules.specs.Rules.{HasCounts, HasGroups, Head, IsEnd, IsGrouped, IsInGroup, IsListed, Owns, first_of, is_filled}
 use Rattle.store_rules.specs.Views as views
-use Rattle.store_rules.specs.Views.{Records, RelRow, first_link, group_at, group_in, high, key_in, kind_at, kind_in, rec_at, rel_at, row_if}
+use Rattle.store_rules.specs.Views.{Records, RelRow, first_link, group_at, group_in, high, is_group_kind, key_in, kind_at, kind_in, rec_at, rel_at, row_if}
 use Rattle.store_rules.proofs.ChainLaws.{chain_stays, walk_of_chain}
 use Rattle.store_rules.proofs.Changes as ch
 use Rattle.store_rules.proofs.Frames.{kind_same}
@@ -32,16 +32,19 @@ use Rattle.store_rules.proofs.GroupLaws.{IsFirstPlace, same_group}
 use Rattle.store_rules.proofs.LinkFits.{IsLow}
 use Rattle.store_rules.proofs.Made.{IsMade}
 use Rattle.store_rules.proofs.NumberLaws.{eq_true, lt_true, nat_cases}
-use Rattle.store_rules.proofs.Shapes.{room_most, room_small}
-use Rattle.store_rules.proofs.ViewLaws.{kind_below, kind_by, row_none, some_row}
+use Rattle.store_rules.proofs.Shapes.{high_most, room_most, room_small}
+use Rattle.store_rules.proofs.ViewLaws.{group_used, kind_below, kind_by, kind_low, row_none, some_row}
 use Rattle.chain_edit.specs.Chains.{next_of, prev_of}
 use Rattle.chain_edit.proofs.ChainSteps.{first_in, on_test}
 use Rattle.group_store.specs.declared.group_row.GroupRow.{GroupRow}
 use Rattle.group_store.specs.GroupChain.{IsGroupChain, IsGroupOf, LacksGroup, next_group, type_of}
-use Rattle.group_store.specs.GroupRecord.{group_key}
+use Rattle.group_store.specs.GroupRecord.{count_in, group_key}
 use Rattle.group_store.specs.Links.{backed}
 use Rattle.group_store.specs.Making.{HasMade, empty_fields, empty_group, empty_row, led}
-use Rattle.group_store.specs.Spreading.{HasOpened, IsLinkedBut, KeepsBut, StandsBut}
+use Rattle.group_store.specs.Leaving.{LeavesOthers}
+use Rattle.group_store.specs.Spreading.{AreExactBut, HasCountedGroups, HasOpened, IsLinkedBut, KeepsBut, StandsBut, counted_rels, left_out}
+use Rattle.group_store.proofs.CountedRels.{counted_here, counts_by, none_counted}
+use Rattle.group_store.proofs.GroupRecords.{group_below}
 use Rattle.group_store.proofs.GroupRules.{HasGroups-IsGroupChain, IsGroupChain-HasGroups, group_of_row, row_of_group}
 use Rattle.group_store.proofs.GroupSteps.{HasStepped, step_first, step_previous}
 use Rattle.group_store.proofs.Makes.{group_stays, has_made, kind-empty_group, meta_stays, new, number-empty_group}
@@ -76,7 +79,7 @@ stands_again rels groups now node rest h x same b = record {
 
 -- ---- the record of an empty group
 
-outside : (node label next i : ℕ) → list_any (is_in i) (bytes_of format.kind 1 ∷ bytes_of format.group_type 28 ∷ []) ≡ false → is_clear i 1 (empty_fields node label next) ≡ true
+outside : (node label next i : ℕ) → list_any (is_in i) (bytes_of format.kind 1 ∷ bytes_of format.group_type 40 ∷ []) ≡ false → is_clear i 1 (empty_fields node label next) ≡ true
 outside node label next i out = ⊎_elim (λ (low : i < 4). grind (arith, nat_tests)) (λ (high : 4 ≤ i). grind (arith, nat_tests)) (cases_lt i 4)
 
 -- it fits where its owner and the group after it are below their marks
@@ -86,7 +89,7 @@ empty_fits marks node label next a b c owner low = record {
     pointers = must format.group_owner format.nodes_file ∷ may format.group_previous format.groups_file ∷ may format.group_next format.groups_file
         ∷ may format.group_first_out format.relationships_file ∷ may format.group_first_in format.relationships_file
         ∷ may format.group_first_loop format.relationships_file ∷ [];
-    used = bytes_of format.kind 1 ∷ bytes_of format.group_type 28 ∷ [];
+    used = bytes_of format.kind 1 ∷ bytes_of format.group_type 40 ∷ [];
   };
   is = ap (layout_by format.groups_file (empty_group node label next)) (kind-empty_group node label next a b c);
   point = rw (
@@ -118,7 +121,7 @@ empty_fits marks node label next a b c owner low = record {
 
 -- ---- the links that lead to it
 
-back_stepped : (s : Records) (m : State) (shape : Shape) (node first id : ℕ) → HasStepped s m.records shape node → (first ≢ format.nil → kind_at m.records format.groups_file first ≡ format.grouped) → IsLow (high m.records format.groups_file) id
+back_stepped : (s : Records) (m : State) (shape : Shape) (node first id : ℕ) → HasStepped s m.records shape node → (first ≢ format.nil → is_group_kind (kind_at m.records format.groups_file first) ≡ true) → IsLow (high m.records format.groups_file) id
     → HasStepped s (backed m first id).records shape node × IsLow (high (backed m first id).records format.groups_file) id
 unfolding backed
 back_stepped s m shape node first id h kind low =
@@ -191,7 +194,7 @@ module _ (s u : State) (node label id : ℕ) (rest : List ℕ) (most : ℕ) (emp
   put_low : IsLow (high m.records format.groups_file) first
   put_low = ⊎_elim (λ e. inl e)
       (λ some. let k = (first_group some).kind in
-      let lt = kind_below (high s.records format.groups_file) (rec_at s.records format.groups_file first) first (λ e. let z = sym e ∙ k in omega arith) in
+      let lt = kind_below (high s.records format.groups_file) (rec_at s.records format.groups_file first) first (group_used (kind_at s.records format.groups_file first) k) in
       let le = is_put.change.more in inr (omega arith)) (nat_cases first format.nil)
 
   put_record : (f x : ℕ) → is_meta_file f ≡ true → f ≢ format.groups_file → rec_at m.records f x ≡ rec_at s.records f x
@@ -222,7 +225,7 @@ module _ (s u : State) (node label id : ℕ) (rest : List ℕ) (most : ℕ) (emp
   -- ---- it is linked
   linked : HasStepped s.records (backed m first id).records s.shape node × IsLow (high (backed m first id).records format.groups_file) id
   linked = back_stepped s.records m s.shape node first id put_stepped
-      (λ some. let k = (first_group some).kind in ch.kind_other s.records m.records format.groups_file id is_put.change first (not_id first (λ e. let z = sym e ∙ k in omega arith)) ∙ k) (inr is_put.below)
+      (λ some. let k = (first_group some).kind in ap is_group_kind (ch.kind_other s.records m.records format.groups_file id is_put.change first (not_id first (group_used (kind_at s.records format.groups_file first) k))) ∙ k) (inr is_put.below)
 
   stepped : HasStepped s.records now.records s.shape node
   unfolding led
@@ -366,13 +369,70 @@ module _ (s u : State) (node label id : ℕ) (rest : List ℕ) (most : ℕ) (emp
     where
       still : (n g : ℕ) (old : HasGroups (first_link s.records n) n (rec_at s.records format.groups_file) (group_at s.records) empty) → IsGroupOf s.records n g → In g old.members
           → (is_filled (rec_at now.records format.groups_file g) ≡ true) ⊎ In g (id ∷ empty)
-      still n g old is i = ⊎_elim (λ f. inl (filled_stays g (not_id g (λ e. let k = sym e ∙ is.kind in omega arith)) ∙ f)) (λ j. inr (inr j)) (old.filled g i)
+      still n g old is i = ⊎_elim (λ f. inl (filled_stays g (not_id g (group_used (kind_at s.records format.groups_file g) is.kind)) ∙ f)) (λ j. inr (inr j)) (old.filled g i)
+
+  -- ---- the numbers
+  kind_new : kind_at now.records format.groups_file id ≡ format.counted
+  kind_new = kind_low (high now.records format.groups_file) (rec_at now.records format.groups_file id) id (group_below now.records node id (made.chain.only id (inl refl))) ∙ eqb-true _ _ (ap (λ (r : GroupRow). r.counted) made.here)
+
+  count_zero : (at : ℕ) → count_in (rec_at now.records format.groups_file id) at ≡ 0 → field 4 (rec_at now.records format.groups_file id) at ≡ 0
+  count_zero at zero = sym (ap (λ b. cond b (field 4 (rec_at now.records format.groups_file id) at) 0) (ap (λ (r : GroupRow). r.counted) made.here)) ∙ zero
+
+  none_typed : (x : ℕ) (q : RelRow) → rels x ≡ Some q → ¬ In x rest → q.label ≡ label → IsEnd node q → ⊥
+  none_typed x q live out typed end =
+      let group = keeps.linked.typed x node q live end dense (λ _. out) in
+      lacks group.row.id (group_of_row s.records s.shape node group.row.id group.row keeps.others.ranges group.group group.owner)
+      (ap (λ (r : views.GroupRow). r.label) (some_row (kind_at s.records format.groups_file group.row.id) (group_in (rec_at s.records format.groups_file group.row.id) group.row.id) group.row group.group).1 ∙ group.label ∙ typed)
+
+  exact_now : AreExactBut s.records node rest → AreExactBut now.records node rest
+  exact_now old k q is kind = ⊎_elim
+      (λ (e : k ≡ id).
+      let same : row ≡ q = same_group row q (sym is_new ∙ ap (group_at now.records) (sym e) ∙ is) in
+      subst (λ z. HasCounts (rec_at now.records format.groups_file z) q (counted_rels node rest (rel_at now.records) q.owner) (high now.records format.relationships_file)) (sym e)
+      (subst (λ (z : views.GroupRow). HasCounts (rec_at now.records format.groups_file id) z (counted_rels node rest (rel_at now.records) z.owner) (high now.records format.relationships_file)) same
+      (subst (λ (f : ℕ → Option RelRow). HasCounts (rec_at now.records format.groups_file id) row f (high now.records format.relationships_file)) (sym (counted_here node node rest (rel_at now.records) refl))
+      (subst (λ (f : ℕ → Option RelRow). HasCounts (rec_at now.records format.groups_file id) row (left_out rest f) (high now.records format.relationships_file)) (sym (re.rels_same s.records now.records node stepped.frame))
+      (none_counted (rec_at now.records format.groups_file id) row rels rest (high now.records format.relationships_file)
+      (count_zero format.group_out_count (ap (λ (r : GroupRow). r.out_count) made.here)) (count_zero format.group_in_count (ap (λ (r : GroupRow). r.in_count) made.here)) (count_zero format.group_loop_count (ap (λ (r : GroupRow). r.loop_count) made.here)) none_typed)))))
+      (λ (ne : k ≢ id).
+      counts_by (rec_at s.records format.groups_file k) (rec_at now.records format.groups_file k) q (counted_rels node rest rels q.owner) (counted_rels node rest (rel_at now.records) q.owner) (high s.records format.relationships_file) (high now.records format.relationships_file)
+      (λ at within. number k 4 at (let b = within.1 in omega arith) ne (λ _. inr (let b = within.0 in omega arith)))
+      (λ i. counted_rels node rest (re.rels_same s.records now.records node stepped.frame i) q.owner) (re.mark_same s.records now.records node stepped.frame format.relationships_file (λ e. omega arith))
+      (old k q (sym (group_stays_at k ne) ∙ is) (sym (kind_stays k ne) ∙ kind))) (nat_cases k id)
+
+  counted_now : HasCountedGroups s.records node → HasCountedGroups now.records node
+  counted_now old k q is owner = ⊎_elim (λ (e : k ≡ id). ap (kind_at now.records format.groups_file) e ∙ kind_new) (λ (ne : k ≢ id). kind_stays k ne ∙ old k q (sym (group_stays_at k ne) ∙ is) owner) (nat_cases k id)
 
   shape_is : u.shape ≡ s.shape → now.shape ≡ s.shape
   shape_is e = led_shape u node first id rec ∙ e
 
+  -- ---- what is left of other records
+  key_far : (f x h y : ℕ) → f ≢ h → key_in f x ≢ key_in h y
+  key_far f x h y ne e = ne (ap (λ (k : Key). k.file) e)
+
+  -- a group of another node isn't the first of this one
+  not_first : (g : ℕ) (q : views.GroupRow) → group_at s.records g ≡ Some q → q.owner ≢ node → g ≢ first
+  not_first g q is ne e =
+      let found = some_row (kind_at s.records format.groups_file g) (group_in (rec_at s.records format.groups_file g) g) q is in
+      let lt = kind_below (high s.records format.groups_file) (rec_at s.records format.groups_file g) g found.0 in
+      let le = high_most s.records s.shape format.groups_file keeps.others.ranges refl in
+      ne (sym (ap (λ (r : views.GroupRow). r.owner) found.1) ∙ ap (λ k. field 4 (rec_at s.records format.groups_file k) format.group_owner) e ∙ (first_group (λ none. absurd (let z = e ∙ none in omega arith))).owner)
+
+  leaves_now : LeavesOthers s now node
+  leaves_now = record {
+    files = λ key a b c d. stepped.frame.others key a b c d;
+    nodes = λ x n at inside ne. ap (λ r. field n r at) (made.stays (key_in format.nodes_file x)
+        (key_far format.nodes_file x format.meta_file format.groups_file (λ e. omega arith)) (λ e. ne (ap (λ (k : Key). k.id) e))
+        (key_far format.nodes_file x format.groups_file id (λ e. omega arith)) (key_far format.nodes_file x format.groups_file first (λ e. omega arith)));
+    here = λ n at inside one apart. stepped.frame.nodes node n at inside one apart;
+    rels = λ x n at some inside beside. ap (λ r. field n r at) (made.stays (key_in format.relationships_file x)
+        (key_far format.relationships_file x format.meta_file format.groups_file (λ e. omega arith)) (key_far format.relationships_file x format.nodes_file node (λ e. omega arith))
+        (key_far format.relationships_file x format.groups_file id (λ e. omega arith)) (key_far format.relationships_file x format.groups_file first (λ e. omega arith)));
+    groups = λ g q is ne n at inside. number g n at inside (old_group g q is) (λ e. absurd (not_first g q is ne e));
+  }
+
   -- ---- all of it
-  pub made_rules : u.shape ≡ s.shape → KeepsBut now.records now.shape node rest most (id ∷ empty) × HasOpened s now node label id
+  pub made_rules : u.shape ≡ s.shape → KeepsBut now.records now.shape node rest most (id ∷ empty) × HasOpened s now node label id rest
   made_rules shape =
       let keeps_now : KeepsBut now.records s.shape node rest most (id ∷ empty) = record {
         others = others_stay s.records now.records node stepped.frame s.shape most keeps.others stepped.ranges stepped.free stepped.split;
@@ -384,7 +444,10 @@ module _ (s u : State) (node label id : ℕ) (rest : List ℕ) (most : ℕ) (emp
           group = is_new;
           dense = re.dense_same s.records now.records node stepped.frame node dense;
           regroups = regroups_of s now node stepped.frame (shape_is shape) (λ g q e _. group_stays_at g (old_group g q e) ∙ e);
+          leaves = leaves_now;
           rels = rels_stay;
+          exact = exact_now;
+          counted = counted_now;
         },
       )
 
@@ -400,15 +463,15 @@ pub rules_made : (s now u end : State) (node label link id : ℕ) (rec : Rec) (r
     → ((free : List ℕ) → IsFreeList now.records format.groups_file free → HasTaken now.records u.records format.groups_file id free) → kind_at now.records format.groups_file id ≡ 0
     → id < room_of now.shape format.groups_file → u ≡ taken now format.groups_file → link ≡ first_link s.records node → rec ≡ empty_group node label link → end ≡ led u node link id rec → row ≡ empty_row id label
     → node < 2 ^ 32 → label < 2 ^ 32 → (rest : List ℕ) (most : ℕ) (empty : List ℕ) → KeepsBut s.records s.shape node rest most empty → kind_at s.records format.nodes_file node ≡ format.dense → LacksGroup s.records node label
-    → KeepsBut end.records end.shape node rest most (row.id ∷ empty) × HasOpened s end node label row.id
+    → KeepsBut end.records end.shape node rest most (row.id ∷ empty) × HasOpened s end node label row.id rest
 rules_made s now u end node label link id rec row read took fresh small at link_is rec_is is row_is small_node small_label rest most empty keeps dense lacks =
     let same : now.records ≡ s.records = ap (λ (t : State). t.records) read in
     let was = first_link s.records node in
     let end_is : led u node was id (empty_group node label was) ≡ end
     = sym (is ∙ ap (λ f. led u node f id rec) link_is ∙ ap (λ (r : Rec). led u node was id r) (rec_is ∙ ap (empty_group node label) link_is)) in
     let id_is : id ≡ row.id = sym (ap (λ (r : GroupRow). r.id) row_is) in
-    subst (λ g. KeepsBut end.records end.shape node rest most (g ∷ empty) × HasOpened s end node label g) id_is
-    (subst (λ (t : State). KeepsBut t.records t.shape node rest most (id ∷ empty) × HasOpened s t node label id) end_is
+    subst (λ g. KeepsBut end.records end.shape node rest most (g ∷ empty) × HasOpened s end node label g rest) id_is
+    (subst (λ (t : State). KeepsBut t.records t.shape node rest most (id ∷ empty) × HasOpened s t node label id rest) end_is
     (made_rules s u node label id rest most empty keeps dense lacks
     (λ free list. subst (λ (r : Records). HasTaken r u.records format.groups_file id free) same (took free (subst (λ (r : Records). IsFreeList r format.groups_file free) (sym same) list)))
     (ap (λ (r : Records). kind_at r format.groups_file id) (sym same) ∙ fresh) (subst (λ (q : Shape). id < room_of q format.groups_file) (ap (λ (t : State). t.shape) read) small) small_node small_label

@@ -4,7 +4,7 @@ use Rattle.id_freelist.specs.declared.take_fault.TakeFault.{TakeFault}
 use Rattle.id_freelist.specs.declared.take_fault.TakeFault.TheVariants as take
 use Rattle.id_freelist.specs.FreeLists.{IsFreeList}
 use Rattle.id_freelist.specs.Taking.{HasTaken, IsTakeDamage, IsTakeFault, taken, taken_id}
-use Rattle.id_freelist.specs.Taking.IsTakeDamage.{Unranged, Uncounted, Overcounted, InUse, BadNext}
+use Rattle.id_freelist.specs.Taking.IsTakeDamage.{Unranged, Unlisted, Undercounted, Overcounted, InUse, BadNext}
 use Rattle.rec_bytes.specs.declared.damage.Damage.{Damage}
 use Rattle.rec_bytes.specs.declared.key.Key.{Key}
 use Rattle.rec_bytes.specs.declared.record.Rec.{Rec}
@@ -99,10 +99,11 @@ right_first s now n node label first free xs reads is can =
 
 take_read : (s : State) (damage : Damage) → IsTakeDamage (after_get s) format.groups_file damage → IsTakeDamage s format.groups_file damage
 take_read s damage (Unranged h) = Unranged h
-take_read s damage (Uncounted a b) = Uncounted a b
+take_read s damage (Unlisted x a b c) = Unlisted x a b c
+take_read s damage (Undercounted a b c) = Undercounted a b c
 take_read s damage (Overcounted a b) = Overcounted a b
 take_read s damage (InUse a b) = InUse a b
-take_read s damage (BadNext a b c) = BadNext a b c
+take_read s damage (BadNext a b c d) = BadNext a b c d
 
 pub take_told : (s now : State) (node : ℕ) (fault : TakeFault) → now ≡ after_get s → IsTakeFault now format.groups_file fault → IsMakeFault s node (of_take fault)
 take_told s now node fault read told = by fault (subst (λ (t : State). IsTakeFault t format.groups_file fault) read told)

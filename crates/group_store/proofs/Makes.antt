@@ -1,5 +1,5 @@
 -- What a group at the front of a node's chain makes of the chains of groups.
-use Rattle.std.proofs.Common.{◌≡◌, ◌≢◌, ◌⊎◌, ⊎_elim, inl, inr, ℕ, ◌+◌, ◌<◌, ◌≤◌, ◌^◌, List, [], ◌∷◌, Some, refl, sym, ap, ◌∙◌, subst, arith}
+use Rattle.std.proofs.Common.{◌≡◌, ◌≢◌, ◌⊎◌, ⊎_elim, inl, inr, ℕ, true, cond, ◌+◌, ◌<◌, ◌≤◌, ◌^◌, List, [], ◌∷◌, Some, refl, sym, ap, ◌∙◌, subst, arith}
 use Rattle.std.proofs.lemmas.Bool.{cases_lt}
 use Rattle.id_freelist.specs.FreeLists.{IsFreeList}
 use Rattle.id_freelist.specs.Taking.{CanTake, HasTaken, first_of, mark_after, rest_of}
@@ -17,14 +17,14 @@ use Rattle.rec_bytes.proofs.Spaces.{put_other, put_same}
 use Rattle.rec_bytes.proofs.Tables.{field-with_fields}
 use Rattle.store_rules.specs.Chains.{In, IsChain, IsWalk}
 use Rattle.store_rules.specs.Rules.{next_free}
-use Rattle.store_rules.specs.Views.{Records, first_link, high, kind_at, rec_at}
+use Rattle.store_rules.specs.Views.{Records, first_link, high, is_group_kind, kind_at, rec_at}
 use Rattle.store_rules.proofs.ChainLaws.{chain_stays, head_once, walk_of_chain, walk_stays}
-use Rattle.store_rules.proofs.NumberLaws.{nat_cases}
-use Rattle.store_rules.proofs.ViewLaws.{kind_high, kind_low}
+use Rattle.store_rules.proofs.NumberLaws.{eq_true, nat_cases}
+use Rattle.store_rules.proofs.ViewLaws.{group_used, kind_high, kind_low}
 use Rattle.chain_edit.proofs.ChainSteps.{chain_push, first_in, nil_out, on_test}
 use Rattle.chain_edit.proofs.LinkLaws.{field-set_other, field-set_same}
 use Rattle.group_store.specs.GroupChain.{IsGroupChain, IsGroupOf, LacksType, group_field, next_group, previous_group, type_of}
-use Rattle.group_store.specs.GroupRecord.{group_key}
+use Rattle.group_store.specs.GroupRecord.{count_in, group_key, is_counted}
 use Rattle.group_store.specs.Links.{backed}
 use Rattle.group_store.specs.Making.{HasMade, empty_fields, empty_group, empty_row, led}
 use Rattle.group_store.specs.Walking.{group_row_at}
@@ -32,10 +32,10 @@ use Rattle.group_store.specs.Walking.{group_row_at}
 -- ---- the record of an empty group
 
 all_fit : (node label next : ℕ) → node < 2 ^ 32 → label < 2 ^ 32 → next < 2 ^ 32 → AllFit (empty_fields node label next)
-all_fit node label next a b c = (omega arith, (b, (a, (omega arith, (c, (omega arith, (omega arith, (omega arith, tt))))))))
+all_fit node label next a b c = (omega arith, (b, (a, (omega arith, (c, (omega arith, (omega arith, (omega arith, (omega arith, (omega arith, (omega arith, tt)))))))))))
 
-pub kind-empty_group : (node label next : ℕ) → node < 2 ^ 32 → label < 2 ^ 32 → next < 2 ^ 32 → field 1 (empty_group node label next) format.kind ≡ format.grouped
-kind-empty_group node label next a b c = field-with_fields 1 zeros (empty_fields node label next) format.kind format.grouped refl (all_fit node label next a b c) refl
+pub kind-empty_group : (node label next : ℕ) → node < 2 ^ 32 → label < 2 ^ 32 → next < 2 ^ 32 → field 1 (empty_group node label next) format.kind ≡ format.counted
+kind-empty_group node label next a b c = field-with_fields 1 zeros (empty_fields node label next) format.kind format.counted refl (all_fit node label next a b c) refl
 
 pub number-empty_group : (node label next at value : ℕ) → node < 2 ^ 32 → label < 2 ^ 32 → next < 2 ^ 32 → field_at (empty_fields node label next) 4 at ≡ Some value
     → field 4 (empty_group node label next) at ≡ value
@@ -133,7 +133,7 @@ rest_once next from mark id (y ∷ later) is walk i = head_once next y later wal
 
 -- what is not in use is not a group
 pub unused_apart : (records : Records) (m g id : ℕ) → kind_at records format.groups_file id ≡ 0 → IsGroupOf records m g → g ≢ id
-unused_apart records m g id none is e = let k = is.kind in let same : kind_at records format.groups_file g ≡ kind_at records format.groups_file id = ap (kind_at records format.groups_file) e in omega arith
+unused_apart records m g id none is e = group_used (kind_at records format.groups_file g) is.kind (ap (kind_at records format.groups_file) e ∙ none)
 
 module _ (s u : State) (node label id : ℕ) (free xs : List ℕ)
     (chain : IsGroupChain s.records node xs) (lacks : LacksType s.records label xs) (can : CanTake s format.groups_file free)
@@ -196,10 +196,10 @@ module _ (s u : State) (node label id : ℕ) (free xs : List ℕ)
 
   -- groups of each node
   member_now : (m g : ℕ) → g ≢ id → IsGroupOf s.records m g → IsGroupOf now.records m g
-  member_now m g ne is = record { kind = kind_stays g ne ∙ is.kind; owner = number g 4 8 (omega arith) ne (λ _. inl (omega arith)) ∙ is.owner }
+  member_now m g ne is = record { kind = ap is_group_kind (kind_stays g ne) ∙ is.kind; owner = number g 4 8 (omega arith) ne (λ _. inl (omega arith)) ∙ is.owner }
 
   member_was : (m g : ℕ) → g ≢ id → IsGroupOf now.records m g → IsGroupOf s.records m g
-  member_was m g ne is = record { kind = sym (kind_stays g ne) ∙ is.kind; owner = sym (number g 4 8 (omega arith) ne (λ _. inl (omega arith))) ∙ is.owner }
+  member_was m g ne is = record { kind = ap is_group_kind (sym (kind_stays g ne)) ∙ is.kind; owner = sym (number g 4 8 (omega arith) ne (λ _. inl (omega arith))) ∙ is.owner }
 
   owner_here : group_field now.records format.group_owner id ≡ node
   unfolding rec
@@ -208,7 +208,7 @@ module _ (s u : State) (node label id : ℕ) (free xs : List ℕ)
   member_here : IsGroupOf now.records node id
   unfolding rec
   member_here = record {
-    kind = kind_low (high now.records 3) (rec_at now.records 3 id) id id_low ∙ ap (λ r. field 1 r format.kind) here ∙ kind-empty_group node label first small_node small_label small_first;
+    kind = ap is_group_kind (kind_low (high now.records 3) (rec_at now.records 3 id) id id_low ∙ ap (λ r. field 1 r format.kind) here ∙ kind-empty_group node label first small_node small_label small_first);
     owner = owner_here;
   }
 
@@ -279,6 +279,13 @@ module _ (s u : State) (node label id : ℕ) (free xs : List ℕ)
       (λ x i. group_stays u node first id rec x 4 4 (omega arith) (λ e. rest_once (next_free s.records 3) (meta_in s.records 3).free (high s.records 3) id free taken.is can.list (subst (λ z. In z (rest_of free)) e i)) (λ _. inl (omega arith)))
       taken.list)
 
+  counted : is_counted (rec_at now.records 3 id) ≡ true
+  unfolding rec
+  counted = eq_true _ _ (ap (λ r. field 1 r format.kind) here ∙ kind-empty_group node label first small_node small_label small_first)
+
+  count_is : (at : ℕ) → count_in (rec_at now.records 3 id) at ≡ field 4 (rec_at now.records 3 id) at
+  count_is at = ap (λ b. cond b (field 4 (rec_at now.records 3 id) at) 0) counted
+
   row_here : group_row_at now.records id ≡ empty_row id label
   unfolding rec
   row_here =
@@ -290,6 +297,10 @@ module _ (s u : State) (node label id : ℕ) (free xs : List ℕ)
         first_out = value format.group_first_out format.nil refl i;
         first_in = value format.group_first_in format.nil refl i;
         first_loop = value format.group_first_loop format.nil refl i;
+        counted = counted i;
+        out_count = (count_is format.group_out_count ∙ value format.group_out_count 0 refl) i;
+        in_count = (count_is format.group_in_count ∙ value format.group_in_count 0 refl) i;
+        loop_count = (count_is format.group_loop_count ∙ value format.group_loop_count 0 refl) i;
       }
 
   pub has_made : HasMade s.records (led u node (first_link s.records node) id (empty_group node label (first_link s.records node))).records node label (empty_row id label) free xs

@@ -8,11 +8,14 @@ use Rattle.rec_bytes.specs.Meta as metas
 use Rattle.rec_bytes.specs.Record.{field, with_field}
 use Rattle.rec_bytes.specs.RecordFiles.{meta_key_of}
 use Rattle.rec_bytes.specs.Space.{State, after_get, put}
+use Rattle.rec_bytes.proofs.Numbers.{field-with_field_other}
+use Rattle.rec_bytes.proofs.Spaces.{put_other, put_same}
+use Rattle.rel_store.specs.RelRecord.{rel_key}
 use Rattle.store_rules.specs.Chains.{In, IsChain, IsWalk, place_of}
 use Rattle.store_rules.specs.Ends.{Regroups}
 use Rattle.store_rules.specs.Rules.{AllListed, GroupHead, Head, IsEnd, IsGrouped, IsInGroup, IsListed, IsOn, Owns, first_of, is_filled}
 use Rattle.store_rules.specs.Views as views
-use Rattle.store_rules.specs.Views.{Records, RelRow, first_link, group_at, group_in, high, key_in, kind_at, kind_in, rec_at, rel_at, rel_in, row_if}
+use Rattle.store_rules.specs.Views.{Records, RelRow, first_link, group_at, group_in, high, is_group_kind, key_in, kind_at, kind_in, rec_at, rel_at, rel_in, row_if}
 use Rattle.store_rules.proofs.ChainLaws.{chain_stays, walk_of_chain, walk_stays}
 use Rattle.store_rules.proofs.GroupLaws.{IsFirstPlace, chain_filled, same_group}
 use Rattle.store_rules.proofs.LinkFits.{IsLink, IsLow}
@@ -37,11 +40,17 @@ use Rattle.group_store.specs.GroupRecord.{group_key}
 use Rattle.group_store.specs.Moving.{HasCome}
 use Rattle.group_store.specs.Sides as sides
 use Rattle.group_store.specs.Sides.{group_head, side_at}
-use Rattle.group_store.specs.Spreading.{IsHeadOf, IsLinkedBut, IsSpread, KeepsBut, StandsBut}
+use Rattle.group_store.specs.Leaving.{IsBesideLinks, LeavesOthers}
+use Rattle.group_store.proofs.Leaves.{leaves_both, leaves_put}
+use Rattle.group_store.specs.Spreading.{AreExactBut, HasCountedGroups, IsHeadOf, IsLinkedBut, IsSpread, KeepsBut, StandsBut}
 use Rattle.group_store.proofs.GroupRules.{group_of_row, row_of_group}
 use Rattle.group_store.proofs.GroupSteps.{HasStepped, step_chain, step_link}
 use Rattle.group_store.proofs.Regrouping as re
-use Rattle.group_store.proofs.Regrouping.{frame_none, others_stay, regroups_of}
+use Rattle.group_store.proofs.Regrouping.{frame_none, others_stay, regroups_both, regroups_of}
+use Rattle.store_rules.proofs.CountLaws.{IsSide}
+use Rattle.group_store.specs.Counting.{one_more, tallied}
+use Rattle.group_store.proofs.CountedRels.{counted_stays, exact_stays}
+use Rattle.group_store.proofs.ExactGroups as ex
 
 -- ---- the head where a relationship at the node stands in a group of its type
 
@@ -50,22 +59,21 @@ side_place Out = inl refl
 side_place Into = inr (inl refl)
 side_place Loop = inr (inr refl)
 
+pub at_side : (g node label : ℕ) (row : RelRow) → IsEnd node row → IsSide (sides.place_of (side_at node row.from row.to)) (record { id = g; label = label; owner = node }) row
+at_side g node label row end = on_test (λ (side : Side). IsSide (sides.place_of side) (record { id = g; label = label; owner = node }) row) row.from row.to Loop (cond (nat_eq row.from node) Out Into)
+    (λ (same : row.from ≡ row.to). inr (inr (refl, ⊎_elim (λ e. e) (λ e. same ∙ e) end, ⊎_elim (λ e. sym same ∙ e) (λ e. e) end)))
+    (λ (ne : row.from ≢ row.to). on_test (λ (side : Side). IsSide (sides.place_of side) (record { id = g; label = label; owner = node }) row) row.from node Out Into
+    (λ (e : row.from ≡ node). inl (refl, e, λ k. ne (e ∙ sym k)))
+    (λ (a : row.from ≢ node). inr (inl (refl, a, ⊎_elim (λ e. absurd (a e)) (λ e. e) end))))
+
 in_group : (groups : ℕ → Option views.GroupRow) (g node label : ℕ) (row : RelRow) → groups g ≡ Some (record { id = g; label = label; owner = node }) → row.label ≡ label → IsEnd node row
     → IsInGroup groups (group_head g (side_at node row.from row.to)) row
 in_group groups g node label row group typed end = record {
   row = record { id = g; label = label; owner = node };
   group = group;
   label = typed;
-  side = on_test (λ (side : Side). IsSide (sides.place_of side)) row.from row.to Loop (cond (nat_eq row.from node) Out Into)
-      (λ (same : row.from ≡ row.to). inr (inr (refl, ⊎_elim (λ e. e) (λ e. same ∙ e) end, ⊎_elim (λ e. sym same ∙ e) (λ e. e) end)))
-      (λ (ne : row.from ≢ row.to). on_test (λ (side : Side). IsSide (sides.place_of side)) row.from node Out Into
-      (λ (e : row.from ≡ node). inl (refl, e, λ k. ne (e ∙ sym k)))
-      (λ (a : row.from ≢ node). inr (inl (refl, a, ⊎_elim (λ e. absurd (a e)) (λ e. e) end))));
+  side = at_side g node label row end;
 }
-  where
-    IsSide : ℕ → Type 0
-    IsSide at = ((at ≡ format.group_first_out) × (row.from ≡ node) × (row.to ≢ node))
-        ⊎ (((at ≡ format.group_first_in) × (row.from ≢ node) × (row.to ≡ node)) ⊎ ((at ≡ format.group_first_loop) × (row.from ≡ node) × (row.to ≡ node)))
 
 first_low : (at : ℕ) → IsFirstPlace at → 20 ≤ at
 first_low at place = ⊎_elim (λ (e : at ≡ 20). omega arith) (λ k. ⊎_elim (λ (e : at ≡ 24). omega arith) (λ (e : at ≡ 28). omega arith) k) place
@@ -85,7 +93,7 @@ back_stepped s m shape node first to h kind low =
     on_test (λ (q : State). HasStepped s q.records shape node × (high q.records format.relationships_file ≡ high m.records format.relationships_file)) first format.nil m (prev_set m node first to)
     (λ _. (h, refl)) (λ some. (step_link s m.records shape node h first (place_of (rec_at m.records format.relationships_file first) node) to (place_link (rec_at m.records format.relationships_file first) node) (kind some) low, refl))
 
-pushed_stepped : (s : Records) (m : State) (shape : Shape) (node rel g at : ℕ) → HasStepped s m.records shape node → IsFirstPlace at → kind_at m.records format.groups_file g ≡ format.grouped
+pushed_stepped : (s : Records) (m : State) (shape : Shape) (node rel g at : ℕ) → HasStepped s m.records shape node → IsFirstPlace at → is_group_kind (kind_at m.records format.groups_file g) ≡ true
     → kind_at m.records format.relationships_file rel ≡ format.related → (field 4 (rec_at m.records format.groups_file g) at ≢ format.nil → kind_at m.records format.relationships_file (field 4 (rec_at m.records format.groups_file g) at) ≡ format.related)
     → HasStepped s (pushed m (record { key = group_key g; field = at }) node rel).records shape node
 unfolding pushed
@@ -104,7 +112,7 @@ pushed_stepped s m shape node rel g at h place grouped related first_kind =
     = λ k. elsewhere-set_next b.records node rel first (group_key k) (λ e. omega arith) ∙ elsewhere-backed a node first rel (group_key k) (λ e. omega arith) in
     let meta_same : high c.records format.groups_file ≡ high m.records format.groups_file
     = ap (λ r. (metas.meta_of r).high) (elsewhere-set_next b.records node rel first (meta_key_of format.groups_file) (λ e. omega arith) ∙ elsewhere-backed a node first rel (meta_key_of format.groups_file) (λ e. omega arith)) in
-    let group_is : kind_at c.records format.groups_file g ≡ format.grouped = ap (λ q. kind_in q (rec_at c.records format.groups_file g) g) meta_same ∙ ap (λ r. kind_in (high m.records format.groups_file) r g) (group_same g) ∙ grouped in
+    let group_is : is_group_kind (kind_at c.records format.groups_file g) ≡ true = ap is_group_kind (ap (λ q. kind_in q (rec_at c.records format.groups_file g) g) meta_same ∙ ap (λ r. kind_in (high m.records format.groups_file) r g) (group_same g)) ∙ grouped in
     let rel_low : IsLow (high c.records format.relationships_file) rel = inr (let lt = below rel related in let e = back.1 in omega arith) in
     subst (λ (r : Rec). HasStepped s (put c.records (group_key g) (with_field 4 r at rel)) shape node) (group_same g)
     (step_chain s c.records shape node next g at rel place group_is rel_low)
@@ -118,6 +126,10 @@ pushed_shape m h node rel = on_test (λ (q : State). q.shape ≡ m.shape) (first
 -- after a relationship has none before it in the chain of the node, and is put at the head
 abbrev pub joined : State → Head → ℕ → ℕ → State
 joined s head node rel = pushed (prev_set s node rel format.nil) head node rel
+
+-- and after it is counted there
+abbrev pub counted_joined : State → Head → ℕ → ℕ → State
+counted_joined s head node rel = tallied one_more (joined s head node rel) head
 
 module _ (s : State) (node rel g : ℕ) (row : RelRow) (rest : List ℕ) (most : ℕ) (empty : List ℕ) (keeps : KeepsBut s.records s.shape node (rel ∷ rest) most (g ∷ empty)) (dense : kind_at s.records format.nodes_file node ≡ format.dense)
     (live : rel_at s.records rel ≡ Some row) (end : IsEnd node row) (group : group_at s.records g ≡ Some (record { id = g; label = row.label; owner = node })) (out : ¬ In rel rest)
@@ -309,7 +321,7 @@ module _ (s : State) (node rel g : ℕ) (row : RelRow) (rest : List ℕ) (most :
       one : HasStepped s.records t.records s.shape node
       one = step_link s.records s.records s.shape node base rel (place_of (rec_at s.records format.relationships_file rel) node) format.nil (place_link (rec_at s.records format.relationships_file rel) node) (related rel row live) (inl refl)
 
-      grouped_is : kind_at t.records format.groups_file g ≡ format.grouped
+      grouped_is : is_group_kind (kind_at t.records format.groups_file g) ≡ true
       grouped_is = (group_of_row s.records s.shape node g (record { id = g; label = row.label; owner = node }) keeps.others.ranges group refl).kind
 
       first_related : first_of t.records head ≢ format.nil → kind_at t.records format.relationships_file (first_of t.records head) ≡ format.related
@@ -339,9 +351,8 @@ module _ (s : State) (node rel g : ℕ) (row : RelRow) (rest : List ℕ) (most :
   groups_same : group_at now.records ≡ groups
   groups_same = λ i x. group_stays x i
 
-  -- the node has no more groups
-  pub groups_joined : (x : ℕ) → IsGroupOf now.records node x → IsGroupOf s.records node x
-  groups_joined x is = group_of_row s.records s.shape node x (group_in (rec_at now.records format.groups_file x) x) keeps.others.ranges (sym (group_stays x) ∙ row_of_group now.records node x is) is.owner
+  groups_here : (x : ℕ) → IsGroupOf now.records node x → IsGroupOf s.records node x
+  groups_here x is = group_of_row s.records s.shape node x (group_in (rec_at now.records format.groups_file x) x) keeps.others.ranges (sym (group_stays x) ∙ row_of_group now.records node x is) is.owner
 
   kinds_same : kind_at now.records format.nodes_file ≡ kind
   kinds_same = λ i x. each x i
@@ -406,17 +417,123 @@ module _ (s : State) (node rel g : ℕ) (row : RelRow) (rest : List ℕ) (most :
         (subst (λ (q : ℕ → Option views.GroupRow). IsGrouped kind (first_link now.records) (rec_at now.records format.groups_file) q empty) (sym groups_same) grouped_now);
   }
 
-  pub regroups_joined : Regroups s now node
-  regroups_joined = regroups_of s now node stepped.frame joined_shape (λ q row is ne. group_stays q ∙ is)
+  regroups_now : Regroups s now node
+  regroups_now = regroups_of s now node stepped.frame joined_shape (λ q row is ne. group_stays q ∙ is)
     where
       joined_shape : now.shape ≡ s.shape
       joined_shape = pushed_shape t head node rel
 
-  -- the others are left
-  pub spread_joined : (next : ℕ) → IsWalk (next_of s.records node) next rest → IsSpread now node next rest most empty
-  spread_joined next walk = record {
-    keeps = subst (λ (q : Shape). KeepsBut now.records q node rest most empty) (sym (pushed_shape t head node rel)) keeps_joined;
-    dense = re.dense_same s.records now.records node stepped.frame node dense;
-    walk = walk_stays (next_of s.records node) (next_of now.records node) next rest link_stays walk;
-    ends = λ x i. let l = left x i in (l.0, re.rel_same s.records now.records node stepped.frame x ∙ l.1, l.2);
+  -- what is left of other records
+  leaves_now : LeavesOthers s now node
+  leaves_now = record {
+    files = λ key a b c d. stepped.frame.others key a b c d;
+    nodes = λ x n at inside ne. node_stays x n at inside;
+    here = λ n at inside one apart. node_stays node n at inside;
+    rels = rel_stays;
+    groups = λ x q is ne n at inside. number x n at inside (λ e. absurd (ne (ap (λ (z : views.GroupRow). z.owner) (same_group q (record { id = g; label = row.label; owner = node }) (sym is ∙ ap groups e ∙ group)))));
   }
+    where
+      node_stays : (x n at : ℕ) → at + n ≤ 64 → field n (rec_at now.records format.nodes_file x) at ≡ field n (rec_at s.records format.nodes_file x) at
+      node_stays x n at inside = pushes.only.same (key_in format.nodes_file x) n at inside
+          ((λ e. let f = ap (λ (k : Key). k.file) e in absurd (omega arith)), ((λ e. let f = ap (λ (k : Key). k.file) e in absurd (omega arith)), ((λ e. let f = ap (λ (k : Key). k.file) e in absurd (omega arith)), tt)))
+          ∙ ap (λ r. field n r at) (elsewhere-set_prev s.records node rel format.nil (key_in format.nodes_file x) (λ e. omega arith))
+
+      -- the bytes of a relationship at the node that stand beside its links
+      at_place : (x n at : ℕ) (q : RelRow) → rels x ≡ Some q → IsEnd node q → IsBesideLinks (rec_at s.records format.relationships_file x) node n at
+          → (at + n ≤ place_of (rec_at s.records format.relationships_file x) node) ⊎ (place_of (rec_at s.records format.relationships_file x) node + 8 ≤ at)
+      at_place x n at q is there beside = beside (end_in s.records x node q is there)
+
+      -- and after the first link was set
+      place_is : (x : ℕ) → place_of (rec_at t.records format.relationships_file x) node ≡ place_of (rec_at s.records format.relationships_file x) node
+      place_is x = place-set_prev s.records node rel format.nil node x
+
+      first_apart : (x n at : ℕ) → x ≢ format.nil → IsBesideLinks (rec_at s.records format.relationships_file x) node n at → x ≡ first_of t.records head
+          → (at + n ≤ place_of (rec_at t.records format.relationships_file (first_of t.records head)) node) ⊎ (place_of (rec_at t.records format.relationships_file (first_of t.records head)) node + 4 ≤ at)
+      first_apart x n at some beside e = ⊎_elim (λ none. absurd (some (e ∙ none)))
+          (λ (k : HasCome s.records node (rel ∷ rest) (first_of t.records head)).
+          let first = first_of t.records head in
+          let a = at_place first n at k.row k.live k.end (subst (λ z. IsBesideLinks (rec_at s.records format.relationships_file z) node n at) e beside) in
+          subst (λ p. (at + n ≤ p) ⊎ (p + 4 ≤ at)) (sym (place_is first)) (⊎_elim (λ l. inl l) (λ (l : place_of (rec_at s.records format.relationships_file first) node + 8 ≤ at). inr (omega arith)) a)) first_end
+
+      rel_apart : (n at : ℕ) → IsBesideLinks (rec_at s.records format.relationships_file rel) node n at
+          → (at + n ≤ place_of (rec_at t.records format.relationships_file rel) node + 4) ⊎ ((place_of (rec_at t.records format.relationships_file rel) node + 4) + 4 ≤ at)
+      rel_apart n at beside =
+          subst (λ p. (at + n ≤ p + 4) ⊎ ((p + 4) + 4 ≤ at)) (sym (place_is rel))
+          (⊎_elim (λ (l : at + n ≤ place_of (rec_at s.records format.relationships_file rel) node). inl (omega arith)) (λ (l : place_of (rec_at s.records format.relationships_file rel) node + 8 ≤ at). inr (omega arith)) (at_place rel n at row live end beside))
+
+      freed_stays : (x n at : ℕ) → at + n ≤ 64 → IsBesideLinks (rec_at s.records format.relationships_file x) node n at → field n (rec_at t.records format.relationships_file x) at ≡ field n (rec_at s.records format.relationships_file x) at
+      freed_stays x n at inside beside =
+          let place = place_of (rec_at s.records format.relationships_file rel) node in
+          let freed : Rec = with_field 4 (rec_at s.records format.relationships_file rel) place format.nil in
+          ⊎_elim
+          (λ (e : x ≡ rel). subst (λ z. field n (rec_at t.records format.relationships_file z) at ≡ field n (rec_at s.records format.relationships_file z) at) (sym e)
+          (ap (λ r. field n r at) (put_same s.records (rel_key rel) freed)
+          ∙ field-with_field_other 4 (rec_at s.records format.relationships_file rel) place format.nil n at inside
+          (⊎_elim (λ (l : at + n ≤ place). inr l) (λ (l : place + 8 ≤ at). inl (omega arith)) (at_place rel n at row live end (subst (λ z. IsBesideLinks (rec_at s.records format.relationships_file z) node n at) e beside)))))
+          (λ (ne : x ≢ rel). ap (λ r. field n r at) (put_other s.records (rel_key rel) freed (key_in format.relationships_file x) (λ e. ne (ap (λ (k : Key). k.id) e)))) (nat_cases x rel)
+
+      rel_stays : (x n at : ℕ) → x ≢ format.nil → at + n ≤ 64 → IsBesideLinks (rec_at s.records format.relationships_file x) node n at → field n (rec_at now.records format.relationships_file x) at ≡ field n (rec_at s.records format.relationships_file x) at
+      rel_stays x n at some inside beside = pushes.only.same (key_in format.relationships_file x) n at inside (
+        (λ e. first_apart x n at some beside (ap (λ (k : Key). k.id) e)),
+        (
+          (λ e. rel_apart n at (subst (λ z. IsBesideLinks (rec_at s.records format.relationships_file z) node n at) (ap (λ (k : Key). k.id) e) beside)),
+          ((λ e. let f = ap (λ (k : Key). k.file) e in absurd (omega arith)), tt),
+        ),
+      )
+          ∙ freed_stays x n at inside beside
+
+  keeps_here : KeepsBut now.records now.shape node rest most empty
+  keeps_here = subst (λ (q : Shape). KeepsBut now.records q node rest most empty) (sym (pushed_shape t head node rel)) keeps_joined
+
+  dense_here : kind_at now.records format.nodes_file node ≡ format.dense
+  dense_here = re.dense_same s.records now.records node stepped.frame node dense
+
+  live_here : rel_at now.records rel ≡ Some row
+  live_here = re.rel_same s.records now.records node stepped.frame rel ∙ live
+
+  group_here : group_at now.records g ≡ Some (record { id = g; label = row.label; owner = node })
+  group_here = group_stays g ∙ group
+
+  -- ---- it is counted
+  module _ (exact : AreExactBut s.records node (rel ∷ rest)) (counted : HasCountedGroups s.records node) where
+    exact_here : AreExactBut now.records node (rel ∷ rest)
+    exact_here = exact_stays s.records now.records node (rel ∷ rest) kind_stays group_stays
+        (λ x at within. number x 4 at (let b = within.1 in omega arith) (λ _. inr (let b = within.0 in let c = place_high in omega arith)))
+        (re.rels_same s.records now.records node stepped.frame) (re.mark_same s.records now.records node stepped.frame format.relationships_file (λ e. omega arith)) exact
+      where
+        place_high : sides.place_of side + 4 ≤ 32
+        place_high = ⊎_elim (λ (e : sides.place_of side ≡ 20). omega arith) (λ k. ⊎_elim (λ (e : sides.place_of side ≡ 24). omega arith) (λ (e : sides.place_of side ≡ 28). omega arith) k) (side_place side)
+
+    counted_here : HasCountedGroups now.records node
+    counted_here = counted_stays s.records now.records node kind_stays group_stays counted
+
+    abbrev end_state : State
+    end_state = counted_joined s head node rel
+
+    side_here : IsSide (sides.place_of side) (record { id = g; label = row.label; owner = node }) row
+    side_here = at_side g node row.label row end
+
+    put_is : (z : ℕ) × (end_state.records ≡ put now.records (group_key g) (with_field 4 (rec_at now.records format.groups_file g) (sides.place_of side + 12) z))
+    put_is = ex.tally_put now node rel g (sides.place_of side) row rest most empty keeps_here dense_here live_here group_here out side_here exact_here counted_here
+
+    -- the node has no more groups
+    pub groups_joined : (x : ℕ) → IsGroupOf end_state.records node x → IsGroupOf s.records node x
+    groups_joined x is = groups_here x (ex.tally_groups now node rel g (sides.place_of side) row rest most empty keeps_here dense_here live_here group_here out side_here exact_here counted_here x is)
+
+    pub regroups_joined : Regroups s end_state node
+    regroups_joined = regroups_both s now end_state node regroups_now (ex.tally_regroups now node rel g (sides.place_of side) row rest most empty keeps_here dense_here live_here group_here out side_here exact_here counted_here)
+
+    pub leaves_joined : LeavesOthers s end_state node
+    leaves_joined = leaves_both s now end_state node regroups_now leaves_now
+        (leaves_put now end_state node g (with_field 4 (rec_at now.records format.groups_file g) (sides.place_of side + 12) put_is.0) (record { id = g; label = row.label; owner = node }) group_here refl put_is.1)
+
+    -- the others are left
+    pub spread_joined : (next : ℕ) → IsWalk (next_of s.records node) next rest → IsSpread end_state node next rest most empty
+    spread_joined next walk = record {
+      keeps = ex.tally_keeps now node rel g (sides.place_of side) row rest most empty keeps_here dense_here live_here group_here out side_here exact_here counted_here;
+      dense = ap (λ (r : Records). kind_at r format.nodes_file node) put_is.1 ∙ dense_here;
+      walk = subst (λ (r : Records). IsWalk (next_of r node) next rest) (sym put_is.1) (walk_stays (next_of s.records node) (next_of now.records node) next rest link_stays walk);
+      ends = λ x i. let l = left x i in (l.0, ap (λ (r : Records). rel_at r x) put_is.1 ∙ re.rel_same s.records now.records node stepped.frame x ∙ l.1, l.2);
+      exact = ex.tally_exact now node rel g (sides.place_of side) row rest most empty keeps_here dense_here live_here group_here out side_here exact_here counted_here;
+      counted = ex.tally_counted now node rel g (sides.place_of side) row rest most empty keeps_here dense_here live_here group_here out side_here exact_here counted_here;
+    }

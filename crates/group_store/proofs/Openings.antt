@@ -30,6 +30,7 @@ may_be s shape most few many more well = record {
     owned = well.grouped.owned;
     each = λ n d. let h = well.grouped.each n d in record { members = h.members; chain = h.chain; only = h.only; filled = λ g i. ⊎_elim (λ k. inl k) (λ k. inr (more g k)) (h.filled g i); all = h.all; once = h.once };
   };
+  exact = well.exact;
   properties = well.properties;
   named = well.named;
   names = well.names;
@@ -54,6 +55,7 @@ is_not s shape most g empty filled well = record {
       once = h.once;
     };
   };
+  exact = well.exact;
   properties = well.properties;
   named = well.named;
   names = well.names;

@@ -1,29 +1,34 @@
 -- The head that a new relationship comes to: what opening it leaves of the store.
-use Rattle.std.proofs.Common.{◌≡◌, ◌≢◌, ℕ, ◌+◌, ◌*◌, ◌<◌, List, [], ◌∷◌, length, refl, sym, ap, ◌∙◌, subst, arith}
+use Rattle.std.proofs.Common.{◌≡◌, ◌≢◌, ℕ, ◌+◌, ◌*◌, ◌<◌, Option, List, [], ◌∷◌, length, refl, sym, ap, ◌∙◌, subst, arith}
 use Rattle.rec_bytes.specs.declared.key.Key.{Key}
 use Rattle.rec_bytes.specs.declared.meta.Meta.{Meta}
 use Rattle.rec_bytes.specs.declared.shape.Shape.{Shape}
 use Rattle.rec_bytes.specs.Format as format
 use Rattle.rec_bytes.specs.RecordFiles.{room_of}
 use Rattle.rec_bytes.specs.Space.{SameButReads, State, meta_of}
-use Rattle.store_rules.specs.Ends.{Regroups}
-use Rattle.store_rules.specs.Rules.{Head, KeepsRules, node_head}
-use Rattle.store_rules.specs.Views.{GroupRow, Records, RelRow, group_at, group_in, kind_at, rec_at, rel_at}
+use Rattle.store_rules.specs.Ends.{IsEndHead, Regroups}
+use Rattle.store_rules.specs.Rules.{AreExact, Head, IsOn, KeepsRules, Owns, node_head}
+use Rattle.store_rules.specs.Views.{GroupRow, Records, RelRow, group_at, group_in, high, kind_at, rec_at, rel_at}
 use Rattle.store_rules.specs.Writes.{WritesBeside}
 use Rattle.store_rules.proofs.NumberLaws.{eq_true}
 use Rattle.store_rules.proofs.ViewLaws.{some_row}
 use Rattle.store_rules.proofs.WriteLaws.{beside_more, beside_then, none_beside}
+use Rattle.group_store.specs.declared.group_row.GroupRow.{GroupRow as Row}
 use Rattle.group_store.specs.declared.side.Side.{Side}
 use Rattle.group_store.specs.Densing.{BecomesDense, CanBecomeDense, HasDenseRoom}
 use Rattle.node_store.specs.NodeRecord.{node_key}
 use Rattle.group_store.specs.GroupChain.{IsDense, IsGroupOf}
 use Rattle.group_store.specs.Opening.{CanOpen, CanOpenGroup, HasGroupRoom, OpensChain, WritesOpened, moved_writes}
+use Rattle.group_store.specs.Raising.{CanRaise, HasRaised}
 use Rattle.group_store.specs.Sides.{group_head}
 use Rattle.group_store.specs.Spreading.{HasOpened, KeepsBut, StandsBut}
+use Rattle.group_store.specs.Walking.{group_row_at}
 use Rattle.group_store.proofs.ChainHeads.{at_group, at_node, sparse_unless}
+use Rattle.group_store.proofs.CountedRels.{all_exact, exact_all}
 use Rattle.group_store.proofs.GroupCounts.{few_groups}
 use Rattle.group_store.proofs.GroupRules.{group_of_row}
 use Rattle.group_store.proofs.GroupWrites.{opened_more, opened_then}
+use Rattle.group_store.proofs.Leaves.{group_kinds, leaves_both, leaves_read}
 use Rattle.group_store.proofs.Regrouping.{regroups_both, regroups_read}
 
 -- ---- no relationship is apart
@@ -41,8 +46,8 @@ all_but s shape node most empty well = record {
   grouped = well.grouped;
 }
 
-pub but_all : (s : Records) (shape : Shape) (node most : ℕ) (empty : List ℕ) → KeepsBut s shape node [] most empty → KeepsRules s shape most empty
-but_all s shape node most empty well = record {
+pub but_all : (s : Records) (shape : Shape) (node most : ℕ) (empty : List ℕ) → KeepsBut s shape node [] most empty → AreExact (kind_at s format.groups_file) (rec_at s format.groups_file) (group_at s) (rel_at s) (high s format.relationships_file) → KeepsRules s shape most empty
+but_all s shape node most empty well exact = record {
   ranges = well.others.ranges;
   split = well.others.split;
   kept = well.others.kept;
@@ -54,6 +59,7 @@ but_all s shape node most empty well = record {
     };
   };
   grouped = well.grouped;
+  exact = exact;
   properties = well.others.properties;
   named = well.others.named;
   names = well.others.names;
@@ -64,28 +70,45 @@ but_all s shape node most empty well = record {
 pub not_full : (s : State) (node most : ℕ) (empty : List ℕ) → KeepsRules s.records s.shape most empty → HasGroupRoom s empty → (meta_of s format.groups_file).live ≢ room_of s.shape format.groups_file
 not_full s node most empty well room e = let f = few_groups s.records s.shape node [] most empty (all_but s.records s.shape node most empty well) in omega (arith, room, f, e)
 
--- ---- a group that was opened
+-- ---- a group that was opened, and has counts
 
-module _ (s t : State) (node label g : ℕ) (side : Side) (row : RelRow) (empty : List ℕ) (can : CanOpenGroup s node label side row empty)
-    (keeps : KeepsBut t.records t.shape node [] s.shape.threshold (g ∷ empty)) (opened : HasOpened s t node label g) where
-  well : KeepsRules t.records t.shape s.shape.threshold (g ∷ empty)
-  well = but_all t.records t.shape node s.shape.threshold (g ∷ empty) keeps
+-- a head stays where the nodes and the groups do
+pub head_after : (s t : Records) (h : Head) (n : ℕ) (row : RelRow) → ((m : ℕ) → kind_at t format.nodes_file m ≡ kind_at s format.nodes_file m) → ((k : ℕ) → group_at t k ≡ group_at s k) → IsEndHead s h n row → IsEndHead t h n row
+head_after s t h n row kinds groups end =
+    let kind : kind_at t format.nodes_file ≡ kind_at s format.nodes_file = λ i m. kinds m i in
+    let group : group_at t ≡ group_at s = λ i k. groups k i in
+    record {
+      owns = subst (λ (v : ℕ → ℕ). Owns v (group_at t) h n) (sym kind) (subst (λ (v : ℕ → Option GroupRow). Owns (kind_at s format.nodes_file) v h n) (sym group) end.owns);
+      on = subst (λ (v : ℕ → Option GroupRow). IsOn v h row) (sym group) end.on;
+    }
 
-  row_is : group_in (rec_at t.records format.groups_file g) g ≡ record { id = g; label = label; owner = node }
-  row_is = (some_row (kind_at t.records format.groups_file g) (group_in (rec_at t.records format.groups_file g) g) (record { id = g; label = label; owner = node }) opened.group).1
+module _ (s m : State) (node label : ℕ) (own : Row) (side : Side) (row : RelRow) (empty : List ℕ) (can : CanOpenGroup s node label side row empty)
+    (keeps : KeepsBut m.records m.shape node [] s.shape.threshold (own.id ∷ empty)) (opened : HasOpened s m node label own.id []) where
+  well : KeepsRules m.records m.shape s.shape.threshold (own.id ∷ empty)
+  well = but_all m.records m.shape node s.shape.threshold (own.id ∷ empty) keeps (exact_all m.records node (opened.exact (all_exact s.records node can.keeps.exact)))
 
-  member : IsGroupOf t.records node g
-  member = group_of_row t.records t.shape node g (record { id = g; label = label; owner = node }) well.ranges opened.group refl
+  row_is : group_in (rec_at m.records format.groups_file own.id) own.id ≡ record { id = own.id; label = label; owner = node }
+  row_is = (some_row (kind_at m.records format.groups_file own.id) (group_in (rec_at m.records format.groups_file own.id) own.id) (record { id = own.id; label = label; owner = node }) opened.group).1
 
-  dense_now : kind_at t.records format.nodes_file node ≡ format.dense
-  dense_now = well.grouped.owned g (record { id = g; label = label; owner = node }) opened.group
+  member : IsGroupOf m.records node own.id
+  member = group_of_row m.records m.shape node own.id (record { id = own.id; label = label; owner = node }) well.ranges opened.group refl
 
-  pub opens_group : OpensChain s t (group_head g side) node row empty
-  opens_group = record {
-    keeps = subst (λ (q : Shape). KeepsRules t.records t.shape q.threshold (g ∷ empty)) (sym opened.regroups.shape) well;
-    stands = at_group t.records t.shape well node g label side row member (ap (λ (r : GroupRow). r.label) row_is) can.at;
-    few = λ sparse. let k = sym dense_now ∙ sparse in absurd (omega arith);
-    regroups = opened.regroups;
+  dense_now : kind_at m.records format.nodes_file node ≡ format.dense
+  dense_now = well.grouped.owned own.id (record { id = own.id; label = label; owner = node }) opened.group
+
+  -- so it can be counted
+  pub can_raise : own ≡ group_row_at m.records own.id → CanRaise m node own s.shape.threshold (own.id ∷ empty)
+  can_raise is = record { keeps = well; group = record { dense = dense_now; member = member; is = is } }
+
+  pub opens_group : (t : State) → HasRaised m t node own.id s.shape.threshold (own.id ∷ empty) → OpensChain s t (group_head own.id side) node row empty
+  opens_group t raised = record {
+    keeps = subst (λ (q : Shape). KeepsRules t.records t.shape q.threshold (own.id ∷ empty)) (sym (raised.regroups.shape ∙ opened.regroups.shape)) raised.keeps;
+    stands = head_after m.records t.records (group_head own.id side) node row raised.kinds raised.groups (at_group m.records m.shape well node own.id label side row member (ap (λ (r : GroupRow). r.label) row_is) can.at);
+    counted = λ is. raised.counted;
+    few = λ sparse. let k = sym (raised.kinds node ∙ dense_now) ∙ sparse in absurd (omega arith);
+    group_kinds = group_kinds s t node (regroups_both s m t node opened.regroups raised.regroups) (leaves_both s m t node opened.regroups opened.leaves raised.leaves);
+    regroups = regroups_both s m t node opened.regroups raised.regroups;
+    leaves = leaves_both s m t node opened.regroups opened.leaves raised.leaves;
   }
 
 -- ---- a node whose head is opened
@@ -98,7 +121,11 @@ module _ (s z : State) (same : SameButReads s z) (node degree_is threshold label
   room_same room = subst (λ (q : State). HasGroupRoom q empty) (sym same) room
 
   pub then_opens : (t : State) (h : Head) → OpensChain z t h node row empty → OpensChain s t h node row empty
-  then_opens t h o = record { keeps = o.keeps; stands = o.stands; few = o.few; regroups = regroups_both s z t node (subst (λ (q : State). Regroups s q node) (sym same) (regroups_read s z.reads node)) o.regroups }
+  then_opens t h o =
+      let to_z : Regroups s z node = subst (λ (q : State). Regroups s q node) (sym same) (regroups_read s z.reads node) in
+      let regroups = regroups_both s z t node to_z o.regroups in
+      let leaves = leaves_both s z t node to_z (leaves_read s z node same) o.leaves in
+      record { keeps = o.keeps; stands = o.stands; counted = o.counted; few = o.few; group_kinds = group_kinds s t node regroups leaves; regroups = regroups; leaves = leaves }
 
   module _ (thin : ¬ IsDense s.records node) where
     sparse : kind_at s.records format.nodes_file node ≡ format.sparse
@@ -108,8 +135,11 @@ module _ (s z : State) (same : SameButReads s z) (node degree_is threshold label
     opens_node ne = subst (λ (q : State). OpensChain s q (node_head node) node row empty) (sym same) (record {
       keeps = can.keeps;
       stands = at_node s.records s.shape can.keeps node can.used thin row can.at.end;
+      counted = λ is. absurd (omega arith);
       few = λ _. let f = can.keeps.degrees.few node sparse in let e = can.counted in let k = can.limit in omega arith;
+      group_kinds = λ g group is ne. refl;
       regroups = regroups_read s z.reads node;
+      leaves = leaves_read s (record s { reads = z.reads }) node refl;
     })
 
     pub dense_can : CanBecomeDense z node s.shape.threshold empty
@@ -139,7 +169,10 @@ module _ (s z : State) (same : SameButReads s z) (node degree_is threshold label
         (subst (λ (q : Shape). 2 * (meta_of s format.relationships_file).live + length empty < room_of q format.groups_file) (sym shape_u) room)
 
     pub dense_opens : (t : State) (h : Head) → OpensChain u t h node row empty → OpensChain s t h node row empty
-    dense_opens t h o = then_opens t h (record { keeps = o.keeps; stands = o.stands; few = o.few; regroups = regroups_both z u t node becomes.regroups o.regroups })
+    dense_opens t h o =
+        let regroups = regroups_both z u t node becomes.regroups o.regroups in
+        let leaves = leaves_both z u t node becomes.regroups becomes.leaves o.leaves in
+        then_opens t h (record { keeps = o.keeps; stands = o.stands; counted = o.counted; few = o.few; group_kinds = group_kinds z t node regroups leaves; regroups = regroups; leaves = leaves })
 
 -- ---- what is written
 

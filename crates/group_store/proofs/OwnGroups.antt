@@ -10,8 +10,9 @@ use Rattle.store_rules.specs.Views.{Records, rec_at}
 use Rattle.group_store.specs.declared.group_row.GroupRow.{GroupRow}
 use Rattle.group_store.specs.Finding.{IsFound}
 use Rattle.group_store.specs.GroupChain.{IsDense, IsGroupChain, LacksGroup}
-use Rattle.group_store.specs.Spreading.{HasOpened, KeepsBut}
+use Rattle.group_store.specs.Spreading.{AreExactBut, HasCountedGroups, HasOpened, KeepsBut}
 use Rattle.group_store.proofs.GroupRules.{IsGroupChain-HasGroups, row_of_group}
+use Rattle.group_store.proofs.Leaves.{leaves_both, leaves_read}
 use Rattle.group_store.proofs.Regrouping.{regroups_both, regroups_read}
 
 pub if_ok : {T E : Type 0} (r : Result T E) (P Q : T → Type 0) → ((x : T) → P x → Q x) → IfOk r P → IfOk r Q
@@ -38,15 +39,18 @@ keeps_more records shape node g rest most empty keeps = record {
 
 -- a group that is found
 pub opened_found : (s now : State) (node label : ℕ) (row : GroupRow) → SameButReads s now → IsFound s.records node label (Some row) → (rest : List ℕ) (most : ℕ) (empty : List ℕ)
-    → KeepsBut s.records s.shape node rest most empty → KeepsBut now.records now.shape node rest most (row.id ∷ empty) × HasOpened s now node label row.id
+    → KeepsBut s.records s.shape node rest most empty → KeepsBut now.records now.shape node rest most (row.id ∷ empty) × HasOpened s now node label row.id rest
 opened_found s now node label row same found rest most empty keeps = (
   keeps_then s now node rest most (row.id ∷ empty) same (keeps_more s.records s.shape node row.id rest most empty keeps),
-  subst (λ (t : State). HasOpened s t node label row.id) (sym same) (record {
+  subst (λ (t : State). HasOpened s t node label row.id rest) (sym same) (record {
     group = row_of_group s.records node row.id found.1.member
         ∙ (λ i. Some (record { id = row.id; label = (ap (λ (r : GroupRow). r.label) (sym found.1.is) ∙ found.1.typed) i; owner = found.1.member.owner i }));
     dense = found.0;
     regroups = regroups_read s now.reads node;
+    leaves = leaves_read s (record s { reads = now.reads }) node refl;
     rels = λ x. refl;
+    exact = λ h. h;
+    counted = λ h. h;
   }),
 )
 
@@ -59,13 +63,16 @@ none_found s node label rest most empty keeps dense found is exact =
 
 -- a group that is made after reads
 pub opened_made : (s now end : State) (node label id : ℕ) (rest : List ℕ) (most : ℕ) (empty : List ℕ) → SameButReads s now
-    → KeepsBut end.records end.shape node rest most (id ∷ empty) × HasOpened now end node label id → KeepsBut end.records end.shape node rest most (id ∷ empty) × HasOpened s end node label id
+    → KeepsBut end.records end.shape node rest most (id ∷ empty) × HasOpened now end node label id rest → KeepsBut end.records end.shape node rest most (id ∷ empty) × HasOpened s end node label id rest
 opened_made s now end node label id rest most empty same made = (
   made.0,
   record {
     group = made.1.group;
     dense = made.1.dense;
     regroups = regroups_both s now end node (subst (λ (t : State). Regroups s t node) (sym same) (regroups_read s now.reads node)) made.1.regroups;
+    leaves = leaves_both s now end node (subst (λ (t : State). Regroups s t node) (sym same) (regroups_read s now.reads node)) (leaves_read s now node same) made.1.leaves;
     rels = λ x. made.1.rels x ∙ ap (λ (t : State). rec_at t.records format.relationships_file x) same;
+    exact = λ h. made.1.exact (subst (λ (t : State). AreExactBut t.records node rest) (sym same) h);
+    counted = λ h. made.1.counted (subst (λ (t : State). HasCountedGroups t.records node) (sym same) h);
   },
 )

@@ -41,18 +41,18 @@ up_to_some records label at (y ∷ ys) there walk = omega arith
 
 -- what was passed is read, and one more where the list goes on
 pub passed_few : (records : Records) (node first at label left : ℕ) (ms xs : List ℕ) → HasPassed records node first at ms → LacksType records label ms
-    → IsGroupList records node first xs → IsLeft records node left at → length ms ≤ length (up_to_type records label xs)
+    → IsGroupList records node first xs → IsLeft records xs left at → length ms ≤ length (up_to_type records label xs)
 passed_few records node first at label left ms xs met lacks list rest =
-    let is : xs ≡ ms ++ rest.0 = walk_is (next_group records) first xs (ms ++ rest.0) list.walk (met.walk rest.0 rest.1.walk) in
+    let is : xs ≡ ms ++ rest.0 = walk_is (next_group records) first xs (ms ++ rest.0) list.walk (met.walk rest.0 rest.1) in
     let count = up_to_past records label ms rest.0 lacks in
     subst (λ zs. length ms ≤ length (up_to_type records label zs)) (sym is) (omega arith)
 
 pub passed_fewer : (records : Records) (node first at label left : ℕ) (ms xs : List ℕ) → at ≢ format.nil → HasPassed records node first at ms → LacksType records label ms
-    → IsGroupList records node first xs → IsLeft records node left at → length ms + 1 ≤ length (up_to_type records label xs)
+    → IsGroupList records node first xs → IsLeft records xs left at → length ms + 1 ≤ length (up_to_type records label xs)
 passed_fewer records node first at label left ms xs there met lacks list rest =
-    let is : xs ≡ ms ++ rest.0 = walk_is (next_group records) first xs (ms ++ rest.0) list.walk (met.walk rest.0 rest.1.walk) in
+    let is : xs ≡ ms ++ rest.0 = walk_is (next_group records) first xs (ms ++ rest.0) list.walk (met.walk rest.0 rest.1) in
     let count = up_to_past records label ms rest.0 lacks in
-    let some = up_to_some records label at rest.0 there rest.1.walk in
+    let some = up_to_some records label at rest.0 there rest.1 in
     subst (λ zs. length ms + 1 ≤ length (up_to_type records label zs)) (sym is) (omega arith)
 
 -- ---- what is found

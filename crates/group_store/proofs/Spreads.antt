@@ -8,21 +8,19 @@ use Rattle.rec_bytes.specs.Format as format
 use Rattle.rec_bytes.specs.RowFault as rows
 use Rattle.rec_bytes.specs.declared.row_fault.RowFault.{RowFault}
 use Rattle.rec_bytes.specs.declared.row_fault.RowFault.TheVariants as rows_fault
-use Rattle.rec_bytes.specs.RecordFiles.{meta_key_of, room_of}
+use Rattle.rec_bytes.specs.RecordFiles.{room_of}
 use Rattle.rec_bytes.specs.Space.{IsAmong, SameButReads, State, WritesOnly, after_get, meta_of}
 use Rattle.rec_bytes.proofs.Spaces.{writes_more, writes_then}
 use Rattle.rel_store.specs.declared.rel_row.RelRow.{RelRow}
 use Rattle.rel_store.specs.Loading as loading
-use Rattle.rel_store.specs.RelRecord.{rel_key, row_of}
+use Rattle.rel_store.specs.RelRecord.{row_of}
 use Rattle.rel_store.proofs.Rows.{kind-row_at-Some, rel_at-None, rel_at-Some, rule_row}
 use Rattle.store_rules.specs.Chains.{In, IsWalk, next_in}
 use Rattle.store_rules.specs.Ends.{Regroups}
 use Rattle.store_rules.specs.Rules.{Head, IsEnd, KeepsRules, first_of}
 use Rattle.store_rules.specs.Views as views
 use Rattle.store_rules.specs.Views.{degree, first_link, group_at, group_in, kind_at, rec_at, rel_at}
-use Rattle.store_rules.specs.Writes.{WritesBeside, meta_keys}
 use Rattle.store_rules.proofs.ChainLaws.{head_once}
-use Rattle.store_rules.proofs.WriteLaws.{among_metas, these_written}
 use Rattle.chain_edit.specs.Chains.{next_of}
 use Rattle.rec_bytes.specs.Fault as faults
 use Rattle.rec_bytes.specs.declared.fault.Fault.{Fault}
@@ -31,23 +29,25 @@ use Rattle.chain_edit.specs.Links.{IsRightLink, prev_set}
 use Rattle.chain_edit.specs.Pushing.{pushed}
 use Rattle.node_store.specs.declared.node_row.NodeRow.{NodeRow}
 use Rattle.node_store.specs.Loading as nodes
-use Rattle.node_store.specs.NodeRecord.{node_key}
 use Rattle.node_store.proofs.Rows.{kind-row_at-Some as node_row}
 use Rattle.group_store.specs.Densing.{BecomesDense, CanBecomeDense, HasDenseRoom}
 use Rattle.group_store.specs.declared.moved.Turn.{Turn}
 use Rattle.group_store.specs.GroupChain.{IsDense, IsGroupOf}
 use Rattle.rec_bytes.specs.Fault.{of_row}
-use Rattle.group_store.specs.GroupRecord.{group_key}
 use Rattle.group_store.specs.Moving.{HasCome, IsOwnTurn}
 use Rattle.group_store.specs.Sides.{group_head, side_at}
-use Rattle.group_store.specs.Spreading.{HasEndRoom, HasOpened, IsSpread, KeepsBut, cleared}
-use Rattle.group_store.proofs.Clearing.{at_node, few_left, regroups_cleared, rest, spread_cleared}
+use Rattle.group_store.specs.Spreading.{AreExactBut, HasCountedGroups, HasEndRoom, HasOpened, IsSpread, KeepsBut, cleared}
+use Rattle.group_store.proofs.Clearing.{at_node, few_left, leaves_cleared, regroups_cleared, rest, spread_cleared}
 use Rattle.group_store.proofs.GroupCounts.{fewer_groups}
 use Rattle.group_store.proofs.GroupRules.{row_of_group}
 use Rattle.group_store.proofs.GroupWalks.{IsUndamaged}
-use Rattle.group_store.proofs.Moves.{first_right, joined, regroups_joined, spread_joined}
+use Rattle.group_store.proofs.Moves.{counted_joined, first_right, leaves_joined, regroups_joined, spread_joined}
+use Rattle.group_store.specs.Counting.{one_more, tallied}
+use Rattle.group_store.proofs.CountedRels.{exact_all}
 use Rattle.group_store.proofs.Opens.{but_all}
 use Rattle.group_store.proofs.OwnGroups.{keeps_then, writes_after}
+use Rattle.group_store.specs.Leaving.{LeavesOthers}
+use Rattle.group_store.proofs.Leaves.{leaves_both, leaves_read}
 use Rattle.group_store.proofs.Regrouping.{regroups_both, regroups_read}
 use Rattle.group_store.proofs.Seeks.{dense_is}
 
@@ -71,16 +71,21 @@ pub record IsMoving (m : State) (node rel g : ℕ) (row : views.RelRow) (rest : 
   pub group : group_at m.records g ≡ Some (record { id = g; label = row.label; owner = node })
   pub out : ¬ In rel rest
   pub left : (x : ℕ) → In x rest → (q : views.RelRow) × (rel_at m.records x ≡ Some q) × IsEnd node q
+  pub exact : AreExactBut m.records node (rel ∷ rest)
+  pub counted : HasCountedGroups m.records node
 
 -- the group was found or made after a load, told by the space as it was
 module _ (s l m : State) (node rel : ℕ) (row : RelRow) (g : ℕ) (same : SameButReads s l) (is : Some row ≡ loading.row_at s.records rel)
-    (opens : (rest : List ℕ) (most : ℕ) (empty : List ℕ) → KeepsBut l.records l.shape node rest most empty → IsDense l.records node → KeepsBut m.records m.shape node rest most (g ∷ empty) × HasOpened l m node row.label g)
+    (opens : (rest : List ℕ) (most : ℕ) (empty : List ℕ) → KeepsBut l.records l.shape node rest most empty → IsDense l.records node → KeepsBut m.records m.shape node rest most (g ∷ empty) × HasOpened l m node row.label g rest)
     (rest : List ℕ) (most : ℕ) (empty : List ℕ) (spread : IsSpread s node rel (rel ∷ rest) most empty) where
-  pub opened : KeepsBut m.records m.shape node (rel ∷ rest) most (g ∷ empty) × HasOpened l m node row.label g
+  pub opened : KeepsBut m.records m.shape node (rel ∷ rest) most (g ∷ empty) × HasOpened l m node row.label g (rel ∷ rest)
   opened = opens (rel ∷ rest) most empty (keeps_then s l node (rel ∷ rest) most empty same spread.keeps) (subst (λ (q : State). IsDense q.records node) (sym same) spread.dense)
 
   pub to_m : Regroups s m node
   to_m = regroups_both s l m node (subst (λ (q : State). Regroups s q node) (sym same) (regroups_read s l.reads node)) opened.1.regroups
+
+  leaves_m : LeavesOthers s m node
+  leaves_m = leaves_both s l m node (subst (λ (q : State). Regroups s q node) (sym same) (regroups_read s l.reads node)) (leaves_read s l node same) opened.1.leaves
 
   pub live_row : rel_at s.records rel ≡ Some (rule_row row)
   live_row = rel_at-Some s.records rel row (sym is)
@@ -94,6 +99,8 @@ module _ (s l m : State) (node rel : ℕ) (row : RelRow) (g : ℕ) (same : SameB
     group = opened.1.group;
     out = head_once (next_of s.records node) rel rest spread.walk.1 spread.walk.2;
     left = λ x i. let k = spread.ends x (inr i) in (k.0, to_m.rels x ∙ k.1, k.2);
+    exact = opened.1.exact (subst (λ (q : State). AreExactBut q.records node (rel ∷ rest)) (sym same) spread.exact);
+    counted = opened.1.counted (subst (λ (q : State). HasCountedGroups q.records node) (sym same) spread.counted);
   }
 
   -- a push at its head finds a right link
@@ -103,8 +110,8 @@ module _ (s l m : State) (node rel : ℕ) (row : RelRow) (g : ℕ) (same : SameB
       (first_right m node rel g (rule_row row) rest most empty moving.keeps moving.dense moving.live moving.end moving.group moving.out moving.left))
 
   -- it is moved
-  pub moved : (t end : State) (next : ℕ) (h : Head) → t ≡ prev_set m node rel format.nil → h ≡ group_head g (side_at node row.from row.to) → end ≡ pushed t h node rel → ((rec : Rec) → row ≡ row_of rec row.id → next ≡ next_in rec node)
-      → IsSpread end node next rest most empty × Regroups s end node
+  pub moved : (t end : State) (next : ℕ) (h : Head) → t ≡ prev_set m node rel format.nil → h ≡ group_head g (side_at node row.from row.to) → end ≡ tallied one_more (pushed t h node rel) h → ((rec : Rec) → row ≡ row_of rec row.id → next ≡ next_in rec node)
+      → IsSpread end node next rest most empty × Regroups s end node × LeavesOthers s end node
   moved t end next h freed head put links =
       let recs : (x : ℕ) → rec_at m.records format.relationships_file x ≡ rec_at s.records format.relationships_file x = λ x. opened.1.rels x ∙ ap (λ (q : State). rec_at q.records format.relationships_file x) same in
       let nexts : next_of s.records node ≡ next_of m.records node = λ i x. next_in (sym (recs x) i) node in
@@ -113,11 +120,13 @@ module _ (s l m : State) (node rel : ℕ) (row : RelRow) (g : ℕ) (same : SameB
       let next_is : next ≡ next_of s.records node rel = links rec (sym row_is ∙ ap (row_of rec) (ap (λ (q : RelRow). q.id) row_is)) in
       let walk : IsWalk (next_of m.records node) next rest = subst (λ (f : ℕ → ℕ). IsWalk f next rest) nexts (subst (λ z. IsWalk (next_of s.records node) z rest) (sym next_is) spread.walk.2) in
       let side = side_at node row.from row.to in
-      let end_of : joined m (group_head g side) node rel ≡ end = sym (put ∙ ap (λ (q : State). pushed q h node rel) freed ∙ ap (λ (q : Head). pushed (prev_set m node rel format.nil) q node rel) head) in (
+      let end_of : counted_joined m (group_head g side) node rel ≡ end = sym (put ∙ ap (λ (q : State). tallied one_more (pushed q h node rel) h) freed ∙ ap (λ (q : Head). tallied one_more (pushed (prev_set m node rel format.nil) q node rel) q) head) in (
         subst (λ (q : State). IsSpread q node next rest most empty) end_of
-            (spread_joined m node rel g (rule_row row) rest most empty moving.keeps moving.dense moving.live moving.end moving.group moving.out moving.left next walk),
+            (spread_joined m node rel g (rule_row row) rest most empty moving.keeps moving.dense moving.live moving.end moving.group moving.out moving.left moving.exact moving.counted next walk),
         regroups_both s m end node to_m
-            (subst (λ (q : State). Regroups m q node) end_of (regroups_joined m node rel g (rule_row row) rest most empty moving.keeps moving.dense moving.live moving.end moving.group moving.out moving.left)),
+            (subst (λ (q : State). Regroups m q node) end_of (regroups_joined m node rel g (rule_row row) rest most empty moving.keeps moving.dense moving.live moving.end moving.group moving.out moving.left moving.exact moving.counted)),
+        leaves_both s m end node to_m leaves_m
+            (subst (λ (q : State). LeavesOthers m q node) end_of (leaves_joined m node rel g (rule_row row) rest most empty moving.keeps moving.dense moving.live moving.end moving.group moving.out moving.left moving.exact moving.counted)),
       )
 
 -- there is room for another group
@@ -142,19 +151,6 @@ pub rel_there : (s : State) (node rel : ℕ) (rest : List ℕ) (most : ℕ) (emp
 rel_there s node rel rest most empty spread none = let found = spread.ends rel (inl refl) in absurd (let z : None ≡ Some found.0 = sym (rel_at-None s.records rel none) ∙ found.1 in cc)
 
 -- ---- what is written
-
--- a relationship, the one that follows it, a group and the group that follows it
-pub four_written : (s t : State) (node r k g f : ℕ) → WritesOnly s t (rel_key r ∷ rel_key k ∷ group_key g ∷ group_key f ∷ node_key node ∷ meta_key_of format.groups_file ∷ []) → WritesBeside (node_key node) 4 s t
-four_written s t node r k g f = these_written (node_key node) s t (rel_key r ∷ rel_key k ∷ group_key g ∷ group_key f ∷ []) (rel_key r ∷ rel_key k ∷ group_key g ∷ group_key f ∷ node_key node ∷ meta_key_of format.groups_file ∷ []) (refl, (refl, (refl, (refl, tt)))) among
-  where
-    among : (q : Key) → IsAmong q (rel_key r ∷ rel_key k ∷ group_key g ∷ group_key f ∷ node_key node ∷ meta_key_of format.groups_file ∷ []) → IsAmong q (node_key node ∷ (rel_key r ∷ rel_key k ∷ group_key g ∷ group_key f ∷ []) ++ meta_keys)
-    among q (inl e) = inr (inl e)
-    among q (inr (inl e)) = inr (inr (inl e))
-    among q (inr (inr (inl e))) = inr (inr (inr (inl e)))
-    among q (inr (inr (inr (inl e)))) = inr (inr (inr (inr (inl e))))
-    among q (inr (inr (inr (inr (inl e))))) = inl e
-    among q (inr (inr (inr (inr (inr (inl e)))))) = inr (inr (inr (inr (inr (among_metas format.groups_file q refl e)))))
-    among q (inr (inr (inr (inr (inr (inr i)))))) = elim i [ ]
 
 module _ (s l m t end : State) (same : SameButReads s l) (r k g f n q : Key) (made : WritesOnly l m (g ∷ f ∷ n ∷ q ∷ [])) (freed : WritesOnly m t (r ∷ [])) where
   two : WritesOnly s t (g ∷ f ∷ n ∷ q ∷ r ∷ [])
@@ -188,6 +184,7 @@ pub record HasLeft (s now : State) (node at count most : ℕ) (empty came groups
   pub rest : List ℕ
   pub spread : IsSpread now node at rest most empty
   pub regroups : Regroups s now node
+  pub leaves : LeavesOthers s now node
   pub few : length rest + count ≤ degree s.records node
   pub rels : (x : ℕ) (row : views.RelRow) → rel_at s.records x ≡ Some row → IsEnd node row → In x rest ⊎ In x came
   pub owned : (g : ℕ) → IsGroupOf now.records node g → In g groups
@@ -212,6 +209,7 @@ left_all s l t node row most empty came groups same is clear came_is groups_is c
       spread = subst (λ (q : State). IsSpread q node row.first (rest l node most empty keeps sparse) most empty) (sym clear)
           (subst (λ f. IsSpread (cleared l node) node f (rest l node most empty keeps sparse) most empty) first (spread_cleared l node most empty keeps sparse));
       regroups = regroups_both s l t node to_l (subst (λ (q : State). Regroups l q node) (sym clear) (regroups_cleared l node most empty keeps sparse));
+      leaves = leaves_both s l t node to_l (leaves_read s l node same) (subst (λ (q : State). LeavesOthers l q node) (sym clear) (leaves_cleared l node most empty keeps sparse));
       few = let le = few_left l node most empty keeps sparse in let e = to_l.degrees node in omega arith;
       rels = λ x q live end. inl (at_node l node most empty keeps sparse x q (to_l.rels x ∙ live) end);
       owned = λ g i. absurd (none_owned l node most empty keeps sparse g (subst (λ (q : State). IsGroupOf q.records node g) clear i));
@@ -233,7 +231,7 @@ module _ (s now end : State) (node at count most : ℕ) (empty came groups : Lis
     (own : (rest : List ℕ) (most : ℕ) (empty : List ℕ) → IsSpread now node at (at ∷ rest) most empty → IsOwnTurn now end node (at ∷ rest) turn)
     (left : HasLeft s now node at count most empty came groups) where
   pub left_next : (xs ys : List ℕ) → xs ≡ came ++ at ∷ [] → ys ≡ groups ++ turn.group ∷ []
-      → ((rest : List ℕ) (most : ℕ) (empty : List ℕ) → IsSpread now node at (at ∷ rest) most empty → IsSpread end node turn.next rest most empty × Regroups now end node)
+      → ((rest : List ℕ) (most : ℕ) (empty : List ℕ) → IsSpread now node at (at ∷ rest) most empty → IsSpread end node turn.next rest most empty × Regroups now end node × LeavesOthers now end node)
       → HasLeft s end node turn.next (count + 1) most empty xs ys
   left_next xs ys xs_is ys_is move = by left.rest left.spread left.few left.rels
     where
@@ -248,6 +246,7 @@ module _ (s now end : State) (node at count most : ℕ) (empty came groups : Lis
             rest = later;
             spread = one.0;
             regroups = regroups_both s now end node left.regroups one.1;
+            leaves = leaves_both s now end node left.regroups left.leaves one.2;
             few = omega arith;
             rels = λ y row live at_end. subst (λ zs. In y later ⊎ In y zs) (sym xs_is)
                 (⊎_elim (λ i. ⊎_elim (λ e. inr (subst (λ z. In z (came ++ at ∷ [])) (spread.walk.0 ∙ sym e) (in_last at came))) inl i) (λ i. inr (in_before y at came i)) (rels y row live at_end));
@@ -275,7 +274,7 @@ pub left_none : (s now : State) (node at count most : ℕ) (empty came groups : 
 left_none s now node at count most empty came groups none left = by left.rest left.spread
   where
     by : (later : List ℕ) → IsSpread now node at later most empty → BecomesDense s now node most empty
-    by [] spread = record { keeps = but_all now.records now.shape node most empty spread.keeps; dense = spread.dense; regroups = left.regroups }
+    by [] spread = record { keeps = but_all now.records now.shape node most empty spread.keeps (exact_all now.records node spread.exact); dense = spread.dense; counted = spread.counted; regroups = left.regroups; leaves = left.leaves }
     by (x ∷ later) spread = absurd (spread.walk.1 (sym spread.walk.0 ∙ none))
 
 -- where some are left the next one is the first of them
@@ -293,13 +292,17 @@ left_first {P} s now node at count most threshold empty came groups there left r
     by [] spread = absurd (there spread.walk)
     by (x ∷ later) spread = found later most empty (subst (λ z. IsSpread now node at (z ∷ later) most empty) (sym spread.walk.0) spread) end_room
 
--- none is left once so many were moved
-pub none_over : (s now : State) (node at count most threshold : ℕ) (empty came groups : List ℕ) → at ≢ format.nil → HasLeft s now node at count most empty came groups → HasDenseRoom s node threshold empty → threshold ≤ count → ⊥
-none_over s now node at count most threshold empty came groups there left room all = by left.rest left.spread left.few
+-- none is left once as many were moved as the degree says
+pub none_over : (s now : State) (node at count most : ℕ) (empty came groups : List ℕ) → at ≢ format.nil → HasLeft s now node at count most empty came groups → degree s.records node ≤ count → ⊥
+none_over s now node at count most empty came groups there left all = by left.rest left.spread left.few
   where
     by : (later : List ℕ) → IsSpread now node at later most empty → length later + count ≤ degree s.records node → ⊥
     by [] spread few = there spread.walk
-    by (x ∷ later) spread few = let le = room.few in omega arith
+    by (x ∷ later) spread few = omega arith
+
+-- the degree that a row says
+pub row_degree : (s : State) (node : ℕ) (row : NodeRow) → Some row ≡ nodes.row_at s.records node → row.degree ≡ degree s.records node
+row_degree s node row is = ap (λ (q : NodeRow). q.degree) (node_row s.records node row (sym is)).1
 
 -- a sparse node isn't read as a dense one
 pub not_dense_row : (s : State) (node : ℕ) (row : NodeRow) (most : ℕ) (empty : List ℕ) → Some row ≡ nodes.row_at s.records node → CanBecomeDense s node most empty → row.dense ≡ true → ⊥

@@ -19,7 +19,8 @@ use Rattle.group_store.specs.Making.{CanMake, HasMade}
 use Rattle.group_store.specs.Moving.{GrowsBy, HasCome, IsOwnTurn}
 use Rattle.group_store.specs.Sides.{group_head, side_at}
 use Rattle.group_store.specs.Spreading.{HasOpened, IsSpread, KeepsBut}
-use Rattle.group_store.proofs.Moves.{first_end, groups_joined, joined}
+use Rattle.group_store.proofs.Moves.{counted_joined, first_end, groups_joined}
+use Rattle.group_store.specs.Counting.{one_more, tallied}
 use Rattle.group_store.proofs.OwnGroups.{keeps_then}
 use Rattle.group_store.proofs.OwnRoom.{can_make, chain_ids, free_ids}
 use Rattle.group_store.proofs.Spreads.{moving, to_m}
@@ -52,10 +53,10 @@ made_grows (Ok own) s l t node label same lacks has first = λ rest most empty k
 -- ---- a relationship that is moved
 
 module _ (s l m : State) (node rel : ℕ) (row : loaded.RelRow) (g : ℕ) (same : SameButReads s l) (is : Some row ≡ loading.row_at s.records rel)
-    (opens : (rest : List ℕ) (most : ℕ) (empty : List ℕ) → KeepsBut l.records l.shape node rest most empty → IsDense l.records node → KeepsBut m.records m.shape node rest most (g ∷ empty) × HasOpened l m node row.label g)
+    (opens : (rest : List ℕ) (most : ℕ) (empty : List ℕ) → KeepsBut l.records l.shape node rest most empty → IsDense l.records node → KeepsBut m.records m.shape node rest most (g ∷ empty) × HasOpened l m node row.label g rest)
     (rest : List ℕ) (most : ℕ) (empty : List ℕ) (spread : IsSpread s node rel (rel ∷ rest) most empty) where
   pub own_turn : (first : ℕ) → ((rest : List ℕ) (most : ℕ) (empty : List ℕ) → KeepsBut l.records l.shape node rest most empty → IsDense l.records node → GrowsBy l m node g first)
-      → (t end : State) (h : Head) (old next : ℕ) → t ≡ prev_set m node rel format.nil → h ≡ group_head g (side_at node row.from row.to) → end ≡ pushed t h node rel → old ≡ first_of t.records h
+      → (t end : State) (h : Head) (old next : ℕ) → t ≡ prev_set m node rel format.nil → h ≡ group_head g (side_at node row.from row.to) → end ≡ tallied one_more (pushed t h node rel) h → old ≡ first_of t.records h
       → IsOwnTurn s end node (rel ∷ rest) (record { next = next; group = g; before = first; first = old })
   own_turn first grows t end h old next freed head put old_is =
       let v = moving s l m node rel row g same is opens rest most empty spread in
@@ -63,12 +64,12 @@ module _ (s l m : State) (node rel : ℕ) (row : loaded.RelRow) (g : ℕ) (same 
       let w = grows (rel ∷ rest) most empty (keeps_then s l node (rel ∷ rest) most empty same spread.keeps) (subst (λ (q : State). IsDense q.records node) (sym same) spread.dense) in
       let was : (k : ℕ) → IsGroupOf l.records node k → IsGroupOf s.records node k = λ k i. subst (λ (q : State). IsGroupOf q.records node k) same i in
       let side = side_at node row.from row.to in
-      let end_of : joined m (group_head g side) node rel ≡ end = sym (put ∙ ap (λ (q : State). pushed q h node rel) freed ∙ ap (λ (q : Head). pushed (prev_set m node rel format.nil) q node rel) head) in
+      let end_of : counted_joined m (group_head g side) node rel ≡ end = sym (put ∙ ap (λ (q : State). tallied one_more (pushed q h node rel) h) freed ∙ ap (λ (q : Head). tallied one_more (pushed (prev_set m node rel format.nil) q node rel) q) head) in
       let old_of : old ≡ first_of (prev_set m node rel format.nil).records (group_head g side) = old_is ∙ ap (λ (q : State). first_of q.records h) freed ∙ ap (λ (q : Head). first_of (prev_set m node rel format.nil).records q) head in
       record {
         grows = record {
           groups = λ k i. ⊎_elim inl (λ j. inr (was k j))
-              (w.groups k (groups_joined m node rel g (rule_row row) rest most empty v.keeps v.dense v.live v.end v.group v.out v.left k (subst (λ (q : State). IsGroupOf q.records node k) (sym end_of) i)));
+              (w.groups k (groups_joined m node rel g (rule_row row) rest most empty v.keeps v.dense v.live v.end v.group v.out v.left v.exact v.counted k (subst (λ (q : State). IsGroupOf q.records node k) (sym end_of) i)));
           first = ⊎_elim inl (λ j. inr (was first j)) w.first;
         };
         first = subst (λ z. (z ≡ format.nil) ⊎ HasCome s.records node (rel ∷ rest) z) (sym old_of)

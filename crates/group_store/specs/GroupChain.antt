@@ -1,10 +1,10 @@
 -- The groups of a node, as a list that follows their links.
-use Rattle.std.specs.Prelude.{◌≡◌, ◌≢◌, ℕ, nat_eq, Bool, ◌&&◌, if◌then◌else◌, List, [], ◌∷◌}
+use Rattle.std.specs.Prelude.{◌≡◌, ◌≢◌, ℕ, nat_eq, Bool, true, ◌&&◌, if◌then◌else◌, List, [], ◌∷◌}
 use Rattle.rec_bytes.specs.declared.record.Rec.{Rec}
 use Rattle.rec_bytes.specs.Format as format
 use Rattle.rec_bytes.specs.Record.{field}
 use Rattle.store_rules.specs.Chains.{In, IsChain, IsWalk}
-use Rattle.store_rules.specs.Views.{Records, first_link, kind_at, rec_at}
+use Rattle.store_rules.specs.Views.{Records, first_link, is_group_kind, kind_at, rec_at}
 
 -- a number of a group's record
 abbrev pub group_field : Records → ℕ → ℕ → ℕ
@@ -26,19 +26,29 @@ IsDense records node = kind_at records format.nodes_file node ≡ format.dense
 
 -- a group in use that the node owns
 pub record IsGroupOf (records : Records) (node g : ℕ) : Type 0 where
-  pub kind : kind_at records format.groups_file g ≡ format.grouped
+  pub kind : is_group_kind (kind_at records format.groups_file g) ≡ true
+  pub owner : group_field records format.group_owner g ≡ node
+
+-- a record in use, of whatever kind, that the node owns
+pub record IsOwnedBy (records : Records) (node g : ℕ) : Type 0 where
+  pub used : kind_at records format.groups_file g ≢ format.free_kind
   pub owner : group_field records format.group_owner g ≡ node
 
 -- the record says so, by its kind and its owner
 abbrev pub is_group_of : Rec → ℕ → Bool
 is_group_of rec node =
-    nat_eq (field 1 rec format.kind) format.grouped
+    is_group_kind (field 1 rec format.kind)
     && nat_eq (field 4 rec format.group_owner) node
 
 -- these are met from one on, and each is a group of the node
 pub record IsGroupList (records : Records) (node first : ℕ) (xs : List ℕ) : Type 0 where
   pub walk : IsWalk (next_group records) first xs
   pub only : (g : ℕ) → In g xs → IsGroupOf records node g
+
+-- these are met from one on, and the node owns each
+pub record IsOwnedList (records : Records) (node first : ℕ) (xs : List ℕ) : Type 0 where
+  pub walk : IsWalk (next_group records) first xs
+  pub only : (g : ℕ) → In g xs → IsOwnedBy records node g
 
 -- The chain of the node has just its groups, linked in both directions, each with a type of its
 -- own. It is right by the fourth rule, but groups in it may be empty.

@@ -1,4 +1,5 @@
 pub mod Closing
+pub mod Counting
 pub mod Densing
 pub mod Dropping
 pub mod Faults
@@ -6,11 +7,14 @@ pub mod Finding
 pub mod FirstGroup
 pub mod GroupChain
 pub mod GroupRecord
+pub mod Leaving
 pub mod Links
 pub mod Loading
 pub mod Making
 pub mod Moving
 pub mod Opening
+pub mod Raising
 pub mod Sides
 pub mod Spreading
+pub mod Touching
 pub mod Walking

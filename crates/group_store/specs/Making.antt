@@ -1,5 +1,5 @@
 -- A group that is made, first on the chain of its node.
-use Rattle.std.specs.Prelude.{◌≡◌, ◌≢◌, ℕ, ◌+◌, List, [], ◌∷◌}
+use Rattle.std.specs.Prelude.{◌≡◌, ◌≢◌, ℕ, ◌+◌, true, List, [], ◌∷◌}
 use Rattle.id_freelist.specs.FreeLists.{IsFreeList}
 use Rattle.id_freelist.specs.Taking as taking
 use Rattle.id_freelist.specs.Taking.{CanTake, IsTakeDamage, mark_after, rest_of, taken_id}
@@ -26,10 +26,12 @@ use Rattle.group_store.specs.Walking.{chain_damage, group_row_at}
 -- the numbers of an empty group's record, with the group after it, each with its place and width
 abbrev pub empty_fields : ℕ → ℕ → ℕ → Fields
 empty_fields node label next =
-    (format.kind, 1, format.grouped) ∷ (format.group_type, 4, label)
+    (format.kind, 1, format.counted) ∷ (format.group_type, 4, label)
     ∷ (format.group_owner, 4, node) ∷ (format.group_previous, 4, format.nil)
     ∷ (format.group_next, 4, next) ∷ (format.group_first_out, 4, format.nil)
-    ∷ (format.group_first_in, 4, format.nil) ∷ (format.group_first_loop, 4, format.nil) ∷ []
+    ∷ (format.group_first_in, 4, format.nil) ∷ (format.group_first_loop, 4, format.nil)
+    ∷ (format.group_out_count, 4, 0) ∷ (format.group_in_count, 4, 0)
+    ∷ (format.group_loop_count, 4, 0) ∷ []
 
 abbrev pub empty_group : ℕ → ℕ → ℕ → Rec
 empty_group node label next = with_fields zeros (empty_fields node label next)
@@ -41,6 +43,10 @@ empty_row id label = record {
   first_out = format.nil;
   first_in = format.nil;
   first_loop = format.nil;
+  counted = true;
+  out_count = 0;
+  in_count = 0;
+  loop_count = 0;
 }
 
 -- after a group was given its record and stands before the first one of the node

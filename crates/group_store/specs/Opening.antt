@@ -1,15 +1,24 @@
 -- The head of an end's chain, which is found or made.
-use Rattle.std.specs.Prelude.{◌≡◌, ◌≢◌, ℕ, ◌+◌, ◌*◌, ◌<◌, ◌≤◌, nat_eq, if◌then◌else◌, length}
+use Rattle.std.specs.Prelude.{◌≡◌, ◌≢◌, ◌⊎◌, ℕ, ◌+◌, ◌*◌, ◌<◌, ◌≤◌, nat_eq, if◌then◌else◌, length}
 use Rattle.std.specs.Prelude.{List, ◌∷◌, ◌++◌, Some}
 use Rattle.node_store.specs.NodeRecord.{node_key}
+use Rattle.rec_bytes.specs.declared.damage.Damage.{Damage}
+use Rattle.rec_bytes.specs.declared.fault.Fault.{Fault}
+use Rattle.rec_bytes.specs.declared.fault.Fault.TheVariants.{Memory, Disk, Damaged}
 use Rattle.rec_bytes.specs.declared.key.Key.{Key}
 use Rattle.rec_bytes.specs.Format as format
 use Rattle.rec_bytes.specs.RecordFiles.{room_of}
 use Rattle.rec_bytes.specs.Space.{State, WritesOnly, meta_of}
+use Rattle.id_freelist.specs.Taking as taking
+use Rattle.store_rules.specs.Breaking.{Breaks}
 use Rattle.store_rules.specs.Ends.{IsEndHead, Regroups, group_of_head}
 use Rattle.store_rules.specs.Rules.{Head, IsEnd, KeepsRules}
-use Rattle.store_rules.specs.Views.{RelRow, degree, high, kind_at, rel_at}
+use Rattle.store_rules.specs.Views.{GroupRow, Records, RelRow, degree, first_link, group_at}
+use Rattle.store_rules.specs.Views.{high, kind_at, rel_at}
 use Rattle.store_rules.specs.Writes.{AreOwn, meta_keys}
+use Rattle.group_store.specs.Faults.{full_damage}
+use Rattle.group_store.specs.GroupChain.{IsDense, IsGroupList, LacksType}
+use Rattle.group_store.specs.Leaving.{LeavesOthers}
 use Rattle.group_store.specs.Sides.{side_at}
 use Rattle.group_store.specs.declared.side.Side.{Side}
 
@@ -51,15 +60,69 @@ pub record CanOpen (s : State) (node degree_is threshold label : ℕ) (side : Si
   pub named : label < high s.records format.names_file
   pub at : IsAt node label side row
 
--- The relationship would stand at the head. Its group may be empty, and a node that is sparse has
--- room for one relationship more.
+-- a group that has the head has counts
+abbrev pub IsCountedHead : Records → Head → Type 0
+IsCountedHead records head = head.key.file ≡ format.groups_file
+    → kind_at records format.groups_file head.key.id ≡ format.counted
+
+-- The relationship would stand at the head. Its group has counts and may be empty, and a node that
+-- is sparse has room for one relationship more. No more than the node's links, those of its
+-- relationships and its groups changed.
 pub record OpensChain (s t : State) (head : Head) (node : ℕ) (row : RelRow) (empty : List ℕ)
     : Type 0 where
   pub keeps : KeepsRules t.records t.shape t.shape.threshold (group_of_head head ++ empty)
   pub stands : IsEndHead t.records head node row
+  pub counted : IsCountedHead t.records head
   pub few : kind_at t.records format.nodes_file node ≡ format.sparse
       → degree t.records node < t.shape.threshold
+  pub group_kinds : (g : ℕ) (group : GroupRow) → group_at s.records g ≡ Some group
+      → group.owner ≢ node
+      → kind_at t.records format.groups_file g ≡ kind_at s.records format.groups_file g
   pub regroups : Regroups s t node
+  pub leaves : LeavesOthers s t node
+
+-- The relationship stands at the head, whose group has counts. No node became dense.
+pub record FindsChain (s t : State) (head : Head) (node : ℕ) (row : RelRow) (most : ℕ)
+    (empty : List ℕ) : Type 0 where
+  pub keeps : KeepsRules t.records t.shape most empty
+  pub stands : IsEndHead t.records head node row
+  pub counted : IsCountedHead t.records head
+  pub kinds : (n : ℕ)
+      → kind_at t.records format.nodes_file n ≡ kind_at s.records format.nodes_file n
+  pub group_kinds : (g : ℕ) (group : GroupRow) → group_at s.records g ≡ Some group
+      → group.owner ≢ node
+      → kind_at t.records format.groups_file g ≡ kind_at s.records format.groups_file g
+  pub regroups : Regroups s t node
+
+-- the relationship is in none of the chains of an end
+abbrev pub end_damage : ℕ → Damage
+end_damage rel = record { file = format.relationships_file; id = rel; rule = 3 }
+
+-- The dense node's links lead through these groups, none of which has the type.
+pub record LacksGroupOn (records : Records) (node label : ℕ) : Type 0 where
+  pub dense : IsDense records node
+  pub members : List ℕ
+  pub list : IsGroupList records node (first_link records node) members
+  pub lacks : LacksType records label members
+
+-- What a search for a head is refused for. The record that is said to be damaged breaks the rule,
+-- or it is the relationship, and no group on the chain of the dense node has its type.
+abbrev pub IsHeadFault : State → ℕ → ℕ → ℕ → Fault → Type 0
+IsHeadFault s node rel label Memory = Unit {0}
+IsHeadFault s node rel label Disk = Unit {0}
+IsHeadFault s node rel label (Damaged damage) =
+    Breaks s.records s.shape damage
+    ⊎ ((damage ≡ end_damage rel) × LacksGroupOn s.records node label)
+
+-- What a group is refused for: the record that is said to be damaged breaks the rule, or the file of
+-- groups is full.
+abbrev pub IsOpenFault : State → Fault → Type 0
+IsOpenFault s Memory = Unit {0}
+IsOpenFault s Disk = Unit {0}
+IsOpenFault s (Damaged damage) =
+    Breaks s.records s.shape damage
+    ⊎ ((damage ≡ full_damage)
+    × ((meta_of s format.groups_file).live ≡ taking.room s format.groups_file))
 
 -- How many records of a node that becomes dense are written besides its own: its relationships' and
 -- a group's for each at most, and one of each more, for what may stand first.

@@ -1,8 +1,11 @@
 -- A store in which one node's relationships are on their way into its groups.
-use Rattle.std.specs.Prelude.{◌≡◌, ℕ, ◌+◌, ◌*◌, ◌≤◌, true, false, Option}
+use Rattle.std.specs.Prelude.{◌≡◌, ℕ, ◌+◌, ◌*◌, ◌≤◌, nat_eq, true, false, cond}
+use Rattle.std.specs.Prelude.{Option, None}
 use Rattle.std.specs.Prelude.{Some, List, length}
+use Rattle.std.specs.List.{list_any}
 use Rattle.chain_edit.specs.Chains.{next_of}
 use Rattle.node_store.specs.NodeRecord.{node_key}
+use Rattle.group_store.specs.Leaving.{LeavesOthers}
 use Rattle.rec_bytes.specs.declared.damage.Damage.{Damage}
 use Rattle.rec_bytes.specs.declared.shape.Shape.{Shape}
 use Rattle.rec_bytes.specs.Format as format
@@ -14,7 +17,7 @@ use Rattle.store_rules.specs.Ends.{Regroups}
 use Rattle.store_rules.specs.Ranges.{AreInRange, is_reused}
 use Rattle.store_rules.specs.Rules.{AllListed, AreAllLive, AreCounted, AreNamed, AreNames, HasEnds}
 use Rattle.store_rules.specs.Rules.{HasGroup, HaveProperties, Head, IsEnd, IsGrouped, IsSplit, Owns}
-use Rattle.store_rules.specs.Rules.{StandsAt, property_files}
+use Rattle.store_rules.specs.Rules.{HasCounts, StandsAt, property_files}
 use Rattle.store_rules.specs.Views.{GroupRow, Records, RelRow, degree, first_link, group_at, high}
 use Rattle.store_rules.specs.Views.{is_live, kind_at, node_at, rec_at, rel_at}
 
@@ -65,20 +68,46 @@ pub record KeepsBut (records : Records) (shape : Shape) (node : ℕ) (rest : Lis
   pub grouped : IsGrouped (kind_at records format.nodes_file) (first_link records)
       (rec_at records format.groups_file) (group_at records) empty
 
+-- ---- the numbers of counted groups
+
+-- the relationships but these
+abbrev pub left_out : List ℕ → (ℕ → Option RelRow) → ℕ → Option RelRow
+left_out rest rels x = cond (list_any (nat_eq x) rest) None (rels x)
+
+-- those that the groups of an owner count: of this node all but these
+abbrev pub counted_rels : ℕ → List ℕ → (ℕ → Option RelRow) → ℕ → ℕ → Option RelRow
+counted_rels node rest rels owner = cond (nat_eq owner node) (left_out rest rels) rels
+
+-- the numbers of counted groups are exact, but that these relationships are in none of the node's
+abbrev pub AreExactBut : Records → ℕ → List ℕ → Type 0
+AreExactBut records node rest = (g : ℕ) (row : GroupRow) → group_at records g ≡ Some row
+    → kind_at records format.groups_file g ≡ format.counted
+    → HasCounts (rec_at records format.groups_file g) row
+    (counted_rels node rest (rel_at records) row.owner) (high records format.relationships_file)
+
+-- each group of the node is counted
+abbrev pub HasCountedGroups : Records → ℕ → Type 0
+HasCountedGroups records node = (g : ℕ) (row : GroupRow) → group_at records g ≡ Some row
+    → row.owner ≡ node → kind_at records format.groups_file g ≡ format.counted
+
 -- ---- a group that is found or made
 
--- The node has the group of the type, and nothing but its groups changed.
-pub record HasOpened (s t : State) (node label id : ℕ) : Type 0 where
+-- The node has the group of the type, and nothing but its groups changed. Numbers that were exact
+-- but for these relationships are so.
+pub record HasOpened (s t : State) (node label id : ℕ) (rest : List ℕ) : Type 0 where
   pub group : group_at t.records id ≡ Some (record { id = id; label = label; owner = node })
   pub dense : kind_at t.records format.nodes_file node ≡ format.dense
   pub regroups : Regroups s t node
+  pub leaves : LeavesOthers s t node
   pub rels : (x : ℕ) → rec_at t.records format.relationships_file x
       ≡ rec_at s.records format.relationships_file x
+  pub exact : AreExactBut s.records node rest → AreExactBut t.records node rest
+  pub counted : HasCountedGroups s.records node → HasCountedGroups t.records node
 
 -- ---- a relationship that comes into its group
 
 -- The node is dense, and these are its relationships that are in no group of it. Its links lead
--- through them from this one on.
+-- through them from this one on. Its groups count the others.
 pub record IsSpread (s : State) (node at : ℕ) (rest : List ℕ) (most : ℕ) (empty : List ℕ)
     : Type 0 where
   pub keeps : KeepsBut s.records s.shape node rest most empty
@@ -86,6 +115,8 @@ pub record IsSpread (s : State) (node at : ℕ) (rest : List ℕ) (most : ℕ) (
   pub walk : IsWalk (next_of s.records node) at rest
   pub ends : (x : ℕ) → In x rest
       → (row : RelRow) × (rel_at s.records x ≡ Some row) × IsEnd node row
+  pub exact : AreExactBut s.records node rest
+  pub counted : HasCountedGroups s.records node
 
 -- the file of groups has room for one at each end of each relationship besides those that are empty
 abbrev pub HasEndRoom : State → List ℕ → Type 0

@@ -1,29 +1,35 @@
-ghost use Rattle.std.specs.Prelude.{◌≡◌, ◌≢◌, ◌≤◌, ◌∷◌, [], ◌+◌, ◌*◌, ℕ, List, IfOk, OnOk};
+ghost use Rattle.std.specs.Prelude.{◌≡◌, ◌≢◌, ◌⊎◌, ◌≤◌, ◌∷◌, [], ◌+◌, ◌*◌, ℕ, List, min, true, IfErr, IfOk, OnOk};
 ghost use Rattle.node_store.specs.NodeRecord.{node_key};
 ghost use Rattle.rec_bytes.specs.Key.{IsKey};
 ghost use Rattle.rec_bytes.specs.RecordFiles.{meta_key_of};
 ghost use Rattle.rec_bytes.specs.Format.{groups_file};
 ghost use Rattle.id_freelist.specs.Taking.{room};
-ghost use Rattle.rec_bytes.specs.Space.{HasCause, WritesOnly, meta_of};
+ghost use Rattle.rec_bytes.specs.Space.{HasCause, SameButReads, WritesOnly, meta_of};
 ghost use Rattle.rel_store.specs.RelRecord.{rel_key};
 ghost use Rattle.store_rules.specs.Ends.{Regroups};
+ghost use Rattle.store_rules.specs.Views.{degree};
 ghost use Rattle.store_rules.specs.Writes.{WritesBeside};
+ghost use Rattle.group_store.specs.Touching.{TouchesGroups};
 ghost use Rattle.chain_edit.specs.Links.{prev_set};
 ghost use Rattle.group_store.specs.Densing.{BecomesDense, CanBecomeDense, HasDenseRoom};
 ghost use Rattle.group_store.specs.GroupChain.{IsDense};
 ghost use Rattle.rec_bytes.specs.Fault.{HasFaultCause, NotDamaged};
 ghost use Rattle.group_store.specs.GroupRecord.{group_key};
+ghost use Rattle.group_store.specs.Leaving.{LeavesOthers};
 ghost use Rattle.group_store.specs.Moving.{GrowsBy, IsOwnTurn, turn_keys};
+ghost use Rattle.group_store.specs.Opening.{IsOpenFault};
+ghost use Rattle.group_store.specs.Raising.{IsGroupAt};
 ghost use Rattle.group_store.specs.Spreading.{HasEndRoom, HasOpened, IsSpread, KeepsBut, cleared};
 ghost use Rattle.group_store.specs.Spreading.{rels_damage};
+ghost use Rattle.group_store.specs.Walking.{group_row_at};
 
 use crate::Side;
+use crate::counting::push_counted;
 use crate::finding::find_group;
 use crate::making::{OwnGroup, make_own};
 use crate::members::chain_damage;
 use crate::moved::{Moved, Turn};
 use crate::side::group_head;
-use chain_edit::push_front;
 use rec_bytes::{
     CHAIN_RULE, DENSE, Damage, Fault, KIND, Key, NIL, NODE_FIRST_LINK, NODES, RELATIONSHIPS, Space,
     SpaceFault,
@@ -32,7 +38,8 @@ use rel_store::{Linked, end_links, place_of};
 
 /// Makes a sparse node dense: each of its relationships comes into the group of its type, at the
 /// front of the chain of its direction. The node is damaged where it isn't sparse, where its chain
-/// leads to no relationship or to more than so many, or where what stood first at a group's head or
+/// leads to no relationship or to more than so many or than its degree says, or where what stood
+/// first at a group's head or
 /// among the groups didn't come there by this call.
 pub fn make_dense<S: Space>(space: &mut S, node: u32, threshold: u32) -> Result<(), Fault>
     requires { threshold ≤ 200 }
@@ -46,6 +53,11 @@ pub fn make_dense<S: Space>(space: &mut S, node: u32, threshold: u32) -> Result<
         (S.state space.old) (S.state space.new)) }
     ensures writes { WritesBeside (node_key node) (2 * (threshold + 1) + 2)
         (S.state space.old) (S.state space.new) }
+    ensures touches { TouchesGroups (S.state space.old) (S.state space.new) node
+        (threshold + 2) (threshold + 2) }
+    ensures few { S.tells → TouchesGroups (S.state space.old) (S.state space.new) node
+        (degree (S.state space.old).records node + 2)
+        (degree (S.state space.old).records node + 2) }
     ensures onward { S.onward space.old space.new }
     ensures cause { HasFaultCause (S.faults space.old) (S.faults space.new) result }
 {
@@ -58,7 +70,7 @@ pub fn make_dense<S: Space>(space: &mut S, node: u32, threshold: u32) -> Result<
     clear(space, node)?;
     let mut moved = Moved::new();
     let mut at = row.first;
-    for _ in 0..threshold {
+    for _ in 0..least(row.degree, threshold) {
         if at == NIL {
             return Ok(());
         }
@@ -73,6 +85,13 @@ pub fn make_dense<S: Space>(space: &mut S, node: u32, threshold: u32) -> Result<
         return Err(Fault::Damaged(rels_damage(node)));
     }
     Ok(())
+}
+
+/// The lesser of two numbers.
+fn least(a: u32, b: u32) -> u32
+    ensures { result ≡ min a b }
+{
+    if a < b { a } else { b }
 }
 
 /// The damage of a node whose relationships break their rule.
@@ -108,7 +127,8 @@ fn move_one<S: Space>(space: &mut S, node: u32, rel: u32) -> Result<Turn, Fault>
     ensures moved { S.tells → IfOk result (λ turn. (rest : List ℕ) (most : ℕ) (empty : List ℕ)
         → IsSpread (S.state space.old) node rel (rel ∷ rest) most empty
         → IsSpread (S.state space.new) node turn.next rest most empty
-        × Regroups (S.state space.old) (S.state space.new) node) }
+        × Regroups (S.state space.old) (S.state space.new) node
+        × LeavesOthers (S.state space.old) (S.state space.new) node) }
     ensures sound { S.tells → (rest : List ℕ) (most : ℕ) (empty : List ℕ)
         → IsSpread (S.state space.old) node rel (rel ∷ rest) most empty
         → HasEndRoom (S.state space.old) empty → NotDamaged result }
@@ -117,7 +137,7 @@ fn move_one<S: Space>(space: &mut S, node: u32, rel: u32) -> Result<Turn, Fault>
         → IsOwnTurn (S.state space.old) (S.state space.new) node (rel ∷ rest) turn) }
     ensures wrote { IfOk result (λ turn.
         WritesOnly (S.state space.old) (S.state space.new) (turn_keys node rel turn)) }
-    ensures writes { WritesBeside (node_key node) 4 (S.state space.old) (S.state space.new) }
+    ensures touches { TouchesGroups (S.state space.old) (S.state space.new) node 2 2 }
     ensures onward { S.onward space.old space.new }
     ensures cause { HasFaultCause (S.faults space.old) (S.faults space.new) result }
 {
@@ -127,7 +147,7 @@ fn move_one<S: Space>(space: &mut S, node: u32, rel: u32) -> Result<Turn, Fault>
     let own = own_group(space, node, row.label)?;
     let head = group_head(own.row.id, Side::at(node, row.from, row.to));
     free_previous(space, node, rel)?;
-    let first = push_front(space, head, node, rel)?;
+    let first = push_counted(space, head, node, rel)?;
     let (_, next) = end_links(&row, node);
     Ok(Turn {
         next,
@@ -144,13 +164,22 @@ pub(crate) fn own_group<S: Space>(space: &mut S, node: u32, label: u32) -> Resul
         → IsDense (S.state space.old).records node
         → KeepsBut (S.state space.new).records (S.state space.new).shape node rest most
         (own.row.id ∷ empty)
-        × HasOpened (S.state space.old) (S.state space.new) node label own.row.id) }
+        × HasOpened (S.state space.old) (S.state space.new) node label own.row.id rest) }
     ensures sound { S.tells → (rest : List ℕ) (most : ℕ) (empty : List ℕ)
         → KeepsBut (S.state space.old).records (S.state space.old).shape node rest most empty
         → IsDense (S.state space.old).records node
         → (meta_of (S.state space.old) groups_file).live ≢ room (S.state space.old) groups_file
         → NotDamaged result }
     ensures key { IfOk result (λ own. IsKey (group_key own.row.id)) }
+    ensures row { S.tells → IfOk result (λ own. (rest : List ℕ) (most : ℕ) (empty : List ℕ)
+        → KeepsBut (S.state space.old).records (S.state space.old).shape node rest most empty
+        → IsDense (S.state space.old).records node
+        → own.row ≡ group_row_at (S.state space.new).records own.row.id) }
+    ensures damaged { S.tells → IsDense (S.state space.old).records node
+        → IfErr result (IsOpenFault (S.state space.old)) }
+    ensures group { S.tells → IfOk result (λ own. IsDense (S.state space.old).records node
+        → (own.row.counted ≡ true) ⊎ (IsGroupAt (S.state space.new) node own.row
+        × SameButReads (S.state space.old) (S.state space.new))) }
     ensures grows { S.tells → IfOk result (λ own. (rest : List ℕ) (most : ℕ) (empty : List ℕ)
         → KeepsBut (S.state space.old).records (S.state space.old).shape node rest most empty
         → IsDense (S.state space.old).records node

@@ -1,4 +1,4 @@
-ghost use Rattle.std.specs.Prelude.{◌≡◌, ◌≢◌, ◌∷◌, [], ℕ, List, not, true, false};
+ghost use Rattle.std.specs.Prelude.{◌≡◌, ◌≢◌, ◌∷◌, [], ℕ, List, Some, not, true, false};
 ghost use Rattle.std.specs.Prelude.{IfErr, IfOk, OnOk};
 ghost use Rattle.node_store.specs.NodeRecord.{node_key};
 ghost use Rattle.rec_bytes.specs.Format.{groups_file};
@@ -6,7 +6,8 @@ ghost use Rattle.rec_bytes.specs.Key.{IsKey};
 ghost use Rattle.rec_bytes.specs.RecordFiles.{meta_key_of};
 ghost use Rattle.rec_bytes.specs.Space.{HasCause, SameButReads, WritesOnly};
 ghost use Rattle.store_rules.specs.Rules.{is_filled};
-ghost use Rattle.store_rules.specs.Views.{rec_at};
+ghost use Rattle.store_rules.specs.Views.{GroupRow, group_at, rec_at};
+ghost use Rattle.chain_edit.specs.Breaks.{IsBreakFault};
 ghost use Rattle.group_store.specs.Dropping.{CanDrop, HasDropped, IsDropFault, IsOnChain};
 ghost use Rattle.group_store.specs.Dropping.{dropped, follows, lead_key};
 ghost use Rattle.rec_bytes.specs.Fault.{HasFaultCause, NotDamaged, OnDamage};
@@ -36,6 +37,9 @@ pub fn drop_if_empty<S: Space>(space: &mut S, node: u32, group: u32) -> Result<b
     ensures ok { S.tells → IfOk result (λ gone. gone ≡ true
         → S.state space.new ≡ dropped (S.state space.old) node group) }
     ensures damaged { S.tells → IfErr result (IsDropFault (S.state space.old) node group) }
+    ensures breaks { S.tells → (row : GroupRow)
+        → group_at (S.state space.old).records group ≡ Some row → row.owner ≡ node
+        → IfErr result (IsBreakFault (S.state space.old)) }
     ensures sound { S.tells → (xs : List ℕ) → IsOnChain (S.state space.old) node group xs
         → NotDamaged result }
     ensures unwritten { OnDamage result (SameButReads (S.state space.old) (S.state space.new)) }

@@ -13,6 +13,15 @@ pub struct GroupRow {
     pub first_in: u32,
     /// The first of those that do both, or `NIL`.
     pub first_loop: u32,
+    /// Whether the record has the numbers of relationships in the three chains. They are 0 where it
+    /// hasn't.
+    pub counted: bool,
+    /// How many relationships leave the owner.
+    pub out_count: u32,
+    /// How many enter it.
+    pub in_count: u32,
+    /// How many do both.
+    pub loop_count: u32,
 }
 
 impl GroupRow {

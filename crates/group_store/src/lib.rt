@@ -5,6 +5,7 @@
 #![tactic(auto)]
 
 mod closing;
+mod counting;
 mod densing;
 mod dropping;
 mod finding;
@@ -16,16 +17,18 @@ mod making;
 mod members;
 mod moved;
 mod opening;
+mod raising;
 mod side;
 mod walking;
 
 pub use closing::close_chain;
+pub use counting::{push_counted, unlink_counted};
 pub use densing::make_dense;
 pub use dropping::drop_if_empty;
 pub use finding::find_group;
 pub use group_row::GroupRow;
 pub use loading::load;
 pub use making::make_group;
-pub use opening::{find_head, open_chain};
+pub use opening::{open_chain, open_head};
 pub use side::Side;
 pub use walking::groups;

@@ -1,4 +1,4 @@
-ghost use Rattle.std.specs.Prelude.{◌≡◌, ◌≢◌, ◌∷◌, [], ℕ, List, IfErr, IfOk, OnOk};
+ghost use Rattle.std.specs.Prelude.{◌≡◌, ◌≢◌, ◌∷◌, [], ℕ, List, true, IfErr, IfOk, OnOk};
 ghost use Rattle.id_freelist.specs.Taking.{room};
 ghost use Rattle.node_store.specs.Loading.{IsReadable};
 ghost use Rattle.node_store.specs.NodeRecord.{node_key};
@@ -13,6 +13,7 @@ ghost use Rattle.group_store.specs.Faults.{of_take};
 ghost use Rattle.group_store.specs.GroupRecord.{group_key};
 ghost use Rattle.group_store.specs.Making.{CanMake, HasMade, IsMakeFault, empty_group, empty_row};
 ghost use Rattle.group_store.specs.Making.{led, made};
+ghost use Rattle.group_store.specs.Opening.{IsOpenFault};
 ghost use Rattle.group_store.specs.Spreading.{HasOpened, KeepsBut};
 
 use crate::GroupRow;
@@ -20,9 +21,10 @@ use crate::links::{back, test_link};
 use crate::members::{chain_damage, first_group};
 use id_freelist::{TakeFault, take};
 use rec_bytes::{
-    Damage, Fault, GROUP_FIRST_IN, GROUP_FIRST_LOOP, GROUP_FIRST_OUT, GROUP_NEXT, GROUP_OWNER,
-    GROUP_PREVIOUS, GROUP_RULE, GROUP_TYPE, GROUPED, GROUPS, KIND, Key, META, NIL, NODE_FIRST_LINK,
-    NODES, RANGE_RULE, Rec, Space, SpaceFault, set_number,
+    COUNTED, Damage, Fault, GROUP_FIRST_IN, GROUP_FIRST_LOOP, GROUP_FIRST_OUT, GROUP_IN_COUNT,
+    GROUP_LOOP_COUNT, GROUP_NEXT, GROUP_OUT_COUNT, GROUP_OWNER, GROUP_PREVIOUS, GROUP_RULE,
+    GROUP_TYPE, GROUPS, KIND, Key, META, NIL, NODE_FIRST_LINK, NODES, RANGE_RULE, Rec, Space,
+    SpaceFault, set_number,
 };
 
 /// Makes an empty group of a type at a dense node, first on its chain. The node is damaged where it
@@ -34,6 +36,8 @@ pub fn make_group<S: Space>(space: &mut S, node: u32, label: u32) -> Result<Grou
         → HasMade (S.state space.old).records (S.state space.new).records node label row free xs) }
     ensures ok { S.tells → OnOk result (S.state space.new ≡ made (S.state space.old) node label) }
     ensures damaged { S.tells → IfErr result (IsMakeFault (S.state space.old) node) }
+    ensures breaks { S.tells → IsDense (S.state space.old).records node
+        → IfErr result (IsOpenFault (S.state space.old)) }
     ensures sound { S.tells → IsReadable (S.state space.old) node → (free xs : List ℕ)
         → CanMake (S.state space.old) node label free xs → IsDense (S.state space.old).records node
         → (meta_of (S.state space.old) groups_file).live ≢ room (S.state space.old) groups_file
@@ -45,7 +49,9 @@ pub fn make_group<S: Space>(space: &mut S, node: u32, label: u32) -> Result<Grou
         → IsDense (S.state space.old).records node
         → LacksGroup (S.state space.old).records node label
         → KeepsBut (S.state space.new).records (S.state space.new).shape node rest most
-        (row.id ∷ empty) × HasOpened (S.state space.old) (S.state space.new) node label row.id) }
+        (row.id ∷ empty)
+        × HasOpened (S.state space.old) (S.state space.new) node label row.id rest) }
+    ensures shape { S.tells → (S.state space.new).shape ≡ (S.state space.old).shape }
     ensures wrote { IfOk result (λ row. (first : ℕ) × WritesOnly (S.state space.old)
         (S.state space.new) (group_key row.id ∷ group_key first ∷ node_key node
         ∷ meta_key_of groups_file ∷ [])) }
@@ -80,13 +86,15 @@ pub(crate) fn make_own<S: Space>(space: &mut S, node: u32, label: u32) -> Result
         → NotDamaged result }
     ensures unwritten { OnDamage result (SameButReads (S.state space.old) (S.state space.new)) }
     ensures key { IfOk result (λ own. IsKey (group_key own.row.id)) }
+    ensures counted { IfOk result (λ own. own.row.counted ≡ true) }
     ensures rules { S.tells → IfOk result (λ own. (rest : List ℕ) (most : ℕ) (empty : List ℕ)
         → KeepsBut (S.state space.old).records (S.state space.old).shape node rest most empty
         → IsDense (S.state space.old).records node
         → LacksGroup (S.state space.old).records node label
         → KeepsBut (S.state space.new).records (S.state space.new).shape node rest most
         (own.row.id ∷ empty)
-        × HasOpened (S.state space.old) (S.state space.new) node label own.row.id) }
+        × HasOpened (S.state space.old) (S.state space.new) node label own.row.id rest) }
+    ensures shape { S.tells → (S.state space.new).shape ≡ (S.state space.old).shape }
     ensures first { S.tells
         → IfOk result (λ own. own.first ≡ first_link (S.state space.old).records node) }
     ensures wrote { IfOk result (λ own. WritesOnly (S.state space.old) (S.state space.new)
@@ -162,7 +170,7 @@ fn empty_group(node: u32, label: u32, next: u32) -> Rec
     ensures { result ≡ empty_group node label next }
 {
     let mut rec = Rec::ZEROS;
-    rec.set_byte(KIND, GROUPED);
+    rec.set_byte(KIND, COUNTED);
     rec.set_number(GROUP_TYPE, label);
     rec.set_number(GROUP_OWNER, node);
     rec.set_number(GROUP_PREVIOUS, NIL);
@@ -170,6 +178,9 @@ fn empty_group(node: u32, label: u32, next: u32) -> Rec
     rec.set_number(GROUP_FIRST_OUT, NIL);
     rec.set_number(GROUP_FIRST_IN, NIL);
     rec.set_number(GROUP_FIRST_LOOP, NIL);
+    rec.set_number(GROUP_OUT_COUNT, 0);
+    rec.set_number(GROUP_IN_COUNT, 0);
+    rec.set_number(GROUP_LOOP_COUNT, 0);
     rec
 }
 
@@ -183,5 +194,9 @@ fn empty_row(id: u32, label: u32) -> GroupRow
         first_out: NIL,
         first_in: NIL,
         first_loop: NIL,
+        counted: true,
+        out_count: 0,
+        in_count: 0,
+        loop_count: 0,
     }
 }

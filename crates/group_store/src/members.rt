@@ -13,12 +13,12 @@ ghost use Rattle.group_store.specs.GroupChain.{is_group_of, IsGroupOf};
 ghost use Rattle.rec_bytes.specs.Fault.{HasFaultCause, NotDamaged};
 ghost use Rattle.group_store.specs.Faults.{TakesNoMemory};
 ghost use Rattle.group_store.specs.GroupRecord.{group_key};
-ghost use Rattle.group_store.specs.Walking.{chain_damage, IsMemberFault};
+ghost use Rattle.group_store.specs.Walking.{chain_damage, IsMemberFault, member_damage};
 
 use node_store::NodeRow;
 use rec_bytes::{
-    Damage, Fault, GROUP_OWNER, GROUP_RULE, GROUPED, GROUPS, KIND, Key, META, NODES, RANGE_RULE,
-    Reads, Rec, room_of,
+    COUNTED, Damage, FREE, Fault, GROUP_OWNER, GROUP_RULE, GROUPED, GROUPS, KIND, Key, META, NODES,
+    RANGE_RULE, Reads, Rec, room_of,
 };
 
 /// The damage of a node whose groups break their rule.
@@ -60,7 +60,7 @@ fn first_of(row: &NodeRow) -> Option<u32>
 }
 
 /// Reads the record of a group that the node owns. The node is damaged where it owns none of the
-/// identifier.
+/// identifier, and the group where its record is of no kind.
 pub(crate) fn read_member<R: Reads>(space: &mut R, node: u32, id: u32) -> Result<Rec, Fault>
     ensures got { R.tells
         → IfOk result (λ rec. rec ≡ rec_at (R.state space.old).records groups_file id) }
@@ -86,7 +86,7 @@ pub(crate) fn read_member<R: Reads>(space: &mut R, node: u32, id: u32) -> Result
     }
     let rec = space.get(Key { file: GROUPS, id })?;
     if !is_group_of(&rec, node) {
-        return Err(Fault::Damaged(chain_damage(node)));
+        return Err(Fault::Damaged(member_damage(&rec, node, id)));
     }
     Ok(rec)
 }
@@ -95,5 +95,23 @@ pub(crate) fn read_member<R: Reads>(space: &mut R, node: u32, id: u32) -> Result
 fn is_group_of(rec: &Rec, node: u32) -> bool
     ensures { result ≡ is_group_of rec.now node }
 {
-    rec.byte(KIND) == GROUPED && rec.number(GROUP_OWNER) == node
+    let kind = rec.byte(KIND);
+    (kind == GROUPED || kind == COUNTED) && rec.number(GROUP_OWNER) == node
+}
+
+/// The damage of what stands where a group of the node is sought, and is none: the group's own, if
+/// the record is of no kind.
+fn member_damage(rec: &Rec, node: u32, id: u32) -> Damage
+    ensures { result ≡ member_damage rec.now node id }
+{
+    let kind = rec.byte(KIND);
+    if kind == FREE || kind == GROUPED || kind == COUNTED {
+        chain_damage(node)
+    } else {
+        Damage {
+            file: GROUPS,
+            id,
+            rule: RANGE_RULE,
+        }
+    }
 }

@@ -1,40 +1,50 @@
 //! The head of the chain that an end of a relationship stands in.
 
-ghost use Rattle.std.specs.Prelude.{◌≡◌, ◌≤◌, ◌+◌, true, ℕ, List, IfOk};
+ghost use Rattle.std.specs.Prelude.{◌≡◌, ◌≢◌, ◌⊎◌, ◌≤◌, ◌+◌, ◌∷◌, [], true, ℕ, List, Some, IfErr, IfOk};
 ghost use Rattle.std.specs.Bool.{Decides};
 ghost use Rattle.rec_bytes.specs.Key.{IsKey};
 ghost use Rattle.rec_bytes.specs.RecordFiles.{is_meta_file};
-ghost use Rattle.rec_bytes.specs.Space.{SameButReads};
-ghost use Rattle.store_rules.specs.Ends.{IsEndHead};
-ghost use Rattle.store_rules.specs.Views.{RelRow};
+ghost use Rattle.rec_bytes.specs.Space.{SameButReads, WritesOnly};
+ghost use Rattle.store_rules.specs.Breaking.{MemberKeeps};
+ghost use Rattle.store_rules.specs.Views.{RelRow, rel_at};
 ghost use Rattle.store_rules.specs.Writes.{WritesBeside};
 ghost use Rattle.node_store.specs.Loading.{IsReadable};
 ghost use Rattle.node_store.specs.NodeRecord.{node_key};
+ghost use Rattle.chain_edit.specs.Breaks.{IsBreakFault};
 ghost use Rattle.chain_edit.specs.Heads.{head_of, IsHead};
+ghost use Rattle.group_store.specs.FirstGroup.{IsNodeFault};
 ghost use Rattle.group_store.specs.GroupChain.{IsDense};
-ghost use Rattle.rec_bytes.specs.Fault.{HasFaultCause, NotDamaged};
+ghost use Rattle.group_store.specs.GroupRecord.{group_key};
+ghost use Rattle.rec_bytes.specs.Fault.{HasFaultCause, NotDamaged, OnDamage};
 ghost use Rattle.group_store.specs.Opening.{
   CanOpen,
   CanOpenGroup,
+  FindsChain,
   HasGroupRoom,
+  IsAt,
   IsEndOf,
+  IsHeadFault,
+  IsOpenFault,
   OpensChain,
   WritesOpened,
+  end_damage,
   moved_writes,
 };
 
 use crate::Side;
 use crate::densing::{make_dense, own_group};
 use crate::finding::find_group;
-use crate::members::{chain_damage, first_group};
+use crate::members::first_group;
+use crate::raising::count_group;
 use crate::side::{group_head, node_head};
 use chain_edit::Head;
-use rec_bytes::{Fault, Reads, Space};
+use rec_bytes::{CHAIN_RULE, Damage, Fault, RELATIONSHIPS, Reads, Space};
 
 /// Whether the node is in use and dense.
 fn is_dense<R: Reads>(space: &mut R, node: u32) -> Result<bool, Fault>
     ensures is { R.tells
         → IfOk result (λ dense. Decides dense (IsDense (R.state space.old).records node)) }
+    ensures damaged { R.tells → IfErr result (IsNodeFault (R.state space.old) node) }
     ensures sound { R.tells → IsReadable (R.state space.old) node → NotDamaged result }
     ensures state { SameButReads (R.state space.old) (R.state space.new) }
     ensures onward { R.onward space.old space.new }
@@ -44,31 +54,60 @@ fn is_dense<R: Reads>(space: &mut R, node: u32) -> Result<bool, Fault>
     Ok(first.is_some())
 }
 
-/// The head of the chain at a node that has the relationships of a type on a side: the node's own,
-/// or that of a group. The node is damaged where it is dense and has no group of the type.
-pub fn find_head<R: Reads>(space: &mut R, node: u32, label: u32, side: Side) -> Result<Head, Fault>
+/// The head of the chain at a node in which a relationship stands: the node's own, or that of the
+/// group of its type, which gets counts where it has none. The relationship, which is of the type
+/// and on the side, is damaged where the node is dense and has no group of the type, and then
+/// nothing is written.
+pub fn open_head<S: Space>(
+    space: &mut S,
+    node: u32,
+    rel: u32,
+    label: u32,
+    side: Side,
+) -> Result<Head, Fault>
     requires { IsKey (node_key node) }
-    ensures found { R.tells → IfOk result (λ head. (most : ℕ) (empty : List ℕ) (x : ℕ)
-        (row : RelRow) → IsEndOf (R.state space.old) node label side most empty x row
-        → IsEndHead (R.state space.old).records (head_of head) node row) }
-    ensures sound { R.tells → (most : ℕ) (empty : List ℕ) (x : ℕ) (row : RelRow)
-        → IsEndOf (R.state space.old) node label side most empty x row → NotDamaged result }
+    ensures found { S.tells → IfOk result (λ head. (most : ℕ) (empty : List ℕ) (x : ℕ)
+        (row : RelRow) → IsEndOf (S.state space.old) node label side most empty x row
+        → FindsChain (S.state space.old) (S.state space.new) (head_of head) node row most empty) }
+    ensures sound { S.tells → (most : ℕ) (empty : List ℕ) (x : ℕ) (row : RelRow)
+        → IsEndOf (S.state space.old) node label side most empty x row → NotDamaged result }
+    ensures damaged { S.tells → IfErr result (IsHeadFault (S.state space.old) node rel label) }
+    ensures breaks { S.tells → (row : RelRow) → rel_at (S.state space.old).records rel ≡ Some row
+        → IsAt node label side row → ((g : ℕ) → MemberKeeps (S.state space.old).records g)
+        → IfErr result (IsBreakFault (S.state space.old)) }
+    ensures unwritten { OnDamage result (SameButReads (S.state space.old) (S.state space.new)) }
     ensures head { IfOk result (λ head. IsHead (head_of head)) }
     ensures own { IfOk result (λ head. is_meta_file head.key.file ≡ true) }
-    ensures state { SameButReads (R.state space.old) (R.state space.new) }
-    ensures onward { R.onward space.old space.new }
-    ensures cause { HasFaultCause (R.faults space.old) (R.faults space.new) result }
+    ensures wrote { IfOk result (λ head.
+        WritesOnly (S.state space.old) (S.state space.new) (head.key ∷ [])) }
+    ensures writes { (g : ℕ) × WritesOnly (S.state space.old) (S.state space.new)
+        (group_key g ∷ []) }
+    ensures onward { S.onward space.old space.new }
+    ensures cause { HasFaultCause (S.faults space.old) (S.faults space.new) result }
 {
     if !is_dense(space, node)? {
         return Ok(node_head(node));
     }
-    match find_group(space, node, label)? {
-        Some(group) => Ok(group_head(group.id, side)),
-        None => Err(Fault::Damaged(chain_damage(node))),
+    let Some(group) = find_group(space, node, label)? else {
+        return Err(Fault::Damaged(end_damage(rel)));
+    };
+    count_group(space, node, &group)?;
+    Ok(group_head(group.id, side))
+}
+
+/// The damage of a relationship that no chain of an end can have.
+fn end_damage(rel: u32) -> Damage
+    ensures { result ≡ end_damage rel }
+{
+    Damage {
+        file: RELATIONSHIPS,
+        id: rel,
+        rule: CHAIN_RULE,
     }
 }
 
-/// The head of a chain of a dense node's group of a type, which is made where there is none.
+/// The head of a chain of a dense node's group of a type, which is made where there is none, and
+/// gets counts where it has none.
 fn open_group<S: Space>(space: &mut S, node: u32, label: u32, side: Side) -> Result<Head, Fault>
     requires { IsKey (node_key node) }
     ensures opened { S.tells → IfOk result (λ head. (row : RelRow) (empty : List ℕ)
@@ -77,6 +116,8 @@ fn open_group<S: Space>(space: &mut S, node: u32, label: u32, side: Side) -> Res
     ensures sound { S.tells → (row : RelRow) (empty : List ℕ)
         → CanOpenGroup (S.state space.old) node label side row empty
         → HasGroupRoom (S.state space.old) empty → NotDamaged result }
+    ensures damaged { S.tells → IsDense (S.state space.old).records node
+        → IfErr result (IsOpenFault (S.state space.old)) }
     ensures head { IfOk result (λ head. IsHead (head_of head)) }
     ensures own { IfOk result (λ head. is_meta_file head.key.file ≡ true) }
     ensures wrote { IfOk result (λ head.
@@ -86,12 +127,14 @@ fn open_group<S: Space>(space: &mut S, node: u32, label: u32, side: Side) -> Res
     ensures cause { HasFaultCause (S.faults space.old) (S.faults space.new) result }
 {
     let own = own_group(space, node, label)?;
+    count_group(space, node, &own.row)?;
     Ok(group_head(own.row.id, side))
 }
 
 /// The head of the chain at a node that a new relationship of a type and on a side comes into. The
 /// node, which has this degree, becomes dense where it has as many relationships as a sparse one
-/// may have, and a dense one gets a group of the type where it has none. That number, the threshold
+/// may have, and a dense one gets a group of the type where it has none. A group that is found gets
+/// counts where it has none. The number of relationships that a sparse node may have, the threshold
 /// of the store's shape, is what the caller weighed with.
 pub fn open_chain<S: Space>(
     space: &mut S,
@@ -109,6 +152,8 @@ pub fn open_chain<S: Space>(
     ensures sound { S.tells → (row : RelRow) (empty : List ℕ)
         → CanOpen (S.state space.old) node degree threshold label side row empty
         → HasGroupRoom (S.state space.old) empty → NotDamaged result }
+    ensures damaged { S.tells → IsDense (S.state space.old).records node ⊎ (degree ≢ threshold)
+        → IfErr result (IsOpenFault (S.state space.old)) }
     ensures head { IfOk result (λ head. IsHead (head_of head)) }
     ensures own { IfOk result (λ head. is_meta_file head.key.file ≡ true) }
     ensures wrote { IfOk result (λ head. WritesOpened (S.state space.old) (S.state space.new)

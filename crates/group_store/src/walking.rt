@@ -19,6 +19,9 @@ pub fn groups<R: Reads>(alloc: Global, space: &mut R, row: &NodeRow) -> Result<V
         HasGroupRows (R.state space.old).records row.now.id row.now.first rows.items) }
     ensures reads { IfOk result
         (λ rows. R.state space.new ≡ after_gets (length rows.items) (R.state space.old)) }
+    ensures few_reads { R.tells → (xs : List ℕ)
+        → IsWalkable (R.state space.old) row.now.id row.now.first xs
+        → ReadsAtMost (length xs) (R.state space.old) (R.state space.new) }
     ensures at_most { ReadsAtMost (group_mark (R.state space.old)) (R.state space.old)
         (R.state space.new) }
     ensures damaged { R.tells

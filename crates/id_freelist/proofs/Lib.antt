@@ -2,4 +2,5 @@ pub mod FreeListLaws
 pub mod Leaving
 pub mod Making
 pub mod Splits
+pub mod TakeBreaches
 pub mod TakeDamages

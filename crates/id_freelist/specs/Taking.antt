@@ -31,6 +31,10 @@ abbrev pub is_counted : Meta → Bool
 is_counted meta =
     if nat_eq meta.free format.nil then nat_eq meta.live meta.high else nat_lt meta.live meta.high
 
+-- none is free, and fewer are counted than were given out
+abbrev pub is_undercounted : Meta → Bool
+is_undercounted meta = nat_eq meta.free format.nil && nat_lt meta.live meta.high
+
 -- ---- what is made of the space
 
 -- the identifier that is taken: the first free one, or else the mark
@@ -105,20 +109,37 @@ pub record IsRanged (meta : Meta) (most : ℕ) : Type 0 where
   pub mark : meta.high ≤ most
   pub first : (meta.free ≡ format.nil) ⊎ (meta.free < meta.high)
 
+-- The record is below the mark and not in use.
+pub record IsUnused (records : Records) (file x : ℕ) : Type 0 where
+  pub low : x < high records file
+  pub free : kind_at records file x ≡ format.free_kind
+
+-- all below the mark are in use
+abbrev pub AreAllUsed : Records → ℕ → Type 0
+AreAllUsed records file =
+    (x : ℕ) → x < high records file → kind_at records file x ≢ format.free_kind
+
 -- The record that is said to be damaged breaks the rule. The meta record has a number that can't
--- stand there, or its count and its free list don't go together. The first free record is in use,
--- or the next one that it names is none that can stand there.
+-- stand there. With an empty free list and a low count, a record is not in use and so not on the
+-- list, or else the count is wrong; the count is too high for the free list; or the list begins with
+-- a record in use. Or the first free record names a next one that can't stand there.
 pub data IsTakeDamage (s : State) (file : ℕ) : Damage → Type 0 where
   Unranged : (IsRanged (meta_of s file) (room s file) → ⊥)
       → IsTakeDamage s file (meta_damage file 1)
-  Uncounted : (meta_of s file).free ≡ format.nil → (meta_of s file).live ≢ (meta_of s file).high
+  Unlisted : (x : ℕ) → (meta_of s file).free ≡ format.nil
+      → (meta_of s file).live < (meta_of s file).high → IsUnused s.records file x
+      → IsTakeDamage s file (record_damage file x 2)
+  Undercounted : (meta_of s file).free ≡ format.nil
+      → (meta_of s file).live < (meta_of s file).high → AreAllUsed s.records file
       → IsTakeDamage s file (meta_damage file 2)
-  Overcounted : (meta_of s file).free ≢ format.nil → (meta_of s file).high ≤ (meta_of s file).live
+  Overcounted : (meta_of s file).high ≤ (meta_of s file).live
+      → ((meta_of s file).free ≡ format.nil → (meta_of s file).high < (meta_of s file).live)
       → IsTakeDamage s file (meta_damage file 2)
   InUse : (meta_of s file).free ≢ format.nil
       → kind_at s.records file (meta_of s file).free ≢ format.free_kind
-      → IsTakeDamage s file (record_damage file (meta_of s file).free 2)
+      → IsTakeDamage s file (meta_damage file 2)
   BadNext : (meta_of s file).free ≢ format.nil
+      → IsUnused s.records file (meta_of s file).free
       → next_free s.records file (meta_of s file).free ≢ format.nil
       → high s.records file ≤ next_free s.records file (meta_of s file).free
       → IsTakeDamage s file (record_damage file (meta_of s file).free 1)

@@ -1,24 +1,28 @@
 ghost use Rattle.std.specs.Prelude.{◌≡◌, ◌≢◌, ◌+◌, ◌<◌, ◌≤◌, ℕ, List, [], ◌∷◌, IfErr, IfOk};
-ghost use Rattle.std.specs.Prelude.{OnErr, OnOk, true};
+ghost use Rattle.std.specs.Prelude.{IfNone, IfSome, OnErr, OnOk, false, true};
 ghost use Rattle.rec_bytes.specs.Format.{free_kind, most_ids};
 ghost use Rattle.rec_bytes.specs.Key.{IsKey};
 ghost use Rattle.rec_bytes.specs.RecordFiles.{is_meta_file, meta_key_of, room_of};
 ghost use Rattle.rec_bytes.specs.Space.{HasCause, SameButReads, WritesOnly, after_get, meta_of};
 ghost use Rattle.store_rules.specs.Ranges.{is_reused};
 ghost use Rattle.store_rules.specs.Rules.{next_free};
-ghost use Rattle.store_rules.specs.Views.{key_in, kind_at};
+ghost use Rattle.store_rules.specs.Views.{high, key_in, kind_at};
 ghost use Rattle.store_rules.specs.Writes.{ChangesOnly};
-ghost use Rattle.id_freelist.specs.TakeFault.{HasTakeCause, NotDamaged};
+ghost use Rattle.id_freelist.specs.TakeFault.{BlamesBroken, HasTakeCause, NotDamaged};
 ghost use Rattle.id_freelist.specs.FreeLists.{IsFreeList};
 ghost use Rattle.id_freelist.specs.Taking.{
+  AreAllUsed,
   CanTake,
   HasTaken,
   IsNextLow,
+  IsTakeDamage,
   IsTakeFault,
   IsUndamaged,
+  IsUnused,
   free_taken,
   is_counted,
   is_ranged,
+  is_undercounted,
   mark_taken,
   taken,
   taken_id,
@@ -42,6 +46,8 @@ pub fn take<S: Space>(space: &mut S, file: u8) -> Result<u32, TakeFault>
     ensures full { (meta_of (S.state space.old) file).live ≡ room_of (S.state space.old).shape file
         → result ≡ Err (TakeFault.Full file (meta_of (S.state space.old) file).live) }
     ensures refused { S.tells → IfErr result (IsTakeFault (S.state space.old) file) }
+    ensures damaged { S.tells → IfErr result
+        (BlamesBroken (S.state space.old).records (S.state space.old).shape) }
     ensures sound { S.tells → (free : List ℕ) → CanTake (S.state space.old) file free
         → NotDamaged result }
     ensures undamaged { S.tells → OnOk result (IsUndamaged (S.state space.old) file) }
@@ -68,7 +74,8 @@ pub fn take<S: Space>(space: &mut S, file: u8) -> Result<u32, TakeFault>
         return Err(damaged(META, file as u32, RANGE_RULE));
     }
     if !is_counted(meta) {
-        return Err(damaged(META, file as u32, SPLIT_RULE));
+        let damage = miscounted(space, file, meta)?;
+        return Err(TakeFault::Damaged(damage));
     }
     if meta.free == NIL {
         Ok(take_mark(space, file, meta)?)
@@ -97,6 +104,66 @@ fn is_counted(meta: Meta) -> bool
     } else {
         meta.live < meta.high
     }
+}
+
+/// The record that breaks the second rule, where the count and the free list of a file don't go
+/// together. With an empty list and a low count it is one that is not in use, which is looked for
+/// among all below the mark; if there is none, the count is wrong.
+fn miscounted<R: Reads>(space: &mut R, file: u8, meta: Meta) -> Result<Damage, SpaceFault>
+    requires file { is_meta_file file ≡ true }
+    requires meta { meta ≡ meta_of (R.state space.old) file }
+    requires mark { meta.high ≤ most_ids }
+    requires counted { is_counted meta ≡ false }
+    ensures is { R.tells → IfOk result (IsTakeDamage (R.state space.old) file) }
+    ensures same { SameButReads (R.state space.old) (R.state space.new) }
+    ensures onward { R.onward space.old space.new }
+    ensures cause { HasCause (R.faults space.old) (R.faults space.new) result }
+{
+    let on_meta = Damage {
+        file: META,
+        id: file as u32,
+        rule: SPLIT_RULE,
+    };
+    if !is_undercounted(meta) {
+        return Ok(on_meta);
+    }
+    match first_unused(space, file, meta.high)? {
+        Some(id) => Ok(Damage {
+            file,
+            id,
+            rule: SPLIT_RULE,
+        }),
+        None => Ok(on_meta),
+    }
+}
+
+/// Whether the free list is empty, and fewer are counted than were given out.
+fn is_undercounted(meta: Meta) -> bool
+    ensures { result ≡ is_undercounted meta }
+{
+    meta.free == NIL && meta.live < meta.high
+}
+
+/// The first record below the mark of a file that is not in use.
+fn first_unused<R: Reads>(space: &mut R, file: u8, mark: u32) -> Result<Option<u32>, SpaceFault>
+    requires file { is_meta_file file ≡ true }
+    requires mark { mark ≡ high (R.state space.old).records file }
+    requires small { mark ≤ most_ids }
+    ensures found { R.tells
+        → IfOk result (λ found. IfSome found (IsUnused (R.state space.old).records file)) }
+    ensures none { R.tells
+        → IfOk result (λ found. IfNone found (AreAllUsed (R.state space.old).records file)) }
+    ensures same { SameButReads (R.state space.old) (R.state space.new) }
+    ensures onward { R.onward space.old space.new }
+    ensures cause { HasCause (R.faults space.old) (R.faults space.new) result }
+{
+    for id in 0..mark {
+        let rec = space.get(Key { file, id })?;
+        if rec.byte(KIND) == FREE {
+            return Ok(Some(id));
+        }
+    }
+    Ok(None)
 }
 
 /// Takes the mark.
@@ -184,7 +251,7 @@ fn next_free<R: Reads>(space: &mut R, file: u8, meta: Meta) -> Result<u32, TakeF
     let id = meta.free;
     let rec = space.get(Key { file, id })?;
     if rec.byte(KIND) != FREE {
-        return Err(damaged(file, id, SPLIT_RULE));
+        return Err(damaged(META, file as u32, SPLIT_RULE));
     }
     let next = rec.number(FREE_NEXT);
     if next != NIL && next >= meta.high {

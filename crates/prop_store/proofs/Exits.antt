@@ -1,5 +1,5 @@
 -- Faults that are passed on.
-use Rattle.std.specs.Prelude.{Result, Err, ℕ}
+use Rattle.std.specs.Prelude.{Result, Err, IfErr, ℕ}
 use Rattle.std.specs.Result.{IsErrAnd}
 use Rattle.std.proofs.Common.{◌≡◌, sym, subst}
 use Rattle.std.proofs.lemmas.Result.{err_from_is_err_and}
@@ -7,6 +7,7 @@ use Rattle.rec_bytes.specs.declared.space.SpaceFault.{SpaceFault}
 use Rattle.rec_bytes.specs.declared.space.SpaceFault.TheVariants.{Memory, Disk}
 use Rattle.rec_bytes.specs.Fault.{NotDamaged, of_space}
 use Rattle.rec_bytes.specs.declared.fault.Fault.{Fault}
+use Rattle.rec_bytes.specs.declared.fault.Fault.TheVariants as faults
 
 -- a fault of a space is no damage
 space_undamaged : (fault : SpaceFault) → NotDamaged {T = ℕ} (Err (of_space fault))
@@ -19,3 +20,15 @@ space_exit r fault h = let p = err_from_is_err_and r h in subst NotDamaged (sym 
 -- and one that is passed on as it is, is none where it was none
 pub same_exit : {T U : Type 0} (r : Result T Fault) (q : Result U Fault) (fault : Fault) → q ≡ Err fault → IsErrAnd r (λ f. f ≡ fault) → NotDamaged q → NotDamaged r
 same_exit r q fault is h sound = let p = err_from_is_err_and r h in subst NotDamaged (sym p.1) (subst (λ f. NotDamaged {T = ℕ} (Err f)) (sym p.2) (subst NotDamaged is sound))
+
+-- a fault of a space has what both of its causes have
+pub space_has : {T : Type 0} (P : Fault → Type 0) → P faults.Memory → P faults.Disk → (r : Result T Fault) (fault : SpaceFault) → IsErrAnd r (λ f. f ≡ of_space fault) → IfErr r P
+space_has {T} P memory disk r fault h = let p = err_from_is_err_and r h in subst (λ (z : Result T Fault). IfErr z P) (sym p.1) (subst P (sym p.2) (by fault))
+  where
+    by : (fault : SpaceFault) → P (of_space fault)
+    by Memory = memory
+    by Disk = disk
+
+-- and one that is passed on has what it had
+pub same_has : {T : Type 0} (P : Fault → Type 0) (r : Result T Fault) (fault : Fault) → IsErrAnd r (λ f. f ≡ fault) → P fault → IfErr r P
+same_has {T} P r fault h has = let p = err_from_is_err_and r h in subst (λ (z : Result T Fault). IfErr z P) (sym p.1) (subst P (sym p.2) has)

@@ -2,7 +2,9 @@ pub mod Ahead
 pub mod Answered
 pub mod BlockRecords
 pub mod BlockSteps
+pub mod Breaches
 pub mod ChainDrops
+pub mod Clearing
 pub mod DropSteps
 pub mod ElementChanges
 pub mod ElementCounts
@@ -18,7 +20,9 @@ pub mod Keys
 pub mod LinkChanges
 pub mod ListLaws
 pub mod Meanings
+pub mod Midway
 pub mod OwnerPlaces
+pub mod PointerLaws
 pub mod PropertyParts
 pub mod PropertyRecords
 pub mod PutSteps

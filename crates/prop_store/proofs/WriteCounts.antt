@@ -3,7 +3,7 @@ use Rattle.std.proofs.Common.{◌≡◌, ℕ, ◌+◌, ◌≤◌, true, List, []
 use Rattle.std.proofs.lemmas.List.{length-map}
 use Rattle.rec_bytes.specs.declared.key.Key.{Key}
 use Rattle.rec_bytes.specs.Format as format
-use Rattle.rec_bytes.specs.RecordFiles.{is_meta_file, meta_key_of}
+use Rattle.rec_bytes.specs.RecordFiles.{is_meta_file}
 use Rattle.rec_bytes.specs.Space.{IsAmong, SameButReads, State, WritesOnly}
 use Rattle.rec_bytes.proofs.Spaces.{writes_more}
 use Rattle.store_rules.specs.Views.{key_in}

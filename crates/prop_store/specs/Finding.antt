@@ -9,7 +9,7 @@ use Rattle.store_rules.specs.Properties.{IsProperty, Property, first_property, p
 use Rattle.store_rules.specs.Properties.{property_records}
 use Rattle.store_rules.specs.Views.{Records, rec_at}
 use Rattle.prop_store.specs.Link.{IsLink, IsLinkOf, link_after, link_of}
-use Rattle.prop_store.specs.PropertyRow.{IsRow}
+use Rattle.prop_store.specs.PropertyRow.{IsReadRow, IsRow}
 use Rattle.prop_store.specs.Reading.{properties_met}
 use Rattle.prop_store.specs.declared.finding.Search.{Search}
 use Rattle.prop_store.specs.declared.finding.Search.TheVariants.{Absent, Found}
@@ -66,3 +66,8 @@ pub record MetAt (records : Records) (owner : Owner) (key : ℕ) (spot : Spot) :
 abbrev pub IsMet : Records → Owner → ℕ → Search → Type 0
 IsMet records owner key (Found spot) = MetAt records owner key spot
 IsMet records owner key (Absent count) = property_of (properties_met records owner) key ≡ None
+
+-- what was found is what the records say
+abbrev pub IsReadAt : Records → Search → Type 0
+IsReadAt records (Found spot) = IsReadRow records spot.row
+IsReadAt records (Absent count) = Unit {0}

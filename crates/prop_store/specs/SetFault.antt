@@ -2,6 +2,8 @@
 use Rattle.std.specs.Prelude.{◌≡◌, ◌⊎◌, ℕ, Result}
 use Rattle.rec_bytes.specs.Cause.{HasDiskCause}
 use Rattle.rec_bytes.specs.Format as format
+use Rattle.rec_bytes.specs.RecordFiles.{room_of}
+use Rattle.rec_bytes.specs.declared.shape.Shape.{Shape}
 use Rattle.rec_bytes.specs.declared.space.SpaceFault.{SpaceFault}
 use Rattle.rec_bytes.specs.declared.space.SpaceFault.TheVariants as spaces
 use Rattle.id_freelist.specs.declared.take_fault.TakeFault.{TakeFault}
@@ -47,3 +49,18 @@ IsOwnRoom (Full file live) = (file ≡ format.properties_file) ⊎ (file ≡ for
 IsOwnRoom Memory = Unit {0}
 IsOwnRoom Disk = Unit {0}
 IsOwnRoom (Damaged damage) = Unit {0}
+
+-- a full file is told with as many records as it has room for
+abbrev pub IsExactTake : Shape → TakeFault → Type 0
+IsExactTake shape (takes.Full file live) = live ≡ room_of shape file
+IsExactTake shape takes.Memory = Unit {0}
+IsExactTake shape takes.Disk = Unit {0}
+IsExactTake shape (takes.Damaged damage) = Unit {0}
+
+-- and so is an element with as many properties as it may have
+abbrev pub IsExact : Shape → SetFault → Type 0
+IsExact shape (PropsFull count) = count ≡ 32
+IsExact shape (Full file live) = live ≡ room_of shape file
+IsExact shape Memory = Unit {0}
+IsExact shape Disk = Unit {0}
+IsExact shape (Damaged damage) = Unit {0}

@@ -4,8 +4,9 @@ ghost use Rattle.id_freelist.specs.TakeFault.{HasTakeCause};
 ghost use Rattle.prop_store.specs.BlockWriting.{MayFollow, WritesBlock, numbered_piece};
 ghost use Rattle.prop_store.specs.FileChange.{HasWritten, IsSameBeside, IsWriteFault, KeepsFile};
 ghost use Rattle.prop_store.specs.FileChange.{blocks_for};
+ghost use Rattle.prop_store.specs.Setting.{BlamesTaken};
 ghost use Rattle.prop_store.specs.Touching.{TouchesProperties};
-ghost use Rattle.prop_store.specs.SetFault.{IsFullOf};
+ghost use Rattle.prop_store.specs.SetFault.{IsExactTake, IsFullOf};
 
 use crate::block_record::block_record;
 use id_freelist::{TakeFault, take};
@@ -25,6 +26,9 @@ pub(crate) fn write_text<S: Space>(space: &mut S, text: &[u8]) -> Result<u32, Ta
     ensures touches { TouchesProperties S.tells [] 0 (blocks_for (length text.now))
         (S.state space.old) (S.state space.new) }
     ensures full { S.tells → IfErr result (IsFullOf strings_file) }
+    ensures exact { S.tells → IfErr result (IsExactTake (S.state space.old).shape) }
+    ensures damaged { S.tells → IfErr result
+        (BlamesTaken S.tells (blocks_for (length text.now)) (S.state space.old)) }
     ensures onward { S.onward space.old space.new }
     ensures cause { HasTakeCause (S.faults space.old) (S.faults space.new) result }
 {
@@ -64,6 +68,8 @@ fn write_block<S: Space>(space: &mut S, piece: &[u8], next: u32) -> Result<u32, 
     ensures touches { TouchesProperties S.tells [] 0 1
         (S.state space.old) (S.state space.new) }
     ensures full { S.tells → IfErr result (IsFullOf strings_file) }
+    ensures exact { S.tells → IfErr result (IsExactTake (S.state space.old).shape) }
+    ensures damaged { S.tells → IfErr result (BlamesTaken S.tells 0 (S.state space.old)) }
     ensures onward { S.onward space.old space.new }
     ensures cause { HasTakeCause (S.faults space.old) (S.faults space.new) result }
 {

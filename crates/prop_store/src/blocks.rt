@@ -6,28 +6,36 @@ ghost use Rattle.rec_bytes.specs.Format.{most_ids, strings_file};
 ghost use Rattle.rec_bytes.specs.Space.{after_get};
 ghost use Rattle.store_rules.specs.Properties.{long_text_from};
 ghost use Rattle.store_rules.specs.Views.{rec_at};
-ghost use Rattle.prop_store.specs.Blocks.{HasBlockForm, HasText};
+ghost use Rattle.prop_store.specs.Blocks.{HasBlockForm, HasText, IsBlockFault, IsBlockKind};
+ghost use Rattle.prop_store.specs.Blocks.{IsBlockOf, IsTextFault, IsTextOf, LeadsToAll};
 ghost use Rattle.rec_bytes.specs.Fault.{HasFaultCause, NotDamaged};
-ghost use Rattle.prop_store.specs.Fault.{IsOwnDamage};
 ghost use Rattle.prop_store.specs.GivenOut.{AreGivenOut, IsGivenOut};
 ghost use Rattle.prop_store.specs.Reading.{ReadsAtMost};
 
 use crate::block_list::BlockList;
 use crate::damaged::damaged;
-use crate::given_out::is_given_out;
+use crate::given_out::test_link;
 use rec_bytes::{
-    BLOCK, BLOCK_LENGTH, BLOCK_NEXT, BLOCK_TEXT, BLOCK_TEXT_BYTES, Fault, KIND, Key, NIL,
-    PROPERTY_RULE, RANGE_RULE, Reads, Rec, STRINGS,
+    BLOCK, BLOCK_LENGTH, BLOCK_NEXT, BLOCK_TEXT, BLOCK_TEXT_BYTES, FREE, Fault, KIND, Key, NIL,
+    PROPERTIES, PROPERTY_RULE, RANGE_RULE, Reads, Rec, STRINGS,
 };
 use std::alloc::Global;
 
-/// The identifiers of the blocks of a text of so many bytes, without its bytes.
-pub(crate) fn block_ids<R: Reads>(space: &mut R, first: u32, size: u16) -> Result<BlockList, Fault>
+/// The identifiers of the blocks of a property's text of so many bytes, without its bytes.
+pub(crate) fn block_ids<R: Reads>(
+    space: &mut R,
+    property: u32,
+    first: u32,
+    size: u16,
+) -> Result<BlockList, Fault>
     requires { size ≤ 1024 }
     ensures followed { R.tells → (text blocks : List ℕ)
         → HasText (rec_at (R.state space.old).records strings_file) first size text blocks
         → IfOk result (λ ids. ids ≡ blocks) }
-    ensures damaged { IfErr result IsOwnDamage }
+    ensures leads { R.tells → IsTextOf (R.state space.old).records property first size
+        → IfOk result (LeadsToAll (R.state space.old).records property) }
+    ensures damaged { R.tells → IsTextOf (R.state space.old).records property first size
+        → IfErr result (IsTextFault (R.state space.old) property) }
     ensures sound { R.tells → (text blocks : List ℕ)
         → HasText (rec_at (R.state space.old).records strings_file) first size text blocks
         → AreGivenOut (R.state space.old).records strings_file blocks → NotDamaged result }
@@ -36,25 +44,34 @@ pub(crate) fn block_ids<R: Reads>(space: &mut R, first: u32, size: u16) -> Resul
     ensures cause { HasFaultCause (R.faults space.old) (R.faults space.new) result }
 {
     let mut ids = BlockList::new();
+    let mut from = Key {
+        file: PROPERTIES,
+        id: property,
+    };
     let mut at = first;
     let mut left = size;
     while left > 0 {
         let piece = piece_size(left);
-        let rec = read_block(space, at, piece)?;
+        let rec = read_block(space, property, from, at, piece)?;
         ids.push(at);
         left -= piece as u16;
+        from = Key {
+            file: STRINGS,
+            id: at,
+        };
         at = rec.number(BLOCK_NEXT);
     }
     if at != NIL {
-        return Err(damaged(STRINGS, at, PROPERTY_RULE));
+        return Err(damaged(PROPERTIES, property, PROPERTY_RULE));
     }
     Ok(ids)
 }
 
-/// The bytes of a text of so many, from its blocks.
+/// The bytes of a property's text of so many, from its blocks.
 pub(crate) fn read_text<R: Reads>(
     alloc: Global,
     space: &mut R,
+    property: u32,
     first: u32,
     size: u16,
 ) -> Result<Vec<u8>, Fault>
@@ -62,6 +79,8 @@ pub(crate) fn read_text<R: Reads>(
     ensures met { R.tells → IfOk result (λ bytes. bytes.items
         ≡ long_text_from (rec_at (R.state space.old).records strings_file) size first) }
     ensures size { IfOk result (λ bytes. length bytes.items ≡ size) }
+    ensures damaged { R.tells → IsTextOf (R.state space.old).records property first size
+        → IfErr result (IsTextFault (R.state space.old) property) }
     ensures sound { R.tells → (text blocks : List ℕ)
         → HasText (rec_at (R.state space.old).records strings_file) first size text blocks
         → AreGivenOut (R.state space.old).records strings_file blocks → NotDamaged result }
@@ -70,17 +89,25 @@ pub(crate) fn read_text<R: Reads>(
     ensures cause { HasFaultCause (R.faults space.old) (R.faults space.new) result }
 {
     let mut bytes = Vec::new(alloc);
+    let mut from = Key {
+        file: PROPERTIES,
+        id: property,
+    };
     let mut at = first;
     let mut left = size;
     while left > 0 {
         let piece = piece_size(left);
-        let rec = read_block(space, at, piece)?;
+        let rec = read_block(space, property, from, at, piece)?;
         bytes.extend_from_slice(rec.text(BLOCK_TEXT, piece))?;
         left -= piece as u16;
+        from = Key {
+            file: STRINGS,
+            id: at,
+        };
         at = rec.number(BLOCK_NEXT);
     }
     if at != NIL {
-        return Err(damaged(STRINGS, at, PROPERTY_RULE));
+        return Err(damaged(PROPERTIES, property, PROPERTY_RULE));
     }
     Ok(bytes)
 }
@@ -96,8 +123,16 @@ fn piece_size(left: u16) -> u8
     }
 }
 
-/// A block that is to have so many bytes.
-fn read_block<R: Reads>(space: &mut R, id: u32, size: u8) -> Result<Rec, Fault>
+/// The block that a link of this record leads to, which is to have so many bytes of a property's
+/// text. The record is damaged where the link leads past the mark, the block where it is of no known
+/// kind, and else the property.
+fn read_block<R: Reads>(
+    space: &mut R,
+    property: u32,
+    from: Key,
+    id: u32,
+    size: u8,
+) -> Result<Rec, Fault>
     ensures got { R.tells
         → IfOk result (λ rec. rec ≡ rec_at (R.state space.old).records strings_file id) }
     ensures small { OnOk result (id < most_ids) }
@@ -105,20 +140,33 @@ fn read_block<R: Reads>(space: &mut R, id: u32, size: u8) -> Result<Rec, Fault>
     ensures sound { R.tells → IsGivenOut (R.state space.old).records strings_file id
         → HasBlockForm (rec_at (R.state space.old).records strings_file id) size
         → NotDamaged result }
-    ensures damaged { IfErr result IsOwnDamage }
+    ensures block { R.tells → OnOk result (IsBlockOf (R.state space.old).records id size) }
+    ensures damaged { R.tells
+        → IfErr result (IsBlockFault (R.state space.old) property from id size) }
     ensures state { OnOk result (R.state space.new ≡ after_get (R.state space.old)) }
     ensures at_most { ReadsAtMost 1 (R.state space.old) (R.state space.new) }
     ensures onward { R.onward space.old space.new }
     ensures cause { HasFaultCause (R.faults space.old) (R.faults space.new) result }
 {
-    if !is_given_out(space, STRINGS, id) {
-        return Err(damaged(STRINGS, id, PROPERTY_RULE));
+    if id == NIL {
+        return Err(damaged(PROPERTIES, property, PROPERTY_RULE));
     }
+    test_link(space, from, STRINGS, id)?;
     let rec = space.get(Key { file: STRINGS, id })?;
-    if !has_form(&rec, size) {
+    if !is_known(rec.byte(KIND)) {
         return Err(damaged(STRINGS, id, RANGE_RULE));
     }
+    if !has_form(&rec, size) {
+        return Err(damaged(PROPERTIES, property, PROPERTY_RULE));
+    }
     Ok(rec)
+}
+
+/// Whether the kind is one of a record of a block, in use or not.
+fn is_known(kind: u8) -> bool
+    ensures { IsTrue result ↔ IsBlockKind kind }
+{
+    kind == FREE || kind == BLOCK
 }
 
 /// Whether the record is one of a block of so many bytes.

@@ -7,8 +7,8 @@ ghost use Rattle.prop_store.specs.Alone.{DropsAllAlone, OwnsProperties, UnsetsAl
 ghost use Rattle.prop_store.specs.Changing.{DropsAll, HasElement, HasKey, UnsetsValue};
 ghost use Rattle.prop_store.specs.Changing.{released_blocks};
 ghost use Rattle.rec_bytes.specs.Fault.{HasFaultCause, NotDamaged};
-ghost use Rattle.prop_store.specs.Fault.{IsOwnDamage};
-ghost use Rattle.prop_store.specs.Owner.{IsOwner};
+ghost use Rattle.prop_store.specs.Fault.{BlamesBroken, BlamesDropped};
+ghost use Rattle.prop_store.specs.Owner.{IsInUse, IsOwner};
 ghost use Rattle.prop_store.specs.Touching.{TouchesProperties};
 
 use crate::dropping::{drop_chain, drop_property};
@@ -35,6 +35,8 @@ pub fn unset<S: Space>(space: &mut S, owner: Owner, key: u32) -> Result<Option<u
         → IfOk result (UnsetsAlone (S.state space.old) (S.state space.new) owner es key) }
     ensures alone_sound { S.tells → (es : List Property)
         → OwnsProperties (S.state space.old) owner es → NotDamaged result }
+    ensures damaged { S.tells → IsInUse (S.state space.old).records owner
+        → IfErr result (BlamesBroken (S.state space.old).records (S.state space.old).shape) }
     ensures few { IfOk result (λ released. released_blocks released ≤ 22) }
     ensures writes { IfOk result (λ released. WritesAtMost (2 + released_blocks released)
         (S.state space.old) (S.state space.new)) }
@@ -67,6 +69,8 @@ pub fn drop_all<S: Space>(space: &mut S, owner: Owner) -> Result<Dropped, Fault>
         → IfOk result (DropsAllAlone (S.state space.old) (S.state space.new) owner es) }
     ensures alone_sound { S.tells → (es : List Property)
         → OwnsProperties (S.state space.old) owner es → NotDamaged result }
+    ensures damaged { S.tells → IsInUse (S.state space.old).records owner
+        → IfErr result (BlamesDropped (S.state space.old).records (S.state space.old).shape) }
     ensures few_properties { IfOk result (λ dropped. dropped.properties ≤ 32) }
     ensures few_blocks { IfOk result (λ dropped. dropped.blocks ≤ 704) }
     ensures writes { IfOk result (λ dropped.
@@ -76,12 +80,11 @@ pub fn drop_all<S: Space>(space: &mut S, owner: Owner) -> Result<Dropped, Fault>
         dropped.properties dropped.blocks (S.state space.old) (S.state space.new)) }
     ensures at_most { TouchesProperties S.tells (owner.key ∷ []) 32 704
         (S.state space.old) (S.state space.new) }
-    ensures damaged { IfErr result IsOwnDamage }
     ensures onward { S.onward space.old space.new }
     ensures cause { HasFaultCause (S.faults space.old) (S.faults space.new) result }
 {
     let first = owner.first(space)?;
-    let dropped = drop_chain(space, first)?;
+    let dropped = drop_chain(space, owner, first)?;
     if first != NIL {
         set_number(space, owner.key, owner.field, NIL)?;
     }

@@ -1,20 +1,26 @@
 //! Properties given back with their blocks.
 
-ghost use Rattle.std.specs.Prelude.{◌≡◌, ◌≤◌, List, [], IfOk, ◌+◌, IfErr};
+ghost use Rattle.std.specs.Prelude.{◌≡◌, ◌≤◌, List, [], IfOk, OnOk, ◌+◌, IfErr};
 ghost use Rattle.store_rules.specs.Properties.{Property};
-ghost use Rattle.prop_store.specs.Dropping.{AreHeld, DropsProperties, DropsProperty, IsHeld};
+ghost use Rattle.prop_store.specs.Dropping.{AreHeld, DropsProperties, DropsProperty, HasCleared};
+ghost use Rattle.prop_store.specs.Dropping.{IsHeld};
 ghost use Rattle.rec_bytes.specs.Fault.{HasFaultCause, NotDamaged};
-ghost use Rattle.prop_store.specs.Fault.{IsOwnDamage};
-ghost use Rattle.prop_store.specs.PropertyRow.{IsRow};
+ghost use Rattle.prop_store.specs.Blocks.{IsTextFault};
+ghost use Rattle.prop_store.specs.Fault.{BlamesDropped};
+ghost use Rattle.prop_store.specs.Owner.{IsInUse, IsOwner, first_of};
+ghost use Rattle.prop_store.specs.PropertyRow.{IsReadRow, IsRow};
 ghost use Rattle.prop_store.specs.Touching.{TouchesProperties};
 
+use crate::Owner;
 use crate::changing::Dropped;
 use crate::damaged::damaged;
 use crate::property_row::{PropertyRow, property_at};
 use crate::releasing::release;
 use crate::values::value_blocks;
 use id_freelist::give;
-use rec_bytes::{Fault, MOST_PROPERTIES, NIL, PROPERTIES, PROPERTY_NEXT, PROPERTY_RULE, Space};
+use rec_bytes::{
+    Fault, Key, MOST_PROPERTIES, NIL, PROPERTIES, PROPERTY_NEXT, PROPERTY_RULE, Space,
+};
 
 /// Gives a property and the blocks of its value back, and answers how many blocks those were. What
 /// leads to the property stays.
@@ -28,7 +34,11 @@ pub(crate) fn drop_property<S: Space>(space: &mut S, row: &PropertyRow) -> Resul
     ensures touches { IfOk result (λ released. TouchesProperties S.tells [] 1 released
         (S.state space.old) (S.state space.new)) }
     ensures at_most { TouchesProperties S.tells [] 1 22 (S.state space.old) (S.state space.new) }
-    ensures damaged { IfErr result IsOwnDamage }
+    ensures cleared { S.tells → IsReadRow (S.state space.old).records row.now
+        → OnOk result (HasCleared (S.state space.old).records (S.state space.new).records
+        row.now.id) }
+    ensures damaged { S.tells → IsReadRow (S.state space.old).records row.now
+        → IfErr result (IsTextFault (S.state space.old) row.now.id) }
     ensures onward { S.onward space.old space.new }
     ensures cause { HasFaultCause (S.faults space.old) (S.faults space.new) result }
 {
@@ -39,8 +49,13 @@ pub(crate) fn drop_property<S: Space>(space: &mut S, row: &PropertyRow) -> Resul
     Ok(ids.len() as u32)
 }
 
-/// Gives properties back from a first one on, each with the blocks of its value.
-pub(crate) fn drop_chain<S: Space>(space: &mut S, first: u32) -> Result<Dropped, Fault>
+/// Gives the properties of an element back from its first one on, each with the blocks of its value.
+pub(crate) fn drop_chain<S: Space>(
+    space: &mut S,
+    owner: Owner,
+    first: u32,
+) -> Result<Dropped, Fault>
+    requires { IsOwner owner }
     ensures dropped { S.tells → (es : List Property) → AreHeld (S.state space.old) first es
         → IfOk result (DropsProperties (S.state space.old) (S.state space.new) es) }
     ensures sound { S.tells → (es : List Property) → AreHeld (S.state space.old) first es
@@ -50,21 +65,28 @@ pub(crate) fn drop_chain<S: Space>(space: &mut S, first: u32) -> Result<Dropped,
     ensures touches { IfOk result (λ dropped. TouchesProperties S.tells []
         dropped.properties dropped.blocks (S.state space.old) (S.state space.new)) }
     ensures at_most { TouchesProperties S.tells [] 32 704 (S.state space.old) (S.state space.new) }
-    ensures damaged { IfErr result IsOwnDamage }
+    ensures damaged { S.tells → IsInUse (S.state space.old).records owner
+        → first ≡ first_of (S.state space.old).records owner
+        → IfErr result (BlamesDropped (S.state space.old).records (S.state space.old).shape) }
     ensures onward { S.onward space.old space.new }
     ensures cause { HasFaultCause (S.faults space.old) (S.faults space.new) result }
 {
+    let mut from = owner.key;
     let mut at = first;
     let mut properties = 0;
     let mut blocks = 0;
     while at != NIL {
         if properties == MOST_PROPERTIES {
-            return Err(damaged(PROPERTIES, at, PROPERTY_RULE));
+            return Err(damaged(owner.key.file, owner.key.id, PROPERTY_RULE));
         }
-        let row = property_at(space, at)?;
+        let row = property_at(space, owner.key, from, at)?;
         let released = drop_property(space, &row)?;
         properties += 1;
         blocks += released;
+        from = Key {
+            file: PROPERTIES,
+            id: at,
+        };
         at = row.rec.number(PROPERTY_NEXT);
     }
     Ok(Dropped { properties, blocks })

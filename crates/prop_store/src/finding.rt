@@ -1,17 +1,16 @@
-ghost use Rattle.std.specs.Prelude.{◌+◌, List, IfOk, OnOk, length};
+ghost use Rattle.std.specs.Prelude.{◌+◌, List, IfErr, IfOk, OnOk, length};
 ghost use Rattle.store_rules.specs.Properties.{AreProperties, Property, property_records};
 ghost use Rattle.rec_bytes.specs.Fault.{HasFaultCause, NotDamaged};
-ghost use Rattle.prop_store.specs.Finding.{IsMet, IsPlaced, IsSought};
-ghost use Rattle.prop_store.specs.Owner.{HasProperties, IsOwner, first_of};
+ghost use Rattle.prop_store.specs.Fault.{BlamesBroken};
+ghost use Rattle.prop_store.specs.Finding.{IsMet, IsPlaced, IsReadAt, IsSought};
+ghost use Rattle.prop_store.specs.Owner.{HasProperties, IsInUse, IsOwner, first_of};
 ghost use Rattle.prop_store.specs.Reading.{ReadsAtMost};
 
 use crate::Owner;
 use crate::damaged::damaged;
 use crate::link::Link;
 use crate::property_row::{PropertyRow, property_at};
-use rec_bytes::{
-    Fault, MOST_PROPERTIES, NIL, PROPERTIES, PROPERTY_KEY, PROPERTY_NEXT, PROPERTY_RULE, Reads,
-};
+use rec_bytes::{Fault, MOST_PROPERTIES, NIL, PROPERTY_KEY, PROPERTY_NEXT, PROPERTY_RULE, Reads};
 
 /// A property that was found: the link to it, and what its record says.
 #[derive(Clone, Copy)]
@@ -37,6 +36,9 @@ pub(crate) fn find<R: Reads>(space: &mut R, owner: Owner, key: u32) -> Result<Se
     ensures met { R.tells → IfOk result (IsMet (R.state space.old).records owner key) }
     ensures sound { R.tells → (es : List Property)
         → HasProperties (R.state space.old).records owner es → NotDamaged result }
+    ensures read { R.tells → IfOk result (IsReadAt (R.state space.old).records) }
+    ensures damaged { R.tells → IsInUse (R.state space.old).records owner
+        → IfErr result (BlamesBroken (R.state space.old).records (R.state space.old).shape) }
     ensures placed { IfOk result (IsPlaced owner key) }
     ensures cost { R.tells → (es : List Property)
         → AreProperties (property_records (R.state space.old).records)
@@ -52,7 +54,7 @@ pub(crate) fn find<R: Reads>(space: &mut R, owner: Owner, key: u32) -> Result<Se
         if at == NIL {
             return Ok(Search::Absent(count));
         }
-        let row = property_at(space, at)?;
+        let row = property_at(space, owner.key, link.key, at)?;
         if row.rec.number(PROPERTY_KEY) == key {
             return Ok(Search::Found(Spot { link, row }));
         }
@@ -60,7 +62,7 @@ pub(crate) fn find<R: Reads>(space: &mut R, owner: Owner, key: u32) -> Result<Se
         at = row.rec.number(PROPERTY_NEXT);
     }
     if at != NIL {
-        return Err(damaged(PROPERTIES, at, PROPERTY_RULE));
+        return Err(damaged(owner.key.file, owner.key.id, PROPERTY_RULE));
     }
     Ok(Search::Absent(MOST_PROPERTIES))
 }

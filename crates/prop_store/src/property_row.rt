@@ -3,15 +3,14 @@ ghost use Rattle.rec_bytes.specs.Format.{properties_file};
 ghost use Rattle.rec_bytes.specs.Space.{after_get};
 ghost use Rattle.store_rules.specs.Views.{rec_at};
 ghost use Rattle.rec_bytes.specs.Fault.{HasFaultCause, NotDamaged};
-ghost use Rattle.prop_store.specs.Fault.{IsOwnDamage};
 ghost use Rattle.prop_store.specs.GivenOut.{IsGivenOut};
-ghost use Rattle.prop_store.specs.PropertyRow.{HasContent, IsRow};
+ghost use Rattle.prop_store.specs.PropertyRow.{HasContent, IsReadRow, IsRow, IsRowFault};
 ghost use Rattle.prop_store.specs.Reading.{ReadsAtMost};
 
 use crate::damaged::damaged;
 use crate::form::{Form, form_of};
-use crate::given_out::is_given_out;
-use rec_bytes::{Fault, Key, PROPERTIES, PROPERTY_RULE, RANGE_RULE, Reads, Rec};
+use crate::given_out::test_link;
+use rec_bytes::{FREE, Fault, KIND, Key, PROPERTIES, PROPERTY_RULE, RANGE_RULE, Reads, Rec};
 
 /// A property as its record says it.
 #[derive(Clone, Copy)]
@@ -24,29 +23,37 @@ pub(crate) struct PropertyRow {
     pub form: Form,
 }
 
-/// Reads the property of an identifier. It is damaged where none was given out, or where its record
-/// is no property's.
-pub(crate) fn property_at<R: Reads>(space: &mut R, id: u32) -> Result<PropertyRow, Fault>
+/// Reads the property of an element that a link of this record leads to. The record is damaged where
+/// the link leads past the mark, the element where it leads to a record that is not in use, and the
+/// property where it is of no known form.
+pub(crate) fn property_at<R: Reads>(
+    space: &mut R,
+    element: Key,
+    from: Key,
+    id: u32,
+) -> Result<PropertyRow, Fault>
     ensures row { IfOk result (IsRow id) }
     ensures got { R.tells
         → IfOk result (λ row. row.rec ≡ rec_at (R.state space.old).records properties_file id) }
     ensures sound { R.tells → IsGivenOut (R.state space.old).records properties_file id
         → HasContent (rec_at (R.state space.old).records properties_file id)
         → NotDamaged result }
-    ensures damaged { IfErr result IsOwnDamage }
+    ensures read { R.tells → IfOk result (IsReadRow (R.state space.old).records) }
+    ensures damaged { R.tells → IfErr result (IsRowFault (R.state space.old) element from id) }
     ensures state { OnOk result (R.state space.new ≡ after_get (R.state space.old)) }
     ensures at_most { ReadsAtMost 1 (R.state space.old) (R.state space.new) }
     ensures onward { R.onward space.old space.new }
     ensures cause { HasFaultCause (R.faults space.old) (R.faults space.new) result }
 {
-    if !is_given_out(space, PROPERTIES, id) {
-        return Err(damaged(PROPERTIES, id, PROPERTY_RULE));
-    }
+    test_link(space, from, PROPERTIES, id)?;
     let key = Key {
         file: PROPERTIES,
         id,
     };
     let rec = space.get(key)?;
+    if rec.byte(KIND) == FREE {
+        return Err(damaged(element.file, element.id, PROPERTY_RULE));
+    }
     match form_of(&rec) {
         Some(form) => Ok(PropertyRow { id, rec, form }),
         None => Err(damaged(PROPERTIES, id, RANGE_RULE)),

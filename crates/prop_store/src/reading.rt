@@ -1,10 +1,11 @@
-ghost use Rattle.std.specs.Prelude.{◌≡◌, ◌+◌, ◌≤◌, List, All, IfOk, IfSome, length, map};
+ghost use Rattle.std.specs.Prelude.{◌≡◌, ◌+◌, ◌≤◌, List, All, IfErr, IfOk, IfSome, length, map};
 ghost use Rattle.plain_graph.specs.Forms.{IsKept};
 ghost use Rattle.plain_graph.specs.Properties.{blocks_if};
 ghost use Rattle.store_rules.specs.Properties.{AreProperties, Property, property_records};
 ghost use Rattle.rec_bytes.specs.Fault.{HasFaultCause, NotDamaged};
+ghost use Rattle.prop_store.specs.Fault.{BlamesBroken};
 ghost use Rattle.prop_store.specs.Finding.{value_of};
-ghost use Rattle.prop_store.specs.Owner.{HasProperties, IsOwner, first_of};
+ghost use Rattle.prop_store.specs.Owner.{HasProperties, IsInUse, IsOwner, first_of};
 ghost use Rattle.prop_store.specs.Reading.{ReadsAtMost, block_total, prop_of, properties_met};
 
 use crate::damaged::damaged;
@@ -14,7 +15,7 @@ use crate::values::read_value;
 use crate::{Owner, Prop};
 use plain_graph::Value;
 use rec_bytes::{
-    Fault, MOST_PROPERTIES, NIL, PROPERTIES, PROPERTY_KEY, PROPERTY_NEXT, PROPERTY_RULE, Reads,
+    Fault, Key, MOST_PROPERTIES, NIL, PROPERTIES, PROPERTY_KEY, PROPERTY_NEXT, PROPERTY_RULE, Reads,
 };
 use std::alloc::Global;
 
@@ -34,6 +35,8 @@ pub fn read_key<R: Reads>(
         (λ value. value ≡ value_of (properties_met (R.state space.old).records owner) key) }
     ensures sound { R.tells → (es : List Property)
         → HasProperties (R.state space.old).records owner es → NotDamaged result }
+    ensures damaged { R.tells → IsInUse (R.state space.old).records owner
+        → IfErr result (BlamesBroken (R.state space.old).records (R.state space.old).shape) }
     ensures kept { IfOk result (λ value. IfSome value IsKept) }
     ensures cost { R.tells → (es : List Property)
         → AreProperties (property_records (R.state space.old).records)
@@ -66,6 +69,8 @@ pub fn read_all<R: Reads>(alloc: Global, space: &mut R, owner: Owner) -> Result<
         (λ props. props.items ≡ map prop_of (properties_met (R.state space.old).records owner)) }
     ensures sound { R.tells → (es : List Property)
         → HasProperties (R.state space.old).records owner es → NotDamaged result }
+    ensures damaged { R.tells → IsInUse (R.state space.old).records owner
+        → IfErr result (BlamesBroken (R.state space.old).records (R.state space.old).shape) }
     ensures kept { IfOk result (λ props. All (λ prop. IsKept prop.value) props.items) }
     ensures few { IfOk result (λ props. length props.items ≤ 32) }
     ensures reads { IfOk result
@@ -76,19 +81,24 @@ pub fn read_all<R: Reads>(alloc: Global, space: &mut R, owner: Owner) -> Result<
     ensures cause { HasFaultCause (R.faults space.old) (R.faults space.new) result }
 {
     let mut props = Vec::new(alloc);
+    let mut from = owner.key;
     let mut at = owner.first(space)?;
     for _ in 0..MOST_PROPERTIES {
         if at == NIL {
             return Ok(props);
         }
-        let row = property_at(space, at)?;
+        let row = property_at(space, owner.key, from, at)?;
         let value = read_value(alloc, space, &row)?;
         let key = row.rec.number(PROPERTY_KEY);
         props.push(Prop { key, value })?;
+        from = Key {
+            file: PROPERTIES,
+            id: at,
+        };
         at = row.rec.number(PROPERTY_NEXT);
     }
     if at != NIL {
-        return Err(damaged(PROPERTIES, at, PROPERTY_RULE));
+        return Err(damaged(owner.key.file, owner.key.id, PROPERTY_RULE));
     }
     Ok(props)
 }

@@ -17,10 +17,10 @@ ghost use Rattle.prop_store.specs.Changing.{HasKey, IsSetRefusal, SetsValue, pro
 ghost use Rattle.prop_store.specs.Changing.{text_at};
 ghost use Rattle.prop_store.specs.Dropping.{IsHeld};
 ghost use Rattle.prop_store.specs.FileChange.{KeepsFile};
-ghost use Rattle.prop_store.specs.Owner.{IsOwner};
-ghost use Rattle.prop_store.specs.PropertyRow.{IsRow};
-ghost use Rattle.prop_store.specs.SetFault.{HasSetCause, IsOwnRoom};
-ghost use Rattle.prop_store.specs.Setting.{IsPutFault, MayLead, PutsProperty};
+ghost use Rattle.prop_store.specs.Owner.{IsInUse, IsOwner};
+ghost use Rattle.prop_store.specs.PropertyRow.{IsReadRow, IsRow};
+ghost use Rattle.prop_store.specs.SetFault.{HasSetCause, IsExact, IsOwnRoom};
+ghost use Rattle.prop_store.specs.Setting.{BlamesSet, IsPutFault, MayLead, PutsProperty};
 ghost use Rattle.prop_store.specs.Touching.{TouchesProperties};
 ghost use Rattle.rec_bytes.specs.Format.{properties_file, property_key, property_next};
 ghost use Rattle.rec_bytes.specs.Format.{strings_file};
@@ -33,7 +33,7 @@ use crate::block_writing::write_text;
 use crate::finding::{Search, find};
 use crate::property_record::property_record;
 use crate::property_row::PropertyRow;
-use crate::releasing::release;
+use crate::releasing::{release, test_free};
 use crate::values::value_blocks;
 use crate::{Owner, SetFault};
 use id_freelist::take;
@@ -71,6 +71,9 @@ pub fn add<S: Space>(space: &mut S, owner: Owner, key: u32, value: &Value) -> Re
     ensures touches { TouchesProperties S.tells (owner.key ∷ []) 1 (blocks_of value.now)
         (S.state space.old) (S.state space.new) }
     ensures full { S.tells → IfErr result IsOwnRoom }
+    ensures exact { S.tells → IfErr result (IsExact (S.state space.old).shape) }
+    ensures damaged { S.tells
+        → IfErr result (BlamesSet S.tells (blocks_of value.now) (S.state space.old)) }
     ensures onward { S.onward space.old space.new }
     ensures cause { HasSetCause (S.faults space.old) (S.faults space.new) result }
 {
@@ -110,6 +113,9 @@ pub fn set<S: Space>(space: &mut S, owner: Owner, key: u32, value: &Value) -> Re
     ensures at_most { TouchesProperties S.tells (owner.key ∷ []) 1 (22 + blocks_of value.now)
         (S.state space.old) (S.state space.new) }
     ensures full { S.tells → IfErr result IsOwnRoom }
+    ensures exact { S.tells → IfErr result (IsExact (S.state space.old).shape) }
+    ensures damaged { S.tells → IsInUse (S.state space.old).records owner
+        → IfErr result (BlamesSet S.tells (22 + blocks_of value.now) (S.state space.old)) }
     ensures onward { S.onward space.old space.new }
     ensures cause { HasSetCause (S.faults space.old) (S.faults space.new) result }
 {
@@ -159,6 +165,9 @@ fn put_new<S: Space>(space: &mut S, key: u32, value: &Value, next: u32) -> Resul
     ensures touches { TouchesProperties S.tells [] 1 (blocks_of value.now)
         (S.state space.old) (S.state space.new) }
     ensures full { S.tells → IfErr result IsOwnRoom }
+    ensures exact { S.tells → IfErr result (IsExact (S.state space.old).shape) }
+    ensures damaged { S.tells
+        → IfErr result (BlamesSet S.tells (blocks_of value.now) (S.state space.old)) }
     ensures onward { S.onward space.old space.new }
     ensures cause { HasSetCause (S.faults space.old) (S.faults space.new) result }
 {
@@ -191,11 +200,15 @@ fn put_again<S: Space>(space: &mut S, row: &PropertyRow, value: &Value) -> Resul
     ensures at_most { TouchesProperties S.tells [] 1 (22 + blocks_of value.now)
         (S.state space.old) (S.state space.new) }
     ensures full { S.tells → IfErr result IsOwnRoom }
+    ensures exact { S.tells → IfErr result (IsExact (S.state space.old).shape) }
+    ensures damaged { S.tells → IsReadRow (S.state space.old).records row.now
+        → IfErr result (BlamesSet S.tells (22 + blocks_of value.now) (S.state space.old)) }
     ensures onward { S.onward space.old space.new }
     ensures cause { HasSetCause (S.faults space.old) (S.faults space.new) result }
 {
     let blocks = value_blocks(space, row)?;
     let ids = blocks.as_slice();
+    test_free(space, ids)?;
     release(space, ids)?;
     let first = write_text(space, long_bytes(value))?;
     let key = row.rec.number(PROPERTY_KEY);

@@ -8,9 +8,9 @@ ghost use Rattle.rec_bytes.specs.Format.{strings_file};
 ghost use Rattle.store_rules.specs.Properties.{content_of, value_from};
 ghost use Rattle.store_rules.specs.Views.{rec_at};
 ghost use Rattle.rec_bytes.specs.Fault.{HasFaultCause, NotDamaged};
-ghost use Rattle.prop_store.specs.Fault.{IsOwnDamage};
+ghost use Rattle.prop_store.specs.Blocks.{IsTextFault, LeadsToAll};
 ghost use Rattle.prop_store.specs.GivenOut.{AreGivenOut};
-ghost use Rattle.prop_store.specs.PropertyRow.{HasValue, IsRow};
+ghost use Rattle.prop_store.specs.PropertyRow.{HasValue, IsReadRow, IsRow};
 ghost use Rattle.prop_store.specs.Reading.{ReadsAtMost};
 
 use crate::block_list::BlockList;
@@ -34,6 +34,8 @@ pub(crate) fn read_value<R: Reads>(
         → HasValue (rec_at (R.state space.old).records strings_file) row.now.rec value blocks
         → AreGivenOut (R.state space.old).records strings_file blocks → NotDamaged result }
     ensures kept { IfOk result IsKept }
+    ensures damaged { R.tells → IsReadRow (R.state space.old).records row.now
+        → IfErr result (IsTextFault (R.state space.old) row.now.id) }
     ensures reads { IfOk result
         (λ value. ReadsAtMost (blocks_of value) (R.state space.old) (R.state space.new)) }
     ensures at_most { ReadsAtMost 22 (R.state space.old) (R.state space.new) }
@@ -48,7 +50,7 @@ pub(crate) fn read_value<R: Reads>(
             Ok(Value::Text(Text::new(bytes)))
         }
         Form::Long { size, first } => {
-            let bytes = read_text(alloc, space, first, size)?;
+            let bytes = read_text(alloc, space, row.id, first, size)?;
             Ok(Value::Text(Text::new(bytes)))
         }
     }
@@ -63,13 +65,16 @@ pub(crate) fn value_blocks<R: Reads>(space: &mut R, row: &PropertyRow) -> Result
     ensures sound { R.tells → (value : StoredValue) (blocks : List ℕ)
         → HasValue (rec_at (R.state space.old).records strings_file) row.now.rec value blocks
         → AreGivenOut (R.state space.old).records strings_file blocks → NotDamaged result }
-    ensures damaged { IfErr result IsOwnDamage }
+    ensures leads { R.tells → IsReadRow (R.state space.old).records row.now
+        → IfOk result (LeadsToAll (R.state space.old).records row.now.id) }
+    ensures damaged { R.tells → IsReadRow (R.state space.old).records row.now
+        → IfErr result (IsTextFault (R.state space.old) row.now.id) }
     ensures at_most { ReadsAtMost 22 (R.state space.old) (R.state space.new) }
     ensures onward { R.onward space.old space.new }
     ensures cause { HasFaultCause (R.faults space.old) (R.faults space.new) result }
 {
     match row.form {
-        Form::Long { size, first } => block_ids(space, first, size),
+        Form::Long { size, first } => block_ids(space, row.id, first, size),
         _ => Ok(BlockList::new()),
     }
 }

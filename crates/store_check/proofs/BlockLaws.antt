@@ -5,7 +5,7 @@ use Rattle.std.proofs.lemmas.Bool.{true≢false}
 use Rattle.rec_bytes.specs.Format as format
 use Rattle.store_rules.specs.Views.{Records, high, is_live, rec_at}
 use Rattle.store_rules.proofs.ViewLaws.{kind_below}
-use Rattle.store_check.specs.Breaking.{HasBlock, IsBlockHeldOnce, IsBlockList, IsLong, TextKeeps}
+use Rattle.store_rules.specs.Breaking.{HasBlock, IsBlockHeldOnce, IsBlockList, IsLong, TextKeeps}
 use Rattle.store_check.specs.Heads.{AmongHeads, AtHead, HeadKeeps, IsOnce, IsTwice}
 use Rattle.store_check.specs.Holding.{AllTexts, AreTextsRight, IsBlockHeld}
 use Rattle.store_check.specs.Marks.{marked}

@@ -6,8 +6,8 @@ use Rattle.rec_bytes.specs.declared.shape.Shape.{Shape}
 use Rattle.rec_bytes.specs.Format as format
 use Rattle.store_rules.specs.Rules as rules
 use Rattle.store_rules.specs.Views.{Records, is_live}
-use Rattle.store_check.specs.Breaking.{Breaks, HasFreeList, Keeps}
-use Rattle.store_check.specs.Breaking.Breaks.{FreeList, GroupChains, GroupOwner, NameCount, NodeChain, OffFreeList, OwnRecord, OwnerGroups, RecordRange, RelEnds, UsedIndex, WrongBlock, WrongDegree, WrongElement, WrongHolding, WrongMeta, WrongName, WrongText}
+use Rattle.store_rules.specs.Breaking.{Breaks, HasFreeList, Keeps}
+use Rattle.store_rules.specs.Breaking.Breaks.{FreeList, GroupChains, GroupOwner, NameCount, NodeChain, OffFreeList, OwnRecord, OwnerGroups, RecordRange, RelEnds, UsedIndex, WrongBlock, WrongDegree, WrongElement, WrongHolding, WrongMeta, WrongName, WrongText}
 use Rattle.store_rules.proofs.RangeLaws.{formed_of, ranges_of, unindexed_of}
 use Rattle.store_check.proofs.ElementLaws.{label_kept}
 use Rattle.store_check.proofs.FileLaws.{metas_right}
@@ -32,8 +32,8 @@ module _ (records : Records) (shape : Shape) where
   not_kept d (NodeChain n lt bad) k = bad (node_keeps records k n)
   not_kept d (GroupChains g lt bad) k = bad (group_keeps records k g)
   not_kept d (RelEnds x lt bad) k = bad (rel_keeps records k x)
-  not_kept d (OwnerGroups n lt bad) k = bad (owner_keeps records k n)
-  not_kept d (GroupOwner g bad) k = bad (member_keeps records k g)
+  not_kept d (OwnerGroups n lt bad) k = bad (owner_keeps records k.grouped n)
+  not_kept d (GroupOwner g bad) k = bad (member_keeps records k.grouped k.exact g)
   not_kept d (WrongElement file x known lt bad) k = bad (record { list = λ first own. element_list records k file x first own; named = label_kept records file x known k.named })
   not_kept d (WrongHolding p bad) k = bad (held_kept records k p)
   not_kept d (WrongText p lt bad) k = bad (text_kept records k p)
@@ -59,7 +59,8 @@ module _ (records : Records) (shape : Shape) where
         split = split.split;
         kept = split.kept;
         linked = linked;
-        grouped = grouped;
+        grouped = grouped.grouped;
+        exact = grouped.exact;
         properties = properties.properties;
         named = properties.named;
         names = names;
@@ -76,8 +77,8 @@ module _ (records : Records) (shape : Shape) where
   rules_of s d (NodeChain n lt bad) = s.linked
   rules_of s d (GroupChains g lt bad) = s.linked
   rules_of s d (RelEnds x lt bad) = s.linked
-  rules_of s d (OwnerGroups n lt bad) = s.grouped
-  rules_of s d (GroupOwner g bad) = s.grouped
+  rules_of s d (OwnerGroups n lt bad) = record { grouped = s.grouped; exact = s.exact }
+  rules_of s d (GroupOwner g bad) = record { grouped = s.grouped; exact = s.exact }
   rules_of s d (WrongElement file x known lt bad) = record { properties = s.properties; named = s.named }
   rules_of s d (WrongHolding p bad) = record { properties = s.properties; named = s.named }
   rules_of s d (WrongText p lt bad) = record { properties = s.properties; named = s.named }

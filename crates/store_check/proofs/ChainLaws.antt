@@ -9,7 +9,7 @@ use Rattle.store_rules.specs.Rules as rules
 use Rattle.store_rules.specs.Views.{GroupRow, RelRow, Records, group_at, high, kind_at, rec_at, rel_at, rel_in}
 use Rattle.store_rules.proofs.NumberLaws.{and_parts, eq_false, eq_true}
 use Rattle.store_rules.proofs.ViewLaws.{kind_below, kind_low, row_some, some_row}
-use Rattle.store_check.specs.Breaking.{IsFirstPlace, IsHeadChain, group_head}
+use Rattle.store_rules.specs.Breaking.{IsFirstPlace, IsHeadChain, group_head}
 use Rattle.store_check.specs.declared.chains.Side.{Side}
 use Rattle.store_check.specs.declared.chains.Side.TheVariants.{Any}
 use Rattle.store_check.specs.declared.heads.Found.{Found}
@@ -108,7 +108,7 @@ module _ (records : Records) (head : rules.Head) (n : ℕ) (side : Side) (fit : 
         on = fit.to (rel_in (rel_of x) x) (on_side n (rel_of x) x side both.1);
       }
 
-  stands_low : (x : ℕ) → Stands x → x < high records format.relationships_file
+  pub stands_low : (x : ℕ) → Stands x → x < high records format.relationships_file
   stands_low x s = kind_below (high records format.relationships_file) (rel_of x) x (some_row (kind_at records format.relationships_file x) (rel_in (rel_of x) x) s.row s.live).0
 
   of_stands : (x : ℕ) → Stands x → is_of side n (rel_of x) ≡ true
@@ -128,7 +128,7 @@ module _ (records : Records) (head : rules.Head) (n : ℕ) (side : Side) (fit : 
   abbrev pub IsIt : ℕ → List ℕ → Type 0
   IsIt first xs = IsLineIn (chain_line side n) records (high records format.relationships_file) first xs
 
-  head_chain : high records format.relationships_file ≤ format.most_ids → (first : ℕ) → first ≡ rules.first_of records head → (xs : List ℕ) → IsIt first xs → IsHeadChain records head n xs
+  pub head_chain : high records format.relationships_file ≤ format.most_ids → (first : ℕ) → first ≡ rules.first_of records head → (xs : List ℕ) → IsIt first xs → IsHeadChain records head n xs
   head_chain room first is xs h = record {
     chain = subst (λ f. IsChain next prev format.nil f xs) is (chain_of_line next prev (λ x. is_of side n (rel_of x)) (high records format.relationships_file) room format.nil first xs h);
     only = λ x i. stands_of x
@@ -136,7 +136,7 @@ module _ (records : Records) (head : rules.Head) (n : ℕ) (side : Side) (fit : 
         (test_of_line next prev (λ x. is_of side n (rel_of x)) (high records format.relationships_file) format.nil first xs h x i);
   }
 
-  line_of_head : (first : ℕ) → first ≡ rules.first_of records head → (xs : List ℕ) → IsHeadChain records head n xs → IsIt first xs
+  pub line_of_head : (first : ℕ) → first ≡ rules.first_of records head → (xs : List ℕ) → IsHeadChain records head n xs → IsIt first xs
   line_of_head first is xs h = line_of_chain next prev (λ x. is_of side n (rel_of x)) (high records format.relationships_file) format.nil first xs
       (subst (λ f. IsChain next prev format.nil f xs) (sym is) h.chain) (λ x i. stands_low x (h.only x i)) (λ x i. of_stands x (h.only x i))
 

@@ -7,7 +7,7 @@ use Rattle.rec_bytes.specs.Record.{field}
 use Rattle.store_rules.specs.Rows.{ids}
 use Rattle.store_rules.specs.Rules as rules
 use Rattle.store_rules.specs.Views.{Records, degree, high, kind_at, rec_at, rel_at, rel_in}
-use Rattle.store_check.specs.Breaking.{DegreeKeeps}
+use Rattle.store_rules.specs.Breaking.{DegreeKeeps}
 use Rattle.store_check.specs.NodeChains.{enters, is_of_node, leaves}
 use Rattle.store_check.proofs.FreeLaws.{count_more, count_same}
 use Rattle.store_check.proofs.RecordLaws.{kind_read}

@@ -7,7 +7,7 @@ use Rattle.store_rules.specs.Rules as rules
 use Rattle.store_rules.specs.Views.{NodeRow, Records, RelRow, high, is_live, kind_at, node_at, node_in, rec_at, rel_at, rel_in}
 use Rattle.store_rules.proofs.ViewLaws.{row_some}
 use Rattle.store_check.specs.declared.elements.ElementHeads.{ElementHeads}
-use Rattle.store_check.specs.Breaking.{ElementKeeps, HasProperty, IsPropertyList, Owns, is_element_file, label_of}
+use Rattle.store_rules.specs.Breaking.{ElementKeeps, HasProperty, IsPropertyList, Owns, is_element_file, label_of}
 use Rattle.store_check.specs.Elements.{AreItsProperties, IsInUse, first_of}
 use Rattle.store_check.specs.Heads.{AmongHeads, AtHead, HeadKeeps, IsOnce, IsTwice}
 use Rattle.store_check.specs.Listing.{AreListed, IsHadTwice, IsOfFile}

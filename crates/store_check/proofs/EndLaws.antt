@@ -12,7 +12,7 @@ use Rattle.store_rules.specs.Views.{GroupRow, RelRow, Records, group_at, group_i
 use Rattle.store_rules.proofs.GroupLaws.{group_id, stands_end}
 use Rattle.store_rules.proofs.OnceLaws.{map_in}
 use Rattle.store_rules.proofs.ViewLaws.{kind_below, row_some, some_row}
-use Rattle.store_check.specs.Breaking.{EndKeeps, GroupKeeps, IsFirstPlace, IsGroupHeadOf, IsHeadChain, IsHeadOf, IsInChain, NodeKeeps, RelKeeps, group_head, group_label}
+use Rattle.store_rules.specs.Breaking.{EndKeeps, GroupKeeps, IsFirstPlace, IsGroupHeadOf, IsHeadChain, IsHeadOf, IsInChain, NodeKeeps, RelKeeps, group_head, group_label}
 use Rattle.store_check.specs.declared.chains.Side.TheVariants.{Any}
 use Rattle.store_check.specs.declared.leaders.Leaders.{Leaders}
 use Rattle.store_check.specs.Heads.{AmongHeads, AtHead, HeadKeeps, IsTwice}

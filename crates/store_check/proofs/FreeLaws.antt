@@ -13,7 +13,7 @@ use Rattle.store_rules.proofs.NumberLaws.{eq_true}
 use Rattle.store_rules.proofs.RowLaws.{append_none}
 use Rattle.store_rules.proofs.ViewLaws.{kind_low, live_false, live_true, not_live}
 use Rattle.store_check.specs.declared.free.Counted.{Counted}
-use Rattle.store_check.specs.Breaking.{HasFreeList, IsFreeList, IsOnFreeList}
+use Rattle.store_rules.specs.Breaking.{HasFreeList, IsFreeList, IsOnFreeList}
 use Rattle.store_check.specs.Free.{IsCounted, free_line}
 use Rattle.store_check.specs.Lines.{IsLineIn}
 use Rattle.store_check.specs.Marks.{is_among, marked}

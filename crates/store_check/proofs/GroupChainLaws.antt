@@ -8,12 +8,12 @@ use Rattle.rec_bytes.specs.Format as format
 use Rattle.rec_bytes.specs.Record.{field}
 use Rattle.store_rules.specs.Chains.{In, IsChain}
 use Rattle.store_rules.specs.Rules as rules
-use Rattle.store_rules.specs.Views.{GroupRow, Records, first_link, group_at, group_in, high, is_live, kind_at, rec_at}
+use Rattle.store_rules.specs.Views.{GroupRow, Records, first_link, group_at, group_in, high, is_live, kind_at, rec_at, rel_at}
 use Rattle.store_rules.proofs.ChainLaws.{walk_of_chain}
 use Rattle.store_rules.proofs.GroupLaws.{same_group}
 use Rattle.store_rules.proofs.NumberLaws.{and_parts, eq_false, eq_true}
 use Rattle.store_rules.proofs.ViewLaws.{kind_below, kind_low, row_some, some_row}
-use Rattle.store_check.specs.Breaking.{IsGroupChain, IsGroupOf, MemberKeeps, OwnerKeeps, group_label}
+use Rattle.store_rules.specs.Breaking.{IsGroupChain, IsGroupOf, MemberKeeps, OwnerKeeps, group_label}
 use Rattle.store_check.specs.declared.heads.Found.{Found}
 use Rattle.store_check.specs.declared.heads.Found.TheVariants.{Items, Missing, Nothing}
 use Rattle.store_check.specs.Groups.{AreGroups, GroupsFound, group_line, is_group_of}
@@ -48,19 +48,27 @@ module _ (records : Records) where
   pub owner_keeps : Grouped → (n : ℕ) → OwnerKeeps records n
   owner_keeps h n = record { groups = λ dense. groups_of h n dense }
 
-  pub member_keeps : Grouped → (g : ℕ) → MemberKeeps records g
-  member_keeps h g = record {
+  -- a group in use is in the group chain of its owner
+  abbrev pub HasOwner : ℕ → Type 0
+  HasOwner g = (row : GroupRow) → group_at records g ≡ Some row → IsGroupOf records row.owner g
+
+  abbrev pub Exact : Type 0
+  Exact = rules.AreExact (kind_at records format.groups_file) group_rec (group_at records) (rel_at records) (high records format.relationships_file)
+
+  pub member_keeps : Grouped → Exact → (g : ℕ) → MemberKeeps records g
+  member_keeps h exact g = record {
     owner = λ row live.
         let dense = h.owned g row live in
         let k = groups_of h row.owner dense in
         let e = h.each row.owner dense in
         record { dense = dense; members = k.0; groups = k.1; member = e.all g row live refl };
+    counts = λ row live counted. exact g row live counted;
   }
 
   group_chain_one : (n : ℕ) (xs ys : List ℕ) → IsGroupChain records n xs → IsGroupChain records n ys → xs ≡ ys
   group_chain_one n xs ys h k = chain_one next prev format.nil (first_link records n) xs ys h.chain k.chain
 
-  pub are_grouped : ((n : ℕ) → n < high records format.nodes_file → OwnerKeeps records n) → ((g : ℕ) → g < high records format.groups_file → MemberKeeps records g) → Grouped
+  pub are_grouped : ((n : ℕ) → n < high records format.nodes_file → OwnerKeeps records n) → ((g : ℕ) → g < high records format.groups_file → HasOwner g) → Grouped
   are_grouped owners members = record {
     owned = λ g row live. let k = member g row live in k.dense;
     each = λ n dense.
@@ -79,7 +87,7 @@ module _ (records : Records) where
   }
     where
       member : (g : ℕ) (row : GroupRow) → group_at records g ≡ Some row → IsGroupOf records row.owner g
-      member g row live = (members g (kind_below (high records format.groups_file) (group_rec g) g (some_row (kind_at records format.groups_file g) (group_in (group_rec g) g) row live).0)).owner row live
+      member g row live = (members g (kind_below (high records format.groups_file) (group_rec g) g (some_row (kind_at records format.groups_file g) (group_in (group_rec g) g) row live).0)) row live
 
   -- ---- group chains as lines
 
@@ -201,15 +209,13 @@ module _ (records : Records) where
   head_of_keeps n k = record { list = k.groups }
 
   module _ (marks : List Bool) (told : (p : ℕ) → Decides (marked marks p) (AmongHeads (IsDense records) (IsGroupChain records) (high records format.nodes_file) p)) where
-    pub member_of_mark : (g : ℕ) → (is_live records format.groups_file g ≡ true → marked marks g ≡ true) → MemberKeeps records g
-    member_of_mark g h = record {
-      owner = λ row live.
-          let kind = some_row (kind_at records format.groups_file g) (group_in (group_rec g) g) row live in
-          let a = (told g).0 (h (ap not (eq_false (kind_at records format.groups_file g) 0 kind.0))) in
-          let o = owner_of a.id g a.here in
-          let same : a.id ≡ row.owner = sym o.2 ∙ ap (λ (r : GroupRow). r.owner) (same_group o.0 row (sym o.1 ∙ live)) in
-          subst (λ m. IsGroupOf records m g) same (record { dense = a.here.must; members = a.here.items; groups = a.here.listed; member = a.here.member });
-    }
+    pub member_of_mark : (g : ℕ) → (is_live records format.groups_file g ≡ true → marked marks g ≡ true) → HasOwner g
+    member_of_mark g h row live =
+        let kind = some_row (kind_at records format.groups_file g) (group_in (group_rec g) g) row live in
+        let a = (told g).0 (h (ap not (eq_false (kind_at records format.groups_file g) 0 kind.0))) in
+        let o = owner_of a.id g a.here in
+        let same : a.id ≡ row.owner = sym o.2 ∙ ap (λ (r : GroupRow). r.owner) (same_group o.0 row (sym o.1 ∙ live)) in
+        subst (λ m. IsGroupOf records m g) same (record { dense = a.here.must; members = a.here.items; groups = a.here.listed; member = a.here.member })
 
     pub mark_of_member : (g : ℕ) → MemberKeeps records g → is_live records format.groups_file g ≡ true → marked marks g ≡ true
     mark_of_member g k live =

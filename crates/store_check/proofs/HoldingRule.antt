@@ -7,7 +7,7 @@ use Rattle.store_rules.specs.Rules as rules
 use Rattle.store_rules.specs.Views.{NodeRow, Records, RelRow, high, is_live, kind_at, node_at, node_in, rec_at, rel_at, rel_in}
 use Rattle.store_rules.proofs.NumberLaws.{eq_true}
 use Rattle.store_rules.proofs.ViewLaws.{live_true, some_row}
-use Rattle.store_check.specs.Breaking.{AreProperties, HasBlock, HasProperty, IsBlockHeldOnce, IsBlockList, IsHeldOnce, IsLong, IsPropertyList, Owns, TextKeeps, first_block, next_block, next_property}
+use Rattle.store_rules.specs.Breaking.{AreProperties, HasBlock, HasProperty, IsBlockHeldOnce, IsBlockList, IsHeldOnce, IsLong, IsPropertyList, Owns, TextKeeps, first_block, next_block, next_property}
 use Rattle.store_check.specs.Holding.{AreElementsRight, AreTextsRight}
 use Rattle.store_check.proofs.BlockLaws.{long_low}
 use Rattle.store_check.proofs.ElementLaws.{owns_is}

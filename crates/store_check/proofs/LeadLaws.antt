@@ -8,7 +8,7 @@ use Rattle.store_rules.specs.Views.{GroupRow, Records, group_in, kind_at, rec_at
 use Rattle.store_rules.proofs.NumberLaws.{and_parts}
 use Rattle.store_rules.proofs.ViewLaws.{row_some, some_row}
 use Rattle.store_check.specs.declared.leaders.Leaders.{Leaders}
-use Rattle.store_check.specs.Breaking.{GroupKeeps, IsFirstPlace, group_head, group_label}
+use Rattle.store_rules.specs.Breaking.{GroupKeeps, IsFirstPlace, group_head, group_label}
 use Rattle.store_check.specs.Leading.{AreAlike, AreLed, IsGroupAt, have_same_firsts, leader}
 use Rattle.store_check.specs.NodeChains.{IsDense, owner_at}
 

@@ -8,6 +8,7 @@ pub mod EndLaws
 pub mod FileLaws
 pub mod FreeLaws
 pub mod GroupChainLaws
+pub mod GroupCountLaws
 pub mod HeadLaws
 pub mod HoldingRule
 pub mod LayoutLaws

@@ -7,7 +7,7 @@ use Rattle.store_rules.specs.Rules as rules
 use Rattle.store_rules.specs.Views.{GroupRow, RelRow, Records, group_at, group_in, high, key_in, kind_at, rec_at, rel_at, rel_in}
 use Rattle.store_rules.proofs.ViewLaws.{kind_below, some_row}
 use Rattle.store_rules.proofs.GroupLaws.{group_id, stands_end}
-use Rattle.store_check.specs.Breaking.{AreTwins, EndKeeps, GroupKeeps, HasChains, IsFirstPlace, IsGroupHeadOf, IsHeadChain, IsHeadOf, IsInChain, NodeKeeps, RelKeeps, group_head}
+use Rattle.store_rules.specs.Breaking.{AreTwins, EndKeeps, GroupKeeps, HasChains, IsFirstPlace, IsGroupHeadOf, IsHeadChain, IsHeadOf, IsInChain, NodeKeeps, RelKeeps, group_head}
 use Rattle.store_check.proofs.ChainLaws.{chain_one, first_same}
 use Rattle.store_check.proofs.SideLaws.{IsSide, at_place, on_place, side_of, side_place, side_same}
 

@@ -5,8 +5,8 @@ use Rattle.rec_bytes.specs.declared.damage.Damage.{Damage}
 use Rattle.rec_bytes.specs.declared.shape.Shape.{Shape}
 use Rattle.rec_bytes.specs.Format as format
 use Rattle.store_rules.specs.Views.{Records, high, is_live}
-use Rattle.store_check.specs.Breaking.{ElementKeeps, HasProperty, IsHeldOnce, damage, is_element_file}
-use Rattle.store_check.specs.Breaking.Breaks.{WrongElement, WrongHolding}
+use Rattle.store_rules.specs.Breaking.{ElementKeeps, HasProperty, IsHeldOnce, damage, is_element_file}
+use Rattle.store_rules.specs.Breaking.Breaks.{WrongElement, WrongHolding}
 use Rattle.store_check.specs.Holding.{AllListed, AreElementsRight, IsHeld}
 use Rattle.store_check.specs.Listing.{AreListed, IsHadTwice, IsOfFile, IsUnlisted}
 use Rattle.store_check.specs.Marks.{marked}

@@ -9,8 +9,8 @@ use Rattle.store_rules.specs.Rules as rules
 use Rattle.store_rules.specs.Views.{Records, high, rec_at}
 use Rattle.name_store.specs.Loading.{IsNameDamage}
 use Rattle.name_store.specs.Loading.IsNameDamage.{HighMark, SameText, WrongForm, WrongText}
-use Rattle.store_check.specs.Breaking.{NameKeeps}
-use Rattle.store_check.specs.Breaking.Breaks.{WrongName}
+use Rattle.store_rules.specs.Breaking.{NameKeeps}
+use Rattle.store_rules.specs.Breaking.Breaks.{WrongName}
 use Rattle.store_check.specs.Verdicts.{BreaksRule}
 
 pub name_breaks : (records : Records) (shape : Shape) (d : Damage) → ranges.AreFormed records shape → IsNameDamage records d → BreaksRule records shape 6 d

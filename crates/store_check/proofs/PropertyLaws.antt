@@ -10,7 +10,7 @@ use Rattle.store_rules.specs.Properties.{AreOnce}
 use Rattle.store_rules.specs.Views.{Records, high}
 use Rattle.store_rules.proofs.NumberLaws.{and_parts, lt_true}
 use Rattle.store_rules.proofs.OnceLaws.{map_in, once_map, once_walk}
-use Rattle.store_check.specs.Breaking.{IsPropertyList, key_of, next_property}
+use Rattle.store_rules.specs.Breaking.{IsPropertyList, key_of, next_property}
 use Rattle.store_check.specs.Elements.{AreKeys, is_below, property_line}
 use Rattle.store_check.specs.Lines.{IsLineIn}
 use Rattle.store_check.proofs.LiveLaws.{line_from, live_from, walk_from}

@@ -8,7 +8,7 @@ use Rattle.store_rules.specs.Rules as rules
 use Rattle.store_rules.specs.Views.{GroupRow, RelRow, Records, group_at, rel_in}
 use Rattle.store_rules.proofs.GroupLaws.{same_group}
 use Rattle.store_rules.proofs.NumberLaws.{and_parts, eq_false, eq_true, nat_cases}
-use Rattle.store_check.specs.Breaking.{IsFirstPlace}
+use Rattle.store_rules.specs.Breaking.{IsFirstPlace}
 use Rattle.store_check.specs.declared.chains.Side.{Side}
 use Rattle.store_check.specs.declared.chains.Side.TheVariants.{Any, Into, Loop, Out}
 use Rattle.store_check.specs.NodeChains.{enters, group_of, has_label, is_on, leaves, place_of, side_at}

@@ -5,7 +5,7 @@ use Rattle.rec_bytes.specs.Format as format
 use Rattle.store_rules.specs.Chains.{IsWalk}
 use Rattle.store_rules.specs.Rules as rules
 use Rattle.store_rules.specs.Views.{Records, high}
-use Rattle.store_check.specs.Breaking.{IsBlockList, block_size, first_block, next_block, text_size}
+use Rattle.store_rules.specs.Breaking.{IsBlockList, block_size, first_block, next_block, text_size}
 use Rattle.store_check.specs.Lines.{IsLineIn}
 use Rattle.store_check.specs.Pieces.{AreLengths}
 use Rattle.store_check.specs.Texts.{block_line}

@@ -3,7 +3,7 @@ use Rattle.std.proofs.Common.{◌≡◌, ℕ, sym, ap, ◌∙◌, subst}
 use Rattle.rec_bytes.specs.declared.damage.Damage.{Damage}
 use Rattle.rec_bytes.specs.declared.shape.Shape.{Shape}
 use Rattle.store_rules.specs.Views.{Records}
-use Rattle.store_check.specs.Breaking.{Breaks}
+use Rattle.store_rules.specs.Breaking.{Breaks}
 use Rattle.store_check.specs.Verdicts.{BreaksRule}
 
 module _ (records : Records) (shape : Shape) where

@@ -8,7 +8,7 @@ use Rattle.store_rules.specs.Views.{Records, high, is_live, rec_at}
 use Rattle.store_check.specs.declared.elements.ElementHeads.{ElementHeads}
 use Rattle.store_check.specs.declared.elements.Named.{Named}
 use Rattle.store_check.specs.declared.holding.Held.{Held}
-use Rattle.store_check.specs.Breaking.{IsPropertyList, is_element_file, label_of}
+use Rattle.store_rules.specs.Breaking.{IsPropertyList, is_element_file, label_of}
 use Rattle.store_check.specs.Lines.{LineKind, live_line}
 use Rattle.store_check.specs.Marks.{marked}
 

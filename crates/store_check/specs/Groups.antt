@@ -9,7 +9,7 @@ use Rattle.store_rules.specs.Views.{Records, high}
 use Rattle.store_check.specs.declared.groups.Owners.{Owners}
 use Rattle.store_check.specs.declared.heads.Found.{Found}
 use Rattle.store_check.specs.declared.heads.Found.TheVariants.{Nothing, Missing, Items}
-use Rattle.store_check.specs.Breaking.{group_label}
+use Rattle.store_rules.specs.Breaking.{group_label}
 use Rattle.store_check.specs.Lines.{IsLineIn, LineKind}
 
 -- the record is a group in use of the node, and not empty

@@ -3,8 +3,8 @@ use Rattle.std.specs.Prelude.{◌≡◌, ℕ, ◌<◌, Bool, true, List}
 use Rattle.std.specs.Bool.{Decides}
 use Rattle.rec_bytes.specs.Format as format
 use Rattle.store_rules.specs.Views.{Records, high}
-use Rattle.store_check.specs.Breaking.{ElementKeeps, HasBlock, HasProperty, IsBlockHeldOnce}
-use Rattle.store_check.specs.Breaking.{IsHeldOnce, TextKeeps, is_element_file}
+use Rattle.store_rules.specs.Breaking.{ElementKeeps, HasBlock, HasProperty, IsBlockHeldOnce}
+use Rattle.store_rules.specs.Breaking.{IsHeldOnce, TextKeeps, is_element_file}
 use Rattle.store_check.specs.Marks.{marked}
 
 -- an element has the property

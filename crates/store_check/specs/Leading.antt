@@ -7,7 +7,7 @@ use Rattle.rec_bytes.specs.Record.{field}
 use Rattle.store_rules.specs.Rules.{first_of}
 use Rattle.store_rules.specs.Views.{GroupRow, Records, group_at, kind_at}
 use Rattle.store_check.specs.declared.leaders.Leaders.{Leaders}
-use Rattle.store_check.specs.Breaking.{IsFirstPlace, group_head}
+use Rattle.store_rules.specs.Breaking.{IsFirstPlace, group_head}
 
 -- the first group of this type at this node
 abbrev pub leader : Leaders → ℕ → ℕ → Option ℕ

@@ -1,4 +1,4 @@
-pub mod Breaking
+pub mod Counts
 pub mod Degrees
 pub mod Elements
 pub mod Fitting

@@ -4,7 +4,7 @@ use Rattle.std.specs.Bool.{Decides}
 use Rattle.rec_bytes.specs.declared.damage.Damage.{Damage}
 use Rattle.rec_bytes.specs.Format as format
 use Rattle.store_rules.specs.Views.{Records, high}
-use Rattle.store_check.specs.Breaking.{ElementKeeps, HasProperty, damage}
+use Rattle.store_rules.specs.Breaking.{ElementKeeps, HasProperty, damage}
 use Rattle.store_check.specs.Marks.{marked}
 
 -- a property of an element of the file

@@ -16,8 +16,8 @@ use Rattle.store_check.specs.declared.chains.Side.TheVariants.{Any, Into, Loop, 
 use Rattle.store_check.specs.declared.heads.Found.{Found}
 use Rattle.store_check.specs.declared.heads.Found.TheVariants.{Items, Missing, Nothing}
 use Rattle.store_check.specs.declared.leaders.Leaders.{Leaders}
-use Rattle.store_check.specs.Breaking.{GroupKeeps, HasChains, IsHeadChain, IsHeadOf, NodeKeeps}
-use Rattle.store_check.specs.Breaking.{group_head, group_label}
+use Rattle.store_rules.specs.Breaking.{GroupKeeps, HasChains, IsHeadChain, IsHeadOf, NodeKeeps}
+use Rattle.store_rules.specs.Breaking.{group_head, group_label}
 use Rattle.store_check.specs.Leading.{leader}
 use Rattle.store_check.specs.Lines.{IsLineIn, LineKind}
 use Rattle.store_check.specs.Marks.{marked}

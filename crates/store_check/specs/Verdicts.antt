@@ -9,7 +9,7 @@ use Rattle.std.specs.Prelude.{true}
 use Rattle.store_rules.specs.Views.{Records, high}
 use Rattle.store_check.specs.declared.verdict.Verdict.{Verdict}
 use Rattle.store_check.specs.declared.verdict.Verdict.TheVariants.{Sound, Broken}
-use Rattle.store_check.specs.Breaking.{Breaks, Keeps}
+use Rattle.store_rules.specs.Breaking.{Breaks, Keeps}
 
 -- The record breaks the rule of this number.
 pub record BreaksRule (records : Records) (shape : Shape) (rule : ℕ) (damage : Damage)

@@ -9,7 +9,7 @@ ghost use Rattle.rec_bytes.specs.Format.{groups_file, most_ids, nodes_file, rela
 ghost use Rattle.rec_bytes.specs.Space.{HasCause};
 ghost use Rattle.store_rules.specs.Chains.{place_of};
 ghost use Rattle.store_rules.specs.Views.{high};
-ghost use Rattle.store_check.specs.Breaking.{damage};
+ghost use Rattle.store_rules.specs.Breaking.{damage};
 ghost use Rattle.store_check.specs.Heads.{FoundBelow};
 ghost use Rattle.store_check.specs.Leading.{AreLed};
 ghost use Rattle.store_check.specs.Marks.{marked};
@@ -87,9 +87,9 @@ impl Side {
 
 /// A chain of a node.
 #[derive(Drop)]
-struct ChainLine {
-    node: u32,
-    side: Side,
+pub(crate) struct ChainLine {
+    pub(crate) node: u32,
+    pub(crate) side: Side,
 }
 
 impl Line for ChainLine {
@@ -204,7 +204,7 @@ impl Heads for ChainHeads {
 }
 
 /// The side of the chain that begins at a place of a group.
-fn side_at(place: u8, label: u32) -> Side
+pub(crate) fn side_at(place: u8, label: u32) -> Side
     ensures { result ≡ side_at place label }
 {
     if place == GROUP_FIRST_OUT {

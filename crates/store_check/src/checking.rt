@@ -1,10 +1,12 @@
 //! One rule after another: the first that is broken ends the check.
 
 ghost use Rattle.std.specs.Prelude.{◌≡◌, ◌<◌, ◌≤◌, IfNone, IfOk};
-ghost use Rattle.rec_bytes.specs.RuleNumbers.{index_rule, range_rule};
+ghost use Rattle.rec_bytes.specs.Format.{nodes_file};
+ghost use Rattle.rec_bytes.specs.RuleNumbers.{chain_rule, index_rule, range_rule};
 ghost use Rattle.rec_bytes.specs.Space.{HasCause, SameButReads};
 ghost use Rattle.store_rules.specs.Ranges.{AreFormed};
-ghost use Rattle.store_rules.specs.Rules.{IsWellFormed};
+ghost use Rattle.store_rules.specs.Rules.{IsLinked, IsWellFormed};
+ghost use Rattle.store_rules.specs.Views.{group_at, kind_at, rel_at};
 ghost use Rattle.store_check.specs.Verdicts.{AreMarksLow, BrokenIs, DecidesRule};
 
 use crate::Verdict;
@@ -22,13 +24,17 @@ use rec_bytes::{
 };
 use std::alloc::Global;
 
-/// Decides the rule of this number, where the first is kept if it is another.
+/// Decides the rule of this number, where the first is kept if it is another, and the third if it
+/// is after that.
 fn decide<R: Reads>(alloc: Global, space: &mut R, rule: u8) -> Result<Option<Damage>, SpaceFault>
     requires from { range_rule ≤ rule }
     requires to { rule ≤ index_rule }
     requires low { range_rule < rule → AreMarksLow (R.state space.old).records }
     requires ranges { R.tells → range_rule < rule
         → AreFormed (R.state space.old).records (R.state space.old).shape }
+    requires linked { R.tells → chain_rule < rule → IsLinked (R.state space.old).records
+        (kind_at (R.state space.old).records nodes_file) (rel_at (R.state space.old).records)
+        (group_at (R.state space.old).records) }
     ensures decided { R.tells → IfOk result
         (DecidesRule (R.state space.old).records (R.state space.old).shape rule) }
     ensures low { rule ≡ range_rule → IfOk result

@@ -7,7 +7,7 @@ ghost use Rattle.std.specs.List.{All, list_all};
 ghost use Rattle.rec_bytes.specs.Format.{most_ids, names_file, properties_file};
 ghost use Rattle.rec_bytes.specs.Space.{HasCause};
 ghost use Rattle.store_rules.specs.Views.{high};
-ghost use Rattle.store_check.specs.Breaking.{IsPropertyList, damage, is_element_file, key_of};
+ghost use Rattle.store_rules.specs.Breaking.{IsPropertyList, damage, is_element_file, key_of};
 ghost use Rattle.store_check.specs.Holding.{AreElementsRight};
 ghost use Rattle.store_check.specs.Listing.{AreListed, IsUnlisted};
 ghost use Rattle.store_check.specs.Marks.{marked};

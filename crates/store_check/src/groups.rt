@@ -1,18 +1,21 @@
-//! The fourth rule: each group is in the group chain of a dense node.
+//! The fourth rule: each group is in the group chain of a dense node, and its counts are exact if it
+//! has any.
 
-ghost use Rattle.std.specs.Prelude.{◌≡◌, ◌<◌, ◌≤◌, IfOk, false, length, map, ℕ};
+ghost use Rattle.std.specs.Prelude.{◌≡◌, ◌<◌, ◌≤◌, IfNone, IfOk, IfSome, [], false, length};
+ghost use Rattle.std.specs.Prelude.{map, ℕ};
 ghost use Rattle.std.specs.List.{All};
-ghost use Rattle.rec_bytes.specs.Format.{groups_file, most_ids};
+ghost use Rattle.rec_bytes.specs.Format.{groups_file, most_ids, nodes_file};
 ghost use Rattle.rec_bytes.specs.Space.{HasCause};
-ghost use Rattle.store_rules.specs.Rules.{is_filled};
-ghost use Rattle.store_rules.specs.Views.{high};
-ghost use Rattle.store_check.specs.Breaking.{IsGroupChain, damage, group_label};
+ghost use Rattle.store_rules.specs.Rules.{IsGrouped, IsLinked, is_filled};
+ghost use Rattle.store_rules.specs.Views.{first_link, group_at, high, kind_at, rec_at, rel_at};
+ghost use Rattle.store_rules.specs.Breaking.{IsGroupChain, damage, group_label};
 ghost use Rattle.store_check.specs.Groups.{AreOwners, GroupsFound, group_line};
 ghost use Rattle.store_check.specs.Heads.{FoundBelow};
 ghost use Rattle.store_check.specs.Marks.{marked};
 ghost use Rattle.store_check.specs.NodeChains.{IsDense};
-ghost use Rattle.store_check.specs.Verdicts.{AreMarksLow, DecidesRule};
+ghost use Rattle.store_check.specs.Verdicts.{AreMarksLow, BreaksRule, DecidesRule};
 
+use crate::counts::find_inexact;
 use crate::distinct::are_distinct;
 use crate::heads::{Broke, Found, Heads, list_heads};
 use crate::holding::find_unmarked;
@@ -148,8 +151,9 @@ fn broken(file: u8, id: u32) -> Damage
     }
 }
 
-/// Decides the fourth rule, with a mark for each group, none of them set.
-fn check_marked<R: Reads>(
+/// Finds a dense node that has no group chain, or a group that is in none, with a mark for each
+/// group, none of them set.
+fn find_ungrouped<R: Reads>(
     alloc: Global,
     space: &mut R,
     marks: &mut [bool],
@@ -157,8 +161,11 @@ fn check_marked<R: Reads>(
     requires low { AreMarksLow (R.state space.old).records }
     requires marks { length marks.old ≡ high (R.state space.old).records groups_file }
     requires clear { (p : ℕ) → marked marks.old p ≡ false }
-    ensures decided { R.tells → IfOk result
-        (DecidesRule (R.state space.old).records (R.state space.old).shape 4) }
+    ensures grouped { R.tells → IfOk result (λ found. IfNone found (IsGrouped
+        (kind_at (R.state space.old).records nodes_file) (first_link (R.state space.old).records)
+        (rec_at (R.state space.old).records groups_file) (group_at (R.state space.old).records) [])) }
+    ensures broken { R.tells → IfOk result (λ found. IfSome found
+        (BreaksRule (R.state space.old).records (R.state space.old).shape 4)) }
     ensures same { (R.state space.new).records ≡ (R.state space.old).records }
     ensures written { (R.state space.new).written ≡ (R.state space.old).written }
     ensures onward { R.onward space.old space.new }
@@ -177,12 +184,15 @@ fn check_marked<R: Reads>(
     }
 }
 
-/// Decides the fourth rule.
+/// Decides the fourth rule, where the third is kept.
 pub(crate) fn check_groups<R: Reads>(
     alloc: Global,
     space: &mut R,
 ) -> Result<Option<Damage>, SpaceFault>
-    requires { AreMarksLow (R.state space.old).records }
+    requires low { AreMarksLow (R.state space.old).records }
+    requires linked { R.tells → IsLinked (R.state space.old).records
+        (kind_at (R.state space.old).records nodes_file) (rel_at (R.state space.old).records)
+        (group_at (R.state space.old).records) }
     ensures decided { R.tells → IfOk result
         (DecidesRule (R.state space.old).records (R.state space.old).shape 4) }
     ensures same { (R.state space.new).records ≡ (R.state space.old).records }
@@ -194,5 +204,11 @@ pub(crate) fn check_groups<R: Reads>(
     let Ok(mut marks) = no_marks(alloc, groups) else {
         return Err(SpaceFault::Memory);
     };
-    check_marked(alloc, space, &mut marks)
+    if let Some(damage) = find_ungrouped(alloc, space, &mut marks)? {
+        return Ok(Some(damage));
+    }
+    match find_inexact(alloc, space)? {
+        Some(id) => Ok(Some(broken(GROUPS, id))),
+        None => Ok(None),
+    }
 }

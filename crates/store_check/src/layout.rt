@@ -21,12 +21,12 @@ ghost use Rattle.store_check.specs.Layouts.{is_right_in};
 ghost use Rattle.store_check.specs.Layouts.{pointer_of, range_of};
 
 use rec_bytes::{
-    BLOCK, BLOCK_LENGTH, BLOCK_NEXT, BLOCK_TEXT, BOOL, DENSE, FREE, FREE_NEXT, GROUP_FIRST_IN,
-    GROUP_FIRST_LOOP, GROUP_FIRST_OUT, GROUP_NEXT, GROUP_OWNER, GROUP_PREVIOUS, GROUP_TYPE,
-    GROUPED, GROUPS, INT, KIND, NAME_LENGTH, NAME_TEXT, NAMED, NAMES, NIL, NODE_FIRST_LINK,
-    NODE_FIRST_PROPERTY, NODE_LABEL, NODES, PROPERTIES, PROPERTY_FIRST_BLOCK, PROPERTY_KEY,
-    PROPERTY_LENGTH, PROPERTY_NEXT, PROPERTY_NUMBER, PROPERTY_TEXT, PROPERTY_TRUTH, RELATED,
-    RELATIONSHIP_FIRST_PROPERTY, RELATIONSHIP_SOURCE, RELATIONSHIP_SOURCE_NEXT,
+    BLOCK, BLOCK_LENGTH, BLOCK_NEXT, BLOCK_TEXT, BOOL, COUNTED, DENSE, FREE, FREE_NEXT,
+    GROUP_FIRST_IN, GROUP_FIRST_LOOP, GROUP_FIRST_OUT, GROUP_NEXT, GROUP_OWNER, GROUP_PREVIOUS,
+    GROUP_TYPE, GROUPED, GROUPS, INT, KIND, NAME_LENGTH, NAME_TEXT, NAMED, NAMES, NIL,
+    NODE_FIRST_LINK, NODE_FIRST_PROPERTY, NODE_LABEL, NODES, PROPERTIES, PROPERTY_FIRST_BLOCK,
+    PROPERTY_KEY, PROPERTY_LENGTH, PROPERTY_NEXT, PROPERTY_NUMBER, PROPERTY_TEXT, PROPERTY_TRUTH,
+    RELATED, RELATIONSHIP_FIRST_PROPERTY, RELATIONSHIP_SOURCE, RELATIONSHIP_SOURCE_NEXT,
     RELATIONSHIP_SOURCE_PREVIOUS, RELATIONSHIP_TARGET, RELATIONSHIP_TARGET_NEXT,
     RELATIONSHIP_TARGET_PREVIOUS, RELATIONSHIP_TYPE, RELATIONSHIPS, Reads, Rec, SPARSE, STRINGS,
     TEXT_IN_BLOCKS, TEXT_INLINE,
@@ -194,10 +194,10 @@ fn is_relationship<R: Reads>(space: &R, rec: &Rec) -> bool
     )
 }
 
-/// Whether a record is a group.
-fn is_group<R: Reads>(space: &R, rec: &Rec) -> bool
+/// Whether a record is a group, with so many bytes in use from its type on.
+fn is_group<R: Reads>(space: &R, rec: &Rec, size: u8) -> bool
     ensures { Decides result
-        (HasLayoutOf (high (R.state space.now).records) rec.now group_layout) }
+        (HasLayoutOf (high (R.state space.now).records) rec.now (group_layout size)) }
 {
     is_laid(
         space,
@@ -210,7 +210,7 @@ fn is_group<R: Reads>(space: &R, rec: &Rec) -> bool
             Pointer::may(GROUP_FIRST_IN, RELATIONSHIPS),
             Pointer::may(GROUP_FIRST_LOOP, RELATIONSHIPS),
         ],
-        &[Range::of(KIND, 1), Range::of(GROUP_TYPE, 28)],
+        &[Range::of(KIND, 1), Range::of(GROUP_TYPE, size)],
     )
 }
 
@@ -292,7 +292,8 @@ fn is_used_record<R: Reads>(space: &R, file: u8, rec: &Rec) -> bool
         NODES if kind == SPARSE => is_node(space, rec, RELATIONSHIPS),
         NODES => kind == DENSE && is_node(space, rec, GROUPS),
         RELATIONSHIPS => kind == RELATED && is_relationship(space, rec),
-        GROUPS => kind == GROUPED && is_group(space, rec),
+        GROUPS if kind == GROUPED => is_group(space, rec, 28),
+        GROUPS => kind == COUNTED && is_group(space, rec, 40),
         PROPERTIES => is_property(space, rec),
         STRINGS => kind == BLOCK && is_block(space, rec),
         NAMES => kind == NAMED && is_name(space, rec),

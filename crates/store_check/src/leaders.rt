@@ -6,7 +6,7 @@ ghost use Rattle.std.specs.Bool.{Decides};
 ghost use Rattle.rec_bytes.specs.Format.{groups_file, most_ids, nodes_file};
 ghost use Rattle.rec_bytes.specs.Space.{HasCause};
 ghost use Rattle.store_rules.specs.Views.{high};
-ghost use Rattle.store_check.specs.Breaking.{GroupKeeps};
+ghost use Rattle.store_rules.specs.Breaking.{GroupKeeps};
 ghost use Rattle.store_check.specs.Leading.{AreBelow, AreLed, have_same_firsts, leader};
 ghost use Rattle.store_check.specs.NodeChains.{IsDense};
 ghost use Rattle.store_check.specs.Verdicts.{AreMarksLow};

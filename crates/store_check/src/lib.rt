@@ -4,6 +4,7 @@
 
 mod chains;
 mod checking;
+mod counts;
 mod degrees;
 mod distinct;
 mod elements;

@@ -7,7 +7,7 @@ ghost use Rattle.rec_bytes.specs.RecordFiles.{is_meta_file, room_of};
 ghost use Rattle.rec_bytes.specs.Space.{HasCause};
 ghost use Rattle.store_rules.specs.Ranges.{Fits, is_indexed};
 ghost use Rattle.store_rules.specs.Views.{high};
-ghost use Rattle.store_check.specs.Breaking.{IsMetaKept, IsOwnRight, damage};
+ghost use Rattle.store_rules.specs.Breaking.{IsMetaKept, IsOwnRight, damage};
 ghost use Rattle.store_check.specs.Fitting.{FitsUnused, IsFitting, IsOnFile};
 ghost use Rattle.store_check.specs.Verdicts.{AreMarksLow, DecidesRule};
 

@@ -4,7 +4,7 @@ ghost use Rattle.std.specs.Prelude.{◌≡◌, ◌≤◌, ◌<◌, IfNone, IfOk,
 ghost use Rattle.std.specs.List.{All};
 ghost use Rattle.rec_bytes.specs.Format.{most_ids, strings_file};
 ghost use Rattle.rec_bytes.specs.Space.{HasCause};
-ghost use Rattle.store_check.specs.Breaking.{IsBlockList, IsLong, block_size, damage};
+ghost use Rattle.store_rules.specs.Breaking.{IsBlockList, IsLong, block_size, damage};
 ghost use Rattle.store_check.specs.Holding.{AreTextsRight};
 ghost use Rattle.store_check.specs.Marks.{marked};
 ghost use Rattle.store_check.specs.Texts.{AreTexts, block_line};

@@ -9,7 +9,7 @@ use Rattle.store_rules.specs.Chains.{In}
 use Rattle.store_rules.specs.Properties.{AreOnce}
 use Rattle.store_rules.specs.Rows.{option_list, collect, if_test, ids}
 use Rattle.store_rules.proofs.OnceLaws.{in_left, in_parts, in_right, once_both}
-use Rattle.store_rules.proofs.RowLaws.{append_none, collect_with, length-with_row}
+use Rattle.store_rules.proofs.RowLaws.{append_none, collect_same, collect_with, length-with_row}
 
 length-both : {A : Type 0} (xs ys : List A) → length (xs ++ ys) ≡ length xs + length ys
 length-both [] ys = omega arith
@@ -46,6 +46,21 @@ ids_with old now n m id out here same lt way = ⊎_elim
 
     one : (m : ℕ) → id < m → length (ids now m) ≡ length (ids old m) + 1
     one m lt = ap length (collect_with (λ e. e) (if_test old) (if_test now) m id id (numbered old) refl (rw out refl) (rw here refl) (λ x b ne. rw (same x ne) refl) lt) ∙ length-with_row (λ e. e) id (ids old m)
+
+-- a test that the new number fails counts as many
+pub ids_kept : (old now : ℕ → Bool) (n m id : ℕ) → ((x : ℕ) → now x ≡ old x) → old id ≡ false → (m ≡ n) ⊎ ((id ≡ n) × (m ≡ n + 1)) → ids now m ≡ ids old n
+ids_kept old now n m id same out way = all m ∙ ⊎_elim
+    (λ (e : m ≡ n). ap (ids old) e)
+    (λ (k : (id ≡ n) × (m ≡ n + 1)). ap (ids old) (k.1 ∙ add n) ∙ gone n (subst (λ z. old z ≡ false) k.0 out)) way
+  where
+    add : (n : ℕ) → n + 1 ≡ suc n
+    add n = omega arith
+
+    gone : (n : ℕ) → old n ≡ false → ids old (suc n) ≡ ids old n
+    gone n e = rw e (append_none (ids old n))
+
+    all : (m : ℕ) → ids now m ≡ ids old m
+    all m = collect_same (λ (e : ℕ). e) (if_test old) (if_test now) m (λ x _. ap (λ b. cond b (Some x) None) (same x))
 
 -- a test that never holds
 pub ids_none : (test : ℕ → Bool) (n : ℕ) → ((x : ℕ) → test x ≡ false) → ids test n ≡ []

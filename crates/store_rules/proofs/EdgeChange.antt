@@ -14,7 +14,7 @@ use Rattle.store_rules.specs.Graph.{edge_from, edge_of, graph_of, names_of, node
 use Rattle.store_rules.specs.Properties.{property_records}
 use Rattle.store_rules.specs.Ranges.{AreInRange, is_reused}
 use Rattle.store_rules.specs.Rows.{collect, ids}
-use Rattle.store_rules.specs.Rules.{AllListed, AreNamed, AreNames, HasEnds, HasGroup, HasGroups, HaveProperties, IsEnd, IsGrouped, IsLinked, IsSplit, KeepsRules, Owns, PropertyFiles, StandsAt, degree_of, is_filled, next_free, property_files, rel_first}
+use Rattle.store_rules.specs.Rules.{AllListed, AreNamed, AreNames, HasCounts, HasEnds, HasGroup, HasGroups, HaveProperties, IsEnd, IsGrouped, IsLinked, IsSplit, KeepsRules, Owns, PropertyFiles, StandsAt, degree_of, is_filled, next_free, property_files, rel_first}
 use Rattle.store_rules.specs.Views.{GroupRow, NodeRow, Records, RelRow, degree, first_link, group_at, high, is_live, key_in, kind_at, kind_in, node_at, rec_at, rel_at, rel_in, row_if, text_of}
 use Rattle.store_rules.proofs.ChainLaws.{chain_stays, walk_stays}
 use Rattle.store_rules.proofs.Changes as ch
@@ -197,6 +197,7 @@ pub record IsEdgeStore (s t : Records) (shape : Shape) (id most : ℕ) (empty : 
   pub filled : (g : ℕ) (row : GroupRow) → group_at s g ≡ Some row → (is_filled (rec_at t format.groups_file g) ≡ true) ⊎ In g empty
   pub counted : (n : ℕ) → kind_at s format.nodes_file n ≢ format.free_kind → degree t n ≡ degree_of (rel_at t) (high t format.relationships_file) n
   pub few : (n : ℕ) → kind_at s format.nodes_file n ≡ format.sparse → degree t n ≤ most
+  pub exact : (g : ℕ) (row : GroupRow) → group_at s g ≡ Some row → kind_at s format.groups_file g ≡ format.counted → HasCounts (rec_at t format.groups_file g) row (rel_at t) (high t format.relationships_file)
 
 module _ (s t : Records) (shape : Shape) (id : ℕ) {most : ℕ} {before empty : List ℕ} (well : KeepsRules s shape most before) (now : IsEdgeStore s t shape id most empty) where
   kinds : (n : ℕ) → kind_at t format.nodes_file n ≡ kind_at s format.nodes_file n
@@ -265,6 +266,7 @@ module _ (s t : Records) (shape : Shape) (id : ℕ) {most : ℕ} {before empty :
     kept = λ f is no_reuse. subst (λ (m : Meta). m.live ≡ m.high) (sym (ap metas.meta_of (meta_same s t id now.change f (λ e. true≢false (sym (ap is_reused e) ∙ no_reuse))))) (well.kept f is no_reuse);
     linked = linked;
     grouped = grouped;
+    exact = λ g row is kind. now.exact g row (ap (λ (f : ℕ → Option GroupRow). f g) (sym (groups_same s t id now.change)) ∙ is) (sym (kind_same s t id now.change format.groups_file g refl (λ e. omega arith)) ∙ kind);
     properties = properties;
     named = named;
     names = names;

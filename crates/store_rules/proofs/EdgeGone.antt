@@ -11,10 +11,11 @@ use Rattle.store_rules.specs.Rows.{collect}
 use Rattle.store_rules.specs.Rules.{AllListed, IsEnd, IsInGroup, KeepsRules, Owns, StandsAt, degree_of, is_filled, stands_in}
 use Rattle.store_rules.specs.Views.{GroupRow, Records, RelRow, degree, group_at, high, is_at, kind_at, rec_at, rel_at, rel_in, text_of}
 use Rattle.store_rules.proofs.Changes as ch
-use Rattle.store_rules.proofs.Counts.{ids_with}
+use Rattle.store_rules.proofs.CountLaws.{HasOneMore, counts_less}
+use Rattle.store_rules.proofs.Counts.{ids_kept, ids_with}
 use Rattle.store_rules.proofs.EdgeChange as ec
 use Rattle.store_rules.proofs.EdgeChange.{IsEdgeChange, IsEdgeStore, edge_well}
-use Rattle.store_rules.proofs.EdgeMade.{end_cases, ids_kept, no_row}
+use Rattle.store_rules.proofs.EdgeMade.{end_cases, no_row}
 use Rattle.store_rules.proofs.FilledGroups.{filled_by, filled_has, group_head}
 use Rattle.store_rules.proofs.GraphRows.{edges_numbered}
 use Rattle.store_rules.proofs.GroupLaws.{IsFirstPlace}
@@ -37,6 +38,7 @@ pub record IsEdgeGone (s u t : Records) (shape : Shape) (id : ℕ) (row : RelRow
   pub still : (g : ℕ) → In g before → In g empty
   pub less : (n : ℕ) → IsEnd n row → degree t n + 1 ≡ degree s n
   pub as_before : (n : ℕ) → ¬ IsEnd n row → degree t n ≡ degree s n
+  pub counts : (g : ℕ) (group : GroupRow) → group_at s g ≡ Some group → kind_at s format.groups_file g ≡ format.counted → HasOneMore (rec_at t format.groups_file g) (rec_at s format.groups_file g) group row
 
 module _ (s u t : Records) (shape : Shape) (id : ℕ) (row : RelRow) {most : ℕ} {before empty : List ℕ} (edge : IsEdgeGone s u t shape id row before empty) (well : KeepsRules s shape most before) where
   change : IsEdgeChange s t id
@@ -110,6 +112,8 @@ module _ (s u t : Records) (shape : Shape) (id : ℕ) (row : RelRow) {most : ℕ
     filled = filled;
     counted = counted;
     few = few;
+    exact = λ g group is kind. counts_less group row (rel_at s) (rel_at t) (high s format.relationships_file) (high t format.relationships_file) id edge.live rel_gone change.rels id_low mark
+        (rec_at s format.groups_file g) (rec_at t format.groups_file g) (edge.counts g group is kind) (well.exact g group is kind);
   }
 
   pub gone_well : KeepsRules t shape most empty

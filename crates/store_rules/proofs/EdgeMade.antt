@@ -1,6 +1,6 @@
 -- A relationship that is made keeps the rules, and is one more edge of the graph.
 use Rattle.std.specs.List.{list_any}
-use Rattle.std.proofs.Common.{◌≡◌, ◌≢◌, ◌⊎◌, ℕ, suc, ◌+◌, ◌<◌, ◌≤◌, nat_eq, Bool, true, false, cond, ◌||◌, None, Some, List, [], length, sym, ap, ◌∙◌, subst, inl, inr, ⊎_elim, arith, refl}
+use Rattle.std.proofs.Common.{◌≡◌, ◌≢◌, ◌⊎◌, ℕ, ◌+◌, ◌<◌, ◌≤◌, nat_eq, Bool, true, false, ◌||◌, None, Some, List, [], length, sym, ap, ◌∙◌, subst, inl, inr, ⊎_elim, arith, refl}
 use Rattle.plain_graph.specs.Graph.{Edge, edge_number, with_row}
 use Rattle.plain_graph.specs.Properties.{Properties, no_properties}
 use Rattle.rec_bytes.specs.declared.record.Rec.{Rec}
@@ -11,11 +11,11 @@ use Rattle.store_rules.specs.Chains.{In}
 use Rattle.store_rules.specs.Graph.{edge_from, edge_of, graph_of, names_of}
 use Rattle.store_rules.specs.Properties.{properties_from, property_records}
 use Rattle.store_rules.specs.Ranges.{Fits}
-use Rattle.store_rules.specs.Rows.{ids, if_test}
 use Rattle.store_rules.specs.Rules.{AllListed, IsEnd, IsInGroup, KeepsRules, Owns, StandsAt, degree_of, is_filled, stands_in}
 use Rattle.store_rules.specs.Views.{GroupRow, Records, RelRow, degree, group_at, high, is_at, kind_at, rec_at, rel_at, rel_in, text_of}
 use Rattle.store_rules.proofs.Changes as ch
-use Rattle.store_rules.proofs.Counts.{ids_with}
+use Rattle.store_rules.proofs.CountLaws.{HasOneMore, counts_more}
+use Rattle.store_rules.proofs.Counts.{ids_kept, ids_with}
 use Rattle.store_rules.proofs.EdgeChange as ec
 use Rattle.store_rules.proofs.EdgeChange.{IsEdgeChange, IsEdgeStore, IsGoodRow, edge_well, rels_relinked}
 use Rattle.store_rules.proofs.FilledGroups.{filled_by, filled_has, group_head, in_place}
@@ -26,23 +26,8 @@ use Rattle.store_rules.proofs.NumberLaws.{eq_false, eq_true, nat_cases}
 use Rattle.store_rules.proofs.PropertyLists.{properties_from-nil}
 use Rattle.store_rules.proofs.Relinks as re
 use Rattle.store_rules.proofs.Relinks.{IsRelinked}
-use Rattle.store_rules.proofs.RowLaws.{append_none, collect_same, fresh_collect, rows_with}
+use Rattle.store_rules.proofs.RowLaws.{fresh_collect, rows_with}
 use Rattle.store_rules.proofs.ViewLaws.{kind_low, row_none, row_some}
-
--- a test that the new number fails counts as many
-pub ids_kept : (old now : ℕ → Bool) (n m id : ℕ) → ((x : ℕ) → now x ≡ old x) → old id ≡ false → (m ≡ n) ⊎ ((id ≡ n) × (m ≡ n + 1)) → ids now m ≡ ids old n
-ids_kept old now n m id same out way = all m ∙ ⊎_elim
-    (λ (e : m ≡ n). ap (ids old) e)
-    (λ (k : (id ≡ n) × (m ≡ n + 1)). ap (ids old) (k.1 ∙ add n) ∙ gone n (subst (λ z. old z ≡ false) k.0 out)) way
-  where
-    add : (n : ℕ) → n + 1 ≡ suc n
-    add n = omega arith
-
-    gone : (n : ℕ) → old n ≡ false → ids old (suc n) ≡ ids old n
-    gone n e = rw e (append_none (ids old n))
-
-    all : (m : ℕ) → ids now m ≡ ids old m
-    all m = collect_same (λ (e : ℕ). e) (if_test old) (if_test now) m (λ x _. ap (λ b. cond b (Some x) None) (same x))
 
 -- a node is an end of the row, or isn't
 pub end_cases : {P : Type 0} (n : ℕ) (row : RelRow) → (IsEnd n row → is_at n row ≡ true → P) → (¬ IsEnd n row → is_at n row ≡ false → P) → P
@@ -69,6 +54,7 @@ pub record IsEdgeMade (s m t : Records) (shape : Shape) (id : ℕ) (rec : Rec) (
   pub more : (n : ℕ) → IsEnd n row → degree t n ≡ degree s n + 1
   pub as_before : (n : ℕ) → ¬ IsEnd n row → degree t n ≡ degree s n
   pub few : (n : ℕ) → IsEnd n row → kind_at s format.nodes_file n ≡ format.sparse → degree s n < most
+  pub counts : (g : ℕ) (group : GroupRow) → group_at s g ≡ Some group → kind_at s format.groups_file g ≡ format.counted → HasOneMore (rec_at s format.groups_file g) (rec_at t format.groups_file g) group row
 
 -- the row of a record that was made, and none before
 pub made_row : (s m : Records) (shape : Shape) (id : ℕ) (rec : Rec) → IsMade s m shape format.relationships_file id rec → field 1 rec format.kind ≢ format.free_kind → rel_at m id ≡ Some (rel_in rec id)
@@ -155,6 +141,8 @@ module _ (s m t : Records) (shape : Shape) (id : ℕ) (rec : Rec) (row : RelRow)
     filled = λ g group is. inl (filled g group is);
     counted = counted;
     few = few;
+    exact = λ g group is kind. counts_more group row (rel_at s) (rel_at t) (high s format.relationships_file) (high t format.relationships_file) id rel_old rel_new change.rels below way
+        (rec_at s format.groups_file g) (rec_at t format.groups_file g) (edge.counts g group is kind) (well.exact g group is kind);
   }
 
   pub made_well : KeepsRules t shape most []

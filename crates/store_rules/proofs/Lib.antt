@@ -1,6 +1,7 @@
 pub mod BlockLists
 pub mod ChainLaws
 pub mod Changes
+pub mod CountLaws
 pub mod Counts
 pub mod EdgeChange
 pub mod EdgeGone

@@ -8,8 +8,10 @@ use Rattle.rec_bytes.specs.Format as format
 use Rattle.rec_bytes.specs.Record.{field, with_field}
 use Rattle.rec_bytes.proofs.Numbers.{field-with_field_other, field-with_field_same}
 use Rattle.store_rules.specs.Ranges.{Fits, IsBlankOutside, Layout, Pointer, all_point, bytes_of, is_in, layout_by, layout_of, may, must, points}
+use Rattle.store_rules.specs.Views.{is_group_kind}
 use Rattle.store_rules.proofs.GroupLaws.{IsFirstPlace}
 use Rattle.store_rules.proofs.NumberLaws.{and_parts, eq_true, lt_true}
+use Rattle.store_rules.proofs.ViewLaws.{group_kinds}
 
 -- none, or below a mark
 abbrev pub IsLow : ℕ → ℕ → Type 0
@@ -36,12 +38,13 @@ rel_layout_is = record {
   used = bytes_of format.kind 1 ∷ bytes_of format.relationship_type 32 ∷ [];
 }
 
-abbrev group_layout_is : Layout
-group_layout_is = record {
+-- a group's, by how many bytes are in use from its type on
+abbrev group_layout_is : ℕ → Layout
+group_layout_is size = record {
   pointers = must format.group_owner format.nodes_file ∷ may format.group_previous format.groups_file ∷ may format.group_next format.groups_file
       ∷ may format.group_first_out format.relationships_file ∷ may format.group_first_in format.relationships_file
       ∷ may format.group_first_loop format.relationships_file ∷ [];
-  used = bytes_of format.kind 1 ∷ bytes_of format.group_type 28 ∷ [];
+  used = bytes_of format.kind 1 ∷ bytes_of format.group_type size ∷ [];
 }
 
 inner : (a b : Layout) → Some a ≡ Some b → a ≡ b
@@ -108,8 +111,26 @@ module _ (marks : ℕ → ℕ) (r : Rec) (at to : ℕ) (low : 4 ≤ at) (fits : 
   rel_as : at + 4 ≤ 36 → PointRight rel_layout_is.pointers → field 1 r format.kind ≡ format.related → Fits marks format.relationships_file r → Fits marks format.relationships_file now
   rel_as inside right kind = fits_as format.relationships_file 32 rel_layout_is refl inside right (ap (layout_by format.relationships_file r) kind) (ap (layout_by format.relationships_file now) (kind_same ∙ kind))
 
-  group_as : at + 4 ≤ 32 → PointRight group_layout_is.pointers → field 1 r format.kind ≡ format.grouped → Fits marks format.groups_file r → Fits marks format.groups_file now
-  group_as inside right kind = fits_as format.groups_file 28 group_layout_is refl inside right (ap (layout_by format.groups_file r) kind) (ap (layout_by format.groups_file now) (kind_same ∙ kind))
+  group_as : at + 4 ≤ 32 → PointRight (group_layout_is 28).pointers → is_group_kind (field 1 r format.kind) ≡ true → Fits marks format.groups_file r → Fits marks format.groups_file now
+  group_as inside right kind = ⊎_elim
+      (λ (k : field 1 r format.kind ≡ format.grouped). fits_as format.groups_file 28 (group_layout_is 28) refl inside right (ap (layout_by format.groups_file r) k) (ap (layout_by format.groups_file now) (kind_same ∙ k)))
+      (λ (k : field 1 r format.kind ≡ format.counted). fits_as format.groups_file 40 (group_layout_is 40) refl (omega arith) right (ap (layout_by format.groups_file r) k) (ap (layout_by format.groups_file now) (kind_same ∙ k)))
+      (group_kinds (field 1 r format.kind) kind)
+
+  count_as : at + 4 ≤ 44 → PointRight (group_layout_is 40).pointers → field 1 r format.kind ≡ format.counted → Fits marks format.groups_file r → Fits marks format.groups_file now
+  count_as inside right kind = fits_as format.groups_file 40 (group_layout_is 40) refl inside right (ap (layout_by format.groups_file r) kind) (ap (layout_by format.groups_file now) (kind_same ∙ kind))
+
+-- the place of a number of relationships
+abbrev pub IsCountPlace : ℕ → Type 0
+IsCountPlace at = (at ≡ format.group_out_count) ⊎ ((at ≡ format.group_in_count) ⊎ (at ≡ format.group_loop_count))
+
+-- a number of a counted group
+pub fits_count : (marks : ℕ → ℕ) (r : Rec) (at to : ℕ) → IsCountPlace at → to < 2 ^ 32 → field 1 r format.kind ≡ format.counted → Fits marks format.groups_file r → Fits marks format.groups_file (with_field 4 r at to)
+fits_count marks r at to place small = count_as marks r at to (let b = within in omega arith) (let b = within in omega arith) small (let b = within in omega arith)
+    (inl (omega arith, inl (let b = within in omega arith)), (inl (omega arith, inl (let b = within in omega arith)), (inl (omega arith, inl (let b = within in omega arith)), (inl (omega arith, inl (let b = within in omega arith)), (inl (omega arith, inl (let b = within in omega arith)), (inl (omega arith, inl (let b = within in omega arith)), tt))))))
+  where
+    within : (32 ≤ at) × (at + 4 ≤ 44)
+    within = ⊎_elim (λ (e : at ≡ 32). (omega arith, omega arith)) (λ k. ⊎_elim (λ (e : at ≡ 36). (omega arith, omega arith)) (λ (e : at ≡ 40). (omega arith, omega arith)) k) place
 
 -- the first link of a sparse node
 pub fits_first : (marks : ℕ → ℕ) (r : Rec) (to : ℕ) → to < 2 ^ 32 → IsLow (marks format.relationships_file) to → field 1 r format.kind ≡ format.sparse → Fits marks format.nodes_file r
@@ -122,10 +143,10 @@ fits_degree marks r to small (inl sparse) = node_as marks r format.node_degree t
 fits_degree marks r to small (inr dense) = dense_as marks r format.node_degree to (omega arith) (omega arith) small (omega arith) (inl (omega arith, inl (omega arith)), (inl (omega arith, inl (omega arith)), tt)) dense
 
 abbrev FirstFits : (ℕ → ℕ) → Rec → ℕ → ℕ → Type 0
-FirstFits marks r to at = field 1 r format.kind ≡ format.grouped → Fits marks format.groups_file r → Fits marks format.groups_file (with_field 4 r at to)
+FirstFits marks r to at = is_group_kind (field 1 r format.kind) ≡ true → Fits marks format.groups_file r → Fits marks format.groups_file (with_field 4 r at to)
 
 -- the first link of a chain of a group
-pub fits_group_first : (marks : ℕ → ℕ) (r : Rec) (at to : ℕ) → IsFirstPlace at → to < 2 ^ 32 → IsLow (marks format.relationships_file) to → field 1 r format.kind ≡ format.grouped → Fits marks format.groups_file r
+pub fits_group_first : (marks : ℕ → ℕ) (r : Rec) (at to : ℕ) → IsFirstPlace at → to < 2 ^ 32 → IsLow (marks format.relationships_file) to → is_group_kind (field 1 r format.kind) ≡ true → Fits marks format.groups_file r
     → Fits marks format.groups_file (with_field 4 r at to)
 fits_group_first marks r at to is small low = ⊎_elim (λ (e : at ≡ 20). subst (FirstFits marks r to) (sym e) at_20) (λ k. ⊎_elim (λ (e : at ≡ 24). subst (FirstFits marks r to) (sym e) at_24) (λ (e : at ≡ 28). subst (FirstFits marks r to) (sym e) at_28) k) is
   where
@@ -177,12 +198,12 @@ fits_rel_property marks r to small low = rel_as marks r format.relationship_firs
     (inl (omega arith, inl (omega arith)), (inl (omega arith, inl (omega arith)), (inl (omega arith, inl (omega arith)), (inl (omega arith, inl (omega arith)), (inl (omega arith, inl (omega arith)), (inl (omega arith, inl (omega arith)), (inr (refl, refl, low), tt)))))))
 
 -- the link of a group to another
-pub fits_group_previous : (marks : ℕ → ℕ) (r : Rec) (to : ℕ) → to < 2 ^ 32 → IsLow (marks format.groups_file) to → field 1 r format.kind ≡ format.grouped → Fits marks format.groups_file r
+pub fits_group_previous : (marks : ℕ → ℕ) (r : Rec) (to : ℕ) → to < 2 ^ 32 → IsLow (marks format.groups_file) to → is_group_kind (field 1 r format.kind) ≡ true → Fits marks format.groups_file r
     → Fits marks format.groups_file (with_field 4 r format.group_previous to)
 fits_group_previous marks r to small low = group_as marks r format.group_previous to (omega arith) (omega arith) small (omega arith)
     (inl (omega arith, inl (omega arith)), (inr (refl, refl, low), (inl (omega arith, inr (omega arith)), (inl (omega arith, inr (omega arith)), (inl (omega arith, inr (omega arith)), (inl (omega arith, inr (omega arith)), tt))))))
 
-pub fits_group_next : (marks : ℕ → ℕ) (r : Rec) (to : ℕ) → to < 2 ^ 32 → IsLow (marks format.groups_file) to → field 1 r format.kind ≡ format.grouped → Fits marks format.groups_file r
+pub fits_group_next : (marks : ℕ → ℕ) (r : Rec) (to : ℕ) → to < 2 ^ 32 → IsLow (marks format.groups_file) to → is_group_kind (field 1 r format.kind) ≡ true → Fits marks format.groups_file r
     → Fits marks format.groups_file (with_field 4 r format.group_next to)
 fits_group_next marks r to small low = group_as marks r format.group_next to (omega arith) (omega arith) small (omega arith)
     (inl (omega arith, inl (omega arith)), (inl (omega arith, inl (omega arith)), (inr (refl, refl, low), (inl (omega arith, inr (omega arith)), (inl (omega arith, inr (omega arith)), (inl (omega arith, inr (omega arith)), tt))))))

@@ -122,6 +122,7 @@ module _ (s t : Records) (shape : Shape) (rec : Rec) (text : List ℕ) (made : I
       linked = un.linked s t format.names_file count made.change refl (λ x n row e i. ap (λ (k : ℕ → ℕ). k n) kinds) listed well.linked;
       grouped = un.grouped s t format.names_file count made.change refl (λ n g row e o d. ap (λ (k : ℕ → ℕ). k n) kinds ∙ d)
           (λ n d. (sym (ap (λ (k : ℕ → ℕ). k n) kinds) ∙ d, ap (λ r. field 4 r format.node_first_link) (nodes_same.each n))) well.grouped;
+      exact = un.exact s t format.names_file count made.change refl well.exact;
       properties = properties;
       named = named;
       names = names;

@@ -131,6 +131,7 @@ module _ (before : Records) (shape : Shape) where
       owned = λ g row e. absurd (not_some (group_at new g) row (no_group g) e);
       each = λ n d. absurd (let z = sym (none_used format.nodes_file n refl) ∙ d in omega arith);
     };
+    exact = λ g row e kind. absurd (not_some (group_at new g) row (no_group g) e);
     properties = properties;
     named = record {
       nodes_named = λ x row e. absurd (not_some (node_at new x) row (no_node x) e);

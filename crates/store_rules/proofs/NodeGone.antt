@@ -98,6 +98,7 @@ module _ (s t : Records) (shape : Shape) (id : ℕ) (lost : IsGone s t shape for
     linked = un.linked s t format.nodes_file id lost.change refl (λ x n row e i. kind_other n (λ k. no_end s shape well id old.used old.alone x row e (subst (λ z. IsEnd z row) k i))) listed well.linked;
     grouped = un.grouped s t format.nodes_file id lost.change refl (λ n g row e o d. kind_other n (λ k. old.ungrouped g row e (o ∙ k)) ∙ d)
         (λ n d. (sym (kind_other n (dense_new n d)) ∙ d, nc.first_other s t id lost.change n (dense_new n d))) well.grouped;
+    exact = un.exact s t format.nodes_file id lost.change refl well.exact;
     properties = properties;
     named = named;
     names = nc.names s t id lost.change shape well;

@@ -126,6 +126,7 @@ module _ (s t : Records) (shape : Shape) (id number : ℕ) (rec : Rec) (made : I
     linked = un.linked s t format.nodes_file id made.change refl (λ x n row e i. kind_other n (λ k. no_end x row e (subst (λ z. IsEnd z row) k i))) listed well.linked;
     grouped = un.grouped s t format.nodes_file id made.change refl (λ n g row e o d. kind_other n (not_new n (λ z. let p = sym z ∙ d in omega arith)) ∙ d)
         (λ n d. (sym (kind_other n (dense_old n d)) ∙ d, nc.first_other s t id made.change n (dense_old n d))) well.grouped;
+    exact = un.exact s t format.nodes_file id made.change refl well.exact;
     properties = properties;
     named = named;
     names = nc.names s t id made.change shape well;

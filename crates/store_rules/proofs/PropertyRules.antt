@@ -1,5 +1,5 @@
 -- A change of one element's properties keeps the rules.
-use Rattle.std.proofs.Common.{◌≡◌, ◌≢◌, ℕ, ◌+◌, ◌<◌, ◌≤◌, Bool, cond, true, false, not, nat_eq, List, length, sym, ap, ◌∙◌, subst, inl, inr, ⊎_elim, arith, refl}
+use Rattle.std.proofs.Common.{◌≡◌, ◌≢◌, ℕ, ◌+◌, ◌<◌, ◌≤◌, Bool, cond, true, false, not, nat_eq, List, length, sym, ap, ◌∙◌, subst, inl, inr, ⊎_elim, arith, refl, Option}
 use Rattle.std.proofs.lemmas.Bool.{true≢false}
 use Rattle.rec_bytes.specs.declared.meta.Meta.{Meta}
 use Rattle.rec_bytes.specs.declared.record.Rec.{Rec}
@@ -15,8 +15,8 @@ use Rattle.store_rules.specs.Chains.{IsWalk, next_in, place_of, prev_in}
 use Rattle.store_rules.specs.Properties.{Property}
 use Rattle.store_rules.specs.Ranges.{AreInRange, Fits, is_reused}
 use Rattle.store_rules.specs.Rows.{ids}
-use Rattle.store_rules.specs.Rules.{AreAllLive, AreCounted, AreNamed, AreNames, Head, IsGrouped, IsLinked, IsSplit, KeepsRules, Owns, first_of, next_free}
-use Rattle.store_rules.specs.Views.{Records, degree, first_link, group_at, high, is_live, kind_at, node_at, rec_at, rel_at}
+use Rattle.store_rules.specs.Rules.{AreAllLive, AreCounted, AreNamed, AreNames, Head, IsGrouped, IsLinked, IsSplit, KeepsRules, Owns, first_of, next_free, AreExact, HasCounts}
+use Rattle.store_rules.specs.Views.{Records, degree, first_link, group_at, high, is_live, kind_at, node_at, rec_at, rel_at, GroupRow}
 use Rattle.store_rules.proofs.ChainLaws.{walk_stays}
 use Rattle.store_rules.proofs.Frames.{pair_cases}
 use Rattle.store_rules.proofs.MetaLaws.{meta_of_reused}
@@ -148,6 +148,13 @@ module _ (s t : Records) (shape : Shape) (file x : ℕ) (old new : List Property
       (subst (λ r. IsGrouped (kind_at s format.nodes_file) (first_link s) r (group_at t) empty) (sym (fr.group_file s t shape file x old new h))
       (subst (λ g. IsGrouped (kind_at s format.nodes_file) (first_link s) (rec_at s format.groups_file) g empty) (sym (fr.groups_same s t shape file x old new h)) was)))
 
+  exact : AreExact (kind_at s format.groups_file) (rec_at s format.groups_file) (group_at s) (rel_at s) (high s format.relationships_file)
+      → AreExact (kind_at t format.groups_file) (rec_at t format.groups_file) (group_at t) (rel_at t) (high t format.relationships_file)
+  exact was g row is kind = subst (λ (f : ℕ → Rec). HasCounts (f g) row (rel_at t) (high t format.relationships_file)) (sym (fr.group_file s t shape file x old new h))
+      (subst (λ m. HasCounts (rec_at s format.groups_file g) row (rel_at t) m) (sym (fr.mark_same s t shape file x old new h format.relationships_file (λ e. omega arith) (λ e. omega arith)))
+      (twin.counts_alike (rel_at s) (rel_at t) rels_there rels_back (rec_at s format.groups_file g) row (high s format.relationships_file)
+      (was g row (ap (λ (f : ℕ → Option GroupRow). f g) (sym (fr.groups_same s t shape file x old new h)) ∙ is) (sym (fr.kind_same s t shape file x old new h format.groups_file g refl (λ e. omega arith) (λ e. omega arith)) ∙ kind))))
+
   -- the sixth
   names : AreNames (rec_at s format.names_file) (high s format.names_file) → AreNames (rec_at t format.names_file) (high t format.names_file)
   names was = subst (λ r. AreNames r (high t format.names_file)) (sym (fr.name_file s t shape file x old new h)) (subst (AreNames (rec_at s format.names_file)) (sym (fr.name_mark s t shape file x old new h)) was)
@@ -170,6 +177,7 @@ module _ (s t : Records) (shape : Shape) (file x : ℕ) (old new : List Property
     kept = all_live well.kept;
     linked = linked well.linked;
     grouped = grouped well.grouped;
+    exact = exact well.exact;
     properties = properties_held s t shape file x old new h well;
     named = named well.named;
     names = names well.names;

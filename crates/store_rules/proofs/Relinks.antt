@@ -1,5 +1,5 @@
 -- Links and degrees that are set, one after another: what stays of the records, and of the first and second rule.
-use Rattle.std.proofs.Common.{◌≡◌, ◌≢◌, ◌⊎◌, ℕ, ◌+◌, ◌<◌, ◌≤◌, ◌^◌, nat_eq, not, List, length, sym, ap, ◌∙◌, subst, inl, inr, ⊎_elim, arith, refl}
+use Rattle.std.proofs.Common.{◌≡◌, ◌≢◌, ◌⊎◌, ℕ, ◌+◌, ◌<◌, ◌≤◌, ◌^◌, nat_eq, not, List, length, sym, ap, ◌∙◌, subst, inl, inr, true, ⊎_elim, arith, refl}
 use Rattle.rec_bytes.specs.declared.key.Key.{Key}
 use Rattle.rec_bytes.specs.declared.meta.Meta.{Meta}
 use Rattle.rec_bytes.specs.declared.record.Rec.{Rec}
@@ -17,21 +17,21 @@ use Rattle.store_rules.specs.Chains.{IsWalk}
 use Rattle.store_rules.specs.Ranges.{AreInRange, Fits}
 use Rattle.store_rules.specs.Rows.{ids}
 use Rattle.store_rules.specs.Rules.{Head, IsSplit, Owns, next_free, node_head}
-use Rattle.store_rules.specs.Views.{Records, first_link, group_at, group_in, high, is_live, key_in, kind_at, kind_in, rec_at}
+use Rattle.store_rules.specs.Views.{Records, first_link, group_at, group_in, high, is_group_kind, is_live, key_in, kind_at, kind_in, rec_at}
 use Rattle.store_rules.proofs.ChainLaws.{walk_stays}
 use Rattle.store_rules.proofs.GroupLaws.{IsFirstPlace}
-use Rattle.store_rules.proofs.LinkFits.{IsLink, IsLow, fits_degree, fits_first, fits_group_first, fits_link}
+use Rattle.store_rules.proofs.LinkFits.{IsCountPlace, IsLink, IsLow, fits_count, fits_degree, fits_first, fits_group_first, fits_link}
 use Rattle.store_rules.proofs.MetaLaws.{high_fits}
 use Rattle.store_rules.proofs.NumberLaws.{nat_cases}
 use Rattle.store_rules.proofs.UsedKinds.{group_kind}
 use Rattle.store_rules.proofs.ViewLaws.{kind_by, kind_low, some_row}
 
--- the n bytes from a place on are none of a link's or of a degree's
+-- the n bytes from a place on are none of a link's, of a degree's or of a number's of a counted group
 abbrev pub IsKept : ℕ → ℕ → ℕ → Type 0
 IsKept file n at =
     (file ≡ format.nodes_file → ((at + n ≤ format.node_first_link) ⊎ (format.node_first_property ≤ at)) × ((at + n ≤ format.node_degree) ⊎ (format.node_degree + 4 ≤ at)))
     × (file ≡ format.relationships_file → (at + n ≤ format.relationship_source_previous) ⊎ (format.relationship_first_property ≤ at))
-    × (file ≡ format.groups_file → (at + n ≤ format.group_first_out) ⊎ (format.group_first_loop + 4 ≤ at))
+    × (file ≡ format.groups_file → (at + n ≤ format.group_first_out) ⊎ (format.group_loop_count + 4 ≤ at))
 
 -- what stands before all links is kept
 pub kept_low : (file n at : ℕ) → at + n ≤ 8 → IsKept file n at
@@ -46,7 +46,7 @@ pub unlinked : (file : ℕ) → (file ≡ format.meta_file) ⊎ (format.groups_f
 unlinked file either is = ⊎_elim (λ (e : file ≡ 1). ⊎_elim (λ (z : file ≡ 0). omega arith) (λ (l : 3 < file). omega arith) either)
     (λ k. ⊎_elim (λ (e : file ≡ 2). ⊎_elim (λ (z : file ≡ 0). omega arith) (λ (l : 3 < file). omega arith) either) (λ (e : file ≡ 3). ⊎_elim (λ (z : file ≡ 0). omega arith) (λ (l : 3 < file). omega arith) either) k) is
 
--- No number of a record changed but links of relationships, first links of sparse nodes and of the chains of groups, and degrees. Records that fitted their file fit it.
+-- No number of a record changed but links of relationships, first links of sparse nodes and of the chains of groups, degrees, and numbers of counted groups. Records that fitted their file fit it.
 pub record IsRelinked (s t : Records) : Type 0 where
   pub others : (key : Key) → ¬ HasLinks key.file → t key ≡ s key
   pub same : (key : Key) (n at : ℕ) → at + n ≤ 64 → IsKept key.file n at → field n (t key) at ≡ field n (s key) at
@@ -153,14 +153,14 @@ module _ (s t : Records) (h : IsRelinked s t) where
 abbrev pub IsFirstLink : Records → Head → Type 0
 IsFirstLink records h =
     ((kind_at records format.nodes_file h.key.id ≡ format.sparse) × (h ≡ node_head h.key.id))
-    ⊎ ((kind_at records format.groups_file h.key.id ≡ format.grouped) × (h.key ≡ key_in format.groups_file h.key.id) × IsFirstPlace h.field)
+    ⊎ ((is_group_kind (kind_at records format.groups_file h.key.id) ≡ true) × (h.key ≡ key_in format.groups_file h.key.id) × IsFirstPlace h.field)
 
 -- the heads that a node owns are such
 pub owned_link : (s : Records) (shape : Shape) → AreInRange s shape → (h : Head) (n : ℕ) → Owns (kind_at s format.nodes_file) (group_at s) h n → IsFirstLink s h
 owned_link s shape ranges h n (inl k) = inl (ap (λ (z : Head). kind_at s format.nodes_file z.key.id) k.is ∙ k.sparse, k.is ∙ ap (λ (z : Head). node_head z.key.id) (sym k.is))
 owned_link s shape ranges h n (inr k) =
     let live = (some_row (kind_at s format.groups_file k.row.id) (group_in (rec_at s format.groups_file k.row.id) k.row.id) k.row k.group).0 in
-    inr (ap (λ (z : Key). kind_at s format.groups_file z.id) k.key ∙ group_kind s shape ranges k.row.id live, k.key ∙ ap (λ (z : Key). key_in format.groups_file z.id) (sym k.key), k.field)
+    inr (ap (λ (z : Key). is_group_kind (kind_at s format.groups_file z.id)) k.key ∙ group_kind s shape ranges k.row.id live, k.key ∙ ap (λ (z : Key). key_in format.groups_file z.id) (sym k.key), k.field)
 
 low_small : (s : Records) (to : ℕ) → IsLow (high s format.relationships_file) to → to < 2 ^ 32
 low_small s to low = let b = high_fits s format.relationships_file in ⊎_elim (λ (e : to ≡ format.nil). omega arith) (λ (lt : to < high s format.relationships_file). omega arith) low
@@ -168,6 +168,9 @@ low_small s to low = let b = high_fits s format.relationships_file in ⊎_elim (
 module _ (s t : Records) (h : IsRelinked s t) where
   kind_is : (f x kind : ℕ) → x < high s f → kind_at s f x ≡ kind → field 1 (rec_at t f x) format.kind ≡ kind
   kind_is f x kind lt is = byte_stays s t h f x ∙ sym (kind_low (high s f) (rec_at s f x) x lt) ∙ is
+
+  group_is : (g : ℕ) → g < high s format.groups_file → is_group_kind (kind_at s format.groups_file g) ≡ true → is_group_kind (field 1 (rec_at t format.groups_file g) format.kind) ≡ true
+  group_is g lt is = ap is_group_kind (kind_is format.groups_file g (kind_at s format.groups_file g) lt refl) ∙ is
 
   -- a number in another file, or of a node that isn't dense, is no dense node's
   other_file : (file id at : ℕ) → file ≢ format.nodes_file → NotDense s file id at
@@ -179,16 +182,27 @@ module _ (s t : Records) (h : IsRelinked s t) where
       (λ m d e. absurd (let z = sym sparse ∙ ap (λ (k : Key). kind_at s format.nodes_file k.id) (sym e) ∙ d in omega arith))
       (λ lt fits. fits_first (high s) (rec_at t format.nodes_file n) to (low_small s to low) low (kind_is format.nodes_file n format.sparse lt sparse) (h.fit format.nodes_file n lt fits)) h
 
-  pub set_group_first : (g at to : ℕ) → kind_at s format.groups_file g ≡ format.grouped → IsFirstPlace at → IsLow (high s format.relationships_file) to
+  pub set_group_first : (g at to : ℕ) → is_group_kind (kind_at s format.groups_file g) ≡ true → IsFirstPlace at → IsLow (high s format.relationships_file) to
       → IsRelinked s (put t (key_in format.groups_file g) (with_field 4 (rec_at t format.groups_file g) at to))
   set_group_first g at to grouped place low = set_more s t format.groups_file g at to (inr (inr refl)) (λ m p kept. apart m p (kept.2 refl)) (other_file format.groups_file g at (λ e. omega arith))
-      (λ lt fits. fits_group_first (high s) (rec_at t format.groups_file g) at to place (low_small s to low) low (kind_is format.groups_file g format.grouped lt grouped) (h.fit format.groups_file g lt fits)) h
+      (λ lt fits. fits_group_first (high s) (rec_at t format.groups_file g) at to place (low_small s to low) low (group_is g lt grouped) (h.fit format.groups_file g lt fits)) h
     where
       within : (20 ≤ at) × (at + 4 ≤ 32)
       within = ⊎_elim (λ (e : at ≡ 20). (omega arith, omega arith)) (λ k. ⊎_elim (λ (e : at ≡ 24). (omega arith, omega arith)) (λ (e : at ≡ 28). (omega arith, omega arith)) k) place
 
-      apart : (m p : ℕ) → (p + m ≤ 20) ⊎ (32 ≤ p) → (p + m ≤ at) ⊎ (at + 4 ≤ p)
-      apart m p k = ⊎_elim (λ (l : p + m ≤ 20). inl (let b = within.0 in omega arith)) (λ (l : 32 ≤ p). inr (let b = within.1 in omega arith)) k
+      apart : (m p : ℕ) → (p + m ≤ 20) ⊎ (44 ≤ p) → (p + m ≤ at) ⊎ (at + 4 ≤ p)
+      apart m p k = ⊎_elim (λ (l : p + m ≤ 20). inl (let b = within.0 in omega arith)) (λ (l : 44 ≤ p). inr (let b = within.1 in omega arith)) k
+
+  pub set_count : (g at to : ℕ) → kind_at s format.groups_file g ≡ format.counted → IsCountPlace at → to < 2 ^ 32
+      → IsRelinked s (put t (key_in format.groups_file g) (with_field 4 (rec_at t format.groups_file g) at to))
+  set_count g at to counted place small = set_more s t format.groups_file g at to (inr (inr refl)) (λ m p kept. apart m p (kept.2 refl)) (other_file format.groups_file g at (λ e. omega arith))
+      (λ lt fits. fits_count (high s) (rec_at t format.groups_file g) at to place small (kind_is format.groups_file g format.counted lt counted) (h.fit format.groups_file g lt fits)) h
+    where
+      within : (32 ≤ at) × (at + 4 ≤ 44)
+      within = ⊎_elim (λ (e : at ≡ 32). (omega arith, omega arith)) (λ k. ⊎_elim (λ (e : at ≡ 36). (omega arith, omega arith)) (λ (e : at ≡ 40). (omega arith, omega arith)) k) place
+
+      apart : (m p : ℕ) → (p + m ≤ 20) ⊎ (44 ≤ p) → (p + m ≤ at) ⊎ (at + 4 ≤ p)
+      apart m p k = ⊎_elim (λ (l : p + m ≤ 20). inl (let b = within.0 in omega arith)) (λ (l : 44 ≤ p). inr (let b = within.1 in omega arith)) k
 
   pub set_degree : (n to : ℕ) → (kind_at s format.nodes_file n ≡ format.sparse) ⊎ (kind_at s format.nodes_file n ≡ format.dense) → to < 2 ^ 32
       → IsRelinked s (put t (key_in format.nodes_file n) (with_field 4 (rec_at t format.nodes_file n) format.node_degree to))

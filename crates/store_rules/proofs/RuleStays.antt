@@ -1,4 +1,4 @@
--- A rule stays where what it reads stays, and all rules are the nine parts that they were.
+-- A rule stays where what it reads stays, and all rules are the ten parts that they were.
 use Rattle.std.proofs.Common.{◌≡◌, ◌≢◌, ◌⊎◌, ⊎_elim, inl, inr, ℕ, Bool, true, false, List, Option, nat_eq, sym, ap, ◌∙◌, subst, refl, ◌<◌, length}
 use Rattle.std.specs.Prelude.{not}
 use Rattle.store_rules.specs.Rows.{ids}
@@ -11,9 +11,9 @@ use Rattle.rec_bytes.specs.Record.{field}
 use Rattle.rec_bytes.specs.RecordFiles.{meta_key_of}
 use Rattle.rec_bytes.specs.Space.{meta_in}
 use Rattle.store_rules.specs.Chains.{In, IsChain, IsWalk, next_in, prev_in}
-use Rattle.store_rules.specs.Rules.{AllListed, AreCounted, AreNamed, AreNames, GroupHead, HaveProperties, Head, IsGrouped, IsLinked, IsListed, IsSplit, KeepsRules, Owns, PropertyFiles, SparseHead, StandsAt, first_of, next_free, property_files}
+use Rattle.store_rules.specs.Rules.{AllListed, AreCounted, AreExact, AreNamed, AreNames, GroupHead, HaveProperties, Head, IsGrouped, IsLinked, IsListed, IsSplit, KeepsRules, Owns, PropertyFiles, SparseHead, StandsAt, first_of, next_free, property_files}
 use Rattle.store_rules.specs.RuleList.{AreSame, IsSameFile, IsSplitFile, KeepsAll, Rule, Slack, holds, is_local, reads}
-use Rattle.store_rules.specs.RuleList.Rule.{Degrees, Grouped, Labels, Linked, Names, Properties, Ranges, Split, Unindexed}
+use Rattle.store_rules.specs.RuleList.Rule.{Counts, Degrees, Grouped, Labels, Linked, Names, Properties, Ranges, Split, Unindexed}
 use Rattle.store_rules.specs.Views.{GroupRow, NodeRow, Records, RelRow, degree, first_link, group_at, group_in, high, is_live, kind_at, kind_in, node_at, node_in, rec_at, rel_at, rel_in, row_if}
 use Rattle.store_rules.proofs.RangeLaws.{formed_of, ranges_of, unindexed_of}
 
@@ -83,6 +83,12 @@ module _ (s t : Records) where
       subst (λ (v : ((ℕ → ℕ) × (ℕ → Rec)) × ((ℕ → Rec) × (ℕ → Option GroupRow))). IsGrouped v.0.0 (λ n. field 4 (v.0.1 n) format.node_first_link) v.1.0 v.1.1 empty)
       (λ i. ((sym (kind_same format.nodes_file nodes) i, sym nodes.records i), (sym groups.records i, sym (groups_same groups) i))) h
 
+  counts_stay : IsSameFile s t format.groups_file → IsSameFile s t format.relationships_file
+      → AreExact (kind_at s format.groups_file) (rec_at s format.groups_file) (group_at s) (rel_at s) (high s format.relationships_file) → AreExact (kind_at t format.groups_file) (rec_at t format.groups_file) (group_at t) (rel_at t) (high t format.relationships_file)
+  counts_stay groups rels h =
+      subst (λ (v : ((ℕ → ℕ) × (ℕ → Rec)) × ((ℕ → Option GroupRow) × ((ℕ → Option RelRow) × ℕ))). AreExact v.0.0 v.0.1 v.1.0 v.1.1.0 v.1.1.1)
+      (λ i. ((sym (kind_same format.groups_file groups) i, sym groups.records i), (sym (groups_same groups) i, (sym (rels_same rels) i, sym (high_same format.relationships_file rels) i)))) h
+
   names_stay : IsSameFile s t format.names_file → AreNames (rec_at s format.names_file) (high s format.names_file) → AreNames (rec_at t format.names_file) (high t format.names_file)
   names_stay names h = subst (λ (v : (ℕ → Rec) × ℕ). AreNames v.0 v.1) (λ i. (sym names.records i, sym (high_same format.names_file names) i)) h
 
@@ -111,6 +117,7 @@ module _ (s t : Records) where
   stays (Split file) shape slack local same h = split_stays file same.0 h
   stays Linked shape slack local same h = linked_stays same.0 same.1.0 same.1.1.0 h
   stays Grouped shape slack local same h = grouped_stays slack.empty same.0 same.1.0 h
+  stays Counts shape slack local same h = counts_stay same.0 same.1.0 h
   stays Properties shape slack local same h =
       subst (λ (v : PropertyFiles × ((ℕ → Option NodeRow) × ((ℕ → Option RelRow) × ℕ))). HaveProperties v.0 v.1.0 v.1.1.0 v.1.1.1)
       (λ i. (sym (files_same same.1.1.0 same.1.1.1.0) i, (sym (nodes_same same.0) i, (sym (rels_same same.1.0) i, sym (high_same format.names_file same.1.1.1.1.0) i)))) h
@@ -126,6 +133,7 @@ by_name records shape most empty well Ranges = formed_of records shape well.rang
 by_name records shape most empty well (Split file) = record { split = well.split file; kept = well.kept file }
 by_name records shape most empty well Linked = well.linked
 by_name records shape most empty well Grouped = well.grouped
+by_name records shape most empty well Counts = well.exact
 by_name records shape most empty well Properties = well.properties
 by_name records shape most empty well Labels = well.named
 by_name records shape most empty well Names = well.names
@@ -139,6 +147,7 @@ all_of records shape slack all = record {
   kept = λ file is not. (all (Split file)).kept is not;
   linked = all Linked;
   grouped = all Grouped;
+  exact = all Counts;
   properties = all Properties;
   named = all Labels;
   names = all Names;

@@ -5,7 +5,7 @@ use Rattle.rec_bytes.specs.Format as format
 use Rattle.store_rules.specs.Chains.{In}
 use Rattle.store_rules.specs.Rules.{KeepsRules, is_filled}
 use Rattle.store_rules.specs.RuleList.{KeepsAll, KeepsThose, Rule, Slack, holds}
-use Rattle.store_rules.specs.RuleList.Rule.{Degrees, Grouped, Labels, Linked, Names, Properties, Ranges, Split, Unindexed}
+use Rattle.store_rules.specs.RuleList.Rule.{Counts, Degrees, Grouped, Labels, Linked, Names, Properties, Ranges, Split, Unindexed}
 use Rattle.store_rules.specs.Views.{Records, rec_at}
 
 -- these groups may be empty
@@ -14,6 +14,7 @@ loosens Ranges = false
 loosens (Split file) = false
 loosens Linked = false
 loosens Grouped = true
+loosens Counts = false
 loosens Properties = false
 loosens Labels = false
 loosens Names = false
@@ -26,6 +27,7 @@ others_slack records shape most few many Ranges e h = h
 others_slack records shape most few many (Split file) e h = h
 others_slack records shape most few many Linked e h = h
 others_slack records shape most few many Grouped e h = absurd cc
+others_slack records shape most few many Counts e h = h
 others_slack records shape most few many Properties e h = h
 others_slack records shape most few many Labels e h = h
 others_slack records shape most few many Names e h = h
@@ -49,6 +51,7 @@ regrouped records shape most few many all grouped rule = by rule (all rule)
     by Ranges h = h
     by (Split file) h = h
     by Linked h = h
+    by Counts h = h
     by Properties h = h
     by Labels h = h
     by Names h = h
@@ -82,6 +85,7 @@ is_other Ranges = true
 is_other (Split file) = true
 is_other Linked = false
 is_other Grouped = false
+is_other Counts = false
 is_other Properties = true
 is_other Labels = true
 is_other Names = true

@@ -1,10 +1,11 @@
 -- The rules that read rows, where nodes and relationships differ in their first property alone.
-use Rattle.std.proofs.Common.{◌≡◌, ℕ, Option, None, Some, length, sym, ap, ◌∙◌, subst, inl, inr, ⊎_elim, arith, refl}
+use Rattle.std.proofs.Common.{◌≡◌, ℕ, Bool, Option, None, Some, length, sym, ap, ◌∙◌, subst, inl, inr, ⊎_elim, arith, refl}
+use Rattle.rec_bytes.specs.declared.record.Rec.{Rec}
 use Rattle.rec_bytes.specs.Format as format
 use Rattle.rec_bytes.specs.Record.{field}
 use Rattle.store_rules.specs.Chains.{IsChain, next_in, prev_in}
 use Rattle.store_rules.specs.Rows.{ids}
-use Rattle.store_rules.specs.Rules.{AreCounted, AreNamed, Head, IsEnd, IsInGroup, IsLinked, Owns, StandsAt, degree_of, first_of, stands_in}
+use Rattle.store_rules.specs.Rules.{AreCounted, AreNamed, HasCounts, Head, IsEnd, IsInGroup, IsLinked, Owns, StandsAt, count_of, degree_of, first_of, is_into, is_loop_of, is_out_of, passes, stands_in}
 use Rattle.store_rules.specs.Views.{GroupRow, NodeRow, Records, RelRow, kind_at, node_at, node_in, rec_at, rel_at, rel_in}
 use Rattle.store_rules.proofs.ChainLaws.{chain_stays}
 use Rattle.store_rules.proofs.ViewLaws.{row_some, some_row}
@@ -71,6 +72,23 @@ module _ (rels now : ℕ → Option RelRow) (there : HaveRels rels now) (back : 
       on None None f g = refl
       on None (Some u) f g = absurd (let e = (g u refl).1 in cc)
       on (Some row) u f g = ap (stands_in n) (f row refl).1
+
+  -- ---- the numbers of counted groups
+  count_alike : (test : RelRow → Bool) → ((row : RelRow) (first : ℕ) → test (record row { property = first }) ≡ test row) → (mark : ℕ) → count_of test now mark ≡ count_of test rels mark
+  count_alike test blind mark = λ i. length (ids (λ x. on (rels x) (now x) (λ row e. there x row e) (λ row e. back x row e) i) mark)
+    where
+      on : (o u : Option RelRow) → ((row : RelRow) → o ≡ Some row → (first : ℕ) × (u ≡ Some (record row { property = first })))
+          → ((row : RelRow) → u ≡ Some row → (first : ℕ) × (o ≡ Some (record row { property = first }))) → passes test u ≡ passes test o
+      on None None f g = refl
+      on None (Some u) f g = absurd (let e = (g u refl).1 in cc)
+      on (Some row) u f g = ap (passes test) (f row refl).1 ∙ blind row (f row refl).0
+
+  pub counts_alike : (r : Rec) (group : GroupRow) (mark : ℕ) → HasCounts r group rels mark → HasCounts r group now mark
+  counts_alike r group mark h = record {
+    out = h.out ∙ sym (count_alike (is_out_of group) (λ row first. refl) mark);
+    into = h.into ∙ sym (count_alike (is_into group) (λ row first. refl) mark);
+    loops = h.loops ∙ sym (count_alike (is_loop_of group) (λ row first. refl) mark);
+  }
 
   -- the seventh rule
   pub counted_alike : (kind degrees degrees' : ℕ → ℕ) (mark most : ℕ) → ((n : ℕ) → degrees' n ≡ degrees n) → AreCounted kind degrees rels mark most → AreCounted kind degrees' now mark most

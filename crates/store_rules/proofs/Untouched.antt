@@ -5,7 +5,7 @@ use Rattle.std.proofs.lemmas.Bool.{true≢false}
 use Rattle.rec_bytes.specs.declared.key.Key.{Key}
 use Rattle.rec_bytes.specs.Format as format
 use Rattle.rec_bytes.specs.RecordFiles.{is_meta_file}
-use Rattle.store_rules.specs.Rules.{AreCounted, HaveProperties, Head, IsEnd, IsGrouped, IsLinked, IsListed, Owns, StandsAt, degree_of, property_files}
+use Rattle.store_rules.specs.Rules.{AreCounted, AreExact, HasCounts, HaveProperties, Head, IsEnd, IsGrouped, IsLinked, IsListed, Owns, StandsAt, degree_of, property_files}
 use Rattle.store_rules.specs.Views.{GroupRow, NodeRow, Records, RelRow, degree, first_link, group_at, group_in, high, kind_at, rec_at, rel_at, rel_in, row_if}
 use Rattle.store_rules.proofs.Changes as ch
 use Rattle.store_rules.proofs.Changes.{IsChanged}
@@ -62,6 +62,14 @@ module _ (s t : Records) (file id : ℕ) (change : IsChanged s t file id) (apart
   grouped {empty} there back old = subst (λ r. IsGrouped (kind_at t format.nodes_file) (first_link t) r (group_at t) empty) (sym group_file_same)
       (subst (λ g. IsGrouped (kind_at t format.nodes_file) (first_link t) (rec_at s format.groups_file) g empty) (sym groups_same)
       (grouped_stays (kind_at s format.nodes_file) (kind_at t format.nodes_file) (first_link s) (first_link t) (rec_at s format.groups_file) (group_at s) there back old))
+
+  -- and counted groups stay exact
+  pub exact : AreExact (kind_at s format.groups_file) (rec_at s format.groups_file) (group_at s) (rel_at s) (high s format.relationships_file)
+      → AreExact (kind_at t format.groups_file) (rec_at t format.groups_file) (group_at t) (rel_at t) (high t format.relationships_file)
+  exact old g row is kind = subst (λ r. HasCounts r row (rel_at t) (high t format.relationships_file)) (sym ((same format.groups_file refl refl).each g))
+      (subst (λ r. HasCounts (rec_at s format.groups_file g) row r (high t format.relationships_file)) (sym rels_same)
+      (subst (λ m. HasCounts (rec_at s format.groups_file g) row (rel_at s) m) (sym rel_mark)
+      (old g row (ap (λ (f : ℕ → Option GroupRow). f g) (sym groups_same) ∙ is) (sym (kind_same s t format.groups_file (same format.groups_file refl refl) g) ∙ kind))))
 
   -- the fifth, by nodes and names that may have changed
   pub properties : (nodes : ℕ → Option NodeRow) (names : ℕ) → HaveProperties (property_files s) nodes (rel_at s) names → HaveProperties (property_files t) nodes (rel_at t) names

@@ -1,11 +1,11 @@
 -- Laws of what is read of the records of a store.
-use Rattle.std.proofs.Common.{◌≡◌, ◌≢◌, ℕ, ◌<◌, ◌≤◌, nat_lt, nat_eq, Bool, true, false, not, cond, ◌&&◌, ◌||◌, None, Some, List, [], ◌∷◌, sym, ap, ◌∙◌, ⊎_elim, arith, refl}
-use Rattle.std.proofs.lemmas.Bool.{cases_lt, true≢false, or_cases}
+use Rattle.std.proofs.Common.{◌≡◌, ◌≢◌, ◌⊎◌, ℕ, inl, inr, ◌<◌, ◌≤◌, nat_lt, nat_eq, Bool, true, false, not, cond, ◌&&◌, ◌||◌, None, Some, List, [], ◌∷◌, sym, ap, ◌∙◌, ⊎_elim, arith, refl}
+use Rattle.std.proofs.lemmas.Bool.{cases_lt, eqb-true, true≢false, or_cases}
 use Rattle.std.proofs.lemmas.Bool.Decides.{nat_tests}
 use Rattle.rec_bytes.specs.declared.record.Rec.{Rec}
 use Rattle.rec_bytes.specs.Format as format
 use Rattle.rec_bytes.specs.Record.{field}
-use Rattle.store_rules.specs.Views.{kind_in, row_if}
+use Rattle.store_rules.specs.Views.{is_group_kind, kind_in, row_if}
 use Rattle.store_rules.specs.Ranges.{Pointer, points, all_point, Fits}
 use Rattle.store_rules.proofs.NumberLaws.{nat_cases, lt_true, lt_false, eq_true, eq_false, and_parts}
 
@@ -24,6 +24,14 @@ kind_below mark r x some = ⊎_elim (λ (lt : x < mark). lt) (λ (le : mark ≤ 
 pub kind_by : (mark : ℕ) (r q : Rec) (x : ℕ) → field 1 r format.kind ≡ field 1 q format.kind → kind_in mark r x ≡ kind_in mark q x
 unfolding kind_in
 kind_by mark r q x e = ap (λ k. cond (nat_lt x mark) k 0) e
+
+-- a kind of groups
+pub group_kinds : (kind : ℕ) → is_group_kind kind ≡ true → (kind ≡ format.grouped) ⊎ (kind ≡ format.counted)
+group_kinds kind is = ⊎_elim (λ k. inl (eqb-true kind format.grouped k)) (λ k. inr (eqb-true kind format.counted k)) (or_cases (nat_eq kind format.grouped) (nat_eq kind format.counted) is)
+
+-- and of what is none's
+pub group_used : (kind : ℕ) → is_group_kind kind ≡ true → kind ≢ 0
+group_used kind is e = true≢false (sym is ∙ ap is_group_kind e)
 
 -- the test of what is in use
 pub live_true : (kind : ℕ) → kind ≢ 0 → not (nat_eq kind 0) ≡ true

@@ -1,3 +1,4 @@
+pub mod Breaking
 pub mod Chains
 pub mod Ends
 pub mod Graph

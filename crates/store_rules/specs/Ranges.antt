@@ -63,14 +63,15 @@ relationship_layout = laid
     ∷ may format.relationship_first_property format.properties_file ∷ [])
     (bytes_of format.kind 1 ∷ bytes_of format.relationship_type 32 ∷ [])
 
-abbrev pub group_layout : Option Layout
-group_layout = laid
+-- a group, by how many bytes are in use from its type on
+abbrev pub group_layout : ℕ → Option Layout
+group_layout size = laid
     (must format.group_owner format.nodes_file
     ∷ may format.group_previous format.groups_file ∷ may format.group_next format.groups_file
     ∷ may format.group_first_out format.relationships_file
     ∷ may format.group_first_in format.relationships_file
     ∷ may format.group_first_loop format.relationships_file ∷ [])
-    (bytes_of format.kind 1 ∷ bytes_of format.group_type 28 ∷ [])
+    (bytes_of format.kind 1 ∷ bytes_of format.group_type size ∷ [])
 
 abbrev pub next_property : Pointer
 next_property = may format.property_next format.properties_file
@@ -119,7 +120,8 @@ used_layout file r kind =
     (cond (nat_eq file format.relationships_file)
     (cond (nat_eq kind format.related) relationship_layout None)
     (cond (nat_eq file format.groups_file)
-    (cond (nat_eq kind format.grouped) group_layout None)
+    (cond (nat_eq kind format.grouped) (group_layout 28)
+    (cond (nat_eq kind format.counted) (group_layout 40) None))
     (cond (nat_eq file format.properties_file)
     (property_layout r kind (field 2 r format.property_length))
     (cond (nat_eq file format.strings_file)

@@ -6,8 +6,8 @@ use Rattle.rec_bytes.specs.declared.shape.Shape.{Shape}
 use Rattle.rec_bytes.specs.Format as format
 use Rattle.rec_bytes.specs.RecordFiles.{is_meta_file, meta_key_of}
 use Rattle.store_rules.specs.Ranges.{AreFormed, is_reused}
-use Rattle.store_rules.specs.Rules.{AreAllLive, AreCounted, AreNamed, AreNames, HasNoIndex}
-use Rattle.store_rules.specs.Rules.{HaveProperties, IsGrouped, IsLinked, IsSplit, property_files}
+use Rattle.store_rules.specs.Rules.{AreAllLive, AreCounted, AreExact, AreNamed, AreNames}
+use Rattle.store_rules.specs.Rules.{HasNoIndex, HaveProperties, IsGrouped, IsLinked, IsSplit, property_files}
 use Rattle.store_rules.specs.Views.{Records, degree, first_link, group_at, high, is_live, kind_at}
 use Rattle.store_rules.specs.Views.{node_at, rec_at, rel_at}
 
@@ -17,6 +17,7 @@ pub data Rule : Type 0 where
   Split : ℕ → Rule
   Linked : Rule
   Grouped : Rule
+  Counts : Rule
   Properties : Rule
   Labels : Rule
   Names : Rule
@@ -29,6 +30,7 @@ number Ranges = 1
 number (Split file) = 2
 number Linked = 3
 number Grouped = 4
+number Counts = 4
 number Properties = 5
 number Labels = 5
 number Names = 6
@@ -56,6 +58,9 @@ holds Linked records shape slack =
 holds Grouped records shape slack =
     IsGrouped (kind_at records format.nodes_file) (first_link records)
     (rec_at records format.groups_file) (group_at records) slack.empty
+holds Counts records shape slack =
+    AreExact (kind_at records format.groups_file) (rec_at records format.groups_file)
+    (group_at records) (rel_at records) (high records format.relationships_file)
 holds Properties records shape slack =
     HaveProperties (property_files records) (node_at records) (rel_at records)
     (high records format.names_file)
@@ -90,6 +95,7 @@ reads Ranges = []
 reads (Split file) = file ∷ []
 reads Linked = format.nodes_file ∷ format.relationships_file ∷ format.groups_file ∷ []
 reads Grouped = format.nodes_file ∷ format.groups_file ∷ []
+reads Counts = format.groups_file ∷ format.relationships_file ∷ []
 reads Properties =
     format.nodes_file ∷ format.relationships_file ∷ format.properties_file ∷ format.strings_file
     ∷ format.names_file ∷ []
@@ -104,6 +110,7 @@ is_local Ranges = false
 is_local (Split file) = true
 is_local Linked = true
 is_local Grouped = true
+is_local Counts = true
 is_local Properties = true
 is_local Labels = true
 is_local Names = true

@@ -155,6 +155,44 @@ pub record IsGrouped (kind first : ℕ → ℕ) (group_file : ℕ → Rec) (grou
   pub owned : (g : ℕ) (row : GroupRow) → groups g ≡ Some row → kind row.owner ≡ format.dense
   pub each : (n : ℕ) → kind n ≡ format.dense → HasGroups (first n) n group_file groups empty
 
+-- the relationship has the type of the group, and leaves its owner for another node
+abbrev pub is_out_of : GroupRow → RelRow → Bool
+is_out_of group rel =
+    nat_eq rel.label group.label
+    && (nat_eq rel.from group.owner && not (nat_eq rel.to group.owner))
+
+-- it enters the owner from another node
+abbrev pub is_into : GroupRow → RelRow → Bool
+is_into group rel =
+    nat_eq rel.label group.label
+    && (not (nat_eq rel.from group.owner) && nat_eq rel.to group.owner)
+
+-- it does both
+abbrev pub is_loop_of : GroupRow → RelRow → Bool
+is_loop_of group rel =
+    nat_eq rel.label group.label && (nat_eq rel.from group.owner && nat_eq rel.to group.owner)
+
+abbrev pub passes : (RelRow → Bool) → Option RelRow → Bool
+passes test None = false
+passes test (Some row) = test row
+
+-- how many of the relationships below the mark pass a test
+abbrev pub count_of : (RelRow → Bool) → (ℕ → Option RelRow) → ℕ → ℕ
+count_of test rels mark = length (ids (λ x. passes test (rels x)) mark)
+
+-- the numbers of a counted group are those of the relationships in its chains
+pub record HasCounts (r : Rec) (group : GroupRow) (rels : ℕ → Option RelRow) (mark : ℕ)
+    : Type 0 where
+  pub out : field 4 r format.group_out_count ≡ count_of (is_out_of group) rels mark
+  pub into : field 4 r format.group_in_count ≡ count_of (is_into group) rels mark
+  pub loops : field 4 r format.group_loop_count ≡ count_of (is_loop_of group) rels mark
+
+abbrev pub AreExact : (ℕ → ℕ) → (ℕ → Rec) → (ℕ → Option GroupRow) → (ℕ → Option RelRow) → ℕ
+    → Type 0
+AreExact group_kind group_file groups rels mark =
+    (g : ℕ) (row : GroupRow) → groups g ≡ Some row → group_kind g ≡ format.counted
+    → HasCounts (group_file g) row rels mark
+
 -- ---- the fifth rule: properties and blocks are each in the list of one owner
 
 -- An owner is a file and an identifier, with the first of its list where it is in use. Each record
@@ -291,6 +329,8 @@ pub record KeepsRules (records : Records) (shape : Shape) (most : ℕ) (empty : 
       (group_at records)
   pub grouped : IsGrouped (kind_at records format.nodes_file) (first_link records)
       (rec_at records format.groups_file) (group_at records) empty
+  pub exact : AreExact (kind_at records format.groups_file) (rec_at records format.groups_file)
+      (group_at records) (rel_at records) (high records format.relationships_file)
   pub properties : HaveProperties (property_files records) (node_at records) (rel_at records)
       (high records format.names_file)
   pub named : AreNamed (node_at records) (rel_at records) (high records format.names_file)

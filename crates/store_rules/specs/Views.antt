@@ -50,6 +50,10 @@ pub record GroupRow : Type 0 where
   pub label : ℕ
   pub owner : ℕ
 
+-- the kind is one of groups
+abbrev pub is_group_kind : ℕ → Bool
+is_group_kind kind = nat_eq kind format.grouped || nat_eq kind format.counted
+
 abbrev pub node_in : Rec → ℕ → NodeRow
 node_in r x = record {
   id = x;

@@ -1,4 +1,4 @@
-use crate::spaces::{add_edge, damaged, edge, given_out, head_at, node};
+use crate::spaces::{add_edge, chain_at, damaged, edge, given_out, head_at, node};
 use chain_edit::{push_front, unlink, walk};
 use rec_bytes::{
     CHAIN_RULE, Key, MapSpace, NIL, NODE_FIRST_LINK, NODES, RANGE_RULE, RELATIONSHIP_SOURCE_NEXT,
@@ -40,10 +40,11 @@ fn chains_are_changed_at_one_place(rt: HostRuntime) -> Result<(), Fail> {
     let alloc = rt.alloc();
     let mut space = example(alloc)?;
     let all = [edge(2, 7, 3, 0), edge(1, 7, 2, 0), edge(0, 7, 0, 1)];
-    let rows = walk(alloc, &mut space, 2, 0, 3)?;
+    let rows = walk(alloc, &mut space, &chain_at(0, 2), 3)?;
     assert!(rt; rows.as_slice() == all.as_slice());
-    for (first, budget) in [(2, 2), (3, 3), (1, 0)] {
-        match walk(alloc, &mut space, first, 0, budget) {
+    // One relationship too many, one that was never given out, and one that isn't the first.
+    for (first, budget) in [(2, 2), (3, 3), (1, 0), (1, 3)] {
+        match walk(alloc, &mut space, &chain_at(0, first), budget) {
             Ok(rows) => assert!(rt; false, "{} rows", rows.len()),
             Err(fault) => assert!(rt; fault == damaged(NODES, 0, CHAIN_RULE)),
         }
@@ -64,7 +65,7 @@ fn chains_are_changed_at_one_place(rt: HostRuntime) -> Result<(), Fail> {
     unlink(&mut space, head_at(0), 0, 2)?;
     assert!(rt; first_of(&mut space, 0) == 0);
     assert!(rt; links_of(&mut space, 0) == [NIL; 4]);
-    assert!(rt; walk(alloc, &mut space, NIL, 0, 0)?.len() == 0);
+    assert!(rt; walk(alloc, &mut space, &chain_at(0, NIL), 0)?.len() == 0);
     Ok(())
 }
 

@@ -1,4 +1,4 @@
-use crate::spaces::{add_edge, damaged, edge, give_out, given_out, node};
+use crate::spaces::{add_edge, chain_at, damaged, edge, give_out, given_out, node};
 use chain_edit::walk;
 use group_store::{GroupRow, groups, make_dense};
 use node_store::NodeRow;
@@ -29,7 +29,7 @@ fn example(alloc: Global) -> Result<MapSpace, Fail> {
 // The relationships of a chain of the node, as a text.
 fn ids_of(alloc: Global, space: &mut MapSpace, first: u32, node: u32) -> Result<String, Fail> {
     let mut ids = String::new(alloc);
-    for row in walk(alloc, space, first, node, 5)? {
+    for row in walk(alloc, space, &chain_at(node, first), 5)? {
         write!(ids, "{} ", row.id)?;
     }
     Ok(ids)
@@ -55,6 +55,10 @@ fn relationships_come_into_groups(rt: HostRuntime) -> Result<(), Fail> {
         first_out: 0,
         first_in: 1,
         first_loop: 2,
+        counted: true,
+        out_count: 2,
+        in_count: 1,
+        loop_count: 1,
     };
     let of_type_6 = GroupRow {
         id: 1,
@@ -62,6 +66,10 @@ fn relationships_come_into_groups(rt: HostRuntime) -> Result<(), Fail> {
         first_out: 3,
         first_in: NIL,
         first_loop: NIL,
+        counted: true,
+        out_count: 1,
+        in_count: 0,
+        loop_count: 0,
     };
     let rows = groups(alloc, &mut space, &node)?;
     assert!(rt; rows.as_slice() == [of_type_6, of_type_5].as_slice());

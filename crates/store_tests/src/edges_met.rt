@@ -4,8 +4,8 @@ ghost use Rattle.rec_bytes.specs.MapSpace.{map_state};
 
 use crate::spaces::{add_edge, edge, given_out, head_at, node, save_edge};
 use chain_edit::{Head, push_front};
-use expand::{ExpandFault, expand};
-use group_store::{Side, make_group};
+use expand::{ExpandFault, degree, expand};
+use group_store::{Side, load, make_group, push_counted};
 use plain_graph::Direction;
 use rec_bytes::{
     Fault, GROUP_FIRST_IN, GROUP_FIRST_LOOP, GROUP_FIRST_OUT, GROUPS, Key, MapSpace, Meta, Reads,
@@ -65,6 +65,11 @@ fn edges_come_in_the_order_of_the_model(rt: HostRuntime) -> Result<(), Fail> {
         assert!(rt; found.len() == ids.len(), "at {node}");
         for (row, id) in found.iter().zip(ids) {
             assert!(rt; *row == numbered(*id), "at {node}");
+        }
+        // A count is asked for one type, or for all of them.
+        if labels.len() < 2 {
+            let count = degree(alloc, &mut space, node, direction, labels.first().copied())?;
+            assert!(rt; count == ids.len() as u64, "at {node}");
         }
     }
     for id in [4, 9] {
@@ -150,7 +155,7 @@ fn add_dense_edge(space: &mut MapSpace, row: &EdgeRow) -> Result<(), Fault>
         },
         field: place_of(Side::at(0, row.from, row.to)),
     };
-    push_front(space, head, 0, row.id)?;
+    push_counted(space, head, 0, row.id)?;
     let other = if row.from == 0 { row.to } else { row.from };
     if other != 0 {
         push_front(space, head_at(other), other, row.id)?;
@@ -201,6 +206,22 @@ fn each_chain_of_a_group_is_met(rt: HostRuntime) -> Result<(), Fail> {
         assert!(rt; found.len() == ids.len());
         for (row, id) in found.iter().zip(ids) {
             assert!(rt; *row == numbered(*id));
+        }
+        // The two groups of the node have the numbers, so no relationship is read.
+        if labels.len() < 2 {
+            counted.reads = 0;
+            let count = degree(alloc, &mut counted, 0, direction, labels.first().copied())?;
+            assert!(rt; count == ids.len() as u64);
+            assert!(rt; counted.reads == 3);
+        }
+    }
+    // A loop is counted by itself, and once.
+    for (id, counts) in [(0, [2, 1, 0]), (1, [1, 1, 1])] {
+        match load(&mut counted, id)? {
+            Some(row) => {
+                assert!(rt; [row.out_count, row.in_count, row.loop_count] == counts);
+            }
+            None => assert!(rt; false),
         }
     }
     Ok(())

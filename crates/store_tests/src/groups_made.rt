@@ -30,6 +30,10 @@ fn empty(id: u32, label: u32) -> GroupRow {
         first_out: NIL,
         first_in: NIL,
         first_loop: NIL,
+        counted: true,
+        out_count: 0,
+        in_count: 0,
+        loop_count: 0,
     }
 }
 

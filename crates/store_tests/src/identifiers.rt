@@ -40,11 +40,12 @@ fn identifiers_come_from_the_list_and_then_the_mark(rt: HostRuntime) -> Result<(
         (3, NIL, 16, 0, Err(full)),
         (17, NIL, 17, 0, Err(damaged(META, 1, RANGE_RULE))),
         (3, 3, 1, 0, Err(damaged(META, 1, RANGE_RULE))),
-        (3, NIL, 2, 0, Err(damaged(META, 1, SPLIT_RULE))),
+        (3, NIL, 2, 0, Err(damaged(NODES, 1, SPLIT_RULE))),
+        (1, NIL, 0, 0, Err(damaged(META, 1, SPLIT_RULE))),
         (3, 1, 3, 0, Err(damaged(META, 1, SPLIT_RULE))),
-        (3, 0, 2, 0, Err(damaged(NODES, 0, SPLIT_RULE))),
+        (3, 0, 2, 0, Err(damaged(META, 1, SPLIT_RULE))),
         (2, 1, 1, 0, Err(damaged(NODES, 1, RANGE_RULE))),
-        (3, 1, 1, 1, Err(damaged(NODES, 1, SPLIT_RULE))),
+        (3, 1, 1, 1, Err(damaged(META, 1, SPLIT_RULE))),
         (3, 1, 1, 0, Ok(1)),
     ];
     for (high, free, live, kind, result) in cases {

@@ -4,7 +4,7 @@ ghost use Rattle.std.specs.Prelude.{◌≡◌, ◌<◌, true};
 ghost use Rattle.rec_bytes.specs.RecordFiles.{is_meta_file};
 ghost use Rattle.chain_edit.specs.Heads.{head_of, IsHead};
 
-use chain_edit::{Head, push_front};
+use chain_edit::{Chain, Head, push_front};
 use node_store::NodeRow;
 use rec_bytes::{
     Damage, Fault, Key, MapSpace, Meta, NIL, NODE_FIRST_LINK, NODES, RELATIONSHIPS, Shape,
@@ -70,6 +70,15 @@ pub(crate) fn head_at(node: u32) -> Head
         },
         field: NODE_FIRST_LINK,
     }
+}
+
+/// A chain of a node from a relationship on, which the node's record has.
+pub(crate) fn chain_at(node: u32, first: u32) -> Chain {
+    let owner = Key {
+        file: NODES,
+        id: node,
+    };
+    Chain { owner, node, first }
 }
 
 /// The row of a relationship.

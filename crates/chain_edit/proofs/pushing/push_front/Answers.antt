@@ -5,6 +5,7 @@ use Rattle.rec_bytes.specs.Space.{State}
 use Rattle.store_rules.specs.Rules.{first_of}
 use Rattle.chain_edit.specs.Heads.{head_of}
 use Rattle.chain_edit.specs.Pushing.{HasPushed, first_damage, pushed}
+use Rattle.chain_edit.proofs.Broken.{head_breaks}
 use Rattle.chain_edit.proofs.Damages.{damage_read}
 use Rattle.chain_edit.proofs.Pushes.{has_pushed}
 use Rattle.chain_edit.proofs.pushing.push_front.Goals as goal
@@ -16,6 +17,15 @@ returns-in_err-test_link-clause-damaged g c = λ tells.
     let first : c.number-first.result ≡ first_of s.records (head_of c.args.head) = c.number-first.ensures ∙ ap (λ r. field 4 r c.args.head.field) (c.in_ok-rec.ensures.got tells) in
     rw (p.1, p.2) (damage_read s (g.S.Reads.state c.get.new.self) c.number-first.result (first_of s.records (head_of c.args.head)) (first_damage c.args.head.key) c.in_err-test_link.field-0.0
     c.in_ok-rec.ensures.state first c.in_err-test_link.ensures.damaged)
+
+pub returns-in_err-test_link-clause-breaks : goal.returns-in_err-test_link-clause-breaks
+returns-in_err-test_link-clause-breaks g c = λ tells n owns.
+    let s = g.S.Reads.state c.args.space.now in
+    let p = err_from_is_err_and c.from_residual-in_err-test_link.result c.from_residual-in_err-test_link.ensures.1 in
+    let first : c.number-first.result ≡ first_of s.records (head_of c.args.head) = c.number-first.ensures ∙ ap (λ r. field 4 r c.args.head.field) (c.in_ok-rec.ensures.got tells) in
+    rw (p.1, p.2) (head_breaks s (head_of c.args.head) n c.in_err-test_link.field-0.0 owns
+    (damage_read s (g.S.Reads.state c.get.new.self) c.number-first.result (first_of s.records (head_of c.args.head)) (first_damage c.args.head.key) c.in_err-test_link.field-0.0
+    c.in_ok-rec.ensures.state first c.in_err-test_link.ensures.damaged))
 
 pub returns-clause-chains : goal.returns-clause-chains
 unfolding pushed

@@ -8,6 +8,7 @@ use Rattle.store_rules.specs.Chains.{next_in, prev_in}
 use Rattle.chain_edit.specs.Chains.{next_of, prev_of}
 use Rattle.chain_edit.specs.Heads.{head_of}
 use Rattle.chain_edit.specs.Unlinking.{HasUnlinked, unlinked}
+use Rattle.chain_edit.proofs.Broken.{next_breaks, prev_breaks}
 use Rattle.chain_edit.proofs.Damages.{damage_read}
 use Rattle.chain_edit.proofs.Removals.{has_unlinked}
 use Rattle.chain_edit.proofs.unlinking.unlink.Goals as goal
@@ -21,6 +22,16 @@ returns-in_err-test_link-clause-damaged g c = λ tells.
     rw (p.1, p.2) (inl (damage_read s (g.S.Reads.state c.get.new.self) c.link-before.result (prev_of s.records c.args.node c.args.rel) (range_damage c.args.rel) c.in_err-test_link.field-0.0
     c.in_ok-rec.ensures.state before c.in_err-test_link.ensures.damaged))
 
+pub returns-in_err-test_link-clause-breaks : goal.returns-in_err-test_link-clause-breaks
+returns-in_err-test_link-clause-breaks g c = λ tells row live.
+    let s = g.S.Reads.state c.args.space.now in
+    let p = err_from_is_err_and c.from_residual-in_err-test_link.result c.from_residual-in_err-test_link.ensures.1 in
+    let before : c.link-before.result ≡ prev_of s.records c.args.node c.args.rel =
+    c.link-before.ensures ∙ ap (λ at. field 4 c.in_ok-rec.rec at) c.place_of-place.ensures.is ∙ ap (λ r. prev_in r c.args.node) (c.in_ok-rec.ensures.got tells) in
+    rw (p.1, p.2) (prev_breaks s c.args.rel c.args.node row c.in_err-test_link.field-0.0 live
+    (damage_read s (g.S.Reads.state c.get.new.self) c.link-before.result (prev_of s.records c.args.node c.args.rel) (range_damage c.args.rel) c.in_err-test_link.field-0.0
+    c.in_ok-rec.ensures.state before c.in_err-test_link.ensures.damaged))
+
 pub returns-in_err-test_link-2-clause-damaged : goal.returns-in_err-test_link-2-clause-damaged
 returns-in_err-test_link-2-clause-damaged g c = λ tells.
     let s = g.S.Reads.state c.args.space.now in
@@ -28,6 +39,16 @@ returns-in_err-test_link-2-clause-damaged g c = λ tells.
     let after : c.link-after.result ≡ next_of s.records c.args.node c.args.rel =
     c.link-after.ensures ∙ ap (λ at. field 4 c.in_ok-rec.rec (at + 4)) c.place_of-place.ensures.is ∙ ap (λ r. next_in r c.args.node) (c.in_ok-rec.ensures.got tells) in
     rw (p.1, p.2) (inr (damage_read s (g.S.Reads.state c.get.new.self) c.link-after.result (next_of s.records c.args.node c.args.rel) (range_damage c.args.rel) c.in_err-test_link-2.field-0.0
+    c.in_ok-rec.ensures.state after c.in_err-test_link-2.ensures.damaged))
+
+pub returns-in_err-test_link-2-clause-breaks : goal.returns-in_err-test_link-2-clause-breaks
+returns-in_err-test_link-2-clause-breaks g c = λ tells row live.
+    let s = g.S.Reads.state c.args.space.now in
+    let p = err_from_is_err_and c.from_residual-in_err-test_link-2.result c.from_residual-in_err-test_link-2.ensures.1 in
+    let after : c.link-after.result ≡ next_of s.records c.args.node c.args.rel =
+    c.link-after.ensures ∙ ap (λ at. field 4 c.in_ok-rec.rec (at + 4)) c.place_of-place.ensures.is ∙ ap (λ r. next_in r c.args.node) (c.in_ok-rec.ensures.got tells) in
+    rw (p.1, p.2) (next_breaks s c.args.rel c.args.node row c.in_err-test_link-2.field-0.0 live
+    (damage_read s (g.S.Reads.state c.get.new.self) c.link-after.result (next_of s.records c.args.node c.args.rel) (range_damage c.args.rel) c.in_err-test_link-2.field-0.0
     c.in_ok-rec.ensures.state after c.in_err-test_link-2.ensures.damaged))
 
 pub returns-in_err-rec-clause-writes : goal.returns-in_err-rec-clause-writes

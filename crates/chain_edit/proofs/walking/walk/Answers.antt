@@ -3,9 +3,12 @@ use Rattle.std.proofs.lemmas.Result.{err_from_is_err_and}
 use Rattle.rec_bytes.proofs.Spaces.{after_gets-zero}
 use Rattle.store_rules.specs.Chains.{next_in}
 use Rattle.rel_store.specs.Loading.{rel_mark}
-use Rattle.chain_edit.specs.Walking.{IsSoundWalk}
+use Rattle.rec_bytes.specs.declared.damage.Damage.{Damage}
+use Rattle.store_rules.specs.Breaking.{Breaks}
+use Rattle.chain_edit.specs.Walking.{IsSoundWalk, IsWalkDamage, chain_damage}
 use Rattle.chain_edit.specs.Walking.IsWalkDamage.{NoWalk}
-use Rattle.chain_edit.proofs.Walks.{left_more, left_none, mark_then, met_all, met_more, met_none, next_read, none_damaged, one_longer, read_next, reads_next, rec_then, walk_damage}
+use Rattle.chain_edit.proofs.Broken.{walk_breaks, walk_fault_breaks}
+use Rattle.chain_edit.proofs.Walks.{few_next, few_then, left_more, left_none, link_is, mark_then, next_read, one_longer, read_next as reads_more, reads_next, reads_within, rec_then, rows_all, rows_more, rows_none, step_then, undamaged, walk_fault}
 use Rattle.chain_edit.proofs.walking.walk.Goals as goal
 
 pub loop-init : goal.loop-init
@@ -14,8 +17,8 @@ loop-init g c =
     let none = c.new-rows.ensures.items in
     let same : c.args.budget ≡ c.args.budget - 0 = omega arith in
     record {
-      met = λ tells. rw none (met_none s c.args.first c.args.node);
-      left = λ tells xs sound. (xs, subst (λ n. IsSoundWalk s c.args.first c.args.node n xs) same sound);
+      met = λ tells. rw none (rows_none s c.args.chain.now.first c.args.chain.now.node);
+      left = λ tells xs sound. (xs, subst (λ n. IsSoundWalk s c.args.chain.now.first c.args.chain.now.node n xs) same sound);
       count = ap length none;
       read = rw none (sym (after_gets-zero s));
       onward = g.met.R.Reads.stays_onward c.args.space.now;
@@ -27,56 +30,102 @@ loop-preserved g c =
     let s = g.R.Reads.state c.args.space.now in
     let now = g.R.Reads.state c.loop.space in
     let rows = c.loop.rows.items in
+    let node = c.args.chain.now.node in
     let some = c.if-at.false in
-    let low : c.loop.at < rel_mark s = let mark = mark_then s now (length rows) c.loop.invariant.read in omega (arith, c.in_ok-test_link.ensures.known.low some) in
-    let is : c.link-at.result ≡ next_in c.in_ok-rec.rec c.args.node = next_read c.in_ok-rec.rec c.args.node c.place_of.result c.link-at.result c.place_of.ensures.is c.link-at.ensures in
+    let low : c.loop.at < rel_mark s = let mark = mark_then s now (length rows) c.loop.invariant.read in omega (arith, c.in_ok-rec.ensures.known.low some) in
+    let is : c.link-at.result ≡ next_in c.in_ok-rec.rec node = next_read c.in_ok-rec.rec node c.place_of.result c.link-at.result c.place_of.ensures.is c.link-at.ensures in
     let less : c.args.budget - c.loop.counter ≡ suc (c.args.budget - (c.loop.counter + 1)) = omega arith in
     let one_more : length c.push.new.self.items ≡ length rows + 1 = one_longer rows c.push.new.self.items c.of.result c.in_ok-push.ensures.items in
     record {
       met = λ tells.
           let got = rec_then s now (length rows) c.loop.at c.in_ok-rec.rec c.loop.invariant.read (c.in_ok-rec.ensures.got tells) in
-          rw (c.in_ok-push.ensures.items, c.of.ensures) (met_more s c.args.first c.args.node c.loop.at c.link-at.result rows c.in_ok-rec.rec some low got is (c.loop.invariant.met tells));
+          let back = step_then s now (length rows) node c.loop.at c.loop.before c.loop.invariant.read (c.in_ok-rec.ensures.back tells) in
+          rw (c.in_ok-push.ensures.items, c.of.ensures) (rows_more s c.args.chain.now.first node c.loop.before c.loop.at c.link-at.result rows c.in_ok-rec.rec some low back got is (c.loop.invariant.met tells));
       left = λ tells xs sound.
           let got = rec_then s now (length rows) c.loop.at c.in_ok-rec.rec c.loop.invariant.read (c.in_ok-rec.ensures.got tells) in
-          left_more s c.args.node (c.args.budget - c.loop.counter) (c.args.budget - (c.loop.counter + 1)) c.loop.at c.link-at.result c.in_ok-rec.rec less some got is (c.loop.invariant.left tells xs sound);
+          left_more s node c.loop.before (c.args.budget - c.loop.counter) (c.args.budget - (c.loop.counter + 1)) c.loop.at c.link-at.result less some (link_is s node c.loop.at c.link-at.result c.in_ok-rec.rec got is) (c.loop.invariant.left tells xs sound);
       count = one_more ∙ ap (λ n. n + 1) c.loop.invariant.count;
-      read = read_next s now (g.R.Reads.state c.get.new.self) (length rows) (length c.push.new.self.items) one_more c.loop.invariant.read c.in_ok-rec.ensures.state;
-      onward = g.met.R.Reads.further_onward c.args.space.now c.loop.space c.get.new.self c.loop.invariant.onward c.in_ok-rec.ensures.onward;
+      read = reads_more s now (g.R.Reads.state c.read_next.new.space) (length rows) (length c.push.new.self.items) one_more c.loop.invariant.read c.in_ok-rec.ensures.state;
+      onward = g.met.R.Reads.further_onward c.args.space.now c.loop.space c.read_next.new.space c.loop.invariant.onward c.in_ok-rec.ensures.onward;
       later = let cause = c.in_ok-rec.ensures.cause in omega (arith, c.loop.invariant.later, cause.later);
     }
 
 pub returns-then-at-clause-rows : goal.returns-then-at-clause-rows
 returns-then-at-clause-rows g c = λ tells.
-    met_all (g.R.Reads.state c.args.space.now) c.args.first c.args.node c.args.budget c.loop.at c.loop.rows.items c.if-at.true (omega (arith, c.loop.invariant.count, c.loop-test.true)) (c.loop.invariant.met tells)
+    rows_all (g.R.Reads.state c.args.space.now) c.args.chain.now.first c.args.chain.now.node c.args.budget c.loop.before c.loop.at c.loop.rows.items c.if-at.true (omega (arith, c.loop.invariant.count, c.loop-test.true)) (c.loop.invariant.met tells)
 
 pub returns-clause-rows : goal.returns-clause-rows
 returns-clause-rows g c = λ tells.
-    met_all (g.R.Reads.state c.args.space.now) c.args.first c.args.node c.args.budget c.loop.at c.loop.rows.items c.if-at-2.false (omega (arith, c.loop.invariant.count, c.loop.auto.counter-end)) (c.loop.invariant.met tells)
-
-pub returns-in_err-test_link-clause-damaged : goal.returns-in_err-test_link-clause-damaged
-returns-in_err-test_link-clause-damaged g c = λ tells.
-    let p = err_from_is_err_and c.from_residual.result c.from_residual.ensures.1 in
-    rw (p.1, p.2) (walk_damage (g.R.Reads.state c.args.space.now) (g.R.Reads.state c.loop.space) (length c.loop.rows.items) c.args.first c.args.node c.args.budget (c.args.budget - c.loop.counter) c.loop.at c.in_err-test_link.field-0.0
-    c.loop.invariant.read (c.loop.invariant.left tells) c.in_err-test_link.ensures.damaged)
-
-pub returns-in_err-test_link-clause-sound : goal.returns-in_err-test_link-clause-sound
-returns-in_err-test_link-clause-sound g c = λ tells mark xs sound.
-    let s = g.R.Reads.state c.args.space.now in
-    let p = err_from_is_err_and c.from_residual.result c.from_residual.ensures.1 in
-    rw (p.1, p.2) (none_damaged s c.args.first c.args.node c.args.budget xs c.in_err-test_link.field-0.0 mark sound
-    (walk_damage s (g.R.Reads.state c.loop.space) (length c.loop.rows.items) c.args.first c.args.node c.args.budget (c.args.budget - c.loop.counter) c.loop.at c.in_err-test_link.field-0.0
-    c.loop.invariant.read (c.loop.invariant.left tells) c.in_err-test_link.ensures.damaged))
+    rows_all (g.R.Reads.state c.args.space.now) c.args.chain.now.first c.args.chain.now.node c.args.budget c.loop.before c.loop.at c.loop.rows.items c.if-at-2.false (omega (arith, c.loop.invariant.count, c.loop.auto.counter-end)) (c.loop.invariant.met tells)
 
 pub returns-in_err-rec-clause-at_most : goal.returns-in_err-rec-clause-at_most
 returns-in_err-rec-clause-at_most g c =
-    reads_next (g.R.Reads.state c.args.space.now) (g.R.Reads.state c.loop.space) (g.R.Reads.state c.get.new.self) (length c.loop.rows.items) c.args.budget
-    (omega (arith, c.loop.invariant.count, c.loop-test.true)) c.loop.invariant.read c.in_err-rec.ensures.state
+    reads_within (g.R.Reads.state c.args.space.now) (g.R.Reads.state c.loop.space) (g.R.Reads.state c.read_next.new.space) (length c.loop.rows.items) c.args.budget
+    (omega (arith, c.loop.invariant.count, c.loop-test.true)) c.loop.invariant.read c.in_err-rec.ensures.at_most
+
+pub returns-in_err-rec-clause-damaged : goal.returns-in_err-rec-clause-damaged
+returns-in_err-rec-clause-damaged g c = λ tells.
+    let p = err_from_is_err_and c.from_residual.result c.from_residual.ensures.1 in
+    rw (p.1, p.2) (walk_fault (g.R.Reads.state c.args.space.now) (g.R.Reads.state c.loop.space) (length c.loop.rows.items) c.args.chain.now.owner c.args.chain.now.first c.args.chain.now.node c.args.budget c.loop.before
+    (c.args.budget - c.loop.counter) c.loop.at c.in_err-rec.field-0.0 c.loop.invariant.read c.if-at.false (c.loop.invariant.left tells) (c.in_err-rec.ensures.damaged tells))
+
+pub returns-in_err-rec-clause-breaks : goal.returns-in_err-rec-clause-breaks
+returns-in_err-rec-clause-breaks g c = λ tells head key first owns enough.
+    let s = g.R.Reads.state c.args.space.now in
+    let p = err_from_is_err_and c.from_residual.result c.from_residual.ensures.1 in
+    rw (p.1, p.2) (walk_fault_breaks s c.args.chain.now.owner c.args.chain.now.first c.args.chain.now.node head key first owns c.args.budget c.in_err-rec.field-0.0 enough
+    (walk_fault s (g.R.Reads.state c.loop.space) (length c.loop.rows.items) c.args.chain.now.owner c.args.chain.now.first c.args.chain.now.node c.args.budget c.loop.before
+    (c.args.budget - c.loop.counter) c.loop.at c.in_err-rec.field-0.0 c.loop.invariant.read c.if-at.false (c.loop.invariant.left tells) (c.in_err-rec.ensures.damaged tells)))
+
+pub returns-in_err-rec-clause-sound : goal.returns-in_err-rec-clause-sound
+returns-in_err-rec-clause-sound g c = λ tells mark xs sound.
+    let s = g.R.Reads.state c.args.space.now in
+    let p = err_from_is_err_and c.from_residual.result c.from_residual.ensures.1 in
+    rw (p.1, p.2) (undamaged s c.args.chain.now.owner c.args.chain.now.first c.args.chain.now.node c.args.budget xs c.in_err-rec.field-0.0 mark sound
+    (walk_fault s (g.R.Reads.state c.loop.space) (length c.loop.rows.items) c.args.chain.now.owner c.args.chain.now.first c.args.chain.now.node c.args.budget c.loop.before
+    (c.args.budget - c.loop.counter) c.loop.at c.in_err-rec.field-0.0 c.loop.invariant.read c.if-at.false (c.loop.invariant.left tells) (c.in_err-rec.ensures.damaged tells)))
 
 pub returns-in_err-push-clause-at_most : goal.returns-in_err-push-clause-at_most
 returns-in_err-push-clause-at_most g c =
-    reads_next (g.R.Reads.state c.args.space.now) (g.R.Reads.state c.loop.space) (g.R.Reads.state c.get.new.self) (length c.loop.rows.items) c.args.budget
+    reads_next (g.R.Reads.state c.args.space.now) (g.R.Reads.state c.loop.space) (g.R.Reads.state c.read_next.new.space) (length c.loop.rows.items) c.args.budget
     (omega (arith, c.loop.invariant.count, c.loop-test.true)) c.loop.invariant.read c.in_ok-rec.ensures.state
 
 pub returns-then-at-2-clause-damaged : goal.returns-then-at-2-clause-damaged
 returns-then-at-2-clause-damaged g c = λ tells.
-    NoWalk (λ xs sound. c.if-at-2.true (left_none (g.R.Reads.state c.args.space.now) c.args.node (c.args.budget - c.loop.counter) c.loop.at (omega (arith, c.loop-test.false)) (c.loop.invariant.left tells xs sound)))
+    let s = g.R.Reads.state c.args.space.now in
+    subst (IsWalkDamage s c.args.chain.now.owner c.args.chain.now.first c.args.chain.now.node c.args.budget) (sym c.chain_damage.ensures)
+    (NoWalk (λ xs sound. c.if-at-2.true (left_none s c.args.chain.now.node c.loop.before (c.args.budget - c.loop.counter) c.loop.at (omega (arith, c.loop-test.false)) (c.loop.invariant.left tells xs sound))))
+
+pub returns-then-at-2-clause-breaks : goal.returns-then-at-2-clause-breaks
+returns-then-at-2-clause-breaks g c = λ tells head key first owns enough.
+    let s = g.R.Reads.state c.args.space.now in
+    subst (λ (d : Damage). Breaks s.records s.shape d) (sym c.chain_damage.ensures)
+    (walk_breaks s c.args.chain.now.owner c.args.chain.now.first c.args.chain.now.node head key first owns c.args.budget (chain_damage c.args.chain.now.owner) enough
+    (NoWalk (λ xs sound. c.if-at-2.true (left_none s c.args.chain.now.node c.loop.before (c.args.budget - c.loop.counter) c.loop.at (omega (arith, c.loop-test.false)) (c.loop.invariant.left tells xs sound)))))
+
+-- ---- reads, by what a walk that ends meets
+
+pub returns-then-at-clause-few_reads : goal.returns-then-at-clause-few_reads
+returns-then-at-clause-few_reads g c = λ tells xs sound.
+    few_then (g.R.Reads.state c.args.space.now) (g.R.Reads.state c.loop.space) c.args.chain.now.first c.args.chain.now.node c.args.budget c.loop.before (c.args.budget - c.loop.counter) c.loop.at c.loop.rows.items xs
+    (c.loop.invariant.met tells) (c.loop.invariant.left tells xs sound) sound c.loop.invariant.read
+
+pub returns-then-at-2-clause-few_reads : goal.returns-then-at-2-clause-few_reads
+returns-then-at-2-clause-few_reads g c = λ tells xs sound.
+    few_then (g.R.Reads.state c.args.space.now) (g.R.Reads.state c.loop.space) c.args.chain.now.first c.args.chain.now.node c.args.budget c.loop.before (c.args.budget - c.loop.counter) c.loop.at c.loop.rows.items xs
+    (c.loop.invariant.met tells) (c.loop.invariant.left tells xs sound) sound c.loop.invariant.read
+
+pub returns-clause-few_reads : goal.returns-clause-few_reads
+returns-clause-few_reads g c = λ tells xs sound.
+    few_then (g.R.Reads.state c.args.space.now) (g.R.Reads.state c.loop.space) c.args.chain.now.first c.args.chain.now.node c.args.budget c.loop.before (c.args.budget - c.loop.counter) c.loop.at c.loop.rows.items xs
+    (c.loop.invariant.met tells) (c.loop.invariant.left tells xs sound) sound c.loop.invariant.read
+
+pub returns-in_err-rec-clause-few_reads : goal.returns-in_err-rec-clause-few_reads
+returns-in_err-rec-clause-few_reads g c = λ tells xs sound.
+    few_next (g.R.Reads.state c.args.space.now) (g.R.Reads.state c.loop.space) (g.R.Reads.state c.read_next.new.space) c.args.chain.now.first c.args.chain.now.node c.args.budget c.loop.before (c.args.budget - c.loop.counter) c.loop.at c.loop.rows.items xs
+    c.if-at.false (c.loop.invariant.met tells) (c.loop.invariant.left tells xs sound) sound c.loop.invariant.read c.in_err-rec.ensures.at_most
+
+pub returns-in_err-push-clause-few_reads : goal.returns-in_err-push-clause-few_reads
+returns-in_err-push-clause-few_reads g c = λ tells xs sound.
+    few_next (g.R.Reads.state c.args.space.now) (g.R.Reads.state c.loop.space) (g.R.Reads.state c.read_next.new.space) c.args.chain.now.first c.args.chain.now.node c.args.budget c.loop.before (c.args.budget - c.loop.counter) c.loop.at c.loop.rows.items xs
+    c.if-at.false (c.loop.invariant.met tells) (c.loop.invariant.left tells xs sound) sound c.loop.invariant.read c.in_ok-rec.ensures.at_most

@@ -26,4 +26,16 @@ pub returns-clause-dense_reads : goal.returns-clause-dense_reads
 returns-clause-dense_reads g c = λ tells store many.
     let s = g.R.Reads.state c.args.space.now in
     subst (λ most. ReadsAtMost most s (g.R.Reads.state c.load_rows.new.space))
-    (most_is_dense s store c.args.node (c.in_ok-rows.ensures.missing tells store) many c.args.direction c.args.labels.now) (c.in_ok-rows.ensures.reads tells store)
+    (most_is_dense s store c.args.node many c.args.direction c.args.labels.now) (c.in_ok-rows.ensures.reads tells store)
+
+pub returns-in_err-rows-clause-dense_reads : goal.returns-in_err-rows-clause-dense_reads
+returns-in_err-rows-clause-dense_reads g c = λ tells store many.
+    let s = g.R.Reads.state c.args.space.now in
+    subst (λ most. ReadsAtMost most s (g.R.Reads.state c.load_rows.new.space))
+    (most_is_dense s store c.args.node many c.args.direction c.args.labels.now) (c.in_err-rows.ensures.reads tells store)
+
+pub returns-in_err-found-clause-dense_reads : goal.returns-in_err-found-clause-dense_reads
+returns-in_err-found-clause-dense_reads g c = λ tells store many.
+    let s = g.R.Reads.state c.args.space.now in
+    subst (λ most. ReadsAtMost most s (g.R.Reads.state c.load_rows.new.space))
+    (most_is_dense s store c.args.node many c.args.direction c.args.labels.now) (c.in_ok-rows.ensures.reads tells store)

@@ -2,14 +2,20 @@ use Rattle.std.proofs.Common.{length, ap, ◌∙◌}
 use Rattle.std.proofs.lemmas.Result.{err_from_is_err_and}
 use Rattle.group_store.specs.Loading.{group_mark}
 use Rattle.expand.specs.FirstLinks.{first_links}
-use Rattle.expand.proofs.DenseWalks.{can_walk, chains_fault, group_fault, has_dense_rows}
-use Rattle.expand.proofs.ReadCounts.{reads_marks}
+use Rattle.expand.proofs.DenseWalks.{blamed_then, can_walk, group_fault, has_dense_rows, of_groups}
+use Rattle.expand.proofs.ReadCounts.{reads_both, reads_marks, reads_wider}
 use Rattle.expand.proofs.loading.dense_rows.Goals as goal
 
 pub returns-in_err-groups-clause-damaged : goal.returns-in_err-groups-clause-damaged
-returns-in_err-groups-clause-damaged g c = λ tells.
+returns-in_err-groups-clause-damaged g c = λ tells is.
     let p = err_from_is_err_and c.from_residual.result c.from_residual.ensures.1 in
-    rw (p.1, p.2) (group_fault (g.R.Reads.state c.args.space.now) c.args.row.now c.in_err-groups.field-0.0 (c.in_err-groups.ensures.damaged tells))
+    rw (p.1, p.2) (group_fault (g.R.Reads.state c.args.space.now) c.args.row.now is c.in_err-groups.field-0.0 (c.in_err-groups.ensures.damaged tells))
+
+pub returns-in_err-groups-clause-few_reads : goal.returns-in_err-groups-clause-few_reads
+returns-in_err-groups-clause-few_reads g c = λ tells members xs can. reads_wider (length xs) (c.in_err-groups.ensures.few_reads tells members can.walkable)
+
+pub returns-in_err-links-clause-few_reads : goal.returns-in_err-links-clause-few_reads
+returns-in_err-links-clause-few_reads g c = λ tells members xs can. reads_wider (length xs) (c.in_ok-groups.ensures.few_reads tells members can.walkable)
 
 pub returns-in_err-rows-clause-at_most : goal.returns-in_err-rows-clause-at_most
 returns-in_err-rows-clause-at_most g c =
@@ -17,26 +23,43 @@ returns-in_err-rows-clause-at_most g c =
     reads_marks s (g.R.Reads.state c.groups.new.space) (g.R.Reads.state c.walk_all.new.space) (group_mark s) c.in_ok-groups.ensures.at_most c.in_err-rows.ensures.at_most
 
 pub returns-in_err-rows-clause-damaged : goal.returns-in_err-rows-clause-damaged
-returns-in_err-rows-clause-damaged g c = λ tells.
+returns-in_err-rows-clause-damaged g c = λ tells is.
     let rows = c.in_ok-groups.groups.items in
-    let are = c.deref-2.ensures.value ∙ c.in_ok-firsts.ensures ∙ ap (first_links c.args.direction c.args.labels.now) c.deref.ensures.value in
+    let are = c.deref-2.ensures.value ∙ c.in_ok-links.ensures ∙ ap (first_links c.args.direction c.args.labels.now) c.deref.ensures.value in
+    let of = of_groups (g.R.Reads.state c.args.space.now) (g.R.Reads.state c.groups.new.space) (length rows) c.in_ok-groups.ensures.reads c.args.row.now c.args.direction c.args.labels.now
+    c.deref-2.result.now rows (c.in_ok-groups.ensures.rows tells) are is in
     let p = err_from_is_err_and c.from_residual-in_err-rows.result c.from_residual-in_err-rows.ensures.1 in
-    rw (p.1, p.2) (chains_fault (g.R.Reads.state c.args.space.now) (g.R.Reads.state c.groups.new.space) (length rows) c.in_ok-groups.ensures.reads c.args.row.now c.args.direction c.args.labels.now
-    c.deref-2.result.now rows (c.in_ok-groups.ensures.rows tells) are c.in_err-rows.field-0.0 (c.in_err-rows.ensures.damaged tells))
+    rw (p.1, p.2) (blamed_then (g.R.Reads.state c.args.space.now) (g.R.Reads.state c.groups.new.space) (length rows) c.in_ok-groups.ensures.reads c.in_err-rows.field-0.0 (c.in_err-rows.ensures.damaged tells of))
 
 pub returns-in_err-rows-clause-sound : goal.returns-in_err-rows-clause-sound
 returns-in_err-rows-clause-sound g c = λ tells members xs can.
     let rows = c.in_ok-groups.groups.items in
-    let are = c.deref-2.ensures.value ∙ c.in_ok-firsts.ensures ∙ ap (first_links c.args.direction c.args.labels.now) c.deref.ensures.value in
+    let are = c.deref-2.ensures.value ∙ c.in_ok-links.ensures ∙ ap (first_links c.args.direction c.args.labels.now) c.deref.ensures.value in
     let sound = can_walk (g.R.Reads.state c.args.space.now) (g.R.Reads.state c.groups.new.space) (length rows) c.in_ok-groups.ensures.reads c.args.row.now c.args.direction c.args.labels.now
     c.deref-2.result.now rows (c.in_ok-groups.ensures.rows tells) are members xs can in
     let p = err_from_is_err_and c.from_residual-in_err-rows.result c.from_residual-in_err-rows.ensures.1 in
-    rw (p.1, p.2) (c.in_err-rows.ensures.sound tells sound.0 xs sound.1)
+    rw (p.1, p.2) (c.in_err-rows.ensures.sound tells sound.0 xs sound.1 sound.2)
+
+pub returns-clause-few_reads : goal.returns-clause-few_reads
+returns-clause-few_reads g c = λ tells members xs can.
+    let rows = c.in_ok-groups.groups.items in
+    let are = c.deref-2.ensures.value ∙ c.in_ok-links.ensures ∙ ap (first_links c.args.direction c.args.labels.now) c.deref.ensures.value in
+    let sound = can_walk (g.R.Reads.state c.args.space.now) (g.R.Reads.state c.groups.new.space) (length rows) c.in_ok-groups.ensures.reads c.args.row.now c.args.direction c.args.labels.now
+    c.deref-2.result.now rows (c.in_ok-groups.ensures.rows tells) are members xs can in
+    reads_both (g.R.Reads.state c.args.space.now) (g.R.Reads.state c.groups.new.space) (g.R.Reads.state c.walk_all.new.space) (length members) (length xs) (c.in_ok-groups.ensures.few_reads tells members can.walkable) (c.in_ok-rows.ensures.few_reads tells xs sound.1)
+
+pub returns-in_err-rows-clause-few_reads : goal.returns-in_err-rows-clause-few_reads
+returns-in_err-rows-clause-few_reads g c = λ tells members xs can.
+    let rows = c.in_ok-groups.groups.items in
+    let are = c.deref-2.ensures.value ∙ c.in_ok-links.ensures ∙ ap (first_links c.args.direction c.args.labels.now) c.deref.ensures.value in
+    let sound = can_walk (g.R.Reads.state c.args.space.now) (g.R.Reads.state c.groups.new.space) (length rows) c.in_ok-groups.ensures.reads c.args.row.now c.args.direction c.args.labels.now
+    c.deref-2.result.now rows (c.in_ok-groups.ensures.rows tells) are members xs can in
+    reads_both (g.R.Reads.state c.args.space.now) (g.R.Reads.state c.groups.new.space) (g.R.Reads.state c.walk_all.new.space) (length members) (length xs) (c.in_ok-groups.ensures.few_reads tells members can.walkable) (c.in_err-rows.ensures.few_reads tells xs sound.1)
 
 pub returns-clause-rows : goal.returns-clause-rows
 returns-clause-rows g c = λ tells.
     let rows = c.in_ok-groups.groups.items in
-    let are = c.deref-2.ensures.value ∙ c.in_ok-firsts.ensures ∙ ap (first_links c.args.direction c.args.labels.now) c.deref.ensures.value in
+    let are = c.deref-2.ensures.value ∙ c.in_ok-links.ensures ∙ ap (first_links c.args.direction c.args.labels.now) c.deref.ensures.value in
     has_dense_rows (g.R.Reads.state c.args.space.now) (g.R.Reads.state c.groups.new.space) (length rows) c.in_ok-groups.ensures.reads c.args.row.now c.args.direction c.args.labels.now
     c.deref-2.result.now rows (c.in_ok-groups.ensures.rows tells) are (g.R.Reads.state c.walk_all.new.space) c.in_ok-rows.rows.items (λ i. length rows) (c.in_ok-rows.ensures.rows tells) c.in_ok-rows.ensures.reads
 

@@ -5,7 +5,7 @@ use Rattle.rel_store.specs.Loading.{rel_mark}
 use Rattle.chain_edit.specs.Walking.{ReadsAtMost}
 use Rattle.group_store.specs.Loading.{group_mark}
 use Rattle.expand.proofs.ChainWalks.{chain_sound}
-use Rattle.expand.proofs.LoadedRows.{chain_fault, chain_tells, dense_at_most, dense_fault, dense_most, dense_parts, dense_tells, members, none_there, one_there, room, row_fault, sound, sparse_at_most, sparse_part, sparse_reads, walkable}
+use Rattle.expand.proofs.LoadedRows.{can_walk, chain_fault, chain_tells, dense_at_most, dense_fault, dense_most, load_most, mid_row, dense_parts, dense_tells, members, none_there, one_there, room, row_fault, sound, sparse_at_most, sparse_part, sparse_reads, walkable}
 use Rattle.expand.proofs.ReadCounts.{load_reads}
 use Rattle.expand.proofs.loading.load_rows.Goals as goal
 
@@ -43,7 +43,7 @@ pub returns-then-row-clause-missing : goal.returns-then-row-clause-missing
 returns-then-row-clause-missing g c = λ tells store.
     let found = sym c.in-Some.is ∙ c.in_ok-row.ensures.found tells in
     dense_tells (g.R.Reads.state c.args.space.now) c.args.node c.in-Some.row found (g.R.Reads.state c.load.new.space) c.in_ok-row.ensures.state c.if-row.true
-    c.dense_rows.result (c.dense_rows.ensures.damaged tells)
+    c.dense_rows.result (c.dense_rows.ensures.damaged tells (mid_row (g.R.Reads.state c.args.space.now) c.args.node c.in-Some.row found (g.R.Reads.state c.load.new.space) c.in_ok-row.ensures.state c.if-row.true))
 
 pub returns-then-row-clause-sound : goal.returns-then-row-clause-sound
 returns-then-row-clause-sound g c = λ tells store.
@@ -55,13 +55,16 @@ pub returns-then-row-clause-damaged : goal.returns-then-row-clause-damaged
 returns-then-row-clause-damaged g c = λ tells.
     let found = sym c.in-Some.is ∙ c.in_ok-row.ensures.found tells in
     dense_fault (g.R.Reads.state c.args.space.now) c.args.node c.in-Some.row found (g.R.Reads.state c.load.new.space) c.in_ok-row.ensures.state c.if-row.true
-    c.dense_rows.result (c.dense_rows.ensures.damaged tells)
+    c.dense_rows.result (c.dense_rows.ensures.damaged tells (mid_row (g.R.Reads.state c.args.space.now) c.args.node c.in-Some.row found (g.R.Reads.state c.load.new.space) c.in_ok-row.ensures.state c.if-row.true))
 
 pub returns-then-row-clause-reads : goal.returns-then-row-clause-reads
 returns-then-row-clause-reads g c = λ tells store.
+    let s = g.R.Reads.state c.args.space.now in
+    let mid = g.R.Reads.state c.load.new.space in
     let found = sym c.in-Some.is ∙ c.in_ok-row.ensures.found tells in
-    dense_most (g.R.Reads.state c.args.space.now) c.args.node c.in-Some.row found (g.R.Reads.state c.load.new.space) c.in_ok-row.ensures.state c.if-row.true store c.args.direction c.args.labels.now
-    (g.R.Reads.state c.dense_rows.new.space) c.dense_rows.result (c.dense_rows.ensures.rows tells)
+    let can = can_walk s c.args.node c.in-Some.row found mid c.in_ok-row.ensures.state c.if-row.true store c.args.direction c.args.labels.now in
+    dense_most s c.args.node c.in-Some.row found mid c.in_ok-row.ensures.state c.if-row.true store c.args.direction c.args.labels.now (g.R.Reads.state c.dense_rows.new.space)
+    (c.dense_rows.ensures.few_reads tells _ _ can)
 
 pub returns-then-row-clause-at_most : goal.returns-then-row-clause-at_most
 returns-then-row-clause-at_most g c =
@@ -97,7 +100,7 @@ returns-in_err-rows-clause-damaged g c = λ tells.
     let marked = ap (λ (meta : Meta). meta.high) c.meta-mark.ensures in
     let p = err_from_is_err_and c.from_residual-in_err-rows.result c.from_residual-in_err-rows.ensures.1 in
     rw (p.1, p.2) (chain_fault (g.R.Reads.state c.args.space.now) c.args.node c.in-Some.row found (g.R.Reads.state c.load.new.space) c.in_ok-row.ensures.state c.meta-mark.result.high marked c.if-row.false
-    c.in_err-rows.field-0.0 (c.in_err-rows.ensures.damaged tells))
+    (c.in_ok-row.ensures.known tells) c.in_err-rows.field-0.0 (c.in_err-rows.ensures.damaged tells))
 
 pub returns-in_err-rows-clause-at_most : goal.returns-in_err-rows-clause-at_most
 returns-in_err-rows-clause-at_most g c =
@@ -120,10 +123,38 @@ returns-clause-missing g c = λ tells store.
 
 pub returns-clause-reads : goal.returns-clause-reads
 returns-clause-reads g c = λ tells store.
+    let s = g.R.Reads.state c.args.space.now in
+    let mid = g.R.Reads.state c.load.new.space in
+    let row = c.in-Some.row in
+    let n = c.args.node in
     let found = sym c.in-Some.is ∙ c.in_ok-row.ensures.found tells in
+    let loaded = c.in_ok-row.ensures.state in
+    let mark = c.meta-mark.result.high in
     let marked = ap (λ (meta : Meta). meta.high) c.meta-mark.ensures in
-    sparse_reads (g.R.Reads.state c.args.space.now) c.args.node c.in-Some.row found (g.R.Reads.state c.load.new.space) c.in_ok-row.ensures.state c.meta-mark.result.high marked c.if-row.false store
-    c.in_ok-rows.rows.items (c.in_ok-rows.ensures.rows tells) c.args.direction c.args.labels.now (g.R.Reads.state c.walk.new.space) c.in_ok-rows.ensures.reads
+    sparse_reads s n row found mid loaded mark marked c.if-row.false store c.args.direction c.args.labels.now (g.R.Reads.state c.walk.new.space)
+    (c.in_ok-rows.ensures.few_reads tells (members s n row found mid loaded mark marked c.if-row.false store) (sound s n row found mid loaded mark marked c.if-row.false store))
+
+pub returns-in_err-rows-clause-reads : goal.returns-in_err-rows-clause-reads
+returns-in_err-rows-clause-reads g c = λ tells store.
+    let s = g.R.Reads.state c.args.space.now in
+    let mid = g.R.Reads.state c.load.new.space in
+    let row = c.in-Some.row in
+    let n = c.args.node in
+    let found = sym c.in-Some.is ∙ c.in_ok-row.ensures.found tells in
+    let loaded = c.in_ok-row.ensures.state in
+    let mark = c.meta-mark.result.high in
+    let marked = ap (λ (meta : Meta). meta.high) c.meta-mark.ensures in
+    sparse_reads s n row found mid loaded mark marked c.if-row.false store c.args.direction c.args.labels.now (g.R.Reads.state c.walk.new.space)
+    (c.in_err-rows.ensures.few_reads tells (members s n row found mid loaded mark marked c.if-row.false store) (sound s n row found mid loaded mark marked c.if-row.false store))
+
+pub returns-in_err-row-clause-reads : goal.returns-in_err-row-clause-reads
+returns-in_err-row-clause-reads g c = λ tells store. load_most (g.R.Reads.state c.args.space.now) (g.R.Reads.state c.load.new.space) c.args.node c.args.direction c.args.labels.now c.in_err-row.ensures.state
+
+pub returns-in_default-clause-reads : goal.returns-in_default-clause-reads
+returns-in_default-clause-reads g c = λ tells store. load_most (g.R.Reads.state c.args.space.now) (g.R.Reads.state c.load.new.space) c.args.node c.args.direction c.args.labels.now c.in_ok-row.ensures.state
+
+pub returns-in_default-clause-damaged : goal.returns-in_default-clause-damaged
+returns-in_default-clause-damaged g c = λ tells. (λ i. c.args.node, sym (sym c.in_default.is ∙ c.in_ok-row.ensures.found tells))
 
 pub returns-clause-at_most : goal.returns-clause-at_most
 returns-clause-at_most g c =

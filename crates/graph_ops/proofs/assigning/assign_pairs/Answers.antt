@@ -5,9 +5,10 @@ use Rattle.plain_graph.specs.Names.{IsShortName}
 use Rattle.plain_graph.specs.Refusals.{most_names}
 use Rattle.plain_graph.specs.declared.pairs.Pair.{Pair}
 use Rattle.plain_graph.specs.declared.value.Value.TheVariants as values
-use Rattle.graph_ops.specs.Assigning.{IsAssignFault, pair_at}
+use Rattle.graph_ops.specs.Assigning.{IsAssignCount, IsAssignFault, pair_at}
 use Rattle.graph_ops.specs.ChangeFault.{of_intern}
 use Rattle.graph_ops.proofs.Assigned.{IsSoFar, all_assigned, all_used, assign_refused, few_after, few_named, few_then, items_most, none_so_far, one_more, pair_form, too_many}
+use Rattle.graph_ops.proofs.Counted.{count_full}
 use Rattle.graph_ops.proofs.Exits.{fault_exit}
 use Rattle.graph_ops.proofs.Interned.{keeps_interned, keeps_same, keeps_then, metas_same, metas_then, name_written, one_written}
 use Rattle.graph_ops.proofs.LineNames.{name_long, uses_long, uses_prefix}
@@ -47,6 +48,9 @@ returns-in_err-key-clause-refused g c =
     fault_exit of_intern (IsAssignFault c.args.names.now.names c.args.pairs.now) c.in_err-key.field-0.0 c.from_residual.result c.from_residual.ensures.1
     (assign_refused c.args.names.now.names c.loop-place.names.names c.args.pairs.now c.loop-place.place c.loop-place.assigned.items c.as_bytes.result.now (key_is g (goal.at.returns-in_err-key-clause-refused g c).After-as_bytes)
     c.loop-place.invariant.so_far c.loop-place-test.true c.in_err-key.field-0.0 c.in_err-key.ensures.full_only)
+
+pub returns-in_err-key-clause-counts : goal.returns-in_err-key-clause-counts
+returns-in_err-key-clause-counts g c = fault_exit of_intern IsAssignCount c.in_err-key.field-0.0 c.from_residual.result c.from_residual.ensures.1 (count_full c.loop-place.names.names c.as_bytes.result.now c.in_err-key.field-0.0 c.in_err-key.ensures.full_only)
 
 -- the keys are few where there is room for one more
 few_true : (g : Over) (c : After-as_bytes g) → length c.loop-place.assigned.items ≤ 32 → not c.is_full-are_few.result ≡ true

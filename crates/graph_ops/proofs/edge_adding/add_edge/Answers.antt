@@ -4,13 +4,14 @@ use Rattle.plain_graph.specs.Refusals.{change_reasons}
 use Rattle.plain_graph.specs.Reply.{EdgeMade}
 use Rattle.plain_graph.specs.declared.command.Command.TheVariants as commands
 use Rattle.plain_graph.specs.declared.command.Target.TheVariants as targets
+use Rattle.rec_bytes.specs.Format as format
 use Rattle.rec_bytes.specs.Space.{SameButReads, State}
 use Rattle.rec_bytes.specs.declared.shape.Shape.{Shape}
 use Rattle.rel_store.specs.RelRecord.{rel_key}
 use Rattle.store_rules.specs.Writes.{WritesBeside}
 use Rattle.prop_store.specs.declared.owner.Owner.{Owner}
 use Rattle.graph_ops.specs.Assigning.{CanPut, HasPropertyRoom, PutsPairs, assigned_blocks, pairs_of}
-use Rattle.graph_ops.specs.Change.{IsRefusal, MakesChange}
+use Rattle.graph_ops.specs.Change.{IsCounted, IsRefusal, MakesChange}
 use Rattle.graph_ops.specs.ChangeFault.{IsOutside, LeavesSpace}
 use Rattle.graph_ops.specs.EdgeAdding.{IsFullOfEdges, degrees_weight}
 use Rattle.graph_ops.specs.EdgePlacing.{PutsEdge}
@@ -18,9 +19,11 @@ use Rattle.graph_ops.specs.NodeDeleting.{HasDegree}
 use Rattle.graph_ops.specs.Preparing.{IsPrepared}
 use Rattle.graph_ops.specs.Store.{IsStore, graph_in}
 use Rattle.graph_ops.proofs.EdgeAdded.{can_put, degree_kept, edges_refused, lacks_full, line_refused, made, not_full, put_room, read_both, room_kept, source_missing, source_then, store_then, target_missing, target_then}
+use Rattle.graph_ops.proofs.Counted.{counted_read, missing_counted, outside_counted, room_counted}
 use Rattle.graph_ops.proofs.Elements.{found_there, same_both}
 use Rattle.graph_ops.proofs.Exits.{fault_exit, late_leaves}
 use Rattle.graph_ops.proofs.Readings.{made_read, refused_read, store_read}
+use Rattle.graph_ops.proofs.KeptLinks.{first_kept}
 use Rattle.graph_ops.proofs.Reasons.{outside_refused}
 use Rattle.graph_ops.proofs.OpenWrites.{most_threshold}
 use Rattle.store_rules.proofs.WriteLaws.{beside_then, beside_written, more_written, none_written, then_written}
@@ -246,6 +249,17 @@ returns-clause-made g c tells store =
     w put (room g at.In_ok-test_room tells store) c.in_ok-source.source c.in_ok-target.target (source_has g at.In_ok-target tells store) (target_has g at.In_ok-target tells store) weight c.ends_weight-ends.result refl
     (c.ends_weight-ends.ensures.is ∙ ap (λ (h : Shape). degrees_weight h.threshold c.args.from c.in_ok-source.source c.args.to c.in_ok-target.target) c.shape-threshold.ensures.is)))
 
+-- its properties leave it in its place
+pub returns-clause-first : goal.returns-clause-first
+returns-clause-first g c tells store =
+    let at = goal.at.returns-clause-first g c in
+    let v = g.S.Reads.state c.put_edge.new.space in
+    let w = g.S.Reads.state c.put_properties.new.space in
+    let names = c.prepare.new.names.names in
+    let id = c.in_ok-id.id in
+    let put = c.in_ok-put_properties.ensures.put tells names (targets.Edge id) c.edge_owner.ensures (can g at.After-put_properties tells store) in
+    first_kept v.records w.records id put.keeps c.args.from c.args.to (puts g at.In_ok-id tells store).first
+
 -- ---- what is written
 
 -- the properties are put at the relationship's record
@@ -264,3 +278,46 @@ returns-clause-writes g c =
     let ends = c.ends_weight-ends.ensures.is in
     more_written (omega arith) (then_written (none_written _ _ (ends_read g (goal.at.In_ok-put_properties g at).After-prepare))
     (then_written c.in_ok-prepared.ensures.writes (beside_written refl (beside_then c.in_ok-id.ensures.writes (owned g at)))))
+
+-- ---- what refusals count
+pub returns-in_err-source-clause-counts : goal.returns-in_err-source-clause-counts
+returns-in_err-source-clause-counts g c tells store =
+    let s = g.S.Reads.state c.args.space.now in
+    fault_exit (λ f. f) (IsCounted s) c.in_err-source.field-0.0 c.from_residual.result c.from_residual.ensures.1
+    (missing_counted s (graph_in s) (targets.Node c.args.from) c.in_err-source.field-0.0 (c.in_err-source.ensures.refused tells c.args.names.now.names store))
+
+pub returns-in_err-target-clause-counts : goal.returns-in_err-target-clause-counts
+returns-in_err-target-clause-counts g c tells store =
+    let s = g.S.Reads.state c.args.space.now in
+    let m = g.S.Reads.state c.node_degree.new.space in
+    fault_exit (λ f. f) (IsCounted s) c.in_err-target.field-0.0 c.from_residual-in_err-target.result c.from_residual-in_err-target.ensures.1
+    (missing_counted s (graph_in m) (targets.Node c.args.to) c.in_err-target.field-0.0 (c.in_err-target.ensures.refused tells c.args.names.now.names (store_read s m c.args.names.now.names c.node_degree.ensures.state store)))
+
+pub returns-in_err-test_room-clause-counts : goal.returns-in_err-test_room-clause-counts
+returns-in_err-test_room-clause-counts g c tells store =
+    let at = (goal.at.returns-in_err-test_room-clause-counts g c).In_ok-target in
+    let s = g.S.Reads.state c.args.space.now in
+    let n = g.S.Reads.state c.node_degree-2.new.space in
+    let fault = c.in_err-test_room.field-0.0 in
+    fault_exit (λ f. f) (IsCounted s) fault c.from_residual-in_err-test_room.result c.from_residual-in_err-test_room.ensures.1
+    (counted_read s n (same g at tells store) fault (room_counted n n format.relationships_file 1 refl fault c.in_err-test_room.ensures.full))
+
+pub returns-in_err-prepared-clause-counts : goal.returns-in_err-prepared-clause-counts
+returns-in_err-prepared-clause-counts g c tells store =
+    let at = (goal.at.returns-in_err-prepared-clause-counts g c).In_ok-target in
+    let s = g.S.Reads.state c.args.space.now in
+    let n = g.S.Reads.state c.node_degree-2.new.space in
+    let fault = c.in_err-prepared.field-0.0 in
+    fault_exit (λ f. f) (IsCounted s) fault c.from_residual-in_err-prepared.result c.from_residual-in_err-prepared.ensures.1 (counted_read s n (same g at tells store) fault (c.in_err-prepared.ensures.counts tells))
+
+pub returns-in_err-id-clause-counts : goal.returns-in_err-id-clause-counts
+returns-in_err-id-clause-counts g c tells store =
+    let s = g.S.Reads.state c.args.space.now in
+    fault_exit (λ f. f) (IsCounted s) c.in_err-id.field-0.0 c.from_residual-in_err-id.result c.from_residual-in_err-id.ensures.1
+    (outside_counted s c.in_err-id.field-0.0 (edge_outside g (goal.at.returns-in_err-id-clause-counts g c).In_err-id tells store))
+
+pub returns-in_err-put_properties-clause-counts : goal.returns-in_err-put_properties-clause-counts
+returns-in_err-put_properties-clause-counts g c tells store =
+    let s = g.S.Reads.state c.args.space.now in
+    fault_exit (λ f. f) (IsCounted s) c.in_err-put_properties.field-0.0 c.from_residual-in_err-put_properties.result c.from_residual-in_err-put_properties.ensures.1
+    (outside_counted s c.in_err-put_properties.field-0.0 (properties_outside g (goal.at.returns-in_err-put_properties-clause-counts g c).In_err-put_properties tells store))

@@ -1,28 +1,30 @@
-use Rattle.std.proofs.Common.{◌≡◌, ◌∙◌, ◌+◌, ℕ, Some, List, [], ◌∷◌, sym, subst, inl, inr, arith, refl}
+use Rattle.std.proofs.Common.{◌≡◌, ◌∙◌, ◌+◌, ℕ, Some, List, [], ◌∷◌, sym, ap, subst, arith, refl}
 use Rattle.plain_graph.specs.Refusals.{change_reasons}
 use Rattle.plain_graph.specs.declared.command.Command.TheVariants as commands
 use Rattle.plain_graph.specs.declared.command.Target.TheVariants as targets
 use Rattle.prop_store.specs.Changing.{HasElement}
 use Rattle.prop_store.specs.Touching.{TouchesProperties}
 use Rattle.prop_store.specs.declared.owner.Owner.{Owner}
+use Rattle.rec_bytes.specs.Format as format
 use Rattle.rec_bytes.specs.Space.{SameButReads, State}
+use Rattle.store_rules.specs.Views.{kind_at}
 use Rattle.rel_store.specs.Loading as rels
 use Rattle.rel_store.specs.RelRecord.{rel_key}
 use Rattle.store_rules.specs.Writes.{WritesAtMost, WritesBeside}
 use Rattle.graph_ops.specs.Change.{IsRefusal}
 use Rattle.graph_ops.specs.ChangeFault.{LeavesSpace, of_fault}
-use Rattle.graph_ops.specs.EdgeDeleting.{IsBareEdge, StandsAtEnd}
+use Rattle.graph_ops.specs.EdgeDeleting.{HasBareRow}
 use Rattle.graph_ops.specs.Store.{IsStore, graph_in}
 use Rattle.graph_ops.proofs.Deleting.{edge_element, edge_lacked, edge_made, left_bare, left_store}
-use Rattle.graph_ops.proofs.Elements.{edge_missing, same_both, same_rel}
-use Rattle.graph_ops.proofs.Exits.{fault_exit, late_leaves, read_leaves}
-use Rattle.graph_ops.proofs.Readings.{store_read}
+use Rattle.graph_ops.proofs.Elements.{edge_missing, same_rel}
+use Rattle.graph_ops.proofs.Exits.{fault_exit, late_leaves}
+use Rattle.graph_ops.proofs.KeptLinks.{dropped_kinds}
 use Rattle.graph_ops.proofs.Setting.{prop_refused}
 use Rattle.graph_ops.proofs.Reasons.{outside_refused}
 use Rattle.store_rules.proofs.WriteLaws.{beside_then, beside_written, more_written, none_written, then_written}
 use Rattle.graph_ops.proofs.Writes.{on_any_err, touched_written}
 use Rattle.graph_ops.proofs.edge_deleting.delete_edge.Goals as goal
-use Rattle.graph_ops.proofs.edge_deleting.delete_edge.Goals.{After-edge_end, After-edge_end-2, After-load, After-take_edge}
+use Rattle.graph_ops.proofs.edge_deleting.delete_edge.Goals.{After-drop_all, After-load, After-take_edge}
 use Rattle.graph_ops.proofs.edge_deleting.delete_edge.Given.{Over}
 
 pub returns-in_default-clause-refused : goal.returns-in_default-clause-refused
@@ -30,62 +32,24 @@ returns-in_default-clause-refused g c tells store =
     let s = g.S.Reads.state c.args.space.now in
     edge_lacked s.shape.limit (graph_in s) c.args.id (edge_missing s c.args.id (sym c.in_default.is ∙ c.in_ok-rel.ensures.found tells))
 
--- the reads before its properties are taken away
+-- it is read before its properties are taken away
 module _ (g : Over) (c : After-load g) where
   loaded : SameButReads (g.S.Reads.state c.args.space.now) (g.S.Reads.state c.load.new.space)
   loaded = subst (SameButReads (g.S.Reads.state c.args.space.now)) (sym c.load.ensures.state) (same_rel (g.S.Reads.state c.args.space.now) c.args.id)
 
-module _ (g : Over) (c : After-edge_end g) where
-  source_read : SameButReads (g.S.Reads.state c.args.space.now) (g.S.Reads.state c.edge_end.new.space)
-  source_read = same_both (g.S.Reads.state c.args.space.now) (g.S.Reads.state c.load.new.space) (g.S.Reads.state c.edge_end.new.space) (loaded g (goal.at.After-edge_end g c).After-load) c.edge_end.ensures.state
-
+module _ (g : Over) (c : After-drop_all g) where
   found : g.S.Reads.tells → Some c.in-Some.rel ≡ rels.row_at (g.S.Reads.state c.args.space.now).records c.args.id
   found tells = sym c.in-Some.is ∙ c.in_ok-rel.ensures.found tells
 
-  found_loaded : g.S.Reads.tells → Some c.in-Some.rel ≡ rels.row_at (g.S.Reads.state c.load.new.space).records c.args.id
-  found_loaded tells = subst (λ z. Some c.in-Some.rel ≡ rels.row_at z.records c.args.id) (sym (loaded g (goal.at.After-edge_end g c).After-load)) (found tells)
-
-  found_read : g.S.Reads.tells → Some c.in-Some.rel ≡ rels.row_at (g.S.Reads.state c.edge_end.new.space).records c.args.id
-  found_read tells = subst (λ z. Some c.in-Some.rel ≡ rels.row_at z.records c.args.id) (sym source_read) (found tells)
-
-module _ (g : Over) (c : After-edge_end-2 g) where
-  target_read : SameButReads (g.S.Reads.state c.args.space.now) (g.S.Reads.state c.edge_end-2.new.space)
-  target_read = same_both (g.S.Reads.state c.args.space.now) (g.S.Reads.state c.edge_end.new.space) (g.S.Reads.state c.edge_end-2.new.space) (source_read g (goal.at.After-edge_end-2 g c).After-edge_end) c.edge_end-2.ensures.state
-
--- failures that are met while the ends are read
-pub returns-in_err-source-clause-refused : goal.returns-in_err-source-clause-refused
-returns-in_err-source-clause-refused g c tells store =
-    let s = g.S.Reads.state c.args.space.now in
-    let m = g.S.Reads.state c.load.new.space in
-    let at = goal.at.returns-in_err-source-clause-refused g c in
-    let kept = store_read s m c.args.names.now.names (loaded g at.After-load) store in
-    fault_exit (λ f. f) (IsRefusal s.shape.limit (graph_in s) (commands.Delete (targets.Edge c.args.id))) c.in_err-source.field-0.0 c.from_residual-in_err-source.result c.from_residual-in_err-source.ensures.1
-    (outside_refused change_reasons s.shape.limit (graph_in s) (commands.Delete (targets.Edge c.args.id)) c.in_err-source.field-0.0
-    (c.in_err-source.ensures.sound tells c.args.names.now.names kept (found_loaded g at.After-edge_end tells) (inl refl)))
-
-pub returns-in_err-target-clause-refused : goal.returns-in_err-target-clause-refused
-returns-in_err-target-clause-refused g c tells store =
-    let s = g.S.Reads.state c.args.space.now in
-    let n = g.S.Reads.state c.edge_end.new.space in
-    let at = (goal.at.returns-in_err-target-clause-refused g c).After-edge_end in
-    let kept = store_read s n c.args.names.now.names (source_read g at) store in
-    fault_exit (λ f. f) (IsRefusal s.shape.limit (graph_in s) (commands.Delete (targets.Edge c.args.id))) c.in_err-target.field-0.0 c.from_residual-in_err-target.result c.from_residual-in_err-target.ensures.1
-    (outside_refused change_reasons s.shape.limit (graph_in s) (commands.Delete (targets.Edge c.args.id)) c.in_err-target.field-0.0
-    (c.in_err-target.ensures.sound tells c.args.names.now.names kept (found_read g at tells) (inr refl)))
-
-pub returns-in_err-target-clause-leaves : goal.returns-in_err-target-clause-leaves
-returns-in_err-target-clause-leaves g c =
-    let s = g.S.Reads.state c.args.space.now in
-    let v = g.S.Reads.state c.edge_end-2.new.space in
-    fault_exit (λ f. f) (LeavesSpace s v) c.in_err-target.field-0.0 c.from_residual-in_err-target.result c.from_residual-in_err-target.ensures.1
-    (read_leaves s v (target_read g (goal.at.returns-in_err-target-clause-leaves g c).After-edge_end-2) c.in_err-target.field-0.0)
+  was_read : SameButReads (g.S.Reads.state c.args.space.now) (g.S.Reads.state c.load.new.space)
+  was_read = loaded g (goal.at.After-drop_all g c).After-load
 
 pub returns-in_err-dropped-clause-refused : goal.returns-in_err-dropped-clause-refused
 returns-in_err-dropped-clause-refused g c tells store =
     let s = g.S.Reads.state c.args.space.now in
-    let v = g.S.Reads.state c.edge_end-2.new.space in
-    let at = goal.at.returns-in_err-dropped-clause-refused g c in
-    let element = edge_element s v c.args.names.now.names c.args.id c.in-Some.rel store (found g at.After-edge_end tells) (target_read g at.After-edge_end-2) in
+    let v = g.S.Reads.state c.load.new.space in
+    let at = (goal.at.returns-in_err-dropped-clause-refused g c).After-drop_all in
+    let element = edge_element s v c.args.names.now.names c.args.id c.in-Some.rel store (found g at tells) (was_read g at) in
     fault_exit of_fault (IsRefusal s.shape.limit (graph_in s) (commands.Delete (targets.Edge c.args.id))) c.in_err-dropped.field-0.0 c.from_residual-in_err-dropped.result c.from_residual-in_err-dropped.ensures.1
     (prop_refused s.shape.limit (graph_in s) (commands.Delete (targets.Edge c.args.id)) c.in_err-dropped.field-0.0
     (c.in_err-dropped.ensures.sound tells (subst (HasElement v) (sym c.edge_owner.ensures) element)))
@@ -96,7 +60,7 @@ module _ (g : Over) (c : After-take_edge g) (tells : g.S.Reads.tells) (store : I
   s = g.S.Reads.state c.args.space.now
 
   abbrev v : State
-  v = g.S.Reads.state c.edge_end-2.new.space
+  v = g.S.Reads.state c.load.new.space
 
   abbrev u : State
   u = g.S.Reads.state c.drop_all.new.space
@@ -104,29 +68,17 @@ module _ (g : Over) (c : After-take_edge g) (tells : g.S.Reads.tells) (store : I
   abbrev names : List (List ℕ)
   names = c.args.names.now.names
 
-  abbrev first : After-edge_end g
-  first = (goal.at.After-take_edge g c).After-edge_end
-
   there : Some c.in-Some.rel ≡ rels.row_at s.records c.args.id
-  there = found g first tells
+  there = found g (goal.at.After-take_edge g c).After-drop_all tells
 
   read : SameButReads s v
-  read = target_read g (goal.at.After-take_edge g c).After-edge_end-2
+  read = was_read g (goal.at.After-take_edge g c).After-drop_all
 
   left : IsStore u names
   left = left_store s v names c.args.id c.in-Some.rel store there read u c.edge_owner.result c.edge_owner.ensures c.in_ok-dropped.dropped (c.in_ok-dropped.ensures.dropped tells)
 
-  leaves : StandsAtEnd s.records c.args.id c.in_ok-source.source
-  leaves = subst (λ z. StandsAtEnd z.records c.args.id c.in_ok-source.source) (loaded g (goal.at.After-take_edge g c).After-load)
-      (c.in_ok-source.ensures.stands tells names (store_read s (g.S.Reads.state c.load.new.space) names (loaded g (goal.at.After-take_edge g c).After-load) store) (found_loaded g first tells) (inl refl))
-
-  enters : StandsAtEnd s.records c.args.id c.in_ok-target.target
-  enters = subst (λ z. StandsAtEnd z.records c.args.id c.in_ok-target.target) (source_read g first)
-      (c.in_ok-target.ensures.stands tells names (store_read s (g.S.Reads.state c.edge_end.new.space) names (source_read g first) store) (found_read g first tells) (inr refl))
-
-  bare : IsBareEdge u c.args.id c.in_ok-source.source c.in_ok-target.target
+  bare : HasBareRow u.records c.args.id c.in-Some.rel
   bare = left_bare s v names c.args.id c.in-Some.rel store there read u c.edge_owner.result c.edge_owner.ensures c.in_ok-dropped.dropped (c.in_ok-dropped.ensures.dropped tells)
-      c.in_ok-source.source c.in_ok-target.target c.in_ok-source.ensures.node c.in_ok-target.ensures.node leaves enters
 
 -- failures that are met then
 pub returns-in_err-take_edge-clause-refused : goal.returns-in_err-take_edge-clause-refused
@@ -148,29 +100,40 @@ pub returns-clause-made : goal.returns-clause-made
 returns-clause-made g c tells store =
     let at = (goal.at.returns-clause-made g c).After-take_edge in
     let names = c.args.names.now.names in
-    edge_made (g.S.Reads.state c.args.space.now) (g.S.Reads.state c.edge_end-2.new.space) names c.args.id c.in-Some.rel store (there g at tells store) (read g at tells store)
+    edge_made (g.S.Reads.state c.args.space.now) (g.S.Reads.state c.load.new.space) names c.args.id c.in-Some.rel store (there g at tells store) (read g at tells store)
     (g.S.Reads.state c.drop_all.new.space) c.edge_owner.result c.edge_owner.ensures c.in_ok-dropped.dropped (c.in_ok-dropped.ensures.dropped tells)
     (g.S.Reads.state c.take_edge.new.space) (c.in_ok-take_edge.ensures.taken tells names (left g at tells store) (bare g at tells store))
 
--- what is written once the ends were read, besides the edge
+pub returns-clause-kinds : goal.returns-clause-kinds
+returns-clause-kinds g c tells store n =
+    let at = (goal.at.returns-clause-kinds g c).After-take_edge in
+    let s = g.S.Reads.state c.args.space.now in
+    let v = g.S.Reads.state c.load.new.space in
+    let u = g.S.Reads.state c.drop_all.new.space in
+    let element = edge_element s v c.args.names.now.names c.args.id c.in-Some.rel store (there g at tells store) (read g at tells store) in
+    (c.in_ok-take_edge.ensures.taken tells c.args.names.now.names (left g at tells store) (bare g at tells store)).kinds n
+    ∙ dropped_kinds v u c.edge_owner.result (targets.Edge c.args.id) c.in_ok-dropped.dropped c.edge_owner.ensures element (c.in_ok-dropped.ensures.dropped tells) n
+    ∙ ap (λ (z : State). kind_at z.records format.nodes_file n) (read g at tells store)
+
+-- what is written, besides the edge
 module _ (g : Over) (c : After-take_edge g) where
   abbrev count : ℕ
   count = c.in_ok-dropped.dropped.properties + c.in_ok-dropped.dropped.blocks
 
-  drops : WritesBeside (rel_key c.args.id) count (g.S.Reads.state c.edge_end-2.new.space) (g.S.Reads.state c.drop_all.new.space)
-  drops = subst (λ (o : Owner). WritesBeside o.key count (g.S.Reads.state c.edge_end-2.new.space) (g.S.Reads.state c.drop_all.new.space)) c.edge_owner.ensures c.in_ok-dropped.ensures.writes
+  drops : WritesBeside (rel_key c.args.id) count (g.S.Reads.state c.load.new.space) (g.S.Reads.state c.drop_all.new.space)
+  drops = subst (λ (o : Owner). WritesBeside o.key count (g.S.Reads.state c.load.new.space) (g.S.Reads.state c.drop_all.new.space)) c.edge_owner.ensures c.in_ok-dropped.ensures.writes
 
   written : WritesAtMost (13 + c.in_ok-dropped.dropped.properties + c.in_ok-dropped.dropped.blocks) (g.S.Reads.state c.args.space.now) (g.S.Reads.state c.take_edge.new.space)
-  written = more_written (omega arith) (then_written (none_written _ _ (target_read g (goal.at.After-take_edge g c).After-edge_end-2)) (beside_written refl (beside_then drops c.take_edge.ensures.writes)))
+  written = more_written (omega arith) (then_written (none_written _ _ (was_read g (goal.at.After-take_edge g c).After-drop_all)) (beside_written refl (beside_then drops c.take_edge.ensures.writes)))
 
 pub returns-clause-writes : goal.returns-clause-writes
 returns-clause-writes g c = written g (goal.at.returns-clause-writes g c).After-take_edge
 
 pub returns-in_err-dropped-clause-refused_writes : goal.returns-in_err-dropped-clause-refused_writes
 returns-in_err-dropped-clause-refused_writes g c =
-    let v = g.S.Reads.state c.edge_end-2.new.space in
+    let v = g.S.Reads.state c.load.new.space in
     let touched = subst (λ (o : Owner). TouchesProperties g.S.Reads.tells (o.key ∷ []) 32 704 v (g.S.Reads.state c.drop_all.new.space)) c.edge_owner.ensures c.drop_all.ensures.at_most in
-    on_any_err _ _ (more_written (omega arith) (then_written (none_written _ v (target_read g (goal.at.returns-in_err-dropped-clause-refused_writes g c).After-edge_end-2)) (touched_written refl touched)))
+    on_any_err _ _ (more_written (omega arith) (then_written (none_written _ v (was_read g (goal.at.returns-in_err-dropped-clause-refused_writes g c).After-drop_all)) (touched_written refl touched)))
 
 pub returns-in_err-take_edge-clause-refused_writes : goal.returns-in_err-take_edge-clause-refused_writes
 returns-in_err-take_edge-clause-refused_writes g c =
@@ -183,9 +146,9 @@ returns-in_err-take_edge-clause-refused_writes g c =
 pub returns-in_err-take_edge-clause-onward : goal.returns-in_err-take_edge-clause-onward
 returns-in_err-take_edge-clause-onward g c =
     let on = g.met.S.Reads.further_onward in
-    on _ _ _ c.load.ensures.onward (on _ _ _ c.edge_end.ensures.onward (on _ _ _ c.edge_end-2.ensures.onward (on _ _ _ c.drop_all.ensures.onward c.take_edge.ensures.onward)))
+    on _ _ _ c.load.ensures.onward (on _ _ _ c.drop_all.ensures.onward c.take_edge.ensures.onward)
 
 pub returns-clause-onward : goal.returns-clause-onward
 returns-clause-onward g c =
     let on = g.met.S.Reads.further_onward in
-    on _ _ _ c.load.ensures.onward (on _ _ _ c.edge_end.ensures.onward (on _ _ _ c.edge_end-2.ensures.onward (on _ _ _ c.drop_all.ensures.onward c.take_edge.ensures.onward)))
+    on _ _ _ c.load.ensures.onward (on _ _ _ c.drop_all.ensures.onward c.take_edge.ensures.onward)

@@ -1,28 +1,50 @@
-use Rattle.std.proofs.Common.{[], refl}
+use Rattle.std.proofs.Common.{[], ap}
+use Rattle.rec_bytes.specs.Space.{State}
+use Rattle.rec_bytes.proofs.Spaces.{writes_none}
 use Rattle.chain_edit.specs.declared.head.Head.{Head}
-use Rattle.graph_ops.specs.ChangeFault.{IsOutside, of_fault}
-use Rattle.graph_ops.proofs.Deleting.{end_of, end_readable, end_stands}
-use Rattle.graph_ops.proofs.Exits.{fault_exit, fault_outside}
+use Rattle.graph_ops.specs.ChangeFault.{IsOutside, MayComeLate, of_fault}
+use Rattle.graph_ops.proofs.EndsFound.{end_found, end_of, end_readable}
+use Rattle.graph_ops.proofs.EndWrites.{read_then}
+use Rattle.graph_ops.proofs.Exits.{fault_exit, fault_late, fault_outside}
 use Rattle.graph_ops.proofs.edge_deleting.edge_end.Goals as goal
 
+-- ---- why it fails
 pub returns-in_err-degree-clause-sound : goal.returns-in_err-degree-clause-sound
-returns-in_err-degree-clause-sound g c tells names store found which =
-    let s = g.R.Reads.state c.args.space.now in
-    let end = end_readable s s names c.args.id c.args.node c.args.rel store found refl which in
+returns-in_err-degree-clause-sound g c tells names store there which =
+    let s = g.S.Reads.state c.args.space.now in
+    let end = end_readable s names c.args.id c.args.rel store there c.args.node which in
     fault_exit (λ f. f) IsOutside c.in_err-degree.field-0.0 c.from_residual.result c.from_residual.ensures.1 (c.in_err-degree.ensures.sound tells end.0 end.1)
 
 pub returns-in_err-head-clause-sound : goal.returns-in_err-head-clause-sound
-returns-in_err-head-clause-sound g c tells names store found which =
-    let s = g.R.Reads.state c.args.space.now in
-    let m = g.R.Reads.state c.end_degree.new.space in
+returns-in_err-head-clause-sound g c tells names store there which =
+    let s = g.S.Reads.state c.args.space.now in
+    let m = g.S.Reads.state c.end_degree.new.space in
     fault_exit of_fault IsOutside c.in_err-head.field-0.0 c.from_residual-in_err-head.result c.from_residual-in_err-head.ensures.1
     (fault_outside Head c.in_err-head.field-0.0 (c.in_err-head.ensures.sound tells m.shape.threshold [] c.args.id _
-    (end_of s m names c.args.id c.args.node c.args.rel store found c.end_degree.ensures.state which c.at.result c.at.ensures)))
+    (end_of s names c.args.id c.args.rel store there c.args.node which m c.end_degree.ensures.state c.at-side.result c.at-side.ensures)))
 
-pub returns-clause-stands : goal.returns-clause-stands
-returns-clause-stands g c tells names store found which =
-    let s = g.R.Reads.state c.args.space.now in
-    let m = g.R.Reads.state c.end_degree.new.space in
-    end_stands s m names c.args.id c.args.node c.args.rel store found c.end_degree.ensures.state which c.in_ok-head.head c.in_ok-degree.degree
-    (c.in_ok-head.ensures.found tells m.shape.threshold [] c.args.id _ (end_of s m names c.args.id c.args.node c.args.rel store found c.end_degree.ensures.state which c.at.result c.at.ensures))
+pub returns-in_err-head-clause-late : goal.returns-in_err-head-clause-late
+returns-in_err-head-clause-late g c = fault_exit of_fault MayComeLate c.in_err-head.field-0.0 c.from_residual-in_err-head.result c.from_residual-in_err-head.ensures.1 (fault_late c.in_err-head.field-0.0)
+
+-- ---- what it leaves
+pub returns-clause-found : goal.returns-clause-found
+returns-clause-found g c tells names store there which =
+    let s = g.S.Reads.state c.args.space.now in
+    let m = g.S.Reads.state c.end_degree.new.space in
+    let t = g.S.Reads.state c.open_head.new.space in
+    end_found s names c.args.id c.args.rel store there c.args.node which m t c.end_degree.ensures.state c.in_ok-head.head c.in_ok-degree.degree
+    (c.in_ok-head.ensures.found tells m.shape.threshold [] c.args.id _ (end_of s names c.args.id c.args.rel store there c.args.node which m c.end_degree.ensures.state c.at-side.result c.at-side.ensures))
     (c.in_ok-degree.ensures.found tells)
+
+-- ---- what it writes
+pub returns-in_err-degree-clause-writes : goal.returns-in_err-degree-clause-writes
+returns-in_err-degree-clause-writes g c = (0, writes_none _ _ _ (ap (λ (z : State). z.written) c.end_degree.ensures.state))
+
+pub returns-in_err-head-clause-writes : goal.returns-in_err-head-clause-writes
+returns-in_err-head-clause-writes g c = (c.open_head.ensures.writes.0, read_then _ _ _ _ c.end_degree.ensures.state c.open_head.ensures.writes.1)
+
+pub returns-clause-writes : goal.returns-clause-writes
+returns-clause-writes g c = (c.open_head.ensures.writes.0, read_then _ _ _ _ c.end_degree.ensures.state c.open_head.ensures.writes.1)
+
+pub returns-clause-wrote : goal.returns-clause-wrote
+returns-clause-wrote g c = read_then _ _ _ _ c.end_degree.ensures.state c.in_ok-head.ensures.wrote

@@ -1,66 +1,35 @@
-use Rattle.graph_ops.specs.ChangeFault.{IsOutside, of_fault}
-use Rattle.graph_ops.proofs.EdgeClosed.{loop_taken, pair_taken, source_closes, target_closes}
-use Rattle.graph_ops.proofs.EndWrites.{ends_beside, source_beside, target_beside}
-use Rattle.graph_ops.proofs.Exits.{fault_exit, fault_outside}
+use Rattle.graph_ops.specs.ChangeFault.{IsOutside}
+use Rattle.graph_ops.proofs.EndsFound.{taken_then}
+use Rattle.graph_ops.proofs.EndWrites.{groups_beside, taken_after, taken_beside}
+use Rattle.graph_ops.proofs.Exits.{fault_exit, on_ok}
 use Rattle.graph_ops.proofs.edge_deleting.take_edge.Goals as goal
 
 -- ---- why it fails
-pub returns-in_err-part_edge-clause-sound : goal.returns-in_err-part_edge-clause-sound
-returns-in_err-part_edge-clause-sound g c tells names store bare =
-    fault_exit (λ f. f) IsOutside c.in_err-part_edge.field-0.0 c.from_residual.result c.from_residual.ensures.1 (c.in_err-part_edge.ensures.sound tells names store bare)
+pub returns-in_err-ends-clause-sound : goal.returns-in_err-ends-clause-sound
+returns-in_err-ends-clause-sound g c tells names store there =
+    fault_exit (λ f. f) IsOutside c.in_err-ends.field-0.0 c.from_residual.result c.from_residual.ensures.1 (c.in_err-ends.ensures.sound tells names store there)
 
-pub returns-in_err-close_chain-clause-sound : goal.returns-in_err-close_chain-clause-sound
-returns-in_err-close_chain-clause-sound g c tells names store bare =
-    let s = g.S.Reads.state c.args.space.now in
-    let u = g.S.Reads.state c.part_edge.new.space in
-    fault_exit of_fault IsOutside c.in_err-close_chain.field-0.0 c.from_residual-in_err-close_chain.result c.from_residual-in_err-close_chain.ensures.1
-    (fault_outside Unit c.in_err-close_chain.field-0.0 (c.in_err-close_chain.ensures.sound tells _ _
-    (source_closes s u names c.args.id c.args.source c.args.target bare (c.in_ok-part_edge.ensures.parted tells names store bare))))
-
-pub returns-in_err-close_chain-2-clause-sound : goal.returns-in_err-close_chain-2-clause-sound
-returns-in_err-close_chain-2-clause-sound g c tells names store bare =
-    let s = g.S.Reads.state c.args.space.now in
-    let u = g.S.Reads.state c.part_edge.new.space in
-    let v = g.S.Reads.state c.close_chain.new.space in
-    let parts = c.in_ok-part_edge.ensures.parted tells names store bare in
-    fault_exit of_fault IsOutside c.in_err-close_chain-2.field-0.0 c.from_residual-in_err-close_chain-2.result c.from_residual-in_err-close_chain-2.ensures.1
-    (fault_outside Unit c.in_err-close_chain-2.field-0.0 (c.in_err-close_chain-2.ensures.sound tells _ _
-    (target_closes s u names c.args.id c.args.source c.args.target bare parts v
-    (c.in_ok-close_chain.ensures.closed tells _ _ (source_closes s u names c.args.id c.args.source c.args.target bare parts)) c.if-source-target.true)))
+pub returns-clause-sound : goal.returns-clause-sound
+returns-clause-sound g c tells names store there =
+    let found = c.in_ok-ends.ensures.found tells names store there in
+    c.unlink_edge.ensures.sound tells names found.store found.bare
 
 -- ---- what it leaves
-pub returns-else-source-target-clause-taken : goal.returns-else-source-target-clause-taken
-returns-else-source-target-clause-taken g c tells names store bare =
+pub returns-clause-taken : goal.returns-clause-taken
+returns-clause-taken g c tells = on_ok c.unlink_edge.result _ _ (λ taken names store there.
     let s = g.S.Reads.state c.args.space.now in
-    let u = g.S.Reads.state c.part_edge.new.space in
-    let v = g.S.Reads.state c.close_chain.new.space in
-    let parts = c.in_ok-part_edge.ensures.parted tells names store bare in
-    loop_taken s u names c.args.id c.args.source c.args.target bare parts v
-    (c.in_ok-close_chain.ensures.closed tells _ _ (source_closes s u names c.args.id c.args.source c.args.target bare parts)) c.if-source-target.false
-
-pub returns-in_ok-close_chain-2-clause-taken : goal.returns-in_ok-close_chain-2-clause-taken
-returns-in_ok-close_chain-2-clause-taken g c tells names store bare =
-    let s = g.S.Reads.state c.args.space.now in
-    let u = g.S.Reads.state c.part_edge.new.space in
-    let v = g.S.Reads.state c.close_chain.new.space in
-    let w = g.S.Reads.state c.close_chain-then-source-target.new.space in
-    let parts = c.in_ok-part_edge.ensures.parted tells names store bare in
-    let closed = c.in_ok-close_chain.ensures.closed tells _ _ (source_closes s u names c.args.id c.args.source c.args.target bare parts) in
-    pair_taken s u names c.args.id c.args.source c.args.target bare parts v closed w
-    (c.in_ok-close_chain-2.ensures.closed tells _ _ (target_closes s u names c.args.id c.args.source c.args.target bare parts v closed c.if-source-target.true))
+    let t = g.S.Reads.state c.edge_ends.new.space in
+    let u = g.S.Reads.state c.unlink_edge.new.space in
+    let ends = c.in_ok-ends.ends in
+    let found = c.in_ok-ends.ensures.found tells names store there in
+    taken_then s t u names c.args.id ends.source ends.target found (taken names found.store found.bare)) (c.unlink_edge.ensures.taken tells)
 
 -- ---- what it writes
-pub returns-in_err-part_edge-clause-writes : goal.returns-in_err-part_edge-clause-writes
-returns-in_err-part_edge-clause-writes g c = ends_beside _ _ c.args.id c.args.source c.args.target c.requires.source c.requires.target c.part_edge.ensures.writes
+pub returns-in_err-ends-clause-writes : goal.returns-in_err-ends-clause-writes
+returns-in_err-ends-clause-writes g c = groups_beside _ _ c.args.id c.edge_ends.ensures.writes.0 c.edge_ends.ensures.writes.1 c.edge_ends.ensures.writes.2
 
-pub returns-in_err-close_chain-clause-writes : goal.returns-in_err-close_chain-clause-writes
-returns-in_err-close_chain-clause-writes g c = source_beside _ _ c.args.id c.args.source c.args.target c.requires.source c.requires.target c.part_edge.ensures.writes _ c.close_chain.ensures.writes
-
-pub returns-else-source-target-clause-writes : goal.returns-else-source-target-clause-writes
-returns-else-source-target-clause-writes g c = source_beside _ _ c.args.id c.args.source c.args.target c.requires.source c.requires.target c.part_edge.ensures.writes _ c.close_chain.ensures.writes
-
-pub returns-in_err-close_chain-2-clause-writes : goal.returns-in_err-close_chain-2-clause-writes
-returns-in_err-close_chain-2-clause-writes g c = target_beside _ _ c.args.id c.args.source c.args.target c.requires.source c.requires.target c.part_edge.ensures.writes _ c.close_chain.ensures.writes _ c.close_chain-then-source-target.ensures.writes
-
-pub returns-in_ok-close_chain-2-clause-writes : goal.returns-in_ok-close_chain-2-clause-writes
-returns-in_ok-close_chain-2-clause-writes g c = target_beside _ _ c.args.id c.args.source c.args.target c.requires.source c.requires.target c.part_edge.ensures.writes _ c.close_chain.ensures.writes _ c.close_chain-then-source-target.ensures.writes
+pub returns-clause-writes : goal.returns-clause-writes
+returns-clause-writes g c =
+    let ends = c.in_ok-ends.ends in
+    let is = c.in_ok-ends.ensures.ends in
+    taken_beside _ _ c.args.id ends.source ends.target is.0 is.1 (taken_after _ _ _ c.args.id ends.source ends.target c.in_ok-ends.ensures.wrote c.unlink_edge.ensures.writes)

@@ -4,16 +4,16 @@ use Rattle.graph_ops.proofs.JoinWrites.{end_written, head_written}
 use Rattle.graph_ops.proofs.edge_joining.join_end.Goals as goal
 
 pub returns-clause-writes : goal.returns-clause-writes
-returns-clause-writes g c = end_written _ _ _ c.args.rel c.args.end c.push_front.ensures.writes c.set_number.ensures.writes
+returns-clause-writes g c = end_written _ _ _ c.args.rel c.args.end c.push_counted.ensures.writes c.set_number.ensures.writes
 
 pub returns-in_err-set_number-clause-writes : goal.returns-in_err-set_number-clause-writes
-returns-in_err-set_number-clause-writes g c = end_written _ _ _ c.args.rel c.args.end c.push_front.ensures.writes c.set_number.ensures.writes
+returns-in_err-set_number-clause-writes g c = end_written _ _ _ c.args.rel c.args.end c.push_counted.ensures.writes c.set_number.ensures.writes
 
-pub returns-in_err-push_front-clause-writes : goal.returns-in_err-push_front-clause-writes
-returns-in_err-push_front-clause-writes g c = head_written _ _ c.args.rel c.args.end c.push_front.ensures.writes
+pub returns-in_err-push_counted-clause-writes : goal.returns-in_err-push_counted-clause-writes
+returns-in_err-push_counted-clause-writes g c = head_written _ _ c.args.rel c.args.end c.push_counted.ensures.writes
 
-pub returns-in_err-push_front-clause-late : goal.returns-in_err-push_front-clause-late
-returns-in_err-push_front-clause-late g c = fault_exit of_fault MayComeLate c.in_err-push_front.field-0.0 c.from_residual.result c.from_residual.ensures.1 (fault_late c.in_err-push_front.field-0.0)
+pub returns-in_err-push_counted-clause-late : goal.returns-in_err-push_counted-clause-late
+returns-in_err-push_counted-clause-late g c = fault_exit of_fault MayComeLate c.in_err-push_counted.field-0.0 c.from_residual.result c.from_residual.ensures.1 (fault_late c.in_err-push_counted.field-0.0)
 
 pub returns-in_err-set_number-clause-late : goal.returns-in_err-set_number-clause-late
 returns-in_err-set_number-clause-late g c = fault_exit of_space MayComeLate c.in_err-set_number.field-0.0 c.from_residual-in_err-set_number.result c.from_residual-in_err-set_number.ensures.1 (space_late c.in_err-set_number.field-0.0)

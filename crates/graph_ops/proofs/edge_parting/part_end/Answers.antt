@@ -2,7 +2,7 @@ use Rattle.graph_ops.proofs.EndWrites.{end_parted}
 use Rattle.graph_ops.proofs.edge_parting.part_end.Goals as goal
 
 pub returns-in_err-set_number-clause-writes : goal.returns-in_err-set_number-clause-writes
-returns-in_err-set_number-clause-writes g c = end_parted _ _ _ c.args.rel c.args.end c.unlink.ensures.writes c.set_number.ensures.writes
+returns-in_err-set_number-clause-writes g c = end_parted _ _ _ c.args.rel c.args.end c.unlink_counted.ensures.writes c.set_number.ensures.writes
 
 pub returns-clause-writes : goal.returns-clause-writes
-returns-clause-writes g c = end_parted _ _ _ c.args.rel c.args.end c.unlink.ensures.writes c.set_number.ensures.writes
+returns-clause-writes g c = end_parted _ _ _ c.args.rel c.args.end c.unlink_counted.ensures.writes c.set_number.ensures.writes

@@ -9,13 +9,15 @@ use Rattle.rec_bytes.specs.Format as format
 use Rattle.store_rules.specs.Writes.{WritesBeside}
 use Rattle.prop_store.specs.declared.owner.Owner.{Owner}
 use Rattle.graph_ops.specs.Assigning.{CanPut, HasPropertyRoom, PutsPairs, assigned_blocks, pairs_of}
-use Rattle.graph_ops.specs.Change.{IsRefusal, MakesChange}
+use Rattle.graph_ops.specs.Change.{IsCounted, IsRefusal, MakesChange}
 use Rattle.graph_ops.specs.ChangeFault.{IsOutside, LeavesSpace}
 use Rattle.graph_ops.specs.NodeAdding.{PutsNode}
 use Rattle.graph_ops.specs.Preparing.{IsPrepared}
 use Rattle.graph_ops.specs.Store.{IsStore, graph_in}
+use Rattle.graph_ops.proofs.Counted.{outside_counted, room_counted}
 use Rattle.graph_ops.proofs.ElementRooms.{room_still}
 use Rattle.graph_ops.proofs.Exits.{exit_is, fault_exit, late_leaves}
+use Rattle.graph_ops.proofs.KeptLinks.{kind_kept}
 use Rattle.graph_ops.proofs.NodeAdded.{can_put, full_fault, full_refused, line_refused, made, not_full, put_room, room_kept}
 use Rattle.graph_ops.proofs.Reasons.{outside_refused}
 use Rattle.store_rules.proofs.WriteLaws.{beside_then, beside_written, more_written, then_written}
@@ -144,6 +146,17 @@ returns-clause-made g c tells store =
     (made s (g.S.Reads.state c.prepare.new.space) v c.args.names.now.names names c.args.label.now pairs id c.in_ok-prepared.prepared store (at_hand g at.In_ok-prepared tells store) (puts g at.In_ok-id tells store) ((g.met.S.Reads.onward_shape _ _ c.put_node.ensures.onward))
     w put (not_full s c.args.names.now.names store c.in_ok-test_room.ensures.room) (1 + c.in_ok-prepared.prepared.weight) refl)
 
+-- its properties leave it sparse
+pub returns-clause-sparse : goal.returns-clause-sparse
+returns-clause-sparse g c tells store =
+    let at = goal.at.returns-clause-sparse g c in
+    let v = g.S.Reads.state c.put_node.new.space in
+    let w = g.S.Reads.state c.put_properties.new.space in
+    let names = c.prepare.new.names.names in
+    let id = c.in_ok-id.id in
+    let put = c.in_ok-put_properties.ensures.put tells names (targets.Node id) c.node_owner.ensures (can g at.After-put_properties tells store) in
+    kind_kept v.records w.records (targets.Node id) put.keeps format.nodes_file (record { no_properties = λ e. omega arith; no_strings = λ e. omega arith }) (λ e. omega arith) id ∙ (puts g at.In_ok-id tells store).sparse
+
 pub returns-clause-full : goal.returns-clause-full
 returns-clause-full g c store full = absurd (not_full (g.S.Reads.state c.args.space.now) c.args.names.now.names store c.in_ok-test_room.ensures.room full)
 
@@ -157,3 +170,25 @@ returns-clause-writes g c =
     let k = c.in_ok-prepared.ensures.weight in
     let owned = subst (λ (o : Owner). WritesBeside o.key (length c.deref.result.now + assigned_blocks pairs c.deref.result.now) v w) c.node_owner.ensures c.in_ok-put_properties.ensures.writes in
     more_written (omega arith) (then_written c.in_ok-prepared.ensures.writes (beside_written refl (beside_then c.in_ok-id.ensures.writes owned)))
+
+-- ---- what refusals count
+pub returns-in_err-test_room-clause-counts : goal.returns-in_err-test_room-clause-counts
+returns-in_err-test_room-clause-counts g c tells store =
+    let s = g.S.Reads.state c.args.space.now in
+    fault_exit (λ f. f) (IsCounted s) c.in_err-test_room.field-0.0 c.from_residual.result c.from_residual.ensures.1 (room_counted s s format.nodes_file 1 refl c.in_err-test_room.field-0.0 c.in_err-test_room.ensures.full)
+
+pub returns-in_err-prepared-clause-counts : goal.returns-in_err-prepared-clause-counts
+returns-in_err-prepared-clause-counts g c tells store =
+    fault_exit (λ f. f) (IsCounted (g.S.Reads.state c.args.space.now)) c.in_err-prepared.field-0.0 c.from_residual-in_err-prepared.result c.from_residual-in_err-prepared.ensures.1 (c.in_err-prepared.ensures.counts tells)
+
+pub returns-in_err-id-clause-counts : goal.returns-in_err-id-clause-counts
+returns-in_err-id-clause-counts g c tells store =
+    let s = g.S.Reads.state c.args.space.now in
+    fault_exit (λ f. f) (IsCounted s) c.in_err-id.field-0.0 c.from_residual-in_err-id.result c.from_residual-in_err-id.ensures.1
+    (outside_counted s c.in_err-id.field-0.0 (node_outside g (goal.at.returns-in_err-id-clause-counts g c).In_err-id tells store))
+
+pub returns-in_err-put_properties-clause-counts : goal.returns-in_err-put_properties-clause-counts
+returns-in_err-put_properties-clause-counts g c tells store =
+    let s = g.S.Reads.state c.args.space.now in
+    fault_exit (λ f. f) (IsCounted s) c.in_err-put_properties.field-0.0 c.from_residual-in_err-put_properties.result c.from_residual-in_err-put_properties.ensures.1
+    (outside_counted s c.in_err-put_properties.field-0.0 (properties_outside g (goal.at.returns-in_err-put_properties-clause-counts g c).In_err-put_properties tells store))

@@ -1,4 +1,4 @@
-use Rattle.std.proofs.Common.{◌≡◌, ◌∙◌, ◌+◌, [], ◌∷◌, sym, subst, inl, inr, ⊎_elim, arith, refl}
+use Rattle.std.proofs.Common.{◌≡◌, ◌∙◌, ◌+◌, [], ◌∷◌, sym, ap, subst, inl, inr, ⊎_elim, arith, refl}
 use Rattle.plain_graph.specs.Reply.{Done}
 use Rattle.plain_graph.specs.declared.command.Command.TheVariants as commands
 use Rattle.plain_graph.specs.declared.command.Target.TheVariants as targets
@@ -8,15 +8,18 @@ use Rattle.prop_store.specs.declared.owner.Owner.{Owner}
 use Rattle.rec_bytes.specs.Format as format
 use Rattle.rec_bytes.specs.RecordFiles.{meta_key_of}
 use Rattle.rec_bytes.specs.Space.{SameButReads, State}
-use Rattle.store_rules.specs.Views.{degree, key_in}
+use Rattle.store_rules.specs.Views.{degree, key_in, kind_at}
 use Rattle.store_rules.specs.Writes.{WritesAtMost, WritesBeside}
 use Rattle.store_rules.proofs.GraphRows.{degree_in-degree}
 use Rattle.graph_ops.specs.Change.{IsRefusal}
-use Rattle.graph_ops.specs.ChangeFault.{of_fault}
+use Rattle.graph_ops.specs.ChangeFault.{of_fault, of_row}
 use Rattle.graph_ops.specs.NodeDeleting.{IsDeleteCause}
 use Rattle.graph_ops.specs.Store.{graph_in}
-use Rattle.graph_ops.proofs.Deleting.{drop_cause, node_deleted, node_joined, node_lacked}
+use Rattle.graph_ops.proofs.Deleting.{node_deleted, node_kinds, node_joined, node_lacked}
 use Rattle.graph_ops.proofs.Elements.{node_loaded, node_missing, same_node, used_of}
+use Rattle.graph_ops.specs.Owners.{owner_of}
+use Rattle.prop_store.specs.Owner.{IsInUse}
+use Rattle.graph_ops.proofs.Broken.{drop_cause, node_cause, node_in_use}
 use Rattle.graph_ops.proofs.Exits.{fault_exit}
 use Rattle.graph_ops.proofs.Setting.{has_owner, prop_refused}
 use Rattle.graph_ops.proofs.Readings.{made_read, store_read, there_read}
@@ -53,8 +56,18 @@ returns-in_err-dropped-clause-refused g c tells store =
 pub returns-in_err-dropped-clause-found : goal.returns-in_err-dropped-clause-found
 returns-in_err-dropped-clause-found g c tells =
     let s = g.S.Reads.state c.args.space.now in
+    let m = g.S.Reads.state c.load.new.space in
+    let same : SameButReads s m = subst (SameButReads s) (sym c.load.ensures.state) (same_node s c.args.id) in
+    let found = sym c.in-Some.is ∙ c.in_ok-node.ensures.found tells in
+    let used = node_in_use s (targets.Node c.args.id) c.args.id c.in-Some.node refl found in
     fault_exit of_fault (IsDeleteCause s c.args.id) c.in_err-dropped.field-0.0 c.from_residual-in_err-dropped.result c.from_residual-in_err-dropped.ensures.1
-    (drop_cause s c.args.id c.in-Some.node (sym c.in-Some.is ∙ c.in_ok-node.ensures.found tells) c.if-node-ne0.false c.in_err-dropped.field-0.0 c.in_err-dropped.ensures.damaged)
+    (drop_cause s m c.args.id c.in-Some.node same found c.if-node-ne0.false c.in_err-dropped.field-0.0
+    (c.in_err-dropped.ensures.damaged tells (subst (IsInUse m.records) (sym c.node_owner.ensures) (subst (λ (z : State). IsInUse z.records (owner_of (targets.Node c.args.id))) (sym same) used))))
+
+pub returns-in_err-node-clause-found : goal.returns-in_err-node-clause-found
+returns-in_err-node-clause-found g c tells =
+    let s = g.S.Reads.state c.args.space.now in
+    fault_exit of_row (IsDeleteCause s c.args.id) c.in_err-node.field-0.0 c.from_residual.result c.from_residual.ensures.1 (node_cause s c.args.id c.in_err-node.field-0.0 (c.in_err-node.ensures.damaged tells))
 
 pub overflow_add-result-2 : goal.overflow_add-result-2
 overflow_add-result-2 g c = let p = c.in_ok-dropped.ensures.few_properties in let b = c.in_ok-dropped.ensures.few_blocks in omega arith
@@ -75,6 +88,23 @@ returns-clause-made g c tells store =
     let drops = subst (λ (o : Owner). HasElement m o → DropsAll m u o c.in_ok-dropped.dropped) c.node_owner.ensures (c.in_ok-dropped.ensures.dropped tells) (has_owner m names (targets.Node id) kept there) in
     made_read s m t names (commands.Delete (targets.Node id)) Done (1 + c.in_ok-dropped.dropped.properties + c.in_ok-dropped.dropped.blocks) same
     (node_deleted m u names c.in_ok-dropped.dropped kept id drops t (has_owner m names (targets.Node id) kept there).used (subst (λ (z : State). degree z.records id ≡ 0) (sym same) (sym k.1 ∙ c.if-node-ne0.false)) ((g.met.S.Reads.onward_shape _ _ c.drop_all.ensures.onward)) ((g.met.S.Reads.onward_shape _ _ c.give.ensures.onward)) (c.in_ok-give.ensures.given tells))
+
+pub returns-clause-kinds : goal.returns-clause-kinds
+returns-clause-kinds g c tells store n ne =
+    let s = g.S.Reads.state c.args.space.now in
+    let m = g.S.Reads.state c.load.new.space in
+    let u = g.S.Reads.state c.drop_all.new.space in
+    let t = g.S.Reads.state c.give.new.space in
+    let id = c.args.id in
+    let names = c.args.names.now.names in
+    let same : SameButReads s m = subst (SameButReads s) (sym c.load.ensures.state) (same_node s id) in
+    let kept = store_read s m names same store in
+    let found = sym c.in-Some.is ∙ c.in_ok-node.ensures.found tells in
+    let there = there_read s m (targets.Node id) same (node_loaded s id c.in-Some.node found) in
+    let k = used_of s id c.in-Some.node found in
+    let drops = subst (λ (o : Owner). HasElement m o → DropsAll m u o c.in_ok-dropped.dropped) c.node_owner.ensures (c.in_ok-dropped.ensures.dropped tells) (has_owner m names (targets.Node id) kept there) in
+    node_kinds m u names c.in_ok-dropped.dropped kept id drops t (has_owner m names (targets.Node id) kept there).used (subst (λ (z : State). degree z.records id ≡ 0) (sym same) (sym k.1 ∙ c.if-node-ne0.false)) ((g.met.S.Reads.onward_shape _ _ c.drop_all.ensures.onward)) ((g.met.S.Reads.onward_shape _ _ c.give.ensures.onward)) (c.in_ok-give.ensures.given tells) n ne
+    ∙ ap (λ (z : State). kind_at z.records format.nodes_file n) same
 
 same : (g : Over) (c : After-load g) → SameButReads (g.S.Reads.state c.args.space.now) (g.S.Reads.state c.load.new.space)
 same g c = subst (SameButReads (g.S.Reads.state c.args.space.now)) (sym c.load.ensures.state) (same_node (g.S.Reads.state c.args.space.now) c.args.id)

@@ -1,6 +1,11 @@
 use Rattle.std.proofs.Common.{◌≡◌, true, ◌∙◌, subst, sym}
 use Rattle.plain_graph.specs.Graph.{has_element}
 use Rattle.graph_ops.specs.Store.{graph_in}
+use Rattle.graph_ops.specs.ChangeFault.{of_row}
+use Rattle.graph_ops.specs.Damage.{BlamesBroken}
+use Rattle.graph_ops.specs.Owners.{MayMiss}
+use Rattle.graph_ops.proofs.Broken.{node_broken, node_in_use, rel_broken, rel_in_use, row_misses}
+use Rattle.graph_ops.proofs.Exits.{fault_exit}
 use Rattle.graph_ops.proofs.Elements.{edge_loaded, edge_missing, node_loaded, node_missing}
 use Rattle.graph_ops.proofs.owners.find_owner.Goals as goal
 
@@ -21,3 +26,31 @@ returns-in-Some-2-clause-there g c tells =
 pub returns-in-None-2-clause-refused : goal.returns-in-None-2-clause-refused
 returns-in-None-2-clause-refused g c tells names store =
     (c.in-Edge.is, edge_missing (g.R.Reads.state c.args.space.now) c.in-Edge.id (sym c.in-None-2.is ∙ c.in_ok-load-in-Edge.ensures.found tells))
+
+-- ---- an element that is found is in use
+
+pub returns-in-Some-clause-in_use : goal.returns-in-Some-clause-in_use
+returns-in-Some-clause-in_use g c tells =
+    node_in_use (g.R.Reads.state c.args.space.now) c.args.target c.in-Node.id c.in-Some.field-0 c.in-Node.is (sym c.in-Some.is ∙ c.in_ok-load-in-Node.ensures.found tells)
+
+pub returns-in-Some-2-clause-in_use : goal.returns-in-Some-2-clause-in_use
+returns-in-Some-2-clause-in_use g c tells =
+    rel_in_use (g.R.Reads.state c.args.space.now) c.args.target c.in-Edge.id c.in-Some-2.field-0 c.in-Edge.is (sym c.in-Some-2.is ∙ c.in_ok-load-in-Edge.ensures.found tells)
+
+-- ---- and one that can't be read is damaged
+
+pub returns-in_err-load-in-Node-clause-damaged : goal.returns-in_err-load-in-Node-clause-damaged
+returns-in_err-load-in-Node-clause-damaged g c tells =
+    let s = g.R.Reads.state c.args.space.now in
+    fault_exit of_row (BlamesBroken s) c.in_err-load-in-Node.field-0.0 c.from_residual.result c.from_residual.ensures.1 (node_broken s c.in-Node.id c.in_err-load-in-Node.field-0.0 (c.in_err-load-in-Node.ensures.damaged tells))
+
+pub returns-in_err-load-in-Edge-clause-damaged : goal.returns-in_err-load-in-Edge-clause-damaged
+returns-in_err-load-in-Edge-clause-damaged g c tells =
+    let s = g.R.Reads.state c.args.space.now in
+    fault_exit of_row (BlamesBroken s) c.in_err-load-in-Edge.field-0.0 c.from_residual-in_err-load-in-Edge.result c.from_residual-in_err-load-in-Edge.ensures.1 (rel_broken s c.in-Edge.id c.in_err-load-in-Edge.field-0.0 (c.in_err-load-in-Edge.ensures.damaged tells))
+
+pub returns-in_err-load-in-Node-clause-missing : goal.returns-in_err-load-in-Node-clause-missing
+returns-in_err-load-in-Node-clause-missing g c = fault_exit of_row MayMiss c.in_err-load-in-Node.field-0.0 c.from_residual.result c.from_residual.ensures.1 (row_misses c.in_err-load-in-Node.field-0.0)
+
+pub returns-in_err-load-in-Edge-clause-missing : goal.returns-in_err-load-in-Edge-clause-missing
+returns-in_err-load-in-Edge-clause-missing g c = fault_exit of_row MayMiss c.in_err-load-in-Edge.field-0.0 c.from_residual-in_err-load-in-Edge.result c.from_residual-in_err-load-in-Edge.ensures.1 (row_misses c.in_err-load-in-Edge.field-0.0)

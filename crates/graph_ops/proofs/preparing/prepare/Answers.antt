@@ -7,10 +7,11 @@ use Rattle.plain_graph.specs.Refusals.{most_names}
 use Rattle.plain_graph.specs.declared.command.Command.TheVariants as commands
 use Rattle.store_rules.specs.Writes.{WritesAtMost}
 use Rattle.graph_ops.specs.Assigning.{HasPropertyRoom, IsReserveFault, assigned_blocks}
-use Rattle.graph_ops.specs.Change.{IsRefusedBy}
+use Rattle.graph_ops.specs.Change.{IsCounted, IsRefusedBy}
 use Rattle.graph_ops.specs.ChangeFault.{of_intern}
 use Rattle.graph_ops.specs.Preparing.{line_reasons}
 use Rattle.graph_ops.specs.Store.{IsStore, KeepsElements, graph_in}
+use Rattle.graph_ops.proofs.Counted.{assign_counted, count_full, reserve_counted}
 use Rattle.graph_ops.proofs.Exits.{fault_exit}
 use Rattle.graph_ops.proofs.Interned.{keeps_interned, keeps_then, metas_interned, metas_then, name_written, one_written}
 use Rattle.graph_ops.proofs.Assigned.{blocks-assigned, length-assigned}
@@ -91,6 +92,28 @@ returns-clause-names_full g c used other many =
     let same = ap length (uses_once c.args.names.now.names (c.args.label.now ∷ keys_in c.args.pairs.now) used c.assign_pairs.new.names.names other (c.intern.new.self.names, uses g (goal.at.returns-clause-names_full g c).In_ok-label, c.in_ok-assigned.ensures.uses)) in
     let few = c.in_ok-assigned.ensures.held.few in
     absurd (omega arith)
+
+-- ---- what refusals count
+pub returns-in_err-label-clause-counts : goal.returns-in_err-label-clause-counts
+returns-in_err-label-clause-counts g c tells =
+    let s = g.S.Reads.state c.args.space.now in
+    fault_exit of_intern (IsCounted s) c.in_err-label.field-0.0 c.from_residual.result c.from_residual.ensures.1
+    (assign_counted s (of_intern c.in_err-label.field-0.0) (count_full c.args.names.now.names c.as_bytes.result.now c.in_err-label.field-0.0 c.in_err-label.ensures.full_only))
+
+pub returns-in_err-assigned-clause-counts : goal.returns-in_err-assigned-clause-counts
+returns-in_err-assigned-clause-counts g c tells =
+    let s = g.S.Reads.state c.args.space.now in
+    fault_exit (λ f. f) (IsCounted s) c.in_err-assigned.field-0.0 c.from_residual-in_err-assigned.result c.from_residual-in_err-assigned.ensures.1
+    (assign_counted s c.in_err-assigned.field-0.0 c.in_err-assigned.ensures.counts)
+
+pub returns-in_err-blocks-clause-counts : goal.returns-in_err-blocks-clause-counts
+returns-in_err-blocks-clause-counts g c tells =
+    let s = g.S.Reads.state c.args.space.now in
+    let t = g.S.Reads.state c.intern.new.space in
+    let u = g.S.Reads.state c.assign_pairs.new.space in
+    let metas = metas_then (metas_interned s t c.args.names.now.names c.intern.new.self.names c.as_bytes.result.now (c.in_ok-label.ensures.ok tells) c.in_ok-label.ensures.names) (c.in_ok-assigned.ensures.metas tells) in
+    fault_exit (λ f. f) (IsCounted s) c.in_err-blocks.field-0.0 c.from_residual-in_err-blocks.result c.from_residual-in_err-blocks.ensures.1
+    (reserve_counted s u _ _ metas c.in_err-blocks.field-0.0 c.in_err-blocks.ensures.refused)
 
 -- the label's record, or none
 label_written : (g : Over) (c : After-intern g) → WritesAtMost 1 (g.S.Reads.state c.args.space.now) (g.S.Reads.state c.intern.new.space)

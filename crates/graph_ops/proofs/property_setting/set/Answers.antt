@@ -8,12 +8,15 @@ use Rattle.plain_graph.specs.declared.command.Command.TheVariants as commands
 use Rattle.prop_store.specs.Changing.{HasKey, IsSetRefusal}
 use Rattle.prop_store.specs.declared.owner.Owner.{Owner}
 use Rattle.prop_store.specs.declared.set_fault.SetFault.{SetFault}
+use Rattle.prop_store.specs.SetFault.{IsExact}
+use Rattle.rec_bytes.specs.declared.shape.Shape.{Shape}
 use Rattle.rec_bytes.specs.RecordFiles.{is_meta_file}
 use Rattle.store_rules.specs.Writes.{WritesAtMost}
 use Rattle.name_store.specs.Interning.{IsFullFault, interned}
-use Rattle.graph_ops.specs.Change.{IsRefusal}
+use Rattle.graph_ops.specs.Change.{IsRefusal, IsSetCount}
 use Rattle.graph_ops.specs.ChangeFault.{LeavesSpace, of_intern, of_set}
 use Rattle.graph_ops.specs.Store.{IsStore, KeepsElements, graph_in}
+use Rattle.graph_ops.proofs.Counted.{count_full, element_exact, named_exact, set_exact}
 use Rattle.graph_ops.proofs.Exits.{fault_exit, late_leaves, set_late}
 use Rattle.graph_ops.proofs.Interned.{keeps_interned, name_written, one_written}
 use Rattle.graph_ops.proofs.LineNames.{held_name}
@@ -146,3 +149,25 @@ returns-clause-writes g c =
     let named = name_written m t old new c.as_bytes.result.now c.in_ok-number.ensures.names (λ k. (c.intern.ensures.known k).1) c.intern.ensures.writes in
     let weight = weight_is c.count-known.result c.count.result c.block_count.result (length old) (length new) (blocks_of c.args.value.now) c.in_ok-released.released c.count-known.ensures.value c.count.ensures.value c.block_count.ensures.is in
     more_written (omega arith) (then_written (none_written s m c.find_owner.ensures.state) (then_written named c.in_ok-released.ensures.writes))
+
+-- ---- what is counted
+
+pub returns-in_err-owner-clause-counts : goal.returns-in_err-owner-clause-counts
+returns-in_err-owner-clause-counts g c tells =
+    let shape = (g.S.Reads.state c.args.space.now).shape in
+    fault_exit (λ f. f) (IsSetCount shape) c.in_err-owner.field-0.0 c.from_residual.result c.from_residual.ensures.1 (element_exact shape c.in_err-owner.field-0.0 c.in_err-owner.ensures.missing)
+
+pub returns-in_err-number-clause-counts : goal.returns-in_err-number-clause-counts
+returns-in_err-number-clause-counts g c tells =
+    let shape = (g.S.Reads.state c.args.space.now).shape in
+    fault_exit of_intern (IsSetCount shape) c.in_err-number.field-0.0 c.from_residual-in_err-number.result c.from_residual-in_err-number.ensures.1
+    (named_exact shape (of_intern c.in_err-number.field-0.0) (count_full c.args.names.now.names c.as_bytes.result.now c.in_err-number.field-0.0 c.in_err-number.ensures.full_only))
+
+pub returns-in_err-released-clause-counts : goal.returns-in_err-released-clause-counts
+returns-in_err-released-clause-counts g c tells =
+    let s = g.S.Reads.state c.args.space.now in
+    let m = g.S.Reads.state c.find_owner.new.space in
+    let t = g.S.Reads.state c.intern.new.space in
+    let shape : t.shape ≡ s.shape = g.met.S.Reads.onward_shape _ _ c.intern.ensures.onward ∙ g.met.S.Reads.onward_shape _ _ c.find_owner.ensures.onward in
+    fault_exit of_set (IsSetCount s.shape) c.in_err-released.field-0.0 c.from_residual-in_err-released.result c.from_residual-in_err-released.ensures.1
+    (set_exact s.shape c.in_err-released.field-0.0 (subst (λ (h : Shape). IsExact h c.in_err-released.field-0.0) shape (c.in_err-released.ensures.exact tells)))

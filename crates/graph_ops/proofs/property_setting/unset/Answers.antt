@@ -1,11 +1,16 @@
 use Rattle.std.specs.Prelude.{Contains}
-use Rattle.std.proofs.Common.{◌∙◌, ◌+◌, ◌≤◌, Some, ap, subst, arith}
+use Rattle.std.proofs.Common.{◌∙◌, ◌+◌, ◌≤◌, Some, sym, ap, subst, arith}
 use Rattle.plain_graph.specs.Reply.{Done}
 use Rattle.plain_graph.specs.declared.command.Command.TheVariants as commands
 use Rattle.prop_store.specs.Changing.{UnsetsValue, released_blocks}
 use Rattle.graph_ops.specs.Change.{IsRefusal}
 use Rattle.graph_ops.specs.ChangeFault.{of_fault}
+use Rattle.graph_ops.specs.Damage.{BlamesBroken}
+use Rattle.graph_ops.specs.Owners.{owner_of}
 use Rattle.graph_ops.specs.Store.{graph_in}
+use Rattle.prop_store.specs.Owner.{IsInUse}
+use Rattle.rec_bytes.specs.Space.{State}
+use Rattle.graph_ops.proofs.Broken.{read_broken}
 use Rattle.graph_ops.proofs.Exits.{fault_exit}
 use Rattle.graph_ops.proofs.Readings.{made_read, store_read, there_read}
 use Rattle.graph_ops.proofs.Setting.{has_key, prop_refused, unnamed_none, unset_absent, unset_missing, unset_nothing, unset_value}
@@ -72,3 +77,17 @@ returns-in-None-clause-made g c tells store =
     made_read s m u names (commands.Unset c.args.target key) Done 2 c.find_owner.ensures.state
     (unset_absent m names c.args.target key kept there u c.in_ok-owner.owner c.in-Some.number c.in_ok-owner.ensures.owner at
     (subst (UnsetsValue m u c.in_ok-owner.owner c.in-Some.number) c.in-None.is (c.in_ok-released.ensures.unset tells known)))
+
+-- ---- what is damaged
+
+pub returns-in_err-owner-clause-damaged : goal.returns-in_err-owner-clause-damaged
+returns-in_err-owner-clause-damaged g c tells =
+    fault_exit (λ f. f) (BlamesBroken (g.S.Reads.state c.args.space.now)) c.in_err-owner.field-0.0 c.from_residual.result c.from_residual.ensures.1 (c.in_err-owner.ensures.damaged tells)
+
+pub returns-in_err-released-clause-damaged : goal.returns-in_err-released-clause-damaged
+returns-in_err-released-clause-damaged g c tells =
+    let s = g.S.Reads.state c.args.space.now in
+    let m = g.S.Reads.state c.find_owner.new.space in
+    let used = subst (λ (z : State). IsInUse z.records (owner_of c.args.target)) (sym c.find_owner.ensures.state) (c.in_ok-owner.ensures.in_use tells) in
+    fault_exit of_fault (BlamesBroken s) c.in_err-released.field-0.0 c.from_residual-in_err-released.result c.from_residual-in_err-released.ensures.1
+    (read_broken s m c.find_owner.ensures.state c.in_err-released.field-0.0 (c.in_err-released.ensures.damaged tells (subst (IsInUse m.records) (sym c.in_ok-owner.ensures.owner) used)))

@@ -6,6 +6,8 @@ use Rattle.rec_bytes.specs.Space.{WritesOnly}
 use Rattle.store_rules.specs.Views.{key_in}
 use Rattle.group_store.specs.Dropping.{lead_key}
 use Rattle.group_store.specs.GroupRecord.{group_key}
+use Rattle.chain_edit.specs.Heads.{head_of}
+use Rattle.group_store.proofs.BrokenGroups.{close_breaks}
 use Rattle.group_store.proofs.Closings.{closable, closed_by}
 use Rattle.group_store.proofs.Openings.{handed}
 use Rattle.group_store.proofs.closing.close_chain.Goals as goal
@@ -35,3 +37,9 @@ returns-in_ok-drop_if_empty-clause-closed g c = λ tells most empty can.
 
 pub returns-in_ok-drop_if_empty-clause-writes : goal.returns-in_ok-drop_if_empty-clause-writes
 returns-in_ok-drop_if_empty-clause-writes g c = written g (goal.at.returns-in_ok-drop_if_empty-clause-writes g c).After-drop_if_empty
+
+pub returns-in_err-drop_if_empty-clause-breaks : goal.returns-in_err-drop_if_empty-clause-breaks
+returns-in_err-drop_if_empty-clause-breaks g c = λ tells owns.
+    let s = g.S.Reads.state c.args.space.now in
+    let p = err_from_is_err_and c.from_residual.result c.from_residual.ensures.1 in
+    rw (p.1, p.2) (close_breaks s (head_of c.args.head) c.args.node owns c.if-head-eq-GROUPS.true c.in_err-drop_if_empty.field-0.0 (c.in_err-drop_if_empty.ensures.damaged tells))

@@ -1,13 +1,13 @@
 use Rattle.std.proofs.Common.{◌∙◌, ◌+◌, ◌*◌, length, ap, sym, arith}
 use Rattle.std.proofs.lemmas.Bool.{false≢true}
-use Rattle.rec_bytes.specs.Space.{State}
-use Rattle.store_rules.proofs.WriteLaws.{beside_more, beside_then}
+use Rattle.store_rules.specs.Views.{degree}
 use Rattle.std.proofs.lemmas.Result.{err_from_is_err_and}
 use Rattle.group_store.specs.declared.moved.Turn.{Turn}
 use Rattle.group_store.proofs.FirstGroups.{only_loads_node}
-use Rattle.group_store.proofs.Comings.{come_beside, come_next, come_none, one_longer}
+use Rattle.group_store.proofs.Comings.{come_beside, come_next, come_none, come_touches, one_longer}
+use Rattle.group_store.proofs.Touches.{node_touched, touches_beside, touches_more, touches_none, touches_then}
 use Rattle.group_store.proofs.Openings.{handed}
-use Rattle.group_store.proofs.Spreads.{left_all, left_first, left_next, left_none, none_over, not_dense_row, turn_known}
+use Rattle.group_store.proofs.Spreads.{left_all, left_first, left_next, left_none, none_over, not_dense_row, row_degree, turn_known}
 use Rattle.group_store.proofs.densing.make_dense.Goals as goal
 
 pub loop-init : goal.loop-init
@@ -52,46 +52,110 @@ loop-preserved g c =
 
 pub returns-in_err-turn-clause-writes : goal.returns-in_err-turn-clause-writes
 returns-in_err-turn-clause-writes g c =
-    let s = g.S.Reads.state c.args.space.now in
-    let now = g.S.Reads.state c.loop.space in
-    let was = c.loop.invariant in
-    let lt = c.loop-test.true in
-    beside_more (omega arith) (beside_then (come_beside s now c.args.node c.loop.counter (2 * (c.loop.counter + 1)) _ _ was.rels was.groups (omega arith) was.writes) c.in_err-turn.ensures.writes)
+    touches_beside (g.S.Reads.state c.args.space.now) (g.S.Reads.state c.move_one.new.space) c.args.node (c.loop.counter + 1 + 2) (c.loop.counter + 1 + 2) (2 * (c.args.threshold + 1) + 2) (omega (arith, c.loop-test.true, c.least-end.ensures))
+    (touches_then (g.S.Reads.state c.args.space.now) (g.S.Reads.state c.loop.space) (g.S.Reads.state c.move_one.new.space) c.args.node (c.loop.counter + 1) (c.loop.counter + 1) 2 2 (come_touches (g.S.Reads.state c.args.space.now) (g.S.Reads.state c.loop.space) c.args.node c.loop.counter (c.loop.counter + 1) c.loop.moved.relationships.items c.loop.moved.groups.items c.loop.invariant.rels c.loop.invariant.groups (omega arith) c.loop.invariant.writes) c.in_err-turn.ensures.touches)
+
+pub returns-in_err-turn-clause-touches : goal.returns-in_err-turn-clause-touches
+returns-in_err-turn-clause-touches g c =
+    touches_more (g.S.Reads.state c.args.space.now) (g.S.Reads.state c.move_one.new.space) c.args.node (c.loop.counter + 1 + 2) (c.loop.counter + 1 + 2) (c.args.threshold + 2) (c.args.threshold + 2) (omega (arith, c.loop-test.true, c.least-end.ensures)) (omega (arith, c.loop-test.true, c.least-end.ensures))
+    (touches_then (g.S.Reads.state c.args.space.now) (g.S.Reads.state c.loop.space) (g.S.Reads.state c.move_one.new.space) c.args.node (c.loop.counter + 1) (c.loop.counter + 1) 2 2 (come_touches (g.S.Reads.state c.args.space.now) (g.S.Reads.state c.loop.space) c.args.node c.loop.counter (c.loop.counter + 1) c.loop.moved.relationships.items c.loop.moved.groups.items c.loop.invariant.rels c.loop.invariant.groups (omega arith) c.loop.invariant.writes) c.in_err-turn.ensures.touches)
+
+pub returns-in_err-turn-clause-few : goal.returns-in_err-turn-clause-few
+returns-in_err-turn-clause-few g c = λ tells.
+    let e = row_degree (g.S.Reads.state c.args.space.now) c.args.node c.in-Some.row (sym c.in-Some.is ∙ c.in_ok-row.ensures.found tells) in
+    let most = degree (g.S.Reads.state c.args.space.now).records c.args.node + 2 in
+    touches_more (g.S.Reads.state c.args.space.now) (g.S.Reads.state c.move_one.new.space) c.args.node (c.loop.counter + 1 + 2) (c.loop.counter + 1 + 2) most most (omega (arith, c.loop-test.true, c.least-end.ensures, e)) (omega (arith, c.loop-test.true, c.least-end.ensures, e))
+    (touches_then (g.S.Reads.state c.args.space.now) (g.S.Reads.state c.loop.space) (g.S.Reads.state c.move_one.new.space) c.args.node (c.loop.counter + 1) (c.loop.counter + 1) 2 2 (come_touches (g.S.Reads.state c.args.space.now) (g.S.Reads.state c.loop.space) c.args.node c.loop.counter (c.loop.counter + 1) c.loop.moved.relationships.items c.loop.moved.groups.items c.loop.invariant.rels c.loop.invariant.groups (omega arith) c.loop.invariant.writes) c.in_err-turn.ensures.touches)
 
 pub returns-then-not-note-clause-writes : goal.returns-then-not-note-clause-writes
 returns-then-not-note-clause-writes g c =
-    let s = g.S.Reads.state c.args.space.now in
-    let now = g.S.Reads.state c.loop.space in
-    let was = c.loop.invariant in
-    let lt = c.loop-test.true in
-    beside_more (omega arith) (beside_then (come_beside s now c.args.node c.loop.counter (2 * (c.loop.counter + 1)) _ _ was.rels was.groups (omega arith) was.writes) c.in_ok-turn.ensures.writes)
+    touches_beside (g.S.Reads.state c.args.space.now) (g.S.Reads.state c.move_one.new.space) c.args.node (c.loop.counter + 1 + 2) (c.loop.counter + 1 + 2) (2 * (c.args.threshold + 1) + 2) (omega (arith, c.loop-test.true, c.least-end.ensures))
+    (touches_then (g.S.Reads.state c.args.space.now) (g.S.Reads.state c.loop.space) (g.S.Reads.state c.move_one.new.space) c.args.node (c.loop.counter + 1) (c.loop.counter + 1) 2 2 (come_touches (g.S.Reads.state c.args.space.now) (g.S.Reads.state c.loop.space) c.args.node c.loop.counter (c.loop.counter + 1) c.loop.moved.relationships.items c.loop.moved.groups.items c.loop.invariant.rels c.loop.invariant.groups (omega arith) c.loop.invariant.writes) c.in_ok-turn.ensures.touches)
+
+pub returns-then-not-note-clause-touches : goal.returns-then-not-note-clause-touches
+returns-then-not-note-clause-touches g c =
+    touches_more (g.S.Reads.state c.args.space.now) (g.S.Reads.state c.move_one.new.space) c.args.node (c.loop.counter + 1 + 2) (c.loop.counter + 1 + 2) (c.args.threshold + 2) (c.args.threshold + 2) (omega (arith, c.loop-test.true, c.least-end.ensures)) (omega (arith, c.loop-test.true, c.least-end.ensures))
+    (touches_then (g.S.Reads.state c.args.space.now) (g.S.Reads.state c.loop.space) (g.S.Reads.state c.move_one.new.space) c.args.node (c.loop.counter + 1) (c.loop.counter + 1) 2 2 (come_touches (g.S.Reads.state c.args.space.now) (g.S.Reads.state c.loop.space) c.args.node c.loop.counter (c.loop.counter + 1) c.loop.moved.relationships.items c.loop.moved.groups.items c.loop.invariant.rels c.loop.invariant.groups (omega arith) c.loop.invariant.writes) c.in_ok-turn.ensures.touches)
+
+pub returns-then-not-note-clause-few : goal.returns-then-not-note-clause-few
+returns-then-not-note-clause-few g c = λ tells.
+    let e = row_degree (g.S.Reads.state c.args.space.now) c.args.node c.in-Some.row (sym c.in-Some.is ∙ c.in_ok-row.ensures.found tells) in
+    let most = degree (g.S.Reads.state c.args.space.now).records c.args.node + 2 in
+    touches_more (g.S.Reads.state c.args.space.now) (g.S.Reads.state c.move_one.new.space) c.args.node (c.loop.counter + 1 + 2) (c.loop.counter + 1 + 2) most most (omega (arith, c.loop-test.true, c.least-end.ensures, e)) (omega (arith, c.loop-test.true, c.least-end.ensures, e))
+    (touches_then (g.S.Reads.state c.args.space.now) (g.S.Reads.state c.loop.space) (g.S.Reads.state c.move_one.new.space) c.args.node (c.loop.counter + 1) (c.loop.counter + 1) 2 2 (come_touches (g.S.Reads.state c.args.space.now) (g.S.Reads.state c.loop.space) c.args.node c.loop.counter (c.loop.counter + 1) c.loop.moved.relationships.items c.loop.moved.groups.items c.loop.invariant.rels c.loop.invariant.groups (omega arith) c.loop.invariant.writes) c.in_ok-turn.ensures.touches)
 
 pub returns-then-at-clause-wrote : goal.returns-then-at-clause-wrote
 returns-then-at-clause-wrote g c =
     let was = c.loop.invariant in
-    let lt = c.loop-test.true in
-    come_beside (g.S.Reads.state c.args.space.now) (g.S.Reads.state c.loop.space) c.args.node c.loop.counter _ _ _ was.rels was.groups (omega arith) was.writes
+    come_beside (g.S.Reads.state c.args.space.now) (g.S.Reads.state c.loop.space) c.args.node c.loop.counter _ _ _ was.rels was.groups (omega (arith, c.loop-test.true, c.least-end.ensures)) was.writes
 
 pub returns-then-at-clause-writes : goal.returns-then-at-clause-writes
 returns-then-at-clause-writes g c =
     let was = c.loop.invariant in
-    let lt = c.loop-test.true in
-    come_beside (g.S.Reads.state c.args.space.now) (g.S.Reads.state c.loop.space) c.args.node c.loop.counter _ _ _ was.rels was.groups (omega arith) was.writes
+    come_beside (g.S.Reads.state c.args.space.now) (g.S.Reads.state c.loop.space) c.args.node c.loop.counter _ _ _ was.rels was.groups (omega (arith, c.loop-test.true, c.least-end.ensures)) was.writes
+
+pub returns-then-at-clause-touches : goal.returns-then-at-clause-touches
+returns-then-at-clause-touches g c = come_touches (g.S.Reads.state c.args.space.now) (g.S.Reads.state c.loop.space) c.args.node c.loop.counter (c.args.threshold + 2) c.loop.moved.relationships.items c.loop.moved.groups.items c.loop.invariant.rels c.loop.invariant.groups (omega (arith, c.loop-test.true, c.least-end.ensures)) c.loop.invariant.writes
+
+pub returns-then-at-clause-few : goal.returns-then-at-clause-few
+returns-then-at-clause-few g c = λ tells.
+    let e = row_degree (g.S.Reads.state c.args.space.now) c.args.node c.in-Some.row (sym c.in-Some.is ∙ c.in_ok-row.ensures.found tells) in
+    come_touches (g.S.Reads.state c.args.space.now) (g.S.Reads.state c.loop.space) c.args.node c.loop.counter (degree (g.S.Reads.state c.args.space.now).records c.args.node + 2) c.loop.moved.relationships.items c.loop.moved.groups.items c.loop.invariant.rels c.loop.invariant.groups (omega (arith, c.loop-test.true, c.least-end.ensures, e)) c.loop.invariant.writes
 
 pub returns-clause-wrote : goal.returns-clause-wrote
 returns-clause-wrote g c =
     let was = c.loop.invariant in
-    come_beside (g.S.Reads.state c.args.space.now) (g.S.Reads.state c.loop.space) c.args.node c.loop.counter _ _ _ was.rels was.groups (omega arith) was.writes
+    come_beside (g.S.Reads.state c.args.space.now) (g.S.Reads.state c.loop.space) c.args.node c.loop.counter _ _ _ was.rels was.groups (omega (arith, c.loop.auto.counter-end, c.least-end.ensures)) was.writes
 
 pub returns-clause-writes : goal.returns-clause-writes
 returns-clause-writes g c =
     let was = c.loop.invariant in
-    come_beside (g.S.Reads.state c.args.space.now) (g.S.Reads.state c.loop.space) c.args.node c.loop.counter _ _ _ was.rels was.groups (omega arith) was.writes
+    come_beside (g.S.Reads.state c.args.space.now) (g.S.Reads.state c.loop.space) c.args.node c.loop.counter _ _ _ was.rels was.groups (omega (arith, c.loop.auto.counter-end, c.least-end.ensures)) was.writes
+
+pub returns-clause-touches : goal.returns-clause-touches
+returns-clause-touches g c = come_touches (g.S.Reads.state c.args.space.now) (g.S.Reads.state c.loop.space) c.args.node c.loop.counter (c.args.threshold + 2) c.loop.moved.relationships.items c.loop.moved.groups.items c.loop.invariant.rels c.loop.invariant.groups (omega (arith, c.loop.auto.counter-end, c.least-end.ensures)) c.loop.invariant.writes
+
+pub returns-clause-few : goal.returns-clause-few
+returns-clause-few g c = λ tells.
+    let e = row_degree (g.S.Reads.state c.args.space.now) c.args.node c.in-Some.row (sym c.in-Some.is ∙ c.in_ok-row.ensures.found tells) in
+    come_touches (g.S.Reads.state c.args.space.now) (g.S.Reads.state c.loop.space) c.args.node c.loop.counter (degree (g.S.Reads.state c.args.space.now).records c.args.node + 2) c.loop.moved.relationships.items c.loop.moved.groups.items c.loop.invariant.rels c.loop.invariant.groups (omega (arith, c.loop.auto.counter-end, c.least-end.ensures, e)) c.loop.invariant.writes
 
 pub returns-then-at-2-clause-writes : goal.returns-then-at-2-clause-writes
 returns-then-at-2-clause-writes g c =
     let was = c.loop.invariant in
-    come_beside (g.S.Reads.state c.args.space.now) (g.S.Reads.state c.loop.space) c.args.node c.loop.counter _ _ _ was.rels was.groups (omega arith) was.writes
+    come_beside (g.S.Reads.state c.args.space.now) (g.S.Reads.state c.loop.space) c.args.node c.loop.counter _ _ _ was.rels was.groups (omega (arith, c.loop.auto.counter-end, c.least-end.ensures)) was.writes
+
+pub returns-then-at-2-clause-touches : goal.returns-then-at-2-clause-touches
+returns-then-at-2-clause-touches g c = come_touches (g.S.Reads.state c.args.space.now) (g.S.Reads.state c.loop.space) c.args.node c.loop.counter (c.args.threshold + 2) c.loop.moved.relationships.items c.loop.moved.groups.items c.loop.invariant.rels c.loop.invariant.groups (omega (arith, c.loop.auto.counter-end, c.least-end.ensures)) c.loop.invariant.writes
+
+pub returns-then-at-2-clause-few : goal.returns-then-at-2-clause-few
+returns-then-at-2-clause-few g c = λ tells.
+    let e = row_degree (g.S.Reads.state c.args.space.now) c.args.node c.in-Some.row (sym c.in-Some.is ∙ c.in_ok-row.ensures.found tells) in
+    come_touches (g.S.Reads.state c.args.space.now) (g.S.Reads.state c.loop.space) c.args.node c.loop.counter (degree (g.S.Reads.state c.args.space.now).records c.args.node + 2) c.loop.moved.relationships.items c.loop.moved.groups.items c.loop.invariant.rels c.loop.invariant.groups (omega (arith, c.loop.auto.counter-end, c.least-end.ensures, e)) c.loop.invariant.writes
+
+pub returns-in_err-row-clause-touches : goal.returns-in_err-row-clause-touches
+returns-in_err-row-clause-touches g c = touches_none (g.S.Reads.state c.args.space.now) (g.S.Reads.state c.load.new.space) c.args.node _ _ (only_loads_node (g.S.Reads.state c.args.space.now) (g.S.Reads.state c.load.new.space) c.args.node c.load.ensures.state)
+
+pub returns-in_err-row-clause-few : goal.returns-in_err-row-clause-few
+returns-in_err-row-clause-few g c = λ tells. touches_none (g.S.Reads.state c.args.space.now) (g.S.Reads.state c.load.new.space) c.args.node _ _ (only_loads_node (g.S.Reads.state c.args.space.now) (g.S.Reads.state c.load.new.space) c.args.node c.load.ensures.state)
+
+pub returns-in_default-clause-touches : goal.returns-in_default-clause-touches
+returns-in_default-clause-touches g c = touches_none (g.S.Reads.state c.args.space.now) (g.S.Reads.state c.load.new.space) c.args.node _ _ (only_loads_node (g.S.Reads.state c.args.space.now) (g.S.Reads.state c.load.new.space) c.args.node c.load.ensures.state)
+
+pub returns-in_default-clause-few : goal.returns-in_default-clause-few
+returns-in_default-clause-few g c = λ tells. touches_none (g.S.Reads.state c.args.space.now) (g.S.Reads.state c.load.new.space) c.args.node _ _ (only_loads_node (g.S.Reads.state c.args.space.now) (g.S.Reads.state c.load.new.space) c.args.node c.load.ensures.state)
+
+pub returns-then-row-clause-touches : goal.returns-then-row-clause-touches
+returns-then-row-clause-touches g c = touches_none (g.S.Reads.state c.args.space.now) (g.S.Reads.state c.load.new.space) c.args.node _ _ (only_loads_node (g.S.Reads.state c.args.space.now) (g.S.Reads.state c.load.new.space) c.args.node c.load.ensures.state)
+
+pub returns-then-row-clause-few : goal.returns-then-row-clause-few
+returns-then-row-clause-few g c = λ tells. touches_none (g.S.Reads.state c.args.space.now) (g.S.Reads.state c.load.new.space) c.args.node _ _ (only_loads_node (g.S.Reads.state c.args.space.now) (g.S.Reads.state c.load.new.space) c.args.node c.load.ensures.state)
+
+pub returns-in_err-clear-clause-touches : goal.returns-in_err-clear-clause-touches
+returns-in_err-clear-clause-touches g c = node_touched (g.S.Reads.state c.args.space.now) (g.S.Reads.state c.load.new.space) (g.S.Reads.state c.clear.new.space) c.args.node _ _ (only_loads_node (g.S.Reads.state c.args.space.now) (g.S.Reads.state c.load.new.space) c.args.node c.load.ensures.state) c.in_err-clear.ensures.writes
+
+pub returns-in_err-clear-clause-few : goal.returns-in_err-clear-clause-few
+returns-in_err-clear-clause-few g c = λ tells. node_touched (g.S.Reads.state c.args.space.now) (g.S.Reads.state c.load.new.space) (g.S.Reads.state c.clear.new.space) c.args.node _ _ (only_loads_node (g.S.Reads.state c.args.space.now) (g.S.Reads.state c.load.new.space) c.args.node c.load.ensures.state) c.in_err-clear.ensures.writes
 
 -- ---- what it does
 
@@ -125,5 +189,6 @@ returns-then-not-note-clause-sound g c = λ tells most empty can room.
 
 pub returns-then-at-2-clause-sound : goal.returns-then-at-2-clause-sound
 returns-then-at-2-clause-sound g c = λ tells most empty can room.
-    none_over (g.S.Reads.state c.args.space.now) (g.S.Reads.state c.loop.space) c.args.node c.loop.at c.loop.counter most c.args.threshold empty c.loop.moved.relationships.items c.loop.moved.groups.items c.if-at-2.true
-    (c.loop.invariant.left tells most empty can) room (omega arith)
+    let e = row_degree (g.S.Reads.state c.args.space.now) c.args.node c.in-Some.row (sym c.in-Some.is ∙ c.in_ok-row.ensures.found tells) in
+    none_over (g.S.Reads.state c.args.space.now) (g.S.Reads.state c.loop.space) c.args.node c.loop.at c.loop.counter most empty c.loop.moved.relationships.items c.loop.moved.groups.items c.if-at-2.true
+    (c.loop.invariant.left tells most empty can) (omega (arith, c.loop-test.false, c.least-end.ensures, e, room.few))

@@ -9,60 +9,59 @@ use Rattle.chain_edit.specs.Heads.{head_of}
 use Rattle.group_store.specs.declared.side.Side.{Side}
 use Rattle.group_store.specs.GroupRecord.{group_key}
 use Rattle.group_store.specs.Sides.{group_head}
-use Rattle.store_rules.proofs.WriteLaws.{beside_more, none_beside}
 use Rattle.std.proofs.lemmas.Result.{err_from_is_err_and}
 use Rattle.rel_store.proofs.Rows.{IsReadable-AreInRange}
 use Rattle.group_store.specs.GroupChain.{IsDense}
 use Rattle.rec_bytes.specs.Fault.{of_row}
 use Rattle.group_store.proofs.GroupWalks.{not_damaged_at}
-use Rattle.group_store.proofs.GroupWrites.{made_writes}
+use Rattle.group_store.proofs.Touches.{four_touched, made_touched, touches_more, touches_none}
 use Rattle.group_store.specs.declared.making.OwnGroup.{OwnGroup}
 use Rattle.group_store.specs.declared.moved.Turn.{Turn}
 use Rattle.group_store.proofs.Openings.{handed}
 use Rattle.group_store.proofs.OwnGroups.{keeps_then, writes_after}
-use Rattle.group_store.proofs.Spreads.{chain_sound, four_written, has_room, moved, only_loads, push_right, rel_there, row_sound, writes_freed, writes_pushed}
+use Rattle.group_store.proofs.Spreads.{has_room, moved, only_loads, push_right, rel_there, row_sound, writes_freed, writes_pushed}
 use Rattle.group_store.proofs.Turns.{own_turn}
 use Rattle.group_store.proofs.densing.move_one.Goals as goal
 
-pub returns-in_err-row-clause-writes : goal.returns-in_err-row-clause-writes
-returns-in_err-row-clause-writes g c =
+pub returns-in_err-row-clause-touches : goal.returns-in_err-row-clause-touches
+returns-in_err-row-clause-touches g c =
     let s = g.S.Reads.state c.args.space.now in
     let l = g.S.Reads.state c.load.new.space in
-    beside_more (omega arith) (none_beside (node_key c.args.node) s l (only_loads s l c.args.rel c.load.ensures.state))
+    touches_none s l c.args.node 2 2 (only_loads s l c.args.rel c.load.ensures.state)
 
-pub returns-in_default-clause-writes : goal.returns-in_default-clause-writes
-returns-in_default-clause-writes g c =
+pub returns-in_default-clause-touches : goal.returns-in_default-clause-touches
+returns-in_default-clause-touches g c =
     let s = g.S.Reads.state c.args.space.now in
     let l = g.S.Reads.state c.load.new.space in
-    beside_more (omega arith) (none_beside (node_key c.args.node) s l (only_loads s l c.args.rel c.load.ensures.state))
+    touches_none s l c.args.node 2 2 (only_loads s l c.args.rel c.load.ensures.state)
 
-pub returns-in_err-own-clause-writes : goal.returns-in_err-own-clause-writes
-returns-in_err-own-clause-writes g c =
+pub returns-in_err-own-clause-touches : goal.returns-in_err-own-clause-touches
+returns-in_err-own-clause-touches g c =
     let s = g.S.Reads.state c.args.space.now in
     let l = g.S.Reads.state c.load.new.space in
     let made = c.in_err-own.ensures.writes in
-    beside_more (omega arith) (made_writes s (g.S.Reads.state c.own_group.new.space) c.args.node made.1 made.0 (writes_after s l (g.S.Reads.state c.own_group.new.space) _ (only_loads s l c.args.rel c.load.ensures.state) made.2))
+    touches_more s (g.S.Reads.state c.own_group.new.space) c.args.node 0 2 2 2 (omega arith) (omega arith) (made_touched s (g.S.Reads.state c.own_group.new.space) c.args.node made.1 made.0 (writes_after s l (g.S.Reads.state c.own_group.new.space) _ (only_loads s l c.args.rel c.load.ensures.state) made.2))
 
-pub returns-in_err-free_previous-clause-writes : goal.returns-in_err-free_previous-clause-writes
-returns-in_err-free_previous-clause-writes g c =
+pub returns-in_err-free_previous-clause-touches : goal.returns-in_err-free_previous-clause-touches
+returns-in_err-free_previous-clause-touches g c =
     let s = g.S.Reads.state c.args.space.now in
     let l = g.S.Reads.state c.load.new.space in
     let t = g.S.Reads.state c.free_previous.new.space in
     let own = c.in_ok-own.own in
-    four_written s t c.args.node c.args.rel 0 own.row.id own.first
+    four_touched s t c.args.node c.args.rel 0 own.row.id own.first
     (writes_freed s l (g.S.Reads.state c.own_group.new.space) t t (only_loads s l c.args.rel c.load.ensures.state)
     (rel_key c.args.rel) (rel_key 0) (group_key own.row.id) (group_key own.first) (node_key c.args.node) (meta_key_of groups_file) c.in_ok-own.ensures.wrote c.in_err-free_previous.ensures.writes)
 
-pub returns-in_err-first-clause-writes : goal.returns-in_err-first-clause-writes
-returns-in_err-first-clause-writes g c =
+pub returns-in_err-first-clause-touches : goal.returns-in_err-first-clause-touches
+returns-in_err-first-clause-touches g c =
     let s = g.S.Reads.state c.args.space.now in
     let l = g.S.Reads.state c.load.new.space in
     let t = g.S.Reads.state c.free_previous.new.space in
-    let end = g.S.Reads.state c.push_front.new.space in
+    let end = g.S.Reads.state c.push_counted.new.space in
     let own = c.in_ok-own.own in
     let push = c.in_err-first.ensures.writes in
     let key : c.group_head-head.result.key ≡ group_key own.row.id = ap (λ (h : Head). h.key) c.group_head-head.ensures.is in
-    four_written s end c.args.node c.args.rel push.0 own.row.id own.first
+    four_touched s end c.args.node c.args.rel push.0 own.row.id own.first
     (writes_pushed s l (g.S.Reads.state c.own_group.new.space) t end (only_loads s l c.args.rel c.load.ensures.state)
     (rel_key c.args.rel) (rel_key push.0) (group_key own.row.id) (group_key own.first) (node_key c.args.node) (meta_key_of groups_file) c.in_ok-own.ensures.wrote c.in_ok-free_previous.ensures.writes
     (subst (λ k. WritesOnly t end (rel_key push.0 ∷ rel_key c.args.rel ∷ k ∷ [])) key push.1))
@@ -72,7 +71,7 @@ returns-clause-wrote g c =
     let s = g.S.Reads.state c.args.space.now in
     let l = g.S.Reads.state c.load.new.space in
     let t = g.S.Reads.state c.free_previous.new.space in
-    let end = g.S.Reads.state c.push_front.new.space in
+    let end = g.S.Reads.state c.push_counted.new.space in
     let own = c.in_ok-own.own in
     let first = c.in_ok-first.first in
     let key : c.group_head-head.result.key ≡ group_key own.row.id = ap (λ (h : Head). h.key) c.group_head-head.ensures.is in
@@ -80,16 +79,16 @@ returns-clause-wrote g c =
     (rel_key c.args.rel) (rel_key first) (group_key own.row.id) (group_key own.first) (node_key c.args.node) (meta_key_of groups_file) c.in_ok-own.ensures.wrote c.in_ok-free_previous.ensures.writes
     (subst (λ k. WritesOnly t end (rel_key first ∷ rel_key c.args.rel ∷ k ∷ [])) key c.in_ok-first.ensures.wrote)
 
-pub returns-clause-writes : goal.returns-clause-writes
-returns-clause-writes g c =
+pub returns-clause-touches : goal.returns-clause-touches
+returns-clause-touches g c =
     let s = g.S.Reads.state c.args.space.now in
     let l = g.S.Reads.state c.load.new.space in
     let t = g.S.Reads.state c.free_previous.new.space in
-    let end = g.S.Reads.state c.push_front.new.space in
+    let end = g.S.Reads.state c.push_counted.new.space in
     let own = c.in_ok-own.own in
     let first = c.in_ok-first.first in
     let key : c.group_head-head.result.key ≡ group_key own.row.id = ap (λ (h : Head). h.key) c.group_head-head.ensures.is in
-    four_written s end c.args.node c.args.rel first own.row.id own.first
+    four_touched s end c.args.node c.args.rel first own.row.id own.first
     (writes_pushed s l (g.S.Reads.state c.own_group.new.space) t end (only_loads s l c.args.rel c.load.ensures.state)
     (rel_key c.args.rel) (rel_key first) (group_key own.row.id) (group_key own.first) (node_key c.args.node) (meta_key_of groups_file) c.in_ok-own.ensures.wrote c.in_ok-free_previous.ensures.writes
     (subst (λ k. WritesOnly t end (rel_key first ∷ rel_key c.args.rel ∷ k ∷ [])) key c.in_ok-first.ensures.wrote))
@@ -99,7 +98,7 @@ returns-clause-moved g c = λ tells rest most empty spread.
     let s = g.S.Reads.state c.args.space.now in
     let l = g.S.Reads.state c.load.new.space in
     moved s l (g.S.Reads.state c.own_group.new.space) c.args.node c.args.rel c.in-Some.row c.in_ok-own.own.row.id (only_loads s l c.args.rel c.load.ensures.state) (sym c.in-Some.is ∙ c.in_ok-row.ensures.found tells)
-    (c.in_ok-own.ensures.opened tells) rest most empty spread (g.S.Reads.state c.free_previous.new.space) (g.S.Reads.state c.push_front.new.space) c.end_links-next.result.1
+    (c.in_ok-own.ensures.opened tells) rest most empty spread (g.S.Reads.state c.free_previous.new.space) (g.S.Reads.state c.push_counted.new.space) c.end_links-next.result.1
     (head_of c.group_head-head.result) (c.in_ok-free_previous.ensures.ok tells)
     (c.group_head-head.ensures.is ∙ ap (λ (side : Side). group_head c.in_ok-own.own.row.id side) c.at.ensures) (c.in_ok-first.ensures.ok tells)
     (λ rec is. ap (λ (p : ℕ × ℕ). p.1) (c.end_links-next.ensures.of_record rec is))
@@ -109,7 +108,7 @@ returns-clause-own g c = λ tells rest most empty spread.
     let s = g.S.Reads.state c.args.space.now in
     let l = g.S.Reads.state c.load.new.space in
     own_turn s l (g.S.Reads.state c.own_group.new.space) c.args.node c.args.rel c.in-Some.row c.in_ok-own.own.row.id (only_loads s l c.args.rel c.load.ensures.state) (sym c.in-Some.is ∙ c.in_ok-row.ensures.found tells)
-    (c.in_ok-own.ensures.opened tells) rest most empty spread c.in_ok-own.own.first (c.in_ok-own.ensures.grows tells) (g.S.Reads.state c.free_previous.new.space) (g.S.Reads.state c.push_front.new.space)
+    (c.in_ok-own.ensures.opened tells) rest most empty spread c.in_ok-own.own.first (c.in_ok-own.ensures.grows tells) (g.S.Reads.state c.free_previous.new.space) (g.S.Reads.state c.push_counted.new.space)
     (head_of c.group_head-head.result) c.in_ok-first.first c.end_links-next.result.1 (c.in_ok-free_previous.ensures.ok tells)
     (c.group_head-head.ensures.is ∙ ap (λ (side : Side). group_head c.in_ok-own.own.row.id side) c.at.ensures) (c.in_ok-first.ensures.ok tells) (c.in_ok-first.ensures.first tells)
 
@@ -139,7 +138,7 @@ returns-in_err-first-clause-sound g c = λ tells rest most empty spread room.
     let l = g.S.Reads.state c.load.new.space in
     let t = g.S.Reads.state c.free_previous.new.space in
     let p = err_from_is_err_and c.from_residual-in_err-first.result c.from_residual-in_err-first.ensures.1 in
-    not_damaged_at c.from_residual-in_err-first.result p.0 c.in_err-first.field-0.0 p.1 p.2 (chain_sound c.in_err-first.field-0.0 (c.in_err-first.ensures.sound tells
+    rw (p.1, p.2) (handed ℕ Turn c.in_err-first.field-0.0 (c.in_err-first.ensures.sound tells
     (push_right s l (g.S.Reads.state c.own_group.new.space) c.args.node c.args.rel c.in-Some.row c.in_ok-own.own.row.id (only_loads s l c.args.rel c.load.ensures.state) (sym c.in-Some.is ∙ c.in_ok-row.ensures.found tells)
     (c.in_ok-own.ensures.opened tells) rest most empty spread t (head_of c.group_head-head.result) (c.in_ok-free_previous.ensures.ok tells)
     (c.group_head-head.ensures.is ∙ ap (λ (side : Side). group_head c.in_ok-own.own.row.id side) c.at.ensures))))

@@ -1,4 +1,4 @@
-use Rattle.std.proofs.Common.{◌≢◌, Option, ◌∷◌, [], ℕ, List, ap, subst, sym, ◌∙◌}
+use Rattle.std.proofs.Common.{◌≡◌, ◌≢◌, Option, Some, inr, ◌∷◌, [], ℕ, List, ap, subst, sym, ◌∙◌}
 use Rattle.rec_bytes.specs.RecordFiles.{meta_key_of}
 use Rattle.rec_bytes.specs.Format.{groups_file}
 use Rattle.rec_bytes.specs.Space.{State, WritesOnly, meta_of}
@@ -8,7 +8,11 @@ use Rattle.group_store.specs.declared.making.OwnGroup.{OwnGroup}
 use Rattle.group_store.specs.Finding.{IsFound}
 use Rattle.group_store.specs.GroupChain.{IsDense, LacksGroup}
 use Rattle.group_store.specs.GroupRecord.{group_key}
+use Rattle.group_store.specs.Making.{IsMakeFault}
+use Rattle.group_store.specs.Opening.{IsOpenFault}
+use Rattle.group_store.proofs.BrokenGroups.{find_breaks, if_err, make_breaks, only_breaks, open_read}
 use Rattle.group_store.specs.Spreading.{HasOpened, KeepsBut}
+use Rattle.group_store.specs.Walking.{group_row_at}
 use Rattle.group_store.proofs.MakeSteps.{same_read, same_writes}
 use Rattle.id_freelist.specs.Taking.{room}
 use Rattle.std.proofs.lemmas.Result.{err_from_is_err_and}
@@ -58,7 +62,7 @@ returns-in-None-clause-opened g c = λ tells.
     let node = c.args.node in
     let label = c.args.label in
     if_ok c.make_own.result _
-    (λ (own : OwnGroup). (rest : List ℕ) (most : ℕ) (empty : List ℕ) → KeepsBut s.records s.shape node rest most empty → IsDense s.records node → KeepsBut end.records end.shape node rest most (own.row.id ∷ empty) × HasOpened s end node label own.row.id)
+    (λ (own : OwnGroup). (rest : List ℕ) (most : ℕ) (empty : List ℕ) → KeepsBut s.records s.shape node rest most empty → IsDense s.records node → KeepsBut end.records end.shape node rest most (own.row.id ∷ empty) × HasOpened s end node label own.row.id rest)
     (λ own made rest most empty keeps dense.
     let lacks = none_found s node label rest most empty keeps dense c.in_ok-row.field-0 c.in-None.is (λ xs chain. c.in_ok-row.ensures.none tells dense xs chain) in
     opened_made s now end node label own.row.id rest most empty same
@@ -109,3 +113,54 @@ returns-in-None-clause-sound g c = λ tells rest most empty keeps dense full.
     c.make_own.ensures.sound tells (node_known now node rest most empty keeps_now dense_now) (free_ids now node rest most empty keeps_now dense_now) (chain_ids now node rest most empty keeps_now dense_now)
     (can_make now node rest most empty keeps_now dense_now c.args.label (subst (λ (t : State). LacksGroup t.records node c.args.label) (sym same) lacks)) dense_now
     (subst (λ (t : State). (meta_of t groups_file).live ≢ room t groups_file) (sym same) full)
+
+-- ---- the row
+
+pub returns-in-Some-clause-row : goal.returns-in-Some-clause-row
+returns-in-Some-clause-row g c = λ tells rest most empty keeps dense.
+    let s = g.S.Reads.state c.args.space.now in
+    let now = g.S.Reads.state c.find_group.new.space in
+    let found = subst (IsFound s.records c.args.node c.args.label) c.in-Some.is (c.in_ok-row.ensures.found tells) in
+    found.1.is ∙ ap (λ (t : State). group_row_at t.records c.in-Some.row.id) (sym (same_read _ s now c.find_group.ensures.at_most))
+
+pub returns-in-None-clause-row : goal.returns-in-None-clause-row
+returns-in-None-clause-row g c = λ tells.
+    let s = g.S.Reads.state c.args.space.now in
+    let now = g.S.Reads.state c.find_group.new.space in
+    let end = g.S.Reads.state c.make_own.new.space in
+    let same = same_read _ s now c.find_group.ensures.at_most in
+    let node = c.args.node in
+    let label = c.args.label in
+    if_ok c.make_own.result _
+    (λ (own : OwnGroup). (rest : List ℕ) (most : ℕ) (empty : List ℕ) → KeepsBut s.records s.shape node rest most empty → IsDense s.records node → own.row ≡ group_row_at end.records own.row.id)
+    (λ own made rest most empty keeps dense.
+    let lacks = none_found s node label rest most empty keeps dense c.in_ok-row.field-0 c.in-None.is (λ xs chain. c.in_ok-row.ensures.none tells dense xs chain) in
+    let keeps_now = keeps_then s now node rest most empty same keeps in
+    let dense_now = subst (λ (t : State). IsDense t.records node) (sym same) dense in
+    sym (made (free_ids now node rest most empty keeps_now dense_now) (chain_ids now node rest most empty keeps_now dense_now)
+    (can_make now node rest most empty keeps_now dense_now label (subst (λ (t : State). LacksGroup t.records node label) (sym same) lacks))).here)
+    (c.make_own.ensures.made tells)
+
+-- ---- damage
+
+pub returns-in_err-row-clause-damaged : goal.returns-in_err-row-clause-damaged
+returns-in_err-row-clause-damaged g c = λ tells dense.
+    let s = g.S.Reads.state c.args.space.now in
+    let p = err_from_is_err_and c.from_residual.result c.from_residual.ensures.1 in
+    rw (p.1, p.2) (only_breaks s c.in_err-row.field-0.0 (find_breaks s c.args.node dense c.in_err-row.field-0.0 (c.in_err-row.ensures.damaged tells)))
+
+pub returns-in-Some-clause-group : goal.returns-in-Some-clause-group
+returns-in-Some-clause-group g c = λ tells dense.
+    let s = g.S.Reads.state c.args.space.now in
+    let now = g.S.Reads.state c.find_group.new.space in
+    let same = same_read _ s now c.find_group.ensures.at_most in
+    let found = subst (λ (t : State). IsFound t.records c.args.node c.args.label (Some c.in-Some.row)) (sym same) (subst (IsFound s.records c.args.node c.args.label) c.in-Some.is (c.in_ok-row.ensures.found tells)) in
+    inr (record { dense = found.0; member = found.1.member; is = found.1.is }, same)
+
+pub returns-in-None-clause-damaged : goal.returns-in-None-clause-damaged
+returns-in-None-clause-damaged g c = λ tells dense.
+    let s = g.S.Reads.state c.args.space.now in
+    let now = g.S.Reads.state c.find_group.new.space in
+    let same = same_read _ s now c.find_group.ensures.at_most in
+    let dense_now = subst (λ (t : State). IsDense t.records c.args.node) (sym same) dense in
+    if_err c.make_own.result (IsMakeFault now c.args.node) (IsOpenFault s) (λ e told. open_read s now same e (make_breaks now c.args.node dense_now e told)) (c.make_own.ensures.damaged tells)

@@ -1,4 +1,3 @@
-use Rattle.rec_bytes.specs.Space.{State}
 use Rattle.std.proofs.Common.{true, false, ap, ◌∙◌, sym}
 use Rattle.std.specs.Prelude.{not}
 use Rattle.std.proofs.lemmas.Bool.{false≢true, true≢false}
@@ -9,7 +8,8 @@ use Rattle.group_store.specs.Dropping.{lead_key}
 use Rattle.group_store.specs.Dropping.IsDropDamage.{BadNext, BadPrevious}
 use Rattle.group_store.specs.GroupChain.{next_group, previous_group}
 use Rattle.group_store.specs.GroupRecord.{group_key, range_damage}
-use Rattle.group_store.proofs.ChainHeads.{only_read}
+use Rattle.rec_bytes.specs.declared.fault.Fault.TheVariants.{Damaged}
+use Rattle.group_store.proofs.BrokenGroups.{drop_breaks}
 use Rattle.group_store.proofs.DropSteps.{is_undamaged, right_next, right_previous, back_writes, dropped_has, dropped_is, filled_is, follow_writes, give_writes, link_read, member_told, number_read, same_one}
 use Rattle.group_store.proofs.GroupWalks.{not_damaged_at}
 use Rattle.group_store.proofs.MakeSteps.{on_damage, same_read, same_writes}
@@ -152,3 +152,29 @@ returns-in_err-test_link-2-clause-sound g c = λ tells xs on.
     let after = number_read s.records c.args.group group_next c.number-after.result c.in_ok-rec.rec (c.in_ok-rec.ensures.got tells) c.number-after.ensures in
     let is_ok = c.in_err-test_link-2.ensures.sound (right_next s (g.S.Reads.state c.read_member.new.space) c.args.node c.args.group c.number-after.result xs c.in_ok-rec.ensures.read after on) in
     absurd (false≢true is_ok)
+
+-- ---- what the damage breaks
+
+pub returns-in_err-rec-clause-breaks : goal.returns-in_err-rec-clause-breaks
+returns-in_err-rec-clause-breaks g c = λ tells row is owner.
+    let s = g.S.Reads.state c.args.space.now in
+    let p = err_from_is_err_and c.from_residual.result c.from_residual.ensures.1 in
+    rw (p.1, p.2) (drop_breaks s c.args.node c.args.group row is owner c.in_err-rec.field-0.0 (member_told s c.args.node c.args.group c.in_err-rec.field-0.0 (c.in_err-rec.ensures.damaged tells)))
+
+pub returns-in_err-test_link-clause-breaks : goal.returns-in_err-test_link-clause-breaks
+returns-in_err-test_link-clause-breaks g c = λ tells row is owner.
+    let s = g.S.Reads.state c.args.space.now in
+    let p = err_from_is_err_and c.from_residual-in_err-test_link.result c.from_residual-in_err-test_link.ensures.1 in
+    let before = number_read s.records c.args.group group_previous c.number-before.result c.in_ok-rec.rec (c.in_ok-rec.ensures.got tells) c.number-before.ensures in
+    rw (p.1, p.2) (drop_breaks s c.args.node c.args.group row is owner (Damaged c.in_err-test_link.field-0.0) (BadPrevious c.in_err-test_link.field-0.0
+    (link_read s (g.S.Reads.state c.read_member.new.space) c.number-before.result (previous_group s.records c.args.group) (range_damage c.args.group) c.in_err-test_link.field-0.0
+    c.in_ok-rec.ensures.read before c.in_err-test_link.ensures.damaged)))
+
+pub returns-in_err-test_link-2-clause-breaks : goal.returns-in_err-test_link-2-clause-breaks
+returns-in_err-test_link-2-clause-breaks g c = λ tells row is owner.
+    let s = g.S.Reads.state c.args.space.now in
+    let p = err_from_is_err_and c.from_residual-in_err-test_link-2.result c.from_residual-in_err-test_link-2.ensures.1 in
+    let after = number_read s.records c.args.group group_next c.number-after.result c.in_ok-rec.rec (c.in_ok-rec.ensures.got tells) c.number-after.ensures in
+    rw (p.1, p.2) (drop_breaks s c.args.node c.args.group row is owner (Damaged c.in_err-test_link-2.field-0.0) (BadNext c.in_err-test_link-2.field-0.0
+    (link_read s (g.S.Reads.state c.read_member.new.space) c.number-after.result (next_group s.records c.args.group) (range_damage c.args.group) c.in_err-test_link-2.field-0.0
+    c.in_ok-rec.ensures.read after c.in_err-test_link-2.ensures.damaged)))

@@ -7,7 +7,7 @@ use Rattle.group_store.specs.GroupChain.{up_to_type}
 use Rattle.group_store.specs.Loading.{group_mark}
 use Rattle.group_store.specs.Walking.{IsWalkDamage}
 use Rattle.group_store.specs.Walking.IsWalkDamage.{NoList}
-use Rattle.group_store.proofs.GroupWalks.{few_groups, left_more, left_none, link_then, member_then, not_damaged_at, passed_all, passed_more, passed_none, read_next, reads_more, reads_so_far, rec_then, undamaged, walk_fault}
+use Rattle.group_store.proofs.GroupWalks.{few_groups, few_owned, left_more, left_none, link_then, member_then, not_damaged_at, passed_all, passed_more, passed_none, read_next, reads_more, reads_so_far, rec_then, undamaged, walk_fault}
 use Rattle.group_store.proofs.Seeks.{group_found, lacks_more, lacks_none, passed_few, passed_fewer, type_then}
 use Rattle.group_store.proofs.finding.seek.Goals as goal
 
@@ -17,7 +17,7 @@ loop-init g c =
     let mark : c.meta-budget.result.high ≡ group_mark s = ap (λ (m : Meta). m.high) c.meta-budget.ensures in
     record {
       met = λ tells. ([], passed_none s.records c.args.node c.args.first, lacks_none s.records c.args.label, refl);
-      left = λ tells xs list. let few = few_groups s.records c.args.node c.args.first xs list in (xs, list, omega arith);
+      left = λ tells xs walk few. (xs, walk, omega arith, λ g i. i);
       read = sym (after_gets-zero s);
       onward = g.met.R.Reads.stays_onward c.args.space.now;
       later = omega arith;
@@ -41,9 +41,9 @@ loop-preserved g c =
             lacks_more s.records c.args.label c.loop.at met.0 (λ e. c.if-number-label.false (typed ∙ e)) met.2,
             length_push met.0 c.loop.at ∙ ap (λ n. n + 1) met.3,
           );
-      left = λ tells xs list.
+      left = λ tells xs walk few.
           let link = link_then s now c.loop.counter c.loop.at c.number-at.result c.in_ok-rec.rec c.loop.invariant.read (c.in_ok-rec.ensures.got tells) c.number-at.ensures in
-          left_more s.records c.args.node (c.meta-budget.result.high - c.loop.counter) (c.meta-budget.result.high - (c.loop.counter + 1)) c.loop.at c.number-at.result less some link (c.loop.invariant.left tells xs list);
+          left_more s.records (c.meta-budget.result.high - c.loop.counter) (c.meta-budget.result.high - (c.loop.counter + 1)) c.loop.at c.number-at.result xs less some link (c.loop.invariant.left tells xs walk few);
       read = read_next s now (g.R.Reads.state c.read_member.new.space) c.loop.counter (c.loop.counter + 1) refl c.loop.invariant.read c.in_ok-rec.ensures.read;
       onward = g.met.R.Reads.further_onward c.args.space.now c.loop.space c.read_member.new.space c.loop.invariant.onward c.in_ok-rec.ensures.onward;
       later = let cause = c.in_ok-rec.ensures.cause in omega (arith, c.loop.invariant.later, cause.later);
@@ -65,28 +65,28 @@ pub returns-then-at-clause-reads : goal.returns-then-at-clause-reads
 returns-then-at-clause-reads g c = λ tells xs can.
     let s = g.R.Reads.state c.args.space.now in
     let met = c.loop.invariant.met tells in
-    let few = passed_few s.records c.args.node c.args.first c.loop.at c.args.label _ met.0 xs met.1 met.2 can.list (c.loop.invariant.left tells xs can.list) in
+    let few = passed_few s.records c.args.node c.args.first c.loop.at c.args.label _ met.0 xs met.1 met.2 can.list (c.loop.invariant.left tells xs can.list.walk (few_groups s.records c.args.node c.args.first xs can.list)) in
     reads_so_far s (g.R.Reads.state c.loop.space) c.loop.counter (length (up_to_type s.records c.args.label xs)) (omega (arith, few, met.3)) c.loop.invariant.read
 
 pub returns-clause-reads : goal.returns-clause-reads
 returns-clause-reads g c = λ tells xs can.
     let s = g.R.Reads.state c.args.space.now in
     let met = c.loop.invariant.met tells in
-    let few = passed_few s.records c.args.node c.args.first c.loop.at c.args.label _ met.0 xs met.1 met.2 can.list (c.loop.invariant.left tells xs can.list) in
+    let few = passed_few s.records c.args.node c.args.first c.loop.at c.args.label _ met.0 xs met.1 met.2 can.list (c.loop.invariant.left tells xs can.list.walk (few_groups s.records c.args.node c.args.first xs can.list)) in
     reads_so_far s (g.R.Reads.state c.loop.space) c.loop.counter (length (up_to_type s.records c.args.label xs)) (omega (arith, few, met.3)) c.loop.invariant.read
 
 pub returns-in_err-rec-clause-reads : goal.returns-in_err-rec-clause-reads
 returns-in_err-rec-clause-reads g c = λ tells xs can.
     let s = g.R.Reads.state c.args.space.now in
     let met = c.loop.invariant.met tells in
-    let few = passed_fewer s.records c.args.node c.args.first c.loop.at c.args.label _ met.0 xs c.if-at.false met.1 met.2 can.list (c.loop.invariant.left tells xs can.list) in
+    let few = passed_fewer s.records c.args.node c.args.first c.loop.at c.args.label _ met.0 xs c.if-at.false met.1 met.2 can.list (c.loop.invariant.left tells xs can.list.walk (few_groups s.records c.args.node c.args.first xs can.list)) in
     reads_more s (g.R.Reads.state c.loop.space) (g.R.Reads.state c.read_member.new.space) c.loop.counter 1 (length (up_to_type s.records c.args.label xs)) (omega (arith, few, met.3)) c.loop.invariant.read c.in_err-rec.ensures.at_most
 
 pub returns-then-number-label-clause-reads : goal.returns-then-number-label-clause-reads
 returns-then-number-label-clause-reads g c = λ tells xs can.
     let s = g.R.Reads.state c.args.space.now in
     let met = c.loop.invariant.met tells in
-    let few = passed_fewer s.records c.args.node c.args.first c.loop.at c.args.label _ met.0 xs c.if-at.false met.1 met.2 can.list (c.loop.invariant.left tells xs can.list) in
+    let few = passed_fewer s.records c.args.node c.args.first c.loop.at c.args.label _ met.0 xs c.if-at.false met.1 met.2 can.list (c.loop.invariant.left tells xs can.list.walk (few_groups s.records c.args.node c.args.first xs can.list)) in
     reads_more s (g.R.Reads.state c.loop.space) (g.R.Reads.state c.read_member.new.space) c.loop.counter 1 (length (up_to_type s.records c.args.label xs)) (omega (arith, few, met.3)) c.loop.invariant.read c.in_ok-rec.ensures.at_most
 
 pub returns-in_err-rec-clause-at_most : goal.returns-in_err-rec-clause-at_most
@@ -132,4 +132,16 @@ returns-then-at-2-clause-damaged g c = λ tells.
     let s = g.R.Reads.state c.args.space.now in
     let ge = c.loop-test.false in
     subst (IsWalkDamage s c.args.node c.args.first) (sym c.chain_damage.ensures)
-    (NoList (λ xs list. c.if-at-2.true (left_none s.records c.args.node (c.meta-budget.result.high - c.loop.counter) c.loop.at (omega arith) (c.loop.invariant.left tells xs list))))
+    (NoList (λ xs list. c.if-at-2.true (left_none s.records (c.meta-budget.result.high - c.loop.counter) c.loop.at xs (omega arith) (c.loop.invariant.left tells xs list.walk (few_owned s.records c.args.node c.args.first xs list)))))
+
+pub returns-then-at-2-clause-reads : goal.returns-then-at-2-clause-reads
+returns-then-at-2-clause-reads g c = λ tells xs can.
+    let s = g.R.Reads.state c.args.space.now in
+    let ge = c.loop-test.false in
+    absurd (c.if-at-2.true (left_none s.records (c.meta-budget.result.high - c.loop.counter) c.loop.at xs (omega arith) (c.loop.invariant.left tells xs can.list.walk (few_groups s.records c.args.node c.args.first xs can.list))))
+
+pub returns-then-at-2-clause-sound : goal.returns-then-at-2-clause-sound
+returns-then-at-2-clause-sound g c = λ tells xs can.
+    let s = g.R.Reads.state c.args.space.now in
+    let ge = c.loop-test.false in
+    absurd (c.if-at-2.true (left_none s.records (c.meta-budget.result.high - c.loop.counter) c.loop.at xs (omega arith) (c.loop.invariant.left tells xs can.list.walk (few_groups s.records c.args.node c.args.first xs can.list))))

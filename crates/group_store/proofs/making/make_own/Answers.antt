@@ -13,8 +13,8 @@ use Rattle.group_store.specs.GroupRecord.{group_key}
 use Rattle.group_store.specs.Making.{IsMakeDamage, IsMakeFault, link_damage}
 use Rattle.group_store.specs.Making.IsMakeDamage.{NotDense, BadLink}
 use Rattle.group_store.proofs.MakeSteps.{all_writes, link_told, made_has, made_is, node_told, on_damage, right_first, same_read, same_then, same_writes, take_told}
-use Rattle.group_store.proofs.MadeRules.{made_shape, rules_made}
-use Rattle.rec_bytes.specs.Space.{State, WritesOnly, after_get}
+use Rattle.group_store.proofs.MadeRules.{rules_made}
+use Rattle.rec_bytes.specs.Space.{WritesOnly, after_get}
 use Rattle.group_store.proofs.making.make_own.Goals as goal
 
 pub returns-in_err-first-clause-damaged : goal.returns-in_err-first-clause-damaged

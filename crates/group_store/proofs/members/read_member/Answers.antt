@@ -7,7 +7,7 @@ use Rattle.group_store.specs.Loading.{group_mark, group_room}
 use Rattle.group_store.specs.Walking.{IsMemberDamage}
 use Rattle.group_store.specs.Walking.IsMemberDamage.{NoMember, HighMember}
 use Rattle.group_store.proofs.GroupWalks.{reads_none, reads_one}
-use Rattle.group_store.proofs.GroupRecords.{above_none, group_is, group_is_not}
+use Rattle.group_store.proofs.GroupRecords.{above_none, group_is, not_member}
 use Rattle.group_store.proofs.members.read_member.Goals as goal
 
 pub returns-then-id-meta-clause-at_most : goal.returns-then-id-meta-clause-at_most
@@ -38,8 +38,9 @@ returns-then-not-is_group_of-clause-at_most g c = reads_one (g.R.Reads.state c.a
 pub returns-then-not-is_group_of-clause-damaged : goal.returns-then-not-is_group_of-clause-damaged
 returns-then-not-is_group_of-clause-damaged g c = λ tells.
     let s = g.R.Reads.state c.args.space.now in
-    subst (IsMemberDamage s c.args.node c.args.id) (sym c.chain_damage-then-not-is_group_of.ensures)
-    (NoMember (group_is_not s.records c.args.node c.args.id c.in_ok-rec.rec (c.in_ok-rec.ensures.got tells) (sym c.is_group_of.ensures ∙ c.if-not-is_group_of.true)))
+    let mark : c.meta.result.high ≡ group_mark s = ap (λ (m : Meta). m.high) c.meta.ensures in
+    subst (IsMemberDamage s c.args.node c.args.id) (sym c.member_damage.ensures)
+    (not_member s c.args.node c.args.id c.in_ok-rec.rec (omega arith) (c.in_ok-rec.ensures.got tells) (sym c.is_group_of.ensures ∙ c.if-not-is_group_of.true))
 
 pub returns-clause-member : goal.returns-clause-member
 returns-clause-member g c = λ tells.

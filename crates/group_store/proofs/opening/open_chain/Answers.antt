@@ -1,4 +1,4 @@
-use Rattle.std.proofs.Common.{◌+◌, ℕ, List, sym, ◌∙◌, subst, arith}
+use Rattle.std.proofs.Common.{◌+◌, ℕ, List, sym, ◌∙◌, subst, ⊎_elim, arith}
 use Rattle.std.proofs.lemmas.Bool.{false≢true}
 use Rattle.std.proofs.lemmas.Result.{err_from_is_err_and}
 use Rattle.store_rules.specs.Rules.{Head}
@@ -6,7 +6,9 @@ use Rattle.store_rules.specs.Views.{RelRow}
 use Rattle.chain_edit.specs.declared.head.Head.{Head as ChainHead}
 use Rattle.chain_edit.specs.Heads.{head_of}
 use Rattle.group_store.specs.GroupChain.{IsDense}
-use Rattle.group_store.specs.Opening.{CanOpen, OpensChain, WritesOpened, moved_writes}
+use Rattle.rec_bytes.specs.Space.{State}
+use Rattle.group_store.specs.Opening.{CanOpen, IsOpenFault, OpensChain, WritesOpened, moved_writes}
+use Rattle.group_store.proofs.BrokenGroups.{if_err, node_fault_breaks, only_breaks, open_read}
 use Rattle.group_store.proofs.Openings.{handed}
 use Rattle.group_store.proofs.OwnGroups.{if_ok}
 use Rattle.group_store.proofs.GroupWrites.{opened_more, opened_none}
@@ -113,3 +115,27 @@ returns-clause-wrote g c =
     let t = g.S.Reads.state c.open_group-2.new.space in
     if_ok c.open_group-2.result _ (λ (head : ChainHead). WritesOpened s t c.args.node head.key (moved_writes c.args.threshold c.args.degree + 1))
     (λ head w. dense_opened s z t c.args.node c.args.threshold c.args.degree c.in_ok-is_dense.ensures.state u c.if-degree-threshold.false head.key c.in_ok-make_dense.ensures.wrote w) c.open_group-2.ensures.wrote
+
+-- ---- damage
+
+pub returns-in_err-is_dense-clause-damaged : goal.returns-in_err-is_dense-clause-damaged
+returns-in_err-is_dense-clause-damaged g c = λ tells way.
+    let s = g.S.Reads.state c.args.space.now in
+    let p = err_from_is_err_and c.from_residual.result c.from_residual.ensures.1 in
+    rw (p.1, p.2) (only_breaks s c.in_err-is_dense.field-0.0 (node_fault_breaks s c.args.node c.in_err-is_dense.field-0.0 (c.in_err-is_dense.ensures.damaged tells)))
+
+pub returns-then-branch-clause-damaged : goal.returns-then-branch-clause-damaged
+returns-then-branch-clause-damaged g c = λ tells way.
+    let s = g.S.Reads.state c.args.space.now in
+    let z = g.S.Reads.state c.is_dense.new.space in
+    let same = c.in_ok-is_dense.ensures.state in
+    let dense = subst (λ (q : State). IsDense q.records c.args.node) (sym same) ((c.in_ok-is_dense.ensures.is tells).0 c.if-branch.true) in
+    if_err c.open_group.result (IsOpenFault z) (IsOpenFault s) (open_read s z same) (c.open_group.ensures.damaged tells dense)
+
+pub returns-in_err-make_dense-clause-damaged : goal.returns-in_err-make_dense-clause-damaged
+returns-in_err-make_dense-clause-damaged g c = λ tells way.
+    absurd (⊎_elim (λ d. false≢true (sym c.if-branch.false ∙ (c.in_ok-is_dense.ensures.is tells).1 d)) (λ ne. ne c.if-degree-threshold.false) way)
+
+pub returns-clause-damaged : goal.returns-clause-damaged
+returns-clause-damaged g c = λ tells way.
+    absurd (⊎_elim (λ d. false≢true (sym c.if-branch.false ∙ (c.in_ok-is_dense.ensures.is tells).1 d)) (λ ne. ne c.if-degree-threshold.false) way)

@@ -1,13 +1,16 @@
-use Rattle.std.proofs.Common.{[], sym, ap, subst}
+use Rattle.std.proofs.Common.{[], ◌∷◌, sym, ap, subst, ⊎_elim}
+use Rattle.std.proofs.lemmas.Bool.{false≢true}
 use Rattle.std.proofs.lemmas.Result.{err_from_is_err_and}
 use Rattle.rec_bytes.specs.declared.key.Key.{Key}
 use Rattle.store_rules.specs.Rules.{Head}
 use Rattle.chain_edit.specs.declared.head.Head.{Head as ChainHead}
 use Rattle.group_store.specs.declared.making.OwnGroup.{OwnGroup}
 use Rattle.group_store.specs.Opening.{OpensChain, WritesOpened}
-use Rattle.group_store.proofs.GroupWrites.{made_writes, opened_writes}
+use Rattle.group_store.proofs.GroupWrites.{found_writes, made_writes, opened_writes, raised_writes}
 use Rattle.group_store.proofs.Openings.{handed}
-use Rattle.group_store.proofs.Opens.{all_but, not_full, opens_group}
+use Rattle.group_store.proofs.BrokenGroups.{only_breaks}
+use Rattle.group_store.proofs.Raises.{breaks_read}
+use Rattle.group_store.proofs.Opens.{all_but, can_raise, not_full, opens_group}
 use Rattle.group_store.proofs.opening.open_group.Goals as goal
 
 pub returns-in_err-own-clause-sound : goal.returns-in_err-own-clause-sound
@@ -21,20 +24,66 @@ returns-in_err-own-clause-writes g c =
     let w = c.own_group.ensures.writes in
     made_writes (g.S.Reads.state c.args.space.now) (g.S.Reads.state c.own_group.new.space) c.args.node w.1 w.0 w.2
 
+pub returns-in_err-count_group-clause-sound : goal.returns-in_err-count_group-clause-sound
+returns-in_err-count_group-clause-sound g c = λ tells row empty can room.
+    let s = g.S.Reads.state c.args.space.now in
+    let m = g.S.Reads.state c.own_group.new.space in
+    let keeps = all_but s.records s.shape c.args.node s.shape.threshold empty can.keeps in
+    let o = c.in_ok-own.ensures.opened tells [] s.shape.threshold empty keeps can.dense in
+    let is = c.in_ok-own.ensures.row tells [] s.shape.threshold empty keeps can.dense in
+    let p = err_from_is_err_and c.from_residual-in_err-count_group.result c.from_residual-in_err-count_group.ensures.1 in
+    rw (p.1, p.2) (handed Unit ChainHead c.in_err-count_group.field-0.0 (c.in_err-count_group.ensures.sound tells s.shape.threshold (c.in_ok-own.own.row.id ∷ empty)
+    (can_raise s m c.args.node c.args.label c.in_ok-own.own.row c.args.side row empty can o.0 o.1 is)))
+
+pub returns-in_err-count_group-clause-writes : goal.returns-in_err-count_group-clause-writes
+returns-in_err-count_group-clause-writes g c =
+    let s = g.S.Reads.state c.args.space.now in
+    let m = g.S.Reads.state c.own_group.new.space in
+    let t = g.S.Reads.state c.count_group.new.space in
+    let own = c.in_ok-own.own in
+    made_writes s t c.args.node own.first own.row.id (raised_writes s m t own.row.id own.first c.args.node c.in_ok-own.ensures.wrote c.in_err-count_group.ensures.writes)
+
 pub returns-clause-opened : goal.returns-clause-opened
 returns-clause-opened g c = λ tells row empty can.
     let s = g.S.Reads.state c.args.space.now in
-    let t = g.S.Reads.state c.own_group.new.space in
-    let o = c.in_ok-own.ensures.opened tells [] s.shape.threshold empty (all_but s.records s.shape c.args.node s.shape.threshold empty can.keeps) can.dense in
-    subst (λ (h : Head). OpensChain s t h c.args.node row empty) (sym c.group_head.ensures.is) (opens_group s t c.args.node c.args.label c.in_ok-own.own.row.id c.args.side row empty can o.0 o.1)
+    let m = g.S.Reads.state c.own_group.new.space in
+    let t = g.S.Reads.state c.count_group.new.space in
+    let keeps = all_but s.records s.shape c.args.node s.shape.threshold empty can.keeps in
+    let o = c.in_ok-own.ensures.opened tells [] s.shape.threshold empty keeps can.dense in
+    let is = c.in_ok-own.ensures.row tells [] s.shape.threshold empty keeps can.dense in
+    let raised = c.in_ok-count_group.ensures.raised tells s.shape.threshold (c.in_ok-own.own.row.id ∷ empty)
+    (can_raise s m c.args.node c.args.label c.in_ok-own.own.row c.args.side row empty can o.0 o.1 is) in
+    subst (λ (h : Head). OpensChain s t h c.args.node row empty) (sym c.group_head.ensures.is) (opens_group s m c.args.node c.args.label c.in_ok-own.own.row c.args.side row empty can o.0 o.1 t raised)
 
 pub returns-clause-writes : goal.returns-clause-writes
 returns-clause-writes g c =
-    let w = c.own_group.ensures.writes in
-    made_writes (g.S.Reads.state c.args.space.now) (g.S.Reads.state c.own_group.new.space) c.args.node w.1 w.0 w.2
+    let s = g.S.Reads.state c.args.space.now in
+    let m = g.S.Reads.state c.own_group.new.space in
+    let t = g.S.Reads.state c.count_group.new.space in
+    let own = c.in_ok-own.own in
+    made_writes s t c.args.node own.first own.row.id (raised_writes s m t own.row.id own.first c.args.node c.in_ok-own.ensures.wrote c.in_ok-count_group.ensures.writes)
 
 pub returns-clause-wrote : goal.returns-clause-wrote
 returns-clause-wrote g c =
     let s = g.S.Reads.state c.args.space.now in
-    let t = g.S.Reads.state c.own_group.new.space in
-    subst (λ (k : Key). WritesOpened s t c.args.node k 1) (sym (ap (λ (h : Head). h.key) c.group_head.ensures.is)) (opened_writes s t c.args.node c.in_ok-own.own.first c.in_ok-own.own.row.id c.in_ok-own.ensures.wrote)
+    let m = g.S.Reads.state c.own_group.new.space in
+    let t = g.S.Reads.state c.count_group.new.space in
+    let own = c.in_ok-own.own in
+    subst (λ (k : Key). WritesOpened s t c.args.node k 1) (sym (ap (λ (h : Head). h.key) c.group_head.ensures.is))
+    (opened_writes s t c.args.node own.first own.row.id (found_writes s m t own.row.id own.first c.args.node c.in_ok-own.ensures.wrote c.in_ok-count_group.ensures.writes))
+
+-- ---- damage
+
+pub returns-in_err-own-clause-damaged : goal.returns-in_err-own-clause-damaged
+returns-in_err-own-clause-damaged g c = λ tells dense.
+    let p = err_from_is_err_and c.from_residual.result c.from_residual.ensures.1 in
+    rw (p.1, p.2) (c.in_err-own.ensures.damaged tells dense)
+
+pub returns-in_err-count_group-clause-damaged : goal.returns-in_err-count_group-clause-damaged
+returns-in_err-count_group-clause-damaged g c = λ tells dense.
+    let s = g.S.Reads.state c.args.space.now in
+    let m = g.S.Reads.state c.own_group.new.space in
+    let fault = c.in_err-count_group.field-0.0 in
+    let p = err_from_is_err_and c.from_residual-in_err-count_group.result c.from_residual-in_err-count_group.ensures.1 in
+    rw (p.1, p.2) (⊎_elim (λ counted. absurd (false≢true (c.in_err-count_group.ensures.counted counted)))
+    (λ k. only_breaks s fault (breaks_read s m k.1 fault (c.in_err-count_group.ensures.breaks tells k.0))) (c.in_ok-own.ensures.group tells dense))

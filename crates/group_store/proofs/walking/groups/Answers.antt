@@ -1,13 +1,13 @@
 use Rattle.std.proofs.Common.{◌≡◌, ◌-◌, ◌+◌, suc, length, [], ◌++◌, ◌∷◌, ap, ◌∙◌, sym, subst, arith}
-use Rattle.std.proofs.lemmas.List.{length_push}
+use Rattle.std.proofs.lemmas.List.{length-map, length_push}
 use Rattle.std.proofs.lemmas.Result.{err_from_is_err_and}
 use Rattle.rec_bytes.specs.declared.meta.Meta.{Meta}
 use Rattle.rec_bytes.proofs.Spaces.{after_gets-zero}
 use Rattle.group_store.specs.GroupRecord.{row_of}
 use Rattle.group_store.specs.Loading.{group_mark}
-use Rattle.group_store.specs.Walking.{IsWalkDamage}
+use Rattle.group_store.specs.Walking.{IsWalkDamage, group_row_at}
 use Rattle.group_store.specs.Walking.IsWalkDamage.{NoList}
-use Rattle.group_store.proofs.GroupWalks.{few_groups, left_more, left_none, link_then, member_then, passed_all, passed_more, passed_none, read_next, reads_more, rec_then, rows_more, not_damaged_at, undamaged, walk_fault}
+use Rattle.group_store.proofs.GroupWalks.{few_groups, few_owned, few_next, few_then, left_more, left_none, link_then, member_then, passed_all, passed_more, passed_none, read_next, reads_more, reads_so_far, rec_then, rows_more, not_damaged_at, undamaged, walk_fault}
 use Rattle.group_store.proofs.walking.groups.Goals as goal
 
 pub loop-init : goal.loop-init
@@ -17,7 +17,7 @@ loop-init g c =
     let mark : c.meta-budget.result.high ≡ group_mark s = ap (λ (m : Meta). m.high) c.meta-budget.ensures in
     record {
       met = λ tells. ([], passed_none s.records c.args.row.now.id c.args.row.now.first, none);
-      left = λ tells xs list. let few = few_groups s.records c.args.row.now.id c.args.row.now.first xs list in (xs, list, omega arith);
+      left = λ tells xs walk few. (xs, walk, omega arith, λ g i. i);
       count = ap length none;
       read = rw none (sym (after_gets-zero s));
       onward = g.met.R.Reads.stays_onward c.args.space.now;
@@ -42,9 +42,9 @@ loop-preserved g c =
             passed_more s.records c.args.row.now.id c.args.row.now.first c.loop.at c.number-at.result met.0 some member link met.1,
             c.in_ok-push.ensures.items ∙ rows_more s.records met.0 rows c.row_of.result c.loop.at (c.row_of.ensures ∙ ap (λ r. row_of r c.loop.at) got) met.2,
           );
-      left = λ tells xs list.
+      left = λ tells xs walk few.
           let link = link_then s now (length rows) c.loop.at c.number-at.result c.in_ok-rec.rec c.loop.invariant.read (c.in_ok-rec.ensures.got tells) c.number-at.ensures in
-          left_more s.records c.args.row.now.id (c.meta-budget.result.high - c.loop.counter) (c.meta-budget.result.high - (c.loop.counter + 1)) c.loop.at c.number-at.result less some link (c.loop.invariant.left tells xs list);
+          left_more s.records (c.meta-budget.result.high - c.loop.counter) (c.meta-budget.result.high - (c.loop.counter + 1)) c.loop.at c.number-at.result xs less some link (c.loop.invariant.left tells xs walk few);
       count = one_more ∙ ap (λ n. n + 1) c.loop.invariant.count;
       read = read_next s now (g.R.Reads.state c.read_member.new.space) (length rows) (length c.push.new.self.items) one_more c.loop.invariant.read c.in_ok-rec.ensures.read;
       onward = g.met.R.Reads.further_onward c.args.space.now c.loop.space c.read_member.new.space c.loop.invariant.onward c.in_ok-rec.ensures.onward;
@@ -99,4 +99,50 @@ returns-then-at-2-clause-damaged g c = λ tells.
     let s = g.R.Reads.state c.args.space.now in
     let ge = c.loop-test.false in
     subst (IsWalkDamage s c.args.row.now.id c.args.row.now.first) (sym c.chain_damage.ensures)
-    (NoList (λ xs list. c.if-at-2.true (left_none s.records c.args.row.now.id (c.meta-budget.result.high - c.loop.counter) c.loop.at (omega arith) (c.loop.invariant.left tells xs list))))
+    (NoList (λ xs list. c.if-at-2.true (left_none s.records (c.meta-budget.result.high - c.loop.counter) c.loop.at xs (omega arith) (c.loop.invariant.left tells xs list.walk (few_owned s.records c.args.row.now.id c.args.row.now.first xs list)))))
+
+pub returns-then-at-clause-few_reads : goal.returns-then-at-clause-few_reads
+returns-then-at-clause-few_reads g c = λ tells xs can.
+    let s = g.R.Reads.state c.args.space.now in
+    let met = c.loop.invariant.met tells in
+    let few = few_then s.records c.args.row.now.id c.args.row.now.first c.loop.at (c.meta-budget.result.high - c.loop.counter) met.0 xs met.1 (c.loop.invariant.left tells xs can.list.walk (few_groups s.records c.args.row.now.id c.args.row.now.first xs can.list)) can.list.walk in
+    let long = ap length met.2 ∙ length-map met.0 (group_row_at s.records) in
+    reads_so_far s (g.R.Reads.state c.loop.space) (length c.loop.rows.items) (length xs) (omega arith) c.loop.invariant.read
+
+pub returns-then-at-2-clause-few_reads : goal.returns-then-at-2-clause-few_reads
+returns-then-at-2-clause-few_reads g c = λ tells xs can.
+    let s = g.R.Reads.state c.args.space.now in
+    let met = c.loop.invariant.met tells in
+    let few = few_then s.records c.args.row.now.id c.args.row.now.first c.loop.at (c.meta-budget.result.high - c.loop.counter) met.0 xs met.1 (c.loop.invariant.left tells xs can.list.walk (few_groups s.records c.args.row.now.id c.args.row.now.first xs can.list)) can.list.walk in
+    let long = ap length met.2 ∙ length-map met.0 (group_row_at s.records) in
+    reads_so_far s (g.R.Reads.state c.loop.space) (length c.loop.rows.items) (length xs) (omega arith) c.loop.invariant.read
+
+pub returns-clause-few_reads : goal.returns-clause-few_reads
+returns-clause-few_reads g c = λ tells xs can.
+    let s = g.R.Reads.state c.args.space.now in
+    let met = c.loop.invariant.met tells in
+    let few = few_then s.records c.args.row.now.id c.args.row.now.first c.loop.at (c.meta-budget.result.high - c.loop.counter) met.0 xs met.1 (c.loop.invariant.left tells xs can.list.walk (few_groups s.records c.args.row.now.id c.args.row.now.first xs can.list)) can.list.walk in
+    let long = ap length met.2 ∙ length-map met.0 (group_row_at s.records) in
+    reads_so_far s (g.R.Reads.state c.loop.space) (length c.loop.rows.items) (length xs) (omega arith) c.loop.invariant.read
+
+pub returns-in_err-rec-clause-few_reads : goal.returns-in_err-rec-clause-few_reads
+returns-in_err-rec-clause-few_reads g c = λ tells xs can.
+    let s = g.R.Reads.state c.args.space.now in
+    let met = c.loop.invariant.met tells in
+    let few = few_next s.records c.args.row.now.id c.args.row.now.first c.loop.at (c.meta-budget.result.high - c.loop.counter) met.0 xs c.if-at.false met.1 (c.loop.invariant.left tells xs can.list.walk (few_groups s.records c.args.row.now.id c.args.row.now.first xs can.list)) can.list.walk in
+    let long = ap length met.2 ∙ length-map met.0 (group_row_at s.records) in
+    reads_more s (g.R.Reads.state c.loop.space) (g.R.Reads.state c.read_member.new.space) (length c.loop.rows.items) 1 (length xs) (omega arith) c.loop.invariant.read c.in_err-rec.ensures.at_most
+
+pub returns-in_err-push-clause-few_reads : goal.returns-in_err-push-clause-few_reads
+returns-in_err-push-clause-few_reads g c = λ tells xs can.
+    let s = g.R.Reads.state c.args.space.now in
+    let met = c.loop.invariant.met tells in
+    let few = few_next s.records c.args.row.now.id c.args.row.now.first c.loop.at (c.meta-budget.result.high - c.loop.counter) met.0 xs c.if-at.false met.1 (c.loop.invariant.left tells xs can.list.walk (few_groups s.records c.args.row.now.id c.args.row.now.first xs can.list)) can.list.walk in
+    let long = ap length met.2 ∙ length-map met.0 (group_row_at s.records) in
+    reads_more s (g.R.Reads.state c.loop.space) (g.R.Reads.state c.read_member.new.space) (length c.loop.rows.items) 1 (length xs) (omega arith) c.loop.invariant.read c.in_ok-rec.ensures.at_most
+
+pub returns-then-at-2-clause-sound : goal.returns-then-at-2-clause-sound
+returns-then-at-2-clause-sound g c = λ tells xs can.
+    let s = g.R.Reads.state c.args.space.now in
+    let ge = c.loop-test.false in
+    absurd (c.if-at-2.true (left_none s.records (c.meta-budget.result.high - c.loop.counter) c.loop.at xs (omega arith) (c.loop.invariant.left tells xs can.list.walk (few_groups s.records c.args.row.now.id c.args.row.now.first xs can.list))))

@@ -1,4 +1,4 @@
-use Rattle.std.proofs.Common.{rules, ◌≡◌, subst, sym}
+use Rattle.std.proofs.Common.{rules, subst, sym}
 use Rattle.rec_bytes.specs.Space.{State}
 use Rattle.store_rules.proofs.MetaLaws.{meta_of_reused}
 use Rattle.id_freelist.specs.Giving.{HasGiven}

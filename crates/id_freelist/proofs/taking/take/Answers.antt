@@ -8,7 +8,9 @@ use Rattle.id_freelist.specs.Taking.{IsTakeFault, is_counted, is_ranged, room}
 use Rattle.id_freelist.specs.declared.take_fault.TakeFault.{TakeFault}
 use Rattle.store_rules.specs.Views.{kind_at}
 use Rattle.rec_bytes.specs.Format.{free_kind}
-use Rattle.id_freelist.proofs.TakeDamages.{sound_of, uncounted, undamaged, unranged}
+use Rattle.id_freelist.specs.declared.take_fault.TakeFault.TheVariants.{Damaged}
+use Rattle.id_freelist.proofs.TakeBreaches.{blames_broken, breaks_of}
+use Rattle.id_freelist.proofs.TakeDamages.{sound_of, undamaged, unranged}
 use Rattle.id_freelist.proofs.taking.take.Goals as goal
 
 -- a test of what was read is one of what the space says
@@ -34,15 +36,11 @@ returns-then-not-is_ranged-clause-sound g c tells free can =
     (tested s c.args.file c.meta-meta.result c.shape.result c.room_of-room.result c.is_ranged.result false c.meta-meta.ensures c.shape.ensures.is c.room_of-room.ensures c.is_ranged.ensures c.if-not-is_ranged.true))) free can
 
 pub returns-then-not-is_counted-clause-refused : goal.returns-then-not-is_counted-clause-refused
-returns-then-not-is_counted-clause-refused g c tells =
-    let s = g.S.Reads.state c.args.space.now in
-    subst (IsTakeFault s c.args.file) (sym c.damaged-then-not-is_counted.ensures) (uncounted s c.args.file (ap is_counted (sym c.meta-meta.ensures) ∙ sym c.is_counted.ensures ∙ c.if-not-is_counted.true))
+returns-then-not-is_counted-clause-refused g c tells = c.in_ok-damage.ensures.is tells
 
 pub returns-then-not-is_counted-clause-sound : goal.returns-then-not-is_counted-clause-sound
 returns-then-not-is_counted-clause-sound g c tells free can =
-    let s = g.S.Reads.state c.args.space.now in
-    sound_of s c.args.file (Err c.damaged-then-not-is_counted.result) (subst (IsTakeFault s c.args.file) (sym c.damaged-then-not-is_counted.ensures)
-    (uncounted s c.args.file (ap is_counted (sym c.meta-meta.ensures) ∙ sym c.is_counted.ensures ∙ c.if-not-is_counted.true))) free can
+    sound_of (g.S.Reads.state c.args.space.now) c.args.file (Err (Damaged c.in_ok-damage.damage)) (c.in_ok-damage.ensures.is tells) free can
 
 pub returns-else-meta-clause-sound : goal.returns-else-meta-clause-sound
 returns-else-meta-clause-sound g c tells free can = sound_of (g.S.Reads.state c.args.space.now) c.args.file c.take_free.result (c.take_free.ensures.refused tells) free can
@@ -66,3 +64,14 @@ returns-in_ok-take_mark-clause-undamaged g c tells =
     let ranged = tested s file c.meta-meta.result c.shape.result c.room_of-room.result c.is_ranged.result true c.meta-meta.ensures c.shape.ensures.is c.room_of-room.ensures c.is_ranged.ensures c.if-not-is_ranged.false in
     let counted = ap is_counted (sym c.meta-meta.ensures) ∙ sym c.is_counted.ensures ∙ c.if-not-is_counted.false in
     undamaged s file ranged counted (λ ne. absurd (ne none)) (λ ne. absurd (ne none))
+
+pub returns-then-not-is_ranged-clause-damaged : goal.returns-then-not-is_ranged-clause-damaged
+returns-then-not-is_ranged-clause-damaged g c tells =
+    let s = g.S.Reads.state c.args.space.now in
+    blames_broken s c.args.file c.requires (Err c.damaged.result) (returns-then-not-is_ranged-clause-refused g c tells)
+
+pub returns-then-not-is_counted-clause-damaged : goal.returns-then-not-is_counted-clause-damaged
+returns-then-not-is_counted-clause-damaged g c tells = breaks_of (g.S.Reads.state c.args.space.now) c.args.file c.requires c.in_ok-damage.damage (c.in_ok-damage.ensures.is tells)
+
+pub returns-else-meta-clause-damaged : goal.returns-else-meta-clause-damaged
+returns-else-meta-clause-damaged g c tells = blames_broken (g.S.Reads.state c.args.space.now) c.args.file c.requires c.take_free.result (c.take_free.ensures.refused tells)

@@ -1,9 +1,11 @@
-use Rattle.std.proofs.Common.{[], arith, ◌∙◌, ap}
+use Rattle.std.proofs.Common.{[], arith, refl}
 use Rattle.std.proofs.lemmas.Result.{err_from_is_err_and}
 use Rattle.rec_bytes.specs.Format.{strings_file}
-use Rattle.rec_bytes.specs.Space.{State}
-use Rattle.prop_store.proofs.BlockSteps.{beside_put, block_written, cannot_take, shape-taken, shape_put}
-use Rattle.prop_store.proofs.Touches.{touches_block, touches_block_taken, touches_more, touches_same, touches_then}
+use Rattle.prop_store.proofs.BlockSteps.{beside_put, block_written, cannot_take}
+use Rattle.prop_store.specs.SetFault.{IsExactTake}
+use Rattle.prop_store.specs.Setting.{BlamesTaken}
+use Rattle.prop_store.proofs.Midway.{exact_take, exact_take_of_space, take_blames, take_has, take_of_space}
+use Rattle.prop_store.proofs.Touches.{touches_reads, touches_block, touches_block_taken, touches_more, touches_same, touches_then}
 use Rattle.prop_store.proofs.block_writing.write_block.Goals as goal
 
 pub returns-in_err-id-clause-refused : goal.returns-in_err-id-clause-refused
@@ -31,3 +33,24 @@ pub returns-clause-touches : goal.returns-clause-touches
 returns-clause-touches g c =
     let took = touches_block_taken (g.S.Reads.state c.args.space.now) (g.S.Reads.state c.take.new.space) (record { writes = c.take.ensures.writes; stays = c.take.ensures.stays }) in
     touches_then [] 0 0 0 1 0 1 _ _ _ (omega arith) (omega arith) took (touches_block (g.S.Reads.state c.take.new.space) (g.S.Reads.state c.put.new.self) c.in_ok-id.id c.block_record.result c.in_ok-put.ensures.ok)
+
+pub returns-in_err-id-clause-damaged : goal.returns-in_err-id-clause-damaged
+returns-in_err-id-clause-damaged g c tells =
+    let s = g.S.Reads.state c.args.space.now in
+    take_has (BlamesTaken g.S.Reads.tells 0 s) c.from_residual.result c.in_err-id.field-0.0 c.from_residual.ensures.1
+    (take_blames g.S.Reads.tells 0 s s c.in_err-id.field-0.0 refl (touches_reads [] 0 0 s s refl) (c.in_err-id.ensures.damaged tells))
+
+pub returns-in_err-put-clause-damaged : goal.returns-in_err-put-clause-damaged
+returns-in_err-put-clause-damaged g c tells =
+    let s = g.S.Reads.state c.args.space.now in
+    take_has (BlamesTaken g.S.Reads.tells 0 s) c.from_residual-in_err-put.result _ c.from_residual-in_err-put.ensures.1 (take_of_space g.S.Reads.tells 0 s c.in_err-put.field-0.0)
+
+pub returns-in_err-id-clause-exact : goal.returns-in_err-id-clause-exact
+returns-in_err-id-clause-exact g c tells =
+    let s = g.S.Reads.state c.args.space.now in
+    take_has (IsExactTake s.shape) c.from_residual.result c.in_err-id.field-0.0 c.from_residual.ensures.1 (exact_take s strings_file c.in_err-id.field-0.0 (c.in_err-id.ensures.refused tells))
+
+pub returns-in_err-put-clause-exact : goal.returns-in_err-put-clause-exact
+returns-in_err-put-clause-exact g c tells =
+    let s = g.S.Reads.state c.args.space.now in
+    take_has (IsExactTake s.shape) c.from_residual-in_err-put.result _ c.from_residual-in_err-put.ensures.1 (exact_take_of_space s.shape c.in_err-put.field-0.0)

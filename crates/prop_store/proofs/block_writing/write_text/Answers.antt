@@ -1,10 +1,14 @@
-use Rattle.std.proofs.Common.{◌<◌, ◌-◌, ◌*◌, ◌∙◌, [], length, drop, ap, arith, refl, rules, length-drop}
+use Rattle.std.proofs.Common.{◌<◌, ◌-◌, ◌*◌, [], length, drop, ap, arith, refl, rules, length-drop, subst}
 use Rattle.std.proofs.lemmas.Result.{err_from_is_err_and}
 use Rattle.std.proofs.lemmas.List.{drop_all}
 use Rattle.rec_bytes.specs.Format.{strings_file}
 use Rattle.prop_store.specs.FileChange.{blocks_for}
 use Rattle.prop_store.proofs.BlockSteps.{blocks_are, drop-piece, keeps_now, length-numbered_piece, may_follow, no_room, nothing_stands, one_written}
 use Rattle.prop_store.proofs.FileSteps.{beside_none, beside_then}
+use Rattle.rec_bytes.specs.declared.shape.Shape.{Shape}
+use Rattle.prop_store.specs.SetFault.{IsExactTake}
+use Rattle.prop_store.specs.Setting.{BlamesTaken}
+use Rattle.prop_store.proofs.Midway.{later_take, take_has}
 use Rattle.prop_store.proofs.Touches.{touches_more, touches_reads, touches_then}
 use Rattle.prop_store.proofs.block_writing.write_text.Goals as goal
 
@@ -76,3 +80,19 @@ returns-in_err-first-clause-touches g c =
 
 pub returns-clause-touches : goal.returns-clause-touches
 returns-clause-touches g c = touches_more [] 0 _ 0 _ _ _ (omega arith) (omega arith) c.loop-left.invariant.touches
+
+pub returns-in_err-first-clause-damaged : goal.returns-in_err-first-clause-damaged
+returns-in_err-first-clause-damaged g c tells =
+    let old = g.S.Reads.state c.args.space.now in
+    let now = g.S.Reads.state c.loop-left.space in
+    let count = blocks_for (length c.args.text.now) in
+    let few = c.loop-left.invariant.few in
+    take_has (BlamesTaken g.S.Reads.tells count old) c.from_residual.result c.in_err-first.field-0.0 c.from_residual.ensures.1
+    (later_take g.S.Reads.tells (count - c.loop-left.left) 0 count old now c.in_err-first.field-0.0 (omega arith) (g.met.S.Reads.onward_shape _ _ c.loop-left.invariant.onward) c.loop-left.invariant.touches (c.in_err-first.ensures.damaged tells))
+
+pub returns-in_err-first-clause-exact : goal.returns-in_err-first-clause-exact
+returns-in_err-first-clause-exact g c tells =
+    let old = g.S.Reads.state c.args.space.now in
+    let fault = c.in_err-first.field-0.0 in
+    take_has (IsExactTake old.shape) c.from_residual.result fault c.from_residual.ensures.1
+    (subst (λ (h : Shape). IsExactTake h fault) (g.met.S.Reads.onward_shape _ _ c.loop-left.invariant.onward) (c.in_err-first.ensures.exact tells))

@@ -1,4 +1,4 @@
-use Rattle.std.proofs.Common.{◌≡◌, ◌≤◌, ◌-◌, ◌*◌, [], drop, length}
+use Rattle.std.proofs.Common.{◌≤◌, ◌-◌, ◌*◌, [], drop, length}
 use Rattle.rec_bytes.specs.Format.{strings_file}
 use Rattle.prop_store.specs.FileChange.{IsSameBeside, KeepsFile, blocks_for}
 use Rattle.prop_store.specs.Touching.{TouchesProperties}

@@ -1,10 +1,16 @@
-use Rattle.std.proofs.Common.{arith, rules, ap, ◌∙◌, ◌++◌, ◌+◌, ◌≡◌, List, ℕ, length, inr}
+use Rattle.std.proofs.Common.{arith, rules, ap, sym, subst, ◌∙◌, ◌++◌, ◌+◌, ◌≡◌, List, ℕ, length, inr, refl}
 use Rattle.std.proofs.lemmas.Result.{err_from_is_err_and}
 use Rattle.std.proofs.lemmas.List.{length_push}
-use Rattle.rec_bytes.specs.Format.{strings_file}
-use Rattle.store_rules.specs.Views.{rec_at}
+use Rattle.rec_bytes.specs.Format.{block_next, strings_file}
+use Rattle.rec_bytes.specs.Record.{field}
+use Rattle.rec_bytes.specs.Space.{State}
+use Rattle.store_rules.specs.Views.{Records, rec_at}
 use Rattle.prop_store.proofs.ListLaws.{append_one}
-use Rattle.prop_store.proofs.ReadCounts.{reads_none, reads_one, reads_records, reads_then}
+use Rattle.prop_store.specs.Blocks.{IsBlockOf, IsTextFault}
+use Rattle.store_rules.specs.Chains.{In}
+use Rattle.prop_store.proofs.Breaches.{block_fault, leads_on, text_begins, text_goes_on, text_too_long}
+use Rattle.prop_store.proofs.Exits.{same_has}
+use Rattle.prop_store.proofs.ReadCounts.{reads_none, reads_one, reads_records, reads_same, reads_then}
 use Rattle.prop_store.proofs.TextSteps.{all_left, block_here, right_here, text_after, text_over}
 use Rattle.prop_store.proofs.blocks.block_ids.Goals as goal
 
@@ -12,6 +18,8 @@ pub loop-left-init : goal.loop-left-init
 loop-left-init g c = record {
   told = λ tells text blocks has. all_left _ _ _ text blocks _ has (ap (λ (z : List ℕ). z ++ blocks) c.new-ids.ensures);
   sound = λ tells text blocks has given. all_left _ _ _ text blocks _ has given;
+  reached = λ tells text. text_begins (g.R.Reads.state c.args.space.now).records c.args.property _ c.args.first c.args.size text refl;
+  leads = λ tells text b i. elim (subst (In b) c.new-ids.ensures i) [ ];
   few = let none : length c.new-ids.result ≡ 0 = ap (λ (z : List ℕ). length z) c.new-ids.ensures in omega arith;
   reads = reads_none _ _;
   onward = search rules;
@@ -48,6 +56,11 @@ loop-left-preserved g c =
           let got = c.in_ok-rec.ensures.got tells ∙ ap (λ r. rec_at r strings_file c.loop-left.at) same in
           text_after (rec_at old.records strings_file) c.loop-left.at c.loop-left.left _ _ here c.in_ok-rec.rec c.piece_size-piece.result c.number-at.result got c.piece_size-piece.ensures c.number-at.ensures
           (λ x i. here.kept x (inr i));
+      reached = λ tells text.
+          let got = c.in_ok-rec.ensures.got tells ∙ ap (λ r. rec_at r strings_file c.loop-left.at) same in
+          text_goes_on old.records c.args.property c.loop-left.from _ c.loop-left.at c.loop-left.left c.piece_size-piece.result c.number-at.result (c.loop-left.invariant.reached tells text) (omega (arith, c.loop-left-test.true)) c.piece_size-piece.ensures
+          (subst (λ (r : Records). IsBlockOf r c.loop-left.at c.piece_size-piece.result) same (c.in_ok-rec.ensures.block tells)) (c.number-at.ensures ∙ ap (λ r. field 4 r block_next) got) refl;
+      leads = λ tells text. leads_on old.records c.args.property c.loop-left.from ids c.push.new.self c.loop-left.at c.loop-left.left text.long (c.loop-left.invariant.reached tells text) (omega (arith, c.loop-left-test.true)) c.push.ensures (c.loop-left.invariant.leads tells text);
       few = omega (arith, c.loop-left.invariant.few, c.piece_size-piece.ensures, more);
       reads = reads_then _ 1 _ _ _ _ (omega (arith, more)) c.loop-left.invariant.reads (reads_one 1 _ _ (omega arith) c.in_ok-rec.ensures.state);
       onward = g.met.R.Reads.further_onward _ _ _ c.loop-left.invariant.onward c.in_ok-rec.ensures.onward;
@@ -57,3 +70,18 @@ loop-left-preserved g c =
 pub returns-then-at-clause-sound : goal.returns-then-at-clause-sound
 returns-then-at-clause-sound g c tells text blocks has given =
     absurd (c.if-at.true (text_over _ _ _ _ (omega (arith, c.loop-left-test.false)) (c.loop-left.invariant.sound tells text blocks has given)).none)
+
+pub returns-in_err-rec-clause-damaged : goal.returns-in_err-rec-clause-damaged
+returns-in_err-rec-clause-damaged g c tells text =
+    let old = g.R.Reads.state c.args.space.now in
+    let now = g.R.Reads.state c.loop-left.space in
+    let reads = c.loop-left.invariant.reads in
+    same_has (IsTextFault old c.args.property) c.from_residual.result c.in_err-rec.field-0.0 c.from_residual.ensures.1
+    (block_fault old now (reads_records _ old now reads) (ap (λ (z : State). z.shape) (reads_same _ old now reads)) c.args.property c.loop-left.from c.loop-left.at c.loop-left.left c.piece_size-piece.result c.in_err-rec.field-0.0 text.long
+    (c.loop-left.invariant.reached tells text) (omega (arith, c.loop-left-test.true)) c.piece_size-piece.ensures (c.in_err-rec.ensures.damaged tells))
+
+pub returns-then-at-clause-damaged : goal.returns-then-at-clause-damaged
+returns-then-at-clause-damaged g c tells text =
+    let old = g.R.Reads.state c.args.space.now in
+    subst (IsTextFault old c.args.property) (sym c.damaged.ensures)
+    (text_too_long old c.args.property c.loop-left.from c.loop-left.at c.loop-left.left text.long (c.loop-left.invariant.reached tells text) (omega (arith, c.loop-left-test.false)) c.if-at.true)

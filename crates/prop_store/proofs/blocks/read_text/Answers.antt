@@ -1,11 +1,15 @@
-use Rattle.std.proofs.Common.{arith, rules, ap, ◌∙◌, ◌++◌, ◌+◌, ◌≡◌, ◌≤◌, List, ℕ, length, inr, length-append}
+use Rattle.std.proofs.Common.{arith, rules, ap, sym, subst, ◌∙◌, ◌++◌, ◌+◌, ◌≡◌, ◌≤◌, List, ℕ, length, inr, length-append, refl}
 use Rattle.std.proofs.lemmas.Result.{err_from_is_err_and}
-use Rattle.rec_bytes.specs.Format.{block_text, strings_file}
-use Rattle.rec_bytes.specs.Record.{text_in}
+use Rattle.rec_bytes.specs.Format.{block_next, block_text, strings_file}
+use Rattle.rec_bytes.specs.Record.{field, text_in}
 use Rattle.rec_bytes.proofs.Texts.{length-text_in}
 use Rattle.store_rules.specs.Properties.{long_text_from}
-use Rattle.store_rules.specs.Views.{rec_at}
-use Rattle.prop_store.proofs.ReadCounts.{reads_none, reads_one, reads_records, reads_then}
+use Rattle.rec_bytes.specs.Space.{State}
+use Rattle.store_rules.specs.Views.{Records, rec_at}
+use Rattle.prop_store.specs.Blocks.{IsBlockOf, IsTextFault}
+use Rattle.prop_store.proofs.Breaches.{block_fault, text_begins, text_goes_on, text_too_long}
+use Rattle.prop_store.proofs.Exits.{same_has}
+use Rattle.prop_store.proofs.ReadCounts.{reads_none, reads_one, reads_records, reads_same, reads_then}
 use Rattle.prop_store.proofs.TextSteps.{all_left, block_here, piece_read, right_here, text_after, text_over, text_read}
 use Rattle.prop_store.proofs.blocks.read_text.Goals as goal
 
@@ -13,6 +17,7 @@ pub loop-left-init : goal.loop-left-init
 loop-left-init g c = record {
   met = λ tells. ap (λ (z : List ℕ). z ++ long_text_from (rec_at (g.R.Reads.state c.args.space.now).records strings_file) c.args.size c.args.first) c.new-bytes.ensures.items;
   sound = λ tells text blocks has given. all_left _ _ _ text blocks _ has given;
+  reached = λ tells text. text_begins (g.R.Reads.state c.args.space.now).records c.args.property _ c.args.first c.args.size text refl;
   size = let none : length c.new-bytes.result.items ≡ 0 = ap (λ (z : List ℕ). length z) c.new-bytes.ensures.items in omega arith;
   reads = reads_none _ _;
   onward = search rules;
@@ -40,6 +45,10 @@ loop-left-preserved g c =
           let got = c.in_ok-rec.ensures.got tells ∙ ap (λ r. rec_at r strings_file c.loop-left.at) same in
           text_after (rec_at old.records strings_file) c.loop-left.at left _ _ here c.in_ok-rec.rec c.piece_size-piece.result c.number-at.result got piece c.number-at.ensures
           (λ x i. here.kept x (inr i));
+      reached = λ tells text.
+          let got = c.in_ok-rec.ensures.got tells ∙ ap (λ r. rec_at r strings_file c.loop-left.at) same in
+          text_goes_on old.records c.args.property c.loop-left.from _ c.loop-left.at c.loop-left.left c.piece_size-piece.result c.number-at.result (c.loop-left.invariant.reached tells text) (omega (arith, c.loop-left-test.true)) c.piece_size-piece.ensures
+          (subst (λ (r : Records). IsBlockOf r c.loop-left.at c.piece_size-piece.result) same (c.in_ok-rec.ensures.block tells)) (c.number-at.ensures ∙ ap (λ r. field 4 r block_next) got) refl;
       size = omega (arith, more, c.loop-left.invariant.size, piece);
       reads = reads_then _ 1 _ _ _ _ (omega (arith, piece)) c.loop-left.invariant.reads (reads_one 1 _ _ (omega arith) c.in_ok-rec.ensures.state);
       onward = g.met.R.Reads.further_onward _ _ _ c.loop-left.invariant.onward c.in_ok-rec.ensures.onward;
@@ -67,3 +76,18 @@ returns-then-at-clause-sound g c tells text blocks has given =
 
 pub returns-clause-met : goal.returns-clause-met
 returns-clause-met g c tells = text_read (rec_at (g.R.Reads.state c.args.space.now).records strings_file) c.loop-left.bytes.items _ c.loop-left.at c.loop-left.left (omega (arith, c.loop-left-test.false)) (c.loop-left.invariant.met tells)
+
+pub returns-in_err-rec-clause-damaged : goal.returns-in_err-rec-clause-damaged
+returns-in_err-rec-clause-damaged g c tells text =
+    let old = g.R.Reads.state c.args.space.now in
+    let now = g.R.Reads.state c.loop-left.space in
+    let reads = c.loop-left.invariant.reads in
+    same_has (IsTextFault old c.args.property) c.from_residual.result c.in_err-rec.field-0.0 c.from_residual.ensures.1
+    (block_fault old now (reads_records _ old now reads) (ap (λ (z : State). z.shape) (reads_same _ old now reads)) c.args.property c.loop-left.from c.loop-left.at c.loop-left.left c.piece_size-piece.result c.in_err-rec.field-0.0 text.long
+    (c.loop-left.invariant.reached tells text) (omega (arith, c.loop-left-test.true)) c.piece_size-piece.ensures (c.in_err-rec.ensures.damaged tells))
+
+pub returns-then-at-clause-damaged : goal.returns-then-at-clause-damaged
+returns-then-at-clause-damaged g c tells text =
+    let old = g.R.Reads.state c.args.space.now in
+    subst (IsTextFault old c.args.property) (sym c.damaged.ensures)
+    (text_too_long old c.args.property c.loop-left.from c.loop-left.at c.loop-left.left text.long (c.loop-left.invariant.reached tells text) (omega (arith, c.loop-left-test.false)) c.if-at.true)

@@ -1,4 +1,4 @@
-use Rattle.std.proofs.Common.{[], List, sym, ap, ◌∙◌, subst, arith, inl, refl, ◌∷◌}
+use Rattle.std.proofs.Common.{◌≡◌, [], List, sym, ap, ◌∙◌, subst, arith, inl, refl, ◌∷◌}
 use Rattle.std.proofs.lemmas.Result.{err_from_is_err_and}
 use Rattle.rec_bytes.specs.Space.{State}
 use Rattle.store_rules.specs.Properties.{Property}
@@ -6,6 +6,9 @@ use Rattle.prop_store.specs.Alone.{OwnsProperties}
 use Rattle.prop_store.specs.Dropping.{AreHeld, DropsProperties}
 use Rattle.prop_store.proofs.ElementChanges.{all_dropped, drops_read, first_kept, first_set, held_read}
 use Rattle.prop_store.proofs.ElementGraphs.{drops_graph, owns_listed}
+use Rattle.prop_store.specs.Fault.{BlamesDropped}
+use Rattle.prop_store.specs.Owner.{IsInUse, first_of}
+use Rattle.prop_store.proofs.Exits.{same_has, space_has}
 use Rattle.prop_store.proofs.ReadCounts.{reads_one, reads_same}
 use Rattle.prop_store.proofs.Touches.{touches_after, touches_beside, touches_more, touches_owner, touches_reads, touches_then}
 use Rattle.prop_store.proofs.WriteCounts.{touched_beside}
@@ -108,3 +111,19 @@ returns-else-first-clause-at_most g c = touches_after _ 32 704 _ _ _ (reads_same
 
 pub returns-else-first-clause-writes : goal.returns-else-first-clause-writes
 returns-else-first-clause-writes g c = touched_beside c.in_ok-dropped.dropped.properties c.in_ok-dropped.dropped.blocks _ _ _ c.args.owner.key (omega arith) (returns-else-first-clause-touches g c)
+
+-- ---- which record is blamed
+
+pub returns-in_err-first-clause-damaged : goal.returns-in_err-first-clause-damaged
+returns-in_err-first-clause-damaged g c tells used =
+    let s = g.S.Reads.state c.args.space.now in
+    space_has (BlamesDropped s.records s.shape) tt tt c.from_residual.result c.in_err-first.field-0.0 c.from_residual.ensures.1
+
+pub returns-in_err-dropped-clause-damaged : goal.returns-in_err-dropped-clause-damaged
+returns-in_err-dropped-clause-damaged g c tells used =
+    let s = g.S.Reads.state c.args.space.now in
+    let z = g.S.Reads.state c.first.new.space in
+    let fault = c.in_err-dropped.field-0.0 in
+    let said : IsInUse s.records c.args.owner → c.in_ok-first.first ≡ first_of s.records c.args.owner → BlamesDropped s.records s.shape fault
+    = subst (λ (y : State). IsInUse y.records c.args.owner → c.in_ok-first.first ≡ first_of y.records c.args.owner → BlamesDropped y.records y.shape fault) c.first.ensures.state (c.in_err-dropped.ensures.damaged tells) in
+    same_has (BlamesDropped s.records s.shape) c.from_residual-in_err-dropped.result fault c.from_residual-in_err-dropped.ensures.1 (said used (c.in_ok-first.ensures.got tells))

@@ -7,11 +7,16 @@ use Rattle.rec_bytes.proofs.Numbers.{field-lt}
 use Rattle.store_rules.specs.Properties.{Property}
 use Rattle.prop_store.specs.Alone.{OwnsProperties}
 use Rattle.prop_store.specs.Dropping.{IsHeld}
-use Rattle.prop_store.specs.Finding.{FoundAt, IsPlaced, IsSought}
+use Rattle.store_rules.specs.Views.{Records}
+use Rattle.prop_store.specs.Fault.{BlamesBroken}
+use Rattle.prop_store.specs.Finding.{FoundAt, IsPlaced, IsReadAt, IsSought}
+use Rattle.prop_store.specs.PropertyRow.{IsReadRow}
 use Rattle.prop_store.proofs.ElementChanges.{has_properties}
 use Rattle.prop_store.proofs.ElementGraphs.{absent_value, owns_listed, removes_graph}
 use Rattle.prop_store.proofs.ElementParts.{drops_same, held_same, held_spot}
-use Rattle.prop_store.proofs.ReadCounts.{reads_same, reads_one}
+use Rattle.prop_store.proofs.Breaches.{text_blames, text_fault_same}
+use Rattle.prop_store.proofs.Exits.{same_has, space_has}
+use Rattle.prop_store.proofs.ReadCounts.{reads_records, reads_same, reads_one}
 use Rattle.prop_store.proofs.Touches.{touches_after, touches_beside, touches_link, touches_more, touches_reads, touches_then}
 use Rattle.prop_store.proofs.ValueRemovals.{value_removed}
 use Rattle.prop_store.proofs.WriteCounts.{at_most_then, one_writes, reads_write, touched_count}
@@ -161,3 +166,25 @@ returns-in_ok-set_number-in-Found-clause-few_writes g c =
     at_most_then 23 1 24 _ m t (omega arith)
     (at_most_then 0 23 23 _ r m (omega arith) (reads_write 0 _ r (reads_same 33 _ _ c.find.ensures.at_most)) (touched_count 1 22 23 r m (omega arith) c.drop_property.ensures.at_most))
     (one_writes m t c.in-Found.spot.link.key placed.link.own c.set_number.ensures.writes)
+
+-- ---- which record is blamed
+
+pub returns-in_err-find-clause-damaged : goal.returns-in_err-find-clause-damaged
+returns-in_err-find-clause-damaged g c tells used =
+    let s = g.S.Reads.state c.args.space.now in
+    same_has (BlamesBroken s.records s.shape) c.from_residual.result c.in_err-find.field-0.0 c.from_residual.ensures.1 (c.in_err-find.ensures.damaged tells used)
+
+pub returns-in_err-released-in-Found-clause-damaged : goal.returns-in_err-released-in-Found-clause-damaged
+returns-in_err-released-in-Found-clause-damaged g c tells used =
+    let s = g.S.Reads.state c.args.space.now in
+    let r = g.S.Reads.state c.find.new.space in
+    let reads = c.in_ok-find.ensures.at_most in
+    let read = subst (λ (z : Records). IsReadRow z c.in-Found.spot.row) (sym (reads_records 33 s r reads)) (subst (IsReadAt s.records) c.in-Found.is (c.in_ok-find.ensures.read tells)) in
+    same_has (BlamesBroken s.records s.shape) c.from_residual-in_err-released-in-Found.result c.in_err-released-in-Found.field-0.0 c.from_residual-in_err-released-in-Found.ensures.1
+    (text_blames s c.in-Found.spot.row.id c.in_err-released-in-Found.field-0.0
+    (text_fault_same s r (reads_records 33 s r reads) (ap (λ (z : State). z.shape) (reads_same 33 s r reads)) c.in-Found.spot.row.id c.in_err-released-in-Found.field-0.0 (c.in_err-released-in-Found.ensures.damaged tells read)))
+
+pub returns-in_err-set_number-in-Found-clause-damaged : goal.returns-in_err-set_number-in-Found-clause-damaged
+returns-in_err-set_number-in-Found-clause-damaged g c tells used =
+    let s = g.S.Reads.state c.args.space.now in
+    space_has (BlamesBroken s.records s.shape) tt tt c.from_residual-in_err-set_number-in-Found.result c.in_err-set_number-in-Found.field-0.0 c.from_residual-in_err-set_number-in-Found.ensures.1

@@ -1,17 +1,25 @@
-use Rattle.std.proofs.Common.{[], sym, ap, ◌∙◌, subst, arith, refl, rules}
+use Rattle.std.proofs.Common.{◌≡◌, ◌≢◌, ℕ, [], sym, ap, ◌∙◌, subst, inl, arith, refl, rules}
 use Rattle.std.proofs.lemmas.Result.{err_from_is_err_and}
-use Rattle.rec_bytes.specs.Format.{properties_file, property_next}
+use Rattle.rec_bytes.specs.Format.{free_kind, properties_file, property_next}
 use Rattle.rec_bytes.specs.Record.{field}
 use Rattle.rec_bytes.specs.Space.{State}
-use Rattle.store_rules.specs.Views.{rec_at}
+use Rattle.store_rules.specs.Views.{Records, kind_at, rec_at}
+use Rattle.prop_store.specs.Blocks.{IsTextFault}
+use Rattle.prop_store.specs.Dropping.{HasCleared}
+use Rattle.prop_store.specs.Fault.{BlamesDropped}
+use Rattle.prop_store.specs.PropertyRow.{IsReadRow}
+use Rattle.prop_store.proofs.Breaches.{text_fault_same, too_many}
 use Rattle.prop_store.proofs.ChainDrops.{Left, all_left, given_out, has_content, held_here, here, left_read, none_left, one_less}
-use Rattle.prop_store.proofs.ReadCounts.{reads_same}
+use Rattle.prop_store.proofs.Clearing.{cleared_next, row_blames_before, text_blames_before, walk_cleared_first}
+use Rattle.prop_store.proofs.Exits.{same_has}
+use Rattle.prop_store.proofs.ReadCounts.{reads_records, reads_same}
 use Rattle.prop_store.proofs.Touches.{touches_after, touches_more, touches_reads, touches_then}
 use Rattle.prop_store.proofs.dropping.drop_chain.Goals as goal
 
 pub loop-at-init : goal.loop-at-init
 loop-at-init g c = record {
   told = λ tells es held. all_left _ es c.args.first held;
+  walk = λ tells is. walk_cleared_first (g.S.Reads.state c.args.space.now).records c.args.owner c.args.owner.key c.args.first refl is;
   few = omega arith;
   small = omega arith;
   touches = touches_reads [] 0 0 _ _ refl;
@@ -55,6 +63,16 @@ loop-at-preserved g c =
           one_less old read es c.loop-at.at c.loop-at.properties c.loop-at.blocks at then c.in_ok-released.released c.number-at.result _ _ (g.met.S.Reads.onward_shape _ _ c.drop_property.ensures.onward)
           (c.in_ok-released.ensures.dropped tells at.property (held_here old read es c.loop-at.at c.loop-at.properties c.loop-at.blocks at c.in_ok-row.row c.in_ok-row.ensures.row.id_is got))
           (c.number-at.ensures ∙ ap (λ r. field 4 r property_next) got) refl refl;
+      walk = λ tells is.
+          let w = i.walk tells is in
+          let at = c.loop-at.at in
+          let same : read.records ≡ now.records = reads_records 1 now read c.property_at.ensures.at_most in
+          let its : IsReadRow now.records c.in_ok-row.row = c.in_ok-row.ensures.read tells in
+          let there : kind_at now.records properties_file at ≢ free_kind = subst (λ (z : ℕ). kind_at now.records properties_file z ≢ free_kind) c.in_ok-row.ensures.row.id_is its.used in
+          cleared_next old.records now.records then.records c.args.owner c.loop-at.from _ at c.loop-at.properties c.number-at.result w.reached w.cleared c.loop-at-test.true there
+          (c.number-at.ensures ∙ ap (λ r. field 4 r property_next) (c.in_ok-row.ensures.got tells)) refl
+          (subst (λ (z : ℕ). HasCleared now.records then.records z) c.in_ok-row.ensures.row.id_is (subst (λ (r : Records). HasCleared r then.records c.in_ok-row.row.id) same
+          (c.in_ok-released.ensures.cleared tells (subst (λ (r : Records). IsReadRow r c.in_ok-row.row) (sym same) its))));
       few = let f = i.few in let ne = c.if-properties-eq-MOST_PROPERTIES.false in omega arith;
       small = let s = i.small in let r = c.in_ok-released.ensures.few in omega arith;
       touches = touches_then [] c.loop-at.properties c.loop-at.blocks 1 c.in_ok-released.released _ _ old now then (omega arith) (omega arith) i.touches
@@ -91,3 +109,36 @@ returns-in_err-released-clause-at_most g c =
 
 pub returns-clause-at_most : goal.returns-clause-at_most
 returns-clause-at_most g c = let few = c.loop-at.invariant.few in let small = c.loop-at.invariant.small in touches_more [] _ _ 32 704 _ _ (omega arith) (omega arith) c.loop-at.invariant.touches
+
+-- ---- which record is blamed
+
+pub returns-then-properties-eq-MOST_PROPERTIES-clause-damaged : goal.returns-then-properties-eq-MOST_PROPERTIES-clause-damaged
+returns-then-properties-eq-MOST_PROPERTIES-clause-damaged g c tells used is =
+    let old = g.S.Reads.state c.args.space.now in
+    let w = c.loop-at.invariant.walk tells is in
+    subst (BlamesDropped old.records old.shape) (sym c.damaged.ensures)
+    (inl (too_many old c.args.owner c.requires used c.loop-at.from c.loop-at.at c.loop-at.properties w.reached c.loop-at-test.true (omega (arith, c.if-properties-eq-MOST_PROPERTIES.true))))
+
+pub returns-in_err-row-clause-damaged : goal.returns-in_err-row-clause-damaged
+returns-in_err-row-clause-damaged g c tells used is =
+    let old = g.S.Reads.state c.args.space.now in
+    let now = g.S.Reads.state c.loop-at.space in
+    let w = c.loop-at.invariant.walk tells is in
+    same_has (BlamesDropped old.records old.shape) c.from_residual.result c.in_err-row.field-0.0 c.from_residual.ensures.1
+    (row_blames_before old now c.args.owner c.requires used (g.met.S.Reads.onward_shape _ _ c.loop-at.invariant.onward) c.loop-at.from c.loop-at.at c.loop-at.properties w.reached w.cleared c.loop-at-test.true
+    c.in_err-row.field-0.0 (c.in_err-row.ensures.damaged tells))
+
+pub returns-in_err-released-clause-damaged : goal.returns-in_err-released-clause-damaged
+returns-in_err-released-clause-damaged g c tells used is =
+    let old = g.S.Reads.state c.args.space.now in
+    let now = g.S.Reads.state c.loop-at.space in
+    let read = g.S.Reads.state c.property_at.new.space in
+    let w = c.loop-at.invariant.walk tells is in
+    let reads = c.in_ok-row.ensures.at_most in
+    let same = reads_records 1 now read reads in
+    let its = subst (λ (r : Records). IsReadRow r c.in_ok-row.row) (sym same) (c.in_ok-row.ensures.read tells) in
+    let fault = c.in_err-released.field-0.0 in
+    same_has (BlamesDropped old.records old.shape) c.from_residual-in_err-released.result fault c.from_residual-in_err-released.ensures.1
+    (text_blames_before old now c.args.owner c.requires used (g.met.S.Reads.onward_shape _ _ c.loop-at.invariant.onward) c.loop-at.from c.loop-at.at c.loop-at.properties w.reached w.cleared c.loop-at-test.true fault
+    (subst (λ (z : ℕ). IsTextFault now z fault) c.in_ok-row.ensures.row.id_is
+    (text_fault_same now read same (ap (λ (z : State). z.shape) (reads_same 1 now read reads)) c.in_ok-row.row.id fault (c.in_err-released.ensures.damaged tells its))))

@@ -2,7 +2,9 @@ use Rattle.std.proofs.Common.{◌≡◌, ◌≤◌, ◌*◌, ◌-◌, [], List}
 use Rattle.store_rules.specs.Properties.{Property}
 use Rattle.prop_store.specs.Dropping.{AreHeld}
 use Rattle.prop_store.specs.Touching.{TouchesProperties}
+use Rattle.prop_store.specs.Owner.{first_of}
 use Rattle.prop_store.proofs.ChainDrops.{Left}
+use Rattle.prop_store.proofs.Clearing.{WalkCleared}
 use Rattle.prop_store.proofs.dropping.drop_chain.Given as goal
 
 -- so many were given back, and the others are left
@@ -12,6 +14,7 @@ invariant-loop-at g l =
     let now = g.S.Reads.state l.space in
     record {
       told : g.S.Reads.tells → (es : List Property) → AreHeld old l.fn.first es → Left old now es l.at l.properties l.blocks;
+      walk : g.S.Reads.tells → l.fn.first ≡ first_of old.records l.fn.owner → WalkCleared old.records now.records l.fn.owner l.from l.at l.properties;
       few : l.properties ≤ 32;
       small : l.blocks ≤ 22 * l.properties;
       touches : TouchesProperties g.S.Reads.tells [] l.properties l.blocks old now;

@@ -1,9 +1,11 @@
-use Rattle.std.proofs.Common.{List, [], ℕ, length, ap, arith, ◌∙◌}
+use Rattle.std.proofs.Common.{List, [], ℕ, length, ap, arith, subst, ◌∙◌}
 use Rattle.std.proofs.lemmas.Result.{err_from_is_err_and}
-use Rattle.rec_bytes.specs.Space.{State}
 use Rattle.prop_store.proofs.DropSteps.{blocks_given_out, property_dropped}
-use Rattle.prop_store.proofs.Exits.{space_exit}
-use Rattle.prop_store.proofs.ReadCounts.{reads_same}
+use Rattle.store_rules.specs.Chains.{In}
+use Rattle.prop_store.specs.Blocks.{IsTextFault}
+use Rattle.prop_store.proofs.Clearing.{property_cleared}
+use Rattle.prop_store.proofs.Exits.{same_has, space_exit, space_has}
+use Rattle.prop_store.proofs.ReadCounts.{reads_records, reads_same}
 use Rattle.prop_store.proofs.Touches.{touches_dropped, touches_freed, touches_more, touches_reads}
 use Rattle.prop_store.proofs.dropping.drop_property.Goals as goal
 
@@ -52,3 +54,27 @@ returns-clause-touches g c =
 
 pub returns-clause-at_most : goal.returns-clause-at_most
 returns-clause-at_most g c = let few = c.as_slice-ids.ensures.few in touches_more [] 1 (length c.as_slice-ids.result.now) 1 22 _ _ (omega arith) (omega arith) (returns-clause-touches g c)
+
+-- ---- which record is blamed
+
+pub returns-in_err-blocks-clause-damaged : goal.returns-in_err-blocks-clause-damaged
+returns-in_err-blocks-clause-damaged g c tells read =
+    same_has (IsTextFault (g.S.Reads.state c.args.space.now) c.args.row.now.id) c.from_residual.result c.in_err-blocks.field-0.0 c.from_residual.ensures.1 (c.in_err-blocks.ensures.damaged tells read)
+
+pub returns-in_err-release-clause-damaged : goal.returns-in_err-release-clause-damaged
+returns-in_err-release-clause-damaged g c tells read =
+    space_has (IsTextFault (g.S.Reads.state c.args.space.now) c.args.row.now.id) tt tt c.from_residual-in_err-release.result c.in_err-release.field-0.0 c.from_residual-in_err-release.ensures.1
+
+pub returns-in_err-give-clause-damaged : goal.returns-in_err-give-clause-damaged
+returns-in_err-give-clause-damaged g c tells read =
+    space_has (IsTextFault (g.S.Reads.state c.args.space.now) c.args.row.now.id) tt tt c.from_residual-in_err-give.result c.in_err-give.field-0.0 c.from_residual-in_err-give.ensures.1
+
+pub returns-clause-cleared : goal.returns-clause-cleared
+returns-clause-cleared g c tells read =
+    let s = g.S.Reads.state c.args.space.now in
+    let a = g.S.Reads.state c.value_blocks.new.space in
+    let b = g.S.Reads.state c.release.new.space in
+    let t = g.S.Reads.state c.give.new.space in
+    property_cleared s a b t c.args.row.now.id c.as_slice-ids.result.now (reads_records 22 s a c.value_blocks.ensures.at_most)
+    (λ x i. c.in_ok-blocks.ensures.leads tells read x (subst (In x) c.as_slice-ids.ensures.is i))
+    (c.in_ok-release.ensures.beside tells) (c.in_ok-release.ensures.freed tells) c.requires.small (c.in_ok-give.ensures.ok tells)

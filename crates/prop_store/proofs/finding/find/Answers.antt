@@ -1,16 +1,22 @@
-use Rattle.std.proofs.Common.{arith, rules, ap, sym, ◌∙◌, ◌≡◌, ◌<◌, refl, inl, inr, subst}
+use Rattle.std.proofs.Common.{arith, rules, ap, sym, ◌∙◌, ◌≡◌, ◌≢◌, ◌<◌, ℕ, refl, inl, inr, subst}
 use Rattle.std.proofs.lemmas.Result.{err_from_is_err_and}
-use Rattle.rec_bytes.specs.Format.{most_ids, properties_file, property_key}
+use Rattle.rec_bytes.specs.Format.{free_kind, most_ids, properties_file, property_key, property_next}
 use Rattle.rec_bytes.specs.Record.{field}
 use Rattle.store_rules.specs.Properties.{property_records}
-use Rattle.store_rules.specs.Views.{rec_at}
+use Rattle.rec_bytes.specs.Space.{State}
+use Rattle.store_rules.specs.Views.{Records, kind_at, rec_at}
 use Rattle.prop_store.specs.Link.{IsLink, IsLinkOf, link_of, next_link}
+use Rattle.prop_store.specs.Fault.{BlamesBroken}
 use Rattle.prop_store.specs.Finding.{property_of}
+use Rattle.prop_store.specs.PropertyRow.{IsReadRow}
+use Rattle.prop_store.specs.declared.link.Link.{Link}
 use Rattle.prop_store.proofs.Ahead.{ahead, ahead_none, ahead_over, met_here, passed_by}
+use Rattle.prop_store.proofs.Breaches.{reached_first, reached_next, row_blames, row_fault_same, too_many}
+use Rattle.prop_store.proofs.Exits.{same_has}
 use Rattle.prop_store.proofs.ElementSteps.{meta_of_element}
 use Rattle.prop_store.proofs.Keys.{absent_key, found_here, keys_passed, link_after-one}
 use Rattle.prop_store.proofs.OwnerPlaces.{place_within}
-use Rattle.prop_store.proofs.ReadCounts.{reads_one, reads_records, reads_then}
+use Rattle.prop_store.proofs.ReadCounts.{reads_one, reads_records, reads_same, reads_then}
 use Rattle.prop_store.proofs.WalkSteps.{fewer_passed, right_property, walk_after, walk_begins, walk_here, walk_over}
 use Rattle.prop_store.proofs.finding.find.Goals as goal
 
@@ -21,6 +27,7 @@ pub loop-count-init : goal.loop-count-init
 loop-count-init g c = record {
   told = λ tells es are. walk_begins _ _ _ es _ (c.in_ok-at.ensures.got tells) are (c.of-link.ensures, λ i. i);
   met = λ tells. ap (λ z. property_of (ahead (g.R.Reads.state c.args.space.now).records z 0) c.args.key) (c.in_ok-at.ensures.got tells);
+  reached = λ tells. reached_first (g.R.Reads.state c.args.space.now).records c.args.owner c.of-link.result.key c.in_ok-at.at (ap (λ (z : Link). z.key) c.of-link.ensures) (c.in_ok-at.ensures.got tells);
   link = subst IsLink (sym c.of-link.ensures) (record { key = c.requires.key; own = meta_of_element c.args.owner.key.file c.requires.file; place = place_within c.args.owner c.requires });
   from = subst (IsLinkOf c.args.owner) (sym c.of-link.ensures) (inl refl);
   reads = reads_one 1 _ _ (omega arith) c.in_ok-at.ensures.state;
@@ -89,6 +96,12 @@ loop-count-preserved g c =
           passed_by old.records c.args.key c.loop-count.at c.loop-count.count c.number-at.result c.in_ok-row.row.rec _ c.if-at.false (omega arith)
           (c.in_ok-row.ensures.got tells ∙ ap (λ r. rec_at r properties_file c.loop-count.at) (reads_records _ old now c.loop-count.invariant.reads)) c.number-at.ensures
           (λ e. c.if-number-key.false (c.number.ensures ∙ e)) (c.loop-count.invariant.met tells);
+      reached = λ tells.
+          let same = reads_records _ old now c.loop-count.invariant.reads in
+          let rec_is = c.in_ok-row.ensures.got tells ∙ ap (λ r. rec_at r properties_file c.loop-count.at) same in
+          reached_next old.records c.args.owner c.loop-count.link.key c.after-link.result.key c.loop-count.at c.loop-count.count c.number-at.result (c.loop-count.invariant.reached tells) c.if-at.false
+          (subst (λ (z : ℕ). kind_at old.records properties_file z ≢ free_kind) c.in_ok-row.ensures.row.id_is (subst (λ (r : Records). kind_at r properties_file c.in_ok-row.row.id ≢ free_kind) same (c.in_ok-row.ensures.read tells).used))
+          (c.number-at.ensures ∙ ap (λ r. field 4 r property_next) rec_is) (ap (λ (z : Link). z.key) c.after-link.ensures);
       link = subst IsLink (sym c.after-link.ensures) (record { key = record { file = refl; id = subst (λ z. z < most_ids) c.in_ok-row.ensures.row.id_is c.in_ok-row.ensures.row.small }; own = refl; place = omega arith });
       from = subst (IsLinkOf c.args.owner) (sym c.after-link.ensures) (inr refl);
       reads = reads_then _ 1 _ _ _ _ (omega arith) c.loop-count.invariant.reads c.in_ok-row.ensures.at_most;
@@ -107,3 +120,24 @@ pub returns-clause-met : goal.returns-clause-met
 returns-clause-met g c tells =
     let old = g.R.Reads.state c.args.space.now in
     sym (c.loop-count.invariant.met tells) ∙ ap (λ es. property_of es c.args.key) (ahead_over old.records c.loop-count.at c.loop-count.count (omega arith))
+
+-- ---- which record is blamed
+
+pub returns-in_err-row-clause-damaged : goal.returns-in_err-row-clause-damaged
+returns-in_err-row-clause-damaged g c tells used =
+    let old = g.R.Reads.state c.args.space.now in
+    let now = g.R.Reads.state c.loop-count.space in
+    let reads = c.loop-count.invariant.reads in
+    same_has (BlamesBroken old.records old.shape) c.from_residual-in_err-row.result c.in_err-row.field-0.0 c.from_residual-in_err-row.ensures.1
+    (row_blames old c.args.owner c.requires used c.loop-count.link.key c.loop-count.at c.loop-count.count (c.loop-count.invariant.reached tells) c.if-at.false c.in_err-row.field-0.0
+    (row_fault_same old now (reads_records _ old now reads) (ap (λ (z : State). z.shape) (reads_same _ old now reads)) c.args.owner.key c.loop-count.link.key c.loop-count.at c.in_err-row.field-0.0 (c.in_err-row.ensures.damaged tells)))
+
+pub returns-then-number-key-clause-read : goal.returns-then-number-key-clause-read
+returns-then-number-key-clause-read g c tells =
+    subst (λ (r : Records). IsReadRow r c.in_ok-row.row) (reads_records _ (g.R.Reads.state c.args.space.now) (g.R.Reads.state c.loop-count.space) c.loop-count.invariant.reads) (c.in_ok-row.ensures.read tells)
+
+pub returns-then-at-2-clause-damaged : goal.returns-then-at-2-clause-damaged
+returns-then-at-2-clause-damaged g c tells used =
+    let old = g.R.Reads.state c.args.space.now in
+    subst (BlamesBroken old.records old.shape) (sym c.damaged.ensures)
+    (too_many old c.args.owner c.requires used c.loop-count.link.key c.loop-count.at c.loop-count.count (c.loop-count.invariant.reached tells) c.if-at-2.true (omega arith))

@@ -6,6 +6,7 @@ use Rattle.prop_store.specs.Owner.{first_of}
 use Rattle.prop_store.specs.Finding.{property_of}
 use Rattle.prop_store.specs.Reading.{ReadsAtMost, properties_met}
 use Rattle.prop_store.proofs.Ahead.{ahead}
+use Rattle.prop_store.proofs.Breaches.{Reached}
 use Rattle.prop_store.proofs.WalkSteps.{Walked}
 use Rattle.prop_store.proofs.finding.find.Given as goal
 
@@ -17,6 +18,7 @@ invariant-loop-count g l =
       told : g.R.Reads.tells → (es : List Property) → AreProperties (property_records old.records) (first_of old.records l.fn.owner) es
           → Walked (property_records old.records) es l.at l.count (λ passed. (l.link ≡ link_after (link_of l.fn.owner) passed) × (In l.fn.key (keys_of passed) → ⊥));
       met : g.R.Reads.tells → property_of (ahead old.records l.at l.count) l.fn.key ≡ property_of (properties_met old.records l.fn.owner) l.fn.key;
+      reached : g.R.Reads.tells → Reached old.records l.fn.owner l.link.key l.at l.count;
       link : IsLink l.link;
       from : IsLinkOf l.fn.owner l.link;
       reads : ReadsAtMost (1 + l.count) old (g.R.Reads.state l.space);

@@ -1,19 +1,25 @@
 use Rattle.std.specs.Prelude.{All}
-use Rattle.std.proofs.Common.{arith, rules, ap, sym, subst, ◌∙◌, ◌≡◌, ◌+◌, ◌++◌, List, inl, inr, length, map}
+use Rattle.std.proofs.Common.{arith, rules, ap, sym, subst, ◌∙◌, ◌≡◌, ◌≢◌, ◌+◌, ◌++◌, ℕ, List, inl, inr, length, map, refl}
 use Rattle.std.proofs.lemmas.List.{length_push}
 use Rattle.std.proofs.lemmas.List.Elements.{All-push}
 use Rattle.std.proofs.lemmas.Result.{err_from_is_err_and}
 use Rattle.plain_graph.specs.Forms.{IsKept}
 use Rattle.plain_graph.specs.Properties.{blocks_of}
-use Rattle.rec_bytes.specs.Format.{properties_file, strings_file}
+use Rattle.rec_bytes.specs.Format.{free_kind, properties_file, property_next, strings_file}
+use Rattle.rec_bytes.specs.Record.{field}
+use Rattle.rec_bytes.specs.Space.{State}
 use Rattle.store_rules.specs.Properties.{content_of, first_property, property_records, value_from}
-use Rattle.store_rules.specs.Views.{rec_at}
+use Rattle.store_rules.specs.Views.{Records, kind_at, rec_at}
 use Rattle.store_rules.proofs.PropertyLists.{properties_read}
+use Rattle.prop_store.specs.Fault.{BlamesBroken}
+use Rattle.prop_store.specs.PropertyRow.{IsReadRow}
 use Rattle.prop_store.specs.Reading.{block_total, prop_of}
 use Rattle.prop_store.specs.declared.prop.Prop.{Prop}
 use Rattle.prop_store.proofs.Ahead.{ahead, all_answered, answered_one}
 use Rattle.prop_store.proofs.Answered.{block_total-one, few_blocks}
-use Rattle.prop_store.proofs.ReadCounts.{reads_one, reads_records, reads_then}
+use Rattle.prop_store.proofs.Breaches.{reached_first, reached_next, row_blames, row_fault_same, text_blames, text_fault_same, too_many}
+use Rattle.prop_store.proofs.Exits.{same_has}
+use Rattle.prop_store.proofs.ReadCounts.{reads_one, reads_records, reads_same, reads_then}
 use Rattle.prop_store.proofs.WalkSteps.{blocks_given, has_value, right_property, walk_after, walk_begins, walk_here}
 use Rattle.prop_store.proofs.reading.read_all.Goals as goal
 
@@ -30,6 +36,7 @@ loop-init g c =
       met = λ tells.
           let old = g.R.Reads.state c.args.space.now in
           ap (λ (z : List Prop). z ++ map prop_of (ahead old.records c.in_ok-at.at 0)) none ∙ ap (λ z. map prop_of (ahead old.records z 0)) (c.in_ok-at.ensures.got tells);
+      reached = λ tells. reached_first (g.R.Reads.state c.args.space.now).records c.args.owner c.args.owner.key c.in_ok-at.at refl (c.in_ok-at.ensures.got tells);
       count = no_length;
       few = omega arith;
       kept = subst (All (λ (p : Prop). IsKept p.value)) (sym none) (λ k d lt. absurd (omega (arith, lt)));
@@ -92,6 +99,11 @@ loop-preserved g c =
           answered_one old.records props c.push.new.self.items _ c.loop.at c.loop.counter c.number-at.result c.number-key.result c.in_ok-row.row.rec c.in_ok-value.value pushed c.if-at.false (omega arith)
           (c.in_ok-row.ensures.got tells ∙ ap (λ r. rec_at r properties_file c.loop.at) same) c.number-at.ensures c.number-key.ensures
           (c.in_ok-value.ensures.met tells ∙ ap (λ r. value_from (rec_at r strings_file) (content_of c.in_ok-row.row.rec)) (reads_records 1 now then c.in_ok-row.ensures.at_most ∙ same)) (c.loop.invariant.met tells);
+      reached = λ tells.
+          let got = c.in_ok-row.ensures.got tells ∙ ap (λ r. rec_at r properties_file c.loop.at) same in
+          reached_next old.records c.args.owner c.loop.from _ c.loop.at c.loop.counter c.number-at.result (c.loop.invariant.reached tells) c.if-at.false
+          (subst (λ (z : ℕ). kind_at old.records properties_file z ≢ free_kind) c.in_ok-row.ensures.row.id_is (subst (λ (r : Records). kind_at r properties_file c.in_ok-row.row.id ≢ free_kind) same (c.in_ok-row.ensures.read tells).used))
+          (c.number-at.ensures ∙ ap (λ r. field 4 r property_next) got) refl;
       count = omega (arith, more, c.loop.invariant.count);
       few = omega (arith, total, few, c.loop.invariant.few);
       kept = subst (All (λ (p : Prop). IsKept p.value)) (sym pushed) (All-push (λ (p : Prop). IsKept p.value) props prop c.loop.invariant.kept c.in_ok-value.ensures.kept);
@@ -113,3 +125,31 @@ returns-clause-met g c tells = all_answered (g.R.Reads.state c.args.space.now).r
 pub returns-clause-read : goal.returns-clause-read
 returns-clause-read g c tells es are =
     returns-clause-met g c tells ∙ ap (map prop_of) (properties_read (property_records (g.R.Reads.state c.args.space.now).records) _ es are)
+
+-- ---- which record is blamed
+
+pub returns-in_err-row-clause-damaged : goal.returns-in_err-row-clause-damaged
+returns-in_err-row-clause-damaged g c tells used =
+    let old = g.R.Reads.state c.args.space.now in
+    let now = g.R.Reads.state c.loop.space in
+    let reads = c.loop.invariant.reads in
+    same_has (BlamesBroken old.records old.shape) c.from_residual-in_err-row.result c.in_err-row.field-0.0 c.from_residual-in_err-row.ensures.1
+    (row_blames old c.args.owner c.requires used c.loop.from c.loop.at c.loop.counter (c.loop.invariant.reached tells) c.if-at.false c.in_err-row.field-0.0
+    (row_fault_same old now (reads_records _ old now reads) (ap (λ (z : State). z.shape) (reads_same _ old now reads)) c.args.owner.key c.loop.from c.loop.at c.in_err-row.field-0.0 (c.in_err-row.ensures.damaged tells)))
+
+pub returns-in_err-value-clause-damaged : goal.returns-in_err-value-clause-damaged
+returns-in_err-value-clause-damaged g c tells used =
+    let old = g.R.Reads.state c.args.space.now in
+    let now = g.R.Reads.state c.loop.space in
+    let then = g.R.Reads.state c.property_at.new.space in
+    let reads = reads_then _ 1 (2 + length c.loop.props.items + block_total c.loop.props.items) old now then (omega arith) c.loop.invariant.reads c.in_ok-row.ensures.at_most in
+    let read = subst (λ (r : Records). IsReadRow r c.in_ok-row.row) (sym (reads_records 1 now then c.in_ok-row.ensures.at_most)) (c.in_ok-row.ensures.read tells) in
+    same_has (BlamesBroken old.records old.shape) c.from_residual-in_err-value.result c.in_err-value.field-0.0 c.from_residual-in_err-value.ensures.1
+    (text_blames old c.in_ok-row.row.id c.in_err-value.field-0.0
+    (text_fault_same old then (reads_records _ old then reads) (ap (λ (z : State). z.shape) (reads_same _ old then reads)) c.in_ok-row.row.id c.in_err-value.field-0.0 (c.in_err-value.ensures.damaged tells read)))
+
+pub returns-then-at-2-clause-damaged : goal.returns-then-at-2-clause-damaged
+returns-then-at-2-clause-damaged g c tells used =
+    let old = g.R.Reads.state c.args.space.now in
+    subst (BlamesBroken old.records old.shape) (sym c.damaged.ensures)
+    (too_many old c.args.owner c.requires used c.loop.from c.loop.at c.loop.counter (c.loop.invariant.reached tells) c.if-at-2.true (omega arith))

@@ -1,11 +1,17 @@
-use Rattle.std.proofs.Common.{arith, ap, ◌∙◌, subst}
+use Rattle.std.proofs.Common.{arith, ap, sym, ◌∙◌, subst}
 use Rattle.std.proofs.lemmas.Result.{err_from_is_err_and}
+use Rattle.rec_bytes.specs.Space.{State}
 use Rattle.store_rules.specs.Properties.{first_property}
 use Rattle.store_rules.specs.Properties.{property_records}
 use Rattle.store_rules.proofs.PropertyLists.{properties_read}
-use Rattle.prop_store.specs.Finding.{IsMet, IsSought, value_of}
+use Rattle.store_rules.specs.Views.{Records}
+use Rattle.prop_store.specs.Fault.{BlamesBroken}
+use Rattle.prop_store.specs.Finding.{IsMet, IsReadAt, IsSought, value_of}
+use Rattle.prop_store.specs.PropertyRow.{IsReadRow}
 use Rattle.prop_store.proofs.Ahead.{value_found}
-use Rattle.prop_store.proofs.ReadCounts.{reads_records, reads_then}
+use Rattle.prop_store.proofs.Breaches.{text_blames, text_fault_same}
+use Rattle.prop_store.proofs.Exits.{same_has}
+use Rattle.prop_store.proofs.ReadCounts.{reads_records, reads_same, reads_then}
 use Rattle.prop_store.proofs.WalkSteps.{blocks_given, has_value}
 use Rattle.prop_store.proofs.reading.read_key.Goals as goal
 
@@ -40,3 +46,20 @@ returns-in_ok-value-in-Found-clause-reads g c = reads_then 33 _ _ _ _ _ (omega a
 
 pub returns-in_ok-value-in-Found-clause-at_most : goal.returns-in_ok-value-in-Found-clause-at_most
 returns-in_ok-value-in-Found-clause-at_most g c = reads_then 33 22 55 _ _ _ (omega arith) c.in_ok-find.ensures.at_most c.in_ok-value-in-Found.ensures.at_most
+
+-- ---- which record is blamed
+
+pub returns-in_err-find-clause-damaged : goal.returns-in_err-find-clause-damaged
+returns-in_err-find-clause-damaged g c tells used =
+    let old = g.R.Reads.state c.args.space.now in
+    same_has (BlamesBroken old.records old.shape) c.from_residual.result c.in_err-find.field-0.0 c.from_residual.ensures.1 (c.in_err-find.ensures.damaged tells used)
+
+pub returns-in_err-value-in-Found-clause-damaged : goal.returns-in_err-value-in-Found-clause-damaged
+returns-in_err-value-in-Found-clause-damaged g c tells used =
+    let old = g.R.Reads.state c.args.space.now in
+    let now = g.R.Reads.state c.find.new.space in
+    let reads = c.in_ok-find.ensures.at_most in
+    let read = subst (λ (r : Records). IsReadRow r c.in-Found.spot.row) (sym (reads_records 33 old now reads)) (subst (IsReadAt old.records) c.in-Found.is (c.in_ok-find.ensures.read tells)) in
+    same_has (BlamesBroken old.records old.shape) c.from_residual-in_err-value-in-Found.result c.in_err-value-in-Found.field-0.0 c.from_residual-in_err-value-in-Found.ensures.1
+    (text_blames old c.in-Found.spot.row.id c.in_err-value-in-Found.field-0.0
+    (text_fault_same old now (reads_records 33 old now reads) (ap (λ (z : State). z.shape) (reads_same 33 old now reads)) c.in-Found.spot.row.id c.in_err-value-in-Found.field-0.0 (c.in_err-value-in-Found.ensures.damaged tells read)))

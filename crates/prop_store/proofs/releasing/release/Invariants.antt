@@ -1,10 +1,10 @@
-use Rattle.std.proofs.Common.{◌≡◌, ◌≤◌, ◌∷◌, drop, map}
+use Rattle.std.proofs.Common.{◌≤◌, ◌∷◌, drop, map}
 use Rattle.rec_bytes.specs.Format.{strings_file}
 use Rattle.rec_bytes.specs.RecordFiles.{meta_key_of}
 use Rattle.store_rules.specs.Properties.{AreOnce}
 use Rattle.store_rules.specs.PropertyChange.{ChangesFile}
 use Rattle.store_rules.specs.Views.{key_in}
-use Rattle.prop_store.specs.FileChange.{IsSameBeside}
+use Rattle.prop_store.specs.FileChange.{HasFreed, IsSameBeside}
 use Rattle.prop_store.specs.Touching.{TouchesOnly}
 use Rattle.prop_store.proofs.ReleaseSteps.{HasLeft}
 use Rattle.prop_store.proofs.releasing.release.Given as goal
@@ -16,6 +16,7 @@ invariant-loop-id g l =
     let now = g.S.Reads.state l.space in
     record {
       released : g.S.Reads.tells → AreOnce l.fn.blocks → ChangesFile old.records old.records old.shape strings_file l.fn.blocks l.fn.blocks → HasLeft old.records now.records old.shape strings_file l.fn.blocks (drop l.id-index l.fn.blocks) l.id-index;
+      freed : g.S.Reads.tells → HasFreed old.records now.records l.fn.blocks;
       beside : g.S.Reads.tells → IsSameBeside strings_file old.records now.records;
       touches : TouchesOnly g.S.Reads.tells old now (meta_key_of strings_file ∷ map (key_in strings_file) l.fn.blocks);
       onward : g.S.Reads.onward l.fn.space l.space;

@@ -10,11 +10,13 @@ use Rattle.rec_bytes.specs.Space.{State, meta_of}
 use Rattle.prop_store.specs.Changing.{HasKey, properties_of}
 use Rattle.prop_store.specs.FileChange.{KeepsFile}
 use Rattle.prop_store.specs.Owner.{IsOwner}
-use Rattle.prop_store.specs.Setting.{IsPutFault, MayLead}
+use Rattle.prop_store.specs.SetFault.{IsExact}
+use Rattle.prop_store.specs.Setting.{BlamesSet, IsPutFault, MayLead}
 use Rattle.prop_store.specs.declared.owner.Owner.{Owner}
 use Rattle.prop_store.specs.declared.set_fault.SetFault.TheVariants.{Full}
 use Rattle.prop_store.proofs.ElementGraphs.{count_is, lacks_key, listed_at, owns_listed, refusal_graph, sets_graph}
 use Rattle.prop_store.proofs.ElementSets.{first_leads, keeps_properties, keeps_strings, no_new_blocks, no_property, puts_read, value_added}
+use Rattle.prop_store.proofs.Midway.{exact_of_space, set_has, set_of_space, set_read}
 use Rattle.prop_store.proofs.ReadCounts.{reads_one, reads_same}
 use Rattle.prop_store.proofs.Touches.{touches_after, touches_beside, touches_owner, touches_reads, touches_then}
 use Rattle.prop_store.proofs.WriteCounts.{touched_beside}
@@ -105,3 +107,48 @@ returns-clause-touches g c =
 
 pub returns-clause-writes : goal.returns-clause-writes
 returns-clause-writes g c = touched_beside 1 (blocks_of c.args.value.now) (1 + blocks_of c.args.value.now) _ _ c.args.owner.key (omega arith) (returns-clause-touches g c)
+
+-- ---- which record is blamed
+
+pub returns-in_err-next-clause-damaged : goal.returns-in_err-next-clause-damaged
+returns-in_err-next-clause-damaged g c tells =
+    let s = g.S.Reads.state c.args.space.now in
+    let n = blocks_of c.args.value.now in
+    set_has (BlamesSet g.S.Reads.tells n s) c.from_residual.result _ c.from_residual.ensures.1 (set_of_space g.S.Reads.tells n s c.in_err-next.field-0.0)
+
+pub returns-in_err-id-clause-damaged : goal.returns-in_err-id-clause-damaged
+returns-in_err-id-clause-damaged g c tells =
+    let s = g.S.Reads.state c.args.space.now in
+    let z = g.S.Reads.state c.first.new.space in
+    let n = blocks_of c.args.value.now in
+    let fault = c.in_err-id.field-0.0 in
+    set_has (BlamesSet g.S.Reads.tells n s) c.from_residual-in_err-id.result fault c.from_residual-in_err-id.ensures.1
+    (set_read g.S.Reads.tells n n s z fault (omega arith) (reads_same 1 s z (reads_one 1 s z (omega arith) c.first.ensures.state)) (c.in_err-id.ensures.damaged tells))
+
+pub returns-in_err-set_number-clause-damaged : goal.returns-in_err-set_number-clause-damaged
+returns-in_err-set_number-clause-damaged g c tells =
+    let s = g.S.Reads.state c.args.space.now in
+    let n = blocks_of c.args.value.now in
+    set_has (BlamesSet g.S.Reads.tells n s) c.from_residual-in_err-set_number.result _ c.from_residual-in_err-set_number.ensures.1 (set_of_space g.S.Reads.tells n s c.in_err-set_number.field-0.0)
+
+-- ---- what a refusal carries
+
+pub returns-then-meta-room_of-clause-exact : goal.returns-then-meta-room_of-clause-exact
+returns-then-meta-room_of-clause-exact g c tells = c.if-meta-room_of.true ∙ c.room_of.ensures ∙ ap (λ (h : Shape). room_of h properties_file) c.shape.ensures.is
+
+pub returns-in_err-next-clause-exact : goal.returns-in_err-next-clause-exact
+returns-in_err-next-clause-exact g c tells =
+    let s = g.S.Reads.state c.args.space.now in
+    set_has (IsExact s.shape) c.from_residual.result _ c.from_residual.ensures.1 (exact_of_space s.shape c.in_err-next.field-0.0)
+
+pub returns-in_err-id-clause-exact : goal.returns-in_err-id-clause-exact
+returns-in_err-id-clause-exact g c tells =
+    let s = g.S.Reads.state c.args.space.now in
+    let fault = c.in_err-id.field-0.0 in
+    set_has (IsExact s.shape) c.from_residual-in_err-id.result fault c.from_residual-in_err-id.ensures.1
+    (subst (λ (y : State). IsExact y.shape fault) c.first.ensures.state (c.in_err-id.ensures.exact tells))
+
+pub returns-in_err-set_number-clause-exact : goal.returns-in_err-set_number-clause-exact
+returns-in_err-set_number-clause-exact g c tells =
+    let s = g.S.Reads.state c.args.space.now in
+    set_has (IsExact s.shape) c.from_residual-in_err-set_number.result _ c.from_residual-in_err-set_number.ensures.1 (exact_of_space s.shape c.in_err-set_number.field-0.0)

@@ -1,13 +1,24 @@
-use Rattle.std.proofs.Common.{◌∙◌, ◌+◌, ℕ, List, [], length, ap, arith}
+use Rattle.std.proofs.Common.{◌∙◌, ◌+◌, ℕ, List, [], length, ap, arith, subst, sym}
 use Rattle.std.proofs.lemmas.Result.{err_from_is_err_and}
 use Rattle.plain_graph.specs.Properties.{blocks_of}
 use Rattle.rec_bytes.specs.Format.{property_key, property_next}
 use Rattle.rec_bytes.specs.Record.{field}
 use Rattle.rec_bytes.specs.Space.{State}
 use Rattle.prop_store.proofs.DropSteps.{blocks_given_out}
-use Rattle.prop_store.proofs.PutSteps.{again_put, again_text_fault, read_put_fault, space_put_fault}
+use Rattle.rec_bytes.specs.declared.shape.Shape.{Shape}
+use Rattle.rec_bytes.specs.Format.{strings_file}
+use Rattle.rec_bytes.specs.Meta.{IsLinkBelow}
+use Rattle.rec_bytes.specs.Space.{meta_in}
+use Rattle.rec_bytes.specs.declared.fault.Fault.{Fault}
+use Rattle.store_rules.specs.Views.{Records}
+use Rattle.prop_store.specs.Fault.{BlamesBroken}
+use Rattle.prop_store.specs.SetFault.{IsExact, IsExactTake, IsOwnRoom, of_fault}
+use Rattle.prop_store.specs.Setting.{BlamesSet, BlamesTaken}
+use Rattle.prop_store.proofs.Breaches.{strings_free, text_blames}
+use Rattle.prop_store.proofs.Midway.{set_cause, exact_of_fault, exact_of_space, exact_of_take, later_take, set_has, set_of_fault, set_of_space, set_of_take}
+use Rattle.prop_store.proofs.PutSteps.{blocks_needed, again_put, again_text_fault, read_put_fault, space_put_fault}
 use Rattle.prop_store.proofs.PutTouches.{touches_new, touches_texts}
-use Rattle.prop_store.proofs.ReadCounts.{reads_same}
+use Rattle.prop_store.proofs.ReadCounts.{reads_records, reads_same}
 use Rattle.prop_store.proofs.Touches.{touches_freed, touches_more, touches_reads, touches_same}
 use Rattle.prop_store.proofs.setting.put_again.Goals as goal
 
@@ -72,3 +83,99 @@ returns-clause-touches g c =
 
 pub returns-clause-at_most : goal.returns-clause-at_most
 returns-clause-at_most g c = let few = c.as_slice-ids.ensures.few in touches_more [] 1 _ 1 (22 + blocks_of c.args.value.now) _ _ (omega arith) (omega arith) (returns-clause-touches g c)
+
+-- ---- which record is blamed
+
+pub returns-in_err-blocks-clause-damaged : goal.returns-in_err-blocks-clause-damaged
+returns-in_err-blocks-clause-damaged g c tells read =
+    let s = g.S.Reads.state c.args.space.now in
+    let n = 22 + blocks_of c.args.value.now in
+    set_has (BlamesSet g.S.Reads.tells n s) c.from_residual.result _ c.from_residual.ensures.1
+    (set_of_fault g.S.Reads.tells n s c.in_err-blocks.field-0.0 (text_blames s c.args.row.now.id c.in_err-blocks.field-0.0 (c.in_err-blocks.ensures.damaged tells read)))
+
+pub returns-in_err-release-clause-damaged : goal.returns-in_err-release-clause-damaged
+returns-in_err-release-clause-damaged g c tells read =
+    let s = g.S.Reads.state c.args.space.now in
+    let n = 22 + blocks_of c.args.value.now in
+    set_has (BlamesSet g.S.Reads.tells n s) c.from_residual-in_err-release.result _ c.from_residual-in_err-release.ensures.1 (set_of_space g.S.Reads.tells n s c.in_err-release.field-0.0)
+
+pub returns-in_err-first-clause-damaged : goal.returns-in_err-first-clause-damaged
+returns-in_err-first-clause-damaged g c tells read =
+    let s = g.S.Reads.state c.args.space.now in
+    let a = g.S.Reads.state c.value_blocks.new.space in
+    let b = g.S.Reads.state c.release.new.space in
+    let n = 22 + blocks_of c.args.value.now in
+    let fault = c.in_err-first.field-0.0 in
+    let few = c.as_slice-ids.ensures.few in
+    let shape = g.met.S.Reads.onward_shape _ _ c.release.ensures.onward ∙ ap (λ (z : State). z.shape) (reads_same 22 s a c.value_blocks.ensures.at_most) in
+    set_has (BlamesSet g.S.Reads.tells n s) c.from_residual-in_err-first.result _ c.from_residual-in_err-first.ensures.1
+    (set_of_take g.S.Reads.tells n s fault
+    (later_take g.S.Reads.tells (length c.as_slice-ids.result.now) (blocks_of c.args.value.now) n s b fault (omega arith) shape (touches_freed s a b c.as_slice-ids.result.now (reads_same 22 s a c.value_blocks.ensures.at_most) c.release.ensures.touches)
+    (subst (λ m. BlamesTaken g.S.Reads.tells m b fault) (blocks_needed c.args.value.now c.long_bytes.result.now c.long_bytes.ensures.is) (c.in_err-first.ensures.damaged tells))))
+
+pub returns-in_err-put-clause-damaged : goal.returns-in_err-put-clause-damaged
+returns-in_err-put-clause-damaged g c tells read =
+    let s = g.S.Reads.state c.args.space.now in
+    let n = 22 + blocks_of c.args.value.now in
+    set_has (BlamesSet g.S.Reads.tells n s) c.from_residual-in_err-put.result _ c.from_residual-in_err-put.ensures.1 (set_of_space g.S.Reads.tells n s c.in_err-put.field-0.0)
+
+-- ---- what a refusal carries
+
+pub returns-in_err-blocks-clause-exact : goal.returns-in_err-blocks-clause-exact
+returns-in_err-blocks-clause-exact g c tells =
+    let s = g.S.Reads.state c.args.space.now in
+    set_has (IsExact s.shape) c.from_residual.result _ c.from_residual.ensures.1 (exact_of_fault s.shape c.in_err-blocks.field-0.0)
+
+pub returns-in_err-release-clause-exact : goal.returns-in_err-release-clause-exact
+returns-in_err-release-clause-exact g c tells =
+    let s = g.S.Reads.state c.args.space.now in
+    set_has (IsExact s.shape) c.from_residual-in_err-release.result _ c.from_residual-in_err-release.ensures.1 (exact_of_space s.shape c.in_err-release.field-0.0)
+
+pub returns-in_err-first-clause-exact : goal.returns-in_err-first-clause-exact
+returns-in_err-first-clause-exact g c tells =
+    let s = g.S.Reads.state c.args.space.now in
+    let a = g.S.Reads.state c.value_blocks.new.space in
+    let fault = c.in_err-first.field-0.0 in
+    let shape = g.met.S.Reads.onward_shape _ _ c.release.ensures.onward ∙ ap (λ (z : State). z.shape) (reads_same 22 s a c.value_blocks.ensures.at_most) in
+    set_has (IsExact s.shape) c.from_residual-in_err-first.result _ c.from_residual-in_err-first.ensures.1
+    (exact_of_take s.shape fault (subst (λ (h : Shape). IsExactTake h fault) shape (c.in_err-first.ensures.exact tells)))
+
+pub returns-in_err-put-clause-exact : goal.returns-in_err-put-clause-exact
+returns-in_err-put-clause-exact g c tells =
+    let s = g.S.Reads.state c.args.space.now in
+    set_has (IsExact s.shape) c.from_residual-in_err-put.result _ c.from_residual-in_err-put.ensures.1 (exact_of_space s.shape c.in_err-put.field-0.0)
+
+-- ---- the first free block can't stand there
+
+pub returns-in_err-test_free-clause-at_most : goal.returns-in_err-test_free-clause-at_most
+returns-in_err-test_free-clause-at_most g c = touches_reads [] 1 _ _ _ (reads_same 22 _ _ c.value_blocks.ensures.at_most)
+
+pub returns-in_err-test_free-clause-full : goal.returns-in_err-test_free-clause-full
+returns-in_err-test_free-clause-full g c tells =
+    set_has IsOwnRoom c.from_residual-in_err-test_free.result _ c.from_residual-in_err-test_free.ensures.1 (subst (λ (f : Fault). IsOwnRoom (of_fault f)) (sym c.in_err-test_free.ensures.named) tt)
+
+pub returns-in_err-test_free-clause-exact : goal.returns-in_err-test_free-clause-exact
+returns-in_err-test_free-clause-exact g c tells =
+    let s = g.S.Reads.state c.args.space.now in
+    set_has (IsExact s.shape) c.from_residual-in_err-test_free.result _ c.from_residual-in_err-test_free.ensures.1 (exact_of_fault s.shape c.in_err-test_free.field-0.0)
+
+pub returns-in_err-test_free-clause-damaged : goal.returns-in_err-test_free-clause-damaged
+returns-in_err-test_free-clause-damaged g c tells read =
+    let s = g.S.Reads.state c.args.space.now in
+    let a = g.S.Reads.state c.value_blocks.new.space in
+    let n = 22 + blocks_of c.args.value.now in
+    let bad = subst (λ (r : Records). ¬ IsLinkBelow (meta_in r strings_file).free (meta_in r strings_file).high) (reads_records 22 s a c.value_blocks.ensures.at_most) c.in_err-test_free.ensures.broken in
+    set_has (BlamesSet g.S.Reads.tells n s) c.from_residual-in_err-test_free.result _ c.from_residual-in_err-test_free.ensures.1
+    (set_of_fault g.S.Reads.tells n s c.in_err-test_free.field-0.0 (subst (BlamesBroken s.records s.shape) (sym c.in_err-test_free.ensures.named) (strings_free s bad)))
+
+pub returns-in_err-test_free-clause-refused : goal.returns-in_err-test_free-clause-refused
+returns-in_err-test_free-clause-refused g c tells e held =
+    let s = g.S.Reads.state c.args.space.now in
+    let a = g.S.Reads.state c.value_blocks.new.space in
+    let bad = subst (λ (r : Records). ¬ IsLinkBelow (meta_in r strings_file).free (meta_in r strings_file).high) (reads_records 22 s a c.value_blocks.ensures.at_most) c.in_err-test_free.ensures.broken in
+    absurd (bad held.strings.meta.free)
+
+pub returns-in_err-test_free-clause-cause : goal.returns-in_err-test_free-clause-cause
+returns-in_err-test_free-clause-cause g c =
+    let cause = c.value_blocks.ensures.cause in
+    set_cause _ _ c.from_residual-in_err-test_free.result c.in_err-test_free.field-0.0 _ c.from_residual-in_err-test_free.ensures.1 c.in_err-test_free.ensures.named cause.later

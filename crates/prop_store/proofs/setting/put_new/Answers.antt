@@ -1,10 +1,12 @@
-use Rattle.std.proofs.Common.{[], ap, arith, ◌∙◌}
+use Rattle.std.proofs.Common.{[], arith, subst}
 use Rattle.std.proofs.lemmas.Result.{err_from_is_err_and}
 use Rattle.plain_graph.specs.Properties.{blocks_of}
 use Rattle.rec_bytes.specs.Format.{properties_file}
-use Rattle.rec_bytes.specs.Space.{State}
-use Rattle.prop_store.proofs.BlockSteps.{shape-taken, shape_put}
-use Rattle.prop_store.proofs.PutSteps.{property_put, take_put_fault}
+use Rattle.rec_bytes.specs.declared.shape.Shape.{Shape}
+use Rattle.prop_store.specs.SetFault.{IsExact, IsExactTake}
+use Rattle.prop_store.specs.Setting.{BlamesSet, BlamesTaken}
+use Rattle.prop_store.proofs.Midway.{exact_of_space, exact_of_take, exact_take, set_has, set_of_space, set_of_take, property_take}
+use Rattle.prop_store.proofs.PutSteps.{blocks_needed, property_put, take_put_fault}
 use Rattle.prop_store.proofs.PutTouches.{touches_new, touches_text, touches_text_taken}
 use Rattle.prop_store.proofs.Touches.{touches_more, touches_same}
 use Rattle.prop_store.proofs.setting.put_new.Goals as goal
@@ -42,3 +44,48 @@ returns-clause-touches g c =
     touches_new 0 (blocks_of c.args.value.now) _ _ _ c.in_ok-id.id c.property_record.result
     (touches_text_taken _ (g.S.Reads.state c.write_text.new.space) _ c.args.value.now c.long_bytes.result.now c.long_bytes.ensures.is c.write_text.ensures.touches (record { writes = c.take.ensures.writes; stays = c.take.ensures.stays }))
     c.in_ok-put.ensures.ok
+
+-- ---- which record is blamed
+
+pub returns-in_err-first-clause-damaged : goal.returns-in_err-first-clause-damaged
+returns-in_err-first-clause-damaged g c tells =
+    let s = g.S.Reads.state c.args.space.now in
+    let n = blocks_of c.args.value.now in
+    let fault = c.in_err-first.field-0.0 in
+    set_has (BlamesSet g.S.Reads.tells n s) c.from_residual.result _ c.from_residual.ensures.1
+    (set_of_take g.S.Reads.tells n s fault (subst (λ m. BlamesTaken g.S.Reads.tells m s fault) (blocks_needed c.args.value.now c.long_bytes.result.now c.long_bytes.ensures.is) (c.in_err-first.ensures.damaged tells)))
+
+pub returns-in_err-id-clause-damaged : goal.returns-in_err-id-clause-damaged
+returns-in_err-id-clause-damaged g c tells =
+    let s = g.S.Reads.state c.args.space.now in
+    let a = g.S.Reads.state c.write_text.new.space in
+    let n = blocks_of c.args.value.now in
+    let fault = c.in_err-id.field-0.0 in
+    set_has (BlamesSet g.S.Reads.tells n s) c.from_residual-in_err-id.result _ c.from_residual-in_err-id.ensures.1
+    (property_take s a (c.in_ok-first.ensures.beside tells) (g.met.S.Reads.onward_shape _ _ c.in_ok-first.ensures.onward) g.S.Reads.tells n fault (c.in_err-id.ensures.refused tells))
+
+pub returns-in_err-put-clause-damaged : goal.returns-in_err-put-clause-damaged
+returns-in_err-put-clause-damaged g c tells =
+    let s = g.S.Reads.state c.args.space.now in
+    let n = blocks_of c.args.value.now in
+    set_has (BlamesSet g.S.Reads.tells n s) c.from_residual-in_err-put.result _ c.from_residual-in_err-put.ensures.1 (set_of_space g.S.Reads.tells n s c.in_err-put.field-0.0)
+
+-- ---- what a refusal carries
+
+pub returns-in_err-first-clause-exact : goal.returns-in_err-first-clause-exact
+returns-in_err-first-clause-exact g c tells =
+    let s = g.S.Reads.state c.args.space.now in
+    set_has (IsExact s.shape) c.from_residual.result _ c.from_residual.ensures.1 (exact_of_take s.shape c.in_err-first.field-0.0 (c.in_err-first.ensures.exact tells))
+
+pub returns-in_err-id-clause-exact : goal.returns-in_err-id-clause-exact
+returns-in_err-id-clause-exact g c tells =
+    let s = g.S.Reads.state c.args.space.now in
+    let a = g.S.Reads.state c.write_text.new.space in
+    let fault = c.in_err-id.field-0.0 in
+    set_has (IsExact s.shape) c.from_residual-in_err-id.result _ c.from_residual-in_err-id.ensures.1
+    (exact_of_take s.shape fault (subst (λ (h : Shape). IsExactTake h fault) (g.met.S.Reads.onward_shape _ _ c.in_ok-first.ensures.onward) (exact_take a properties_file fault (c.in_err-id.ensures.refused tells))))
+
+pub returns-in_err-put-clause-exact : goal.returns-in_err-put-clause-exact
+returns-in_err-put-clause-exact g c tells =
+    let s = g.S.Reads.state c.args.space.now in
+    set_has (IsExact s.shape) c.from_residual-in_err-put.result _ c.from_residual-in_err-put.ensures.1 (exact_of_space s.shape c.in_err-put.field-0.0)

@@ -8,9 +8,13 @@ use Rattle.rec_bytes.specs.Space.{SameButReads, State}
 use Rattle.store_rules.specs.Properties.{Property}
 use Rattle.store_rules.specs.Writes.{WritesAtMost}
 use Rattle.prop_store.specs.Alone.{IsKnownKey, IsSetRefusalAlone, OwnsProperties, SetsAlone}
+use Rattle.store_rules.specs.Views.{Records}
 use Rattle.prop_store.specs.Dropping.{IsHeld}
-use Rattle.prop_store.specs.Finding.{FoundAt, IsSought}
-use Rattle.prop_store.specs.Setting.{IsPutFault, PutsProperty}
+use Rattle.prop_store.specs.PropertyRow.{IsReadRow}
+use Rattle.prop_store.specs.Finding.{FoundAt, IsPlaced, IsReadAt, IsSought}
+use Rattle.rec_bytes.specs.declared.shape.Shape.{Shape}
+use Rattle.prop_store.specs.SetFault.{IsExact}
+use Rattle.prop_store.specs.Setting.{BlamesSet, IsPutFault, PutsProperty}
 use Rattle.prop_store.specs.Touching.{TouchesProperties}
 use Rattle.prop_store.specs.declared.set_fault.SetFault.{SetFault}
 use Rattle.prop_store.specs.declared.set_fault.SetFault.TheVariants.{PropsFull}
@@ -19,7 +23,8 @@ use Rattle.prop_store.proofs.ElementChanges.{has_properties, owns_read}
 use Rattle.prop_store.proofs.ElementGraphs.{owns_listed, refusal_graph, sets_graph}
 use Rattle.prop_store.proofs.ElementParts.{held_same, held_spot}
 use Rattle.prop_store.proofs.ElementSets.{next_leads, no_other_blocks, put_read_fault, puts_read, read_refusal, refusal_read, sets_read, value_replaced}
-use Rattle.prop_store.proofs.ReadCounts.{reads_same}
+use Rattle.prop_store.proofs.Midway.{exact_of_fault, set_has, set_of_fault, set_read}
+use Rattle.prop_store.proofs.ReadCounts.{reads_records, reads_same}
 use Rattle.prop_store.proofs.Touches.{touches_after, touches_beside, touches_more, touches_reads}
 use Rattle.prop_store.proofs.WriteCounts.{beside_writes, touched_beside}
 use Rattle.prop_store.proofs.setting.set.Goals as goal
@@ -206,3 +211,54 @@ returns-in-Found-clause-writes g c =
     let key = c.args.owner.key in
     ok_so (λ r. TouchesProperties g.S.Reads.tells (key ∷ []) 1 (n + r) s m) (λ r. WritesAtMost (2 + n + r) s m) c.put_again.result (returns-in-Found-clause-touches g c)
     (λ r h. beside_writes (1 + n + r) (2 + n + r) s m key (meta_of_element key.file c.requires.owner.file) (omega arith) (touched_beside 1 (n + r) (1 + n + r) s m key (omega arith) h))
+
+-- ---- which record is blamed
+
+pub returns-in_err-count-clause-damaged : goal.returns-in_err-count-clause-damaged
+returns-in_err-count-clause-damaged g c tells used =
+    let s = g.S.Reads.state c.args.space.now in
+    let n = 22 + blocks_of c.args.value.now in
+    set_has (BlamesSet g.S.Reads.tells n s) c.from_residual.result _ c.from_residual.ensures.1 (set_of_fault g.S.Reads.tells n s c.in_err-count.field-0.0 (c.in_err-count.ensures.damaged tells used))
+
+pub returns-in_err-add-in-Absent-clause-damaged : goal.returns-in_err-add-in-Absent-clause-damaged
+returns-in_err-add-in-Absent-clause-damaged g c tells used =
+    let s = g.S.Reads.state c.args.space.now in
+    let z = g.S.Reads.state c.find.new.space in
+    let n = blocks_of c.args.value.now in
+    let fault = c.in_err-add-in-Absent.field-0.0 in
+    set_has (BlamesSet g.S.Reads.tells (22 + n) s) c.from_residual-in_err-add-in-Absent.result fault c.from_residual-in_err-add-in-Absent.ensures.1
+    (set_read g.S.Reads.tells n (22 + n) s z fault (omega arith) (reads_same 33 s z c.find.ensures.at_most) (c.in_err-add-in-Absent.ensures.damaged tells))
+
+pub returns-in-Found-clause-damaged : goal.returns-in-Found-clause-damaged
+returns-in-Found-clause-damaged g c tells used =
+    let s = g.S.Reads.state c.args.space.now in
+    let z = g.S.Reads.state c.find.new.space in
+    let n = 22 + blocks_of c.args.value.now in
+    let read = subst (λ (r : Records). IsReadRow r c.in-Found.spot.row) (sym (reads_records 33 s z c.find.ensures.at_most)) (subst (IsReadAt s.records) c.in-Found.is (c.in_ok-count.ensures.read tells)) in
+    IfErr-weaker c.put_again.result (BlamesSet g.S.Reads.tells n z) (BlamesSet g.S.Reads.tells n s) (λ fault why. set_read g.S.Reads.tells n n s z fault (omega arith) (same g c) why) (c.put_again.ensures.damaged tells read)
+
+-- ---- what a refusal carries
+
+pub returns-in_err-count-clause-exact : goal.returns-in_err-count-clause-exact
+returns-in_err-count-clause-exact g c tells =
+    let s = g.S.Reads.state c.args.space.now in
+    set_has (IsExact s.shape) c.from_residual.result _ c.from_residual.ensures.1 (exact_of_fault s.shape c.in_err-count.field-0.0)
+
+pub returns-then-count-ge-MOST_PROPERTIES-clause-exact : goal.returns-then-count-ge-MOST_PROPERTIES-clause-exact
+returns-then-count-ge-MOST_PROPERTIES-clause-exact g c tells =
+    let few = subst (IsPlaced c.args.owner c.args.key) c.in-Absent.is c.in_ok-count.ensures.placed in
+    omega (arith, few, c.if-count-ge-MOST_PROPERTIES.true)
+
+pub returns-in_err-add-in-Absent-clause-exact : goal.returns-in_err-add-in-Absent-clause-exact
+returns-in_err-add-in-Absent-clause-exact g c tells =
+    let s = g.S.Reads.state c.args.space.now in
+    let z = g.S.Reads.state c.find.new.space in
+    let fault = c.in_err-add-in-Absent.field-0.0 in
+    set_has (IsExact s.shape) c.from_residual-in_err-add-in-Absent.result fault c.from_residual-in_err-add-in-Absent.ensures.1
+    (subst (λ (h : Shape). IsExact h fault) (ap (λ (y : State). y.shape) (reads_same 33 s z c.find.ensures.at_most)) (c.in_err-add-in-Absent.ensures.exact tells))
+
+pub returns-in-Found-clause-exact : goal.returns-in-Found-clause-exact
+returns-in-Found-clause-exact g c tells =
+    let s = g.S.Reads.state c.args.space.now in
+    let z = g.S.Reads.state c.find.new.space in
+    IfErr-weaker c.put_again.result (IsExact z.shape) (IsExact s.shape) (λ fault why. subst (λ (h : Shape). IsExact h fault) (ap (λ (y : State). y.shape) (same g c)) why) (c.put_again.ensures.exact tells)

@@ -2,6 +2,9 @@ use Rattle.std.proofs.Common.{arith, ap, ◌∙◌, ◌≡◌, ◌≤◌, ℕ, L
 use Rattle.rec_bytes.specs.Format.{property_text}
 use Rattle.rec_bytes.proofs.Texts.{length-text_in}
 use Rattle.prop_store.specs.Form.{FormFits}
+use Rattle.prop_store.specs.Blocks.{IsTextFault}
+use Rattle.prop_store.proofs.Breaches.{text_of_row}
+use Rattle.prop_store.proofs.Exits.{same_has}
 use Rattle.prop_store.proofs.ReadCounts.{reads_none}
 use Rattle.prop_store.proofs.values.read_value.Goals as goal
 
@@ -32,3 +35,9 @@ returns-in_ok-bytes-in-Inline-clause-kept g c =
     let few : size ≤ 40 = subst (λ f. FormFits (Some f)) c.in-Inline.is c.requires.fits in
     let long : length c.new.result ≡ size = ap (λ (z : List ℕ). length z) (c.new.ensures ∙ c.in_ok-bytes-in-Inline.ensures.items ∙ c.text.ensures) ∙ length-text_in c.args.row.now.rec property_text size (omega arith) in
     omega arith
+
+pub returns-in_err-bytes-in-Long-clause-damaged : goal.returns-in_err-bytes-in-Long-clause-damaged
+returns-in_err-bytes-in-Long-clause-damaged g c tells read =
+    let old = g.R.Reads.state c.args.space.now in
+    same_has (IsTextFault old c.args.row.now.id) c.from_residual-in_err-bytes-in-Long.result c.in_err-bytes-in-Long.field-0.0 c.from_residual-in_err-bytes-in-Long.ensures.1
+    (c.in_err-bytes-in-Long.ensures.damaged tells (text_of_row old.records c.args.row.now c.in-Long.size c.in-Long.first c.requires.form_is c.in-Long.is read))

@@ -1,6 +1,8 @@
-use Rattle.std.proofs.Common.{sym, ◌∙◌}
+use Rattle.std.proofs.Common.{sym, subst, ◌∙◌}
 use Rattle.rec_bytes.specs.Format.{strings_file}
+use Rattle.store_rules.specs.Chains.{In}
 use Rattle.store_rules.specs.Views.{rec_at}
+use Rattle.prop_store.proofs.Breaches.{text_of_row}
 use Rattle.prop_store.proofs.Meanings.{none_if_short}
 use Rattle.prop_store.proofs.ReadCounts.{reads_none}
 use Rattle.prop_store.proofs.values.value_blocks.Goals as goal
@@ -12,3 +14,14 @@ pub returns-in_default-clause-followed : goal.returns-in_default-clause-followed
 returns-in_default-clause-followed g c tells value blocks has =
     let row = c.args.row.now in
     c.new.ensures ∙ sym (none_if_short (rec_at (g.R.Reads.state c.args.space.now).records strings_file) row.rec value blocks row.form has c.requires.form_is c.in_default.not-Long)
+
+pub returns-in-Long-clause-damaged : goal.returns-in-Long-clause-damaged
+returns-in-Long-clause-damaged g c tells read =
+    c.block_ids.ensures.damaged tells (text_of_row (g.R.Reads.state c.args.space.now).records c.args.row.now c.in-Long.size c.in-Long.first c.requires.form_is c.in-Long.is read)
+
+pub returns-in-Long-clause-leads : goal.returns-in-Long-clause-leads
+returns-in-Long-clause-leads g c tells read =
+    c.block_ids.ensures.leads tells (text_of_row (g.R.Reads.state c.args.space.now).records c.args.row.now c.in-Long.size c.in-Long.first c.requires.form_is c.in-Long.is read)
+
+pub returns-in_default-clause-leads : goal.returns-in_default-clause-leads
+returns-in_default-clause-leads g c tells read b i = elim (subst (In b) c.new.ensures i) [ ]

@@ -1,8 +1,8 @@
 use Rattle.std.proofs.Common.{rules, ◌<◌, refl}
 use Rattle.rec_bytes.specs.Format.{groups_file}
 use Rattle.store_rules.specs.Views.{high}
-use Rattle.store_check.specs.Breaking.{GroupKeeps, damage}
-use Rattle.store_check.specs.Breaking.Breaks.{GroupChains}
+use Rattle.store_rules.specs.Breaking.{GroupKeeps, damage}
+use Rattle.store_rules.specs.Breaking.Breaks.{GroupChains}
 use Rattle.store_check.proofs.VerdictLaws.{breaks_by}
 use Rattle.store_check.proofs.chains.check_chains.Goals as goal
 

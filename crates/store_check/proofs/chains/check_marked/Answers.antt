@@ -1,8 +1,8 @@
 use Rattle.std.proofs.Common.{rules, ◌<◌, ℕ, IfNone, IfSome, subst, refl}
 use Rattle.rec_bytes.specs.Format.{relationships_file}
 use Rattle.store_rules.specs.Views.{Records, high}
-use Rattle.store_check.specs.Breaking.{damage}
-use Rattle.store_check.specs.Breaking.Breaks.{RelEnds}
+use Rattle.store_rules.specs.Breaking.{damage}
+use Rattle.store_rules.specs.Breaking.Breaks.{RelEnds}
 use Rattle.store_check.specs.NodeChains.{AreMet, RelHolds}
 use Rattle.store_check.proofs.EndLaws.{rel_holds, rel_kept}
 use Rattle.store_check.proofs.LinkedLaws.{is_linked}

@@ -4,7 +4,7 @@ use Rattle.rec_bytes.specs.Format.{nodes_file}
 use Rattle.store_rules.specs.Views.{high, kind_at, rec_at}
 use Rattle.store_rules.proofs.ViewLaws.{kind_high}
 use Rattle.std.proofs.lemmas.Bool.{true≢false}
-use Rattle.store_check.specs.Breaking.{HasChains}
+use Rattle.store_rules.specs.Breaking.{HasChains}
 use Rattle.store_check.specs.NodeChains.{EndHolds}
 use Rattle.store_check.proofs.RecordLaws.{kind_read}
 use Rattle.store_check.proofs.chains.end_holds.Goals as goal

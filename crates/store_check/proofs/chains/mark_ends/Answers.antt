@@ -4,8 +4,8 @@ use Rattle.rec_bytes.specs.declared.meta.Meta.{Meta}
 use Rattle.rec_bytes.specs.Format.{groups_file, nodes_file}
 use Rattle.store_rules.specs.Views.{Records, high}
 use Rattle.store_check.specs.declared.heads.Broke.TheVariants.{Head, Item}
-use Rattle.store_check.specs.Breaking.{damage}
-use Rattle.store_check.specs.Breaking.Breaks.{GroupChains, NodeChain}
+use Rattle.store_rules.specs.Breaking.{damage}
+use Rattle.store_rules.specs.Breaking.Breaks.{GroupChains, NodeChain}
 use Rattle.store_check.specs.Heads.{AmongHeads, BrokeIs, HeadKeeps}
 use Rattle.store_check.specs.Marks.{marked}
 use Rattle.store_check.specs.NodeChains.{AreGroupEnds, AreNodeEnds, IsLeading, IsSparse, group_of}

@@ -4,10 +4,11 @@ use Rattle.rec_bytes.specs.declared.damage.Damage.{Damage}
 use Rattle.rec_bytes.specs.declared.shape.Shape.{Shape}
 use Rattle.store_rules.specs.Ranges.{AreFormed}
 use Rattle.store_rules.specs.Views.{Records}
-use Rattle.store_check.specs.Breaking.{Keeps}
+use Rattle.store_rules.specs.Breaking.{Keeps}
 use Rattle.store_check.specs.Verdicts.{AreMarksLow, BreaksRule, DecidesRule}
 use Rattle.store_check.proofs.BreachLaws.{is_store, not_kept, rules_of}
 use Rattle.store_check.proofs.HeadLaws.{one_more}
+use Rattle.store_check.proofs.LinkedLaws.{Linked}
 use Rattle.store_check.proofs.checking.check.Goals as goal
 
 pub decide-requires-clause-ranges : goal.decide-requires-clause-ranges
@@ -17,6 +18,13 @@ decide-requires-clause-ranges g c = λ tells lt.
     let now = g.R.Reads.state c.loop-rule.space in
     let kept : AreFormed s.records s.shape = inv.kept tells 1 (omega arith) lt in
     subst (λ (r : Records). AreFormed r now.shape) (sym inv.same) (subst (λ (h : Shape). AreFormed s.records h) (sym (g.met.R.Reads.onward_shape _ _ inv.onward)) kept)
+
+pub decide-requires-clause-linked : goal.decide-requires-clause-linked
+decide-requires-clause-linked g c = λ tells lt.
+    let s = g.R.Reads.state c.args.space.now in
+    let inv = c.loop-rule.invariant in
+    let kept : Linked s.records = inv.kept tells 3 (omega arith) lt in
+    subst Linked (sym inv.same) kept
 
 pub returns-in-Some-clause-only : goal.returns-in-Some-clause-only
 returns-in-Some-clause-only g c = λ tells store.

@@ -1,5 +1,5 @@
 use Rattle.std.proofs.Common.{◌≡◌, ◌≤◌, ◌<◌, ℕ}
-use Rattle.store_check.specs.Breaking.{Keeps}
+use Rattle.store_rules.specs.Breaking.{Keeps}
 use Rattle.store_check.specs.Verdicts.{AreMarksLow}
 use Rattle.store_check.proofs.checking.check.Given as goal
 

@@ -4,8 +4,8 @@ use Rattle.rec_bytes.specs.declared.meta.Meta.{Meta}
 use Rattle.rec_bytes.specs.Format.{nodes_file}
 use Rattle.store_rules.specs.Views.{Records, high, kind_at, rec_at}
 use Rattle.store_rules.proofs.ViewLaws.{kind_high}
-use Rattle.store_check.specs.Breaking.{DegreeKeeps, damage}
-use Rattle.store_check.specs.Breaking.Breaks.{WrongDegree}
+use Rattle.store_rules.specs.Breaking.{DegreeKeeps, damage}
+use Rattle.store_rules.specs.Breaking.Breaks.{WrongDegree}
 use Rattle.store_check.specs.Degrees.{HasDegree}
 use Rattle.store_check.proofs.DegreeLaws.{are_counted}
 use Rattle.store_check.proofs.VerdictLaws.{breaks_by}

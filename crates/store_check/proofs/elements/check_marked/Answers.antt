@@ -2,8 +2,8 @@ use Rattle.std.proofs.Common.{rules, arith, ◌≡◌, ◌<◌, ◌∙◌, ℕ, 
 use Rattle.std.proofs.lemmas.Bool.{true≢false}
 use Rattle.rec_bytes.specs.Format.{properties_file}
 use Rattle.store_rules.specs.Views.{Records, high, is_live}
-use Rattle.store_check.specs.Breaking.{damage}
-use Rattle.store_check.specs.Breaking.Breaks.{WrongHolding}
+use Rattle.store_rules.specs.Breaking.{damage}
+use Rattle.store_rules.specs.Breaking.Breaks.{WrongHolding}
 use Rattle.store_check.specs.Holding.{AllListed}
 use Rattle.store_check.specs.Listing.{AreListed, IsUnlisted}
 use Rattle.store_check.specs.Marks.{marked}

@@ -1,5 +1,5 @@
 use Rattle.std.proofs.Common.{◌≡◌, ◌≤◌, take, map}
-use Rattle.store_check.specs.Breaking.{key_of}
+use Rattle.store_rules.specs.Breaking.{key_of}
 use Rattle.store_check.proofs.elements.keys_of.Given as goal
 
 abbrev pub invariant-loop-id : goal.invariant-loop-id

@@ -3,7 +3,7 @@ use Rattle.std.proofs.lemmas.Bool.{true≢false}
 use Rattle.rec_bytes.specs.declared.meta.Meta.{Meta}
 use Rattle.rec_bytes.specs.Format.{names_file, properties_file}
 use Rattle.store_rules.specs.Views.{Records, high}
-use Rattle.store_check.specs.Breaking.{key_of}
+use Rattle.store_rules.specs.Breaking.{key_of}
 use Rattle.store_check.specs.Elements.{AreKeys, property_line}
 use Rattle.store_check.specs.Lines.{IsLineIn}
 use Rattle.store_check.proofs.PropertyLaws.{IsIt, keys_from, no_properties, properties_of}

@@ -3,8 +3,8 @@ use Rattle.rec_bytes.specs.declared.meta.Meta.{Meta}
 use Rattle.rec_bytes.specs.Space.{meta_in}
 use Rattle.store_rules.specs.Rows.{ids}
 use Rattle.store_rules.specs.Views.{high, is_live}
-use Rattle.store_check.specs.Breaking.{damage}
-use Rattle.store_check.specs.Breaking.Breaks.{FreeList, OffFreeList}
+use Rattle.store_rules.specs.Breaking.{damage}
+use Rattle.store_rules.specs.Breaking.Breaks.{FreeList, OffFreeList}
 use Rattle.store_check.specs.Free.{IsCounted, free_line}
 use Rattle.store_check.specs.Lines.{IsLineIn}
 use Rattle.store_check.specs.Marks.{is_among, marked}

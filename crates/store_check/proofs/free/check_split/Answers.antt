@@ -5,8 +5,8 @@ use Rattle.rec_bytes.specs.Space.{meta_in}
 use Rattle.store_rules.specs.Ranges.{is_reused}
 use Rattle.store_rules.specs.Rules.{AreAllLive, IsSplit}
 use Rattle.store_rules.specs.Views.{Records, is_live}
-use Rattle.store_check.specs.Breaking.{damage}
-use Rattle.store_check.specs.Breaking.Breaks.{NameCount}
+use Rattle.store_rules.specs.Breaking.{damage}
+use Rattle.store_rules.specs.Breaking.Breaks.{NameCount}
 use Rattle.store_check.proofs.FileLaws.{not_reused}
 use Rattle.store_check.proofs.VerdictLaws.{breaks_by}
 use Rattle.store_check.proofs.free.check_split.Goals as goal

@@ -2,7 +2,7 @@ use Rattle.std.proofs.Common.{rules, ◌≡◌, ℕ, List, map, nat_eq, false, t
 use Rattle.std.specs.List.{IsDistinct}
 use Rattle.std.proofs.lemmas.Bool.{true≢false}
 use Rattle.store_rules.specs.Views.{Records}
-use Rattle.store_check.specs.Breaking.{group_label}
+use Rattle.store_rules.specs.Breaking.{group_label}
 use Rattle.store_check.specs.Groups.{group_line}
 use Rattle.store_check.specs.Lines.{IsLineIn}
 use Rattle.store_check.proofs.GroupChainLaws.{groups_one}

@@ -4,8 +4,8 @@ use Rattle.rec_bytes.specs.declared.meta.Meta.{Meta}
 use Rattle.rec_bytes.specs.Format.{free_kind, index_file}
 use Rattle.store_rules.specs.Views.{high, kind_at, rec_at}
 use Rattle.store_rules.proofs.ViewLaws.{kind_high}
-use Rattle.store_check.specs.Breaking.{damage}
-use Rattle.store_check.specs.Breaking.Breaks.{UsedIndex}
+use Rattle.store_rules.specs.Breaking.{damage}
+use Rattle.store_rules.specs.Breaking.Breaks.{UsedIndex}
 use Rattle.store_check.proofs.VerdictLaws.{breaks_by}
 use Rattle.store_check.proofs.index.check_index.Goals as goal
 

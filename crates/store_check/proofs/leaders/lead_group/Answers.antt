@@ -2,7 +2,7 @@ use Rattle.std.proofs.Common.{rules, ◌≡◌, ◌≢◌, ◌&&◌, ◌∙◌, 
 use Rattle.rec_bytes.specs.Format.{group_owner, group_type, groups_file}
 use Rattle.rec_bytes.specs.Record.{field}
 use Rattle.store_rules.specs.Views.{Records, kind_at, rec_at}
-use Rattle.store_check.specs.Breaking.{group_label}
+use Rattle.store_rules.specs.Breaking.{group_label}
 use Rattle.store_check.specs.Leading.{IsGroupAt, have_same_firsts, leader}
 use Rattle.store_check.specs.NodeChains.{IsDense, owner_at}
 use Rattle.store_check.proofs.LeadLaws.{alike_from, group_here, group_parts, led_new, led_same, led_skip, not_alike}

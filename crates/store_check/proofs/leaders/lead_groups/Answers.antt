@@ -2,7 +2,7 @@ use Rattle.std.proofs.Common.{rules, arith, ◌≡◌, ◌+◌, ◌<◌, ◌∙�
 use Rattle.rec_bytes.specs.declared.meta.Meta.{Meta}
 use Rattle.rec_bytes.specs.Format.{groups_file}
 use Rattle.store_rules.specs.Views.{Records, high}
-use Rattle.store_check.specs.Breaking.{GroupKeeps}
+use Rattle.store_rules.specs.Breaking.{GroupKeeps}
 use Rattle.store_check.specs.Leading.{AreLed}
 use Rattle.store_check.specs.Verdicts.{AreMarksLow}
 use Rattle.store_check.proofs.leaders.lead_groups.Goals as goal

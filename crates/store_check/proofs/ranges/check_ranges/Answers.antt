@@ -6,8 +6,8 @@ use Rattle.rec_bytes.specs.RecordFiles.{is_meta_file, meta_key_of}
 use Rattle.rec_bytes.proofs.RecordFiles.{is_meta_file-record, is_record_file-low}
 use Rattle.store_rules.specs.Ranges.{Fits, is_indexed}
 use Rattle.store_rules.specs.Views.{Records, high, rec_at}
-use Rattle.store_check.specs.Breaking.{IsMetaKept, damage}
-use Rattle.store_check.specs.Breaking.Breaks.{OwnRecord, RecordRange, WrongMeta}
+use Rattle.store_rules.specs.Breaking.{IsMetaKept, damage}
+use Rattle.store_rules.specs.Breaking.Breaks.{OwnRecord, RecordRange, WrongMeta}
 use Rattle.store_check.specs.Fitting.{FitsUnused}
 use Rattle.store_check.proofs.FileLaws.{in_range_of, taken_right}
 use Rattle.store_check.proofs.LayoutLaws.{unfit}

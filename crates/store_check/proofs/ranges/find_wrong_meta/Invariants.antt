@@ -2,7 +2,7 @@ use Rattle.std.proofs.Common.{◌≡◌, ◌≤◌, ◌<◌, ℕ, true}
 use Rattle.rec_bytes.specs.Format.{most_ids}
 use Rattle.rec_bytes.specs.RecordFiles.{is_meta_file}
 use Rattle.store_rules.specs.Views.{high}
-use Rattle.store_check.specs.Breaking.{IsMetaKept}
+use Rattle.store_rules.specs.Breaking.{IsMetaKept}
 use Rattle.store_check.proofs.ranges.find_wrong_meta.Given as goal
 
 abbrev pub invariant-loop-id : goal.invariant-loop-id

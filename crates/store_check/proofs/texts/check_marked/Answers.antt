@@ -4,8 +4,8 @@ use Rattle.rec_bytes.specs.declared.meta.Meta.{Meta}
 use Rattle.rec_bytes.specs.Format.{properties_file, strings_file}
 use Rattle.store_rules.specs.Views.{Records, high, is_live}
 use Rattle.store_check.specs.declared.heads.Broke.TheVariants.{Head, Item}
-use Rattle.store_check.specs.Breaking.{IsBlockList, IsLong, damage}
-use Rattle.store_check.specs.Breaking.Breaks.{WrongBlock, WrongText}
+use Rattle.store_rules.specs.Breaking.{IsBlockList, IsLong, damage}
+use Rattle.store_rules.specs.Breaking.Breaks.{WrongBlock, WrongText}
 use Rattle.store_check.specs.Heads.{AmongHeads, BrokeIs, HeadKeeps, IsOnce}
 use Rattle.store_check.specs.Holding.{AllTexts}
 use Rattle.store_check.specs.Marks.{marked}

@@ -1,5 +1,5 @@
 use Rattle.std.proofs.Common.{◌≡◌, ◌≤◌, take, map}
-use Rattle.store_check.specs.Breaking.{block_size}
+use Rattle.store_rules.specs.Breaking.{block_size}
 use Rattle.store_check.proofs.texts.lengths_of.Given as goal
 
 abbrev pub invariant-loop-id : goal.invariant-loop-id

@@ -4,7 +4,7 @@ use Rattle.rec_bytes.specs.Record.{field}
 use Rattle.store_rules.specs.Rules.{first_of}
 use Rattle.store_rules.specs.Views.{group_in, high, kind_at, rec_at}
 use Rattle.store_rules.proofs.ViewLaws.{row_some}
-use Rattle.store_check.specs.Breaking.{group_head, group_label}
+use Rattle.store_rules.specs.Breaking.{group_head, group_label}
 use Rattle.store_check.specs.Leading.{leader}
 use Rattle.store_check.specs.NodeChains.{EndsFound, IsLeading, group_of, owner_at, place_of, side_at}
 use Rattle.store_check.proofs.ChainLaws.{IsSideOf, found_is, group_side}

@@ -2,7 +2,7 @@ use Rattle.std.proofs.Common.{rules, arith, ◌≡◌, ◌<◌, ◌∙◌, ℕ, 
 use Rattle.rec_bytes.specs.Format.{properties_file}
 use Rattle.rec_bytes.specs.Record.{field}
 use Rattle.store_rules.specs.Views.{Records, high, is_live}
-use Rattle.store_check.specs.Breaking.{IsPropertyList}
+use Rattle.store_rules.specs.Breaking.{IsPropertyList}
 use Rattle.store_check.specs.Elements.{first_of}
 use Rattle.store_check.proofs.PropertyLaws.{properties_one}
 use Rattle.store_check.proofs.RecordLaws.{free_read, live_read}

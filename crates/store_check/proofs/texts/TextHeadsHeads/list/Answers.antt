@@ -3,7 +3,7 @@ use Rattle.std.proofs.lemmas.Bool.{true≢false}
 use Rattle.rec_bytes.specs.Format as format
 use Rattle.rec_bytes.specs.Record.{field}
 use Rattle.store_rules.specs.Views.{Records, high}
-use Rattle.store_check.specs.Breaking.{IsLong, block_size, first_block, text_size}
+use Rattle.store_rules.specs.Breaking.{IsLong, block_size, first_block, text_size}
 use Rattle.store_check.specs.Lines.{IsLineIn}
 use Rattle.store_check.specs.Pieces.{AreLengths}
 use Rattle.store_check.specs.Texts.{block_line}

@@ -1,0 +1,35 @@
+use Rattle.std.proofs.Common.{◌≡◌, ap, ◌∙◌, subst, sym}
+use Rattle.std.proofs.lemmas.Result.{err_from_is_err_and}
+use Rattle.rec_bytes.specs.Record.{field}
+use Rattle.store_rules.specs.Chains.{prev_in}
+use Rattle.chain_edit.specs.Chains.{prev_of}
+use Rattle.chain_edit.specs.Walking.{IsStepDamage}
+use Rattle.chain_edit.specs.Walking.IsStepDamage.{NoStep}
+use Rattle.chain_edit.proofs.Walks.{link_step, reads_none, reads_one}
+use Rattle.chain_edit.proofs.walking.read_next.Goals as goal
+
+pub returns-in_err-test_link-clause-at_most : goal.returns-in_err-test_link-clause-at_most
+returns-in_err-test_link-clause-at_most g c = reads_none (g.R.Reads.state c.args.space.now) 1
+
+pub returns-in_err-test_link-clause-damaged : goal.returns-in_err-test_link-clause-damaged
+returns-in_err-test_link-clause-damaged g c = λ tells.
+    let p = err_from_is_err_and c.from_residual.result c.from_residual.ensures.1 in
+    rw (p.1, p.2) (link_step (g.R.Reads.state c.args.space.now) c.args.chain.now.owner c.args.chain.now.node c.args.before c.args.at c.chain_damage.result c.in_err-test_link.field-0.0
+    c.chain_damage.ensures c.in_err-test_link.ensures.damaged)
+
+pub returns-in_err-rec-clause-at_most : goal.returns-in_err-rec-clause-at_most
+returns-in_err-rec-clause-at_most g c = reads_one (g.R.Reads.state c.args.space.now) (g.R.Reads.state c.get.new.self) c.in_err-rec.ensures.state
+
+pub returns-then-link-before-clause-at_most : goal.returns-then-link-before-clause-at_most
+returns-then-link-before-clause-at_most g c = reads_one (g.R.Reads.state c.args.space.now) (g.R.Reads.state c.get.new.self) c.in_ok-rec.ensures.state
+
+pub returns-then-link-before-clause-damaged : goal.returns-then-link-before-clause-damaged
+returns-then-link-before-clause-damaged g c = λ tells.
+    let s = g.R.Reads.state c.args.space.now in
+    let link : c.link.result ≡ prev_of s.records c.args.chain.now.node c.args.at =
+    c.link.ensures ∙ ap (λ at. field 4 c.in_ok-rec.rec at) c.place_of.ensures.is ∙ ap (λ r. prev_in r c.args.chain.now.node) (c.in_ok-rec.ensures.got tells) in
+    subst (IsStepDamage s c.args.chain.now.owner c.args.chain.now.node c.args.before c.args.at) (sym c.chain_damage-then-link-before.ensures)
+    (NoStep (λ lt e. c.if-link-before.true (link ∙ e)))
+
+pub returns-clause-at_most : goal.returns-clause-at_most
+returns-clause-at_most g c = reads_one (g.R.Reads.state c.args.space.now) (g.R.Reads.state c.get.new.self) c.in_ok-rec.ensures.state

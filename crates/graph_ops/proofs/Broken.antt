@@ -1,0 +1,79 @@
+-- A record that is called damaged breaks the rule.
+use Rattle.std.proofs.Common.{◌≡◌, ◌⊎◌, ℕ, None, Some, sym, subst, inl, inr, arith, refl}
+use Rattle.plain_graph.specs.declared.command.Target.{Target}
+use Rattle.plain_graph.specs.declared.command.Target.TheVariants as targets
+use Rattle.rec_bytes.specs.declared.damage.Damage.{Damage}
+use Rattle.rec_bytes.specs.declared.fault.Fault.{Fault}
+use Rattle.rec_bytes.specs.declared.fault.Fault.TheVariants as faults
+use Rattle.rec_bytes.specs.declared.row_fault.RowFault.{RowFault}
+use Rattle.rec_bytes.specs.declared.row_fault.RowFault.TheVariants as row
+use Rattle.rec_bytes.specs.Format as format
+use Rattle.rec_bytes.specs.Space.{SameButReads, State}
+use Rattle.store_rules.specs.Breaking.{Breaks}
+use Rattle.store_rules.specs.Breaking.Breaks.{RecordRange, WrongMeta}
+use Rattle.row_store.specs.Loading.{IsRowDamage}
+use Rattle.row_store.specs.Loading.IsRowDamage.{HighMark, UnknownKind}
+use Rattle.node_store.specs.Loading as nodes
+use Rattle.node_store.specs.declared.node_row.NodeRow.{NodeRow}
+use Rattle.rel_store.specs.Loading as rels
+use Rattle.rel_store.specs.declared.rel_row.RelRow.{RelRow}
+use Rattle.rel_store.proofs.Rows as rel_rows
+use Rattle.prop_store.specs.Fault as props
+use Rattle.prop_store.specs.Owner.{IsInUse}
+use Rattle.graph_ops.specs.ChangeFault.{of_fault, of_row}
+use Rattle.graph_ops.specs.Damage.{BlamesBroken}
+use Rattle.graph_ops.specs.NodeDeleting.{HasDegree, IsDeleteCause}
+use Rattle.graph_ops.specs.Owners.{MayMiss, owner_of}
+use Rattle.graph_ops.proofs.Elements.{used_of}
+
+-- ---- rows that are loaded
+
+node_breaks : (s : State) (id : ℕ) (damage : Damage) → IsRowDamage format.nodes_file s id damage → Breaks s.records s.shape damage
+node_breaks s id damage (UnknownKind low none) = RecordRange format.nodes_file id refl low refl (λ fits. let is = fits.is in cc)
+node_breaks s id damage (HighMark above) = WrongMeta format.nodes_file (omega arith) (λ meta. let right = meta.high in omega arith)
+
+rel_breaks : (s : State) (id : ℕ) (damage : Damage) → IsRowDamage format.relationships_file s id damage → Breaks s.records s.shape damage
+rel_breaks s id damage (UnknownKind low none) = RecordRange format.relationships_file id refl low refl (λ fits. let is = fits.is in cc)
+rel_breaks s id damage (HighMark above) = WrongMeta format.relationships_file (omega arith) (λ meta. let right = meta.high in omega arith)
+
+pub node_broken : (s : State) (id : ℕ) (fault : RowFault) → nodes.IsNodeFault s id fault → BlamesBroken s (of_row fault)
+node_broken s id row.Disk told = tt
+node_broken s id (row.Damaged damage) told = node_breaks s id damage told
+
+pub rel_broken : (s : State) (id : ℕ) (fault : RowFault) → rels.IsRelFault s id fault → BlamesBroken s (of_row fault)
+rel_broken s id row.Disk told = tt
+rel_broken s id (row.Damaged damage) told = rel_breaks s id damage told
+
+pub row_misses : (fault : RowFault) → MayMiss (of_row fault)
+row_misses row.Disk = tt
+row_misses (row.Damaged damage) = tt
+
+-- ---- elements that are loaded are in use
+
+pub node_in_use : (s : State) (target : Target) (id : ℕ) (node : NodeRow) → target ≡ targets.Node id → Some node ≡ nodes.row_at s.records id → IsInUse s.records (owner_of target)
+node_in_use s target id node is found = subst (λ t. IsInUse s.records (owner_of t)) (sym is) (used_of s id node found).0
+
+pub rel_in_use : (s : State) (target : Target) (id : ℕ) (rel : RelRow) → target ≡ targets.Edge id → Some rel ≡ rels.row_at s.records id → IsInUse s.records (owner_of target)
+rel_in_use s target id rel is found = subst (λ t. IsInUse s.records (owner_of t)) (sym is) (rel_rows.kind-row_at-Some s.records id rel (sym found)).0
+
+-- ---- properties
+
+pub read_broken : (s m : State) → SameButReads s m → (fault : Fault) → props.BlamesBroken m.records m.shape fault → BlamesBroken s (of_fault fault)
+read_broken s m same faults.Memory told = tt
+read_broken s m same faults.Disk told = tt
+read_broken s m same (faults.Damaged damage) told = subst (λ (z : State). Breaks z.records z.shape damage) same told
+
+-- ---- nodes that are deleted
+
+pub node_cause : (s : State) (id : ℕ) (fault : RowFault) → nodes.IsNodeFault s id fault → IsDeleteCause s id (of_row fault)
+node_cause s id row.Disk told = tt
+node_cause s id (row.Damaged damage) told = inl (node_breaks s id damage told)
+
+pub drop_cause : (s m : State) (id : ℕ) (node : NodeRow) → SameButReads s m → Some node ≡ nodes.row_at s.records id → node.degree ≡ 0 → (fault : Fault) → props.BlamesDropped m.records m.shape fault → IsDeleteCause s id (of_fault fault)
+drop_cause s m id node same found lone faults.Memory told = tt
+drop_cause s m id node same found lone faults.Disk told = tt
+drop_cause s m id node same found lone (faults.Damaged damage) told = by (subst (λ (z : State). props.BlamesDropped z.records z.shape (faults.Damaged damage)) same told)
+  where
+    by : Breaks s.records s.shape damage ⊎ props.SharesBlock s.records damage → IsDeleteCause s id (of_fault (faults.Damaged damage))
+    by (inl broken) = inl broken
+    by (inr shares) = inr (record { row = node; found = sym found; is = lone }, shares)

@@ -1,0 +1,55 @@
+use Rattle.std.proofs.Common.{inl, inr, refl, sym}
+use Rattle.rec_bytes.proofs.Spaces.{writes_then}
+use Rattle.graph_ops.specs.ChangeFault.{IsOutside}
+use Rattle.graph_ops.proofs.EndsFound.{both_found, loop_found, there_then}
+use Rattle.graph_ops.proofs.EndWrites.{one_group, one_head}
+use Rattle.graph_ops.proofs.Exits.{fault_exit}
+use Rattle.graph_ops.proofs.edge_deleting.edge_ends.Goals as goal
+
+-- ---- why it fails
+pub returns-in_err-source-clause-sound : goal.returns-in_err-source-clause-sound
+returns-in_err-source-clause-sound g c tells names store there =
+    fault_exit (λ f. f) IsOutside c.in_err-source.field-0.0 c.from_residual.result c.from_residual.ensures.1 (c.in_err-source.ensures.sound tells names store there (inl refl))
+
+pub returns-in_err-target-clause-sound : goal.returns-in_err-target-clause-sound
+returns-in_err-target-clause-sound g c tells names store there =
+    let s = g.S.Reads.state c.args.space.now in
+    let t = g.S.Reads.state c.edge_end.new.space in
+    let first = c.in_ok-source.ensures.found tells names store there (inl refl) in
+    fault_exit (λ f. f) IsOutside c.in_err-target.field-0.0 c.from_residual-in_err-target.result c.from_residual-in_err-target.ensures.1
+    (c.in_err-target.ensures.sound tells names first.store (there_then s t names c.args.id c.args.rel there c.in_ok-source.source c.in_ok-source.ensures.node first) (inr refl))
+
+-- ---- what it leaves
+pub returns-then-rel-clause-found : goal.returns-then-rel-clause-found
+returns-then-rel-clause-found g c tells names store there =
+    let s = g.S.Reads.state c.args.space.now in
+    let t = g.S.Reads.state c.edge_end.new.space in
+    loop_found s t names c.args.id c.args.rel there c.in_ok-source.source c.in_ok-source.ensures.node (c.in_ok-source.ensures.found tells names store there (inl refl)) c.if-rel.true
+
+pub returns-clause-found : goal.returns-clause-found
+returns-clause-found g c tells names store there =
+    let s = g.S.Reads.state c.args.space.now in
+    let t = g.S.Reads.state c.edge_end.new.space in
+    let u = g.S.Reads.state c.edge_end-2.new.space in
+    let first = c.in_ok-source.ensures.found tells names store there (inl refl) in
+    both_found s t names c.args.id c.args.rel there c.in_ok-source.source c.in_ok-source.ensures.node first u c.in_ok-target.target c.in_ok-target.ensures.node c.if-rel.false
+    (c.in_ok-target.ensures.found tells names first.store (there_then s t names c.args.id c.args.rel there c.in_ok-source.source c.in_ok-source.ensures.node first) (inr refl))
+
+-- ---- what it writes
+pub returns-in_err-source-clause-writes : goal.returns-in_err-source-clause-writes
+returns-in_err-source-clause-writes g c = (c.edge_end.ensures.writes.0, c.edge_end.ensures.writes.0, one_group _ _ _ c.edge_end.ensures.writes.1)
+
+pub returns-then-rel-clause-writes : goal.returns-then-rel-clause-writes
+returns-then-rel-clause-writes g c = (c.edge_end.ensures.writes.0, c.edge_end.ensures.writes.0, one_group _ _ _ c.edge_end.ensures.writes.1)
+
+pub returns-in_err-target-clause-writes : goal.returns-in_err-target-clause-writes
+returns-in_err-target-clause-writes g c = (c.edge_end.ensures.writes.0, c.edge_end-2.ensures.writes.0, writes_then _ _ _ _ _ c.edge_end.ensures.writes.1 c.edge_end-2.ensures.writes.1)
+
+pub returns-clause-writes : goal.returns-clause-writes
+returns-clause-writes g c = (c.edge_end.ensures.writes.0, c.edge_end-2.ensures.writes.0, writes_then _ _ _ _ _ c.edge_end.ensures.writes.1 c.edge_end-2.ensures.writes.1)
+
+pub returns-then-rel-clause-wrote : goal.returns-then-rel-clause-wrote
+returns-then-rel-clause-wrote g c = one_head _ _ c.in_ok-source.source.head.key c.in_ok-source.ensures.wrote
+
+pub returns-clause-wrote : goal.returns-clause-wrote
+returns-clause-wrote g c = writes_then _ _ _ _ _ c.in_ok-source.ensures.wrote c.in_ok-target.ensures.wrote

@@ -1,0 +1,245 @@
+-- Damage that breaks a rule.
+use Rattle.std.proofs.Common.{◌≡◌, ◌≢◌, ℕ, ◌<◌, ◌≤◌, nat_eq, Bool, true, false, cond, None, Some, Result, Ok, Err, IfErr, List, [], ◌∷◌, sym, ap, ◌∙◌, subst, inl, inr, ⊎_elim, arith, refl}
+use Rattle.rec_bytes.specs.declared.damage.Damage.{Damage}
+use Rattle.rec_bytes.specs.declared.fault.Fault.{Fault}
+use Rattle.rec_bytes.specs.declared.fault.Fault.TheVariants.{Memory, Disk, Damaged}
+use Rattle.rec_bytes.specs.declared.key.Key.{Key}
+use Rattle.rec_bytes.specs.declared.record.Rec.{Rec}
+use Rattle.rec_bytes.specs.Format as format
+use Rattle.rec_bytes.specs.Meta.{IsMetaInRange}
+use Rattle.rec_bytes.specs.Record.{field}
+use Rattle.rec_bytes.specs.RecordFiles.{meta_key_of}
+use Rattle.rec_bytes.specs.Space.{SameButReads, State}
+use Rattle.id_freelist.proofs.TakeBreaches.{breaks_of}
+use Rattle.store_rules.specs.Breaking as breaking
+use Rattle.store_rules.specs.Breaking.{Breaks, IsHeadOf, MemberKeeps}
+use Rattle.store_rules.specs.Breaking.Breaks.{OwnerGroups, RecordRange, RelEnds, WrongMeta}
+use Rattle.store_rules.specs.Chains.{In, IsWalk}
+use Rattle.store_rules.specs.Ranges.{Fits, Layout, Pointer, all_point, free_layout, group_layout, layout_by, may, must, node_layout, points}
+use Rattle.store_rules.specs.Rules.{Head, IsEnd, StandsAt}
+use Rattle.store_rules.specs.Views as views
+use Rattle.store_rules.specs.Views.{Records, RelRow, first_link, group_at, group_in, high, key_in, kind_at, rec_at, rel_at, rel_in}
+use Rattle.store_rules.proofs.ChainLaws.{walk_of_chain}
+use Rattle.store_rules.proofs.GroupLaws.{same_group}
+use Rattle.store_rules.proofs.LinkFits.{IsLow}
+use Rattle.store_rules.proofs.NumberLaws.{and_parts, eq_false}
+use Rattle.store_rules.proofs.ViewLaws.{kind_below, kind_low, some_row}
+use Rattle.chain_edit.specs.Breaks.{IsBreakFault}
+use Rattle.chain_edit.proofs.InRange.{low_points}
+use Rattle.chain_edit.proofs.Walks.{walk_is}
+use Rattle.node_store.specs.Loading.{IsNodeDamage}
+use Rattle.row_store.specs.Loading.IsRowDamage.{HighMark as HighNodes, UnknownKind}
+use Rattle.group_store.specs.Dropping.{IsDropDamage, IsDropFault}
+use Rattle.group_store.specs.Dropping.IsDropDamage.{BadMember, BadNext, BadPrevious}
+use Rattle.group_store.specs.Finding.{IsFindFault}
+use Rattle.group_store.specs.FirstGroup.{IsNodeFault}
+use Rattle.group_store.specs.GroupChain.{IsDense, IsOwnedBy, IsOwnedList, next_group, previous_group}
+use Rattle.group_store.specs.GroupRecord.{range_damage}
+use Rattle.group_store.specs.Links.{IsLinkDamage}
+use Rattle.group_store.specs.Links.IsLinkDamage.{LeadsNowhere, HighLink}
+use Rattle.group_store.specs.Loading.{group_mark, group_room, mark_damage}
+use Rattle.group_store.specs.Making.{IsMakeDamage, IsMakeFault, link_damage}
+use Rattle.group_store.specs.Making.IsMakeDamage.{BadFree, BadLink, BadNode, FullFile, NotDense}
+use Rattle.group_store.specs.Opening.{IsHeadFault, IsOpenFault, LacksGroupOn, end_damage}
+use Rattle.group_store.specs.Walking.{IsMemberDamage, IsWalkDamage}
+use Rattle.group_store.specs.Walking.IsMemberDamage.{HighMember, NoMember, UnknownMember}
+use Rattle.group_store.specs.Walking.IsWalkDamage.{HighMark, NoList, UnknownGroup}
+
+-- ---- the first rule
+
+used_is : (pointed layout : Layout) → Some pointed ≡ Some layout → pointed ≡ layout
+used_is pointed layout h = cc
+
+not_low : (mark link : ℕ) → link ≢ format.nil → mark ≤ link → IsLow mark link → ⊥
+not_low mark link some above low = ⊎_elim (λ (e : link ≡ format.nil). some e) (λ (lt : link < mark). omega arith) low
+
+-- a meta record that counts more than there is room for
+mark_breaks : (s : State) → group_room s < group_mark s → Breaks s.records s.shape mark_damage
+mark_breaks s above = WrongMeta format.groups_file (omega arith)
+    (λ (kept : IsMetaInRange s.shape format.groups_file (s.records (meta_key_of format.groups_file))). let few = kept.high in omega arith)
+
+-- a node that can't be read
+pub node_breaks : (s : State) (n : ℕ) (damage : Damage) → IsNodeDamage s n damage → Breaks s.records s.shape damage
+node_breaks s n damage (HighNodes above) = WrongMeta format.nodes_file (omega arith)
+    (λ (kept : IsMetaInRange s.shape format.nodes_file (s.records (meta_key_of format.nodes_file))). let few = kept.high in omega arith)
+node_breaks s n damage (UnknownKind low unknown) = RecordRange format.nodes_file n refl low refl (λ fits. let layout = fits.is in cc)
+
+pub node_fault_breaks : (s : State) (n : ℕ) (fault : Fault) → IsNodeFault s n fault → IsBreakFault s fault
+node_fault_breaks s n Memory told = tt
+node_fault_breaks s n Disk told = tt
+node_fault_breaks s n (Damaged damage) told = node_breaks s n damage told
+
+-- the layout of a group in use
+layout_of_group : (r : Rec) (kind : ℕ) (layout : Layout) → kind ≢ 0 → layout_by format.groups_file r kind ≡ Some layout → (size : ℕ) × (group_layout size ≡ Some layout)
+layout_of_group r kind layout live is = by (nat_eq kind 0) (nat_eq kind 1) (nat_eq kind 2) (eq_false kind 0 live) is
+  where
+    by : (free grouped counted : Bool) → free ≡ false → cond free (free_layout format.groups_file) (cond grouped (group_layout 28) (cond counted (group_layout 40) None)) ≡ Some layout → (size : ℕ) × (group_layout size ≡ Some layout)
+    by true grouped counted e h = absurd cc
+    by false true counted e h = (28, h)
+    by false false true e h = (40, h)
+    by false false false e h = absurd cc
+
+abbrev group_pointers : List Pointer
+group_pointers = must format.group_owner format.nodes_file ∷ may format.group_previous format.groups_file ∷ may format.group_next format.groups_file
+    ∷ may format.group_first_out format.relationships_file ∷ may format.group_first_in format.relationships_file ∷ may format.group_first_loop format.relationships_file ∷ []
+
+-- the neighbours of a group that fits
+neighbours_low : (marks : ℕ → ℕ) (r : Rec) → field 1 r format.kind ≢ 0 → Fits marks format.groups_file r → IsLow (marks format.groups_file) (field 4 r format.group_previous) × IsLow (marks format.groups_file) (field 4 r format.group_next)
+neighbours_low marks r used fits =
+    let is = layout_of_group r (field 1 r format.kind) fits.layout used fits.is in
+    let point : all_point marks r group_pointers ≡ true = subst (λ (l : Layout). all_point marks r l.pointers ≡ true) (sym (used_is _ fits.layout is.1)) fits.point in
+    let a = and_parts (points marks r (must format.group_owner format.nodes_file)) _ point in
+    let b = and_parts (points marks r (may format.group_previous format.groups_file)) _ a.1 in
+    let c = and_parts (points marks r (may format.group_next format.groups_file)) _ b.1 in
+    (low_points marks r format.group_previous format.groups_file b.0, low_points marks r format.group_next format.groups_file c.0)
+
+-- the first link of a dense node that fits
+dense_low : (marks : ℕ → ℕ) (r : Rec) → field 1 r format.kind ≡ format.dense → Fits marks format.nodes_file r → IsLow (marks format.groups_file) (field 4 r format.node_first_link)
+dense_low marks r kind fits =
+    let is : node_layout format.groups_file ≡ Some fits.layout = ap (layout_by format.nodes_file r) (sym kind) ∙ fits.is in
+    let point : all_point marks r (may format.node_first_link format.groups_file ∷ may format.node_first_property format.properties_file ∷ []) ≡ true
+    = subst (λ (l : Layout). all_point marks r l.pointers ≡ true) (sym (used_is _ fits.layout is)) fits.point in
+    low_points marks r format.node_first_link format.groups_file (and_parts (points marks r (may format.node_first_link format.groups_file)) _ point).0
+
+dense_below : (s : State) (n : ℕ) → IsDense s.records n → n < high s.records format.nodes_file
+dense_below s n dense = kind_below (high s.records format.nodes_file) (rec_at s.records format.nodes_file n) n (λ e. absurd (let d = dense in omega arith))
+
+-- ---- the groups of a dense node
+
+-- a node with a group chain owns those that its links lead through
+owned_groups : (records : Records) (n : ℕ) (members : List ℕ) → breaking.IsGroupChain records n members → IsOwnedList records n (first_link records n) members
+owned_groups records n members groups = record {
+  walk = walk_of_chain _ _ format.nil (first_link records n) members groups.chain;
+  only = λ g i.
+      let is = groups.only g i in
+      let row = some_row (kind_at records format.groups_file g) (group_in (rec_at records format.groups_file g) g) is.0 is.1 in
+      record { used = row.0; owner = ap (λ (r : views.GroupRow). r.owner) row.1 ∙ is.2 };
+}
+
+pub walk_breaks : (s : State) (n : ℕ) → IsDense s.records n → (damage : Damage) → IsWalkDamage s n (first_link s.records n) damage → Breaks s.records s.shape damage
+walk_breaks s n dense damage (NoList none) = OwnerGroups n (dense_below s n dense) (λ keeps. let chain = keeps.groups dense in none chain.0 (owned_groups s.records n chain.0 chain.1))
+walk_breaks s n dense damage (UnknownGroup g none low unknown) = RecordRange format.groups_file g refl low refl (λ fits. let layout = fits.is in cc)
+walk_breaks s n dense damage (HighMark above) = mark_breaks s above
+
+pub find_breaks : (s : State) (n : ℕ) → IsDense s.records n → (fault : Fault) → IsFindFault s n fault → IsBreakFault s fault
+find_breaks s n dense Memory told = tt
+find_breaks s n dense Disk told = tt
+find_breaks s n dense (Damaged damage) told = ⊎_elim (λ k. node_breaks s n damage k) (λ k. walk_breaks s n dense damage k) told
+
+-- ---- a group that is made
+
+first_breaks : (s : State) (n : ℕ) → IsDense s.records n → (damage : Damage) → IsLinkDamage s (first_link s.records n) (link_damage n) damage → Breaks s.records s.shape damage
+first_breaks s n dense damage (LeadsNowhere some above) =
+    let r = rec_at s.records format.nodes_file n in
+    let lt = dense_below s n dense in
+    let kind : field 1 r format.kind ≡ format.dense = sym (kind_low (high s.records format.nodes_file) r n lt) ∙ dense in
+    RecordRange format.nodes_file n refl lt refl (λ fits. not_low (group_mark s) (first_link s.records n) some above (dense_low (high s.records) r kind fits))
+first_breaks s n dense damage (HighLink above) = mark_breaks s above
+
+pub make_breaks : (s : State) (n : ℕ) → IsDense s.records n → (fault : Fault) → IsMakeFault s n fault → IsOpenFault s fault
+make_breaks s n dense Memory told = tt
+make_breaks s n dense Disk told = tt
+make_breaks s n dense (Damaged damage) told = by damage told
+  where
+    by : (damage : Damage) → IsMakeDamage s n damage → IsOpenFault s (Damaged damage)
+    by damage (BadNode d bad) = inl (node_breaks s n d bad)
+    by damage (NotDense thin) = absurd (thin dense)
+    by damage (BadLink d bad) = inl (first_breaks s n dense d bad)
+    by damage (FullFile full) = inr (refl, full)
+    by damage (BadFree d bad) = inl (breaks_of s format.groups_file refl d bad)
+
+pub only_breaks : (s : State) (fault : Fault) → IsBreakFault s fault → IsOpenFault s fault
+only_breaks s Memory told = tt
+only_breaks s Disk told = tt
+only_breaks s (Damaged damage) told = inl told
+
+-- after reads
+pub open_read : (s z : State) → SameButReads s z → (fault : Fault) → IsOpenFault z fault → IsOpenFault s fault
+open_read s z same Memory told = tt
+open_read s z same Disk told = tt
+open_read s z same (Damaged damage) told = subst (λ (q : State). IsOpenFault q (Damaged damage)) same told
+
+-- ---- a group that is dropped
+
+module _ (s : State) (n g : ℕ) (row : views.GroupRow) (is : group_at s.records g ≡ Some row) (owner : row.owner ≡ n) where
+  found : (kind_at s.records format.groups_file g ≢ 0) × (group_in (rec_at s.records format.groups_file g) g ≡ row)
+  found = some_row (kind_at s.records format.groups_file g) (group_in (rec_at s.records format.groups_file g) g) row is
+
+  owned : IsOwnedBy s.records n g
+  owned = record { used = found.0; owner = ap (λ (r : views.GroupRow). r.owner) found.1 ∙ owner }
+
+  below : g < high s.records format.groups_file
+  below = kind_below (high s.records format.groups_file) (rec_at s.records format.groups_file g) g found.0
+
+  used : field 1 (rec_at s.records format.groups_file g) format.kind ≢ 0
+  used e = found.0 (kind_low (high s.records format.groups_file) (rec_at s.records format.groups_file g) g below ∙ e)
+
+  link_breaks : (link : ℕ) (damage : Damage) → (Fits (high s.records) format.groups_file (rec_at s.records format.groups_file g) → IsLow (group_mark s) link) → IsLinkDamage s link (range_damage g) damage → Breaks s.records s.shape damage
+  link_breaks link damage low (LeadsNowhere some above) = RecordRange format.groups_file g refl below refl (λ fits. not_low (group_mark s) link some above (low fits))
+  link_breaks link damage low (HighLink above) = mark_breaks s above
+
+  member_breaks : (damage : Damage) → IsMemberDamage s n g damage → Breaks s.records s.shape damage
+  member_breaks damage (NoMember none) = absurd (none owned)
+  member_breaks damage (UnknownMember low unknown) = RecordRange format.groups_file g refl low refl (λ fits. let layout = fits.is in cc)
+  member_breaks damage (HighMember above) = mark_breaks s above
+
+  drop_by : (damage : Damage) → IsDropDamage s n g damage → Breaks s.records s.shape damage
+  drop_by damage (BadMember d bad) = member_breaks d bad
+  drop_by damage (BadPrevious d bad) = link_breaks (previous_group s.records g) d (λ fits. (neighbours_low (high s.records) (rec_at s.records format.groups_file g) used fits).0) bad
+  drop_by damage (BadNext d bad) = link_breaks (next_group s.records g) d (λ fits. (neighbours_low (high s.records) (rec_at s.records format.groups_file g) used fits).1) bad
+
+  pub drop_breaks : (fault : Fault) → IsDropFault s n g fault → IsBreakFault s fault
+  drop_breaks Memory told = tt
+  drop_breaks Disk told = tt
+  drop_breaks (Damaged damage) told = drop_by damage told
+
+-- the group of a head that a node owns
+pub close_breaks : (s : State) (head : Head) (n : ℕ) → IsHeadOf s.records head n → head.key.file ≡ format.groups_file → (fault : Fault) → IsDropFault s n head.key.id fault → IsBreakFault s fault
+close_breaks s head n (inl o) file fault told = absurd (let f = ap (λ (h : Head). h.key.file) o.is in omega arith)
+close_breaks s head n (inr o) file fault told = drop_breaks s n head.key.id o.row (ap (λ (k : Key). group_at s.records k.id) o.key ∙ o.group) o.owner fault told
+
+-- ---- a relationship with no group
+
+-- a relationship of a type of which the node has no group breaks the third rule, where each group is on its owner's chain
+pub no_group_breaks : (s : State) (n rel label : ℕ) (row : RelRow) → rel_at s.records rel ≡ Some row → IsEnd n row → row.label ≡ label → ((g : ℕ) → MemberKeeps s.records g) → LacksGroupOn s.records n label → Breaks s.records s.shape (end_damage rel)
+no_group_breaks s n rel label row live end typed members lacks =
+    RelEnds rel (kind_below (high s.records format.relationships_file) (rec_at s.records format.relationships_file rel) rel (some_row (kind_at s.records format.relationships_file rel) (rel_in (rec_at s.records format.relationships_file rel) rel) row live).0)
+    (λ keeps. ⊎_elim (λ (e : row.from ≡ n). none (subst (λ m. breaking.EndKeeps s.records m rel) e (keeps.from row live))) (λ (e : row.to ≡ n). none (subst (λ m. breaking.EndKeeps s.records m rel) e (keeps.to row live))) end)
+  where
+    none : breaking.EndKeeps s.records n rel → ⊥
+    none keeps =
+        let chain = keeps.chain (inr lacks.dense) in
+        let stands = chain.chain.only rel chain.member in
+        by chain.head chain.owns stands
+      where
+        by : (head : Head) → IsHeadOf s.records head n → StandsAt (rel_at s.records) (group_at s.records) head rel → ⊥
+        by head (inl o) stands = let a = o.sparse in let b = lacks.dense in omega arith
+        by head (inr o) stands = ⊎_elim (λ k. absurd (let f = k.0 in let e = ap (λ (z : Key). z.file) o.key in omega arith))
+            (λ k.
+            let inside = k.1 in
+            let same : inside.row ≡ o.row = same_group inside.row o.row (sym inside.group ∙ ap (λ (z : Key). group_at s.records z.id) o.key ∙ o.group) in
+            let held = (members o.row.id).owner o.row o.group in
+            let walk = walk_of_chain _ _ format.nil (first_link s.records o.row.owner) held.members held.groups.chain in
+            let first : first_link s.records o.row.owner ≡ first_link s.records n = ap (first_link s.records) o.owner in
+            let is = walk_is (next_group s.records) (first_link s.records n) held.members lacks.members (subst (λ f. Walks f held.members) first walk) lacks.list.walk in
+            let row_is = (some_row (kind_at s.records format.groups_file o.row.id) (group_in (rec_at s.records format.groups_file o.row.id) o.row.id) o.row o.group).1 in
+            let live_row : stands.row ≡ row = same_rel stands.row row (sym stands.live ∙ live) in
+            lacks.lacks o.row.id (subst (λ xs. In o.row.id xs) is held.member)
+            (ap (λ (r : views.GroupRow). r.label) row_is ∙ sym (ap (λ (r : views.GroupRow). r.label) same) ∙ sym inside.label ∙ ap (λ (r : RelRow). r.label) live_row ∙ typed)) stands.on
+          where
+            Walks : ℕ → List ℕ → Type 0
+            Walks f xs = IsWalk (next_group s.records) f xs
+
+            same_rel : (a b : RelRow) → Some a ≡ Some b → a ≡ b
+            same_rel a b e = cc
+
+-- ---- faults that are handed on
+
+pub head_only : (s : State) (n rel label : ℕ) (fault : Fault) → IsBreakFault s fault → IsHeadFault s n rel label fault
+head_only s n rel label Memory told = tt
+head_only s n rel label Disk told = tt
+head_only s n rel label (Damaged damage) told = inl told
+
+pub if_err : {T E : Type 0} (r : Result T E) (P Q : E → Type 0) → ((e : E) → P e → Q e) → IfErr r P → IfErr r Q
+if_err (Ok x) P Q f p = tt
+if_err (Err e) P Q f p = f e p

@@ -1,0 +1,206 @@
+use Rattle.std.proofs.Common.{Option, [], ◌∷◌, ◌+◌, sym, ap, ◌∙◌, subst}
+use Rattle.std.proofs.lemmas.Bool.{false≢true}
+use Rattle.std.proofs.lemmas.Result.{err_from_is_err_and}
+use Rattle.rec_bytes.specs.declared.damage.Damage.{Damage}
+use Rattle.rec_bytes.specs.declared.key.Key.{Key}
+use Rattle.store_rules.specs.Breaking.{Breaks}
+use Rattle.rec_bytes.specs.Space.{State, WritesOnly}
+use Rattle.store_rules.specs.Rules.{Head}
+use Rattle.store_rules.specs.Views.{Records, rel_at}
+use Rattle.group_store.specs.declared.group_row.GroupRow.{GroupRow}
+use Rattle.chain_edit.specs.declared.head.Head.{Head as ChainHead}
+use Rattle.group_store.specs.Finding.{IsFound}
+use Rattle.group_store.specs.GroupChain.{IsDense}
+use Rattle.group_store.specs.GroupRecord.{group_key}
+use Rattle.group_store.specs.Loading.{group_mark}
+use Rattle.group_store.specs.Opening.{FindsChain, LacksGroupOn}
+use Rattle.group_store.proofs.BrokenGroups.{find_breaks, head_only, no_group_breaks, node_fault_breaks}
+use Rattle.group_store.proofs.Raises.{breaks_read}
+use Rattle.group_store.proofs.ChainHeads.{chain_of, has_group, is_chain, node_readable, only_read, same_records, same_twice, walkable}
+use Rattle.group_store.proofs.Heads.{finds_group, finds_node, found_at, found_raise, then_unwritten}
+use Rattle.group_store.proofs.MakeSteps.{on_damage, same_writes}
+use Rattle.group_store.proofs.Openings.{handed, keeps_read}
+use Rattle.group_store.proofs.OwnGroups.{writes_after}
+use Rattle.group_store.proofs.opening.open_head.Goals as goal
+
+pub returns-then-not-branch-clause-found : goal.returns-then-not-branch-clause-found
+returns-then-not-branch-clause-found g c = λ tells most empty x row end.
+    let s = g.S.Reads.state c.args.space.now in
+    let z = g.S.Reads.state c.is_dense.new.space in
+    let thin : ¬ IsDense s.records c.args.node = λ d. false≢true (sym c.if-not-branch.true ∙ (c.in_ok-is_dense.ensures.is tells).1 d) in
+    subst (λ (h : Head). FindsChain s z h c.args.node row most empty) (sym c.node_head.ensures.is) (finds_node s z c.in_ok-is_dense.ensures.state c.args.node c.args.label c.args.side most empty x row end thin)
+
+pub returns-in_err-group-clause-sound : goal.returns-in_err-group-clause-sound
+returns-in_err-group-clause-sound g c = λ tells most empty x row end.
+    let s = g.S.Reads.state c.args.space.now in
+    let z = g.S.Reads.state c.is_dense.new.space in
+    let same = c.in_ok-is_dense.ensures.state in
+    let dense = (c.in_ok-is_dense.ensures.is tells).0 c.if-not-branch.false in
+    let keeps = keeps_read s z same most empty end.keeps in
+    let dense_z = subst (λ (r : Records). IsDense r c.args.node) (sym (same_records s z same)) dense in
+    let p = err_from_is_err_and c.from_residual-in_err-group.result c.from_residual-in_err-group.ensures.1 in
+    rw (p.1, p.2) (handed (Option GroupRow) ChainHead c.in_err-group.field-0.0 (c.in_err-group.ensures.sound tells (node_readable z keeps c.args.node) (chain_of z.records z.shape keeps c.args.node dense_z) (walkable z keeps c.args.node dense_z)))
+
+pub returns-in_err-count_group-clause-sound : goal.returns-in_err-count_group-clause-sound
+returns-in_err-count_group-clause-sound g c = λ tells most empty x row end.
+    let s = g.S.Reads.state c.args.space.now in
+    let z = g.S.Reads.state c.is_dense.new.space in
+    let y = g.S.Reads.state c.find_group.new.space in
+    let found = subst (IsFound z.records c.args.node c.args.label) c.in-Some.is (c.in_ok-group.ensures.found tells) in
+    let same = only_read z y (1 + group_mark z) c.in_ok-group.ensures.at_most in
+    let p = err_from_is_err_and c.from_residual-in_err-count_group.result c.from_residual-in_err-count_group.ensures.1 in
+    rw (p.1, p.2) (handed Unit ChainHead c.in_err-count_group.field-0.0 (c.in_err-count_group.ensures.sound tells most empty
+    (found_raise s z y c.in_ok-is_dense.ensures.state same c.args.node c.args.label c.in-Some.group most empty end.keeps found)))
+
+pub returns-clause-found : goal.returns-clause-found
+returns-clause-found g c = λ tells most empty x row end.
+    let s = g.S.Reads.state c.args.space.now in
+    let z = g.S.Reads.state c.is_dense.new.space in
+    let y = g.S.Reads.state c.find_group.new.space in
+    let t = g.S.Reads.state c.count_group.new.space in
+    let found = subst (IsFound z.records c.args.node c.args.label) c.in-Some.is (c.in_ok-group.ensures.found tells) in
+    let same = only_read z y (1 + group_mark z) c.in_ok-group.ensures.at_most in
+    let can = found_raise s z y c.in_ok-is_dense.ensures.state same c.args.node c.args.label c.in-Some.group most empty end.keeps found in
+    subst (λ (h : Head). FindsChain s t h c.args.node row most empty) (sym c.group_head.ensures.is)
+    (finds_group s z y c.in_ok-is_dense.ensures.state same c.args.node c.args.label c.in-Some.group t c.args.side most empty x row end found can (c.in_ok-count_group.ensures.raised tells most empty can))
+
+pub returns-in_default-clause-sound : goal.returns-in_default-clause-sound
+returns-in_default-clause-sound g c = λ tells most empty x row end.
+    let s = g.S.Reads.state c.args.space.now in
+    let z = g.S.Reads.state c.is_dense.new.space in
+    let same = c.in_ok-is_dense.ensures.state in
+    let dense = (c.in_ok-is_dense.ensures.is tells).0 c.if-not-branch.false in
+    let keeps = keeps_read s z same most empty end.keeps in
+    let dense_z = subst (λ (r : Records). IsDense r c.args.node) (sym (same_records s z same)) dense in
+    let lacks = (c.in_ok-group.ensures.none tells dense_z (chain_of z.records z.shape keeps c.args.node dense_z) (is_chain z.records z.shape keeps c.args.node dense_z)).0 c.in_default.is in
+    absurd (has_group z.records z.shape keeps c.args.node dense_z x c.args.label row (ap (λ (q : State). rel_at q.records x) same ∙ end.live) end.at.end end.at.typed lacks)
+
+-- ---- what is written
+
+pub returns-in_err-group-clause-unwritten : goal.returns-in_err-group-clause-unwritten
+returns-in_err-group-clause-unwritten g c =
+    let z = g.S.Reads.state c.is_dense.new.space in
+    let y = g.S.Reads.state c.find_group.new.space in
+    on_damage c.from_residual-in_err-group.result _ (same_twice (g.S.Reads.state c.args.space.now) z y c.in_ok-is_dense.ensures.state (only_read z y (1 + group_mark z) c.in_err-group.ensures.at_most))
+
+pub returns-in_default-clause-unwritten : goal.returns-in_default-clause-unwritten
+returns-in_default-clause-unwritten g c =
+    let z = g.S.Reads.state c.is_dense.new.space in
+    let y = g.S.Reads.state c.find_group.new.space in
+    same_twice (g.S.Reads.state c.args.space.now) z y c.in_ok-is_dense.ensures.state (only_read z y (1 + group_mark z) c.in_ok-group.ensures.at_most)
+
+pub returns-in_err-count_group-clause-unwritten : goal.returns-in_err-count_group-clause-unwritten
+returns-in_err-count_group-clause-unwritten g c =
+    let s = g.S.Reads.state c.args.space.now in
+    let z = g.S.Reads.state c.is_dense.new.space in
+    let y = g.S.Reads.state c.find_group.new.space in
+    let t = g.S.Reads.state c.count_group.new.space in
+    let same = same_twice s z y c.in_ok-is_dense.ensures.state (only_read z y (1 + group_mark z) c.in_ok-group.ensures.at_most) in
+    let p = err_from_is_err_and c.from_residual-in_err-count_group.result c.from_residual-in_err-count_group.ensures.1 in
+    rw (p.1, p.2) (then_unwritten s y t same c.in_err-count_group.field-0.0 c.in_err-count_group.ensures.unwritten)
+
+pub returns-in_err-group-clause-writes : goal.returns-in_err-group-clause-writes
+returns-in_err-group-clause-writes g c =
+    let s = g.S.Reads.state c.args.space.now in
+    let z = g.S.Reads.state c.is_dense.new.space in
+    let y = g.S.Reads.state c.find_group.new.space in
+    (0, same_writes s y (group_key 0 ∷ []) (same_twice s z y c.in_ok-is_dense.ensures.state (only_read z y (1 + group_mark z) c.in_err-group.ensures.at_most)))
+
+pub returns-in_default-clause-writes : goal.returns-in_default-clause-writes
+returns-in_default-clause-writes g c =
+    let s = g.S.Reads.state c.args.space.now in
+    let z = g.S.Reads.state c.is_dense.new.space in
+    let y = g.S.Reads.state c.find_group.new.space in
+    (0, same_writes s y (group_key 0 ∷ []) (same_twice s z y c.in_ok-is_dense.ensures.state (only_read z y (1 + group_mark z) c.in_ok-group.ensures.at_most)))
+
+pub returns-in_err-count_group-clause-writes : goal.returns-in_err-count_group-clause-writes
+returns-in_err-count_group-clause-writes g c =
+    let s = g.S.Reads.state c.args.space.now in
+    let z = g.S.Reads.state c.is_dense.new.space in
+    let y = g.S.Reads.state c.find_group.new.space in
+    let t = g.S.Reads.state c.count_group.new.space in
+    let same = same_twice s z y c.in_ok-is_dense.ensures.state (only_read z y (1 + group_mark z) c.in_ok-group.ensures.at_most) in
+    (c.in-Some.group.id, writes_after s y t (group_key c.in-Some.group.id ∷ []) same c.in_err-count_group.ensures.writes)
+
+pub returns-clause-writes : goal.returns-clause-writes
+returns-clause-writes g c =
+    let s = g.S.Reads.state c.args.space.now in
+    let z = g.S.Reads.state c.is_dense.new.space in
+    let y = g.S.Reads.state c.find_group.new.space in
+    let t = g.S.Reads.state c.count_group.new.space in
+    let same = same_twice s z y c.in_ok-is_dense.ensures.state (only_read z y (1 + group_mark z) c.in_ok-group.ensures.at_most) in
+    (c.in-Some.group.id, writes_after s y t (group_key c.in-Some.group.id ∷ []) same c.in_ok-count_group.ensures.writes)
+
+pub returns-clause-wrote : goal.returns-clause-wrote
+returns-clause-wrote g c =
+    let s = g.S.Reads.state c.args.space.now in
+    let z = g.S.Reads.state c.is_dense.new.space in
+    let y = g.S.Reads.state c.find_group.new.space in
+    let t = g.S.Reads.state c.count_group.new.space in
+    let same = same_twice s z y c.in_ok-is_dense.ensures.state (only_read z y (1 + group_mark z) c.in_ok-group.ensures.at_most) in
+    subst (λ (k : Key). WritesOnly s t (k ∷ [])) (sym (ap (λ (h : Head). h.key) c.group_head.ensures.is)) (writes_after s y t (group_key c.in-Some.group.id ∷ []) same c.in_ok-count_group.ensures.writes)
+
+-- ---- damage
+
+pub returns-in_err-is_dense-clause-damaged : goal.returns-in_err-is_dense-clause-damaged
+returns-in_err-is_dense-clause-damaged g c = λ tells.
+    let s = g.S.Reads.state c.args.space.now in
+    let p = err_from_is_err_and c.from_residual.result c.from_residual.ensures.1 in
+    rw (p.1, p.2) (head_only s c.args.node c.args.rel c.args.label c.in_err-is_dense.field-0.0 (node_fault_breaks s c.args.node c.in_err-is_dense.field-0.0 (c.in_err-is_dense.ensures.damaged tells)))
+
+pub returns-in_err-is_dense-clause-breaks : goal.returns-in_err-is_dense-clause-breaks
+returns-in_err-is_dense-clause-breaks g c = λ tells row live at members.
+    let s = g.S.Reads.state c.args.space.now in
+    let p = err_from_is_err_and c.from_residual.result c.from_residual.ensures.1 in
+    rw (p.1, p.2) (node_fault_breaks s c.args.node c.in_err-is_dense.field-0.0 (c.in_err-is_dense.ensures.damaged tells))
+
+pub returns-in_err-group-clause-damaged : goal.returns-in_err-group-clause-damaged
+returns-in_err-group-clause-damaged g c = λ tells.
+    let s = g.S.Reads.state c.args.space.now in
+    let z = g.S.Reads.state c.is_dense.new.space in
+    let same = c.in_ok-is_dense.ensures.state in
+    let dense = subst (λ (r : Records). IsDense r c.args.node) (sym (same_records s z same)) ((c.in_ok-is_dense.ensures.is tells).0 c.if-not-branch.false) in
+    let p = err_from_is_err_and c.from_residual-in_err-group.result c.from_residual-in_err-group.ensures.1 in
+    rw (p.1, p.2) (head_only s c.args.node c.args.rel c.args.label c.in_err-group.field-0.0 (breaks_read s z same c.in_err-group.field-0.0 (find_breaks z c.args.node dense c.in_err-group.field-0.0 (c.in_err-group.ensures.damaged tells))))
+
+pub returns-in_err-group-clause-breaks : goal.returns-in_err-group-clause-breaks
+returns-in_err-group-clause-breaks g c = λ tells row live at members.
+    let s = g.S.Reads.state c.args.space.now in
+    let z = g.S.Reads.state c.is_dense.new.space in
+    let same = c.in_ok-is_dense.ensures.state in
+    let dense = subst (λ (r : Records). IsDense r c.args.node) (sym (same_records s z same)) ((c.in_ok-is_dense.ensures.is tells).0 c.if-not-branch.false) in
+    let p = err_from_is_err_and c.from_residual-in_err-group.result c.from_residual-in_err-group.ensures.1 in
+    rw (p.1, p.2) (breaks_read s z same c.in_err-group.field-0.0 (find_breaks z c.args.node dense c.in_err-group.field-0.0 (c.in_err-group.ensures.damaged tells)))
+
+pub returns-in_default-clause-breaks : goal.returns-in_default-clause-breaks
+returns-in_default-clause-breaks g c = λ tells row live at members.
+    let s = g.S.Reads.state c.args.space.now in
+    let z = g.S.Reads.state c.is_dense.new.space in
+    let same = c.in_ok-is_dense.ensures.state in
+    let dense = subst (λ (r : Records). IsDense r c.args.node) (sym (same_records s z same)) ((c.in_ok-is_dense.ensures.is tells).0 c.if-not-branch.false) in
+    let found = subst (IsFound z.records c.args.node c.args.label) c.in_default.is (c.in_ok-group.ensures.found tells) dense in
+    let lacks : LacksGroupOn z.records c.args.node c.args.label = record { dense = dense; members = found.0; list = found.1; lacks = found.2 } in
+    subst (λ (d : Damage). Breaks s.records s.shape d) (sym c.end_damage.ensures)
+    (no_group_breaks s c.args.node c.args.rel c.args.label row live at.end at.typed members (subst (λ (r : Records). LacksGroupOn r c.args.node c.args.label) (same_records s z same) lacks))
+
+pub returns-in_err-count_group-clause-damaged : goal.returns-in_err-count_group-clause-damaged
+returns-in_err-count_group-clause-damaged g c = λ tells.
+    let s = g.S.Reads.state c.args.space.now in
+    let z = g.S.Reads.state c.is_dense.new.space in
+    let y = g.S.Reads.state c.find_group.new.space in
+    let found = subst (IsFound z.records c.args.node c.args.label) c.in-Some.is (c.in_ok-group.ensures.found tells) in
+    let same = only_read z y (1 + group_mark z) c.in_ok-group.ensures.at_most in
+    let at = found_at s z y c.in_ok-is_dense.ensures.state same c.args.node c.args.label c.in-Some.group found in
+    let p = err_from_is_err_and c.from_residual-in_err-count_group.result c.from_residual-in_err-count_group.ensures.1 in
+    rw (p.1, p.2) (head_only s c.args.node c.args.rel c.args.label c.in_err-count_group.field-0.0 (breaks_read s y (same_twice s z y c.in_ok-is_dense.ensures.state same) c.in_err-count_group.field-0.0 (c.in_err-count_group.ensures.breaks tells at)))
+
+pub returns-in_err-count_group-clause-breaks : goal.returns-in_err-count_group-clause-breaks
+returns-in_err-count_group-clause-breaks g c = λ tells row live end members.
+    let s = g.S.Reads.state c.args.space.now in
+    let z = g.S.Reads.state c.is_dense.new.space in
+    let y = g.S.Reads.state c.find_group.new.space in
+    let found = subst (IsFound z.records c.args.node c.args.label) c.in-Some.is (c.in_ok-group.ensures.found tells) in
+    let same = only_read z y (1 + group_mark z) c.in_ok-group.ensures.at_most in
+    let at = found_at s z y c.in_ok-is_dense.ensures.state same c.args.node c.args.label c.in-Some.group found in
+    let p = err_from_is_err_and c.from_residual-in_err-count_group.result c.from_residual-in_err-count_group.ensures.1 in
+    rw (p.1, p.2) (breaks_read s y (same_twice s z y c.in_ok-is_dense.ensures.state same) c.in_err-count_group.field-0.0 (c.in_err-count_group.ensures.breaks tells at))

@@ -1,0 +1,22 @@
+use Rattle.std.proofs.Common.{sym, subst}
+use Rattle.rec_bytes.specs.Space.{State}
+use Rattle.group_store.specs.Raising.{HasRaised}
+use Rattle.group_store.proofs.ChainHeads.{same_twice}
+use Rattle.group_store.proofs.Raises.{can_read, got_same, lengths_read, raises, raises_after, raises_none}
+use Rattle.group_store.proofs.raising.count_group.Goals as goal
+
+pub returns-then-row-clause-raised : goal.returns-then-row-clause-raised
+returns-then-row-clause-raised g c = λ tells most empty can. raises_none (g.S.Reads.state c.args.space.now) c.args.node c.args.row.now most empty can c.if-row.true
+
+pub returns-clause-raised : goal.returns-clause-raised
+returns-clause-raised g c = λ tells most empty can.
+    let s = g.S.Reads.state c.args.space.now in
+    let y = g.S.Reads.state c.get.new.self in
+    let z = g.S.Reads.state c.count_chains.new.space in
+    let t = g.S.Reads.state c.set_counts.new.space in
+    let node = c.args.node in
+    let row = c.args.row.now in
+    let same = same_twice s y z (got_same s y c.in_ok-rec.ensures.state) c.in_ok-counts.ensures.state in
+    let lengths = lengths_read y z node row c.in_ok-counts.counts c.in_ok-counts.ensures.state (c.in_ok-counts.ensures.counts tells) in
+    raises_after s z t node row.id most empty same
+    (subst (λ (q : State). HasRaised z q node row.id most empty) (sym (c.in_ok-set_counts.ensures.ok tells)) (raises z node row most empty (can_read s z node row most empty same can) c.if-row.false c.in_ok-counts.counts lengths))

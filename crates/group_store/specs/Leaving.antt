@@ -1,0 +1,43 @@
+-- What a change of a node's groups leaves of all other records.
+use Rattle.std.specs.Prelude.{◌≡◌, ◌≢◌, ◌⊎◌, ℕ, ◌+◌, ◌≤◌, Some}
+use Rattle.rec_bytes.specs.declared.key.Key.{Key}
+use Rattle.rec_bytes.specs.declared.record.Rec.{Rec}
+use Rattle.rec_bytes.specs.Format as format
+use Rattle.rec_bytes.specs.Record.{field}
+use Rattle.rec_bytes.specs.RecordFiles.{meta_key_of}
+use Rattle.rec_bytes.specs.Space.{State}
+use Rattle.store_rules.specs.Chains.{place_of}
+use Rattle.store_rules.specs.Views.{GroupRow, group_at, rec_at}
+
+-- the record names the node as its source or its target
+abbrev pub IsEndIn : Rec → ℕ → Type 0
+IsEndIn r node =
+    (field 4 r format.relationship_source ≡ node) ⊎ (field 4 r format.relationship_target ≡ node)
+
+-- If the relationship is at the node, the n bytes from a place on stand apart from the two links
+-- that a chain of the node uses.
+abbrev pub IsBesideLinks : Rec → ℕ → ℕ → ℕ → Type 0
+IsBesideLinks r node n at =
+    IsEndIn r node → (at + n ≤ place_of r node) ⊎ (place_of r node + 8 ≤ at)
+
+-- Of the node only its kind and its first link may have changed, of its relationships only the
+-- links in its chains, and of groups only its own. Besides, the meta record of the groups may have.
+pub record LeavesOthers (s t : State) (node : ℕ) : Type 0 where
+  pub files : (key : Key) → key.file ≢ format.nodes_file → key.file ≢ format.relationships_file
+      → key.file ≢ format.groups_file → key ≢ meta_key_of format.groups_file
+      → t.records key ≡ s.records key
+  pub nodes : (x n at : ℕ) → at + n ≤ format.record_bytes → x ≢ node
+      → field n (rec_at t.records format.nodes_file x) at
+      ≡ field n (rec_at s.records format.nodes_file x) at
+  pub here : (n at : ℕ) → at + n ≤ format.record_bytes → 1 ≤ at
+      → (at + n ≤ format.node_first_link) ⊎ (format.node_first_property ≤ at)
+      → field n (rec_at t.records format.nodes_file node) at
+      ≡ field n (rec_at s.records format.nodes_file node) at
+  pub rels : (x n at : ℕ) → x ≢ format.nil → at + n ≤ format.record_bytes
+      → IsBesideLinks (rec_at s.records format.relationships_file x) node n at
+      → field n (rec_at t.records format.relationships_file x) at
+      ≡ field n (rec_at s.records format.relationships_file x) at
+  pub groups : (g : ℕ) (group : GroupRow) → group_at s.records g ≡ Some group
+      → group.owner ≢ node → (n at : ℕ) → at + n ≤ format.record_bytes
+      → field n (rec_at t.records format.groups_file g) at
+      ≡ field n (rec_at s.records format.groups_file g) at
