@@ -9,7 +9,7 @@ import tempfile
 ROOT = pathlib.Path(__file__).resolve().parent.parent
 NIPAKEEL = ROOT / "nipakeel"
 # The program itself. The script above finds it, and builds it where it is missing.
-PROGRAM = ROOT / "crates/graph_console/out/graph_console"
+PROGRAM = ROOT / "crates/nipakeel/out/nipakeel"
 SECONDS = 300
 # The reply to `check` where the store keeps all its rules.
 SOUND = b"sound\n"
