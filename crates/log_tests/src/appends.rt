@@ -2,7 +2,8 @@
 ghost use Rattle.std.specs.Prelude.{◌≡◌, ◌<◌, ◌^◌, length, IfOk};
 ghost use Rattle.redo_log.specs.Entries.{IsEntryOf};
 
-use disk_model::{Calls, Crash, Disk, FaultPlan, MemoryDisk, Room};
+use crate::quiet_disk::{QuietDisk, plan};
+use disk_model::{Crash, Disk, FaultPlan, Room};
 use fault_count::Failed;
 use rec_bytes::{Key, LOG, NODES, Rec, WriteSet};
 use redo_log::{EntryAnswer, append, entry_at, write_at};
@@ -35,8 +36,8 @@ fn writes_of(alloc: Global, id: u32) -> Result<WriteSet, AllocError>
 // A disk whose log has an entry, of the node 5. An old entry, of the node 7, stands where the
 // second is to end. This takes the calls 1 to 6, so a second append makes the calls 7 to 10: its
 // record is written and synced, and then its gate.
-fn disk_with_entry(alloc: Global, plan: FaultPlan) -> Result<MemoryDisk, Fail> {
-    let mut disk = MemoryDisk::new(alloc, 16, ROOM, plan)?;
+fn disk_with_entry(alloc: Global, plan: FaultPlan) -> Result<QuietDisk, Fail> {
+    let mut disk = QuietDisk::new(alloc, ROOM, plan)?;
     disk.write(LOG, NEXT, &[1, 1, 0, NODES, 7])?;
     disk.sync(LOG)?;
     append(&mut disk, 0, &writes_of(alloc, 5)?)?;
@@ -44,7 +45,7 @@ fn disk_with_entry(alloc: Global, plan: FaultPlan) -> Result<MemoryDisk, Fail> {
 }
 
 // The numbers of the nodes that the log's entries write, one an entry, and what stands after them.
-fn log_of(disk: &mut MemoryDisk) -> Result<([u32; 3], EntryAnswer), Fail> {
+fn log_of(disk: &mut QuietDisk) -> Result<([u32; 3], EntryAnswer), Fail> {
     let mut ids = [0; 3];
     let mut place = 0;
     for id in ids.iter_mut() {
@@ -61,18 +62,10 @@ fn log_of(disk: &mut MemoryDisk) -> Result<([u32; 3], EntryAnswer), Fail> {
 // log that is left has the second entry where the stop came in the call `first` or later.
 fn try_stops(rt: &impl Abort, alloc: Global, choice: Crash, first: u64) -> Result<(), Fail> {
     for stop in 7..12 {
-        let plan = FaultPlan {
-            fails: Calls::new(Vec::new(alloc)),
-            stop: Some(stop),
-        };
-        let no_faults = FaultPlan {
-            fails: Calls::new(Vec::new(alloc)),
-            stop: None,
-        };
-        let mut disk = disk_with_entry(alloc, plan)?;
+        let mut disk = disk_with_entry(alloc, plan(alloc, &[], Some(stop))?)?;
         let answer = append(&mut disk, TAIL, &writes_of(alloc, 9)?);
         assert!(rt; answer.is_ok() == (stop > 10), "{choice:?} at call {stop}");
-        let mut left = disk.after_crash(alloc, choice, ROOM, no_faults)?;
+        let mut left = disk.after_crash(alloc, choice, ROOM, plan(alloc, &[], None)?)?;
         let second = if stop < first { 0 } else { 9 };
         assert!(rt;
             log_of(&mut left)? == ([5, second, 0], EntryAnswer::End),
@@ -103,11 +96,7 @@ fn a_stop_leaves_the_old_entries_or_one_more(rt: HostRuntime) -> Result<(), Fail
 #[test]
 fn a_call_that_fails_leaves_the_old_entries_or_one_more(rt: HostRuntime) -> Result<(), Fail> {
     for call in 7..11 {
-        let plan = FaultPlan {
-            fails: Calls::new(Vec::from_slice(rt.alloc(), &[call])?),
-            stop: None,
-        };
-        let mut disk = disk_with_entry(rt.alloc(), plan)?;
+        let mut disk = disk_with_entry(rt.alloc(), plan(rt.alloc(), &[call], None)?)?;
         let writes = writes_of(rt.alloc(), 9)?;
         assert!(rt;
             append(&mut disk, TAIL, &writes) == Err(Failed),

@@ -1,7 +1,8 @@
 //! What stands in the log, and the gate that is closed.
 ghost use Rattle.std.specs.Prelude.{◌≤◌, length};
 
-use disk_model::{Calls, Disk, FaultPlan, MemoryDisk, PlainDisk, Room};
+use crate::quiet_disk::{QuietDisk, plan};
+use disk_model::{Disk, PlainDisk, Room};
 use fault_count::Failed;
 use rec_bytes::{Key, LOG, NODES, Rec};
 use redo_log::{EntryAnswer, LAST_PLACE, LogReader, entry_at, reset, write_at};
@@ -135,11 +136,7 @@ fn answers_that_the_disk_failed(rt: HostRuntime) -> Result<(), Fail> {
         calls: 4,
         bytes: 16,
     };
-    let plan = FaultPlan {
-        fails: Calls::new(Vec::new(rt.alloc())),
-        stop: Some(1),
-    };
-    let mut disk = MemoryDisk::new(rt.alloc(), 16, room, plan)?;
+    let mut disk = QuietDisk::new(rt.alloc(), room, plan(rt.alloc(), &[], Some(1))?)?;
     assert!(rt; entry_at(&mut disk, 0) == EntryAnswer::Disk);
     assert!(rt; write_at(&mut disk, 0, 0) == Err(Failed));
     Ok(())
@@ -153,11 +150,7 @@ fn a_reader_makes_one_call_for_a_piece(rt: HostRuntime) -> Result<(), Fail> {
         calls: 4,
         bytes: 32,
     };
-    let plan = FaultPlan {
-        fails: Calls::new(Vec::new(rt.alloc())),
-        stop: Some(6),
-    };
-    let mut disk = MemoryDisk::new(rt.alloc(), 16, room, plan)?;
+    let mut disk = QuietDisk::new(rt.alloc(), room, plan(rt.alloc(), &[], Some(6))?)?;
     put_entry(&mut disk, 0, 1, 1, &[key(1, 5)])?;
     put_entry(&mut disk, 72, 1, 1, &[key(2, 6)])?;
     let mut reader = LogReader::new();

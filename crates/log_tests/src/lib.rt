@@ -15,6 +15,8 @@ mod logged_store;
 #[cfg(test)]
 mod older_stores;
 #[cfg(test)]
+mod quiet_disk;
+#[cfg(test)]
 mod records;
 #[cfg(test)]
 mod refusals;

@@ -1,6 +1,7 @@
 //! Recoveries and checkpoints over a disk in memory, whose log and records are written here byte by
 //! byte.
-use disk_model::{Calls, Crash, Disk, FaultPlan, MemoryDisk, Room};
+use crate::quiet_disk::{QuietDisk, plan};
+use disk_model::{Crash, Disk, Room};
 use rec_bytes::{Key, LOG, META, NAMES, NODES, Rec, Shape};
 use record_file::read_record;
 use std::alloc::{AllocError, Global};
@@ -69,29 +70,21 @@ pub(crate) fn logged() -> [(Key, Rec); 3] {
 /// A disk in which all calls from the stop on fail, with what a loss of power leaves of this one.
 pub(crate) fn left_of(
     alloc: Global,
-    disk: &MemoryDisk,
+    disk: &QuietDisk,
     choice: Crash,
     stop: Option<u64>,
-) -> Result<MemoryDisk, AllocError> {
-    let plan = FaultPlan {
-        fails: Calls::new(Vec::new(alloc)),
-        stop,
-    };
-    disk.after_crash(alloc, choice, ROOM, plan)
+) -> Result<QuietDisk, AllocError> {
+    disk.after_crash(alloc, choice, ROOM, plan(alloc, &[], stop)?)
 }
 
 /// A disk of zeros.
-pub(crate) fn blank_disk(alloc: Global) -> Result<MemoryDisk, AllocError> {
-    let plan = FaultPlan {
-        fails: Calls::new(Vec::new(alloc)),
-        stop: None,
-    };
-    MemoryDisk::new(alloc, 16, ROOM, plan)
+pub(crate) fn blank_disk(alloc: Global) -> Result<QuietDisk, AllocError> {
+    QuietDisk::new(alloc, ROOM, plan(alloc, &[], None)?)
 }
 
 /// A store whose log has the entries. In their files the meta record of the nodes is out of range,
 /// and the node 0 is an old one.
-pub(crate) fn logged_store(rt: &impl Abort, alloc: Global) -> Result<MemoryDisk, Fail> {
+pub(crate) fn logged_store(rt: &impl Abort, alloc: Global) -> Result<QuietDisk, Fail> {
     let mut disk = blank_disk(alloc)?;
     disk.write(META, 0, OWN)?;
     for file in 1..7 {
@@ -107,7 +100,7 @@ pub(crate) fn logged_store(rt: &impl Abort, alloc: Global) -> Result<MemoryDisk,
 
 /// Whether no entry is open, each record is as the last entry has it, and the older entry's node
 /// isn't there.
-pub(crate) fn is_recovered(rt: &impl Abort, disk: &mut MemoryDisk) -> Result<bool, Fail> {
+pub(crate) fn is_recovered(rt: &impl Abort, disk: &mut QuietDisk) -> Result<bool, Fail> {
     let mut gate = [1];
     disk.read(LOG, 0, &mut gate)?;
     let mut right = gate[0] != 1;

@@ -1,6 +1,7 @@
 //! Stores of older versions, which an opening brings to the newest one.
-use crate::stores::{OLDER, byte_at, checkpoint, left_of, new_disk, open, poke_disk};
-use disk_model::{Crash, Disk, MemoryDisk};
+use crate::quiet_disk::QuietDisk;
+use crate::stores::{OLDER, byte_at, checkpoint, close, left_of, new_disk, open};
+use disk_model::{Crash, Disk};
 use rec_bytes::{
     INDEX, Key, LOG, META, Meta, NAMES, NODES, OWN_KEY, RELATIONSHIPS, Reads, Rec, meta_key,
 };
@@ -15,13 +16,13 @@ fn older_disk(
     alloc: Global,
     version: u8,
     stop: Option<u64>,
-) -> Result<MemoryDisk, Fail> {
+) -> Result<QuietDisk, Fail> {
     let mut disk = new_disk(alloc, &[], None)?;
     let mut store = open(alloc, &mut disk)?;
     assert!(rt; checkpoint(rt, &mut store) == Ok(()));
-    let _ = store.close();
-    poke_disk(rt, &mut disk, OLDER);
-    poke_disk(rt, &mut disk, &[(META, 4, version)]);
+    let _ = close(store);
+    disk.poke_all(OLDER);
+    disk.poke_all(&[(META, 4, version)]);
     Ok(left_of(alloc, &disk, Crash::New, stop)?)
 }
 
@@ -31,7 +32,7 @@ fn try_raising(rt: &impl Abort, alloc: Global, choice: Crash, stop: u64) -> Resu
     let mut disk = older_disk(rt, alloc, 1, Some(stop))?;
     let opened = match open(alloc, &mut disk) {
         Ok(store) => {
-            let _ = store.close();
+            let _ = close(store);
             true
         }
         Err(_) => false,
@@ -41,7 +42,7 @@ fn try_raising(rt: &impl Abort, alloc: Global, choice: Crash, stop: u64) -> Resu
     let own = store.get(OWN_KEY).map(|rec| rec.short(4));
     assert!(rt; own == Ok(3), "{choice:?} at call {stop}");
     assert!(rt; store.meta(INDEX) == Meta::EMPTY);
-    let _ = store.close();
+    let _ = close(store);
     Ok(opened)
 }
 
@@ -61,13 +62,13 @@ fn a_stopped_raise_is_made_good(rt: HostRuntime) -> Result<(), Fail> {
 fn an_older_store_is_raised_by_one_entry(rt: HostRuntime) -> Result<(), Fail> {
     for version in [1, 2] {
         let mut disk = older_disk(&rt, rt.alloc(), version, None)?;
-        let _ = open(rt.alloc(), &mut disk)?.close();
+        let _ = close(open(rt.alloc(), &mut disk)?);
         let mut head = [9; 14];
         disk.read(LOG, 0, &mut head)?;
         assert!(rt; head == [1, 2, 0, 0, 0, 0, 0, 0, 0x47, 0x52, 0x53, 0x31, 3, 0]);
         assert!(rt; byte_at(&rt, &mut disk, LOG, 141) == 0);
         // The next opening finds the newest version, and adds no entry.
-        let _ = open(rt.alloc(), &mut disk)?.close();
+        let _ = close(open(rt.alloc(), &mut disk)?);
         assert!(rt; byte_at(&rt, &mut disk, LOG, 0) == 0);
     }
     Ok(())
@@ -124,6 +125,6 @@ fn a_store_of_version_1_keeps_its_records(rt: HostRuntime) -> Result<(), Fail> {
     }
     assert!(rt; store.get(OWN_KEY).map(|rec| rec.short(4)) == Ok(3));
     assert!(rt; store.meta(NODES).live == 1 && store.meta(NAMES).live == 1);
-    let _ = store.close();
+    let _ = close(store);
     Ok(())
 }

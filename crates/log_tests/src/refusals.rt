@@ -1,6 +1,7 @@
 //! Disks that are refused, and disks over which a recovery has nothing to write.
 use crate::logged_store::{SHAPE, blank_disk, logged_store};
-use disk_model::{Calls, Crash, Disk, FaultPlan, MemoryDisk, Room};
+use crate::quiet_disk::{QuietDisk, plan};
+use disk_model::{Crash, Disk, Room};
 use rec_bytes::{Damage, LOG, META, NODES};
 use recovery::{Found, RecoverFault, recover};
 use std::alloc::Global;
@@ -20,22 +21,18 @@ type Patch = (u8, u64, &'static [u8]);
 fn patched(
     rt: &impl Abort,
     alloc: Global,
-    mut disk: MemoryDisk,
+    mut disk: QuietDisk,
     patches: &[Patch],
-) -> Result<MemoryDisk, Fail> {
+) -> Result<QuietDisk, Fail> {
     for (file, at, bytes) in patches {
         assert!(rt; *file <= 8 && *at < 576 && bytes.len() <= 576);
         disk.write(*file, *at, bytes)?;
     }
-    let plan = FaultPlan {
-        fails: Calls::new(Vec::new(alloc)),
-        stop: None,
-    };
-    Ok(disk.after_crash(alloc, Crash::New, NO_WRITES, plan)?)
+    Ok(disk.after_crash(alloc, Crash::New, NO_WRITES, plan(alloc, &[], None)?)?)
 }
 
 /// The first 576 bytes of each file, which are all of the first.
-fn first_bytes(alloc: Global, disk: &mut MemoryDisk) -> Result<Vec<u8>, Fail> {
+fn first_bytes(alloc: Global, disk: &mut QuietDisk) -> Result<Vec<u8>, Fail> {
     let mut all = Vec::new(alloc);
     for file in 0..9 {
         let mut bytes = [0; 576];
@@ -49,7 +46,7 @@ fn first_bytes(alloc: Global, disk: &mut MemoryDisk) -> Result<Vec<u8>, Fail> {
 fn check_untouched(
     rt: &impl Abort,
     alloc: Global,
-    disk: &mut MemoryDisk,
+    disk: &mut QuietDisk,
     want: Result<Found, RecoverFault>,
     patches: &[Patch],
 ) -> Result<(), Fail> {

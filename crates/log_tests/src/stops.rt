@@ -1,6 +1,7 @@
 //! Checkpoints and recoveries that are stopped, or fail, at each of their calls of the disk.
 use crate::logged_store::{ROOM, SHAPE, is_recovered, left_of, logged, logged_store};
-use disk_model::{Calls, Crash, FaultPlan, MemoryDisk};
+use crate::quiet_disk::{QuietDisk, plan};
+use disk_model::Crash;
 use fault_count::Failed;
 use rec_bytes::WriteSet;
 use recovery::{Found, RecoverFault, checkpoint, recover};
@@ -34,7 +35,7 @@ fn changed_records(rt: &impl Abort, alloc: Global) -> Result<WriteSet, AllocErro
 }
 
 /// Whether a recovery finds the store, and each loss of power after it leaves what the entries said.
-fn recovers(rt: &impl Abort, alloc: Global, disk: &mut MemoryDisk) -> Result<bool, Fail> {
+fn recovers(rt: &impl Abort, alloc: Global, disk: &mut QuietDisk) -> Result<bool, Fail> {
     let is_found = recover(disk) == Ok(Found::Made(SHAPE));
     let mut old = left_of(alloc, disk, Crash::Old, None)?;
     let mut filled = left_of(alloc, disk, Crash::Fill(1), None)?;
@@ -46,7 +47,7 @@ fn recovers(rt: &impl Abort, alloc: Global, disk: &mut MemoryDisk) -> Result<boo
 fn stopped_recovery(
     rt: &impl Abort,
     alloc: Global,
-    disk: &MemoryDisk,
+    disk: &QuietDisk,
     choice: Crash,
     stop: u64,
 ) -> Result<(Result<Found, RecoverFault>, bool), Fail> {
@@ -61,7 +62,7 @@ fn stopped_recovery(
 fn check_stopped_recoveries(
     rt: &impl Abort,
     alloc: Global,
-    disk: &MemoryDisk,
+    disk: &QuietDisk,
     choice: Crash,
 ) -> Result<u64, Fail> {
     for stop in 1..=RECOVERY_CALLS + 1 {
@@ -93,7 +94,7 @@ fn a_recovery_is_stopped_at_each_call(rt: HostRuntime) -> Result<(), Fail> {
 fn check_stopped_checkpoint(
     rt: &impl Abort,
     alloc: Global,
-    store: &MemoryDisk,
+    store: &QuietDisk,
     changed: &WriteSet,
     choice: Crash,
     stop: u64,
@@ -121,19 +122,15 @@ fn a_checkpoint_is_stopped_at_each_call(rt: HostRuntime) -> Result<(), Fail> {
 }
 
 /// A store of which the call of this number fails.
-fn failing_store(alloc: Global, store: &MemoryDisk, call: u64) -> Result<MemoryDisk, AllocError> {
-    let plan = FaultPlan {
-        fails: Calls::new(Vec::from_slice(alloc, &[call])?),
-        stop: None,
-    };
-    store.after_crash(alloc, Crash::New, ROOM, plan)
+fn failing_store(alloc: Global, store: &QuietDisk, call: u64) -> Result<QuietDisk, AllocError> {
+    store.after_crash(alloc, Crash::New, ROOM, plan(alloc, &[call], None)?)
 }
 
 /// A checkpoint fails in this call, and a recovery then finds the store.
 fn check_failed_checkpoint(
     rt: &impl Abort,
     alloc: Global,
-    store: &MemoryDisk,
+    store: &QuietDisk,
     changed: &WriteSet,
     call: u64,
 ) -> Result<(), Fail> {
@@ -150,7 +147,7 @@ fn check_failed_checkpoint(
 fn check_failed_recovery(
     rt: &impl Abort,
     alloc: Global,
-    store: &MemoryDisk,
+    store: &QuietDisk,
     call: u64,
 ) -> Result<(), Fail> {
     let mut disk = failing_store(alloc, store, call)?;

@@ -1,7 +1,8 @@
 //! A store over a disk in memory, whose calls are counted from 1: making a store takes 26, and a
 //! commit of a few records 4.
+use crate::quiet_disk::{QuietDisk, plan};
 use crate::turned_disk::TurnedDisk;
-use disk_model::{Calls, Crash, Disk, FaultPlan, MemoryDisk, Room};
+use disk_model::{Crash, Disk, Room};
 use fault_count::Failed;
 use rec_bytes::{
     Damage, DiskFault, GROUPS, INDEX, Key, LOG, META, Meta, NAMES, NIL, NODES, RELATIONSHIPS,
@@ -27,39 +28,42 @@ const FOUR: usize = 4;
 
 const EIGHT: usize = 8;
 
-/// The calls of these numbers fail, and all from the number of the stop on.
-pub(crate) fn plan(
-    alloc: Global,
-    fails: &[u64],
-    stop: Option<u64>,
-) -> Result<FaultPlan, AllocError> {
-    let fails = Calls::new(Vec::from_slice(alloc, fails)?);
-    Ok(FaultPlan { fails, stop })
-}
-
 pub(crate) fn new_disk(
     alloc: Global,
     fails: &[u64],
     stop: Option<u64>,
-) -> Result<MemoryDisk, AllocError> {
-    MemoryDisk::new(alloc, 16, ROOM, plan(alloc, fails, stop)?)
+) -> Result<QuietDisk, AllocError> {
+    QuietDisk::new(alloc, ROOM, plan(alloc, fails, stop)?)
 }
 
 /// The disk that a loss of power leaves, which stops at this call.
 pub(crate) fn left_of(
     alloc: Global,
-    disk: &MemoryDisk,
+    disk: &QuietDisk,
     choice: Crash,
     stop: Option<u64>,
-) -> Result<MemoryDisk, AllocError> {
+) -> Result<QuietDisk, AllocError> {
     disk.after_crash(alloc, choice, ROOM, plan(alloc, &[], stop)?)
 }
 
-pub(crate) fn open<D: Disk>(alloc: Global, disk: &mut D) -> Result<Store<'_, D>, OpenFault> {
+/// Opens a store. It is in a box, since a test's proof grows with the size of its variables.
+pub(crate) fn open<D: Disk>(alloc: Global, disk: &mut D) -> Result<Box<Store<'_, D>>, OpenFault> {
     match Store::open(alloc, disk, CONFIG) {
-        Ok(store) => Ok(store),
+        Ok(store) => match boxed(alloc, store) {
+            Ok(store) => Ok(store),
+            Err(AllocError) => Err(OpenFault::Memory),
+        },
         Err(refusal) => Err(refusal.why),
     }
+}
+
+fn boxed<'d, D: Disk>(alloc: Global, store: Store<'d, D>) -> Result<Box<Store<'d, D>>, AllocError> {
+    let store = Box::new(alloc, store)?;
+    Ok(store)
+}
+
+pub(crate) fn close<'d, D: Disk>(store: Box<Store<'d, D>>) -> &'d mut D {
+    Box::into_inner(store).close()
 }
 
 /// What the first transaction writes, or the second, by ascending key. At 0 it is what a new store
@@ -157,7 +161,7 @@ fn recover_again<D: Disk>(rt: &impl Abort, store: &mut Store<'_, D>) -> Result<(
 }
 
 /// The transaction of which the store has the first records, all of them.
-fn shown(rt: &impl Abort, store: &mut Store<'_, MemoryDisk>, few: usize) -> Option<u8> {
+fn shown(rt: &impl Abort, store: &mut Store<'_, QuietDisk>, few: usize) -> Option<u8> {
     for count in 0..3 {
         if shows(rt, store, count, few) {
             return Some(count);
@@ -166,7 +170,7 @@ fn shown(rt: &impl Abort, store: &mut Store<'_, MemoryDisk>, few: usize) -> Opti
     None
 }
 
-fn shows(rt: &impl Abort, store: &mut Store<'_, MemoryDisk>, count: u8, few: usize) -> bool {
+fn shows(rt: &impl Abort, store: &mut Store<'_, QuietDisk>, count: u8, few: usize) -> bool {
     for (key, rec) in records(count).iter().take(few) {
         assert!(rt; key.is_valid());
         if store.get(*key) != Ok(*rec) {
@@ -176,7 +180,7 @@ fn shows(rt: &impl Abort, store: &mut Store<'_, MemoryDisk>, count: u8, few: usi
     store.meta(NODES).live == count as u32
 }
 
-pub(crate) fn byte_at(rt: &impl Abort, disk: &mut MemoryDisk, file: u8, at: u64) -> u8 {
+pub(crate) fn byte_at(rt: &impl Abort, disk: &mut QuietDisk, file: u8, at: u64) -> u8 {
     assert!(rt; file <= INDEX && at < 1_048_576);
     let mut byte = [0];
     assert!(rt; disk.read(file, at, &mut byte) == Ok(()));
@@ -208,7 +212,7 @@ fn a_commit_is_one_entry(rt: HostRuntime) -> Result<(), Fail> {
         let mut disk = new_disk(rt.alloc(), &[], None)?;
         let mut store = open(rt.alloc(), &mut disk)?;
         assert!(rt; change(&rt, &mut store, 1, few) == Ok(()));
-        let disk = store.close();
+        let disk = close(store);
         let mut first = [9; 555];
         disk.read(LOG, 0, &mut first)?;
         assert!(rt; first.as_slice() == first_entry().as_slice());
@@ -228,14 +232,14 @@ fn check_stops(rt: &impl Abort, alloc: Global, choice: Crash, first: u64) -> Res
         let mut store = open(alloc, &mut disk)?;
         let answer = change(rt, &mut store, 1, FOUR);
         assert!(rt; answer.is_ok() == (stop == 31), "{choice:?} at call {stop}");
-        let mut left = left_of(alloc, store.close(), choice, None)?;
+        let mut left = left_of(alloc, close(store), choice, None)?;
         let mut store = open(alloc, &mut left)?;
         let count = if stop < first { 0 } else { 1 };
         assert!(rt;
             shown(rt, &mut store, FOUR) == Some(count),
             "{choice:?} at call {stop}"
         );
-        let _ = store.close();
+        let _ = close(store);
     }
     Ok(())
 }
@@ -260,14 +264,14 @@ fn a_stopped_commit_is_whole_or_nothing(rt: HostRuntime) -> Result<(), Fail> {
 
 /// A transaction of four records and a checkpoint, and then one of eight, whose end stands over the
 /// first one's gate.
-fn disk_with_old_gate(rt: &impl Abort, alloc: Global) -> Result<MemoryDisk, Fail> {
+fn disk_with_old_gate(rt: &impl Abort, alloc: Global) -> Result<QuietDisk, Fail> {
     let mut disk = new_disk(alloc, &[], None)?;
     let mut store = open(alloc, &mut disk)?;
     assert!(rt; change(rt, &mut store, 1, FOUR) == Ok(()));
     assert!(rt; checkpoint(rt, &mut store) == Ok(()));
     assert!(rt; change(rt, &mut store, 2, EIGHT) == Ok(()));
     assert!(rt; shown(rt, &mut store, EIGHT) == Some(2));
-    let _ = store.close();
+    let _ = close(store);
     Ok(disk)
 }
 
@@ -299,7 +303,7 @@ fn an_entry_is_closed_over_an_old_gate(rt: HostRuntime) -> Result<(), Fail> {
         match open(rt.alloc(), &mut disk) {
             Ok(mut store) => {
                 assert!(rt; (shown(&rt, &mut store, EIGHT), stop) == (Some(2), None));
-                let _ = store.close();
+                let _ = close(store);
             }
             Err(fault) => assert!(rt; (fault, stop.is_some()) == (OpenFault::Disk, true)),
         }
@@ -310,7 +314,7 @@ fn an_entry_is_closed_over_an_old_gate(rt: HostRuntime) -> Result<(), Fail> {
 /// A store is live, or after a failed call recovers. Says whether the call failed.
 fn has_failed<E>(
     rt: &impl Abort,
-    store: &mut Store<'_, MemoryDisk>,
+    store: &mut Store<'_, QuietDisk>,
     answer: &Result<(), E>,
 ) -> bool {
     let failed = answer.is_err();
@@ -329,14 +333,14 @@ fn try_opening(rt: &impl Abort, alloc: Global, call: u64) -> Result<bool, Fail> 
     let mut disk = new_disk(alloc, &[call], None)?;
     let failed = match open(alloc, &mut disk) {
         Ok(store) => {
-            let _ = store.close();
+            let _ = close(store);
             false
         }
         Err(_) => true,
     };
     let mut store = open(alloc, &mut disk)?;
     assert!(rt; shown(rt, &mut store, FOUR) == Some(0), "call {call}");
-    let _ = store.close();
+    let _ = close(store);
     Ok(failed)
 }
 
@@ -354,9 +358,9 @@ fn try_failing(rt: &impl Abort, alloc: Global, call: u64) -> Result<([bool; 3], 
     let recovered = recover_again(rt, &mut store);
     let recovering = has_failed(rt, &mut store, &recovered);
     assert!(rt; shown(rt, &mut store, FOUR) == count, "call {call}");
-    let mut store = open(alloc, store.close())?;
+    let mut store = open(alloc, close(store))?;
     assert!(rt; shown(rt, &mut store, FOUR) == count, "call {call}");
-    let _ = store.close();
+    let _ = close(store);
     Ok(([committing, checking, recovering], count))
 }
 
@@ -392,7 +396,7 @@ struct Course {
 }
 
 /// Goes through a transaction.
-fn go(rt: &impl Abort, store: &mut Store<'_, MemoryDisk>, course: Course) -> Result<(), DiskFault> {
+fn go(rt: &impl Abort, store: &mut Store<'_, QuietDisk>, course: Course) -> Result<(), DiskFault> {
     let few = if course.puts { FOUR } else { 0 };
     assert!(rt; store.health() == Health::Live && !store.in_transaction());
     store.begin();
@@ -434,12 +438,12 @@ fn only_a_commit_of_records_calls_the_disk(rt: HostRuntime) -> Result<(), Fail> 
             "{course:?}"
         );
     }
-    let _ = store.close();
+    let _ = close(store);
     Ok(())
 }
 
 /// Commits all names.
-fn change_names(rt: &impl Abort, store: &mut Store<'_, MemoryDisk>) -> Result<(), DiskFault> {
+fn change_names(rt: &impl Abort, store: &mut Store<'_, QuietDisk>) -> Result<(), DiskFault> {
     assert!(rt; store.health() == Health::Live && !store.in_transaction());
     store.begin();
     for id in 0..2_048 {
@@ -462,27 +466,17 @@ fn a_full_log_is_emptied_by_a_commit(rt: HostRuntime) -> Result<(), Fail> {
             calls: 4_096,
             bytes: 2_097_152,
         };
-        let mut disk = MemoryDisk::new(rt.alloc(), 16, room, plan(rt.alloc(), &[], None)?)?;
+        let mut disk = QuietDisk::new(rt.alloc(), room, plan(rt.alloc(), &[], None)?)?;
         let mut store = open(rt.alloc(), &mut disk)?;
         for _ in 0..commits {
             assert!(rt; change_names(&rt, &mut store) == Ok(()));
         }
-        let disk = store.close();
+        let disk = close(store);
         let mut bytes = [9; 3];
         disk.read(LOG, 0, &mut bytes)?;
         assert!(rt; bytes == head);
     }
     Ok(())
-}
-
-/// Puts these bytes, each at a place of a file.
-pub(crate) fn poke_disk(rt: &impl Abort, disk: &mut MemoryDisk, pokes: &[(u8, u64, u8)]) {
-    for (file, at, byte) in pokes {
-        assert!(rt; *file <= INDEX);
-        let room = disk.room(*file);
-        assert!(rt; *at < room);
-        disk.poke(*file, *at, *byte);
-    }
 }
 
 /// The version 1 where a store has the newest, and no meta record of the index.
@@ -513,7 +507,7 @@ fn recover_poked(
     assert!(rt; checkpoint(rt, &mut store) == Ok(()));
     assert!(rt; change(rt, &mut store, 1, FOUR).is_err());
     let answer = recover_again(rt, &mut store);
-    let _ = store.close();
+    let _ = close(store);
     Ok(answer)
 }
 

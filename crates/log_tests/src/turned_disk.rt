@@ -2,20 +2,20 @@ ghost use Rattle.std.specs.Prelude.{◌≤◌, ◌+◌, ◌^◌, length};
 ghost use Rattle.fault_count.specs.Cause.{HasCause};
 ghost use Rattle.disk_model.specs.Contents.{IsFile};
 
-use disk_model::{Disk, MemoryDisk};
+use crate::quiet_disk::QuietDisk;
+use disk_model::Disk;
 use fault_count::{Count, Failed};
-use rec_bytes::INDEX;
 
 /// A disk in memory that has other bytes as soon as a call of it failed.
 #[derive(Drop)]
 pub(crate) struct TurnedDisk {
-    disk: MemoryDisk,
+    disk: QuietDisk,
     pokes: Vec<(u8, u64, u8)>,
     faults: Count,
 }
 
 impl TurnedDisk {
-    pub(crate) fn new(disk: MemoryDisk, pokes: Vec<(u8, u64, u8)>) -> TurnedDisk {
+    pub(crate) fn new(disk: QuietDisk, pokes: Vec<(u8, u64, u8)>) -> TurnedDisk {
         TurnedDisk {
             disk,
             pokes,
@@ -24,20 +24,11 @@ impl TurnedDisk {
     }
 }
 
-// Puts these bytes, each at a place of a file.
-fn put_all(disk: &mut MemoryDisk, pokes: &[(u8, u64, u8)]) {
-    for (file, at, byte) in pokes.iter() {
-        if *file <= INDEX && *at < disk.room(*file) {
-            disk.poke(*file, *at, *byte);
-        }
-    }
-}
-
 // The answer of a call. Where it failed, the other bytes are put.
 fn told(
     answer: Result<(), Failed>,
     faults: &mut Count,
-    disk: &mut MemoryDisk,
+    disk: &mut QuietDisk,
     pokes: &[(u8, u64, u8)],
 ) -> Result<(), Failed>
     ensures { HasCause faults.old faults.new result }
@@ -45,7 +36,7 @@ fn told(
     match answer {
         Ok(()) => Ok(()),
         Err(_) => {
-            put_all(disk, pokes);
+            disk.poke_all(pokes);
             faults.raise();
             Err(Failed)
         }
