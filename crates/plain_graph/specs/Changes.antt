@@ -3,6 +3,7 @@ use Rattle.std.specs.Prelude.{◌≡◌, ℕ, ◌+◌, ◌*◌, nat_eq, if◌the
 use Rattle.std.specs.FinMap as maps
 use Rattle.plain_graph.specs.Graph.{AddsEdge, AddsNode, Graph, NeedsNames, RemovesEdge, RemovesNode}
 use Rattle.plain_graph.specs.Graph.{SetsProperty, UnsetsProperty, degree_in, properties_at}
+use Rattle.plain_graph.specs.Kinds.{AreChanges, kind_of}
 use Rattle.plain_graph.specs.Properties.{Properties, blocks_at, blocks_in, blocks_of, keys_in}
 use Rattle.plain_graph.specs.Properties.{no_properties, with_pairs}
 use Rattle.plain_graph.specs.Reply.{Done, EdgeMade, NodeMade, Reply}
@@ -12,35 +13,11 @@ use Rattle.plain_graph.specs.declared.command.Target.TheVariants as targets
 
 -- the line asks for a change of the graph
 abbrev pub IsChange : Command → Type 0
-IsChange commands.Blank = ⊥
-IsChange commands.Begin = ⊥
-IsChange commands.Commit = ⊥
-IsChange commands.Rollback = ⊥
-IsChange commands.Checkpoint = ⊥
-IsChange commands.Check = ⊥
-IsChange commands.Stats = ⊥
-IsChange commands.Reopen = ⊥
-IsChange commands.Quit = ⊥
-IsChange (commands.Node label pairs) = Unit {0}
-IsChange (commands.Edge from label to pairs) = Unit {0}
-IsChange (commands.Set target key value) = Unit {0}
-IsChange (commands.Unset target key) = Unit {0}
-IsChange (commands.Delete target) = Unit {0}
-IsChange (commands.Expand id direction label) = ⊥
-IsChange (commands.Query query) = ⊥
+IsChange command = AreChanges (kind_of command)
 
 -- The line changes the graph so, with this reply. The limit says how many nodes, and how many
 -- edges, there may be.
 abbrev pub Changes : ℕ → Graph → Command → Reply → Graph → Type 0
-Changes limit old commands.Blank reply new = ⊥
-Changes limit old commands.Begin reply new = ⊥
-Changes limit old commands.Commit reply new = ⊥
-Changes limit old commands.Rollback reply new = ⊥
-Changes limit old commands.Checkpoint reply new = ⊥
-Changes limit old commands.Check reply new = ⊥
-Changes limit old commands.Stats reply new = ⊥
-Changes limit old commands.Reopen reply new = ⊥
-Changes limit old commands.Quit reply new = ⊥
 Changes limit old (commands.Node label pairs) reply new =
     (id : ℕ) × (reply ≡ NodeMade id) × AddsNode limit old label pairs id new
 Changes limit old (commands.Edge from label to pairs) reply new =
@@ -53,8 +30,7 @@ Changes limit old (commands.Delete (targets.Node id)) reply new =
     (reply ≡ Done) × RemovesNode old id new
 Changes limit old (commands.Delete (targets.Edge id)) reply new =
     (reply ≡ Done) × RemovesEdge old id new
-Changes limit old (commands.Expand id direction label) reply new = ⊥
-Changes limit old (commands.Query query) reply new = ⊥
+Changes limit old _ reply new = ⊥
 
 -- What an end of a new edge weighs: where the node has as many edges as the threshold, each of its
 -- edges comes into a group.
@@ -76,15 +52,6 @@ properties_weight properties = maps.len properties + blocks_in properties
 -- taken away. A property of an element that is made or deleted weighs 1 more, each block that is
 -- taken or given back 1, and a new name 1.
 abbrev pub Weighs : ℕ → Graph → Command → ℕ → Type 0
-Weighs threshold old commands.Blank weight = ⊥
-Weighs threshold old commands.Begin weight = ⊥
-Weighs threshold old commands.Commit weight = ⊥
-Weighs threshold old commands.Rollback weight = ⊥
-Weighs threshold old commands.Checkpoint weight = ⊥
-Weighs threshold old commands.Check weight = ⊥
-Weighs threshold old commands.Stats weight = ⊥
-Weighs threshold old commands.Reopen weight = ⊥
-Weighs threshold old commands.Quit weight = ⊥
 Weighs threshold old (commands.Node label pairs) weight =
     (new_names : ℕ) × NeedsNames old.names (label ∷ keys_in pairs) new_names
     × (weight ≡ 1 + properties_weight (with_pairs no_properties pairs) + new_names)
@@ -102,8 +69,7 @@ Weighs threshold old (commands.Delete (targets.Node id)) weight =
     weight ≡ 1 + properties_weight (properties_at old (targets.Node id))
 Weighs threshold old (commands.Delete (targets.Edge id)) weight =
     weight ≡ 13 + properties_weight (properties_at old (targets.Edge id))
-Weighs threshold old (commands.Expand id direction label) weight = ⊥
-Weighs threshold old (commands.Query query) weight = ⊥
+Weighs threshold old _ weight = ⊥
 
 -- what a transaction weighs before its first change
 abbrev pub start_weight : ℕ

@@ -1,5 +1,5 @@
 -- The forms that names, values and pairs have in a store.
-use Rattle.std.specs.Prelude.{◌≤◌, List, [], ◌∷◌, length}
+use Rattle.std.specs.Prelude.{◌≤◌, ℕ, Option, Some, None, List, [], ◌∷◌, length}
 use Rattle.std.specs.Int.RustNames.{FitsSigned}
 use mir.Syntax.{w64}
 use Rattle.plain_graph.specs.Names.{IsShortName}
@@ -28,6 +28,11 @@ abbrev pub ArePairs : List Pair → Type 0
 ArePairs [] = Unit {0}
 ArePairs (pair ∷ later) = IsShortName pair.key × IsKept pair.value × ArePairs later
 
+-- a name, or none
+abbrev pub IsMaybeName : Option (List ℕ) → Type 0
+IsMaybeName None = Unit {0}
+IsMaybeName (Some name) = IsShortName name
+
 -- labels, types and keys of the command are names, and its values ones that a store may keep
 abbrev pub HasForm : Command → Type 0
 HasForm commands.Blank = Unit {0}
@@ -45,4 +50,7 @@ HasForm (commands.Set target key value) = IsShortName key × IsKept value
 HasForm (commands.Unset target key) = IsShortName key
 HasForm (commands.Delete target) = Unit {0}
 HasForm (commands.Expand id direction label) = IsShortName label
+HasForm (commands.Degree id direction label) = IsMaybeName label
+HasForm (commands.Path from to direction label) = IsMaybeName label
+HasForm (commands.Levels from to direction label) = IsMaybeName label
 HasForm (commands.Query query) = Unit {0}

@@ -1,11 +1,17 @@
+pub mod Adjacency
 pub mod Changes
 pub mod Counts
 pub mod Forms
 pub mod Graph
+pub mod Kinds
+pub mod Levels
 pub mod Meaning
 pub mod Names
 pub mod Properties
+pub mod Reached
+pub mod Readings
 pub mod Refusals
 pub mod Reply
 pub mod Sorting
 pub mod Values
+pub mod Walks

@@ -1,4 +1,4 @@
--- Why the graph refuses a change: reasons in the order in which they count.
+-- Why the graph refuses a line: reasons in the order in which they count.
 use Rattle.std.specs.Prelude.{◌≡◌, ◌≢◌, ◌⊎◌, ℕ, ◌+◌, ◌<◌, false, List, [], ◌∷◌, length}
 use Rattle.std.specs.FinMap as maps
 use Rattle.plain_graph.specs.Graph.{Graph, UsesNames, block_count, degree_in, has_edge, has_node}
@@ -28,16 +28,22 @@ nodes_full limit graph (commands.Node label pairs) why =
     (length graph.nodes ≡ limit) × (why ≡ refusals.FullNodes)
 nodes_full limit graph _ why = ⊥
 
--- no node has the identifier that the new edge is to leave
+-- no node has the identifier
+abbrev pub lacks_node : Graph → ℕ → Refusal → Type 0
+lacks_node graph id why = (has_node graph id ≡ false) × (why ≡ refusals.NoNode id)
+
+-- no node has the identifier that the new edge, or a walk, is to leave
 abbrev pub no_source : Reason
-no_source limit graph (commands.Edge from label to pairs) why =
-    (has_node graph from ≡ false) × (why ≡ refusals.NoNode from)
+no_source limit graph (commands.Edge from label to pairs) why = lacks_node graph from why
+no_source limit graph (commands.Path from to direction label) why = lacks_node graph from why
+no_source limit graph (commands.Levels from to direction label) why = lacks_node graph from why
 no_source limit graph _ why = ⊥
 
--- no node has the identifier that it is to enter
+-- no node has the identifier that it is to come to
 abbrev pub no_target : Reason
-no_target limit graph (commands.Edge from label to pairs) why =
-    (has_node graph to ≡ false) × (why ≡ refusals.NoNode to)
+no_target limit graph (commands.Edge from label to pairs) why = lacks_node graph to why
+no_target limit graph (commands.Path from to direction label) why = lacks_node graph to why
+no_target limit graph (commands.Levels from to direction label) why = lacks_node graph to why
 no_target limit graph _ why = ⊥
 
 -- an edge more would be more than the limit
@@ -46,15 +52,13 @@ edges_full limit graph (commands.Edge from label to pairs) why =
     (length graph.edges ≡ limit) × (why ≡ refusals.FullEdges)
 edges_full limit graph _ why = ⊥
 
--- no node has the identifier
-abbrev pub lacks_node : Graph → ℕ → Refusal → Type 0
-lacks_node graph id why = (has_node graph id ≡ false) × (why ≡ refusals.NoNode id)
-
+-- none has the identifier of the line
 abbrev pub no_node : Reason
 no_node limit graph (commands.Set (targets.Node id) key value) why = lacks_node graph id why
 no_node limit graph (commands.Unset (targets.Node id) key) why = lacks_node graph id why
 no_node limit graph (commands.Delete (targets.Node id)) why = lacks_node graph id why
 no_node limit graph (commands.Expand id direction label) why = lacks_node graph id why
+no_node limit graph (commands.Degree id direction label) why = lacks_node graph id why
 no_node limit graph _ why = ⊥
 
 -- no edge has the identifier
@@ -130,7 +134,7 @@ strings_full limit graph (commands.Set target key value) why =
     lacks_room limit (block_count (with_value graph target key value)) refusals.FullStrings why
 strings_full limit graph _ why = ⊥
 
--- the reasons of changes, in the order in which they count
+-- the reasons of changes, and of lines that name nodes, in the order in which they count
 abbrev pub change_reasons : List Reason
 change_reasons =
     nodes_full ∷ no_source ∷ no_target ∷ edges_full ∷ no_node ∷ no_edge ∷ has_relationships

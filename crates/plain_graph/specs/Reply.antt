@@ -5,6 +5,7 @@ use Rattle.std.specs.Fmt.{signed_decimal}
 use Rattle.plain_graph.specs.declared.counts.Counts.{Counts}
 use Rattle.plain_graph.specs.declared.item.Item.{Item}
 use Rattle.plain_graph.specs.declared.item.Item.TheVariants as items
+use Rattle.plain_graph.specs.declared.node_level.NodeLevel.{NodeLevel}
 use Rattle.plain_graph.specs.declared.value.Value.{Value}
 use Rattle.plain_graph.specs.declared.value.Value.TheVariants as values
 use Rattle.plain_graph.specs.declared.refusal.Refusal.{Refusal}
@@ -18,18 +19,16 @@ pub data Fault : Type 0 where
   DiskFailed : Fault
   DamagedRecord : (file id : ℕ) → Fault
 
--- What a line of the console is answered with. A fault comes after a prefix of the results that a
--- query has shown by then.
+-- What a line of the console is answered with: nothing; what acknowledges a change; what was asked
+-- for, in lines of which the last one ends the reply; the first of these lines and a fault; or why
+-- the line is refused.
 pub data Reply : Type 0 where
   Silent : Reply
   Done : Reply
   NodeMade : (id : ℕ) → Reply
   EdgeMade : (id : ℕ) → Reply
-  Results : (results : List Item) → Reply
-  Counted : (counts : Counts) → Reply
-  Sound : Reply
-  Broken : (file id rule : ℕ) → Reply
-  Faulted : (results : List Item) → (fault : Fault) → Reply
+  Told : (lines : List (List ℕ)) → (last : List ℕ) → Reply
+  Faulted : (lines : List (List ℕ)) → (fault : Fault) → Reply
   Refused : (why : Refusal) → Reply
 
 -- the text with a newline behind it
@@ -62,9 +61,31 @@ item_text (items.Vertex id) = codes "v[" ++ decimal id ++ codes "]"
 item_text (items.Edge id label from to) = edge_text id label from to
 item_text (items.Value value) = value_text value
 
--- one result of a query
+-- one result of a query, and its line
+abbrev pub item_line : Item → List ℕ
+item_line item = codes "==>" ++ item_text item
+
 abbrev pub result_text : Item → List ℕ
-result_text item = text_line (codes "==>" ++ item_text item)
+result_text item = text_line (item_line item)
+
+-- what ends a list of results
+abbrev pub end_text : List ℕ
+end_text = codes "end"
+
+-- how many edges a node has
+abbrev pub degree_text : ℕ → List ℕ
+degree_text edges = codes "degree " ++ decimal edges
+
+-- how many edges a walk has, or that none leads there
+abbrev pub path_text : ℕ → List ℕ
+path_text edges = codes "path " ++ decimal edges
+
+abbrev pub no_path_text : List ℕ
+no_path_text = codes "no path"
+
+-- a node and the least number of edges that lead to it
+abbrev pub level_text : NodeLevel → List ℕ
+level_text row = codes "==>v[" ++ decimal row.node ++ codes "] " ++ decimal row.level
 
 abbrev pub refusal_text : Refusal → List ℕ
 refusal_text refusals.LongLine = codes "error line"
@@ -110,6 +131,10 @@ file_name file =
 abbrev pub damaged_text : ℕ → ℕ → List ℕ
 damaged_text file id = codes "damaged " ++ file_name file ++ codes " " ++ decimal id
 
+-- all rules of the store hold
+abbrev pub sound_text : List ℕ
+sound_text = codes "sound"
+
 -- this record of the file breaks the rule of the store of this number, the least that is broken
 abbrev pub broken_text : ℕ → ℕ → ℕ → List ℕ
 broken_text file id rule =
@@ -128,11 +153,8 @@ reply_text Silent = []
 reply_text Done = text_line (codes "ok")
 reply_text (NodeMade id) = text_line (codes "node " ++ decimal id)
 reply_text (EdgeMade id) = text_line (codes "edge " ++ decimal id)
-reply_text (Results results) = flat_map result_text results ++ text_line (codes "end")
-reply_text (Counted counts) = text_line (counts_text counts)
-reply_text Sound = text_line (codes "sound")
-reply_text (Broken file id rule) = text_line (broken_text file id rule)
-reply_text (Faulted results fault) = flat_map result_text results ++ fault_line fault
+reply_text (Told lines last) = flat_map text_line lines ++ text_line last
+reply_text (Faulted lines fault) = flat_map text_line lines ++ fault_line fault
 reply_text (Refused why) = text_line (refusal_text why)
 
 -- the threshold and the limit of the store

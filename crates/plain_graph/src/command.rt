@@ -61,6 +61,26 @@ pub enum Command {
         direction: Direction,
         label: Text,
     },
+    /// How many edges a node has in a direction, of a type or of all types.
+    Degree {
+        id: u32,
+        direction: Direction,
+        label: Option<Text>,
+    },
+    /// A shortest walk from one node to another, by edges of a direction, and of a type or of all.
+    Path {
+        from: u32,
+        to: u32,
+        direction: Direction,
+        label: Option<Text>,
+    },
+    /// The levels of nodes that prove that no walk is shorter.
+    Levels {
+        from: u32,
+        to: u32,
+        direction: Direction,
+        label: Option<Text>,
+    },
     /// The results of a query.
     Query(Query),
 }

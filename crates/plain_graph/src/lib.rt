@@ -11,6 +11,7 @@ mod filter;
 mod item;
 mod limits;
 mod name;
+mod node_level;
 mod pairs;
 mod query;
 mod refusal;
@@ -27,12 +28,14 @@ pub use filter::{Filter, Relation};
 pub use item::Item;
 pub use limits::{MOST_WEIGHT, NAME_BYTES, START_WEIGHT, TEXT_BYTES};
 pub use name::{is_name_byte, is_name_start, is_short_name};
+pub use node_level::NodeLevel;
 pub use pairs::{Pair, Pairs};
 pub use query::{Body, BodyStep, Hop, Ids, Query, Step, StepList};
 pub use refusal::Refusal;
 pub use reply::{
-    ResultLine, ShortText, broken, configuration, counted, damaged, disk_fault, done, edge_made,
-    end_of_results, no_memory, node_made, not_a_store, past_count, refused, result_line, sound,
+    ResultLine, ShortText, broken, configuration, counted, damaged, degree, disk_fault, done,
+    edge_made, end_of_results, level_line, no_memory, no_path, node_made, not_a_store, past_count,
+    path, refused, result_line, sound,
 };
 pub use text::Text;
 pub use texts::Texts;

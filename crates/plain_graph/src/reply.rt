@@ -1,13 +1,14 @@
 ghost use Rattle.std.specs.Prelude.{◌≡◌, ◌≤◌, ◌+◌, ◌*◌, ◌++◌, codes, decimal, flat_map, length};
 ghost use Rattle.plain_graph.specs.Forms.{IsKept, IsShown};
-ghost use Rattle.plain_graph.specs.Reply.{Broken, Sound, broken_text};
-ghost use Rattle.plain_graph.specs.Reply.{Counted, DamagedRecord, DiskFailed, Done, EdgeMade};
-ghost use Rattle.plain_graph.specs.Reply.{NoMemory, NodeMade, PastCount, Refused};
-ghost use Rattle.plain_graph.specs.Reply.{configuration_text, damaged_text, edge_text, escaped};
-ghost use Rattle.plain_graph.specs.Reply.{fault_line, file_name, reply_text, result_text};
-ghost use Rattle.plain_graph.specs.Reply.{text_line, value_text};
+ghost use Rattle.plain_graph.specs.Reply.{DamagedRecord, DiskFailed, Done, EdgeMade, NoMemory};
+ghost use Rattle.plain_graph.specs.Reply.{NodeMade, PastCount, Refused, broken_text};
+ghost use Rattle.plain_graph.specs.Reply.{configuration_text, counts_text, damaged_text};
+ghost use Rattle.plain_graph.specs.Reply.{degree_text, edge_text, end_text, escaped, fault_line};
+ghost use Rattle.plain_graph.specs.Reply.{file_name, level_text, no_path_text, path_text};
+ghost use Rattle.plain_graph.specs.Reply.{reply_text, result_text, sound_text, text_line};
+ghost use Rattle.plain_graph.specs.Reply.{value_text};
 
-use crate::{ByteBuffer, Counts, Item, Refusal, Text, Value};
+use crate::{ByteBuffer, Counts, Item, NodeLevel, Refusal, Text, Value};
 use itoa::Buffer;
 
 /// A reply of one line, which takes no memory.
@@ -50,7 +51,7 @@ pub fn done() -> &'static [u8]
 
 /// The reply to `stats`: how many there are of each part of the graph.
 pub fn counted(counts: Counts) -> ShortText
-    ensures { result ≡ reply_text (Counted counts) }
+    ensures { result ≡ text_line (counts_text counts) }
 {
     let mut text = ShortText::new();
     push_count(&mut text, b"nodes ", counts.nodes);
@@ -64,14 +65,14 @@ pub fn counted(counts: Counts) -> ShortText
 
 /// The reply to `check` where all rules of the store hold: `sound`.
 pub fn sound() -> &'static [u8]
-    ensures { result.now ≡ reply_text Sound }
+    ensures { result.now ≡ text_line sound_text }
 {
     b"sound\n"
 }
 
 /// The reply to `check` where a record breaks a rule: `broken FILE ID RULE`.
 pub fn broken(file: u8, id: u32, rule: u8) -> ShortText
-    ensures { result ≡ reply_text (Broken file id rule) }
+    ensures { result ≡ text_line (broken_text file id rule) }
 {
     let mut text = ShortText::new();
     let mut digits = Buffer::new();
@@ -81,6 +82,51 @@ pub fn broken(file: u8, id: u32, rule: u8) -> ShortText
     text.push(digits.format(id).as_bytes());
     text.push(b" ");
     text.push(digits.format(rule).as_bytes());
+    text.push(b"\n");
+    text
+}
+
+/// The reply to `degree`: how many edges the node has.
+pub fn degree(edges: u64) -> ShortText
+    ensures { result ≡ text_line (degree_text edges) }
+{
+    let mut text = ShortText::new();
+    let mut digits = Buffer::new();
+    text.push(b"degree ");
+    text.push(digits.format(edges).as_bytes());
+    text.push(b"\n");
+    text
+}
+
+/// The first line of the reply to `path`: how many edges the walk has.
+pub fn path(edges: u64) -> ShortText
+    ensures { result ≡ text_line (path_text edges) }
+{
+    let mut text = ShortText::new();
+    let mut digits = Buffer::new();
+    text.push(b"path ");
+    text.push(digits.format(edges).as_bytes());
+    text.push(b"\n");
+    text
+}
+
+/// The reply to `path` where no walk leads there: `no path`.
+pub fn no_path() -> &'static [u8]
+    ensures { result.now ≡ text_line no_path_text }
+{
+    b"no path\n"
+}
+
+/// The line of one node of the reply to `levels`: `==>v[ID] LEVEL`.
+pub fn level_line(row: NodeLevel) -> ShortText
+    ensures { result ≡ text_line (level_text row) }
+{
+    let mut text = ShortText::new();
+    let mut digits = Buffer::new();
+    text.push(b"==>v[");
+    text.push(digits.format(row.node).as_bytes());
+    text.push(b"] ");
+    text.push(digits.format(row.level).as_bytes());
     text.push(b"\n");
     text
 }
@@ -244,7 +290,7 @@ fn push_escaped(line: &mut ResultLine, text: &[u8])
 
 /// The line behind the last result of a query: `end`.
 pub fn end_of_results() -> &'static [u8]
-    ensures { result.now ≡ text_line (codes "end") }
+    ensures { result.now ≡ text_line end_text }
 {
     b"end\n"
 }
