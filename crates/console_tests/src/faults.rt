@@ -1,5 +1,5 @@
 //! Scripts in which a call of the disk fails, or all calls from one on do.
-use crate::runs::{CALLS, Ended, ROOM, plan, run};
+use crate::runs::{CALLS, Ended, ROOM, plan, run, run_words};
 use disk_model::MemoryDisk;
 use graph_console::Exit;
 use std::alloc::{AllocError, Global};
@@ -42,6 +42,50 @@ fn each_call_of_the_disk_may_fail(rt: HostRuntime) -> Result<(), Fail> {
     // second, and one in that isn't.
     statuses.dedup();
     assert!(rt; statuses.as_slice() == [8, 0, 1, 0].as_slice());
+    Ok(())
+}
+
+/// A node with a long text becomes dense by loops, loses one of them and the text, and one more
+/// after a checkpoint. The store is opened again after each line.
+const REOPENED: &[u8] = b"node a x='TTTTTTTTTTTTTTTTTTTTTTTTTTTTTTTTTTTTTTTTT'\nreopen\n\
+    edge 0 S 0\nreopen\nedge 0 A 0\nreopen\nedge 0 B 0\nreopen\ndelete edge 1\nreopen\n\
+    set node 0 x 1\nreopen\ncheckpoint\nreopen\ndelete edge 0\nreopen\ncheck\ncheck\nstats\n";
+
+/// How often the text has this line.
+fn count_lines(text: &[u8], line: &[u8]) -> usize {
+    text.split(|byte| *byte == b'\n')
+        .filter(|it| *it == line)
+        .count()
+}
+
+#[test]
+fn a_store_is_opened_again_after_each_fault(rt: HostRuntime) -> Result<(), Fail> {
+    let alloc = rt.alloc();
+    let words = ["nipakeel", "run", "--threshold", "2"];
+    let mut has_failed = false;
+    for call in 1..=CALLS {
+        let mut disk = MemoryDisk::new(alloc, 16, ROOM, plan(alloc, &[call], None)?)?;
+        let ended = run_words(alloc, &words, REOPENED, &mut disk)?;
+        let taken = ended.output.taken();
+        if ended.exit == Exit::DiskFault {
+            assert!(rt; !has_failed && taken == b"fault disk\n", "call {call}");
+            continue;
+        }
+        let faults = count_lines(taken, b"fault disk");
+        if faults == 0 {
+            assert!(rt; has_failed, "call {call}");
+            break;
+        }
+        has_failed = true;
+        let again = run(alloc, b"check\nstats\n", &mut disk)?;
+        assert!(rt; faults == 1 && ended.exit == Exit::Done, "call {call}");
+        assert!(rt; count_lines(taken, b"error failed") <= 1, "call {call}");
+        assert!(rt;
+            taken.ends_with(again.output.taken()),
+            "call {call}: {taken:?}"
+        );
+        assert!(rt; again.output.taken().starts_with(b"sound\n"), "call {call}");
+    }
     Ok(())
 }
 

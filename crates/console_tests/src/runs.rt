@@ -39,18 +39,42 @@ pub(crate) fn plan(
     Ok(FaultPlan { fails, stop })
 }
 
-/// A run of these words over a disk that may hold a store. The streams don't fail.
+/// Which call of the source and which of the sink fails.
+#[derive(Clone, Copy, Debug)]
+pub(crate) struct Streams {
+    pub(crate) source: Option<u64>,
+    pub(crate) sink: Option<u64>,
+}
+
+/// A run of these words over a disk that may hold a store, and over such streams.
+pub(crate) fn run_over<D: Disk>(
+    alloc: Global,
+    words: &[&str],
+    input: &[u8],
+    fails: Streams,
+    disk: &mut D,
+) -> Result<Ended, AllocError> {
+    let words = words_of(alloc, words)?;
+    let source_fails = Vec::from_slice(alloc, fails.source.as_slice())?;
+    let sink_fails = Vec::from_slice(alloc, fails.sink.as_slice())?;
+    let mut source = Bytes::new(Vec::from_slice(alloc, input)?, PIECE, source_fails)?;
+    let mut output = Page::new(alloc, OUTPUT, sink_fails)?;
+    let exit = graph_main(alloc, words, &mut source, &mut output, disk);
+    Ok(Ended { exit, output })
+}
+
+/// A run of these words, whose streams don't fail.
 pub(crate) fn run_words<D: Disk>(
     alloc: Global,
     words: &[&str],
     input: &[u8],
     disk: &mut D,
 ) -> Result<Ended, AllocError> {
-    let words = words_of(alloc, words)?;
-    let mut source = Bytes::new(Vec::from_slice(alloc, input)?, PIECE, Vec::new(alloc))?;
-    let mut output = Page::new(alloc, OUTPUT, Vec::new(alloc))?;
-    let exit = graph_main(alloc, words, &mut source, &mut output, disk);
-    Ok(Ended { exit, output })
+    let fails = Streams {
+        source: None,
+        sink: None,
+    };
+    run_over(alloc, words, input, fails, disk)
 }
 
 /// A run with no option.

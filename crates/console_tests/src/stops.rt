@@ -1,6 +1,6 @@
 //! Scripts that are stopped at each call of the disk: what is opened afterwards is what was
 //! answered, with the line in which the stop came or without it.
-use crate::runs::{CALLS, COUNT, Ended, ROOM, plan, run, run_words};
+use crate::runs::{CALLS, COUNT, Ended, ROOM, Streams, plan, run, run_over, run_words};
 use disk_model::{Crash, MemoryDisk};
 use graph_console::Exit;
 use std::alloc::{AllocError, Global};
@@ -129,7 +129,60 @@ const DENSE: &[Row] = &[
     (b"delete edge 1\n", b"ok\n", LOOPLESS),
 ];
 
-const SCRIPTS: [Script; 3] = [
+/// Counts, shows the edges of node 0 and the values of a key, and checks the store.
+const LOOPS_PROBE: &[u8] = b"stats\ng.V(0).outE().id()\ng.V().values('x')\ncheck\n";
+
+const NO_LOOPS: &[u8] = b"nodes 0 edges 0 properties 0 blocks 0 names 0\nend\nend\nsound\n";
+
+/// A node with a text in a block.
+const LONG_TEXT: &[u8] =
+    b"nodes 1 edges 0 properties 1 blocks 1 names 2\nend\n==>'TTTTTTTTTTTTTTTTTTTTTTTTTTTTTTTTTTTTTTTTT'\nend\nsound\n";
+
+/// Its first loops, of three types. With the third it is dense.
+const ONE_LOOP: &[u8] =
+    b"nodes 1 edges 1 properties 1 blocks 1 names 3\n==>0\nend\n==>'TTTTTTTTTTTTTTTTTTTTTTTTTTTTTTTTTTTTTTTTT'\nend\nsound\n";
+
+const TWO_LOOPS: &[u8] =
+    b"nodes 1 edges 2 properties 1 blocks 1 names 4\n==>0\n==>1\nend\n==>'TTTTTTTTTTTTTTTTTTTTTTTTTTTTTTTTTTTTTTTTT'\nend\nsound\n";
+
+const THREE_LOOPS: &[u8] =
+    b"nodes 1 edges 3 properties 1 blocks 1 names 5\n==>0\n==>1\n==>2\nend\n==>'TTTTTTTTTTTTTTTTTTTTTTTTTTTTTTTTTTTTTTTTT'\nend\nsound\n";
+
+/// Without the second, with the text, and with a number in its place.
+const LOOPS_APART: &[u8] =
+    b"nodes 1 edges 2 properties 1 blocks 1 names 5\n==>0\n==>2\nend\n==>'TTTTTTTTTTTTTTTTTTTTTTTTTTTTTTTTTTTTTTTTT'\nend\nsound\n";
+
+const SHORT_VALUE: &[u8] =
+    b"nodes 1 edges 2 properties 1 blocks 0 names 5\n==>0\n==>2\nend\n==>1\nend\nsound\n";
+
+/// Without the first.
+const LAST_LOOP: &[u8] =
+    b"nodes 1 edges 1 properties 1 blocks 0 names 5\n==>2\nend\n==>1\nend\nsound\n";
+
+/// A node becomes dense by loops, and a group goes with the last relationship of its type. A text
+/// gives its block back.
+const LOOPS: &[Row] = &[
+    (
+        b"node a x='TTTTTTTTTTTTTTTTTTTTTTTTTTTTTTTTTTTTTTTTT'\n",
+        b"node 0\n",
+        LONG_TEXT,
+    ),
+    (b"edge 0 S 0\n", b"edge 0\n", ONE_LOOP),
+    (b"edge 0 A 0\n", b"edge 1\n", TWO_LOOPS),
+    (b"edge 0 B 0\n", b"edge 2\n", THREE_LOOPS),
+    (b"delete edge 1\n", b"ok\n", LOOPS_APART),
+    (b"set node 0 x 1\n", b"ok\n", SHORT_VALUE),
+    (b"checkpoint\n", b"ok\n", SHORT_VALUE),
+    (b"delete edge 0\n", b"ok\n", LAST_LOOP),
+];
+
+const LOOPS_SCRIPT: Script = Script {
+    rows: LOOPS,
+    probe: LOOPS_PROBE,
+    nothing: NO_LOOPS,
+};
+
+const SCRIPTS: [Script; 4] = [
     Script {
         rows: NODES,
         probe: PROBE,
@@ -145,6 +198,7 @@ const SCRIPTS: [Script; 3] = [
         probe: EDGES_PROBE,
         nothing: NO_EDGES,
     },
+    LOOPS_SCRIPT,
 ];
 
 fn lines_of(alloc: Global, rows: &[Row]) -> Result<Vec<u8>, AllocError> {
@@ -207,11 +261,13 @@ fn check_left(
     Ok(())
 }
 
-/// The lines over a disk that stops at this call. A node with a third edge is dense.
+/// The words of a run in which a node with a third edge is dense.
+const DENSE_AT_THREE: [&str; 4] = ["nipakeel", "run", "--threshold", "2"];
+
+/// The lines over a disk that stops at this call.
 fn run_stopped(alloc: Global, lines: &[u8], stop: u64) -> Result<(Ended, MemoryDisk), AllocError> {
     let mut disk = MemoryDisk::new(alloc, 16, ROOM, plan(alloc, &[], Some(stop))?)?;
-    let words = ["nipakeel", "run", "--threshold", "2"];
-    let ended = run_words(alloc, &words, lines, &mut disk)?;
+    let ended = run_words(alloc, &DENSE_AT_THREE, lines, &mut disk)?;
     Ok((ended, disk))
 }
 
@@ -292,6 +348,80 @@ fn check_openings(rt: &impl Abort, alloc: Global, script: Script) -> Result<(), 
 fn openings_are_stopped_too(rt: HostRuntime) -> Result<(), Fail> {
     for script in SCRIPTS {
         check_openings(&rt, rt.alloc(), script)?;
+    }
+    Ok(())
+}
+
+/// Stops the opening of what a stop left at each of its calls, and opens what this leaves.
+fn check_each_opening(
+    rt: &impl Abort,
+    alloc: Global,
+    script: Script,
+    ended: &Ended,
+    disk: &MemoryDisk,
+) -> Result<(), AllocError> {
+    for stop in 1..=CALLS {
+        let mut left = left_of(alloc, disk, Crash::Fill(1), Some(stop))?;
+        let again = run(alloc, b"stats\n", &mut left)?;
+        check_left(rt, alloc, script, ended, &left, Crash::Fill(1))?;
+        if again.exit == Exit::Done {
+            return Ok(());
+        }
+    }
+    assert!(rt; false, "the opening makes more calls");
+    Ok(())
+}
+
+#[test]
+fn each_opening_is_stopped_at_each_call(rt: HostRuntime) -> Result<(), Fail> {
+    let alloc = rt.alloc();
+    let lines = lines_of(alloc, LOOPS)?;
+    for stop in 1..=CALLS {
+        let (ended, disk) = run_stopped(alloc, &lines, stop)?;
+        check_each_opening(&rt, alloc, LOOPS_SCRIPT, &ended, &disk)?;
+        if ended.exit == Exit::Done {
+            break;
+        }
+    }
+    Ok(())
+}
+
+/// Lets a call of the source or of the sink fail, and opens what the run left.
+fn check_streams(
+    rt: &impl Abort,
+    alloc: Global,
+    script: Script,
+    fails: Streams,
+    exit: Exit,
+) -> Result<bool, AllocError> {
+    let lines = lines_of(alloc, script.rows)?;
+    let mut disk = MemoryDisk::new(alloc, 16, ROOM, plan(alloc, &[], None)?)?;
+    let ended = run_over(alloc, &DENSE_AT_THREE, &lines, fails, &mut disk)?;
+    check_left(rt, alloc, script, &ended, &disk, Crash::Old)?;
+    assert!(rt; ended.exit == exit || ended.exit == Exit::Done, "{fails:?}");
+    Ok(ended.exit == Exit::Done)
+}
+
+#[test]
+fn each_call_of_a_stream_may_fail(rt: HostRuntime) -> Result<(), Fail> {
+    let alloc = rt.alloc();
+    for call in 1..=CALLS {
+        let fails = Streams {
+            source: Some(call),
+            sink: None,
+        };
+        if check_streams(&rt, alloc, LOOPS_SCRIPT, fails, Exit::InputFault)? {
+            break;
+        }
+    }
+    for call in 1..=CALLS {
+        let fails = Streams {
+            source: None,
+            sink: Some(call),
+        };
+        if check_streams(&rt, alloc, LOOPS_SCRIPT, fails, Exit::OutputFault)? {
+            break;
+        }
     }
     Ok(())
 }
