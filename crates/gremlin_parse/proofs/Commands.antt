@@ -1,21 +1,24 @@
--- A command and the contents of its production: its parts, its bounds, and that one tail is of one command.
-use Rattle.std.proofs.Common.{◌≡◌, ◌≢◌, ◌⊎◌, inl, inr, ℕ, List, [], ◌∷◌, ◌++◌, codes, refl, sym, ap, ◌∙◌, subst, ⊎_elim}
+-- A command and the contents of its production: its parts, its form, and that one tail is of one command.
+use Rattle.std.proofs.Common.{◌≡◌, ◌≢◌, ◌⊎◌, inl, inr, ℕ, Option, Some, None, List, [], ◌∷◌, ◌++◌, codes, refl, sym, ap, ◌∙◌, subst, ⊎_elim}
 use Rattle.std.specs.List.{AllByRecursion}
-use Rattle.plain_graph.specs.Names.{is_name_byte}
+use Rattle.plain_graph.specs.Names.{is_name_byte, IsShortName}
+use Rattle.plain_graph.specs.Forms.{ArePairs, IsMaybeName, HasForm}
 use Rattle.plain_graph.specs.declared.command.Command.{Command}
 use Rattle.plain_graph.specs.declared.command.Command.TheVariants as commands
 use Rattle.plain_graph.specs.declared.command.Target.{Target}
 use Rattle.plain_graph.specs.declared.command.Target.TheVariants as targets
 use Rattle.plain_graph.specs.declared.direction.Direction.{Direction}
 use Rattle.plain_graph.specs.declared.direction.Direction.TheVariants as directions
+use Rattle.plain_graph.specs.declared.pairs.Pair.{Pair}
 use Rattle.plain_graph.specs.declared.query.Query.{Query}
-use Rattle.gremlin_parse.specs.Grammar.{most_id, Part, Blanks, Gap, Exactly, Name, Number, Written, target_parts, direction_name, IsBounded, parts_of, IsCommand, KeepsBounds, NeedsNoMemory}
+use Rattle.gremlin_parse.specs.Grammar.{most_id, Part, Blanks, Gap, Exactly, Name, Number, Written, IsPart, IsMadeOf, target_parts, between_parts, direction_name, pairs_to_end, name_to_end, IsBounded, parts_of, IsCommand, KeepsBounds, NeedsNoMemory}
 use Rattle.gremlin_parse.specs.Queries.{IsKeptQuery}
+use Rattle.gremlin_parse.specs.Lines.{IsKeptTail, Spells}
 use Rattle.gremlin_parse.specs.Keywords.{Entry, InTable, plain, TakesWord}
 use Rattle.gremlin_parse.specs.Symbols.{Contents, ReadsAll}
 use Rattle.gremlin_parse.specs.Arguments.{target_names, direction_named, direction_names}
 use Rattle.gremlin_parse.specs.Lasts.{Lacks, last_parts}
-use Rattle.gremlin_parse.specs.Commands.{IsLastOf, head_words, element_of, last_part, production, LastContent, LastOf, IsPlain, Asks, KeepsTail, command_of, plain_command, IsLast, IsAfter, SpellsAfter, IsTail, LacksMemory}
+use Rattle.gremlin_parse.specs.Commands.{IsLastOf, word_of, head_words, element_of, last_part, production, LastContent, LastOf, IsPlain, Asks, KeepsTail, command_of, plain_command, IsLast, IsAfter, SpellsAfter, IsTail, LacksMemory}
 use Rattle.gremlin_parse.specs.declared.head.Head.{Head}
 use Rattle.gremlin_parse.specs.declared.head.Head.TheVariants as heads
 use Rattle.gremlin_parse.specs.declared.word.Word.{Word}
@@ -26,7 +29,7 @@ use Rattle.gremlin_parse.proofs.Symbols.{NameByte, no_blanks}
 use Rattle.gremlin_parse.proofs.Productions.{HaltsAt, follows_halts, read_follows}
 use Rattle.gremlin_parse.proofs.Spelling.{AllowsAll, parts_with, ThenParts, then_parts_map, then_parts_choice, follows_of_parts, parts_of_follows, follows_agree, read_allowed, read_bounded}
 use Rattle.gremlin_parse.proofs.Lasts.{one_last}
-use Rattle.gremlin_parse.proofs.Heads.{word_of, entry_word, head_table, production_is, production_halts, last_closes, no_word_in_nothing}
+use Rattle.gremlin_parse.proofs.Heads.{entry_word, head_table, production_is, production_halts, last_closes, no_word_in_nothing}
 
 -- ---- the command that is spelled
 
@@ -141,6 +144,11 @@ named_direction name (inr (inl enters)) = let same : name ≡ codes "in" = ap (�
 named_direction name (inr (inr (inl both))) = let same : name ≡ codes "both" = ap (λ (e : Entry (Unit {0})). e.0) both in subst (λ n. direction_name (direction_named n) ≡ n) (sym same) refl
 named_direction name (inr (inr (inr none))) = absurd none
 
+-- the parts of two nodes, a direction and what stands last
+between : (word : List ℕ) (from to : ℕ) (name : List ℕ) (label : Option (List ℕ)) → InTable (name, tt) (plain direction_names) → between_parts word from to (direction_named name) ++ name_to_end label ≡ (Exactly word ∷ Gap ∷ Number most_id from ∷ Gap ∷ Number most_id to ∷ Gap ∷ Exactly name ∷ []) ++ name_to_end label
+between word from to name label allowed =
+    ap (λ (n : List ℕ). (Exactly word ∷ Gap ∷ Number most_id from ∷ Gap ∷ Number most_id to ∷ Gap ∷ Exactly n ∷ []) ++ name_to_end label) (named_direction name allowed)
+
 pub command_parts : (head : Head) (contents : Contents (production head)) (last : LastContent head) → IsPlain head → AllowsAll (production head) contents → parts_of (command_of head contents last) ≡ Exactly (word_of head) ∷ tail_parts head contents last
 command_parts (heads.Alone words.Begin) contents last plain allows = refl
 command_parts heads.Set contents last plain allows = element_parts (codes "set") contents.1.0 contents.1.1.1.0 (Gap ∷ Name contents.1.1.1.1.1.0 ∷ Gap ∷ Written contents.1.1.1.1.1.1.1.0 ∷ Blanks ∷ []) allows.1.0
@@ -148,6 +156,10 @@ command_parts heads.Unset contents last plain allows = element_parts (codes "uns
 command_parts heads.Delete contents last plain allows = element_parts (codes "delete") contents.1.0 contents.1.1.1.0 (Blanks ∷ []) allows.1.0
 command_parts heads.Expand contents last plain allows =
     ap (λ (name : List ℕ). Exactly (codes "expand") ∷ Gap ∷ Number most_id contents.1.0 ∷ Gap ∷ Exactly name ∷ Gap ∷ Name contents.1.1.1.1.1.0 ∷ Blanks ∷ []) (named_direction contents.1.1.1.0 allows.1.1.1.0)
+command_parts heads.Degree contents last plain allows =
+    ap (λ (name : List ℕ). (Exactly (codes "degree") ∷ Gap ∷ Number most_id contents.1.0 ∷ Gap ∷ Exactly name ∷ []) ++ name_to_end last) (named_direction contents.1.1.1.0 allows.1.1.1.0)
+command_parts heads.Path contents last plain allows = between (codes "path") contents.1.0 contents.1.1.1.0 contents.1.1.1.1.1.0 last allows.1.1.1.1.1.0
+command_parts heads.Levels contents last plain allows = between (codes "levels") contents.1.0 contents.1.1.1.0 contents.1.1.1.1.1.0 last allows.1.1.1.1.1.0
 command_parts heads.Query contents last plain allows = cc
 command_parts head contents last plain allows = refl
 
@@ -246,6 +258,30 @@ sentence_of (commands.Expand id direction label) is = inr (record {
   last = tt;
   is = ap (λ (d : Direction). commands.Expand id d label) (sym (direction_is direction));
 })
+sentence_of (commands.Degree id direction label) is = inr (record {
+  head = heads.Degree;
+  plain = refl;
+  contents = (tt, (id, (tt, (direction_name direction, tt))));
+  allowed = (tt, (tt, (tt, (direction_allowed direction, tt))));
+  last = label;
+  is = ap (λ (d : Direction). commands.Degree id d label) (sym (direction_is direction));
+})
+sentence_of (commands.Path from to direction label) is = inr (record {
+  head = heads.Path;
+  plain = refl;
+  contents = (tt, (from, (tt, (to, (tt, (direction_name direction, tt))))));
+  allowed = (tt, (tt, (tt, (tt, (tt, (direction_allowed direction, tt))))));
+  last = label;
+  is = ap (λ (d : Direction). commands.Path from to d label) (sym (direction_is direction));
+})
+sentence_of (commands.Levels from to direction label) is = inr (record {
+  head = heads.Levels;
+  plain = refl;
+  contents = (tt, (from, (tt, (to, (tt, (direction_name direction, tt))))));
+  allowed = (tt, (tt, (tt, (tt, (tt, (direction_allowed direction, tt))))));
+  last = label;
+  is = ap (λ (d : Direction). commands.Levels from to d label) (sym (direction_is direction));
+})
 sentence_of (commands.Query query) is = absurd is
 
 pub sentence_parts : (command : Command) → (sentence : Sentence command) → parts_of command ≡ Exactly (word_of sentence.head) ∷ tail_parts sentence.head sentence.contents sentence.last
@@ -276,3 +312,52 @@ plain_keeps head plain command rest bytes spells keeps =
 -- a query after its word
 pub query_spelled : (query : Query) (bytes rest : List ℕ) → TakesWord head_words bytes heads.Query rest → IsKeptQuery query rest → KeepsTail (commands.Query query) bytes
 query_spelled query bytes rest (run, cut, is) kept = (run, rest, cut.bytes_are, entry_word (run, heads.Query) (lookup_in head_words run heads.Query is), kept)
+
+-- ---- the form of a command: its names are names of at most 48 bytes, and its values ones that a store may keep
+
+-- the part is within its bounds, and some bytes are it
+abbrev IsSpelled : Part → Type 0
+IsSpelled part = IsBounded part × ((bytes : List ℕ) × IsPart part bytes)
+
+all_spelled : (parts : List Part) (bytes : List ℕ) → IsMadeOf parts bytes → AllByRecursion IsBounded parts → AllByRecursion IsSpelled parts
+all_spelled [] bytes made within = tt
+all_spelled (part ∷ parts) bytes (prefix, rest, whole, part_is, made) within = ((within.0, (prefix, part_is)), all_spelled parts rest made within.1)
+
+short_name : (name : List ℕ) → IsSpelled (Name name) → IsShortName name
+short_name name (within, (bytes, (same, is))) = (is, within)
+
+pairs_form : (pairs : List Pair) → AllByRecursion IsSpelled (pairs_to_end pairs) → ArePairs pairs
+pairs_form [] all = tt
+pairs_form (pair ∷ pairs) all = (short_name pair.key all.1.0, all.1.1.1.0.0, pairs_form pairs all.1.1.1.1)
+
+maybe_form : (name : Option (List ℕ)) → AllByRecursion IsSpelled (name_to_end name) → IsMaybeName name
+maybe_form None all = tt
+maybe_form (Some name) all = short_name name all.1.0
+
+-- the parts after those of an element
+after_element : (target : Target) (more : List Part) (word : List ℕ) → AllByRecursion IsSpelled (((Exactly word ∷ Gap ∷ []) ++ target_parts target) ++ more) → AllByRecursion IsSpelled more
+after_element (targets.Node id) more word all = all.1.1.1.1.1
+after_element (targets.Edge id) more word all = all.1.1.1.1.1
+
+parts_form : (command : Command) → AllByRecursion IsSpelled (parts_of command) → HasForm command
+parts_form (commands.Node label pairs) all = (short_name label all.1.1.0, pairs_form pairs all.1.1.1)
+parts_form (commands.Edge from label to pairs) all = (short_name label all.1.1.1.1.0, pairs_form pairs all.1.1.1.1.1.1.1)
+parts_form (commands.Set target key value) all =
+    let later = after_element target (Gap ∷ Name key ∷ Gap ∷ Written value ∷ Blanks ∷ []) (codes "set") all in
+    (short_name key later.1.0, later.1.1.1.0.0)
+parts_form (commands.Unset target key) all =
+    let later = after_element target (Gap ∷ Name key ∷ Blanks ∷ []) (codes "unset") all in
+    short_name key later.1.0
+parts_form (commands.Expand id direction label) all = short_name label all.1.1.1.1.1.1.0
+parts_form (commands.Degree id direction label) all = maybe_form label all.1.1.1.1.1
+parts_form (commands.Path from to direction label) all = maybe_form label all.1.1.1.1.1.1.1
+parts_form (commands.Levels from to direction label) all = maybe_form label all.1.1.1.1.1.1.1
+parts_form command all = tt
+
+-- A command that a line spells has its form.
+pub spelled_form : (line : List ℕ) (command : Command) → Spells line command → HasForm command
+spelled_form line command (blanks, bytes, whole, are, tail) = tail_form command bytes tail
+  where
+    tail_form : (command : Command) (bytes : List ℕ) → IsKeptTail command bytes → HasForm command
+    tail_form (commands.Query query) bytes tail = tt
+    tail_form command bytes tail = parts_form command (all_spelled (parts_of command) bytes tail.0 tail.1)

@@ -1,12 +1,12 @@
 -- Commands and queries by their first word: the table of words, and where reading stops at one and after it.
-use Rattle.std.proofs.Common.{◌≡◌, ◌≢◌, inr, ℕ, Some, Bool, true, false, not, List, [], ◌∷◌, ◌++◌, codes, refl, sym, ap, ◌∙◌, subst}
+use Rattle.std.proofs.Common.{◌≡◌, ◌≢◌, inr, ℕ, Some, Bool, true, false, not, List, [], ◌∷◌, ◌++◌, refl, sym, ap, ◌∙◌, subst}
 use Rattle.plain_graph.specs.Names.{is_name_byte}
 use Rattle.gremlin_parse.specs.Grammar.{is_blank}
 use Rattle.gremlin_parse.specs.Faults.{EndsRun}
 use Rattle.gremlin_parse.specs.Keywords.{Entry, InTable, lookup, TakesWord, LeavesTable, ThenWord}
 use Rattle.gremlin_parse.specs.Symbols.{Contents, ReadsAll, LeavesOne}
 use Rattle.gremlin_parse.specs.Stopping.{Bads, IsStop, StopsWith}
-use Rattle.gremlin_parse.specs.Commands.{StopsAfter, head_words, arguments_of, last_part, production, IsLast, BadLast, IsAfter, BadAfter, IsSomeTail, BadTail}
+use Rattle.gremlin_parse.specs.Commands.{StopsAfter, word_of, head_words, arguments_of, last_part, production, IsLast, BadLast, IsAfter, BadAfter, IsSomeTail, BadTail}
 use Rattle.gremlin_parse.specs.Lasts.{is_query}
 use Rattle.gremlin_parse.specs.declared.bad_token.BadToken.{BadToken}
 use Rattle.gremlin_parse.specs.declared.head.Head.{Head}
@@ -24,23 +24,6 @@ use Rattle.gremlin_parse.proofs.Arguments.{spaced_is, spaced_halts}
 use Rattle.gremlin_parse.proofs.Lasts as of_kind
 
 -- ---- the table
-
-abbrev pub word_of : Head → List ℕ
-word_of (heads.Alone words.Begin) = codes "begin"
-word_of (heads.Alone words.Commit) = codes "commit"
-word_of (heads.Alone words.Rollback) = codes "rollback"
-word_of (heads.Alone words.Checkpoint) = codes "checkpoint"
-word_of (heads.Alone words.Check) = codes "check"
-word_of (heads.Alone words.Stats) = codes "stats"
-word_of (heads.Alone words.Reopen) = codes "reopen"
-word_of (heads.Alone words.Quit) = codes "quit"
-word_of heads.Node = codes "node"
-word_of heads.Edge = codes "edge"
-word_of heads.Set = codes "set"
-word_of heads.Unset = codes "unset"
-word_of heads.Delete = codes "delete"
-word_of heads.Expand = codes "expand"
-word_of heads.Query = codes "g"
 
 pub named : (head : Head) → lookup head_words (word_of head) ≡ Some head
 named (heads.Alone words.Begin) = refl

@@ -34,4 +34,3 @@ pub mod Heads
 pub mod Commands
 pub mod Lines
 pub mod Leftmost
-pub mod Forms

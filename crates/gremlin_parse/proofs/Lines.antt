@@ -17,7 +17,7 @@ use Rattle.gremlin_parse.specs.Reading.{Then, BadParts}
 use Rattle.gremlin_parse.specs.Symbols.{AnyBlanks, Takes}
 use Rattle.gremlin_parse.specs.Stopping.{Bads, IsStop, BadInOne}
 use Rattle.gremlin_parse.specs.Lasts.{last_parts}
-use Rattle.gremlin_parse.specs.Commands.{head_words, last_part, production, BadLast, LastContent, LastOf, IsPlain, KeepsTail, command_of, BadAfter, SpellsAfter, IsSomeTail, BadTail, IsTail}
+use Rattle.gremlin_parse.specs.Commands.{word_of, head_words, last_part, production, BadLast, LastContent, LastOf, IsPlain, KeepsTail, command_of, BadAfter, SpellsAfter, IsSomeTail, BadTail, IsTail}
 use Rattle.gremlin_parse.specs.declared.bad_token.BadToken.{BadToken}
 use Rattle.gremlin_parse.specs.declared.head.Head.{Head}
 use Rattle.gremlin_parse.specs.declared.head.Head.TheVariants as heads
@@ -29,7 +29,7 @@ use Rattle.gremlin_parse.proofs.Productions.{Goes, stop_after}
 use Rattle.gremlin_parse.proofs.Spelling.{parts_with, made_of_then, then_of_made, then_parts_map, bad_then_of_parts, bad_then_map, bad_parts_choice, bad_follows_of_then, then_of_bad_follows, no_bad_within}
 use Rattle.gremlin_parse.proofs.Repeats.{all_split, bad_parts_within}
 use Rattle.gremlin_parse.proofs.Lasts.{some_last, last_no_bad, last_made, made_last, bad_last, last_bad}
-use Rattle.gremlin_parse.proofs.Heads.{word_of, named, entry_word, production_is, last_closes, bad_after_halts, word_halts, head_table, no_word_in_nothing}
+use Rattle.gremlin_parse.proofs.Heads.{named, entry_word, production_is, last_closes, bad_after_halts, word_halts, head_table, no_word_in_nothing}
 use Rattle.gremlin_parse.proofs.Commands.{spells_halts, Spelled, spelled_of_contents, contents_of_spelled, some_spelled, spelled_is_some, tail_parts, command_parts, is_command, Sentence, sentence_of, sentence_parts}
 
 -- ---- spelled by parts, and by the table

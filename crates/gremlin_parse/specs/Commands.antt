@@ -1,5 +1,5 @@
 -- Commands and queries by their first word: the table of words, and what stands after each.
-use Rattle.std.specs.Prelude.{◌≡◌, ◌⊎◌, ℕ, false, List, [], ◌∷◌, codes}
+use Rattle.std.specs.Prelude.{◌≡◌, ◌⊎◌, ℕ, false, List, [], ◌∷◌, map, codes}
 use Rattle.plain_graph.specs.declared.command.Command.{Command}
 use Rattle.plain_graph.specs.declared.command.Command.TheVariants as commands
 use Rattle.plain_graph.specs.declared.command.Target.{Target}
@@ -28,18 +28,38 @@ use Rattle.gremlin_parse.specs.declared.stop.Stop.{Stop}
 use Rattle.gremlin_parse.specs.declared.target.TargetWord.{TargetWord}
 use Rattle.gremlin_parse.specs.declared.target.TargetWord.TheVariants as target_kinds
 
+-- what a command or a query begins with
+abbrev pub word_of : Head → List ℕ
+word_of (heads.Alone words.Begin) = codes "begin"
+word_of (heads.Alone words.Commit) = codes "commit"
+word_of (heads.Alone words.Rollback) = codes "rollback"
+word_of (heads.Alone words.Checkpoint) = codes "checkpoint"
+word_of (heads.Alone words.Check) = codes "check"
+word_of (heads.Alone words.Stats) = codes "stats"
+word_of (heads.Alone words.Reopen) = codes "reopen"
+word_of (heads.Alone words.Quit) = codes "quit"
+word_of heads.Node = codes "node"
+word_of heads.Edge = codes "edge"
+word_of heads.Set = codes "set"
+word_of heads.Unset = codes "unset"
+word_of heads.Delete = codes "delete"
+word_of heads.Expand = codes "expand"
+word_of heads.Degree = codes "degree"
+word_of heads.Path = codes "path"
+word_of heads.Levels = codes "levels"
+word_of heads.Query = codes "g"
+
+abbrev pub all_heads : List Head
+all_heads =
+    heads.Alone words.Begin ∷ heads.Alone words.Commit ∷ heads.Alone words.Rollback
+    ∷ heads.Alone words.Checkpoint ∷ heads.Alone words.Check ∷ heads.Alone words.Stats
+    ∷ heads.Alone words.Reopen ∷ heads.Alone words.Quit ∷ heads.Node ∷ heads.Edge ∷ heads.Set
+    ∷ heads.Unset ∷ heads.Delete ∷ heads.Expand ∷ heads.Degree ∷ heads.Path ∷ heads.Levels
+    ∷ heads.Query ∷ []
+
 -- the words with which a command or a query begins
 abbrev pub head_words : List (Entry Head)
-head_words =
-    (codes "begin", heads.Alone words.Begin) ∷ (codes "commit", heads.Alone words.Commit)
-    ∷ (codes "rollback", heads.Alone words.Rollback)
-    ∷ (codes "checkpoint", heads.Alone words.Checkpoint) ∷ (codes "check", heads.Alone words.Check)
-    ∷ (codes "stats", heads.Alone words.Stats)
-    ∷ (codes "reopen", heads.Alone words.Reopen) ∷ (codes "quit", heads.Alone words.Quit)
-    ∷ (codes "node", heads.Node) ∷ (codes "edge", heads.Edge)
-    ∷ (codes "set", heads.Set) ∷ (codes "unset", heads.Unset)
-    ∷ (codes "delete", heads.Delete) ∷ (codes "expand", heads.Expand)
-    ∷ (codes "g", heads.Query) ∷ []
+head_words = map (λ head. (word_of head, head)) all_heads
 
 -- the element of an identifier
 abbrev pub target_of : TargetWord → ℕ → Target
@@ -59,12 +79,18 @@ arguments_of heads.Set =
 arguments_of heads.Unset = arguments.Element ∷ arguments.Number ∷ arguments.Name ∷ []
 arguments_of heads.Delete = arguments.Element ∷ arguments.Number ∷ []
 arguments_of heads.Expand = arguments.Number ∷ arguments.Direction ∷ arguments.Name ∷ []
+arguments_of heads.Degree = arguments.Number ∷ arguments.Direction ∷ []
+arguments_of heads.Path = arguments.Number ∷ arguments.Number ∷ arguments.Direction ∷ []
+arguments_of heads.Levels = arguments.Number ∷ arguments.Number ∷ arguments.Direction ∷ []
 arguments_of _ = []
 
 -- what stands after them
 abbrev pub last_part : Head → LastPart
 last_part heads.Node = lasts.Pairs
 last_part heads.Edge = lasts.Pairs
+last_part heads.Degree = lasts.MaybeName
+last_part heads.Path = lasts.MaybeName
+last_part heads.Levels = lasts.MaybeName
 last_part heads.Query = lasts.Query
 last_part _ = lasts.End
 
@@ -99,10 +125,16 @@ command_of heads.Delete contents last =
     commands.Delete (element_of contents.1.0 contents.1.1.1.0)
 command_of heads.Expand contents last =
     commands.Expand contents.1.0 (direction_named contents.1.1.1.0) contents.1.1.1.1.1.0
+command_of heads.Degree contents label =
+    commands.Degree contents.1.0 (direction_named contents.1.1.1.0) label
+command_of heads.Path contents label =
+    commands.Path contents.1.0 contents.1.1.1.0 (direction_named contents.1.1.1.1.1.0) label
+command_of heads.Levels contents label =
+    commands.Levels contents.1.0 contents.1.1.1.0 (direction_named contents.1.1.1.1.1.0) label
 command_of heads.Query contents query = commands.Query query
 
 -- the command of a first word and of what a line has after it
-abbrev pub built : Head → Givens → Last → Command
+unfoldable pub built : Head → Givens → Last → Command
 built head givens last =
     command_of head (contents_in (arguments_of head) (listed givens))
     (last_content (last_part head) last)

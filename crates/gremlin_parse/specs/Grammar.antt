@@ -102,6 +102,12 @@ abbrev pub name_to_end : Option (List ℕ) → List Part
 name_to_end None = Blanks ∷ []
 name_to_end (Some name) = Gap ∷ Name name ∷ Blanks ∷ []
 
+-- a word, two nodes and a direction
+abbrev pub between_parts : List ℕ → ℕ → ℕ → Direction → List Part
+between_parts word from to direction =
+    Exactly word ∷ Gap ∷ Number most_id from ∷ Gap ∷ Number most_id to ∷ Gap
+    ∷ Exactly (direction_name direction) ∷ []
+
 -- the parts that spell a command, from its first letter
 abbrev pub parts_of : Command → List Part
 parts_of commands.Blank = []
@@ -131,6 +137,14 @@ parts_of (commands.Expand id direction label) =
     Exactly (codes "expand") ∷ Gap ∷ Number most_id id ∷ Gap
     ∷ Exactly (direction_name direction)
     ∷ Gap ∷ Name label ∷ Blanks ∷ []
+parts_of (commands.Degree id direction label) =
+    (Exactly (codes "degree") ∷ Gap ∷ Number most_id id ∷ Gap
+    ∷ Exactly (direction_name direction)
+    ∷ []) ++ name_to_end label
+parts_of (commands.Path from to direction label) =
+    between_parts (codes "path") from to direction ++ name_to_end label
+parts_of (commands.Levels from to direction label) =
+    between_parts (codes "levels") from to direction ++ name_to_end label
 parts_of (commands.Query query) = []
 
 -- The command is spelled by its parts; a query is spelled from place to place.
@@ -160,5 +174,8 @@ NeedsNoMemory (commands.Edge from label to pairs) = ⊥
 NeedsNoMemory (commands.Set target key value) = ⊥
 NeedsNoMemory (commands.Unset target key) = ⊥
 NeedsNoMemory (commands.Expand id direction label) = ⊥
+NeedsNoMemory (commands.Degree id direction label) = ⊥
+NeedsNoMemory (commands.Path from to direction label) = ⊥
+NeedsNoMemory (commands.Levels from to direction label) = ⊥
 NeedsNoMemory (commands.Query query) = ⊥
 NeedsNoMemory _ = Unit {0}

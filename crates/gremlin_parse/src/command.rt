@@ -1,18 +1,14 @@
-ghost use Rattle.std.specs.Prelude.{◌≡◌, IfOk, IfErr};
+ghost use Rattle.std.specs.Prelude.{IfOk, IfErr};
 ghost use Rattle.gremlin_parse.specs.Grammar.{KeepsBounds};
 ghost use Rattle.gremlin_parse.specs.Commands.{IsTail, IsSomeTail, BadTail, KeepsTail, LacksMemory};
-ghost use Rattle.gremlin_parse.specs.Commands.{SpellsAfter, StopsAfter, IsPlain, Asks, built};
+ghost use Rattle.gremlin_parse.specs.Commands.{SpellsAfter, StopsAfter, IsPlain, Asks};
 ghost use Rattle.gremlin_parse.specs.Stopping.{IsStop};
 
-use crate::argument::{Givens, read_arguments};
-use crate::head::{Head, arguments_of, is_plain, last_part, read_head};
-use crate::last::{Last, read_last};
-use crate::parts::copy_name;
+use crate::argument::read_arguments;
+use crate::head::{Head, arguments_of, command_of, is_plain, last_part, read_head};
+use crate::last::read_last;
 use crate::query::read_query;
 use crate::stop::Stop;
-use crate::target::target_of;
-use crate::value::value_of;
-use crate::word::plain_command;
 use plain_graph::Command;
 use std::alloc::Global;
 
@@ -48,57 +44,4 @@ fn parse_command(alloc: Global, head: Head, bytes: &[u8]) -> Result<Command, Sto
     let last = read_last(alloc, rest, last_part(head))?;
     let command = command_of(alloc, head, givens, last)?;
     Ok(command)
-}
-
-/// The command of the first word and of what stands after it.
-fn command_of(alloc: Global, head: Head, givens: Givens, last: Last) -> Result<Command, Stop>
-    requires { IsPlain head }
-    ensures ok { IfOk result (λ command. command ≡ built head givens.entry last.entry) }
-    ensures err { IfErr result (λ stop. stop ≡ Stop.Memory) }
-    ensures asks { IfErr result (λ stop. Asks head) }
-{
-    let Givens {
-        first,
-        second,
-        third,
-        fourth,
-    } = givens;
-    match head {
-        Head::Alone(word) => Ok(plain_command(word)),
-        Head::Node => {
-            let label = copy_name(alloc, first.name())?;
-            let pairs = last.pairs;
-            Ok(Command::Node { label, pairs })
-        }
-        Head::Edge => {
-            let label = copy_name(alloc, second.name())?;
-            Ok(Command::Edge {
-                from: first.number(),
-                label,
-                to: third.number(),
-                pairs: last.pairs,
-            })
-        }
-        Head::Set => {
-            let target = target_of(first.element(), second.number());
-            let key = copy_name(alloc, third.name())?;
-            let value = value_of(alloc, fourth.value())?;
-            Ok(Command::Set { target, key, value })
-        }
-        Head::Unset => {
-            let target = target_of(first.element(), second.number());
-            let key = copy_name(alloc, third.name())?;
-            Ok(Command::Unset { target, key })
-        }
-        Head::Delete => Ok(Command::Delete(target_of(first.element(), second.number()))),
-        Head::Expand => {
-            let label = copy_name(alloc, third.name())?;
-            Ok(Command::Expand {
-                id: first.number(),
-                direction: second.direction(),
-                label,
-            })
-        }
-        Head::Query => unreachable!(),
-    }
 }

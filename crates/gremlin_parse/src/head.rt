@@ -1,14 +1,20 @@
 ghost use Rattle.std.specs.Prelude.{◌≡◌, ◌≤◌, length, not, IfOk, IfErr};
 ghost use Rattle.gremlin_parse.specs.Commands.{head_words, arguments_of, last_part};
+ghost use Rattle.gremlin_parse.specs.Commands.{IsPlain, Asks, built};
 ghost use Rattle.gremlin_parse.specs.Lasts.{is_query};
 ghost use Rattle.gremlin_parse.specs.Keywords.{TakesWord, LeavesTable};
 ghost use Rattle.gremlin_parse.specs.Stopping.{StopsWith};
 
-use crate::argument::Argument;
+use crate::argument::{Argument, Givens};
 use crate::keyword::read_keyword;
-use crate::last::LastPart;
+use crate::last::{Last, LastPart, copy_last_name};
+use crate::parts::copy_name;
 use crate::stop::Stop;
-use crate::word::Word;
+use crate::target::target_of;
+use crate::value::value_of;
+use crate::word::{Word, plain_command};
+use plain_graph::Command;
+use std::alloc::Global;
 
 /// What a command or a query begins with.
 #[derive(Clone, Copy)]
@@ -20,10 +26,13 @@ pub(crate) enum Head {
     Unset,
     Delete,
     Expand,
+    Degree,
+    Path,
+    Levels,
     Query,
 }
 
-const HEADS: [(&[u8], Head); 15] = [
+const HEADS: [(&[u8], Head); 18] = [
     (b"begin", Head::Alone(Word::Begin)),
     (b"commit", Head::Alone(Word::Commit)),
     (b"rollback", Head::Alone(Word::Rollback)),
@@ -38,6 +47,9 @@ const HEADS: [(&[u8], Head); 15] = [
     (b"unset", Head::Unset),
     (b"delete", Head::Delete),
     (b"expand", Head::Expand),
+    (b"degree", Head::Degree),
+    (b"path", Head::Path),
+    (b"levels", Head::Levels),
     (b"g", Head::Query),
 ];
 
@@ -69,6 +81,8 @@ pub(crate) fn arguments_of(head: Head) -> &'static [Argument]
         Head::Unset => &[Argument::Element, Argument::Number, Argument::Name],
         Head::Delete => &[Argument::Element, Argument::Number],
         Head::Expand => &[Argument::Number, Argument::Direction, Argument::Name],
+        Head::Degree => &[Argument::Number, Argument::Direction],
+        Head::Path | Head::Levels => &[Argument::Number, Argument::Number, Argument::Direction],
         Head::Alone(_) | Head::Query => &[],
     }
 }
@@ -79,6 +93,7 @@ pub(crate) fn last_part(head: Head) -> LastPart
 {
     match head {
         Head::Node | Head::Edge => LastPart::Pairs,
+        Head::Degree | Head::Path | Head::Levels => LastPart::MaybeName,
         Head::Query => LastPart::Query,
         _ => LastPart::End,
     }
@@ -89,4 +104,137 @@ pub(crate) fn is_plain(head: Head) -> bool
     ensures { result ≡ not (is_query (last_part head)) }
 {
     !matches!(head, Head::Query)
+}
+
+/// The command of the first word and of what stands after it.
+pub(crate) fn command_of(
+    alloc: Global,
+    head: Head,
+    givens: Givens,
+    last: Last,
+) -> Result<Command, Stop>
+    requires { IsPlain head }
+    ensures ok { IfOk result (λ command. command ≡ built head givens.entry last.entry) }
+    ensures err { IfErr result (λ stop. stop ≡ Stop.Memory) }
+    ensures asks { IfErr result (λ stop. Asks head) }
+{
+    match head {
+        Head::Alone(word) => Ok(plain_command(word)),
+        Head::Node => node_of(alloc, givens, last),
+        Head::Edge => edge_of(alloc, givens, last),
+        Head::Set => set_of(alloc, givens, last),
+        Head::Unset => unset_of(alloc, givens, last),
+        Head::Delete => Ok(delete_of(givens, last)),
+        Head::Expand => expand_of(alloc, givens, last),
+        Head::Degree => degree_of(alloc, givens, last),
+        Head::Path => path_of(alloc, givens, last),
+        Head::Levels => levels_of(alloc, givens, last),
+        Head::Query => unreachable!(),
+    }
+}
+
+#[tactic(auto, unfolding(crate::specs::Commands::built))]
+fn node_of(alloc: Global, givens: Givens, last: Last) -> Result<Command, Stop>
+    ensures ok { IfOk result (λ command. command ≡ built Head.Node givens.entry last.entry) }
+    ensures err { IfErr result (λ stop. stop ≡ Stop.Memory) }
+{
+    let label = copy_name(alloc, givens.first.name())?;
+    let pairs = last.pairs;
+    Ok(Command::Node { label, pairs })
+}
+
+#[tactic(auto, unfolding(crate::specs::Commands::built))]
+fn edge_of(alloc: Global, givens: Givens, last: Last) -> Result<Command, Stop>
+    ensures ok { IfOk result (λ command. command ≡ built Head.Edge givens.entry last.entry) }
+    ensures err { IfErr result (λ stop. stop ≡ Stop.Memory) }
+{
+    let label = copy_name(alloc, givens.second.name())?;
+    Ok(Command::Edge {
+        from: givens.first.number(),
+        label,
+        to: givens.third.number(),
+        pairs: last.pairs,
+    })
+}
+
+#[tactic(auto, unfolding(crate::specs::Commands::built))]
+fn set_of(alloc: Global, givens: Givens, _last: Last) -> Result<Command, Stop>
+    ensures ok { IfOk result (λ command. command ≡ built Head.Set givens.entry _last.entry) }
+    ensures err { IfErr result (λ stop. stop ≡ Stop.Memory) }
+{
+    let target = target_of(givens.first.element(), givens.second.number());
+    let key = copy_name(alloc, givens.third.name())?;
+    let value = value_of(alloc, givens.fourth.value())?;
+    Ok(Command::Set { target, key, value })
+}
+
+#[tactic(auto, unfolding(crate::specs::Commands::built))]
+fn unset_of(alloc: Global, givens: Givens, _last: Last) -> Result<Command, Stop>
+    ensures ok { IfOk result (λ command. command ≡ built Head.Unset givens.entry _last.entry) }
+    ensures err { IfErr result (λ stop. stop ≡ Stop.Memory) }
+{
+    let target = target_of(givens.first.element(), givens.second.number());
+    let key = copy_name(alloc, givens.third.name())?;
+    Ok(Command::Unset { target, key })
+}
+
+#[tactic(auto, unfolding(crate::specs::Commands::built))]
+fn delete_of(givens: Givens, _last: Last) -> Command
+    ensures { result ≡ built Head.Delete givens.entry _last.entry }
+{
+    Command::Delete(target_of(givens.first.element(), givens.second.number()))
+}
+
+#[tactic(auto, unfolding(crate::specs::Commands::built))]
+fn expand_of(alloc: Global, givens: Givens, _last: Last) -> Result<Command, Stop>
+    ensures ok { IfOk result (λ command. command ≡ built Head.Expand givens.entry _last.entry) }
+    ensures err { IfErr result (λ stop. stop ≡ Stop.Memory) }
+{
+    let label = copy_name(alloc, givens.third.name())?;
+    Ok(Command::Expand {
+        id: givens.first.number(),
+        direction: givens.second.direction(),
+        label,
+    })
+}
+
+#[tactic(auto, unfolding(crate::specs::Commands::built))]
+fn degree_of(alloc: Global, givens: Givens, last: Last) -> Result<Command, Stop>
+    ensures ok { IfOk result (λ command. command ≡ built Head.Degree givens.entry last.entry) }
+    ensures err { IfErr result (λ stop. stop ≡ Stop.Memory) }
+{
+    let label = copy_last_name(alloc, last.name)?;
+    Ok(Command::Degree {
+        id: givens.first.number(),
+        direction: givens.second.direction(),
+        label,
+    })
+}
+
+#[tactic(auto, unfolding(crate::specs::Commands::built))]
+fn path_of(alloc: Global, givens: Givens, last: Last) -> Result<Command, Stop>
+    ensures ok { IfOk result (λ command. command ≡ built Head.Path givens.entry last.entry) }
+    ensures err { IfErr result (λ stop. stop ≡ Stop.Memory) }
+{
+    let label = copy_last_name(alloc, last.name)?;
+    Ok(Command::Path {
+        from: givens.first.number(),
+        to: givens.second.number(),
+        direction: givens.third.direction(),
+        label,
+    })
+}
+
+#[tactic(auto, unfolding(crate::specs::Commands::built))]
+fn levels_of(alloc: Global, givens: Givens, last: Last) -> Result<Command, Stop>
+    ensures ok { IfOk result (λ command. command ≡ built Head.Levels givens.entry last.entry) }
+    ensures err { IfErr result (λ stop. stop ≡ Stop.Memory) }
+{
+    let label = copy_last_name(alloc, last.name)?;
+    Ok(Command::Levels {
+        from: givens.first.number(),
+        to: givens.second.number(),
+        direction: givens.third.direction(),
+        label,
+    })
 }

@@ -6,9 +6,9 @@ ghost use Rattle.gremlin_parse.specs.Lasts.{is_query, last_content, last_parts, 
 ghost use Rattle.gremlin_parse.specs.Lasts.{BadInLast, Lacks, now_of};
 
 use crate::pair::read_pairs;
-use crate::parts::{read_end, read_gap, read_name, skip_blanks};
+use crate::parts::{copy_name, read_end, read_gap, read_name, skip_blanks};
 use crate::stop::Stop;
-use plain_graph::Pairs;
+use plain_graph::{Pairs, Text};
 use std::alloc::Global;
 
 /// What stands after a command's arguments, to the line's end.
@@ -60,6 +60,20 @@ pub(crate) fn read_last(alloc: Global, bytes: &[u8], kind: LastPart) -> Result<L
             })
         }
         LastPart::Query => unreachable!(),
+    }
+}
+
+/// The name once more, or none.
+pub(crate) fn copy_last_name(alloc: Global, name: Option<&[u8]>) -> Result<Option<Text>, Stop>
+    ensures ok { IfOk result (λ text. text ≡ now_of name.entry) }
+    ensures err { IfErr result (λ stop. stop ≡ Stop.Memory) }
+{
+    match name {
+        Some(name) => {
+            let text = copy_name(alloc, name)?;
+            Ok(Some(text))
+        }
+        None => Ok(None),
     }
 }
 

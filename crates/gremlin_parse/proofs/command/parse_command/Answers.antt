@@ -7,7 +7,7 @@ use Rattle.gremlin_parse.specs.Symbols.{ReadsAll, LeavesOne}
 use Rattle.gremlin_parse.specs.Stopping.{IsStop}
 use Rattle.gremlin_parse.specs.Arguments.{spaced, contents_in, listed}
 use Rattle.gremlin_parse.specs.Lasts.{last_content, last_parts, LastIs, SomeLast, BadInLast, Lacks}
-use Rattle.gremlin_parse.specs.Commands.{Asks, IsLast, BadLast, SpellsAfter, arguments_of, last_part}
+use Rattle.gremlin_parse.specs.Commands.{Asks, IsLast, BadLast, SpellsAfter, arguments_of, last_part, built}
 use Rattle.gremlin_parse.specs.declared.argument.Argument.{Argument}
 use Rattle.gremlin_parse.specs.declared.last.LastPart.{LastPart}
 use Rattle.gremlin_parse.proofs.Heads.{stop_in_head, stop_after_head, stop_lacks}
@@ -34,6 +34,7 @@ returns-in_err-last-clause-err c =
     rw (p.1, p.2) (stop_after_head head (Asks head) (contents_in (arguments_of head) givens) bytes rest stop reads (stop_lacks (IsLast head) (BadLast head) (Lacks (last_part head)) (Asks head) rest stop (last_asks head) at))
 
 pub returns-clause-ok : goal.returns-clause-ok
+unfolding built
 returns-clause-ok c =
     let head = c.args.head in
     let bytes = c.args.bytes.now in
@@ -45,6 +46,7 @@ returns-clause-ok c =
     subst (λ (command : Command). SpellsAfter command head bytes) (sym c.in_ok-command.ensures.ok) (spells_read head (contents_in (arguments_of head) givens) (last_content (last_part head) last) bytes rest reads made)
 
 pub returns-clause-bounds : goal.returns-clause-bounds
+unfolding built
 returns-clause-bounds c =
     let head = c.args.head in
     let bytes = c.args.bytes.now in

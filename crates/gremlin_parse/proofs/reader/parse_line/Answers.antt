@@ -3,7 +3,7 @@ use Rattle.gremlin_parse.specs.Commands.{LacksMemory}
 use Rattle.gremlin_parse.specs.declared.line_fault.LineFault.TheVariants as faults
 use Rattle.gremlin_parse.proofs.Lines.{spells_of_tail, stop_of_line}
 use Rattle.gremlin_parse.proofs.Leftmost.{fault_is_leftmost, stop_within, no_fault_of, only_command, no_command_at, no_such_command}
-use Rattle.gremlin_parse.proofs.Forms.{spelled_form}
+use Rattle.gremlin_parse.proofs.Commands.{spelled_form}
 use Rattle.gremlin_parse.proofs.reader.parse_line.Goals as goal
 
 pub returns-in-Ok-clause-spelled : goal.returns-in-Ok-clause-spelled
