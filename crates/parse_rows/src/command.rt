@@ -1,6 +1,6 @@
 use crate::query::put_query;
 use crate::text::{put, put_number, put_value, word_of};
-use plain_graph::{Command, Pairs, Target};
+use plain_graph::{Command, Direction, Pairs, Target, Text};
 use std::alloc::AllocError;
 
 /// Writes the command as a line spells it, with one blank between two parts.
@@ -40,6 +40,17 @@ pub(crate) fn put_command(out: &mut Vec<u8>, command: &Command) -> Result<(), Al
             put(out, &[b" ", key.as_bytes()])
         }
         Command::Delete(target) => put_target(out, b"delete ", *target),
+        Command::Expand { .. }
+        | Command::Degree { .. }
+        | Command::Path { .. }
+        | Command::Levels { .. } => put_question(out, command),
+        Command::Query(query) => put_query(out, query),
+    }
+}
+
+/// Writes a command that reads along edges of a direction.
+fn put_question(out: &mut Vec<u8>, command: &Command) -> Result<(), AllocError> {
+    match command {
         Command::Expand {
             id,
             direction,
@@ -49,7 +60,48 @@ pub(crate) fn put_command(out: &mut Vec<u8>, command: &Command) -> Result<(), Al
             put(out, &[b" ", word_of(*direction)])?;
             put(out, &[b" ", label.as_bytes()])
         }
-        Command::Query(query) => put_query(out, query),
+        Command::Degree {
+            id,
+            direction,
+            label,
+        } => {
+            put_number(out, b"degree ", *id)?;
+            put_way(out, *direction, label)
+        }
+        Command::Path {
+            from,
+            to,
+            direction,
+            label,
+        } => {
+            put_number(out, b"path ", *from)?;
+            put_number(out, b" ", *to)?;
+            put_way(out, *direction, label)
+        }
+        Command::Levels {
+            from,
+            to,
+            direction,
+            label,
+        } => {
+            put_number(out, b"levels ", *from)?;
+            put_number(out, b" ", *to)?;
+            put_way(out, *direction, label)
+        }
+        _ => Ok(()),
+    }
+}
+
+/// Writes the direction and the name, if there is one, each after a blank.
+fn put_way(
+    out: &mut Vec<u8>,
+    direction: Direction,
+    label: &Option<Text>,
+) -> Result<(), AllocError> {
+    put(out, &[b" ", word_of(direction)])?;
+    match label {
+        Some(name) => put(out, &[b" ", name.as_bytes()]),
+        None => Ok(()),
     }
 }
 
