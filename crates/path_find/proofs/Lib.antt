@@ -1,0 +1,13 @@
+pub mod Answered
+pub mod Certified
+pub mod FoundAnswers
+pub mod LevelRows
+pub mod ListOrder
+pub mod Lists
+pub mod NeighbourLaws
+pub mod OnlyReads
+pub mod SearchSteps
+pub mod TreeGrowth
+pub mod TreeWalks
+pub mod WalkLaws
+pub mod WaysBack

@@ -1,0 +1,113 @@
+use Rattle.std.proofs.Common.{◌≡◌, ◌<◌, ◌+◌, true, false, sym, subst, ◌∙◌, arith}
+use Rattle.std.proofs.lemmas.Result.{err_from_is_err_and}
+use Rattle.path_find.proofs.OnlyReads.{broken-read, is_read-on, same-read, store-read}
+use Rattle.path_find.specs.Tree.{node_at, row_count}
+use Rattle.path_find.proofs.SearchSteps.{searched_all, searched_near}
+use Rattle.plain_graph.specs.Graph.{has_node}
+use Rattle.rec_bytes.specs.Space.{State}
+use Rattle.expand.specs.Expanding.{IsStore, graph_in}
+use Rattle.path_find.specs.Reads.{neighbours_at}
+use Rattle.path_find.specs.Search.{IsNarrow}
+use Rattle.path_find.specs.Tree.{AreNeighbours, IsTree, Rows, Spans}
+use Rattle.path_find.proofs.SearchSteps.{first_on, narrow_on, tree_past}
+use Rattle.path_find.proofs.searching.search.Goals as goal
+use Rattle.path_find.proofs.searching.search.Goals.{in-Some+in_ok-spread, in_default}
+
+clash : true ≡ false → ⊥
+clash e = cc
+
+pub returns-then-reaches-clause-searched : goal.returns-then-reaches-clause-searched
+returns-then-reaches-clause-searched g c =
+    let inv = c.loop-row.invariant in
+    let test = c.loop-row-test.true in
+    let len = c.len.ensures.is in
+    searched_near c.loop-row.tree c.loop-row.row c.args.from c.args.to inv.tree inv.first inv.narrow (omega (arith, test, len)) c.if-reaches.ensures.yes
+
+pub returns-then-reaches-clause-spans : goal.returns-then-reaches-clause-spans
+returns-then-reaches-clause-spans g c = λ tells store there.
+    let inv = c.loop-row.invariant in
+    let test = c.loop-row-test.true in
+    let len = c.len.ensures.is in
+    record {
+      searched = searched_near c.loop-row.tree c.loop-row.row c.args.from c.args.to inv.tree inv.first inv.narrow (omega (arith, test, len)) c.if-reaches.ensures.yes;
+      spans = inv.spans tells store there;
+    }
+
+pub returns-clause-spans : goal.returns-clause-spans
+returns-clause-spans g c = λ tells store there.
+    let inv = c.loop-row.invariant in
+    let test = c.loop-row-test.false in
+    let len = c.len.ensures.is in
+    record {
+      searched = searched_all c.loop-row.tree c.loop-row.row c.args.from c.args.to inv.tree inv.first inv.narrow (omega (arith, test, len));
+      spans = inv.spans tells store there;
+    }
+
+pub returns-in_err-found-clause-sound : goal.returns-in_err-found-clause-sound
+returns-in_err-found-clause-sound g c = λ tells store.
+    let p = err_from_is_err_and c.from_residual-in_err-found.result c.from_residual-in_err-found.ensures.1 in
+    rw (p.1, p.2) (c.in_err-found.ensures.sound tells (store-read g.R.Reads g.met.R.Reads.onward_shape c.args.space.now c.loop-row.space c.loop-row.invariant.read store))
+
+pub returns-in_err-spread-clause-sound : goal.returns-in_err-spread-clause-sound
+returns-in_err-spread-clause-sound g c = λ tells store.
+    let p = err_from_is_err_and c.from_residual-in_err-spread.result c.from_residual-in_err-spread.ensures.1 in
+    rw (p.1, p.2) tt
+
+pub returns-in_err-found-clause-damaged : goal.returns-in_err-found-clause-damaged
+returns-in_err-found-clause-damaged g c = λ tells.
+    let p = err_from_is_err_and c.from_residual-in_err-found.result c.from_residual-in_err-found.ensures.1 in
+    rw (p.1, p.2) (broken-read g.R.Reads g.met.R.Reads.onward_shape c.args.space.now c.loop-row.space c.loop-row.invariant.read c.in_err-found.field-0.0 (c.in_err-found.ensures.damaged tells))
+
+pub loop-row-preserved : goal.loop-row-preserved
+loop-row-preserved g c =
+    let inv = c.loop-row.invariant in
+    let rows = c.loop-row.tree in
+    let row = c.loop-row.row in
+    let old = g.R.Reads.state c.args.space.now in
+    let mid = g.R.Reads.state c.loop-row.space in
+    let direction = c.args.direction in
+    let labels = c.args.labels.now in
+    let near = neighbours_at old direction labels in
+    let test = c.loop-row-test.true in
+    let len = c.len.ensures.is in
+    let low : row < row_count rows = omega (arith, test, len) in
+    let node = c.node-node.ensures in
+    let before = c.if-reaches.ensures.no in
+    let Next : Rows → Type 0 = λ tree. IsTree tree (row + 1) × (node_at tree 0 ≡ c.args.from) × IsNarrow tree c.args.to
+    × (g.R.Reads.tells → IsStore old → has_node (graph_in old) c.args.from ≡ true → Spans near tree (row + 1)) in
+    let store_mid = λ (store : IsStore old). store-read g.R.Reads g.met.R.Reads.onward_shape c.args.space.now c.loop-row.space inv.read store in
+    let same = same-read g.R.Reads g.met.R.Reads.onward_shape c.args.space.now c.loop-row.space inv.read in
+    let next : Next c.match-found.tree = elim c.match-found.branch [
+      | in-Some+in_ok-spread w ↦
+          let spread = w.in_ok-spread.ensures in
+          let new = w.spread.new.tree in
+          let ends = w.in-Some.ends in
+          let are : g.R.Reads.tells → IsStore old → AreNeighbours near (node_at rows row) w.deref.result.now = λ tells store.
+          let found = rw w.in-Some.is at c.in_ok-found.ensures.some tells (store_mid store) in
+          let at_old = subst (λ (t : State). AreNeighbours (neighbours_at t direction labels) c.node-node.result ends.items) same found in
+          subst (λ list. AreNeighbours near (node_at rows row) list) (sym w.deref.ensures.value) (subst (λ n. AreNeighbours near n ends.items) node at_old) in
+          subst Next (sym w.tree-is) (
+            spread.tree,
+            first_on rows new row c.args.to inv.tree spread.tree low spread.extends c.args.from inv.first,
+            narrow_on rows new row c.args.to inv.tree spread.tree low spread.extends before,
+            λ tells store there. spread.spans near (inv.spans tells store there) (are tells store),
+          )
+      | in_default w ↦
+          subst Next (sym w.tree-is) (
+            tree_past rows row inv.tree,
+            inv.first,
+            inv.narrow,
+            λ tells store there.
+                let gone = rw w.in_default.is at c.in_ok-found.ensures.none tells (store_mid store) in
+                let gone_old = subst (λ (t : State). has_node (graph_in t) c.node-node.result ≡ false) same gone in
+                let here = (inv.spans tells store there).nodes row low in
+                absurd (clash (sym here ∙ subst (λ n. has_node (graph_in old) n ≡ false) node gone_old)),
+          )
+    ] in
+    record {
+      tree = next.0;
+      first = next.1;
+      narrow = next.2;
+      read = is_read-on g.R.Reads g.met.R.Reads.further_onward c.args.space.now c.loop-row.space c.neighbours.new.space inv.read c.neighbours.ensures.read;
+      spans = next.3;
+    }

@@ -1,0 +1,88 @@
+ghost use Rattle.std.specs.Prelude.{◌≡◌, ℕ, List, IfErr, IfOk};
+ghost use Rattle.plain_graph.specs.Graph.{has_node};
+ghost use Rattle.rec_bytes.specs.Frame.{IsRead};
+ghost use Rattle.expand.specs.ExpandFault.{HasExpandCause, NotDamaged};
+ghost use Rattle.expand.specs.Expanding.{IsStore, graph_in};
+ghost use Rattle.plain_graph.specs.Adjacency.{Adjacency};
+ghost use Rattle.plain_graph.specs.Reached.{IsAnswer};
+ghost use Rattle.path_find.specs.Finding.{IsPathFault, TellsEnds};
+ghost use Rattle.plain_graph.specs.Levels.{IsCertified, IsShortestOrNone};
+ghost use Rattle.path_find.specs.Reading.{IsSomeTree};
+ghost use Rattle.path_find.specs.Reads.{StandFor, adjacency_of};
+ghost use Rattle.path_find.specs.Search.{HasSearched};
+
+use crate::node_test::is_node;
+use crate::reading::{levels_of, walk_to};
+use crate::searching::search;
+use crate::tree::Tree;
+use crate::{Answer, Levels, Walk};
+use expand::ExpandFault;
+use plain_graph::Direction;
+use rec_bytes::Reads;
+use std::alloc::{AllocError, Global};
+
+/// A shortest walk from a node to another, by edges of a direction and of the types with these
+/// numbers, or of all types where none is given. Of the shortest walks it is the one whose list of
+/// identifiers is least; it is empty where there is none. The levels hold the nodes that no more
+/// edges reach, or without a walk all that any number of edges reaches.
+///
+/// It costs a read for each of the two nodes, and what `expand` reads at each node that is nearer
+/// than the target, once.
+pub fn find_path<R: Reads>(
+    alloc: Global,
+    reads: &mut R,
+    from: u32,
+    to: u32,
+    direction: Direction,
+    labels: &[u32],
+) -> Result<Answer, ExpandFault>
+    ensures found { R.tells → IsStore (R.state reads.old) → (types : List (List ℕ))
+        → StandFor (R.state reads.old).records labels.now types → IfOk result (λ answer.
+        IsAnswer (adjacency_of (R.state reads.old) direction types) from to
+        answer.walk answer.levels) }
+    // so no walk has fewer edges, or there is none
+    ensures shortest { R.tells → IsStore (R.state reads.old) → (types : List (List ℕ))
+        → StandFor (R.state reads.old).records labels.now types → IfOk result (λ answer.
+        IsShortestOrNone (adjacency_of (R.state reads.old) direction types) from to answer.walk) }
+    // and the levels prove it
+    ensures certified { R.tells → IsStore (R.state reads.old) → (types : List (List ℕ))
+        → StandFor (R.state reads.old).records labels.now types → IfOk result (λ answer.
+        IsCertified (adjacency_of (R.state reads.old) direction types) from to
+        answer.walk answer.levels) }
+    ensures missing { R.tells → IsStore (R.state reads.old)
+        → TellsEnds result from to (has_node (graph_in (R.state reads.old)) from)
+        (has_node (graph_in (R.state reads.old)) to) }
+    ensures sound { R.tells → IsStore (R.state reads.old) → NotDamaged result }
+    ensures damaged { R.tells → IfErr result (IsPathFault (R.state reads.old) from to) }
+    ensures read { IsRead R.Reads reads.old reads.new }
+    ensures cause { HasExpandCause (R.faults reads.old) (R.faults reads.new) result }
+{
+    let from_there = is_node(reads, from)?;
+    if !from_there {
+        return Err(ExpandFault::NoNode { id: from });
+    }
+    let to_there = is_node(reads, to)?;
+    if !to_there {
+        return Err(ExpandFault::NoNode { id: to });
+    }
+    let tree = search(alloc, reads, from, to, direction, labels)?;
+    let answer = answer_of(alloc, &tree, to)?;
+    Ok(answer)
+}
+
+/// What a search of the target found.
+fn answer_of(alloc: Global, tree: &Tree, to: u32) -> Result<Answer, AllocError>
+    requires { IsSomeTree tree.now }
+    ensures { (near : Adjacency) (from : ℕ) → HasSearched near tree.now from to
+        → IfOk result (λ answer. IsAnswer near from to answer.walk answer.levels) }
+{
+    let walk = match tree.find(to) {
+        Some(row) => walk_to(alloc, tree, row)?,
+        None => Vec::new(alloc),
+    };
+    let levels = levels_of(alloc, tree)?;
+    Ok(Answer {
+        walk: Walk::new(walk),
+        levels: Levels::new(levels),
+    })
+}

@@ -1,0 +1,51 @@
+//! The neighbours of a node.
+
+ghost use Rattle.std.specs.Prelude.{◌≡◌, IfErr, IfNone, IfOk, IfSome, false, true};
+ghost use Rattle.std.specs.List.Sorted.{IsNonDecreasing};
+ghost use Rattle.plain_graph.specs.Graph.{has_node};
+ghost use Rattle.rec_bytes.specs.Fault.{HasFaultCause, NotDamaged};
+ghost use Rattle.rec_bytes.specs.Frame.{IsRead};
+ghost use Rattle.expand.specs.Expanding.{IsStore, graph_in};
+ghost use Rattle.path_find.specs.Damage.{BlamesBroken};
+ghost use Rattle.path_find.specs.Reads.{neighbours_at};
+ghost use Rattle.path_find.specs.Tree.{AreNeighbours};
+
+use crate::ends::ends_of;
+use expand::{ExpandFault, expand};
+use plain_graph::Direction;
+use rec_bytes::{Fault, Reads};
+use std::alloc::Global;
+
+/// The neighbours of a node by ascending identifier, one for each edge, and none where there is no
+/// such node.
+pub(crate) fn neighbours<R: Reads>(
+    alloc: Global,
+    space: &mut R,
+    node: u32,
+    direction: Direction,
+    labels: &[u32],
+) -> Result<Option<Vec<u32>>, Fault>
+    ensures some { R.tells → IsStore (R.state space.old) → IfOk result (λ found.
+        IfSome found (λ ends. AreNeighbours (neighbours_at (R.state space.old) direction labels.now)
+        node ends.items)) }
+    ensures none { R.tells → IsStore (R.state space.old) → IfOk result (λ found.
+        IfNone found (has_node (graph_in (R.state space.old)) node ≡ false)) }
+    ensures there { R.tells → IsStore (R.state space.old) → IfOk result (λ found. IfSome found
+        (λ ends. has_node (graph_in (R.state space.old)) node ≡ true)) }
+    ensures ascending { IfOk result (λ found. IfSome found (λ ends. IsNonDecreasing ends.items)) }
+    ensures sound { R.tells → IsStore (R.state space.old) → NotDamaged result }
+    ensures damaged { R.tells → IfErr result (BlamesBroken (R.state space.old)) }
+    ensures read { IsRead R.Reads space.old space.new }
+    ensures cause { HasFaultCause (R.faults space.old) (R.faults space.new) result }
+{
+    match expand(alloc, space, node, direction, labels) {
+        Ok(rows) => {
+            let ends = ends_of(alloc, &rows, node)?;
+            Ok(Some(ends))
+        }
+        Err(ExpandFault::NoNode { .. }) => Ok(None),
+        Err(ExpandFault::Memory) => Err(Fault::Memory),
+        Err(ExpandFault::Disk) => Err(Fault::Disk),
+        Err(ExpandFault::Damaged(damage)) => Err(Fault::Damaged(damage)),
+    }
+}
