@@ -443,7 +443,7 @@ def many_runs(folder):
     try:
         asked.begin()
         found = [it.properties for kind in "VE" for page in asked.every(kind, 6) for it in page]
-        reached = asked.reached("g.V(4)", 2, "both", ["created"])
+        reached = asked.reached(asked.vertices("g.V(4)"), 2, "both", ["created"])
     finally:
         query.MOST_INPUT = most
         asked.end()
@@ -594,7 +594,27 @@ def too_large(folder):
     draws(folder, ["--most", "5", "--from", "g.V()", "p.dot"], REFUSED, says)
 
 
+def path_in_picture(folder):
+    graph(folder)
+    assert draws(folder, ["--path", "1", "5", "--text", "name", "p.dot"]) == b"4 nodes and 3 edges in p.dot\n"
+    lines = (folder / "p.dot").read_text().splitlines()
+    thick = ", penwidth=3, color=black];"
+    assert all(it.endswith(thick) for it in lines[3:-1]) and len(lines) == 11, f"{lines}"
+    # Around it there are others, whose lines are thin.
+    around = ["--path", "0", "4", "--steps", "1", "--direction", "both", "p.dot"]
+    assert draws(folder, around) == b"5 nodes and 5 edges in p.dot\n"
+    lines = [it for it in (folder / "p.dot").read_text().splitlines() if it.endswith(thick)]
+    steps = [it.split(" [")[0].strip() for it in lines]
+    assert steps == ["0", "3", "4", "0 -> 3", "3 -> 4"], f"{steps}"
+    assert draws(folder, ["--path", "2", "2", "p.dot"]) == b"1 nodes and 0 edges in p.dot\n"
+    draws(folder, ["--path", "0", "4", "--types", "knows", "p.dot"], REFUSED, "no path leads from 0 to 4")
+    draws(folder, ["--path", "0", "9", "p.dot"], REFUSED, "path 0 9 both is answered: error no node 9")
+
+
 def wrong_words_of_draw(folder):
+    both = ["--path", "0", "1", "p.dot"]
+    refuses(DRAW, folder, ["--program", PROGRAM, "--from", "g.V()", *both], WRONG_WORDS, "--from and --path don't go together")
+    refuses(DRAW, folder, ["--program", PROGRAM, "--types", "a,b", *both], WRONG_WORDS, "goes with one of --types")
     refuses(DRAW, folder, ["--program", PROGRAM], WRONG_WORDS, "PICTURE")
     refuses(DRAW, folder, ["--program", PROGRAM, "p.jpg"], WRONG_WORDS, "p.jpg: a picture ends in .svg or .png, and its text in .dot or .gv")
     refuses(DRAW, folder, ["--program", PROGRAM, "p.dot", "--layout", "heap"], WRONG_WORDS, "--layout")
@@ -655,6 +675,14 @@ Who needs lib within three steps?
   > g.V().has('name','lib').repeat(__.in('depends')).times(3).dedup().values('name')
     in 3: 0 more
     none
+
+How does top come to need lib?
+  > g.V().has('name','top').id()
+  > g.V().has('name','lib').id()
+  > path 0 3 out depends
+    top
+      mid
+        lib
 
 Which packages does none depend on?
   > g.E().hasLabel('depends').inV().dedup().id()
@@ -725,6 +753,7 @@ CASES = {
     "draw: no graphviz, and one that fails": no_graphviz,
     "draw: the real graphviz": real_graphviz,
     "draw: a picture that is too large": too_large,
+    "draw: a path": path_in_picture,
     "draw: wrong words": wrong_words_of_draw,
     "questions to the packages": questions,
 }

@@ -190,6 +190,29 @@ class PlainGraph:
             f" names {len(self.names)}"
         )
 
+    # --- paths
+
+    def line_path(self, tokens):
+        """The least of the shortest paths: the first node that finds another leads to it, by ascending identifiers."""
+        source, target = int(tokens.take("number")), int(tokens.take("number"))
+        word, names = tokens.take("out", "in", "both"), [tokens.take("word")] if tokens.held else []
+        tokens.end()
+        first, last = self.find("node", source), self.find("node", target)
+        hop, found, layer = self.hop(word, names), {first: None}, [first]
+        while layer and last not in found:
+            layer, before = [], layer
+            for node in before:
+                for end in sorted(hop([node]), key=lambda it: it.id):
+                    if end not in found:
+                        found[end] = node
+                        layer.append(end)
+        if last not in found:
+            return "no path"
+        path = [last]
+        while found[path[-1]]:
+            path.append(found[path[-1]])
+        return "\n".join([f"path {len(path) - 1}", *(f"==>{item_text(it)}" for it in reversed(path)), "end"])
+
     # --- changes
 
     def make(self, kind, label, properties, ends=()):

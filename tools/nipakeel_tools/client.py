@@ -133,6 +133,21 @@ class Program:
         """Sends a query, and gives its results as they come, without their arrows. Raises `NotAnswered` where the reply
         doesn't end as it should. They are to be taken to the end before the next line."""
         self.send(line + b"\n")
+        return self.listed(line)
+
+    def path(self, first: int, last: int, *words: str) -> List[int]:
+        """The nodes of the path that `path` gives, of these words for a direction and a type. There are none where no
+        path leads there."""
+        line = " ".join(["path", str(first), str(last), *words]).encode()
+        begins = self.ask(line)
+        if begins == b"no path":
+            return []
+        if not begins.startswith(b"path "):
+            raise NotAnswered(line, begins) if begins.startswith(FAULTS) else self.refuses(begins)
+        return [int(it.removeprefix(b"v[").removesuffix(b"]")) for it in self.listed(line)]
+
+    def listed(self, line: bytes) -> Iterator[bytes]:
+        """The results of a line up to the end of its reply."""
         while True:
             lines = self.replies(max(self.held_lines, 1))
             last = None if lines[-1].startswith(ARROW) else lines.pop()

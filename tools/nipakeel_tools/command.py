@@ -75,8 +75,11 @@ def read_options(reader: argparse.ArgumentParser, words: Sequence[str]) -> Optio
 
 
 def fits_part(reader: argparse.ArgumentParser, options: Options) -> None:
-    if options.query is None and (options.steps or options.types):
+    begins = [options.query, getattr(options, "path", None)]
+    if begins == [None, None] and (options.steps or options.types):
         reader.error("--steps and --types go with --from")
+    if None not in begins:
+        reader.error("--from and --path don't go together")
     if options.steps < 0:
         reader.error("--steps takes a number from 0 on")
     if options.query is not None and not is_query(options.query):
@@ -132,7 +135,12 @@ def part_of(asked: Asking, options: Options) -> Tuple[Pages, Pages, Tuple[int, i
     if options.query is None:
         nodes, edges = asked.counts
         return asked.every("V", nodes), asked.every("E", edges), (nodes, edges)
-    vertices = asked.reached(options.query, options.steps, options.direction, options.types)
+    return around(asked, options, asked.vertices(options.query))
+
+
+def around(asked: Asking, options: Options, first: Iterable[int]) -> Tuple[Pages, Pages, Tuple[int, int]]:
+    """The part of these vertices and of those that they reach."""
+    vertices = asked.reached(first, options.steps, options.direction, options.types)
     between = asked.between(vertices, options.types)
     return asked.some("V", vertices), asked.some("E", between), (vertices.count, between.count)
 

@@ -13,6 +13,8 @@ COLOURS = (
     "#a6cee3", "#fdbf6f", "#b2df8a", "#fb9a99", "#cab2d6", "#ffff99",
     "#8dd3c7", "#e5c494", "#d9d9d9", "#f4cae4", "#9ecae1", "#c7e9c0",
 )
+# How the lines of a path are drawn.
+THICK = ", penwidth=3, color=black"
 # Texts are cut after so many characters.
 MOST_TEXT = 60
 NOT_SHOWN = re.compile("[\0-\x08\x0b-\x1f\x7f\ud800-\udfff\ufffe\uffff]")
@@ -40,12 +42,12 @@ def end(file: TextIO) -> None:
     file.write("}\n")
 
 
-def node(file: TextIO, id: int, lines: Sequence[Value], colour: str) -> None:
-    file.write(f'  {id} [label="{text(lines)}", fillcolor="{colour}"];\n')
+def node(file: TextIO, id: int, lines: Sequence[Value], colour: str, is_thick: bool = False) -> None:
+    file.write(f'  {id} [label="{text(lines)}", fillcolor="{colour}"{THICK if is_thick else ""}];\n')
 
 
-def edge(file: TextIO, source: int, target: int, lines: Sequence[Value]) -> None:
-    file.write(f'  {source} -> {target} [label="{text(lines)}"];\n')
+def edge(file: TextIO, source: int, target: int, lines: Sequence[Value], is_thick: bool = False) -> None:
+    file.write(f'  {source} -> {target} [label="{text(lines)}"{THICK if is_thick else ""}];\n')
 
 
 def text(lines: Sequence[Value]) -> str:

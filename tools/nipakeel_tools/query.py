@@ -214,15 +214,22 @@ class Asking:
 
     # --- parts of a graph
 
-    def reached(self, query: str, steps: int, direction: str, types: Sequence[str]) -> Ids:
-        """The identifiers of the vertices that a query gives, and of those that edges of these types lead to from them
-        in at most so many steps."""
+    def reached(self, first: Iterable[int], steps: int, direction: str, types: Sequence[str]) -> Ids:
+        """The identifiers of these vertices, and of those that edges of these types lead to from them in at most so
+        many steps."""
         found = Ids()
-        layer = array.array("I", filter(found.add, self.vertices(query)))
+        layer = array.array("I", filter(found.add, first))
         hop = f".{direction}({quoted(types)}).dedup()"
         for _ in range(steps):
             ends = (id for page in pages(layer, len(hop)) for id in self.vertices(source("V", page) + hop))
             layer = array.array("I", filter(found.add, ends))
+        return found
+
+    def path(self, first: int, last: int, types: Sequence[str]) -> List[int]:
+        """The vertices of a shortest path along edges of any direction, of this type where there is one."""
+        found = self.program.path(first, last, "both", *types)
+        if not found:
+            raise Unfit(f"no path leads from {first} to {last}")
         return found
 
     def vertices(self, query: str) -> Iterator[int]:
