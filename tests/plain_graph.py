@@ -19,6 +19,8 @@ SHOWN = str.maketrans({"'": "\\'", "\\": "\\\\", "\n": "\\n", "\r": "\\r", "\t":
 SHORT_TEXT, BLOCK = 40, 48
 RELATIONS = {"gt": operator.gt, "gte": operator.ge, "lt": operator.lt, "lte": operator.le}
 KINDS = {"node": 0, "edge": 1}
+# The directions of edges, each with the one that leads back.
+BACK = {"out": "in", "in": "out", "both": "both"}
 
 
 class Syntax(Exception):
@@ -64,6 +66,20 @@ def item_text(item):
     if not isinstance(item, Element):
         return value_text(item)
     return f"e[{item.id}][{item.ends[0]}-{item.label}->{item.ends[1]}]" if item.ends else f"v[{item.id}]"
+
+
+def listed(results):
+    """The reply with these results."""
+    return "\n".join([*(f"==>{it}" for it in results), "end"])
+
+
+def levels_from(node, hop):
+    """By identifier of each node that is reached: the least number of hops to it."""
+    levels, now, level = {}, [node], 0
+    while now:
+        levels |= {it.id: level for it in now}
+        now, level = list({it.id: it for it in hop(now) if it.id not in levels}.values()), level + 1
+    return levels
 
 
 class Tokens:
@@ -142,7 +158,7 @@ class PlainGraph:
         try:
             word = tokens.take("word")
             if word == "g":
-                return "\n".join([*(f"==>{item_text(it)}" for it in self.query(tokens)), "end"])
+                return listed(map(item_text, self.query(tokens)))
             if not hasattr(self, f"line_{word}"):
                 raise Syntax
             return getattr(self, f"line_{word}")(tokens) or "ok"
@@ -258,6 +274,47 @@ class PlainGraph:
         del self.elements[KINDS[kind]][it.id]
         self.leaving = None
         self.free[KINDS[kind]].append(it.id)
+
+    # --- edges at a node, and walks
+
+    def line_expand(self, tokens):
+        id = int(tokens.take("number"))
+        hop = self.hop(tokens.take(*BACK) + "E", [tokens.take("word")])
+        tokens.end()
+        return listed(item_text(it) for it in hop([self.find("node", id)]))
+
+    def line_degree(self, tokens):
+        id = int(tokens.take("number"))
+        hop, _ = self.hops(tokens)
+        return f"degree {len(hop([self.find('node', id)]))}"
+
+    def line_path(self, tokens):
+        """From each node of the walk to the least one that is nearer to its end."""
+        first, last = int(tokens.take("number")), int(tokens.take("number"))
+        hop, back = self.hops(tokens)
+        walk, last = [self.find("node", first)], self.find("node", last)
+        left = levels_from(last, back)
+        if first not in left:
+            return "no path"
+        while walk[-1] != last:
+            nearer = [it for it in hop(walk[-1:]) if left.get(it.id, len(left)) < left[walk[-1].id]]
+            walk.append(min(nearer, key=lambda it: it.id))
+        return f"path {len(walk) - 1}\n" + listed(map(item_text, walk))
+
+    def line_levels(self, tokens):
+        first, last = int(tokens.take("number")), int(tokens.take("number"))
+        hop, _ = self.hops(tokens)
+        first, last = self.find("node", first), self.find("node", last)
+        levels = levels_from(first, hop)
+        most = levels.get(last.id, len(levels))
+        return listed(f"v[{id}] {level}" for id, level in sorted(levels.items()) if level <= most)
+
+    def hops(self, tokens):
+        """The step along edges of the direction and the type that come next in the line, and the step back."""
+        direction = tokens.take(*BACK)
+        names = [tokens.take("word")] if tokens.held else []
+        tokens.end()
+        return self.hop(direction, names), self.hop(BACK[direction], names)
 
     # --- queries
 

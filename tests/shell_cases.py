@@ -38,6 +38,8 @@ def lines_of_words(folder):
     assert says(folder, "node a", "g.V()") == "node 0\n==>v[0]\nend\n"
     assert says(folder, "node", "stats", status=REFUSED) == "error syntax 4\nnodes 1 edges 0 properties 0 blocks 0 names 1\n"
     assert says(folder, "", "node a", ".quit", "node a") == "node 1\n"
+    walk = "path 0\n==>v[1]\nend\n"
+    assert says(folder, "path 1 1 out", "path 0 1 both", "degree 0 in", "levels 1 0 in") == walk + "no path\ndegree 0\n==>v[1] 0\nend\n"
     assert "makes a node" in says(folder, "help node") and ".dump FILE" in says(folder, ".help")
     faults = {
         ".walk": "there is no .walk",
@@ -72,6 +74,8 @@ def modes(folder):
     assert found == [{"name": "marko", "age": 29}, {"name": "vadas"}, {"name": "lop", "lang": "java"}], f"{found}"
     edges = "edge  from  type   to\n----  ----  -----  --\n   0     0  knows   1\n"
     assert says(folder, ".mode table", "g.E().limit(1)", "expand 0 out knows") == edges * 2
+    found = "node\n----\n   0\n   2\n" + "node  level\n----  -----\n   0      0\n   1      1\n   2      1\n"
+    assert says(folder, ".mode table", "path 0 2 out", "levels 0 2 out", "path 2 0 out") == found + "no path\n"
     assert says(folder, ".mode table", "g.E().values('since','none')") == "since  none\n-----  ----\n 2009\n"
     assert says(folder, ".mode csv", "g.V().has('age').values('age')", "g.V(9)", "g.V().count()") == "value\n29\nvalue\n3\n"
     assert says(folder, ".mode json", "g.V(2).values()") == '{"value": true}\n{"value": "java"}\n{"value": "lop"}\n'
@@ -160,6 +164,9 @@ COMPLETED = (
     ("delete ", "", ["node", "edge", "knows", "name"]),
     ("node ", "kn", ["knows"]),
     ("expand 0 ", "o", ["out"]),
+    ("path 0 1 ", "", ["out", "in", "both", "knows", "name"]),
+    ("", "pa", ["path"]),
+    ("degree ", "i", ["in"]),
 )
 
 

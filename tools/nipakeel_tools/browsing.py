@@ -18,7 +18,7 @@ from typing import Any, Dict, List, Optional, Sequence
 
 from nipakeel_tools.client import Ended, NotAnswered
 from nipakeel_tools.limits import MOST_LINE
-from nipakeel_tools.lines import State, place_of
+from nipakeel_tools.lines import LISTS, State, place_of
 from nipakeel_tools.names import keys_of_store, names_in
 from nipakeel_tools.query import Asking, Element, Unfit, pages
 from nipakeel_tools.showing import header_of, keyed, keyed_rows, rows_of
@@ -29,7 +29,7 @@ PAGE = pathlib.Path(__file__).parent / "page"
 # Results in a table, and nodes in a picture, that are sent at once. The rest is counted.
 MOST_ROWS, MOST_NODES = 1_000, 300
 MOST_ASKED = 65_536
-QUESTIONS = ("g", "expand", "stats", "check")
+QUESTIONS = ("g", *LISTS, "degree", "stats", "check")
 HEADERS = {
     "Content-Security-Policy": "default-src 'none'; script-src 'self'; style-src 'self'; connect-src 'self'",
     "X-Content-Type-Options": "nosniff",
@@ -78,7 +78,7 @@ class Browsing:
             raise Wrong("the page was begun without --write, and takes no line that may change something")
         begun = time.monotonic()
         try:
-            found = self.results(line) if word.startswith("g") or word == "expand" else self.reply(given)
+            found = self.results(line) if word.startswith("g") or word in LISTS else self.reply(given)
         except NotAnswered as error:
             found = {"reply": error.reply.decode(errors="replace"), "place": place_of(error.reply)}
         return {**found, "seconds": time.monotonic() - begun}

@@ -12,8 +12,10 @@ from typing import Iterator, List, Sequence, Tuple
 NIPAKEEL = pathlib.Path(__file__).resolve().parent.parent.parent / "nipakeel"
 CHUNK = 65_536
 ARROW = b"==>"
-# How a reply to a query begins that has a fault in it.
-FAULTS = (b"error ", b"fault disk", b"damaged ")
+# How a line of a reply begins that others follow: a result, and the first line of a walk.
+GOES_ON = (ARROW, b"path ")
+# How a reply ends, in the place of `end`, that has a fault in it, or that finds no walk.
+FAULTS = (b"error ", b"fault disk", b"damaged ", b"no path")
 # How each status of the program reads to a person. Negative ones are signals.
 STATUSES = {
     0: "it read its input to the end",
@@ -130,8 +132,8 @@ class Program:
         return self.replies(1)[0]
 
     def results(self, line: bytes) -> Iterator[bytes]:
-        """Sends a query, and gives its results as they come, without their arrows. Raises `NotAnswered` where the reply
-        doesn't end as it should. They are to be taken to the end before the next line."""
+        """Sends a query, or another line with results, and gives these as they come, without their arrows. Raises
+        `NotAnswered` where the reply doesn't end as it should. They are to be taken to the end before the next line."""
         self.send(line + b"\n")
         return self.listed(line)
 
@@ -150,9 +152,10 @@ class Program:
         """The results of a line up to the end of its reply."""
         while True:
             lines = self.replies(max(self.held_lines, 1))
-            last = None if lines[-1].startswith(ARROW) else lines.pop()
+            last = None if lines[-1].startswith(GOES_ON) else lines.pop()
             for it in lines:
-                yield it[len(ARROW) :]
+                if it.startswith(ARROW):
+                    yield it[len(ARROW) :]
             if last == b"end":
                 return
             if last is not None:

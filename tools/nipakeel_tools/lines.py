@@ -21,6 +21,9 @@ HELP = [
     ("commit", "stores all changes of the transaction"),
     ("rollback", "drops them"),
     ("expand ID out TYPE", "lists the edges of a type out of a node; in, those into it; both"),
+    ("degree ID out TYPE", "counts them; degree ID out counts those of all types"),
+    ("path A B out TYPE", "a shortest walk from A to B along them; path A B out along all types"),
+    ("levels A B out TYPE", "how many edges each node is away from A, of those not farther than B"),
     ("g.V()", "a query: all nodes; g.V(3,1) has those of these identifiers"),
     ("g.E()", "all edges; steps may follow, and docs/QUERIES.md has them all"),
     (".out('TYPE')", "to where edges lead; .in goes back; .both; of any type: .out()"),
@@ -59,8 +62,11 @@ VALUES = "A value is a number, true, false, or a text between two ' or two \". d
 # Steps and words, for completion.
 STEP = re.compile(r"\.([A-Za-z]+)\(")
 STEPS = sorted({*STEP.findall(" ".join(line for line, _ in HELP)), "in", "both", "inE", "bothE", "inV"} - {"V", "E"})
+# Lines that are answered with results, as a query is, and those with a direction after their identifiers.
+LISTS = ("expand", "path", "levels")
+DIRECTED = (*LISTS, "degree")
 WORDS_AFTER = {
-    "set": ["node", "edge"], "unset": ["node", "edge"], "delete": ["node", "edge"], "expand": ["out", "in", "both"],
+    **dict.fromkeys(("set", "unset", "delete"), ["node", "edge"]), **dict.fromkeys(DIRECTED, ["out", "in", "both"]),
 }
 
 
@@ -143,5 +149,5 @@ def completions(before: str, begun: str, names: Sequence[str]) -> List[str]:
     elif first.startswith("g"):
         found = [it + "(" for it in STEPS] if before.rstrip().endswith((".", "(")) else []
     else:
-        found = [*(WORDS_AFTER.get(words[0], []) if len(words) == 1 or words[0] == "expand" else []), *names]
+        found = [*(WORDS_AFTER.get(words[0], []) if len(words) == 1 or words[0] in DIRECTED else []), *names]
     return [it for it in found if it.startswith(begun)]

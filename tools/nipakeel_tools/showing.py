@@ -21,6 +21,8 @@ MODES = ("lines", "table", "csv", "json")
 WIDEST = 60
 # How a query ends whose results are values of keys that it names.
 KEYED = re.compile(r"(?P<elements>[ \t]*g.*?)\.[ \t]*values[ \t]*\([ \t]*(?P<keys>'\w+'(?:[ \t]*,[ \t]*'\w+')*)[ \t]*\)[ \t]*", re.S)
+# A result of `levels`.
+LEVEL = re.compile(rb"v\[([0-9]+)\] ([0-9]+)")
 # A row of a table: values by the names of their columns.
 Shown = Dict[str, Value]
 
@@ -69,11 +71,13 @@ class Output:
 
 
 def rows_of(results: Iterable[bytes]) -> Iterator[Shown]:
-    """The results of any query: vertices, edges or values."""
+    """The results of any line: vertices, with their levels where it gives these, edges or values."""
     for it in results:
-        vertex, edge = VERTEX.fullmatch(it), EDGE.fullmatch(it)
+        vertex, edge, level = VERTEX.fullmatch(it), EDGE.fullmatch(it), LEVEL.fullmatch(it)
         if vertex:
             yield {"node": int(vertex[1])}
+        elif level:
+            yield {"node": int(level[1]), "level": int(level[2])}
         elif edge:
             yield {"edge": int(edge[1]), "from": int(edge[2]), "type": edge[3].decode(), "to": int(edge[4])}
         else:
