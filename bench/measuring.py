@@ -31,11 +31,11 @@ def begins(main, doc):
 
 
 @contextlib.contextmanager
-def scratch(folder=None):
-    """A folder for temporary files, in this one where one is given."""
+def scratch(folder=None, builds=True):
+    """A folder for temporary files, in this one where one is given. The program is built where that is left to do."""
     with tempfile.TemporaryDirectory(prefix="nipakeel-bench-", dir=folder) as here:
-        # A first call builds the program where that is left to do.
-        subprocess.run([NIPAKEEL], cwd=here, stdin=subprocess.DEVNULL, stdout=subprocess.DEVNULL)
+        if builds:
+            subprocess.run([NIPAKEEL], cwd=here, stdin=subprocess.DEVNULL, stdout=subprocess.DEVNULL)
         yield pathlib.Path(here)
 
 
