@@ -5,7 +5,9 @@ ghost use Rattle.std.specs.Prelude.{
   ◌<◌,
   [],
   Some,
+  is_some,
   length,
+  slice_index_or,
   IfOk,
   IfErr,
   OnOk,
@@ -17,7 +19,7 @@ ghost use Rattle.std.specs.Borrow.{sem};
 ghost use Rattle.std.specs.List.{slice_get, AllByRecursion};
 ghost use Rattle.std.specs.List.Sorted.{IsSearchInRange};
 ghost use Rattle.rec_bytes.specs.Key.{IsKey};
-ghost use Rattle.rec_bytes.specs.PairOrder.{SetsAlike};
+ghost use Rattle.rec_bytes.specs.PairOrder.{SetsAlike, no_pair};
 ghost use Rattle.rec_bytes.specs.Pairs.{
   find_pair,
   growth,
@@ -122,6 +124,22 @@ impl WriteSet {
         match self.search(key) {
             Ok(i) => Some(self.at(i).1),
             Err(_) => None,
+        }
+    }
+
+    /// Reads the record at a key into the caller's, which stays where there is none, and says
+    /// whether there is one.
+    pub fn find_into(&self, key: Key, rec: &mut Rec) -> bool
+        ensures found { result ≡ is_some (find_pair self.now.pairs key) }
+        ensures rec { rec.new ≡ held_at self.now.pairs key rec.old }
+    {
+        match self.search(key) {
+            Ok(i) => {
+                let place = self.order[i] as usize;
+                copy_record(&self.pairs, place, rec);
+                true
+            }
+            Err(_) => false,
         }
     }
 
@@ -307,4 +325,12 @@ fn pair_at(pairs: &[(Key, Rec)], place: usize) -> (Key, Rec)
     ensures { slice_get pairs.now place ≡ Some result }
 {
     pairs[place]
+}
+
+// Copies the record at a place, and no key with it.
+fn copy_record(pairs: &[(Key, Rec)], place: usize, rec: &mut Rec)
+    requires { place < length pairs.now }
+    ensures { rec.new ≡ (slice_index_or pairs.now place no_pair).1 }
+{
+    *rec = pairs[place].1;
 }
