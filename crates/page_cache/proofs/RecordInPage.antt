@@ -1,5 +1,5 @@
 -- A record stands in its page.
-use Rattle.std.proofs.Common.{◌≡◌, sym, subst, ℕ, ◌+◌, ◌*◌, ◌/◌, ◌%◌, ◌≤◌, true, List, length, take, drop, length-drop, length-take-le, arith}
+use Rattle.std.proofs.Common.{◌≡◌, subst, ℕ, ◌+◌, ◌*◌, ◌/◌, ◌%◌, ◌≤◌, true, List, length, take, drop, length-drop, length-take-le, arith}
 use Rattle.disk_model.specs.Contents.{Files, Holds}
 use Rattle.rec_bytes.specs.declared.key.Key.{Key}
 use Rattle.rec_bytes.specs.RecordFiles.{is_record_file}

@@ -85,14 +85,12 @@ impl Page {
         disk.read(page.file, at, &mut *self.bytes)
     }
 
-    // The record of a number, of this page.
-    pub(crate) fn record(&self, id: u32) -> Rec
-        ensures { result ≡ record_in self.now id }
+    // Reads the record of a number, of this page, into the caller's.
+    pub(crate) fn read_record(&self, id: u32, rec: &mut Rec)
+        ensures { rec.new ≡ record_in self.now id }
     {
         let at = (id % PAGE_RECORDS) as usize * RECORD_BYTES;
-        let mut rec = Rec::ZEROS;
         rec.bytes
             .copy_from_slice(&self.bytes[at..at + RECORD_BYTES]);
-        rec
     }
 }

@@ -1,5 +1,5 @@
-ghost use Rattle.std.specs.Prelude.{◌≡◌, ◌*◌, [], ℕ, List, Contains, IfOk, IfSome, IsOk, IsSome};
-ghost use Rattle.std.specs.Prelude.{is_some, max};
+ghost use Rattle.std.specs.Prelude.{◌≡◌, ◌*◌, [], ℕ, List, Contains, IfOk, IsOk, IsSome, IsTrue};
+ghost use Rattle.std.specs.Prelude.{OnErr, OnOk, false, is_some, max};
 ghost use Rattle.fault_count.specs.Cause.{HasCause};
 ghost use Rattle.disk_model.specs.Contents.{Files};
 ghost use Rattle.disk_model.specs.Spans.{OnlyReads};
@@ -65,12 +65,40 @@ impl PageCache {
         ensures only_reads { OnlyReads D.Disk disk.old disk.new }
         ensures cause { HasCause (D.faults disk.old) (D.faults disk.new) result }
     {
-        if let Some(rec) = self.find(key) {
-            return Ok(rec);
+        let mut rec = Rec::ZEROS;
+        self.get_into(disk, key, &mut rec)?;
+        Ok(rec)
+    }
+
+    /// Reads the record at a key into the caller's, as `get` reads it. An error leaves the caller's
+    /// as it was.
+    pub fn get_into<D: Disk>(
+        &mut self,
+        disk: &mut D,
+        key: Key,
+        rec: &mut Rec,
+    ) -> Result<(), DiskFault>
+        requires { IsKey key }
+        ensures record { D.tells_reads → Agrees (D.reads disk.old) self.old
+            → OnOk result (rec.new ≡ record_at (D.reads disk.old) key) }
+        ensures err { OnErr result (rec.new ≡ rec.old) }
+        ensures agrees { D.tells_reads → Agrees (D.reads disk.old) self.old
+            → Agrees (D.reads disk.new) self.new }
+        ensures hit { IsSome (kept_page key self.old) → IsOk result × (disk.new ≡ disk.old) }
+        ensures used { IsSome (kept_page key self.old) → self.new ≡ used_last key self.old }
+        ensures pages { KeepsPage key (used_last key self.old) self.new }
+        ensures only_reads { OnlyReads D.Disk disk.old disk.new }
+        ensures cause { HasCause (D.faults disk.old) (D.faults disk.new) result }
+    {
+        if self.find_into(key, rec) {
+            return Ok(());
         }
         match self.spare_page() {
-            Ok(page) => self.load(disk, key, page),
-            Err(_) => read_record(disk, key),
+            Ok(page) => self.load(disk, key, page, rec),
+            Err(_) => {
+                *rec = read_record(disk, key)?;
+                Ok(())
+            }
         }
     }
 
@@ -126,32 +154,45 @@ impl PageCache {
         self.pages.clear();
     }
 
-    // The record at a key, if its page is kept.
-    fn find(&mut self, key: Key) -> Option<Rec>
+    // Reads the record at a key into the caller's, if its page is kept, and says whether it is.
+    fn find_into(&mut self, key: Key, rec: &mut Rec) -> bool
         requires { IsKey key }
-        ensures kept { is_some result ≡ is_some (kept_page key self.old) }
+        ensures kept { result ≡ is_some (kept_page key self.old) }
         ensures record { (content : Files) → Agrees content self.old
-            → IfSome result (λ rec. rec ≡ record_at content key) }
+            → IsTrue result → rec.new ≡ record_at content key }
+        ensures absent { result ≡ false → rec.new ≡ rec.old }
         ensures agrees { (content : Files) → Agrees content self.old → Agrees content self.new }
         ensures used { self.new ≡ used_last key self.old }
     {
         let wanted = PageKey::of(key);
         if let Some((last, page)) = self.pages.peek_mru() {
             if *last == wanted {
-                return Some(page.record(key.id)); // It is the first of the list already.
+                page.read_record(key.id, rec);
+                return true; // It is the first of the list already.
             }
         }
         match self.pages.get(&wanted) {
-            Some(page) => Some(page.record(key.id)),
-            None => None,
+            Some(page) => {
+                page.read_record(key.id, rec);
+                true
+            }
+            None => false,
         }
     }
 
-    // Reads the page of a record, and keeps it if there is memory for that.
-    fn load<D: Disk>(&mut self, disk: &mut D, key: Key, mut page: Page) -> Result<Rec, DiskFault>
+    // Reads the page of a record, keeps it if there is memory for that, and reads the record into
+    // the caller's.
+    fn load<D: Disk>(
+        &mut self,
+        disk: &mut D,
+        key: Key,
+        mut page: Page,
+        rec: &mut Rec,
+    ) -> Result<(), DiskFault>
         requires { IsKey key }
         ensures record { D.tells_reads
-            → IfOk result (λ rec. rec ≡ record_at (D.reads disk.old) key) }
+            → OnOk result (rec.new ≡ record_at (D.reads disk.old) key) }
+        ensures err { OnErr result (rec.new ≡ rec.old) }
         ensures agrees { D.tells_reads → Agrees (D.reads disk.old) self.old
             → Agrees (D.reads disk.new) self.new }
         ensures pages { KeepsPage key self.old self.new }
@@ -159,11 +200,11 @@ impl PageCache {
         ensures cause { HasCause (D.faults disk.old) (D.faults disk.new) result }
     {
         page.read(disk, key)?;
-        let rec = page.record(key.id);
+        page.read_record(key.id, rec);
         match self.pages.push(PageKey::of(key), page) {
             Ok(gone) => self.keep_memory(gone),
             Err(refused) => drop(refused),
         }
-        Ok(rec)
+        Ok(())
     }
 }

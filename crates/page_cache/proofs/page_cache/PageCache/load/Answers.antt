@@ -6,7 +6,7 @@ use Rattle.page_cache.proofs.RecordInPage.{record_in-is}
 use Rattle.page_cache.proofs.page_cache.PageCache.load.Goals as goal
 
 pub returns-in-Ok-clause-record : goal.returns-in-Ok-clause-record
-returns-in-Ok-clause-record g c reads = c.record-rec.ensures ∙ record_in-is (g.D.Disk.reads c.args.disk.now) c.args.key c.read.new.self c.requires.file (c.in_ok-read.ensures.bytes reads)
+returns-in-Ok-clause-record g c reads = c.read_record.ensures ∙ record_in-is (g.D.Disk.reads c.args.disk.now) c.args.key c.read.new.self c.requires.file (c.in_ok-read.ensures.bytes reads)
 
 pub returns-in-Ok-clause-agrees : goal.returns-in-Ok-clause-agrees
 returns-in-Ok-clause-agrees g c reads agrees =
@@ -18,4 +18,4 @@ returns-in-Ok-clause-agrees g c reads agrees =
     (subst (Agrees old) (sym (c.keep_memory.ensures ∙ c.in-Ok.ensures.entries)) (agrees_put old c.self.inside.pages c.of.result c.read.new.self before is))
 
 pub returns-in-Err-clause-record : goal.returns-in-Err-clause-record
-returns-in-Err-clause-record g c reads = c.record-rec.ensures ∙ record_in-is (g.D.Disk.reads c.args.disk.now) c.args.key c.read.new.self c.requires.file (c.in_ok-read.ensures.bytes reads)
+returns-in-Err-clause-record g c reads = c.read_record.ensures ∙ record_in-is (g.D.Disk.reads c.args.disk.now) c.args.key c.read.new.self c.requires.file (c.in_ok-read.ensures.bytes reads)
