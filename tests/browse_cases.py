@@ -98,6 +98,12 @@ def what_is_answered(folder):
         assert found["graph"]["nodes"][0] == {"node": 0, "label": "person", "properties": {"age": 29, "name": "marko"}}
         found = asks(address, "ask", line="g.V().values('name','age')")[1]
         assert found["columns"] == ["name", "age"] and found["rows"][2] == {"name": MARKUP}, f"{found}"
+        found = asks(address, "ask", line="path 0 2 out")[1]
+        assert found["rows"] == [{"node": 0}, {"node": 2}] and len(found["graph"]["nodes"]) == 2, f"{found}"
+        found = asks(address, "ask", line="levels 1 2 out")[1]
+        assert found["rows"] == [{"node": 1, "level": 0}, {"node": 2, "level": 1}], f"{found}"
+        assert asks(address, "ask", line="path 2 0 out")[1]["reply"] == "no path"
+        assert asks(address, "ask", line="degree 0 both")[1]["reply"] == "degree 2"
         assert asks(address, "ask", line="g.V(")[1]["place"] == 4
         assert asks(address, "ask", line="stats")[1]["reply"].startswith("nodes 3 edges 3")
         assert asks(address, "around", id=2)[1]["count"] == 2
