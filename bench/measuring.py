@@ -15,6 +15,7 @@ from nipakeel_tools.client import GOES_ON, NIPAKEEL, Ended, Program
 from nipakeel_tools.journal import groups
 from nipakeel_tools.rows import Builder, column
 
+PIECE = 2**18
 EDGES_A_NODE, AGES = 5, 100
 LABELS, TYPES = ("person", "city", "project"), ("knows", "likes", "made")
 
@@ -53,10 +54,13 @@ class Run(Program):
     """A run of the program, which is sent many lines at once."""
 
     def answers(self, lines, count):
-        """The replies to lines that have so many."""
-        self.send(lines)
-        pieces = []
+        """The replies to these lines, of which there are so many."""
+        pieces, sent = [], 0
         while count > 0:
+            # What waits to be written is copied at each write, so that it is kept short.
+            if not self.to_write:
+                self.send(lines[sent : sent + PIECE])
+                sent += PIECE
             self.read()
             whole = self.held.rfind(b"\n") + 1
             pieces.append(self.held[:whole])
