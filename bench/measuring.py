@@ -57,10 +57,11 @@ class Run(Program):
         """The replies to these lines, of which there are so many."""
         pieces, sent = [], 0
         while count > 0:
-            # What waits to be written is copied at each write, so that it is kept short.
+            # What waits to be written is copied at each write, so that it is kept short. It has whole lines, so a reply comes.
             if not self.to_write:
-                self.send(lines[sent : sent + PIECE])
-                sent += PIECE
+                end = lines.rfind(b"\n", sent, sent + PIECE) + 1
+                self.send(lines[sent:end])
+                sent = max(sent, end)
             self.read()
             whole = self.held.rfind(b"\n") + 1
             pieces.append(self.held[:whole])
