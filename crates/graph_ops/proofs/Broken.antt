@@ -1,5 +1,7 @@
 -- A record that is called damaged breaks the rule.
-use Rattle.std.proofs.Common.{◌≡◌, ◌⊎◌, ℕ, None, Some, sym, subst, inl, inr, arith, refl}
+use Rattle.std.specs.Cmp.Lexicographic.{pointwise}
+use Rattle.std.specs.List.{list_any}
+use Rattle.std.proofs.Common.{◌≡◌, ◌⊎◌, ℕ, nat_eq, Bool, true, false, cond, Some, List, length, sym, subst, ⊎_elim, inl, inr, arith, refl}
 use Rattle.plain_graph.specs.declared.command.Target.{Target}
 use Rattle.plain_graph.specs.declared.command.Target.TheVariants as targets
 use Rattle.rec_bytes.specs.declared.damage.Damage.{Damage}
@@ -19,10 +21,18 @@ use Rattle.rel_store.specs.Loading as rels
 use Rattle.rel_store.specs.declared.rel_row.RelRow.{RelRow}
 use Rattle.rel_store.proofs.Rows as rel_rows
 use Rattle.prop_store.specs.Fault as props
+use Rattle.prop_store.specs.Setting.{BlamesSet, BreaksMidway}
+use Rattle.prop_store.specs.declared.set_fault.SetFault.{SetFault}
+use Rattle.prop_store.specs.declared.set_fault.SetFault.TheVariants as sets
+use Rattle.name_store.specs.Interning.{interned, named}
+use Rattle.name_store.specs.declared.intern_fault.InternFault.{InternFault}
+use Rattle.name_store.specs.declared.intern_fault.InternFault.TheVariants as interns
 use Rattle.prop_store.specs.Owner.{IsInUse}
-use Rattle.graph_ops.specs.ChangeFault.{of_fault, of_row}
-use Rattle.graph_ops.specs.Damage.{BlamesBroken}
-use Rattle.graph_ops.specs.NodeDeleting.{HasDegree, IsDeleteCause}
+use Rattle.graph_ops.specs.ChangeFault.{of_fault, of_intern, of_row, of_set}
+use Rattle.graph_ops.specs.declared.change_fault.ChangeFault.{ChangeFault}
+use Rattle.graph_ops.specs.declared.change_fault.ChangeFault.TheVariants.{NoNode, NoEdge, HasRelationships, Full, NamesFull, PropsFull, Memory, Disk, Damaged}
+use Rattle.graph_ops.specs.Damage.{BlamesBroken, BlamesGiven, IfBlames}
+use Rattle.graph_ops.specs.NodeDeleting.{IsDeleteCause}
 use Rattle.graph_ops.specs.Owners.{MayMiss, owner_of}
 use Rattle.graph_ops.proofs.Elements.{used_of}
 
@@ -77,3 +87,70 @@ drop_cause s m id node same found lone (faults.Damaged damage) told = by (subst 
     by : Breaks s.records s.shape damage ⊎ props.SharesBlock s.records damage → IsDeleteCause s id (of_fault (faults.Damaged damage))
     by (inl broken) = inl broken
     by (inr shares) = inr (record { row = node; found = sym found; is = lone }, shares)
+
+-- ---- values that are given
+
+-- what follows of a record that is blamed
+pub blames_more : (told more : Damage → Type 0) → ((damage : Damage) → told damage → more damage) → (fault : ChangeFault) → IfBlames told fault → IfBlames more fault
+blames_more told more then (NoNode id) blames = tt
+blames_more told more then (NoEdge id) blames = tt
+blames_more told more then (HasRelationships id degree) blames = tt
+blames_more told more then (Full file live) blames = tt
+blames_more told more then (NamesFull count) blames = tt
+blames_more told more then (PropsFull count) blames = tt
+blames_more told more then Memory blames = tt
+blames_more told more then Disk blames = tt
+blames_more told more then (Damaged damage) blames = then damage blames
+
+pub key_blamed : (tells : Type 0) (blocks : ℕ) (s named : State) (fault : InternFault) → BlamesGiven tells blocks s named (of_intern fault)
+key_blamed tells blocks s named (interns.NamesFull count) = tt
+key_blamed tells blocks s named interns.Memory = tt
+key_blamed tells blocks s named interns.Disk = tt
+
+-- reads before a key becomes a name are counted after it
+pub interned_read : (s m : State) (names : List (List ℕ)) (key : List ℕ) → SameButReads s m → SameButReads (interned s names key) (interned m names key)
+unfolding named
+interned_read s m names key same = subst (λ (z : State). SameButReads (interned s names key) (interned z names key)) (sym same) (by (list_any (pointwise nat_eq key) names))
+  where
+    by : (b : Bool) → SameButReads (cond b s (named s (length names) key)) (cond b (record s { reads = m.reads }) (named (record s { reads = m.reads }) (length names) key))
+    by true = refl
+    by false = refl
+
+-- an element in use is so once a key is a name
+pub interned_in_use : (s : State) (names : List (List ℕ)) (key : List ℕ) (target : Target) → IsInUse s.records (owner_of target) → IsInUse (interned s names key).records (owner_of target)
+unfolding named
+interned_in_use s names key (targets.Node id) used = by (list_any (pointwise nat_eq key) names)
+  where
+    by : (b : Bool) → IsInUse (cond b s (named s (length names) key)).records (owner_of (targets.Node id))
+    by true = used
+    by false = used
+interned_in_use s names key (targets.Edge id) used = by (list_any (pointwise nat_eq key) names)
+  where
+    by : (b : Bool) → IsInUse (cond b s (named s (length names) key)).records (owner_of (targets.Edge id))
+    by true = used
+    by false = used
+
+midway_read : (tells : Type 0) (blocks : ℕ) (s t : State) (damage : Damage) → SameButReads s t → BreaksMidway tells blocks t damage → BreaksMidway tells blocks s damage
+midway_read tells blocks s t damage same told =
+    let k = subst (λ (z : State). BreaksMidway tells blocks z damage) same told in
+    let touched = k.touched in
+    record {
+      mid = k.mid;
+      touched = record {
+        ids = touched.ids;
+        block_ids = touched.block_ids;
+        few_ids = touched.few_ids;
+        few_blocks = touched.few_blocks;
+        only = record { writes = record { each = touched.only.writes.each }; stays = λ does. record { each = (touched.only.stays does).each } };
+      };
+      breaks = k.breaks;
+    }
+
+pub value_blamed : (tells : Type 0) (blocks : ℕ) (s named t : State) → SameButReads named t → (fault : SetFault) → BlamesSet tells blocks t fault → BlamesGiven tells blocks s named (of_set fault)
+value_blamed tells blocks s named t same (sets.PropsFull count) told = tt
+value_blamed tells blocks s named t same (sets.Full file live) told = tt
+value_blamed tells blocks s named t same sets.Memory told = tt
+value_blamed tells blocks s named t same sets.Disk told = tt
+value_blamed tells blocks s named t same (sets.Damaged damage) told = inr (⊎_elim
+    (λ (k : Breaks t.records t.shape damage). inl (subst (λ (z : State). Breaks z.records z.shape damage) same k))
+    (λ (k : BreaksMidway tells blocks t damage). inr (midway_read tells blocks named t damage same k)) told)

@@ -1,5 +1,5 @@
 -- Nodes and edges that are deleted with their properties.
-use Rattle.std.proofs.Common.{◌≡◌, ◌≢◌, ◌⊎◌, ℕ, ◌+◌, ◌≤◌, nat_eq, Bool, true, false, cond, not, Some, None, List, [], ◌∷◌, sym, ap, ◌∙◌, subst, inl, inr, ⊎_elim, arith, refl}
+use Rattle.std.proofs.Common.{◌≡◌, ◌≢◌, ℕ, ◌+◌, ◌≤◌, nat_eq, Bool, true, false, cond, not, Some, List, [], ◌∷◌, sym, ap, ◌∙◌, subst, inl, inr, arith, refl}
 use Rattle.plain_graph.specs.Graph.{Graph, change_edge, change_node, degree_in, edge_number, has_edge, has_node, node_number, with_change, without_row}
 use Rattle.plain_graph.specs.Properties.{no_properties}
 use Rattle.plain_graph.specs.Refusals.{NoReason, change_reasons}
@@ -9,7 +9,7 @@ use Rattle.plain_graph.specs.declared.command.Target.TheVariants as targets
 use Rattle.rec_bytes.specs.Format as format
 use Rattle.rec_bytes.specs.Record.{field}
 use Rattle.rec_bytes.specs.Space.{SameButReads, State}
-use Rattle.store_rules.specs.Rules.{Head, IsOn, IsWellFormed, Owns}
+use Rattle.store_rules.specs.Rules.{IsWellFormed}
 use Rattle.store_rules.specs.Views as views
 use Rattle.store_rules.specs.Views.{degree, group_at, kind_at, rec_at, rel_at, rel_in, row_if}
 use Rattle.store_rules.proofs.GraphRows.{degree_in-degree, edge_there, node_there}
@@ -22,8 +22,6 @@ use Rattle.store_rules.proofs.PropertyFrames as fr
 use Rattle.store_rules.proofs.ViewLaws.{row_some, some_row}
 use Rattle.id_freelist.specs.Giving.{CanGive, HasGiven}
 use Rattle.id_freelist.proofs.Leaving.{is_gone, not_free_id}
-use Rattle.node_store.specs.Loading as nodes
-use Rattle.node_store.specs.NodeRecord as node_records
 use Rattle.prop_store.specs.Changing.{DropsAll, HasElement}
 use Rattle.prop_store.specs.declared.changing.Dropped.{Dropped}
 use Rattle.prop_store.specs.declared.owner.Owner.{Owner}
@@ -36,7 +34,7 @@ use Rattle.graph_ops.specs.NodeDeleting.{KeepsOtherKinds}
 use Rattle.graph_ops.specs.Owners.{owner_of}
 use Rattle.graph_ops.specs.Store.{IsStore, graph_in}
 use Rattle.graph_ops.specs.declared.change_fault.ChangeFault.TheVariants.{NoNode, NoEdge, HasRelationships}
-use Rattle.graph_ops.proofs.Elements.{edge_loaded, node_readable}
+use Rattle.graph_ops.proofs.Elements.{edge_loaded}
 use Rattle.graph_ops.proofs.KeptLinks.{drop_kinds}
 use Rattle.graph_ops.proofs.Readings.{made_read, store_read}
 use Rattle.graph_ops.proofs.Setting.{has_owner}

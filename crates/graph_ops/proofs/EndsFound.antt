@@ -4,7 +4,7 @@ use Rattle.plain_graph.specs.Graph.{Graph, RemovesEdge}
 use Rattle.rec_bytes.specs.declared.shape.Shape.{Shape}
 use Rattle.rec_bytes.specs.Format as format
 use Rattle.rec_bytes.specs.Space.{SameButReads, State}
-use Rattle.store_rules.specs.Ends.{IsEndHead, Regroups}
+use Rattle.store_rules.specs.Ends.{IsEndHead}
 use Rattle.store_rules.specs.Rules.{KeepsRules}
 use Rattle.store_rules.specs.Views as views
 use Rattle.store_rules.specs.Views.{Records, degree, kind_at, rec_at, rel_at}

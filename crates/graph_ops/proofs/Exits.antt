@@ -14,7 +14,9 @@ use Rattle.prop_store.specs.declared.set_fault.SetFault.TheVariants as sets
 use Rattle.rec_bytes.specs.Fault.{NotDamaged}
 use Rattle.rec_bytes.specs.declared.fault.Fault.{Fault}
 use Rattle.rec_bytes.specs.declared.fault.Fault.TheVariants as faults
-use Rattle.graph_ops.specs.ChangeFault.{IsOutside, LeavesSpace, MayComeLate, is_element_file, of_fault, of_set, of_space}
+use Rattle.rec_bytes.specs.declared.row_fault.RowFault.{RowFault}
+use Rattle.rec_bytes.specs.declared.row_fault.RowFault.TheVariants as rows
+use Rattle.graph_ops.specs.ChangeFault.{IsFailure, IsOutside, LeavesSpace, MayComeLate, is_element_file, of_fault, of_row, of_set, of_space}
 
 -- what holds of a fault holds of the result that hands it on
 pub fault_exit : {T F : Type 0} (of : F → ChangeFault) (P : ChangeFault → Type 0) (fault : F) (out : Result T ChangeFault) → IsErrAnd out (λ y. y ≡ of fault) → P (of fault) → IfErr out P
@@ -60,6 +62,18 @@ late_leaves s t Memory late = tt
 late_leaves s t Disk late = tt
 late_leaves s t (Damaged damage) late = tt
 
+-- a failure may come late
+pub failure_late : (fault : ChangeFault) → IsFailure fault → MayComeLate fault
+failure_late (NoNode id) fails = absurd fails
+failure_late (NoEdge id) fails = absurd fails
+failure_late (HasRelationships id degree) fails = absurd fails
+failure_late (Full file live) fails = absurd fails
+failure_late (NamesFull count) fails = absurd fails
+failure_late (PropsFull count) fails = absurd fails
+failure_late Memory fails = tt
+failure_late Disk fails = tt
+failure_late (Damaged damage) fails = tt
+
 -- ---- faults of the crates below that are no answers
 
 pub fault_outside : (T : Type 0) (fault : Fault) → NotDamaged {T = T} (Err fault) → IsOutside (of_fault fault)
@@ -67,15 +81,21 @@ fault_outside T faults.Memory right = tt
 fault_outside T faults.Disk right = tt
 fault_outside T (faults.Damaged damage) right = absurd right
 
--- ---- faults of the crates below that may come late
-pub space_late : (fault : SpaceFault) → MayComeLate (of_space fault)
-space_late spaces.Memory = tt
-space_late spaces.Disk = tt
+-- ---- faults of the crates below that are failures
+pub space_fails : (fault : SpaceFault) → IsFailure (of_space fault)
+space_fails spaces.Memory = tt
+space_fails spaces.Disk = tt
 
-pub fault_late : (fault : Fault) → MayComeLate (of_fault fault)
-fault_late faults.Memory = tt
-fault_late faults.Disk = tt
-fault_late (faults.Damaged damage) = tt
+pub row_fails : (fault : RowFault) → IsFailure (of_row fault)
+row_fails rows.Disk = tt
+row_fails (rows.Damaged damage) = tt
+
+pub fault_fails : (fault : Fault) → IsFailure (of_fault fault)
+fault_fails faults.Memory = tt
+fault_fails faults.Disk = tt
+fault_fails (faults.Damaged damage) = tt
+
+-- ---- and that may come late
 
 pub set_late : (fault : SetFault) → IsOwnRoom fault → MayComeLate (of_set fault)
 set_late (sets.PropsFull count) own = tt

@@ -1,5 +1,7 @@
+pub mod Adding
 pub mod Assigned
 pub mod Broken
+pub mod Causes
 pub mod Counted
 pub mod Deleting
 pub mod EdgeAdded

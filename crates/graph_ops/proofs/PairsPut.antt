@@ -26,6 +26,7 @@ use Rattle.store_rules.specs.Writes.{WritesBeside}
 use Rattle.store_rules.proofs.PropertyCounts.{count_blocks, count_properties}
 use Rattle.graph_ops.specs.Assigning.{CanPut, HasPropertyRoom, KeepsLinks, PutsPairs, assigned_blocks, pair_of, pairs_of}
 use Rattle.graph_ops.specs.ChangeFault.{IsOutside, of_set}
+use Rattle.graph_ops.specs.Damage.{AddsElement}
 use Rattle.graph_ops.specs.Owners.{owner_of}
 use Rattle.graph_ops.specs.Store.{IsStore, graph_in}
 use Rattle.graph_ops.specs.declared.assigning.Assignment.{Assignment}
@@ -198,6 +199,7 @@ all_put s t names target pairs assigned n le = subst (PutsPairs s t names target
 pub record IsPutting (tells onward : Type 0) (s t : State) (before now : ℕ) (owner : Owner) (pairs : List Pair) (assigned : List Assignment) (i : ℕ) : Type 0 where
   pub put : tells → (names : List (List ℕ)) (target : Target) → owner ≡ owner_of target → CanPut s names target pairs assigned → PutsPairs s t names target (take i (pairs_of names pairs assigned))
   pub shape : tells → t.shape ≡ s.shape
+  pub adds : tells → AddsElement owner.key s t
   pub writes : WritesBeside owner.key (i + assigned_blocks pairs (take i assigned)) s t
   pub onward_is : onward
   pub later : before ≤ now

@@ -11,7 +11,7 @@ use Rattle.id_freelist.specs.declared.take_fault.TakeFault.TheVariants as take
 use Rattle.id_freelist.specs.Taking.{CanTake, IsTakeFault, free_taken, mark_taken, taken}
 use Rattle.id_freelist.specs.TakeFault.{NotDamaged}
 use Rattle.id_freelist.proofs.Splits.{can_take}
-use Rattle.graph_ops.specs.ChangeFault.{IsOutside, MayComeLate, of_take}
+use Rattle.graph_ops.specs.ChangeFault.{IsFailure, IsOutside, of_take}
 use Rattle.graph_ops.specs.Rooms.{HasRoom}
 use Rattle.graph_ops.specs.Store.{IsStore}
 
@@ -30,11 +30,11 @@ take_outside s file take.Disk room why ok = tt
 take_outside s file (take.Damaged damage) room why ok = absurd ok
 
 -- where there is room, the file isn't told to be full
-pub take_late : (s : State) (file : ℕ) (fault : TakeFault) → HasRoom s file 1 → IsTakeFault s file fault → MayComeLate (of_take fault)
-take_late s file (take.Full full live) room why = absurd (let a = why.1 in let b = why.2 in omega arith)
-take_late s file take.Memory room why = tt
-take_late s file take.Disk room why = tt
-take_late s file (take.Damaged damage) room why = tt
+pub take_fails : (s : State) (file : ℕ) (fault : TakeFault) → HasRoom s file 1 → IsTakeFault s file fault → IsFailure (of_take fault)
+take_fails s file (take.Full full live) room why = absurd (let a = why.1 in let b = why.2 in omega arith)
+take_fails s file take.Memory room why = tt
+take_fails s file take.Disk room why = tt
+take_fails s file (take.Damaged damage) room why = tt
 
 -- a take leaves the shape
 pub taken-shape : (s : State) (file : ℕ) → (taken s file).shape ≡ s.shape

@@ -65,6 +65,18 @@ IsOutside Memory = Unit {0}
 IsOutside Disk = Unit {0}
 IsOutside (Damaged damage) = ⊥
 
+-- a failure of the machine or a damaged record, and no other answer about the graph
+abbrev pub IsFailure : ChangeFault → Type 0
+IsFailure (NoNode id) = ⊥
+IsFailure (NoEdge id) = ⊥
+IsFailure (HasRelationships id degree) = ⊥
+IsFailure (Full file live) = ⊥
+IsFailure (NamesFull count) = ⊥
+IsFailure (PropsFull count) = ⊥
+IsFailure Memory = Unit {0}
+IsFailure Disk = Unit {0}
+IsFailure (Damaged damage) = Unit {0}
+
 -- files of nodes and of edges
 abbrev pub is_element_file : ℕ → Bool
 is_element_file file = nat_eq file format.nodes_file || nat_eq file format.relationships_file

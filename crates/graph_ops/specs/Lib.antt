@@ -1,4 +1,5 @@
 pub mod Assigning
+pub mod Causes
 pub mod Change
 pub mod ChangeFault
 pub mod Damage

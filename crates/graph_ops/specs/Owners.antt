@@ -1,11 +1,15 @@
 -- Elements as owners of properties.
-use Rattle.std.specs.Prelude.{◌≡◌, false}
+use Rattle.std.specs.Prelude.{◌≡◌, false, None}
 use Rattle.plain_graph.specs.Graph.{Graph, has_edge, has_node}
 use Rattle.plain_graph.specs.declared.command.Target.{Target}
 use Rattle.plain_graph.specs.declared.command.Target.TheVariants as targets
 use Rattle.prop_store.specs.declared.owner.Owner.{Owner}
 use Rattle.rec_bytes.specs.Format as format
+use Rattle.rec_bytes.specs.Space.{State}
 use Rattle.store_rules.specs.Views.{key_in}
+use Rattle.node_store.specs.Loading as nodes
+use Rattle.rel_store.specs.Loading as rels
+use Rattle.graph_ops.specs.Damage.{IsBroken}
 use Rattle.graph_ops.specs.declared.change_fault.ChangeFault.{ChangeFault}
 use Rattle.graph_ops.specs.declared.change_fault.ChangeFault.TheVariants.{NoNode, NoEdge}
 use Rattle.graph_ops.specs.declared.change_fault.ChangeFault.TheVariants.{HasRelationships, Full}
@@ -42,3 +46,15 @@ MayMiss (PropsFull count) = ⊥
 MayMiss Memory = ⊥
 MayMiss Disk = Unit {0}
 MayMiss (Damaged damage) = Unit {0}
+
+-- Why it isn't found by what its record says, which may be damaged.
+abbrev pub IsAbsent : State → Target → ChangeFault → Type 0
+IsAbsent s target (NoNode id) = (target ≡ targets.Node id) × (nodes.row_at s.records id ≡ None)
+IsAbsent s target (NoEdge id) = (target ≡ targets.Edge id) × (rels.row_at s.records id ≡ None)
+IsAbsent s target (HasRelationships id degree) = ⊥
+IsAbsent s target (Full file live) = ⊥
+IsAbsent s target (NamesFull count) = ⊥
+IsAbsent s target (PropsFull count) = ⊥
+IsAbsent s target Memory = ⊥
+IsAbsent s target Disk = Unit {0}
+IsAbsent s target (Damaged damage) = IsBroken s damage

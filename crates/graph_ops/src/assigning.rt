@@ -24,6 +24,7 @@ ghost use Rattle.graph_ops.specs.Assigning.{
   HasPropertyRoom,
   IsAssignCount,
   IsAssignFault,
+  IsPutCause,
   IsReserveFault,
   PutsPairs,
   assigned_blocks,
@@ -32,6 +33,7 @@ ghost use Rattle.graph_ops.specs.Assigning.{
 };
 ghost use Rattle.store_rules.specs.Writes.{WritesAtMost, WritesBeside};
 ghost use Rattle.graph_ops.specs.ChangeFault.{HasChangeCause, IsOutside, MayComeLate};
+ghost use Rattle.graph_ops.specs.Damage.{BreaksAdding, IfBlames, KeepsBeyond};
 ghost use Rattle.graph_ops.specs.Owners.{owner_of};
 ghost use Rattle.graph_ops.specs.Rooms.{KeepsElementMetas};
 ghost use Rattle.graph_ops.specs.Store.{IsStore, KeepsElements};
@@ -76,6 +78,7 @@ pub(crate) fn assign_pairs<S: Space>(
         length names.new.names ≤ length names.old.names + length assigned.items) }
     ensures metas { S.tells → OnOk result
         (KeepsElementMetas (S.state space.old) (S.state space.new)) }
+    ensures stays { S.tells → OnOk result (KeepsBeyond (S.state space.old) (S.state space.new)) }
     ensures writes { OnOk result (WritesAtMost (length names.new.names - length names.old.names)
         (S.state space.old) (S.state space.new)) }
     ensures few_writes { WritesAtMost 33 (S.state space.old) (S.state space.new) }
@@ -214,6 +217,9 @@ pub(crate) fn put_properties<S: Space>(
     ensures err_writes { OnErr result (WritesAtMost
         (2 + length assigned.now + assigned_blocks pairs.now assigned.now)
         (S.state space.old) (S.state space.new)) }
+    ensures caused { S.tells → IfErr result (IsPutCause (S.state space.old).shape) }
+    ensures damaged { S.tells → IfErr result
+        (IfBlames (BreaksAdding owner.key (S.state space.old))) }
     ensures late { S.tells → IfErr result MayComeLate }
     ensures onward { S.onward space.old space.new }
     ensures cause { HasChangeCause (S.faults space.old) (S.faults space.new) result }

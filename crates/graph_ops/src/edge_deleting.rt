@@ -12,8 +12,9 @@ ghost use Rattle.node_store.specs.Loading.{IsReadable, row_at};
 ghost use Rattle.rel_store.specs.RelRecord.{rel_key};
 ghost use Rattle.group_store.specs.GroupRecord.{group_key};
 ghost use Rattle.store_rules.specs.Writes.{WritesAtMost, WritesBeside};
+ghost use Rattle.graph_ops.specs.Causes.{IsCaused};
 ghost use Rattle.graph_ops.specs.Change.{IsRefusal, MakesChange};
-ghost use Rattle.graph_ops.specs.ChangeFault.{HasChangeCause, IsOutside, LeavesSpace, MayComeLate};
+ghost use Rattle.graph_ops.specs.ChangeFault.{HasChangeCause, IsFailure, IsOutside, LeavesSpace};
 ghost use Rattle.graph_ops.specs.EdgeDeleting.{FindsEnd, FindsEnds, HasBareRow, IsBareEdge};
 ghost use Rattle.graph_ops.specs.EdgeDeleting.{KeepsKinds, TakesEdge, WritesTaken};
 ghost use Rattle.graph_ops.specs.EdgeEnds.{IsEdgeEnd};
@@ -39,6 +40,8 @@ pub fn delete_edge<S: Space>(space: &mut S, names: &Names, id: u32) -> Result<u3
     ensures refused { S.tells → IsStore (S.state space.old) names.now.names
         → IfErr result (IsRefusal (S.state space.old).shape.limit (graph_in (S.state space.old))
         (commands.Delete (targets.Edge id))) }
+    ensures caused { S.tells → IfErr result (IsCaused (commands.Delete (targets.Edge id))
+        (S.state space.old) names.now.names) }
     // a dense node stays so, however few relationships it has
     ensures kinds { S.tells → IfOk result (λ _. IsStore (S.state space.old) names.now.names
         → KeepsKinds (S.state space.old) (S.state space.new)) }
@@ -70,7 +73,7 @@ fn take_edge<S: Space>(space: &mut S, id: u32, rel: RelRow) -> Result<(), Change
     ensures sound { S.tells → (names : List (List ℕ)) → IsStore (S.state space.old) names
         → HasBareRow (S.state space.old).records id rel → IfErr result IsOutside }
     ensures writes { WritesBeside (rel_key id) 12 (S.state space.old) (S.state space.new) }
-    ensures late { IfErr result MayComeLate }
+    ensures failure { IfErr result IsFailure }
     ensures onward { S.onward space.old space.new }
     ensures cause { HasChangeCause (S.faults space.old) (S.faults space.new) result }
 {
@@ -91,7 +94,7 @@ fn edge_ends<S: Space>(space: &mut S, id: u32, rel: RelRow) -> Result<BothEnds, 
         (ends.source.head.key ∷ ends.target.head.key ∷ [])) }
     ensures writes { (g k : ℕ) × WritesOnly (S.state space.old) (S.state space.new)
         (group_key g ∷ group_key k ∷ []) }
-    ensures late { IfErr result MayComeLate }
+    ensures failure { IfErr result IsFailure }
     ensures onward { S.onward space.old space.new }
     ensures cause { HasChangeCause (S.faults space.old) (S.faults space.new) result }
 {
@@ -126,7 +129,7 @@ fn edge_end<S: Space>(
         WritesOnly (S.state space.old) (S.state space.new) (end.head.key ∷ [])) }
     ensures writes { (g : ℕ) × WritesOnly (S.state space.old) (S.state space.new)
         (group_key g ∷ []) }
-    ensures late { IfErr result MayComeLate }
+    ensures failure { IfErr result IsFailure }
     ensures onward { S.onward space.old space.new }
     ensures cause { HasChangeCause (S.faults space.old) (S.faults space.new) result }
 {
@@ -144,7 +147,7 @@ fn end_degree<R: Reads>(space: &mut R, rel: u32, node: u32) -> Result<u32, Chang
     ensures sound { R.tells → IsReadable (R.state space.old) node
         → (row_at (R.state space.old).records node ≢ None) → IfErr result IsOutside }
     ensures key { IfOk result (λ degree. IsKey (key_in nodes_file node)) }
-    ensures late { IfErr result MayComeLate }
+    ensures failure { IfErr result IsFailure }
     ensures state { SameButReads (R.state space.old) (R.state space.new) }
     ensures onward { R.onward space.old space.new }
     ensures cause { HasChangeCause (R.faults space.old) (R.faults space.new) result }
@@ -176,7 +179,7 @@ fn unlink_edge<S: Space>(
     ensures sound { S.tells → (names : List (List ℕ)) → IsStore (S.state space.old) names
         → IsBareEdge (S.state space.old) id source target → IfErr result IsOutside }
     ensures writes { WritesTaken (S.state space.old) (S.state space.new) id source target }
-    ensures late { IfErr result MayComeLate }
+    ensures failure { IfErr result IsFailure }
     ensures onward { S.onward space.old space.new }
     ensures cause { HasChangeCause (S.faults space.old) (S.faults space.new) result }
 {

@@ -14,7 +14,7 @@ ghost use Rattle.store_rules.specs.Views.{key_in};
 ghost use Rattle.store_rules.specs.Writes.{meta_keys};
 ghost use Rattle.chain_edit.specs.Heads.{head_of};
 ghost use Rattle.chain_edit.specs.Links.{IsRightLink};
-ghost use Rattle.graph_ops.specs.ChangeFault.{HasChangeCause, IsOutside, MayComeLate};
+ghost use Rattle.graph_ops.specs.ChangeFault.{HasChangeCause, IsFailure, IsOutside};
 ghost use Rattle.graph_ops.specs.EdgeEnds.{IsEdgeEnd, both_joined, joined};
 ghost use Rattle.graph_ops.specs.EdgeJoining.{CanJoin, HasPlaced, WritesJoined, joined_keys};
 ghost use Rattle.graph_ops.specs.EdgeJoining.{new_row, one_more};
@@ -54,7 +54,7 @@ pub(crate) fn join_edge<S: Space>(
         WritesJoined (S.state space.old) (S.state space.new) id source target) }
     ensures err_writes { OnErr result ((id : ℕ)
         × WritesJoined (S.state space.old) (S.state space.new) id source target) }
-    ensures late { IfErr result MayComeLate }
+    ensures failure { IfErr result IsFailure }
     ensures onward { S.onward space.old space.new }
     ensures cause { HasChangeCause (S.faults space.old) (S.faults space.new) result }
 {
@@ -75,7 +75,7 @@ fn place<S: Space>(space: &mut S, label: u32, from: u32, to: u32) -> Result<u32,
         WritesOnly (S.state space.old) (S.state space.new) (rel_key id ∷ meta_keys)) }
     ensures err_writes { OnErr result ((id : ℕ)
         × WritesOnly (S.state space.old) (S.state space.new) (rel_key id ∷ meta_keys)) }
-    ensures late { IfErr result MayComeLate }
+    ensures failure { IfErr result IsFailure }
     ensures onward { S.onward space.old space.new }
     ensures cause { HasChangeCause (S.faults space.old) (S.faults space.new) result }
 {
@@ -102,7 +102,7 @@ fn take_id<S: Space>(space: &mut S) -> Result<u32, ChangeFault>
     ensures key { IfOk result (λ id. IsKey (key_in relationships_file id)) }
     ensures writes { WritesOnly (S.state space.old) (S.state space.new)
         (meta_key_of relationships_file ∷ []) }
-    ensures late { IfErr result MayComeLate }
+    ensures failure { IfErr result IsFailure }
     ensures onward { S.onward space.old space.new }
     ensures cause { HasChangeCause (S.faults space.old) (S.faults space.new) result }
 {
@@ -159,7 +159,7 @@ fn join_ends<S: Space>(
         (one_more source.degree)).records (head_of target.head)))
         → IfErr result IsOutside }
     ensures writes { WritesJoined (S.state space.old) (S.state space.new) rel source target }
-    ensures late { IfErr result MayComeLate }
+    ensures failure { IfErr result IsFailure }
     ensures onward { S.onward space.old space.new }
     ensures cause { HasChangeCause (S.faults space.old) (S.faults space.new) result }
 {
@@ -182,7 +182,7 @@ fn join_end<S: Space>(space: &mut S, rel: u32, end: EdgeEnd) -> Result<(), Chang
         → IfErr result IsOutside }
     ensures writes { (first : ℕ) × WritesOnly (S.state space.old) (S.state space.new)
         (rel_key rel ∷ joined_keys first end) }
-    ensures late { IfErr result MayComeLate }
+    ensures failure { IfErr result IsFailure }
     ensures onward { S.onward space.old space.new }
     ensures cause { HasChangeCause (S.faults space.old) (S.faults space.new) result }
 {

@@ -4,7 +4,7 @@ ghost use Rattle.std.specs.Prelude.{◌≡◌, ◌≤◌, ◌+◌, ℕ, List, If
 ghost use Rattle.chain_edit.specs.Heads.{head_of};
 ghost use Rattle.group_store.specs.Opening.{CanOpen, HasGroupRoom, OpensChain, WritesOpened};
 ghost use Rattle.group_store.specs.Opening.{moved_writes};
-ghost use Rattle.graph_ops.specs.ChangeFault.{HasChangeCause, IsOutside, MayComeLate};
+ghost use Rattle.graph_ops.specs.ChangeFault.{HasChangeCause, IsFailure, IsOutside};
 ghost use Rattle.graph_ops.specs.EdgeEnds.{IsEdgeEnd};
 ghost use Rattle.graph_ops.specs.EdgeOpening.{CanLink, OpensEnds, WritesEndsOpened};
 ghost use Rattle.graph_ops.specs.EdgeOpening.{ends_moved};
@@ -48,7 +48,7 @@ pub(crate) fn open_ends<S: Space>(
         (2 + ends_moved threshold from from_degree to to_degree)) }
     ensures writes { WritesAtMost (6 + ends_moved threshold from from_degree to to_degree)
         (S.state space.old) (S.state space.new) }
-    ensures late { IfErr result MayComeLate }
+    ensures failure { IfErr result IsFailure }
     ensures onward { S.onward space.old space.new }
     ensures cause { HasChangeCause (S.faults space.old) (S.faults space.new) result }
 {
@@ -102,7 +102,7 @@ fn open_end<S: Space>(
         (moved_writes threshold degree + 1)) }
     ensures writes { WritesBeside (key_in nodes_file node) (moved_writes threshold degree + 2)
         (S.state space.old) (S.state space.new) }
-    ensures late { IfErr result MayComeLate }
+    ensures failure { IfErr result IsFailure }
     ensures onward { S.onward space.old space.new }
     ensures cause { HasChangeCause (S.faults space.old) (S.faults space.new) result }
 {

@@ -9,7 +9,7 @@ ghost use Rattle.store_rules.specs.Views.{key_in};
 ghost use Rattle.chain_edit.specs.Chains.{next_of, prev_of};
 ghost use Rattle.chain_edit.specs.Heads.{head_of};
 ghost use Rattle.chain_edit.specs.Links.{IsRightLink};
-ghost use Rattle.graph_ops.specs.ChangeFault.{HasChangeCause, IsOutside, MayComeLate};
+ghost use Rattle.graph_ops.specs.ChangeFault.{HasChangeCause, IsFailure, IsOutside};
 ghost use Rattle.graph_ops.specs.EdgeDeleting.{IsBareEdge, PartsEdge, WritesEnds};
 ghost use Rattle.graph_ops.specs.EdgeEnds.{IsEdgeEnd, both_parted, end_keys, parted};
 ghost use Rattle.graph_ops.specs.Store.{IsStore};
@@ -38,7 +38,7 @@ pub(crate) fn part_edge<S: Space>(
     ensures sound { S.tells → (names : List (List ℕ)) → IsStore (S.state space.old) names
         → IsBareEdge (S.state space.old) id source target → IfErr result IsOutside }
     ensures writes { WritesEnds (S.state space.old) (S.state space.new) id source target }
-    ensures late { IfErr result MayComeLate }
+    ensures failure { IfErr result IsFailure }
     ensures onward { S.onward space.old space.new }
     ensures cause { HasChangeCause (S.faults space.old) (S.faults space.new) result }
 {
@@ -74,7 +74,7 @@ fn part_ends<S: Space>(
         (source.degree - 1)).records target.node rel))
         → IfErr result IsOutside }
     ensures writes { WritesEnds (S.state space.old) (S.state space.new) rel source target }
-    ensures late { IfErr result MayComeLate }
+    ensures failure { IfErr result IsFailure }
     ensures onward { S.onward space.old space.new }
     ensures cause { HasChangeCause (S.faults space.old) (S.faults space.new) result }
 {
@@ -98,7 +98,7 @@ fn part_end<S: Space>(space: &mut S, rel: u32, end: EdgeEnd) -> Result<(), Chang
         → IfErr result IsOutside }
     ensures writes { (before after : ℕ) × WritesOnly (S.state space.old) (S.state space.new)
         (rel_key rel ∷ end_keys before after end) }
-    ensures late { IfErr result MayComeLate }
+    ensures failure { IfErr result IsFailure }
     ensures onward { S.onward space.old space.new }
     ensures cause { HasChangeCause (S.faults space.old) (S.faults space.new) result }
 {

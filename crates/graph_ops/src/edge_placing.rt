@@ -8,11 +8,11 @@ ghost use Rattle.rec_bytes.specs.Space.{SameButReads};
 ghost use Rattle.rel_store.specs.RelRecord.{rel_key};
 ghost use Rattle.store_rules.specs.Views.{key_in};
 ghost use Rattle.store_rules.specs.Writes.{WritesAtMost, WritesBeside};
-ghost use Rattle.graph_ops.specs.ChangeFault.{HasChangeCause, IsOutside, MayComeLate};
+ghost use Rattle.graph_ops.specs.ChangeFault.{HasChangeCause, IsFailure, IsOutside};
 ghost use Rattle.graph_ops.specs.EdgeOpening.{ends_moved};
 ghost use Rattle.graph_ops.specs.EdgePlacing.{PutsEdge};
 ghost use Rattle.graph_ops.specs.NodeDeleting.{HasDegree};
-ghost use Rattle.graph_ops.specs.Owners.{IsMissing};
+ghost use Rattle.graph_ops.specs.Owners.{IsAbsent, IsMissing};
 ghost use Rattle.graph_ops.specs.Rooms.{HasRoom};
 ghost use Rattle.graph_ops.specs.Store.{IsStore, graph_in};
 
@@ -28,6 +28,7 @@ pub(crate) fn node_degree<R: Reads>(space: &mut R, id: u32) -> Result<u32, Chang
         → IfOk result (λ degree. HasDegree (R.state space.old).records id degree) }
     ensures refused { R.tells → (names : List (List ℕ)) → IsStore (R.state space.old) names
         → IfErr result (IsMissing (graph_in (R.state space.old)) (targets.Node id)) }
+    ensures absent { R.tells → IfErr result (IsAbsent (R.state space.old) (targets.Node id)) }
     ensures key { IfOk result (λ degree. IsKey (key_in nodes_file id)) }
     ensures state { SameButReads (R.state space.old) (R.state space.new) }
     ensures onward { R.onward space.old space.new }
@@ -73,7 +74,7 @@ pub(crate) fn put_edge<S: Space>(
     ensures err_writes { OnErr result (WritesAtMost
         (13 + ends_moved threshold from from_degree to to_degree)
         (S.state space.old) (S.state space.new)) }
-    ensures late { IfErr result MayComeLate }
+    ensures failure { IfErr result IsFailure }
     ensures onward { S.onward space.old space.new }
     ensures cause { HasChangeCause (S.faults space.old) (S.faults space.new) result }
 {

@@ -8,11 +8,14 @@ ghost use Rattle.plain_graph.specs.Refusals.{most_names};
 ghost use Rattle.plain_graph.specs.Reply.{NodeMade};
 ghost use Rattle.plain_graph.specs.declared.command.Command.TheVariants as commands;
 ghost use Rattle.rec_bytes.specs.Format.{nodes_file};
+ghost use Rattle.id_freelist.specs.Taking.{IsTakeDamage};
 ghost use Rattle.rec_bytes.specs.Key.{IsKey};
 ghost use Rattle.store_rules.specs.Views.{key_in};
 ghost use Rattle.store_rules.specs.Writes.{WritesAtMost, WritesBeside};
+ghost use Rattle.graph_ops.specs.Causes.{IsCaused};
 ghost use Rattle.graph_ops.specs.Change.{IsCounted, IsRefusal, MakesChange};
-ghost use Rattle.graph_ops.specs.ChangeFault.{HasChangeCause, IsOutside, LeavesSpace, MayComeLate};
+ghost use Rattle.graph_ops.specs.ChangeFault.{HasChangeCause, IsFailure, IsOutside, LeavesSpace};
+ghost use Rattle.graph_ops.specs.Damage.{AddsElement, BlamesAdding, IfBlames};
 ghost use Rattle.graph_ops.specs.NodeAdding.{IsFullOfNodes, IsSparse, PutsNode, new_row};
 ghost use Rattle.graph_ops.specs.Rooms.{HasRoom};
 ghost use Rattle.graph_ops.specs.Store.{IsStore, graph_in};
@@ -42,6 +45,9 @@ pub fn add_node<S: Space>(
     ensures refused { S.tells → IsStore (S.state space.old) names.old.names
         → IfErr result (IsRefusal (S.state space.old).shape.limit (graph_in (S.state space.old))
         (commands.Node label.now pairs.now)) }
+    ensures caused { S.tells → IfErr result (IsCaused (commands.Node label.now pairs.now)
+        (S.state space.old) names.old.names) }
+    ensures damaged { S.tells → IfErr result (BlamesAdding nodes_file (S.state space.old)) }
     ensures counts { S.tells → IsStore (S.state space.old) names.old.names
         → IfErr result (IsCounted (S.state space.old)) }
     ensures full { IsStore (S.state space.old) names.old.names → IsFullOfNodes (S.state space.old)
@@ -84,8 +90,12 @@ fn put_node<S: Space>(space: &mut S, label: u32) -> Result<u32, ChangeFault>
         → PutsNode (S.state space.old) (S.state space.new) names text id) }
     ensures sound { S.tells → (names : List (List ℕ)) → IsStore (S.state space.old) names
         → HasRoom (S.state space.old) nodes_file 1 → IfErr result IsOutside }
-    ensures late { S.tells → HasRoom (S.state space.old) nodes_file 1
-        → IfErr result MayComeLate }
+    ensures failure { S.tells → HasRoom (S.state space.old) nodes_file 1
+        → IfErr result IsFailure }
+    ensures damaged { S.tells → IfErr result
+        (IfBlames (IsTakeDamage (S.state space.old) nodes_file)) }
+    ensures adds { S.tells → IfOk result (λ id. AddsElement (key_in nodes_file id)
+        (S.state space.old) (S.state space.new)) }
     ensures key { IfOk result (λ id. IsKey (key_in nodes_file id)) }
     ensures writes { IfOk result (λ id. WritesBeside (key_in nodes_file id) 0
         (S.state space.old) (S.state space.new)) }

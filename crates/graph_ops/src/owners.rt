@@ -6,7 +6,7 @@ ghost use Rattle.prop_store.specs.Owner.{IsInUse};
 ghost use Rattle.rec_bytes.specs.Space.{SameButReads};
 ghost use Rattle.graph_ops.specs.ChangeFault.{HasChangeCause};
 ghost use Rattle.graph_ops.specs.Damage.{BlamesBroken};
-ghost use Rattle.graph_ops.specs.Owners.{IsMissing, MayMiss, owner_of};
+ghost use Rattle.graph_ops.specs.Owners.{IsAbsent, IsMissing, MayMiss, owner_of};
 ghost use Rattle.graph_ops.specs.Store.{IsStore, graph_in};
 
 use crate::ChangeFault;
@@ -50,6 +50,7 @@ pub(crate) fn find_owner<R: Reads>(space: &mut R, target: Target) -> Result<Owne
         → OnOk result (IsInUse (R.state space.old).records (owner_of target)) }
     ensures missing { IfErr result MayMiss }
     ensures damaged { R.tells → IfErr result (BlamesBroken (R.state space.old)) }
+    ensures absent { R.tells → IfErr result (IsAbsent (R.state space.old) target) }
     ensures key { IfOk result (λ owner. IsKey owner.key) }
     ensures state { SameButReads (R.state space.old) (R.state space.new) }
     ensures onward { R.onward space.old space.new }

@@ -13,7 +13,8 @@ ghost use Rattle.graph_ops.specs.Assigning.{ArePlaced, assigned_blocks};
 ghost use Rattle.store_rules.specs.Writes.{WritesAtMost};
 ghost use Rattle.graph_ops.specs.Change.{IsCounted, IsRefusedBy};
 ghost use Rattle.graph_ops.specs.ChangeFault.{HasChangeCause, LeavesSpace};
-ghost use Rattle.graph_ops.specs.Preparing.{IsPrepared, line_reasons};
+ghost use Rattle.graph_ops.specs.Damage.{KeepsBeyond};
+ghost use Rattle.graph_ops.specs.Preparing.{IsLineCause, IsPrepared, line_reasons};
 ghost use Rattle.graph_ops.specs.Rooms.{KeepsElementMetas};
 ghost use Rattle.graph_ops.specs.Store.{IsStore, graph_in};
 
@@ -52,6 +53,8 @@ pub(crate) fn prepare<S: Space>(
     ensures refused { S.tells → IsStore (S.state space.old) names.old.names → IfErr result
         (IsRefusedBy line_reasons (S.state space.old).shape.limit (graph_in (S.state space.old))
         (commands.Node label.now pairs.now)) }
+    ensures caused { S.tells → IfErr result
+        (IsLineCause (S.state space.old) names.old.names label.now pairs.now) }
     ensures counts { S.tells → IfErr result (IsCounted (S.state space.old)) }
     ensures names_full { (used : List (List ℕ))
         → UsesNames names.old.names (label.now ∷ keys_in pairs.now) used
@@ -73,6 +76,7 @@ pub(crate) fn prepare<S: Space>(
     ensures few_writes { WritesAtMost 34 (S.state space.old) (S.state space.new) }
     ensures metas { S.tells → OnOk result
         (KeepsElementMetas (S.state space.old) (S.state space.new)) }
+    ensures stays { S.tells → OnOk result (KeepsBeyond (S.state space.old) (S.state space.new)) }
     ensures onward { S.onward space.old space.new }
     ensures cause { HasChangeCause (S.faults space.old) (S.faults space.new) result }
 {

@@ -2,14 +2,17 @@ ghost use Rattle.std.specs.Prelude.{◌≡◌, ◌++◌, ◌+◌, ◌<◌, ◌�
 ghost use Rattle.std.specs.Prelude.{OnErr, length};
 ghost use Rattle.plain_graph.specs.Changes.{most_weight, start_weight};
 ghost use Rattle.plain_graph.specs.Forms.{HasForm};
+ghost use Rattle.name_store.specs.Interning.{interned};
 ghost use Rattle.plain_graph.specs.Graph.{UsesNames};
+ghost use Rattle.plain_graph.specs.Properties.{blocks_of};
 ghost use Rattle.plain_graph.specs.Refusals.{most_names};
 ghost use Rattle.plain_graph.specs.Reply.{Done};
 ghost use Rattle.plain_graph.specs.declared.command.Command.TheVariants as commands;
 ghost use Rattle.store_rules.specs.Writes.{WritesAtMost};
+ghost use Rattle.graph_ops.specs.Causes.{IsCaused};
 ghost use Rattle.graph_ops.specs.Change.{IsRefusal, IsSetCount, MakesChange};
 ghost use Rattle.graph_ops.specs.ChangeFault.{HasChangeCause, LeavesSpace};
-ghost use Rattle.graph_ops.specs.Damage.{BlamesBroken};
+ghost use Rattle.graph_ops.specs.Damage.{BlamesBroken, BlamesGiven};
 ghost use Rattle.graph_ops.specs.Store.{IsStore, graph_in};
 
 use crate::ChangeFault;
@@ -35,6 +38,11 @@ pub fn set<S: Space>(
     ensures refused { S.tells → IsStore (S.state space.old) names.old.names
         → IfErr result (IsRefusal (S.state space.old).shape.limit (graph_in (S.state space.old))
         (commands.Set target key.now value.now)) }
+    ensures caused { S.tells → IfErr result (IsCaused (commands.Set target key.now value.now)
+        (S.state space.old) names.old.names) }
+    ensures damaged { S.tells → IfErr result
+        (BlamesGiven S.tells (22 + blocks_of value.now) (S.state space.old)
+        (interned (S.state space.old) names.old.names key.now)) }
     ensures counts { S.tells → IfErr result (IsSetCount (S.state space.old).shape) }
     ensures names_full { (used : List (List ℕ)) → UsesNames names.old.names (key.now ∷ []) used
         → most_names < length used → IsErr result }
@@ -69,6 +77,8 @@ pub fn unset<S: Space>(
     ensures refused { S.tells → IsStore (S.state space.old) names.now.names
         → IfErr result (IsRefusal (S.state space.old).shape.limit (graph_in (S.state space.old))
         (commands.Unset target key.now)) }
+    ensures caused { S.tells → IfErr result (IsCaused (commands.Unset target key.now)
+        (S.state space.old) names.now.names) }
     ensures damaged { S.tells → IfErr result (BlamesBroken (S.state space.old)) }
     ensures leaves { IfErr result (LeavesSpace (S.state space.old) (S.state space.new)) }
     ensures light { IfOk result (λ weight. weight + start_weight ≤ most_weight) }

@@ -15,6 +15,7 @@ use Rattle.graph_ops.proofs.LineNames.{name_long, uses_long, uses_prefix}
 use Rattle.graph_ops.proofs.NewNames.{placed_grows}
 use Rattle.graph_ops.proofs.Places.{has_room, no_room}
 use Rattle.store_rules.proofs.WriteLaws.{more_written, none_written, then_written}
+use Rattle.graph_ops.proofs.Adding.{beyond_then, key_beyond}
 use Rattle.graph_ops.proofs.assigning.assign_pairs.Goals as goal
 use Rattle.graph_ops.proofs.assigning.assign_pairs.Goals.{After-as_bytes, After-len}
 use Rattle.graph_ops.proofs.assigning.assign_pairs.Given.{Over}
@@ -24,6 +25,7 @@ loop-place-init g c =
     let s = g.S.Reads.state c.args.space.now in
     record {
       so_far = subst (IsSoFar c.args.names.now.names c.args.names.now.names c.args.pairs.now 0) (sym c.new-assigned.ensures) (none_so_far c.args.names.now.names c.args.pairs.now c.requires.names);
+      stays = λ tells q beyond. refl;
       kept = λ tells few store. keeps_same s c.args.names.now.names store;
       metas = λ tells. metas_same s;
       shape = λ tells. refl;
@@ -90,6 +92,7 @@ loop-place-preserved g c =
     let written = name_written t u names new text uses c.number_key.ensures.known c.number_key.ensures.writes in
     record {
       so_far = now;
+      stays = λ tells. beyond_then s t u (inv.stays tells) (key_beyond (not c.is_full-are_few.result) t u names text (λ few. c.in_ok-key.ensures.ok tells few) c.number_key.ensures.held);
       kept = λ tells few store.
           let before : length items ≤ 32 = omega arith in
           let kept = inv.kept tells before store in
@@ -145,3 +148,6 @@ returns-in_err-key-clause-few_writes g c =
     let at = (goal.at.returns-in_err-key-clause-few_writes g c).After-as_bytes in
     few_after (g.S.Reads.state c.args.space.now) (g.S.Reads.state c.loop-place.space) (g.S.Reads.state c.number_key.new.space) c.loop-place.assigned.items
     (items_most c.args.names.now.names c.loop-place.names.names c.args.pairs.now c.loop-place.place c.loop-place.assigned.items inv.so_far) inv.few_writes (one_written _ _ _ c.number_key.ensures.writes) (λ many. c.number_key.ensures.held (few_false g at many))
+
+pub returns-clause-stays : goal.returns-clause-stays
+returns-clause-stays g c tells = c.loop-place.invariant.stays tells

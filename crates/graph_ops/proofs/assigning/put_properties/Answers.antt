@@ -8,7 +8,7 @@ use Rattle.plain_graph.specs.declared.value.Value.TheVariants as values
 use Rattle.prop_store.specs.Changing.{HasKey, IsSetRefusal, SetsValue, properties_of, text_at}
 use Rattle.prop_store.specs.declared.owner.Owner.{Owner}
 use Rattle.rec_bytes.specs.RecordFiles.{is_meta_file}
-use Rattle.graph_ops.specs.Assigning.{pair_at, pairs_of}
+use Rattle.graph_ops.specs.Assigning.{IsPutCause, pair_at, pairs_of}
 use Rattle.graph_ops.specs.ChangeFault.{IsOutside, MayComeLate, of_set}
 use Rattle.graph_ops.specs.declared.assigning.Assignment.{Assignment}
 use Rattle.graph_ops.proofs.Assigned.{pair_form}
@@ -16,6 +16,9 @@ use Rattle.graph_ops.proofs.Exits.{fault_exit, set_late}
 use Rattle.graph_ops.proofs.PairsPut.{all_put, key_fits, key_new, key_there, none_put, put_more, put_outside}
 use Rattle.store_rules.proofs.WriteLaws.{beside_more, beside_then, beside_written, more_written, then_written, this_written}
 use Rattle.graph_ops.proofs.Writes.{on_any_err, touched_written}
+use Rattle.graph_ops.proofs.Causes.{add_caused}
+use Rattle.graph_ops.specs.Damage.{BreaksAdding, IfBlames}
+use Rattle.graph_ops.proofs.Adding.{adds_none, adds_then, adds_value, value_breaks}
 use Rattle.graph_ops.proofs.assigning.put_properties.Goals as goal
 use Rattle.graph_ops.proofs.assigning.put_properties.Goals.{After-index-pairs-assignment}
 use Rattle.graph_ops.proofs.assigning.put_properties.Given.{Over}
@@ -26,6 +29,7 @@ loop-assignment-init g c =
     record {
       put = λ tells names target is can. none_put s names target (pairs_of names c.args.pairs.now c.args.assigned.now) can.store;
       shape = λ tells. refl;
+      adds = λ tells. adds_none c.args.owner.key s s refl (λ q beyond. refl);
       writes = this_written c.args.owner.key s s [] (λ q i. absurd i) (record { each = λ q w. inl w });
       onward_is = g.met.S.Reads.stays_onward c.args.space.now;
       later = omega arith;
@@ -65,6 +69,7 @@ loop-assignment-preserved g c =
           put_more s t names target pairs assigned i can c.requires.few put lt shape u value (value_is g at)
           (added (key_there s t names target pairs assigned i can c.requires.few put lt shape) (key_new s t names target pairs assigned i can c.requires.few put lt shape) (key_fits s t names target pairs assigned i can c.requires.few put lt shape));
       shape = λ tells. (g.met.S.Reads.onward_shape _ _ c.add.ensures.onward) ∙ inv.shape tells;
+      adds = λ tells. adds_then c.args.owner.key s t u (inv.adds tells) (adds_value g.S.Reads.tells c.args.owner.key _ _ t u tells (g.met.S.Reads.onward_shape _ _ c.add.ensures.onward) c.add.ensures.touches);
       writes =
           let more = sum_by_more (λ (a : Assignment). blocks_of (pair_at pairs a.pair).value) assigned i (record { key = 0; pair = 0 }) c.loop-assignment-test.true in
           let same = ap blocks_of (value_is g at) in
@@ -111,3 +116,18 @@ returns-in_err-add-clause-err_writes g c =
     let part = sum_by-take-le blocks assigned (i + 1) in
     let same = ap blocks_of (value_is g at) in
     on_any_err _ _ (more_written (omega arith) (then_written (beside_written own c.loop-assignment.invariant.writes) (touched_written own c.add.ensures.touches)))
+
+pub returns-in_err-add-clause-caused : goal.returns-in_err-add-clause-caused
+returns-in_err-add-clause-caused g c tells =
+    let s = g.S.Reads.state c.args.space.now in
+    let t = g.S.Reads.state c.loop-assignment.space in
+    fault_exit of_set (IsPutCause s.shape) c.in_err-add.field-0.0 c.from_residual.result c.from_residual.ensures.1
+    (add_caused t s.shape (c.loop-assignment.invariant.shape tells) c.in_err-add.field-0.0 (c.in_err-add.ensures.full tells) (c.in_err-add.ensures.exact tells))
+
+pub returns-in_err-add-clause-damaged : goal.returns-in_err-add-clause-damaged
+returns-in_err-add-clause-damaged g c tells =
+    let s = g.S.Reads.state c.args.space.now in
+    let t = g.S.Reads.state c.loop-assignment.space in
+    let key = c.args.owner.key in
+    fault_exit of_set (IfBlames (BreaksAdding key s)) c.in_err-add.field-0.0 c.from_residual.result c.from_residual.ensures.1
+    (value_breaks g.S.Reads.tells key _ s t tells (c.loop-assignment.invariant.adds tells) c.in_err-add.field-0.0 (c.in_err-add.ensures.damaged tells))

@@ -1,5 +1,5 @@
 use Rattle.std.specs.Prelude.{IfErr}
-use Rattle.std.proofs.Common.{◌≡◌, ◌+◌, length, ◌∙◌, sym, ap, subst, arith, refl}
+use Rattle.std.proofs.Common.{◌≡◌, ◌+◌, length, ◌∙◌, sym, ap, subst, inl, inr, arith, refl}
 use Rattle.plain_graph.specs.Refusals.{change_reasons}
 use Rattle.plain_graph.specs.Reply.{EdgeMade}
 use Rattle.plain_graph.specs.declared.command.Command.TheVariants as commands
@@ -21,13 +21,15 @@ use Rattle.graph_ops.specs.Store.{IsStore, graph_in}
 use Rattle.graph_ops.proofs.EdgeAdded.{can_put, degree_kept, edges_refused, lacks_full, line_refused, made, not_full, put_room, read_both, room_kept, source_missing, source_then, store_then, target_missing, target_then}
 use Rattle.graph_ops.proofs.Counted.{counted_read, missing_counted, outside_counted, room_counted}
 use Rattle.graph_ops.proofs.Elements.{found_there, same_both}
-use Rattle.graph_ops.proofs.Exits.{fault_exit, late_leaves}
+use Rattle.graph_ops.proofs.Exits.{failure_late, fault_exit, late_leaves}
 use Rattle.graph_ops.proofs.Readings.{made_read, refused_read, store_read}
 use Rattle.graph_ops.proofs.KeptLinks.{first_kept}
 use Rattle.graph_ops.proofs.Reasons.{outside_refused}
 use Rattle.graph_ops.proofs.OpenWrites.{most_threshold}
 use Rattle.store_rules.proofs.WriteLaws.{beside_then, beside_written, more_written, none_written, then_written}
 use Rattle.graph_ops.proofs.Writes.{on_any_err}
+use Rattle.graph_ops.specs.Causes.{IsCaused}
+use Rattle.graph_ops.proofs.Causes.{absent_caused, caused_read, failure_caused, line_edge, no_edge, node_of, put_caused, room_caused}
 use Rattle.graph_ops.proofs.edge_adding.add_edge.Goals as goal
 use Rattle.graph_ops.proofs.edge_adding.add_edge.Goals.{After-prepare, After-put_properties, In_err-id, In_err-put_properties, In_ok-id, In_ok-prepared, In_ok-put_properties, In_ok-target, In_ok-test_room}
 use Rattle.graph_ops.proofs.edge_adding.add_edge.Given.{Over}
@@ -146,7 +148,7 @@ returns-in_err-id-clause-leaves g c tells =
     let s = g.S.Reads.state c.args.space.now in
     let v = g.S.Reads.state c.put_edge.new.space in
     fault_exit (λ f. f) (LeavesSpace s v) c.in_err-id.field-0.0 c.from_residual-in_err-id.result c.from_residual-in_err-id.ensures.1
-    (late_leaves s v c.in_err-id.field-0.0 c.in_err-id.ensures.late)
+    (late_leaves s v c.in_err-id.field-0.0 (failure_late c.in_err-id.field-0.0 c.in_err-id.ensures.failure))
 
 pub returns-in_err-id-clause-refused_writes : goal.returns-in_err-id-clause-refused_writes
 returns-in_err-id-clause-refused_writes g c =
@@ -321,3 +323,61 @@ returns-in_err-put_properties-clause-counts g c tells store =
     let s = g.S.Reads.state c.args.space.now in
     fault_exit (λ f. f) (IsCounted s) c.in_err-put_properties.field-0.0 c.from_residual-in_err-put_properties.result c.from_residual-in_err-put_properties.ensures.1
     (outside_counted s c.in_err-put_properties.field-0.0 (properties_outside g (goal.at.returns-in_err-put_properties-clause-counts g c).In_err-put_properties tells store))
+
+-- ---- why it is refused over any records
+pub returns-in_err-source-clause-caused : goal.returns-in_err-source-clause-caused
+returns-in_err-source-clause-caused g c tells =
+    let s = g.S.Reads.state c.args.space.now in
+    let command = commands.Edge c.args.from c.args.label.now c.args.to c.args.pairs.now in
+    fault_exit (λ f. f) (IsCaused command s c.args.names.now.names) c.in_err-source.field-0.0 c.from_residual.result c.from_residual.ensures.1
+    (absent_caused command s c.args.names.now.names (targets.Node c.args.from) (λ id e. inl (sym (node_of e))) (λ id e. no_edge e) c.in_err-source.field-0.0 (c.in_err-source.ensures.absent tells))
+
+pub returns-in_err-target-clause-caused : goal.returns-in_err-target-clause-caused
+returns-in_err-target-clause-caused g c tells =
+    let s = g.S.Reads.state c.args.space.now in
+    let m = g.S.Reads.state c.node_degree.new.space in
+    let command = commands.Edge c.args.from c.args.label.now c.args.to c.args.pairs.now in
+    fault_exit (λ f. f) (IsCaused command s c.args.names.now.names) c.in_err-target.field-0.0 c.from_residual-in_err-target.result c.from_residual-in_err-target.ensures.1
+    (caused_read command s m c.args.names.now.names c.node_degree.ensures.state c.in_err-target.field-0.0
+    (absent_caused command m c.args.names.now.names (targets.Node c.args.to) (λ id e. inr (sym (node_of e))) (λ id e. no_edge e) c.in_err-target.field-0.0 (c.in_err-target.ensures.absent tells)))
+
+pub returns-in_err-test_room-clause-caused : goal.returns-in_err-test_room-clause-caused
+returns-in_err-test_room-clause-caused g c tells =
+    let s = g.S.Reads.state c.args.space.now in
+    let n = g.S.Reads.state c.node_degree-2.new.space in
+    let names = c.args.names.now.names in
+    let command = commands.Edge c.args.from c.args.label.now c.args.to c.args.pairs.now in
+    let read = same_both s (g.S.Reads.state c.node_degree.new.space) n c.node_degree.ensures.state c.node_degree-2.ensures.state in
+    fault_exit (λ f. f) (IsCaused command s names) c.in_err-test_room.field-0.0 c.from_residual-in_err-test_room.result c.from_residual-in_err-test_room.ensures.1
+    (caused_read command s n names read c.in_err-test_room.field-0.0
+    (room_caused command n names format.relationships_file 1 (inl (refl, refl)) c.in_err-test_room.field-0.0 c.in_err-test_room.ensures.full))
+
+pub returns-in_err-prepared-clause-caused : goal.returns-in_err-prepared-clause-caused
+returns-in_err-prepared-clause-caused g c tells =
+    let s = g.S.Reads.state c.args.space.now in
+    let n = g.S.Reads.state c.node_degree-2.new.space in
+    let names = c.args.names.now.names in
+    let pairs = c.as_slice-pairs.result.now in
+    let command = commands.Edge c.args.from c.args.label.now c.args.to pairs in
+    let read = ends_read g (goal.at.returns-in_err-prepared-clause-caused g c).After-prepare in
+    subst (λ l. IfErr c.from_residual-in_err-prepared.result (IsCaused (commands.Edge c.args.from c.args.label.now c.args.to l) s names)) c.as_slice-pairs.ensures
+    (fault_exit (λ f. f) (IsCaused command s names) c.in_err-prepared.field-0.0 c.from_residual-in_err-prepared.result c.from_residual-in_err-prepared.ensures.1
+    (caused_read command s n names read c.in_err-prepared.field-0.0
+    (line_edge n names c.args.from c.args.label.now c.args.to pairs c.in_err-prepared.field-0.0 (c.in_err-prepared.ensures.caused tells))))
+
+pub returns-in_err-id-clause-caused : goal.returns-in_err-id-clause-caused
+returns-in_err-id-clause-caused g c tells =
+    let s = g.S.Reads.state c.args.space.now in
+    let command = commands.Edge c.args.from c.args.label.now c.args.to c.args.pairs.now in
+    fault_exit (λ f. f) (IsCaused command s c.args.names.now.names) c.in_err-id.field-0.0 c.from_residual-in_err-id.result c.from_residual-in_err-id.ensures.1
+    (failure_caused command s c.args.names.now.names c.in_err-id.field-0.0 c.in_err-id.ensures.failure)
+
+pub returns-in_err-put_properties-clause-caused : goal.returns-in_err-put_properties-clause-caused
+returns-in_err-put_properties-clause-caused g c tells =
+    let s = g.S.Reads.state c.args.space.now in
+    let v = g.S.Reads.state c.put_edge.new.space in
+    let command = commands.Edge c.args.from c.args.label.now c.args.to c.args.pairs.now in
+    let to_prepare = (g.met.S.Reads.onward_shape _ _ c.node_degree-2.ensures.onward) ∙ (g.met.S.Reads.onward_shape _ _ c.node_degree.ensures.onward) in
+    let shape = (g.met.S.Reads.onward_shape _ _ c.put_edge.ensures.onward) ∙ (g.met.S.Reads.onward_shape _ _ c.prepare.ensures.onward) ∙ to_prepare in
+    fault_exit (λ f. f) (IsCaused command s c.args.names.now.names) c.in_err-put_properties.field-0.0 c.from_residual-in_err-put_properties.result c.from_residual-in_err-put_properties.ensures.1
+    (put_caused command s c.args.names.now.names v.shape shape tt c.in_err-put_properties.field-0.0 (c.in_err-put_properties.ensures.caused tells))

@@ -12,12 +12,14 @@ use Rattle.rel_store.specs.Loading as rels
 use Rattle.rel_store.specs.RelRecord.{rel_key}
 use Rattle.store_rules.specs.Writes.{WritesAtMost, WritesBeside}
 use Rattle.graph_ops.specs.Change.{IsRefusal}
-use Rattle.graph_ops.specs.ChangeFault.{LeavesSpace, of_fault}
+use Rattle.graph_ops.specs.ChangeFault.{LeavesSpace, of_fault, of_row}
 use Rattle.graph_ops.specs.EdgeDeleting.{HasBareRow}
 use Rattle.graph_ops.specs.Store.{IsStore, graph_in}
 use Rattle.graph_ops.proofs.Deleting.{edge_element, edge_lacked, edge_made, left_bare, left_store}
 use Rattle.graph_ops.proofs.Elements.{edge_missing, same_rel}
-use Rattle.graph_ops.proofs.Exits.{fault_exit, late_leaves}
+use Rattle.graph_ops.specs.Causes.{IsCaused}
+use Rattle.graph_ops.proofs.Causes.{failure_caused}
+use Rattle.graph_ops.proofs.Exits.{failure_late, fault_exit, fault_fails, late_leaves, row_fails}
 use Rattle.graph_ops.proofs.KeptLinks.{dropped_kinds}
 use Rattle.graph_ops.proofs.Setting.{prop_refused}
 use Rattle.graph_ops.proofs.Reasons.{outside_refused}
@@ -94,7 +96,7 @@ returns-in_err-take_edge-clause-leaves g c =
     let s = g.S.Reads.state c.args.space.now in
     let t = g.S.Reads.state c.take_edge.new.space in
     fault_exit (λ f. f) (LeavesSpace s t) c.in_err-take_edge.field-0.0 c.from_residual-in_err-take_edge.result c.from_residual-in_err-take_edge.ensures.1
-    (late_leaves s t c.in_err-take_edge.field-0.0 c.in_err-take_edge.ensures.late)
+    (late_leaves s t c.in_err-take_edge.field-0.0 (failure_late c.in_err-take_edge.field-0.0 c.in_err-take_edge.ensures.failure))
 
 pub returns-clause-made : goal.returns-clause-made
 returns-clause-made g c tells store =
@@ -152,3 +154,28 @@ pub returns-clause-onward : goal.returns-clause-onward
 returns-clause-onward g c =
     let on = g.met.S.Reads.further_onward in
     on _ _ _ c.load.ensures.onward (on _ _ _ c.drop_all.ensures.onward c.take_edge.ensures.onward)
+
+-- ---- why it is refused over any records
+pub returns-in_err-rel-clause-caused : goal.returns-in_err-rel-clause-caused
+returns-in_err-rel-clause-caused g c tells =
+    let command = commands.Delete (targets.Edge c.args.id) in
+    let s = g.S.Reads.state c.args.space.now in
+    fault_exit of_row (IsCaused command s c.args.names.now.names) c.in_err-rel.field-0.0 c.from_residual.result c.from_residual.ensures.1
+    (failure_caused command s c.args.names.now.names (of_row c.in_err-rel.field-0.0) (row_fails c.in_err-rel.field-0.0))
+
+pub returns-in_default-clause-caused : goal.returns-in_default-clause-caused
+returns-in_default-clause-caused g c tells = (refl, sym (sym c.in_default.is ∙ c.in_ok-rel.ensures.found tells))
+
+pub returns-in_err-dropped-clause-caused : goal.returns-in_err-dropped-clause-caused
+returns-in_err-dropped-clause-caused g c tells =
+    let command = commands.Delete (targets.Edge c.args.id) in
+    let s = g.S.Reads.state c.args.space.now in
+    fault_exit of_fault (IsCaused command s c.args.names.now.names) c.in_err-dropped.field-0.0 c.from_residual-in_err-dropped.result c.from_residual-in_err-dropped.ensures.1
+    (failure_caused command s c.args.names.now.names (of_fault c.in_err-dropped.field-0.0) (fault_fails c.in_err-dropped.field-0.0))
+
+pub returns-in_err-take_edge-clause-caused : goal.returns-in_err-take_edge-clause-caused
+returns-in_err-take_edge-clause-caused g c tells =
+    let command = commands.Delete (targets.Edge c.args.id) in
+    let s = g.S.Reads.state c.args.space.now in
+    fault_exit (λ f. f) (IsCaused command s c.args.names.now.names) c.in_err-take_edge.field-0.0 c.from_residual-in_err-take_edge.result c.from_residual-in_err-take_edge.ensures.1
+    (failure_caused command s c.args.names.now.names c.in_err-take_edge.field-0.0 c.in_err-take_edge.ensures.failure)

@@ -2,10 +2,10 @@ use Rattle.std.proofs.Common.{[], ap}
 use Rattle.rec_bytes.specs.Space.{State}
 use Rattle.rec_bytes.proofs.Spaces.{writes_none}
 use Rattle.chain_edit.specs.declared.head.Head.{Head}
-use Rattle.graph_ops.specs.ChangeFault.{IsOutside, MayComeLate, of_fault}
+use Rattle.graph_ops.specs.ChangeFault.{IsOutside, IsFailure, of_fault}
 use Rattle.graph_ops.proofs.EndsFound.{end_found, end_of, end_readable}
 use Rattle.graph_ops.proofs.EndWrites.{read_then}
-use Rattle.graph_ops.proofs.Exits.{fault_exit, fault_late, fault_outside}
+use Rattle.graph_ops.proofs.Exits.{fault_exit, fault_fails, fault_outside}
 use Rattle.graph_ops.proofs.edge_deleting.edge_end.Goals as goal
 
 -- ---- why it fails
@@ -23,8 +23,8 @@ returns-in_err-head-clause-sound g c tells names store there which =
     (fault_outside Head c.in_err-head.field-0.0 (c.in_err-head.ensures.sound tells m.shape.threshold [] c.args.id _
     (end_of s names c.args.id c.args.rel store there c.args.node which m c.end_degree.ensures.state c.at-side.result c.at-side.ensures)))
 
-pub returns-in_err-head-clause-late : goal.returns-in_err-head-clause-late
-returns-in_err-head-clause-late g c = fault_exit of_fault MayComeLate c.in_err-head.field-0.0 c.from_residual-in_err-head.result c.from_residual-in_err-head.ensures.1 (fault_late c.in_err-head.field-0.0)
+pub returns-in_err-head-clause-failure : goal.returns-in_err-head-clause-failure
+returns-in_err-head-clause-failure g c = fault_exit of_fault IsFailure c.in_err-head.field-0.0 c.from_residual-in_err-head.result c.from_residual-in_err-head.ensures.1 (fault_fails c.in_err-head.field-0.0)
 
 -- ---- what it leaves
 pub returns-clause-found : goal.returns-clause-found

@@ -1,4 +1,4 @@
-use Rattle.std.proofs.Common.{inl, inr, refl, sym}
+use Rattle.std.proofs.Common.{inl, inr, refl}
 use Rattle.rec_bytes.proofs.Spaces.{writes_then}
 use Rattle.graph_ops.specs.ChangeFault.{IsOutside}
 use Rattle.graph_ops.proofs.EndsFound.{both_found, loop_found, there_then}

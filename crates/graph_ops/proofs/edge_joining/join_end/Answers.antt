@@ -1,5 +1,5 @@
-use Rattle.graph_ops.specs.ChangeFault.{MayComeLate, of_fault, of_space}
-use Rattle.graph_ops.proofs.Exits.{fault_late, fault_exit, space_late}
+use Rattle.graph_ops.specs.ChangeFault.{IsFailure, of_fault, of_space}
+use Rattle.graph_ops.proofs.Exits.{fault_fails, fault_exit, space_fails}
 use Rattle.graph_ops.proofs.JoinWrites.{end_written, head_written}
 use Rattle.graph_ops.proofs.edge_joining.join_end.Goals as goal
 
@@ -12,8 +12,8 @@ returns-in_err-set_number-clause-writes g c = end_written _ _ _ c.args.rel c.arg
 pub returns-in_err-push_counted-clause-writes : goal.returns-in_err-push_counted-clause-writes
 returns-in_err-push_counted-clause-writes g c = head_written _ _ c.args.rel c.args.end c.push_counted.ensures.writes
 
-pub returns-in_err-push_counted-clause-late : goal.returns-in_err-push_counted-clause-late
-returns-in_err-push_counted-clause-late g c = fault_exit of_fault MayComeLate c.in_err-push_counted.field-0.0 c.from_residual.result c.from_residual.ensures.1 (fault_late c.in_err-push_counted.field-0.0)
+pub returns-in_err-push_counted-clause-failure : goal.returns-in_err-push_counted-clause-failure
+returns-in_err-push_counted-clause-failure g c = fault_exit of_fault IsFailure c.in_err-push_counted.field-0.0 c.from_residual.result c.from_residual.ensures.1 (fault_fails c.in_err-push_counted.field-0.0)
 
-pub returns-in_err-set_number-clause-late : goal.returns-in_err-set_number-clause-late
-returns-in_err-set_number-clause-late g c = fault_exit of_space MayComeLate c.in_err-set_number.field-0.0 c.from_residual-in_err-set_number.result c.from_residual-in_err-set_number.ensures.1 (space_late c.in_err-set_number.field-0.0)
+pub returns-in_err-set_number-clause-failure : goal.returns-in_err-set_number-clause-failure
+returns-in_err-set_number-clause-failure g c = fault_exit of_space IsFailure c.in_err-set_number.field-0.0 c.from_residual-in_err-set_number.result c.from_residual-in_err-set_number.ensures.1 (space_fails c.in_err-set_number.field-0.0)

@@ -6,8 +6,8 @@ use Rattle.rec_bytes.proofs.Spaces.{writes_more, writes_then}
 use Rattle.store_rules.specs.Writes.{meta_keys}
 use Rattle.rel_store.specs.declared.rel_row.RelRow.{RelRow}
 use Rattle.rel_store.specs.RelRecord.{rel_key, rel_record}
-use Rattle.graph_ops.specs.ChangeFault.{IsOutside, MayComeLate, of_space}
-use Rattle.graph_ops.proofs.Exits.{fault_exit, space_late}
+use Rattle.graph_ops.specs.ChangeFault.{IsOutside, IsFailure, of_space}
+use Rattle.graph_ops.proofs.Exits.{fault_exit, space_fails}
 use Rattle.graph_ops.proofs.Takes.{taken-shape}
 use Rattle.store_rules.proofs.WriteLaws.{among_metas}
 use Rattle.graph_ops.proofs.Writes.{on_any_err, only_read}
@@ -56,5 +56,5 @@ returns-in_err-id-clause-err_writes g c =
     let w : (id : ℕ) × WritesOnly (g.S.Reads.state c.args.space.now) (g.S.Reads.state c.take_id.new.space) (rel_key id ∷ meta_keys) = (0, only_read _ _ (rel_key 0 ∷ meta_keys) c.in_err-id.ensures.err) in
     on_any_err _ _ w
 
-pub returns-in_err-save-clause-late : goal.returns-in_err-save-clause-late
-returns-in_err-save-clause-late g c = fault_exit of_space MayComeLate c.in_err-save.field-0.0 c.from_residual-in_err-save.result c.from_residual-in_err-save.ensures.1 (space_late c.in_err-save.field-0.0)
+pub returns-in_err-save-clause-failure : goal.returns-in_err-save-clause-failure
+returns-in_err-save-clause-failure g c = fault_exit of_space IsFailure c.in_err-save.field-0.0 c.from_residual-in_err-save.result c.from_residual-in_err-save.ensures.1 (space_fails c.in_err-save.field-0.0)

@@ -1,7 +1,20 @@
 use Rattle.std.proofs.Common.{◌∙◌, refl, sym}
 use Rattle.graph_ops.proofs.Elements.{node_missing}
+use Rattle.plain_graph.specs.declared.command.Target.TheVariants as targets
+use Rattle.graph_ops.specs.ChangeFault.{of_row}
+use Rattle.graph_ops.specs.Owners.{IsAbsent}
+use Rattle.graph_ops.proofs.Causes.{node_absent}
+use Rattle.graph_ops.proofs.Exits.{fault_exit}
 use Rattle.graph_ops.proofs.edge_placing.node_degree.Goals as goal
 
 pub returns-in_default-clause-refused : goal.returns-in_default-clause-refused
 returns-in_default-clause-refused g c tells names store =
     (refl, node_missing (g.R.Reads.state c.args.space.now) c.args.id (sym c.in_default.is ∙ c.in_ok-node.ensures.found tells))
+
+pub returns-in_err-node-clause-absent : goal.returns-in_err-node-clause-absent
+returns-in_err-node-clause-absent g c tells =
+    let s = g.R.Reads.state c.args.space.now in
+    fault_exit of_row (IsAbsent s (targets.Node c.args.id)) c.in_err-node.field-0.0 c.from_residual.result c.from_residual.ensures.1 (node_absent s (targets.Node c.args.id) c.args.id c.in_err-node.field-0.0 (c.in_err-node.ensures.damaged tells))
+
+pub returns-in_default-clause-absent : goal.returns-in_default-clause-absent
+returns-in_default-clause-absent g c tells = (refl, sym (sym c.in_default.is ∙ c.in_ok-node.ensures.found tells))

@@ -1,5 +1,5 @@
 use Rattle.std.specs.Prelude.{Err, IfErr}
-use Rattle.std.proofs.Common.{◌+◌, length, ◌∙◌, sym, ap, subst, arith, refl}
+use Rattle.std.proofs.Common.{◌+◌, length, ◌∙◌, sym, ap, subst, inl, inr, arith, refl}
 use Rattle.plain_graph.specs.Refusals.{change_reasons}
 use Rattle.plain_graph.specs.Reply.{NodeMade}
 use Rattle.plain_graph.specs.declared.command.Command.TheVariants as commands
@@ -16,12 +16,18 @@ use Rattle.graph_ops.specs.Preparing.{IsPrepared}
 use Rattle.graph_ops.specs.Store.{IsStore, graph_in}
 use Rattle.graph_ops.proofs.Counted.{outside_counted, room_counted}
 use Rattle.graph_ops.proofs.ElementRooms.{room_still}
-use Rattle.graph_ops.proofs.Exits.{exit_is, fault_exit, late_leaves}
+use Rattle.graph_ops.proofs.Exits.{exit_is, failure_late, fault_exit, late_leaves}
 use Rattle.graph_ops.proofs.KeptLinks.{kind_kept}
 use Rattle.graph_ops.proofs.NodeAdded.{can_put, full_fault, full_refused, line_refused, made, not_full, put_room, room_kept}
 use Rattle.graph_ops.proofs.Reasons.{outside_refused}
 use Rattle.store_rules.proofs.WriteLaws.{beside_then, beside_written, more_written, then_written}
 use Rattle.graph_ops.proofs.Writes.{on_any_err}
+use Rattle.graph_ops.specs.Causes.{IsCaused}
+use Rattle.graph_ops.proofs.Causes.{failure_caused, line_node, put_caused, room_caused}
+use Rattle.graph_ops.specs.Damage.{BlamesAdding, BreaksAdding, IfBlames}
+use Rattle.store_rules.specs.Views.{key_in}
+use Rattle.graph_ops.proofs.Adding.{adds_none, adds_then, breaks_then, line_blamed, node_damage, room_blamed}
+use Rattle.graph_ops.proofs.Broken.{blames_more}
 use Rattle.graph_ops.proofs.node_adding.add_node.Goals as goal
 use Rattle.graph_ops.proofs.node_adding.add_node.Goals.{After-put_properties, In_err-id, In_err-put_properties, In_ok-id, In_ok-prepared}
 use Rattle.graph_ops.proofs.node_adding.add_node.Given.{Over}
@@ -78,7 +84,7 @@ returns-in_err-id-clause-leaves g c tells =
     let v = g.S.Reads.state c.put_node.new.space in
     let live = ap (λ (m : Meta). m.live) (c.in_ok-prepared.ensures.metas tells).nodes in
     fault_exit (λ f. f) (LeavesSpace s v) c.in_err-id.field-0.0 c.from_residual-in_err-id.result c.from_residual-in_err-id.ensures.1
-    (late_leaves s v c.in_err-id.field-0.0 (c.in_err-id.ensures.late tells (room_still s u format.nodes_file 1 live ((g.met.S.Reads.onward_shape _ _ c.prepare.ensures.onward)) c.in_ok-test_room.ensures.room)))
+    (late_leaves s v c.in_err-id.field-0.0 (failure_late c.in_err-id.field-0.0 (c.in_err-id.ensures.failure tells (room_still s u format.nodes_file 1 live ((g.met.S.Reads.onward_shape _ _ c.prepare.ensures.onward)) c.in_ok-test_room.ensures.room))))
 
 pub returns-in_err-id-clause-refused_writes : goal.returns-in_err-id-clause-refused_writes
 returns-in_err-id-clause-refused_writes g c = on_any_err _ _ (more_written (omega arith) (then_written c.prepare.ensures.few_writes c.in_err-id.ensures.err_writes))
@@ -192,3 +198,72 @@ returns-in_err-put_properties-clause-counts g c tells store =
     let s = g.S.Reads.state c.args.space.now in
     fault_exit (λ f. f) (IsCounted s) c.in_err-put_properties.field-0.0 c.from_residual-in_err-put_properties.result c.from_residual-in_err-put_properties.ensures.1
     (outside_counted s c.in_err-put_properties.field-0.0 (properties_outside g (goal.at.returns-in_err-put_properties-clause-counts g c).In_err-put_properties tells store))
+
+-- ---- why it is refused over any records
+pub returns-in_err-test_room-clause-caused : goal.returns-in_err-test_room-clause-caused
+returns-in_err-test_room-clause-caused g c tells =
+    let s = g.S.Reads.state c.args.space.now in
+    let command = commands.Node c.args.label.now c.args.pairs.now in
+    fault_exit (λ f. f) (IsCaused command s c.args.names.now.names) c.in_err-test_room.field-0.0 c.from_residual.result c.from_residual.ensures.1
+    (room_caused command s c.args.names.now.names format.nodes_file 1 (inl (refl, refl)) c.in_err-test_room.field-0.0 c.in_err-test_room.ensures.full)
+
+pub returns-in_err-prepared-clause-caused : goal.returns-in_err-prepared-clause-caused
+returns-in_err-prepared-clause-caused g c tells =
+    let s = g.S.Reads.state c.args.space.now in
+    let names = c.args.names.now.names in
+    subst (λ l. IfErr c.from_residual-in_err-prepared.result (IsCaused (commands.Node c.args.label.now l) s names)) c.as_slice-pairs.ensures
+    (fault_exit (λ f. f) (IsCaused (commands.Node c.args.label.now c.as_slice-pairs.result.now) s names) c.in_err-prepared.field-0.0 c.from_residual-in_err-prepared.result c.from_residual-in_err-prepared.ensures.1
+    (line_node s names c.args.label.now c.as_slice-pairs.result.now c.in_err-prepared.field-0.0 (c.in_err-prepared.ensures.caused tells)))
+
+pub returns-in_err-id-clause-caused : goal.returns-in_err-id-clause-caused
+returns-in_err-id-clause-caused g c tells =
+    let s = g.S.Reads.state c.args.space.now in
+    let u = g.S.Reads.state c.prepare.new.space in
+    let command = commands.Node c.args.label.now c.args.pairs.now in
+    let live = ap (λ (m : Meta). m.live) (c.in_ok-prepared.ensures.metas tells).nodes in
+    fault_exit (λ f. f) (IsCaused command s c.args.names.now.names) c.in_err-id.field-0.0 c.from_residual-in_err-id.result c.from_residual-in_err-id.ensures.1
+    (failure_caused command s c.args.names.now.names c.in_err-id.field-0.0
+    (c.in_err-id.ensures.failure tells (room_still s u format.nodes_file 1 live ((g.met.S.Reads.onward_shape _ _ c.prepare.ensures.onward)) c.in_ok-test_room.ensures.room)))
+
+pub returns-in_err-put_properties-clause-caused : goal.returns-in_err-put_properties-clause-caused
+returns-in_err-put_properties-clause-caused g c tells =
+    let s = g.S.Reads.state c.args.space.now in
+    let v = g.S.Reads.state c.put_node.new.space in
+    let command = commands.Node c.args.label.now c.args.pairs.now in
+    let shape = (g.met.S.Reads.onward_shape _ _ c.put_node.ensures.onward) ∙ (g.met.S.Reads.onward_shape _ _ c.prepare.ensures.onward) in
+    fault_exit (λ f. f) (IsCaused command s c.args.names.now.names) c.in_err-put_properties.field-0.0 c.from_residual-in_err-put_properties.result c.from_residual-in_err-put_properties.ensures.1
+    (put_caused command s c.args.names.now.names v.shape shape tt c.in_err-put_properties.field-0.0 (c.in_err-put_properties.ensures.caused tells))
+
+-- ---- which record is damaged
+pub returns-in_err-test_room-clause-damaged : goal.returns-in_err-test_room-clause-damaged
+returns-in_err-test_room-clause-damaged g c tells =
+    let s = g.S.Reads.state c.args.space.now in
+    fault_exit (λ f. f) (BlamesAdding format.nodes_file s) c.in_err-test_room.field-0.0 c.from_residual.result c.from_residual.ensures.1
+    (room_blamed _ s format.nodes_file 1 c.in_err-test_room.field-0.0 c.in_err-test_room.ensures.full)
+
+pub returns-in_err-prepared-clause-damaged : goal.returns-in_err-prepared-clause-damaged
+returns-in_err-prepared-clause-damaged g c tells =
+    let s = g.S.Reads.state c.args.space.now in
+    fault_exit (λ f. f) (BlamesAdding format.nodes_file s) c.in_err-prepared.field-0.0 c.from_residual-in_err-prepared.result c.from_residual-in_err-prepared.ensures.1
+    (line_blamed _ s c.args.names.now.names c.args.label.now c.as_slice-pairs.result.now c.in_err-prepared.field-0.0 (c.in_err-prepared.ensures.caused tells))
+
+pub returns-in_err-id-clause-damaged : goal.returns-in_err-id-clause-damaged
+returns-in_err-id-clause-damaged g c tells =
+    let s = g.S.Reads.state c.args.space.now in
+    let u = g.S.Reads.state c.prepare.new.space in
+    let shape = g.met.S.Reads.onward_shape _ _ c.prepare.ensures.onward in
+    fault_exit (λ f. f) (BlamesAdding format.nodes_file s) c.in_err-id.field-0.0 c.from_residual-in_err-id.result c.from_residual-in_err-id.ensures.1
+    (blames_more _ _ (λ damage told. inl (node_damage s u (c.in_ok-prepared.ensures.metas tells).nodes shape (c.in_ok-prepared.ensures.stays tells) damage told)) c.in_err-id.field-0.0 (c.in_err-id.ensures.damaged tells))
+
+pub returns-in_err-put_properties-clause-damaged : goal.returns-in_err-put_properties-clause-damaged
+returns-in_err-put_properties-clause-damaged g c tells =
+    let s = g.S.Reads.state c.args.space.now in
+    let u = g.S.Reads.state c.prepare.new.space in
+    let v = g.S.Reads.state c.put_node.new.space in
+    let id = c.in_ok-id.id in
+    let key = key_in format.nodes_file id in
+    let shape = g.met.S.Reads.onward_shape _ _ c.prepare.ensures.onward in
+    let adds = adds_then key s u v (adds_none key s u shape (c.in_ok-prepared.ensures.stays tells)) (c.in_ok-id.ensures.adds tells) in
+    let told = subst (λ (o : Owner). IfBlames (BreaksAdding o.key v) c.in_err-put_properties.field-0.0) c.node_owner.ensures (c.in_err-put_properties.ensures.damaged tells) in
+    fault_exit (λ f. f) (BlamesAdding format.nodes_file s) c.in_err-put_properties.field-0.0 c.from_residual-in_err-put_properties.result c.from_residual-in_err-put_properties.ensures.1
+    (blames_more _ _ (λ damage breaks. inr (id, breaks_then key s v adds damage breaks)) c.in_err-put_properties.field-0.0 told)

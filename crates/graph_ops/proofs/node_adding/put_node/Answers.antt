@@ -1,16 +1,20 @@
-use Rattle.std.proofs.Common.{◌≡◌, ◌∙◌, ap, refl, inl, inr, ⊎_elim, [], ◌∷◌}
+use Rattle.std.proofs.Common.{◌≡◌, ◌∙◌, ap, refl, sym, subst, inl, inr, ⊎_elim, [], ◌∷◌}
 use Rattle.rec_bytes.specs.Format as format
 use Rattle.rec_bytes.specs.RecordFiles.{meta_key_of}
 use Rattle.rec_bytes.specs.Space.{State, after_put}
 use Rattle.store_rules.specs.Views.{key_in}
 use Rattle.node_store.specs.declared.node_row.NodeRow.{NodeRow}
 use Rattle.node_store.specs.NodeRecord.{node_key, node_record}
-use Rattle.graph_ops.specs.ChangeFault.{IsOutside, MayComeLate, of_space, of_take}
-use Rattle.graph_ops.proofs.Exits.{fault_exit, space_late}
+use Rattle.graph_ops.specs.ChangeFault.{IsOutside, IsFailure, of_space, of_take}
+use Rattle.graph_ops.proofs.Exits.{fault_exit, space_fails}
 use Rattle.graph_ops.proofs.NodePut.{puts_node}
-use Rattle.graph_ops.proofs.Takes.{store_can_take, take_late, take_outside, taken-shape}
+use Rattle.graph_ops.proofs.Takes.{store_can_take, take_fails, take_outside, taken-shape}
 use Rattle.store_rules.proofs.WriteLaws.{among_metas, beside_then, then_written, this_written}
 use Rattle.graph_ops.proofs.Writes.{on_any_err, read_exit, record_written, taken_written}
+use Rattle.graph_ops.specs.Damage.{AddsElement, IfBlames}
+use Rattle.id_freelist.specs.Taking.{IsTakeDamage}
+use Rattle.graph_ops.specs.NodeAdding.{new_row}
+use Rattle.graph_ops.proofs.Adding.{adds_record, space_blamed, take_blamed}
 use Rattle.graph_ops.proofs.node_adding.put_node.Goals as goal
 use Rattle.graph_ops.proofs.node_adding.put_node.Goals.{In_ok-id}
 use Rattle.graph_ops.proofs.node_adding.put_node.Given.{Over}
@@ -40,12 +44,12 @@ returns-clause-writes g c =
     (this_written key (g.S.Reads.state c.take.new.space) (g.S.Reads.state c.save.new.space) (node_key c.new_row.result.id ∷ [])
     (λ q i. ⊎_elim (λ e. inl (e ∙ ap (λ (r : NodeRow). node_key r.id) c.new_row.ensures)) (λ e. absurd e) i) c.save.ensures.writes)
 
-pub returns-in_err-id-clause-late : goal.returns-in_err-id-clause-late
-returns-in_err-id-clause-late g c tells room =
-    fault_exit of_take MayComeLate c.in_err-id.field-0.0 c.from_residual.result c.from_residual.ensures.1 (take_late (g.S.Reads.state c.args.space.now) format.nodes_file c.in_err-id.field-0.0 room (c.in_err-id.ensures.refused tells))
+pub returns-in_err-id-clause-failure : goal.returns-in_err-id-clause-failure
+returns-in_err-id-clause-failure g c tells room =
+    fault_exit of_take IsFailure c.in_err-id.field-0.0 c.from_residual.result c.from_residual.ensures.1 (take_fails (g.S.Reads.state c.args.space.now) format.nodes_file c.in_err-id.field-0.0 room (c.in_err-id.ensures.refused tells))
 
-pub returns-in_err-save-clause-late : goal.returns-in_err-save-clause-late
-returns-in_err-save-clause-late g c tells room = fault_exit of_space MayComeLate c.in_err-save.field-0.0 c.from_residual-in_err-save.result c.from_residual-in_err-save.ensures.1 (space_late c.in_err-save.field-0.0)
+pub returns-in_err-save-clause-failure : goal.returns-in_err-save-clause-failure
+returns-in_err-save-clause-failure g c tells room = fault_exit of_space IsFailure c.in_err-save.field-0.0 c.from_residual-in_err-save.result c.from_residual-in_err-save.ensures.1 (space_fails c.in_err-save.field-0.0)
 
 pub returns-in_err-id-clause-err_writes : goal.returns-in_err-id-clause-err_writes
 returns-in_err-id-clause-err_writes g c = read_exit _ 1 _ _ c.in_err-id.ensures.err
@@ -53,3 +57,23 @@ returns-in_err-id-clause-err_writes g c = read_exit _ 1 _ _ c.in_err-id.ensures.
 pub returns-in_err-save-clause-err_writes : goal.returns-in_err-save-clause-err_writes
 returns-in_err-save-clause-err_writes g c =
     on_any_err _ _ (then_written (taken_written format.nodes_file _ _ refl c.take.ensures.writes) (record_written (node_key c.new_row.result.id) _ _ refl c.save.ensures.writes))
+
+-- ---- which record is damaged, and which ones differ
+pub returns-in_err-id-clause-damaged : goal.returns-in_err-id-clause-damaged
+returns-in_err-id-clause-damaged g c tells =
+    let s = g.S.Reads.state c.args.space.now in
+    fault_exit of_take (IfBlames (IsTakeDamage s format.nodes_file)) c.in_err-id.field-0.0 c.from_residual.result c.from_residual.ensures.1 (take_blamed s format.nodes_file c.in_err-id.field-0.0 (c.in_err-id.ensures.refused tells))
+
+pub returns-in_err-save-clause-damaged : goal.returns-in_err-save-clause-damaged
+returns-in_err-save-clause-damaged g c tells =
+    let s = g.S.Reads.state c.args.space.now in
+    fault_exit of_space (IfBlames (IsTakeDamage s format.nodes_file)) c.in_err-save.field-0.0 c.from_residual-in_err-save.result c.from_residual-in_err-save.ensures.1 (space_blamed _ c.in_err-save.field-0.0)
+
+pub returns-clause-adds : goal.returns-clause-adds
+returns-clause-adds g c tells =
+    let s = g.S.Reads.state c.args.space.now in
+    let t = g.S.Reads.state c.take.new.space in
+    let key = key_in format.nodes_file c.in_ok-id.id in
+    let row = new_row c.in_ok-id.id c.args.label in
+    subst (AddsElement key s) (sym (c.in_ok-save.ensures.ok ∙ ap (λ (r : NodeRow). after_put t (node_key r.id) (node_record r)) c.new_row.ensures))
+    (adds_record key s t (node_record row) (took g (goal.at.returns-clause-adds g c).In_ok-id tells) (c.take.ensures.stays tells))

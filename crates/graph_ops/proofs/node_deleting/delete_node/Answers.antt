@@ -12,7 +12,7 @@ use Rattle.store_rules.specs.Views.{degree, key_in, kind_at}
 use Rattle.store_rules.specs.Writes.{WritesAtMost, WritesBeside}
 use Rattle.store_rules.proofs.GraphRows.{degree_in-degree}
 use Rattle.graph_ops.specs.Change.{IsRefusal}
-use Rattle.graph_ops.specs.ChangeFault.{of_fault, of_row}
+use Rattle.graph_ops.specs.ChangeFault.{of_fault, of_row, of_space}
 use Rattle.graph_ops.specs.NodeDeleting.{IsDeleteCause}
 use Rattle.graph_ops.specs.Store.{graph_in}
 use Rattle.graph_ops.proofs.Deleting.{node_deleted, node_kinds, node_joined, node_lacked}
@@ -20,7 +20,9 @@ use Rattle.graph_ops.proofs.Elements.{node_loaded, node_missing, same_node, used
 use Rattle.graph_ops.specs.Owners.{owner_of}
 use Rattle.prop_store.specs.Owner.{IsInUse}
 use Rattle.graph_ops.proofs.Broken.{drop_cause, node_cause, node_in_use}
-use Rattle.graph_ops.proofs.Exits.{fault_exit}
+use Rattle.graph_ops.specs.Causes.{IsCaused}
+use Rattle.graph_ops.proofs.Causes.{failure_caused}
+use Rattle.graph_ops.proofs.Exits.{fault_exit, fault_fails, row_fails, space_fails}
 use Rattle.graph_ops.proofs.Setting.{has_owner, prop_refused}
 use Rattle.graph_ops.proofs.Readings.{made_read, store_read, there_read}
 use Rattle.store_rules.proofs.WriteLaws.{among_metas, beside_then, beside_written, more_written, none_written, then_written, this_written}
@@ -149,3 +151,32 @@ returns-in_err-give-clause-refused_writes g c =
 
 pub returns-clause-light : goal.returns-clause-light
 returns-clause-light g c = let p = c.in_ok-dropped.ensures.few_properties in let b = c.in_ok-dropped.ensures.few_blocks in omega arith
+
+-- ---- why it is refused over any records
+pub returns-in_err-node-clause-caused : goal.returns-in_err-node-clause-caused
+returns-in_err-node-clause-caused g c tells =
+    let command = commands.Delete (targets.Node c.args.id) in
+    let s = g.S.Reads.state c.args.space.now in
+    fault_exit of_row (IsCaused command s c.args.names.now.names) c.in_err-node.field-0.0 c.from_residual.result c.from_residual.ensures.1
+    (failure_caused command s c.args.names.now.names (of_row c.in_err-node.field-0.0) (row_fails c.in_err-node.field-0.0))
+
+pub returns-in_default-clause-caused : goal.returns-in_default-clause-caused
+returns-in_default-clause-caused g c tells = (refl, sym (sym c.in_default.is ∙ c.in_ok-node.ensures.found tells))
+
+pub returns-then-node-ne0-clause-caused : goal.returns-then-node-ne0-clause-caused
+returns-then-node-ne0-clause-caused g c tells =
+    (refl, record { row = c.in-Some.node; found = sym (sym c.in-Some.is ∙ c.in_ok-node.ensures.found tells); is = refl }, c.if-node-ne0.true)
+
+pub returns-in_err-dropped-clause-caused : goal.returns-in_err-dropped-clause-caused
+returns-in_err-dropped-clause-caused g c tells =
+    let command = commands.Delete (targets.Node c.args.id) in
+    let s = g.S.Reads.state c.args.space.now in
+    fault_exit of_fault (IsCaused command s c.args.names.now.names) c.in_err-dropped.field-0.0 c.from_residual-in_err-dropped.result c.from_residual-in_err-dropped.ensures.1
+    (failure_caused command s c.args.names.now.names (of_fault c.in_err-dropped.field-0.0) (fault_fails c.in_err-dropped.field-0.0))
+
+pub returns-in_err-give-clause-caused : goal.returns-in_err-give-clause-caused
+returns-in_err-give-clause-caused g c tells =
+    let command = commands.Delete (targets.Node c.args.id) in
+    let s = g.S.Reads.state c.args.space.now in
+    fault_exit of_space (IsCaused command s c.args.names.now.names) c.in_err-give.field-0.0 c.from_residual-in_err-give.result c.from_residual-in_err-give.ensures.1
+    (failure_caused command s c.args.names.now.names (of_space c.in_err-give.field-0.0) (space_fails c.in_err-give.field-0.0))

@@ -7,6 +7,8 @@ use Rattle.graph_ops.specs.Owners.{MayMiss}
 use Rattle.graph_ops.proofs.Broken.{node_broken, node_in_use, rel_broken, rel_in_use, row_misses}
 use Rattle.graph_ops.proofs.Exits.{fault_exit}
 use Rattle.graph_ops.proofs.Elements.{edge_loaded, edge_missing, node_loaded, node_missing}
+use Rattle.graph_ops.specs.Owners.{IsAbsent}
+use Rattle.graph_ops.proofs.Causes.{edge_absent, node_absent}
 use Rattle.graph_ops.proofs.owners.find_owner.Goals as goal
 
 pub returns-in-Some-clause-there : goal.returns-in-Some-clause-there
@@ -54,3 +56,15 @@ returns-in_err-load-in-Node-clause-missing g c = fault_exit of_row MayMiss c.in_
 
 pub returns-in_err-load-in-Edge-clause-missing : goal.returns-in_err-load-in-Edge-clause-missing
 returns-in_err-load-in-Edge-clause-missing g c = fault_exit of_row MayMiss c.in_err-load-in-Edge.field-0.0 c.from_residual-in_err-load-in-Edge.result c.from_residual-in_err-load-in-Edge.ensures.1 (row_misses c.in_err-load-in-Edge.field-0.0)
+
+-- ---- why it isn't found
+
+pub returns-in_err-load-in-Node-clause-absent : goal.returns-in_err-load-in-Node-clause-absent
+returns-in_err-load-in-Node-clause-absent g c tells =
+    let s = g.R.Reads.state c.args.space.now in
+    fault_exit of_row (IsAbsent s c.args.target) c.in_err-load-in-Node.field-0.0 c.from_residual.result c.from_residual.ensures.1 (node_absent s c.args.target c.in-Node.id c.in_err-load-in-Node.field-0.0 (c.in_err-load-in-Node.ensures.damaged tells))
+
+pub returns-in_err-load-in-Edge-clause-absent : goal.returns-in_err-load-in-Edge-clause-absent
+returns-in_err-load-in-Edge-clause-absent g c tells =
+    let s = g.R.Reads.state c.args.space.now in
+    fault_exit of_row (IsAbsent s c.args.target) c.in_err-load-in-Edge.field-0.0 c.from_residual-in_err-load-in-Edge.result c.from_residual-in_err-load-in-Edge.ensures.1 (edge_absent s c.args.target c.in-Edge.id c.in_err-load-in-Edge.field-0.0 (c.in_err-load-in-Edge.ensures.damaged tells))

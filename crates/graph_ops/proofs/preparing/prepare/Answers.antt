@@ -9,7 +9,7 @@ use Rattle.store_rules.specs.Writes.{WritesAtMost}
 use Rattle.graph_ops.specs.Assigning.{HasPropertyRoom, IsReserveFault, assigned_blocks}
 use Rattle.graph_ops.specs.Change.{IsCounted, IsRefusedBy}
 use Rattle.graph_ops.specs.ChangeFault.{of_intern}
-use Rattle.graph_ops.specs.Preparing.{line_reasons}
+use Rattle.graph_ops.specs.Preparing.{IsLineCause, line_reasons}
 use Rattle.graph_ops.specs.Store.{IsStore, KeepsElements, graph_in}
 use Rattle.graph_ops.proofs.Counted.{assign_counted, count_full, reserve_counted}
 use Rattle.graph_ops.proofs.Exits.{fault_exit}
@@ -19,6 +19,8 @@ use Rattle.graph_ops.proofs.LineNames.{held_name, name_long, name_prefix, uses_l
 use Rattle.graph_ops.proofs.NewNames.{name_one}
 use Rattle.graph_ops.proofs.Preparation.{assign_refused_by, label_refused, prepared_is, reserve_refused}
 use Rattle.store_rules.proofs.WriteLaws.{more_written, then_written}
+use Rattle.graph_ops.proofs.Causes.{assign_caused, label_caused, reserve_caused}
+use Rattle.graph_ops.proofs.Adding.{beyond_then, interned_beyond}
 use Rattle.graph_ops.proofs.preparing.prepare.Goals as goal
 use Rattle.graph_ops.proofs.preparing.prepare.Goals.{After-assign_pairs, After-intern, In_ok-assigned, In_ok-label}
 use Rattle.graph_ops.proofs.preparing.prepare.Given.{Over}
@@ -177,3 +179,40 @@ returns-clause-writes g c =
     more_written (omega arith) (then_written
     (name_written (g.S.Reads.state c.args.space.now) (g.S.Reads.state c.intern.new.space) c.args.names.now.names c.intern.new.self.names c.as_bytes.result.now c.in_ok-label.ensures.names (λ k. (c.intern.ensures.known k).1) c.intern.ensures.writes)
     c.in_ok-assigned.ensures.writes)
+
+-- ---- why it is refused over any records
+pub returns-in_err-label-clause-caused : goal.returns-in_err-label-clause-caused
+returns-in_err-label-clause-caused g c tells =
+    let s = g.S.Reads.state c.args.space.now in
+    let old = c.args.names.now.names in
+    fault_exit of_intern (IsLineCause s old c.args.label.now c.args.pairs.now) c.in_err-label.field-0.0 c.from_residual.result c.from_residual.ensures.1
+    (label_caused s old c.args.label.now c.args.pairs.now c.in_err-label.field-0.0 (rw c.as_bytes.ensures at c.in_err-label.ensures.full_only))
+
+pub returns-in_err-assigned-clause-caused : goal.returns-in_err-assigned-clause-caused
+returns-in_err-assigned-clause-caused g c tells =
+    let s = g.S.Reads.state c.args.space.now in
+    let old = c.args.names.now.names in
+    fault_exit (λ f. f) (IsLineCause s old c.args.label.now c.args.pairs.now) c.in_err-assigned.field-0.0 c.from_residual-in_err-assigned.result c.from_residual-in_err-assigned.ensures.1
+    (assign_caused s old c.intern.new.self.names c.args.label.now c.args.pairs.now (uses g (goal.at.returns-in_err-assigned-clause-caused g c).In_ok-label) c.in_err-assigned.field-0.0 c.in_err-assigned.ensures.refused c.in_err-assigned.ensures.counts)
+
+pub returns-in_err-blocks-clause-caused : goal.returns-in_err-blocks-clause-caused
+returns-in_err-blocks-clause-caused g c tells =
+    let s = g.S.Reads.state c.args.space.now in
+    let t = g.S.Reads.state c.intern.new.space in
+    let u = g.S.Reads.state c.assign_pairs.new.space in
+    let old = c.args.names.now.names in
+    let names = c.assign_pairs.new.names.names in
+    let pairs = c.args.pairs.now in
+    let items = c.in_ok-assigned.assigned.items in
+    let fault = c.in_err-blocks.field-0.0 in
+    let metas = metas_then (metas_interned s t old c.intern.new.self.names c.as_bytes.result.now (c.in_ok-label.ensures.ok tells) c.in_ok-label.ensures.names) (c.in_ok-assigned.ensures.metas tells) in
+    let shape = (g.met.S.Reads.onward_shape _ _ c.assign_pairs.ensures.onward) ∙ (g.met.S.Reads.onward_shape _ _ c.intern.ensures.onward) in
+    fault_exit (λ f. f) (IsLineCause s old c.args.label.now pairs) fault c.from_residual-in_err-blocks.result c.from_residual-in_err-blocks.ensures.1
+    (reserve_caused s u old c.args.label.now pairs shape (length items) (assigned_blocks pairs items) (length-assigned names pairs items c.in_ok-assigned.ensures.assigned) (blocks-assigned names pairs items c.in_ok-assigned.ensures.assigned) metas fault
+    (subst (λ l. IsReserveFault u (length l) (assigned_blocks pairs l) fault) c.deref.ensures.0 c.in_err-blocks.ensures.refused))
+
+pub returns-clause-stays : goal.returns-clause-stays
+returns-clause-stays g c tells =
+    let s = g.S.Reads.state c.args.space.now in
+    let t = g.S.Reads.state c.intern.new.space in
+    beyond_then s t (g.S.Reads.state c.assign_pairs.new.space) (interned_beyond s t c.args.names.now.names c.as_bytes.result.now (c.in_ok-label.ensures.ok tells)) (c.in_ok-assigned.ensures.stays tells)

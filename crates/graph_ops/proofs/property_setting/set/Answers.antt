@@ -1,5 +1,5 @@
 use Rattle.std.specs.Prelude.{Contains, slice_get}
-use Rattle.std.proofs.Common.{◌≡◌, ◌≢◌, ◌∙◌, ℕ, ◌+◌, ◌-◌, ◌≤◌, true, Some, length, sym, ap, subst, arith}
+use Rattle.std.proofs.Common.{◌≡◌, ◌≢◌, ◌∙◌, ℕ, ◌+◌, ◌-◌, ◌≤◌, true, Some, length, sym, ap, subst, inl, arith, refl}
 use Rattle.plain_graph.specs.Graph.{UsesName, has_element}
 use Rattle.plain_graph.specs.Properties.{blocks_of}
 use Rattle.plain_graph.specs.Refusals.{most_names}
@@ -25,6 +25,13 @@ use Rattle.graph_ops.proofs.Setting.{few_blocks, set_known, set_missing, set_ref
 use Rattle.graph_ops.proofs.Readings.{made_read, store_read, there_read}
 use Rattle.store_rules.proofs.WriteLaws.{more_written, none_written, then_written}
 use Rattle.graph_ops.proofs.Writes.{on_any_err, own_record, touched_written}
+use Rattle.graph_ops.specs.Causes.{IsCaused}
+use Rattle.graph_ops.specs.Damage.{BlamesGiven}
+use Rattle.graph_ops.specs.Owners.{owner_of}
+use Rattle.prop_store.specs.Owner.{IsInUse}
+use Rattle.rec_bytes.specs.Space.{SameButReads, State}
+use Rattle.graph_ops.proofs.Broken.{blames_more, interned_in_use, interned_read, key_blamed, value_blamed}
+use Rattle.graph_ops.proofs.Causes.{absent_caused, add_caused, key_caused, put_caused}
 use Rattle.graph_ops.proofs.property_setting.set.Goals as goal
 use Rattle.graph_ops.proofs.property_setting.set.Goals.{After-intern, After-set}
 use Rattle.graph_ops.proofs.property_setting.set.Given.{Over}
@@ -171,3 +178,62 @@ returns-in_err-released-clause-counts g c tells =
     let shape : t.shape ≡ s.shape = g.met.S.Reads.onward_shape _ _ c.intern.ensures.onward ∙ g.met.S.Reads.onward_shape _ _ c.find_owner.ensures.onward in
     fault_exit of_set (IsSetCount s.shape) c.in_err-released.field-0.0 c.from_residual-in_err-released.result c.from_residual-in_err-released.ensures.1
     (set_exact s.shape c.in_err-released.field-0.0 (subst (λ (h : Shape). IsExact h c.in_err-released.field-0.0) shape (c.in_err-released.ensures.exact tells)))
+
+-- ---- why it is refused over any records
+pub returns-in_err-owner-clause-caused : goal.returns-in_err-owner-clause-caused
+returns-in_err-owner-clause-caused g c tells =
+    let s = g.S.Reads.state c.args.space.now in
+    let command = commands.Set c.args.target c.args.key.now c.args.value.now in
+    fault_exit (λ f. f) (IsCaused command s c.args.names.now.names) c.in_err-owner.field-0.0 c.from_residual.result c.from_residual.ensures.1
+    (absent_caused command s c.args.names.now.names c.args.target (λ id e. e) (λ id e. e) c.in_err-owner.field-0.0 (c.in_err-owner.ensures.absent tells))
+
+pub returns-in_err-number-clause-caused : goal.returns-in_err-number-clause-caused
+returns-in_err-number-clause-caused g c tells =
+    let s = g.S.Reads.state c.args.space.now in
+    let names = c.args.names.now.names in
+    fault_exit of_intern (IsCaused (commands.Set c.args.target c.args.key.now c.args.value.now) s names) c.in_err-number.field-0.0 c.from_residual-in_err-number.result c.from_residual-in_err-number.ensures.1
+    (key_caused s names c.args.target c.args.key.now c.args.value.now c.in_err-number.field-0.0 (subst (λ k. IsFullFault names k c.in_err-number.field-0.0) c.as_bytes.ensures c.in_err-number.ensures.full_only))
+
+pub returns-in_err-released-clause-caused : goal.returns-in_err-released-clause-caused
+returns-in_err-released-clause-caused g c tells =
+    let s = g.S.Reads.state c.args.space.now in
+    let t = g.S.Reads.state c.intern.new.space in
+    let command = commands.Set c.args.target c.args.key.now c.args.value.now in
+    let shape = (g.met.S.Reads.onward_shape _ _ c.intern.ensures.onward) ∙ (g.met.S.Reads.onward_shape _ _ c.find_owner.ensures.onward) in
+    fault_exit of_set (IsCaused command s c.args.names.now.names) c.in_err-released.field-0.0 c.from_residual-in_err-released.result c.from_residual-in_err-released.ensures.1
+    (put_caused command s c.args.names.now.names s.shape refl tt (of_set c.in_err-released.field-0.0)
+    (add_caused t s.shape shape c.in_err-released.field-0.0 (c.in_err-released.ensures.full tells) (c.in_err-released.ensures.exact tells)))
+
+-- ---- what is damaged
+pub returns-in_err-owner-clause-damaged : goal.returns-in_err-owner-clause-damaged
+returns-in_err-owner-clause-damaged g c tells =
+    let s = g.S.Reads.state c.args.space.now in
+    let named = interned s c.args.names.now.names c.args.key.now in
+    let blocks = 22 + blocks_of c.args.value.now in
+    fault_exit (λ f. f) (BlamesGiven g.S.Reads.tells blocks s named) c.in_err-owner.field-0.0 c.from_residual.result c.from_residual.ensures.1
+    (blames_more _ _ (λ damage broken. inl broken) c.in_err-owner.field-0.0 (c.in_err-owner.ensures.damaged tells))
+
+pub returns-in_err-number-clause-damaged : goal.returns-in_err-number-clause-damaged
+returns-in_err-number-clause-damaged g c tells =
+    let s = g.S.Reads.state c.args.space.now in
+    let named = interned s c.args.names.now.names c.args.key.now in
+    let blocks = 22 + blocks_of c.args.value.now in
+    fault_exit of_intern (BlamesGiven g.S.Reads.tells blocks s named) c.in_err-number.field-0.0 c.from_residual-in_err-number.result c.from_residual-in_err-number.ensures.1
+    (key_blamed g.S.Reads.tells blocks s named c.in_err-number.field-0.0)
+
+pub returns-in_err-released-clause-damaged : goal.returns-in_err-released-clause-damaged
+returns-in_err-released-clause-damaged g c tells =
+    let after = (goal.at.returns-in_err-released-clause-damaged g c).After-set in
+    let s = g.S.Reads.state c.args.space.now in
+    let m = g.S.Reads.state c.find_owner.new.space in
+    let t = g.S.Reads.state c.intern.new.space in
+    let names = c.args.names.now.names in
+    let key = c.args.key.now in
+    let named = interned s names key in
+    let blocks = 22 + blocks_of c.args.value.now in
+    let is = subst (λ k. t ≡ interned m names k) (text_is g after) (c.in_ok-number.ensures.ok tells) in
+    let same = subst (SameButReads named) (sym is) (interned_read s m names key c.find_owner.ensures.state) in
+    let used = subst (λ (z : State). IsInUse z.records (owner_of c.args.target)) (sym c.find_owner.ensures.state) (c.in_ok-owner.ensures.in_use tells) in
+    let kept = subst (λ (z : State). IsInUse z.records (owner_of c.args.target)) (sym is) (interned_in_use m names key c.args.target used) in
+    fault_exit of_set (BlamesGiven g.S.Reads.tells blocks s named) c.in_err-released.field-0.0 c.from_residual-in_err-released.result c.from_residual-in_err-released.ensures.1
+    (value_blamed g.S.Reads.tells blocks s named t same c.in_err-released.field-0.0 (c.in_err-released.ensures.damaged tells (subst (IsInUse t.records) (sym c.in_ok-owner.ensures.owner) kept)))

@@ -11,7 +11,9 @@ use Rattle.graph_ops.specs.Store.{graph_in}
 use Rattle.prop_store.specs.Owner.{IsInUse}
 use Rattle.rec_bytes.specs.Space.{State}
 use Rattle.graph_ops.proofs.Broken.{read_broken}
-use Rattle.graph_ops.proofs.Exits.{fault_exit}
+use Rattle.graph_ops.specs.Causes.{IsCaused}
+use Rattle.graph_ops.proofs.Causes.{absent_caused, failure_caused}
+use Rattle.graph_ops.proofs.Exits.{fault_exit, fault_fails}
 use Rattle.graph_ops.proofs.Readings.{made_read, store_read, there_read}
 use Rattle.graph_ops.proofs.Setting.{has_key, prop_refused, unnamed_none, unset_absent, unset_missing, unset_nothing, unset_value}
 use Rattle.graph_ops.proofs.property_setting.unset.Goals as goal
@@ -91,3 +93,18 @@ returns-in_err-released-clause-damaged g c tells =
     let used = subst (λ (z : State). IsInUse z.records (owner_of c.args.target)) (sym c.find_owner.ensures.state) (c.in_ok-owner.ensures.in_use tells) in
     fault_exit of_fault (BlamesBroken s) c.in_err-released.field-0.0 c.from_residual-in_err-released.result c.from_residual-in_err-released.ensures.1
     (read_broken s m c.find_owner.ensures.state c.in_err-released.field-0.0 (c.in_err-released.ensures.damaged tells (subst (IsInUse m.records) (sym c.in_ok-owner.ensures.owner) used)))
+
+-- ---- why it is refused over any records
+pub returns-in_err-owner-clause-caused : goal.returns-in_err-owner-clause-caused
+returns-in_err-owner-clause-caused g c tells =
+    let s = g.S.Reads.state c.args.space.now in
+    let command = commands.Unset c.args.target c.args.key.now in
+    fault_exit (λ f. f) (IsCaused command s c.args.names.now.names) c.in_err-owner.field-0.0 c.from_residual.result c.from_residual.ensures.1
+    (absent_caused command s c.args.names.now.names c.args.target (λ id e. e) (λ id e. e) c.in_err-owner.field-0.0 (c.in_err-owner.ensures.absent tells))
+
+pub returns-in_err-released-clause-caused : goal.returns-in_err-released-clause-caused
+returns-in_err-released-clause-caused g c tells =
+    let s = g.S.Reads.state c.args.space.now in
+    let command = commands.Unset c.args.target c.args.key.now in
+    fault_exit of_fault (IsCaused command s c.args.names.now.names) c.in_err-released.field-0.0 c.from_residual-in_err-released.result c.from_residual-in_err-released.ensures.1
+    (failure_caused command s c.args.names.now.names (of_fault c.in_err-released.field-0.0) (fault_fails c.in_err-released.field-0.0))
