@@ -77,7 +77,6 @@ pub trait Reads {
     fn get_into(&mut self, key: Key, rec: &mut Rec) -> Result<(), SpaceFault>
         requires { IsKey key }
         ensures got { tells → OnOk result (rec.new ≡ (state self.old).records key) }
-        ensures whole { length rec.new.bytes ≡ 64 }
         ensures err { OnErr result (rec.new ≡ rec.old) }
         ensures state { state self.new ≡ after_get (state self.old) }
         ensures refused { IfErr result (λ fault. fault ≡ SpaceFault.Disk) }
