@@ -1,7 +1,7 @@
-ghost use Rattle.std.specs.Prelude.{◌≡◌, ◌*◌, IfOk, IsOk, IsSome, length, true};
+ghost use Rattle.std.specs.Prelude.{◌≡◌, ◌*◌, IsOk, IsSome, OnErr, OnOk, is_some, true};
 ghost use Rattle.fault_count.specs.Cause.{HasCause};
 ghost use Rattle.rec_bytes.specs.Key.{IsKey};
-ghost use Rattle.rec_bytes.specs.Pairs.{find_pair};
+ghost use Rattle.rec_bytes.specs.Pairs.{find_pair, held_at};
 ghost use Rattle.rec_bytes.specs.RecordFiles.{is_meta_file, meta_key_of};
 ghost use Rattle.page_cache.specs.Pages.{kept_page};
 ghost use Rattle.txn_core.specs.Base.{OnlyReadsBase, working};
@@ -11,28 +11,27 @@ use disk_model::Disk;
 use rec_bytes::{DiskFault, Key, Rec, WriteSet, meta_key};
 
 impl<'d, D: Disk> Base<'d, D> {
-    // The record at a key as the open transaction has it. If it is in memory, or its page is, the
-    // disk isn't called; else it is called once.
-    pub(crate) fn fetch(&mut self, key: Key) -> Result<Rec, DiskFault>
+    // Reads the record at a key, as the open transaction has it, into the caller's, which an error
+    // leaves as it was. If the record is in memory, or its page is, the disk isn't called; else it
+    // is called once.
+    pub(crate) fn fetch_into(&mut self, key: Key, rec: &mut Rec) -> Result<(), DiskFault>
         requires { IsKey key }
-        ensures got { D.tells_reads → IfOk result (λ rec. rec ≡ working self.old key) }
-        ensures whole { IfOk result (λ rec. length rec.bytes ≡ 64) }
+        ensures got { D.tells_reads → OnOk result (rec.new ≡ working self.old key) }
+        ensures err { OnErr result (rec.new ≡ rec.old) }
         ensures hit { IsSome (kept_page key self.old.cache)
             → IsOk result × (self.new.disk.now ≡ self.old.disk.now) }
         ensures records { working self.new ≡ working self.old }
         ensures onward { OnlyReadsBase self.old self.new }
         ensures cause { HasCause (D.faults self.old.disk.now) (D.faults self.new.disk.now) result }
     {
-        if let Some(rec) = found(&self.own, key) {
-            return Ok(rec);
+        if found_into(&self.own, key, rec) || found_into(&self.changed, key, rec) {
+            return Ok(());
         }
-        if let Some(rec) = found(&self.changed, key) {
-            return Ok(rec);
+        if let Some(meta) = self.metas.find(key) {
+            *rec = meta;
+            return Ok(());
         }
-        if let Some(rec) = self.metas.find(key) {
-            return Ok(rec);
-        }
-        self.cache.get(self.disk, key)
+        self.cache.get_into(self.disk, key, rec)
     }
 
     // The meta record of a file, which is in memory.
@@ -41,22 +40,19 @@ impl<'d, D: Disk> Base<'d, D> {
         ensures { result ≡ working self.now (meta_key_of file) }
     {
         let key = meta_key(file);
-        if let Some(rec) = found(&self.own, key) {
-            return rec;
+        let mut rec = self.metas.of_file(file);
+        if !found_into(&self.own, key, &mut rec) {
+            found_into(&self.changed, key, &mut rec);
         }
-        if let Some(rec) = found(&self.changed, key) {
-            return rec;
-        }
-        self.metas.of_file(file)
+        rec
     }
 }
 
-/// The record of a set at a key. A set that has none costs a compare.
-pub(crate) fn found(set: &WriteSet, key: Key) -> Option<Rec>
-    ensures { result ≡ find_pair set.now.pairs key }
+/// Reads the record of a set at a key into the caller's, which stays where there is none, and says
+/// whether there is one. A set that has none costs a compare.
+pub(crate) fn found_into(set: &WriteSet, key: Key, rec: &mut Rec) -> bool
+    ensures found { result ≡ is_some (find_pair set.now.pairs key) }
+    ensures rec { rec.new ≡ held_at set.now.pairs key rec.old }
 {
-    if set.len() == 0 {
-        return None;
-    }
-    set.find(key)
+    set.len() > 0 && set.find_into(key, rec)
 }

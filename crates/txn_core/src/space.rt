@@ -4,7 +4,7 @@ ghost use Rattle.txn_core.specs.OnlyReading.{only_reads_base_none, only_reads_ba
 ghost use Rattle.txn_core.specs.Store.{state_of};
 
 use crate::Store;
-use crate::fetching::found;
+use crate::fetching::found_into;
 use disk_model::Disk;
 use rec_bytes::{Key, Meta, Reads, Rec, Shape, Space, SpaceFault, meta_key};
 
@@ -24,21 +24,26 @@ impl<'d, D: Disk> Reads for Store<'d, D> {
     ghost onward_shape = { λ a b only. only.shape };
 
     fn get(&mut self, key: Key) -> Result<Rec, SpaceFault> {
+        let mut rec = Rec::ZEROS;
+        self.get_into(key, &mut rec)?;
+        Ok(copy_of(&rec))
+    }
+
+    fn get_into(&mut self, key: Key, rec: &mut Rec) -> Result<(), SpaceFault> {
         self.reads = self.reads.saturating_add(1);
-        if let Some(rec) = found(&self.draft, key) {
-            return Ok(rec);
+        if found_into(&self.draft, key, rec) {
+            return Ok(());
         }
-        match self.base.fetch(key) {
-            Ok(rec) => Ok(rec),
+        match self.base.fetch_into(key, rec) {
+            Ok(()) => Ok(()),
             Err(_) => Err(SpaceFault::Disk),
         }
     }
 
     fn meta(&self, file: u8) -> Meta {
-        match found(&self.draft, meta_key(file)) {
-            Some(rec) => Meta::of(&rec),
-            None => Meta::of(&self.base.meta_record(file)),
-        }
+        let mut rec = self.base.meta_record(file);
+        found_into(&self.draft, meta_key(file), &mut rec);
+        Meta::of(&rec)
     }
 
     fn shape(&self) -> Shape {
@@ -63,4 +68,11 @@ impl<'d, D: Disk> Space for Store<'d, D> {
             Err(fault) => Err(fault),
         }
     }
+}
+
+// A copy of a record. The type of what a call gives says that it is whole.
+fn copy_of(rec: &Rec) -> Rec
+    ensures { result ≡ rec.now }
+{
+    *rec
 }
