@@ -40,8 +40,9 @@ pub fn load<T: Row, R: Reads>(space: &mut R, id: u32) -> Result<Option<T>, RowFa
             rule: RANGE_RULE,
         }));
     }
-    match space.get(Key { file, id }) {
-        Ok(rec) => read_row::<T>(&rec, id),
+    let mut rec = Rec::ZEROS;
+    match space.get_into(Key { file, id }, &mut rec) {
+        Ok(()) => read_row::<T>(&rec, id),
         Err(_) => Err(RowFault::Disk),
     }
 }
