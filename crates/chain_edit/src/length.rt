@@ -12,7 +12,7 @@ ghost use Rattle.chain_edit.specs.Walking.{ReadsAtMost};
 use crate::members::is_member;
 use crate::walking::{chain_damage, read_next};
 use crate::{Chain, Members};
-use rec_bytes::{Fault, NIL, Reads};
+use rec_bytes::{Fault, NIL, Reads, Rec};
 use rel_store::{Linked, place_of};
 
 /// How many relationships a chain has, counted up to a budget. The chain's owner is damaged where
@@ -48,11 +48,12 @@ pub fn chain_length<R: Reads>(
 {
     let mut before = NIL;
     let mut at = chain.first;
+    let mut rec = Rec::ZEROS;
     for count in 0..budget {
         if at == NIL {
             return Ok(count);
         }
-        let rec = read_next(space, chain, before, at)?;
+        read_next(space, chain, before, at, &mut rec)?;
         if !is_member(&rec, chain.node, members) {
             return Err(Fault::Damaged(chain_damage(chain.owner)));
         }

@@ -53,11 +53,12 @@ pub fn walk<R: Reads>(
     let mut rows = Vec::new(alloc);
     let mut before = NIL;
     let mut at = chain.first;
+    let mut rec = Rec::ZEROS;
     for _ in 0..budget {
         if at == NIL {
             return Ok(rows);
         }
-        let rec = read_next(space, chain, before, at)?;
+        read_next(space, chain, before, at, &mut rec)?;
         rows.push(EdgeRow::of(&rec, at))?;
         before = at;
         at = rec.link(place_of(&rec, chain.node) + 4);
@@ -68,18 +69,19 @@ pub fn walk<R: Reads>(
     Ok(rows)
 }
 
-/// The record of a relationship that a chain leads to from the one before, or, where that is
-/// `NIL`, first. A chain that runs into itself or into another one ends here, since what it meets
+/// Reads the record of a relationship that a chain leads to from the one before, or, where that is
+/// `NIL`, first, into the caller's. A chain that runs into itself or into another one ends here, since what it meets
 /// leads back elsewhere.
 pub(crate) fn read_next<R: Reads>(
     space: &mut R,
     chain: &Chain,
     before: u32,
     at: u32,
-) -> Result<Rec, Fault>
+    rec: &mut Rec,
+) -> Result<(), Fault>
     requires { at ≢ NIL }
     ensures got { R.tells
-        → IfOk result (λ rec. rec ≡ rec_at (R.state space.old).records relationships_file at) }
+        → OnOk result (rec.new ≡ rec_at (R.state space.old).records relationships_file at) }
     ensures known { OnOk result (IsKnownLink (R.state space.old) at) }
     ensures key { OnOk result (IsKey (rel_key at)) }
     ensures back { R.tells
@@ -92,14 +94,17 @@ pub(crate) fn read_next<R: Reads>(
     ensures cause { HasFaultCause (R.faults space.old) (R.faults space.new) result }
 {
     test_link(space, at, chain_damage(chain.owner))?;
-    let rec = space.get(Key {
-        file: RELATIONSHIPS,
-        id: at,
-    })?;
-    if rec.link(place_of(&rec, chain.node)) != before {
+    space.get_into(
+        Key {
+            file: RELATIONSHIPS,
+            id: at,
+        },
+        rec,
+    )?;
+    if rec.link(place_of(rec, chain.node)) != before {
         return Err(Fault::Damaged(chain_damage(chain.owner)));
     }
-    Ok(rec)
+    Ok(())
 }
 
 /// The damage of a record whose chain is broken.

@@ -17,19 +17,19 @@ returns-in_err-test_link-clause-damaged g c = λ tells.
     rw (p.1, p.2) (link_step (g.R.Reads.state c.args.space.now) c.args.chain.now.owner c.args.chain.now.node c.args.before c.args.at c.chain_damage.result c.in_err-test_link.field-0.0
     c.chain_damage.ensures c.in_err-test_link.ensures.damaged)
 
-pub returns-in_err-rec-clause-at_most : goal.returns-in_err-rec-clause-at_most
-returns-in_err-rec-clause-at_most g c = reads_one (g.R.Reads.state c.args.space.now) (g.R.Reads.state c.get.new.self) c.in_err-rec.ensures.state
+pub returns-in_err-get_into-clause-at_most : goal.returns-in_err-get_into-clause-at_most
+returns-in_err-get_into-clause-at_most g c = reads_one (g.R.Reads.state c.args.space.now) (g.R.Reads.state c.get_into.new.self) c.in_err-get_into.ensures.state
 
 pub returns-then-link-before-clause-at_most : goal.returns-then-link-before-clause-at_most
-returns-then-link-before-clause-at_most g c = reads_one (g.R.Reads.state c.args.space.now) (g.R.Reads.state c.get.new.self) c.in_ok-rec.ensures.state
+returns-then-link-before-clause-at_most g c = reads_one (g.R.Reads.state c.args.space.now) (g.R.Reads.state c.get_into.new.self) c.in_ok-get_into.ensures.state
 
 pub returns-then-link-before-clause-damaged : goal.returns-then-link-before-clause-damaged
 returns-then-link-before-clause-damaged g c = λ tells.
     let s = g.R.Reads.state c.args.space.now in
     let link : c.link.result ≡ prev_of s.records c.args.chain.now.node c.args.at =
-    c.link.ensures ∙ ap (λ at. field 4 c.in_ok-rec.rec at) c.place_of.ensures.is ∙ ap (λ r. prev_in r c.args.chain.now.node) (c.in_ok-rec.ensures.got tells) in
+    c.link.ensures ∙ ap (λ at. field 4 c.get_into.new.rec at) c.place_of.ensures.is ∙ ap (λ r. prev_in r c.args.chain.now.node) (c.in_ok-get_into.ensures.got tells) in
     subst (IsStepDamage s c.args.chain.now.owner c.args.chain.now.node c.args.before c.args.at) (sym c.chain_damage-then-link-before.ensures)
     (NoStep (λ lt e. c.if-link-before.true (link ∙ e)))
 
 pub returns-clause-at_most : goal.returns-clause-at_most
-returns-clause-at_most g c = reads_one (g.R.Reads.state c.args.space.now) (g.R.Reads.state c.get.new.self) c.in_ok-rec.ensures.state
+returns-clause-at_most g c = reads_one (g.R.Reads.state c.args.space.now) (g.R.Reads.state c.get_into.new.self) c.in_ok-get_into.ensures.state
