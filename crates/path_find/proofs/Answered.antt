@@ -3,6 +3,7 @@ use Rattle.std.proofs.Common.{◌≡◌, ℕ, Bool, true, List, Err, IfSome, Con
 use Rattle.rec_bytes.specs.Space.{SameButReads, State}
 use Rattle.rec_bytes.specs.declared.row_fault.RowFault.{RowFault}
 use Rattle.rec_bytes.specs.declared.row_fault.RowFault.TheVariants as row
+use Rattle.rec_bytes.specs.Fault as faults
 use Rattle.rec_bytes.specs.Fault.{damage_of}
 use Rattle.rec_bytes.specs.declared.fault.Fault.{Fault}
 use Rattle.rec_bytes.specs.declared.fault.Fault.TheVariants.{Memory, Disk, Damaged}
@@ -26,6 +27,10 @@ use Rattle.path_find.proofs.NeighbourLaws.{neighbour_there, neighbours_are}
 pub node_fault : (s : State) (from to id : ℕ) (fault : RowFault) → IsNodeFault s id fault → IsPathFault s from to (expand.of_row fault)
 node_fault s from to id row.Disk told = tt
 node_fault s from to id (row.Damaged damage) told = row_fault s id (row.Damaged damage) told
+
+pub load_fault : (s : State) (id : ℕ) (fault : RowFault) → IsNodeFault s id fault → BlamesBroken s (faults.of_row fault)
+load_fault s id row.Disk told = tt
+load_fault s id (row.Damaged damage) told = row_fault s id (row.Damaged damage) told
 
 pub search_fault : (s : State) (from to : ℕ) (fault : Fault) → BlamesBroken s fault → IsPathFault s from to (expand.of_fault fault)
 search_fault s from to Memory told = tt

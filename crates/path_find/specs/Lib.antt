@@ -1,3 +1,4 @@
+pub mod Checking
 pub mod Damage
 pub mod Ends
 pub mod Finding

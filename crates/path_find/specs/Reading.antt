@@ -30,4 +30,5 @@ pub record IsRow (rows : Rows) (level : NodeLevel) : Type 0 where
 pub record AreLevelsOf (rows : Rows) (levels : List NodeLevel) : Type 0 where
   pub ascend : AllPairs (λ a b. a.node < b.node) levels
   pub only : (level : NodeLevel) → Contains levels level → IsRow rows level
-  pub all : (i : ℕ) → i < row_count rows → Contains levels (level_of (node_at rows i) (level_at rows i))
+  pub all : (i : ℕ) → i < row_count rows
+      → Contains levels (level_of (node_at rows i) (level_at rows i))

@@ -4,8 +4,8 @@ use Rattle.std.specs.Prelude.{length, Contains, slice_index, cond, nat_eq}
 use Rattle.std.specs.List.{list_any}
 use Rattle.plain_graph.specs.Adjacency.{Adjacency}
 
--- Rows of nodes in the order in which they were found: of each the row of the node that it was found
--- from, and how many edges are on the way to it.
+-- Rows of nodes in the order in which they were found: of each the row of the node that it was
+-- found from, and how many edges are on the way to it.
 pub record Rows : Type 0 where
   pub nodes : List ℕ
   pub parents : List ℕ

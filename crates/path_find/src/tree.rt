@@ -1,4 +1,17 @@
-ghost use Rattle.std.specs.Prelude.{◌≡◌, ◌≢◌, ◌<◌, ◌≤◌, ◌+◌, ◌^◌, ℕ, [], ◌∷◌, IfOk, IfSome, IfNone, OnOk, Contains, length};
+ghost use Rattle.std.specs.Prelude.{
+  ◌≡◌,
+  ◌<◌,
+  ◌≤◌,
+  ◌^◌,
+  [],
+  ◌∷◌,
+  IfOk,
+  IfSome,
+  IfNone,
+  OnOk,
+  Contains,
+  length,
+};
 ghost use Rattle.path_find.specs.Tree.{level_at, node_at, parent_at, row_count, with_node};
 
 use indexmap::IndexSet;

@@ -1,0 +1,63 @@
+use Rattle.std.proofs.Common.{◌≡◌, ◌<◌, ◌≤◌, ℕ, get_or, length, Contains, sym, subst, arith, inl, inr}
+use Rattle.std.proofs.lemmas.Bool.{OnFalse_at, OnTrue_at, cases_lt}
+use Rattle.std.proofs.lemmas.List.{get_or_default}
+use Rattle.std.proofs.lemmas.List.Elements.{Contains-get_or, at_from_Contains}
+use Rattle.std.proofs.lemmas.Result.{err_from_is_err_and}
+use Rattle.plain_graph.specs.Levels.{level_of}
+use Rattle.plain_graph.specs.declared.node_level.NodeLevel.{NodeLevel}
+use Rattle.rec_bytes.specs.Space.{State}
+use Rattle.path_find.specs.Checking.{AllSpread, IsSpreadAt}
+use Rattle.path_find.specs.Reads.{neighbours_at}
+use Rattle.path_find.proofs.OnlyReads.{broken-read, is_read-on, same-read, store-read}
+use Rattle.path_find.proofs.checking.all_spread.Goals as goal
+
+pub returns-in_err-spreads-clause-sound : goal.returns-in_err-spreads-clause-sound
+returns-in_err-spreads-clause-sound g c = λ tells store.
+    let p = err_from_is_err_and c.from_residual.result c.from_residual.ensures.1 in
+    rw (p.1, p.2) (c.in_err-spreads.ensures.sound tells (store-read g.R.Reads g.met.R.Reads.onward_shape c.args.reads.now c.loop-row.reads c.loop-row.invariant.read store))
+
+pub returns-in_err-spreads-clause-damaged : goal.returns-in_err-spreads-clause-damaged
+returns-in_err-spreads-clause-damaged g c = λ tells.
+    let p = err_from_is_err_and c.from_residual.result c.from_residual.ensures.1 in
+    rw (p.1, p.2) (broken-read g.R.Reads g.met.R.Reads.onward_shape c.args.reads.now c.loop-row.reads c.loop-row.invariant.read c.in_err-spreads.field-0.0 (c.in_err-spreads.ensures.damaged tells))
+
+pub returns-then-not-spreads-clause-no : goal.returns-then-not-spreads-clause-no
+returns-then-not-spreads-clause-no g c = λ tells store. λ all.
+    let levels = c.args.levels.now in
+    let index = c.loop-row.row-index in
+    let row = get_or levels index (level_of 0 0) in
+    let read = c.loop-row.invariant.read in
+    let same = same-read g.R.Reads g.met.R.Reads.onward_shape c.args.reads.now c.loop-row.reads read in
+    let there = store-read g.R.Reads g.met.R.Reads.onward_shape c.args.reads.now c.loop-row.reads read store in
+    let mid = subst (λ (s : State). IsSpreadAt (neighbours_at s c.args.direction c.args.labels.now) levels c.args.edges row) (sym same) (all row (Contains-get_or levels index (level_of 0 0) c.loop-row-test.true)) in
+    OnFalse_at c.if-not-spreads.true (c.in_ok-spreads.ensures.no tells there) mid
+
+pub loop-row-preserved : goal.loop-row-preserved
+loop-row-preserved g c = record {
+  read = is_read-on g.R.Reads g.met.R.Reads.further_onward c.args.reads.now c.loop-row.reads c.is_spread.new.reads c.loop-row.invariant.read c.is_spread.ensures.read;
+  spread = λ tells store k d lt. elim (cases_lt k c.loop-row.row-index) [
+    | inl less ↦ c.loop-row.invariant.spread tells store k d less
+    | inr ge ↦
+        let levels = c.args.levels.now in
+        let index = c.loop-row.row-index in
+        let row = get_or levels index (level_of 0 0) in
+        let read = c.loop-row.invariant.read in
+        let same = same-read g.R.Reads g.met.R.Reads.onward_shape c.args.reads.now c.loop-row.reads read in
+        let there = store-read g.R.Reads g.met.R.Reads.onward_shape c.args.reads.now c.loop-row.reads read store in
+        let mid : IsSpreadAt (neighbours_at (g.R.Reads.state c.loop-row.reads) c.args.direction c.args.labels.now) levels c.args.edges row = OnTrue_at c.if-not-spreads.false (c.in_ok-spreads.ensures.yes tells there) in
+        let old = g.R.Reads.state c.args.reads.now in
+        let at_old = subst (λ (s : State). IsSpreadAt (neighbours_at s c.args.direction c.args.labels.now) levels c.args.edges row) same mid in
+        let here : index ≡ k = omega arith in
+        subst (λ i. IsSpreadAt (neighbours_at old c.args.direction c.args.labels.now) levels c.args.edges (get_or levels i d)) here
+        (subst (IsSpreadAt (neighbours_at old c.args.direction c.args.labels.now) levels c.args.edges) (sym (get_or_default levels index d (level_of 0 0) c.loop-row-test.true)) at_old)
+  ];
+}
+
+pub returns-clause-yes : goal.returns-clause-yes
+returns-clause-yes g c = λ tells store row has.
+    let levels = c.args.levels.now in
+    let old = g.R.Reads.state c.args.reads.now in
+    let at = at_from_Contains levels row has in
+    let test = c.loop-row-test.false in
+    let low = at.1 in
+    subst (IsSpreadAt (neighbours_at old c.args.direction c.args.labels.now) levels c.args.edges) (at.2 row) (c.loop-row.invariant.spread tells store at.0 row (omega (arith, test, low)))

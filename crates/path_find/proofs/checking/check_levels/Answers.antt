@@ -1,0 +1,61 @@
+use Rattle.std.proofs.Common.{◌≡◌, ℕ, Option, List, true, false, sym, ap, subst, ◌∙◌}
+use Rattle.std.specs.Bool.{IsTrue, OnFalse, OnTrue}
+use Rattle.std.specs.Prelude.{◌↔◌}
+use Rattle.std.proofs.lemmas.Bool.{OnFalse_at, OnTrue_at}
+use Rattle.std.proofs.lemmas.Result.{err_from_is_err_and}
+use Rattle.plain_graph.specs.Adjacency.{Adjacency}
+use Rattle.plain_graph.specs.Levels.{IsCertified}
+use Rattle.plain_graph.specs.declared.node_level.NodeLevel.{NodeLevel}
+use Rattle.rec_bytes.specs.Space.{State}
+use Rattle.path_find.specs.Checking.{AllSpread, AreDistinct, HaveEnds, IsChecked, IsWalkOrNone, edges_of}
+use Rattle.path_find.specs.Reads.{adjacency_of, neighbours_at}
+use Rattle.path_find.proofs.CheckLaws.{is_certified, not_certified, proves_shortest}
+use Rattle.path_find.proofs.NeighbourLaws.{neighbours_are}
+use Rattle.path_find.proofs.OnlyReads.{broken-read, is_read-on, same-read, store-read}
+use Rattle.path_find.proofs.checking.check_levels.Goals as goal
+
+pub returns-then-not-leads-clause-decides : goal.returns-then-not-leads-clause-decides
+returns-then-not-leads-clause-decides g c = λ tells store types stand.
+    let s = g.R.Reads.state c.args.reads.now in
+    let W = c.args.answer.now.walk in
+    let L = c.args.answer.now.levels in
+    let near = neighbours_at s c.args.direction c.args.labels.now in
+    let astray : ¬ IsWalkOrNone near c.args.from c.args.to c.as_slice-walk.result.now = OnFalse_at c.if-not-leads.true (c.in_ok-leads.ensures.no tells store) in
+    subst (λ (adjacency : Adjacency). IsTrue false ↔ IsCertified adjacency c.args.from c.args.to W L) (neighbours_are s store c.args.direction c.args.labels.now types stand)
+    (not_certified near L c.args.from c.args.to W (λ is. astray (subst (IsWalkOrNone near c.args.from c.args.to) (sym c.as_slice-walk.ensures) is.leads)))
+
+pub returns-clause-decides : goal.returns-clause-decides
+returns-clause-decides g c = λ tells store types stand.
+    let s = g.R.Reads.state c.args.reads.now in
+    let W = c.args.answer.now.walk in
+    let L = c.args.answer.now.levels in
+    let near = neighbours_at s c.args.direction c.args.labels.now in
+    let read = c.is_walk.ensures.read in
+    let same = same-read g.R.Reads g.met.R.Reads.onward_shape c.args.reads.now c.is_walk.new.reads read in
+    let there = store-read g.R.Reads g.met.R.Reads.onward_shape c.args.reads.now c.is_walk.new.reads read store in
+    let all = c.in_ok-all.all in
+    let edges = c.edges_of-edges.ensures ∙ ap edges_of c.as_slice-walk.ensures in
+    let distinct = subst AreDistinct c.as_slice-levels.ensures (rw c.in-Some.is at c.in_ok-found.ensures.distinct) in
+    let Ends : Option ℕ → List NodeLevel → Type 0 = λ e l. HaveEnds l c.args.from c.args.to e in
+    let fit : Ends c.edges_of-edges.result c.as_slice-levels.result.now = OnTrue_at c.if-not-have_ends.false c.have_ends.ensures.yes in
+    let ends = subst (λ (l : List NodeLevel). Ends (edges_of W) l) c.as_slice-levels.ensures (subst (λ (e : Option ℕ). Ends e c.as_slice-levels.result.now) edges fit) in
+    let steps : IsWalkOrNone near c.args.from c.args.to c.as_slice-walk.result.now = OnTrue_at c.if-not-leads.false (c.in_ok-leads.ensures.yes tells store) in
+    let leads = subst (IsWalkOrNone near c.args.from c.args.to) c.as_slice-walk.ensures steps in
+    let Spread : State → Option ℕ → List NodeLevel → Type 0 = λ t e l. AllSpread (neighbours_at t c.args.direction c.args.labels.now) l e in
+    let spreads = subst (λ (l : List NodeLevel). OnTrue all (Spread s (edges_of W) l)) c.as_slice-levels.ensures
+    (subst (λ (e : Option ℕ). OnTrue all (Spread s e c.as_slice-levels.result.now)) edges
+    (subst (λ (t : State). OnTrue all (Spread t c.edges_of-edges.result c.as_slice-levels.result.now)) same (c.in_ok-all.ensures.yes tells there))) in
+    let fails = subst (λ (l : List NodeLevel). OnFalse all (¬ Spread s (edges_of W) l)) c.as_slice-levels.ensures
+    (subst (λ (e : Option ℕ). OnFalse all (¬ Spread s e c.as_slice-levels.result.now)) edges
+    (subst (λ (t : State). OnFalse all (¬ Spread t c.edges_of-edges.result c.as_slice-levels.result.now)) same (c.in_ok-all.ensures.no tells there))) in
+    subst (λ (adjacency : Adjacency). IsTrue all ↔ IsCertified adjacency c.args.from c.args.to W L) (neighbours_are s store c.args.direction c.args.labels.now types stand)
+    (is_certified near L c.args.from c.args.to W all distinct ends leads spreads fails)
+
+pub returns-clause-proves : goal.returns-clause-proves
+returns-clause-proves g c = λ tells store types stand.
+    proves_shortest (adjacency_of (g.R.Reads.state c.args.reads.now) c.args.direction types) c.args.answer.now.levels c.args.from c.args.to c.args.answer.now.walk c.in_ok-all.all (returns-clause-decides g c tells store types stand)
+
+pub returns-in_err-all-clause-sound : goal.returns-in_err-all-clause-sound
+returns-in_err-all-clause-sound g c = λ tells store.
+    let p = err_from_is_err_and c.from_residual-in_err-all.result c.from_residual-in_err-all.ensures.1 in
+    rw (p.1, p.2) (c.in_err-all.ensures.sound tells (store-read g.R.Reads g.met.R.Reads.onward_shape c.args.reads.now c.is_walk.new.reads c.is_walk.ensures.read store))

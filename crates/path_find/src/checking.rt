@@ -1,0 +1,176 @@
+//! Whether levels prove what they are to prove.
+
+ghost use Rattle.std.specs.Prelude.{◌≡◌, ◌↔◌, IfErr, IfOk, IsTrue, List, ℕ, map};
+ghost use Rattle.std.specs.Bool.{OnFalse, OnTrue};
+ghost use Rattle.plain_graph.specs.Levels.{IsCertified, IsShortestOrNone};
+ghost use Rattle.rec_bytes.specs.Fault.{HasFaultCause, NotDamaged};
+ghost use Rattle.rec_bytes.specs.Frame.{IsRead};
+ghost use Rattle.expand.specs.Expanding.{IsStore};
+ghost use Rattle.path_find.specs.Checking.{
+  AllSpread,
+  AreDistinct,
+  IsSpreadAt,
+  edges_of,
+  is_last,
+  is_past,
+};
+ghost use Rattle.path_find.specs.Damage.{BlamesBroken};
+ghost use Rattle.path_find.specs.Reading.{node_of};
+ghost use Rattle.path_find.specs.Reads.{StandFor, adjacency_of, neighbours_at};
+
+use crate::Answer;
+use crate::known::{are_held, have_ends, places_of};
+use crate::neighbours::neighbours;
+use crate::node_test::is_node;
+use crate::places::Places;
+use crate::stepping::is_walk;
+use plain_graph::{Direction, NodeLevel};
+use rec_bytes::{Fault, Reads};
+use std::alloc::Global;
+
+/// Whether the levels prove that no walk from a node to another is shorter, or where no walk is
+/// given, that there is none. The edges are of a direction and of the types with these numbers, or
+/// of all types where none is given.
+///
+/// It costs what `expand` reads at each node of the walk but the last, and once more at each node
+/// of the levels that is nearer than the target, or at each of them where no walk is given. The
+/// others cost a read each.
+pub fn check_levels<R: Reads>(
+    alloc: Global,
+    reads: &mut R,
+    from: u32,
+    to: u32,
+    direction: Direction,
+    labels: &[u32],
+    answer: &Answer,
+) -> Result<bool, Fault>
+    ensures decides { R.tells → IsStore (R.state reads.old) → (types : List (List ℕ))
+        → StandFor (R.state reads.old).records labels.now types → IfOk result (λ yes. IsTrue yes
+        ↔ IsCertified (adjacency_of (R.state reads.old) direction types) from to
+        answer.now.walk answer.now.levels) }
+    // so it is true only of a shortest walk, or where there is none
+    ensures proves { R.tells → IsStore (R.state reads.old) → (types : List (List ℕ))
+        → StandFor (R.state reads.old).records labels.now types → IfOk result (λ yes. IsTrue yes
+        → IsShortestOrNone (adjacency_of (R.state reads.old) direction types) from to
+        answer.now.walk) }
+    ensures sound { R.tells → IsStore (R.state reads.old) → NotDamaged result }
+    ensures damaged { R.tells → IfErr result (BlamesBroken (R.state reads.old)) }
+    ensures read { IsRead R.Reads reads.old reads.new }
+    ensures cause { HasFaultCause (R.faults reads.old) (R.faults reads.new) result }
+{
+    let walk = answer.walk.as_slice();
+    let levels = answer.levels.as_slice();
+    let edges = edges_of(walk);
+    let found = places_of(alloc, levels)?;
+    let Some(places) = found else {
+        return Ok(false);
+    };
+    if !have_ends(&places, levels, from, to, edges) {
+        return Ok(false);
+    }
+    let leads = is_walk(alloc, reads, walk, from, to, direction, labels)?;
+    if !leads {
+        return Ok(false);
+    }
+    let all = all_spread(alloc, reads, &places, levels, edges, direction, labels)?;
+    Ok(all)
+}
+
+/// The number of edges of a walk, and none where no walk is given.
+fn edges_of(walk: &[u32]) -> Option<usize>
+    ensures { result ≡ edges_of walk.now }
+{
+    if walk.is_empty() {
+        None
+    } else {
+        Some(walk.len() - 1)
+    }
+}
+
+/// Whether each row is a node's whose neighbours are in the levels.
+fn all_spread<R: Reads>(
+    alloc: Global,
+    reads: &mut R,
+    places: &Places,
+    levels: &[NodeLevel],
+    edges: Option<usize>,
+    direction: Direction,
+    labels: &[u32],
+) -> Result<bool, Fault>
+    requires places { places.now ≡ map node_of levels.now }
+    requires distinct { AreDistinct levels.now }
+    ensures yes { R.tells → IsStore (R.state reads.old) → IfOk result (λ yes. OnTrue yes
+        (AllSpread (neighbours_at (R.state reads.old) direction labels.now) levels.now edges)) }
+    ensures no { R.tells → IsStore (R.state reads.old) → IfOk result (λ yes. OnFalse yes
+        (¬ AllSpread (neighbours_at (R.state reads.old) direction labels.now) levels.now edges)) }
+    ensures sound { R.tells → IsStore (R.state reads.old) → NotDamaged result }
+    ensures damaged { R.tells → IfErr result (BlamesBroken (R.state reads.old)) }
+    ensures read { IsRead R.Reads reads.old reads.new }
+    ensures cause { HasFaultCause (R.faults reads.old) (R.faults reads.new) result }
+{
+    for row in levels {
+        let spreads = is_spread(alloc, reads, places, levels, *row, edges, direction, labels)?;
+        if !spreads {
+            return Ok(false);
+        }
+    }
+    Ok(true)
+}
+
+/// Whether a row is a node's whose neighbours are in the levels. At the last level they needn't be.
+fn is_spread<R: Reads>(
+    alloc: Global,
+    reads: &mut R,
+    places: &Places,
+    levels: &[NodeLevel],
+    row: NodeLevel,
+    edges: Option<usize>,
+    direction: Direction,
+    labels: &[u32],
+) -> Result<bool, Fault>
+    requires places { places.now ≡ map node_of levels.now }
+    requires distinct { AreDistinct levels.now }
+    ensures yes { R.tells → IsStore (R.state reads.old) → IfOk result (λ yes. OnTrue yes
+        (IsSpreadAt (neighbours_at (R.state reads.old) direction labels.now)
+        levels.now edges row)) }
+    ensures no { R.tells → IsStore (R.state reads.old) → IfOk result (λ yes. OnFalse yes
+        (¬ IsSpreadAt (neighbours_at (R.state reads.old) direction labels.now)
+        levels.now edges row)) }
+    ensures sound { R.tells → IsStore (R.state reads.old) → NotDamaged result }
+    ensures damaged { R.tells → IfErr result (BlamesBroken (R.state reads.old)) }
+    ensures read { IsRead R.Reads reads.old reads.new }
+    ensures cause { HasFaultCause (R.faults reads.old) (R.faults reads.new) result }
+{
+    if is_past(row, edges) {
+        return Ok(false);
+    }
+    if is_last(row, edges) {
+        let there = is_node(reads, row.node)?;
+        return Ok(there);
+    }
+    let found = neighbours(alloc, reads, row.node, direction, labels)?;
+    match found {
+        Some(ends) => Ok(are_held(places, levels, &ends, row, edges)),
+        None => Ok(false),
+    }
+}
+
+/// Whether the row has the last level or one past it.
+fn is_last(row: NodeLevel, edges: Option<usize>) -> bool
+    ensures { result ≡ is_last row edges }
+{
+    match edges {
+        Some(edges) => row.level as usize >= edges,
+        None => false,
+    }
+}
+
+/// Whether it has one past it.
+fn is_past(row: NodeLevel, edges: Option<usize>) -> bool
+    ensures { result ≡ is_past row edges }
+{
+    match edges {
+        Some(edges) => row.level as usize > edges,
+        None => false,
+    }
+}

@@ -1,0 +1,90 @@
+//! Whether nodes are a walk.
+
+ghost use Rattle.std.specs.Prelude.{◌≡◌, Contains, IfErr, IfOk};
+ghost use Rattle.std.specs.Bool.{OnFalse, OnTrue};
+ghost use Rattle.rec_bytes.specs.Fault.{HasFaultCause, NotDamaged};
+ghost use Rattle.rec_bytes.specs.Frame.{IsRead};
+ghost use Rattle.expand.specs.Expanding.{IsStore};
+ghost use Rattle.path_find.specs.Checking.{IsStep, IsWalkOrNone};
+ghost use Rattle.path_find.specs.Damage.{BlamesBroken};
+ghost use Rattle.path_find.specs.Reads.{neighbours_at};
+
+use crate::neighbours::neighbours;
+use crate::node_test::is_node;
+use plain_graph::Direction;
+use rec_bytes::{Fault, Reads};
+use std::alloc::Global;
+
+/// Whether these nodes are a walk from a node to another. No nodes pass as well.
+pub(crate) fn is_walk<R: Reads>(
+    alloc: Global,
+    reads: &mut R,
+    walk: &[u32],
+    from: u32,
+    to: u32,
+    direction: Direction,
+    labels: &[u32],
+) -> Result<bool, Fault>
+    ensures yes { R.tells → IsStore (R.state reads.old) → IfOk result (λ yes. OnTrue yes
+        (IsWalkOrNone (neighbours_at (R.state reads.old) direction labels.now)
+        from to walk.now)) }
+    ensures no { R.tells → IsStore (R.state reads.old) → IfOk result (λ yes. OnFalse yes
+        (¬ IsWalkOrNone (neighbours_at (R.state reads.old) direction labels.now)
+        from to walk.now)) }
+    ensures sound { R.tells → IsStore (R.state reads.old) → NotDamaged result }
+    ensures damaged { R.tells → IfErr result (BlamesBroken (R.state reads.old)) }
+    ensures read { IsRead R.Reads reads.old reads.new }
+    ensures cause { HasFaultCause (R.faults reads.old) (R.faults reads.new) result }
+{
+    if walk.is_empty() {
+        return Ok(true);
+    }
+    let last = walk.len() - 1;
+    if walk[0] != from {
+        return Ok(false);
+    }
+    if walk[last] != to {
+        return Ok(false);
+    }
+    for row in 0..last {
+        let steps = is_step(alloc, reads, walk[row], walk[row + 1], direction, labels)?;
+        if !steps {
+            return Ok(false);
+        }
+    }
+    let there = is_node(reads, to)?;
+    Ok(there)
+}
+
+/// Whether a node is there and has another as a neighbour.
+fn is_step<R: Reads>(
+    alloc: Global,
+    reads: &mut R,
+    node: u32,
+    next: u32,
+    direction: Direction,
+    labels: &[u32],
+) -> Result<bool, Fault>
+    ensures yes { R.tells → IsStore (R.state reads.old) → IfOk result (λ yes. OnTrue yes
+        (IsStep (neighbours_at (R.state reads.old) direction labels.now) node next)) }
+    ensures no { R.tells → IsStore (R.state reads.old) → IfOk result (λ yes. OnFalse yes
+        (¬ IsStep (neighbours_at (R.state reads.old) direction labels.now) node next)) }
+    ensures sound { R.tells → IsStore (R.state reads.old) → NotDamaged result }
+    ensures damaged { R.tells → IfErr result (BlamesBroken (R.state reads.old)) }
+    ensures read { IsRead R.Reads reads.old reads.new }
+    ensures cause { HasFaultCause (R.faults reads.old) (R.faults reads.new) result }
+{
+    let found = neighbours(alloc, reads, node, direction, labels)?;
+    match found {
+        Some(ends) => Ok(has_node(&ends, next)),
+        None => Ok(false),
+    }
+}
+
+/// Whether a node is among others.
+fn has_node(nodes: &[u32], node: u32) -> bool
+    ensures yes { OnTrue result (Contains nodes.now node) }
+    ensures no { OnFalse result (¬ Contains nodes.now node) }
+{
+    nodes.contains(&node)
+}
