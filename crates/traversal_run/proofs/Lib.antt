@@ -3,6 +3,7 @@ pub mod Begins
 pub mod HeldRows
 pub mod HeldRuns
 pub mod HeldSteps
+pub mod Broken
 pub mod Codes
 pub mod HopEdges
 pub mod LeftRows

@@ -5,6 +5,7 @@ use Rattle.plain_graph.specs.Graph.{Graph}
 use Rattle.plain_graph.specs.Meaning.{after_steps, counts_past_in, source_of}
 use Rattle.plain_graph.specs.declared.item.Item.{Item}
 use Rattle.plain_graph.specs.declared.query.Query.{Query}
+use Rattle.rec_bytes.specs.declared.damage.Damage.{Damage}
 use Rattle.traversal_run.specs.Row.{Stream, have_no_count, last_limit, stages_of, stream, through}
 use Rattle.traversal_run.specs.Row.{with_first}
 use Rattle.traversal_run.specs.Source.{is_over, left_of}
@@ -67,6 +68,15 @@ IfItem nexts.Memory P = Unit {0}
 IfItem nexts.Disk P = Unit {0}
 IfItem (nexts.Damaged damage) P = Unit {0}
 IfItem nexts.PastCount P = Unit {0}
+
+-- what holds of a record that is said to be damaged
+abbrev pub IfDamaged : Next → (Damage → Type 0) → Type 0
+IfDamaged (nexts.Item item) P = Unit {0}
+IfDamaged nexts.End P = Unit {0}
+IfDamaged nexts.Memory P = Unit {0}
+IfDamaged nexts.Disk P = Unit {0}
+IfDamaged (nexts.Damaged damage) P = P damage
+IfDamaged nexts.PastCount P = Unit {0}
 
 -- ---- a limit that is the last step
 

@@ -1,15 +1,17 @@
-ghost use Rattle.std.specs.Prelude.{◌≡◌, ◌≤◌, IfOk, IfSome, length};
+ghost use Rattle.std.specs.Prelude.{◌≡◌, ◌≤◌, IfErr, IfOk, IfSome, length};
 ghost use Rattle.std.specs.FinMap as maps;
 ghost use Rattle.plain_graph.specs.Forms.{IsKept, IsShown};
 ghost use Rattle.plain_graph.specs.Meaning.{label_of, properties_of};
 ghost use Rattle.prop_store.specs.Owner.{IsOwner};
 ghost use Rattle.store_rules.specs.Graph.{graph_of};
 ghost use Rattle.store_rules.specs.Rules.{IsWellFormed};
+ghost use Rattle.plain_graph.specs.declared.item.Item.TheVariants as items;
 ghost use Rattle.traversal_run.specs.Elements.{IsOwnerOf};
 ghost use Rattle.rec_bytes.specs.Fault.{HasFaultCause, NotDamaged};
+ghost use Rattle.prop_store.specs.Fault.{BlamesBroken};
 ghost use Rattle.traversal_run.specs.Reading.{IsNamedStore, IsRead};
 
-use crate::naming::{name_of, number_of};
+use crate::naming::{name_mark, number_of, text_of, unnamed};
 use name_store::Names;
 use plain_graph::{Item, Value};
 use prop_store::{Owner, read_key};
@@ -25,6 +27,8 @@ pub(crate) fn owner_of<R: Reads>(space: &mut R, item: &Item) -> Result<Option<Ow
         → IfOk result (λ owner. IsOwnerOf (R.state space.old) item.now owner) }
     ensures sound { R.tells
         → IsWellFormed (R.state space.old).records (R.state space.old).shape → NotDamaged result }
+    ensures damaged { R.tells → IfErr result
+        (BlamesBroken (R.state space.old).records (R.state space.old).shape) }
     ensures owner { IfOk result (λ owner. IfSome owner IsOwner) }
     ensures read { IsRead R.Reads space.old space.new }
     ensures cause { HasFaultCause (R.faults space.old) (R.faults space.new) result }
@@ -67,18 +71,42 @@ pub(crate) fn label_of<'a, R: Reads>(
     ensures sound { R.tells
         → IsNamedStore (R.state space.old).records (R.state space.old).shape names.now.names
         → NotDamaged result }
+    ensures damaged { R.tells → IfErr result
+        (BlamesBroken (R.state space.old).records (R.state space.old).shape) }
     ensures short { IsShown item.now → IfOk result (λ label. length label.now ≤ 48) }
     ensures read { IsRead R.Reads space.old space.new }
     ensures cause { HasFaultCause (R.faults space.old) (R.faults space.new) result }
 {
     match item {
-        Item::Vertex(id) => match node_store::load(space, *id)? {
-            Some(row) => name_of(names, row.label, NODES, *id),
-            None => Ok(&[]),
-        },
+        Item::Vertex(id) => vertex_label(space, names, *id),
         Item::Edge { label, .. } => Ok(label.as_bytes()),
         Item::Value(_) => Ok(&[]),
     }
+}
+
+/// The label of a vertex; an empty one where it isn't in use.
+fn vertex_label<'a, R: Reads>(space: &mut R, names: &'a Names, id: u32) -> Result<&'a [u8], Fault>
+    ensures found { R.tells
+        → IsNamedStore (R.state space.old).records (R.state space.old).shape names.now.names
+        → IfOk result (λ label. label.now
+        ≡ label_of (graph_of (R.state space.old).records) (items.Vertex id)) }
+    ensures sound { R.tells
+        → IsNamedStore (R.state space.old).records (R.state space.old).shape names.now.names
+        → NotDamaged result }
+    ensures damaged { R.tells → IfErr result
+        (BlamesBroken (R.state space.old).records (R.state space.old).shape) }
+    ensures short { IfOk result (λ label. length label.now ≤ 48) }
+    ensures read { IsRead R.Reads space.old space.new }
+    ensures cause { HasFaultCause (R.faults space.old) (R.faults space.new) result }
+{
+    let mark = name_mark(space);
+    let Some(row) = node_store::load(space, id)? else {
+        return Ok(&[]);
+    };
+    if row.label >= mark {
+        return Err(unnamed(NODES, id));
+    }
+    Ok(text_of(names, row.label))
 }
 
 /// The value of a key of an item. A key that is no name of the store has none.
@@ -96,6 +124,8 @@ pub(crate) fn value_of<R: Reads>(
     ensures sound { R.tells
         → IsNamedStore (R.state space.old).records (R.state space.old).shape names.now.names
         → NotDamaged result }
+    ensures damaged { R.tells → IfErr result
+        (BlamesBroken (R.state space.old).records (R.state space.old).shape) }
     ensures kept { IfOk result (λ value. IfSome value IsKept) }
     ensures read { IsRead R.Reads space.old space.new }
     ensures cause { HasFaultCause (R.faults space.old) (R.faults space.new) result }

@@ -1,13 +1,15 @@
 //! Elements that are read by their identifiers.
 
-ghost use Rattle.std.specs.Prelude.{◌≡◌, ◌≤◌, ◌+◌, IfOk, IfSome, false, true};
+ghost use Rattle.std.specs.Prelude.{◌≡◌, ◌≤◌, ◌+◌, IfErr, IfOk, IfSome, false, true};
 ghost use Rattle.plain_graph.specs.declared.item.Item.TheVariants as items;
 ghost use Rattle.store_rules.specs.Rules.{IsWellFormed};
 ghost use Rattle.traversal_run.specs.Finding.{element_at, element_mark};
 ghost use Rattle.rec_bytes.specs.Fault.{HasFaultCause, NotDamaged};
+ghost use Rattle.prop_store.specs.Fault.{BlamesBroken};
 ghost use Rattle.traversal_run.specs.Reading.{IsNamedStore, IsRead};
 
 use crate::edge_items::edge_item;
+use crate::naming::{name_mark, text_of, unnamed};
 use crate::shown::Shown;
 use name_store::Names;
 use rec_bytes::{Fault, NODES, RELATIONSHIPS, Reads};
@@ -42,6 +44,8 @@ pub(crate) fn element_at<R: Reads>(
     ensures sound { R.tells
         → IsNamedStore (R.state space.old).records (R.state space.old).shape names.now.names
         → NotDamaged result }
+    ensures damaged { R.tells → IfErr result
+        (BlamesBroken (R.state space.old).records (R.state space.old).shape) }
     ensures read { IsRead R.Reads space.old space.new }
     ensures cause { HasFaultCause (R.faults space.old) (R.faults space.new) result }
 {
@@ -59,6 +63,8 @@ fn vertex_at<R: Reads>(space: &mut R, id: u32) -> Result<Option<Shown>, Fault>
     ensures reads { (R.state space.new).reads ≤ (R.state space.old).reads + 1 }
     ensures sound { R.tells → IsWellFormed (R.state space.old).records (R.state space.old).shape
         → NotDamaged result }
+    ensures damaged { R.tells → IfErr result
+        (BlamesBroken (R.state space.old).records (R.state space.old).shape) }
     ensures read { IsRead R.Reads space.old space.new }
     ensures cause { HasFaultCause (R.faults space.old) (R.faults space.new) result }
 {
@@ -68,7 +74,7 @@ fn vertex_at<R: Reads>(space: &mut R, id: u32) -> Result<Option<Shown>, Fault>
     }
 }
 
-fn edge_at<R: Reads>(
+pub(crate) fn edge_at<R: Reads>(
     alloc: Global,
     space: &mut R,
     names: &Names,
@@ -81,18 +87,24 @@ fn edge_at<R: Reads>(
     ensures sound { R.tells
         → IsNamedStore (R.state space.old).records (R.state space.old).shape names.now.names
         → NotDamaged result }
+    ensures damaged { R.tells → IfErr result
+        (BlamesBroken (R.state space.old).records (R.state space.old).shape) }
     ensures read { IsRead R.Reads space.old space.new }
     ensures cause { HasFaultCause (R.faults space.old) (R.faults space.new) result }
 {
+    let mark = name_mark(space);
     let Some(row) = rel_store::load(space, id)? else {
         return Ok(None);
     };
+    if row.label >= mark {
+        return Err(unnamed(RELATIONSHIPS, id));
+    }
     let row = EdgeRow {
         id: row.id,
         label: row.label,
         from: row.from,
         to: row.to,
     };
-    let item = edge_item(alloc, names, &row)?;
+    let item = edge_item(alloc, text_of(names, row.label), &row)?;
     Ok(Some(item))
 }

@@ -1,12 +1,15 @@
-ghost use Rattle.std.specs.Prelude.{◌≡◌, IfOk};
+ghost use Rattle.std.specs.Prelude.{◌≡◌, ◌++◌, ◌∷◌, [], IfErr, IfOk, OnOk, map};
 ghost use Rattle.expand.specs.Expanding.{AreRowsOf};
 ghost use Rattle.plain_graph.specs.Meaning.{edges_at, incident, neighbours};
 ghost use Rattle.store_rules.specs.Graph.{graph_of};
 ghost use Rattle.rec_bytes.specs.Fault.{HasFaultCause, NotDamaged};
+ghost use Rattle.prop_store.specs.Fault.{BlamesBroken};
+ghost use Rattle.traversal_run.specs.EdgeItems.{AreTyped, IsTyped, row_item};
 ghost use Rattle.traversal_run.specs.Reading.{IsNamedStore, IsRead};
 
-use crate::edge_items::{edge_items, end_items};
-use crate::naming::numbers_of;
+use crate::edge_items::{edge_item, end_items};
+use crate::finding::edge_at;
+use crate::naming::{name_mark, numbers_of, text_of};
 use crate::waiting::Waiting;
 use expand::{ExpandFault, expand};
 use name_store::Names;
@@ -30,6 +33,8 @@ pub(crate) fn neighbours<R: Reads>(
     ensures sound { R.tells
         → IsNamedStore (R.state space.old).records (R.state space.old).shape names.now.names
         → NotDamaged result }
+    ensures damaged { R.tells → IfErr result
+        (BlamesBroken (R.state space.old).records (R.state space.old).shape) }
     ensures read { IsRead R.Reads space.old space.new }
     ensures cause { HasFaultCause (R.faults space.old) (R.faults space.new) result }
 {
@@ -56,6 +61,8 @@ pub(crate) fn incident<R: Reads>(
     ensures sound { R.tells
         → IsNamedStore (R.state space.old).records (R.state space.old).shape names.now.names
         → NotDamaged result }
+    ensures damaged { R.tells → IfErr result
+        (BlamesBroken (R.state space.old).records (R.state space.old).shape) }
     ensures read { IsRead R.Reads space.old space.new }
     ensures cause { HasFaultCause (R.faults space.old) (R.faults space.new) result }
 {
@@ -63,7 +70,66 @@ pub(crate) fn incident<R: Reads>(
         return Ok(Waiting::new(alloc));
     };
     let rows = rows_of(alloc, space, names, hop, *id)?;
-    edge_items(alloc, names, &rows)
+    edge_items(alloc, space, names, &rows)
+}
+
+/// The edges of rows, in their order.
+fn edge_items<R: Reads>(
+    alloc: Global,
+    space: &mut R,
+    names: &Names,
+    rows: &[EdgeRow],
+) -> Result<Waiting, Fault>
+    ensures are { R.tells
+        → IsNamedStore (R.state space.old).records (R.state space.old).shape names.now.names
+        → AreTyped (R.state space.old).records rows.now
+        → IfOk result (λ items. items ≡ map (row_item (R.state space.old).records) rows.now) }
+    ensures sound { R.tells
+        → IsNamedStore (R.state space.old).records (R.state space.old).shape names.now.names
+        → AreTyped (R.state space.old).records rows.now → NotDamaged result }
+    ensures damaged { R.tells → IfErr result
+        (BlamesBroken (R.state space.old).records (R.state space.old).shape) }
+    ensures read { IsRead R.Reads space.old space.new }
+    ensures cause { HasFaultCause (R.faults space.old) (R.faults space.new) result }
+{
+    let mut items = Waiting::new(alloc);
+    for row in rows {
+        push_edge(alloc, space, names, row, &mut items)?;
+    }
+    Ok(items)
+}
+
+/// Puts the edge of a row after the others. Where its type is no name, the record is read again, so
+/// that it is the record that is said to be damaged.
+fn push_edge<R: Reads>(
+    alloc: Global,
+    space: &mut R,
+    names: &Names,
+    row: &EdgeRow,
+    items: &mut Waiting,
+) -> Result<(), Fault>
+    ensures is { R.tells
+        → IsNamedStore (R.state space.old).records (R.state space.old).shape names.now.names
+        → IsTyped (R.state space.old).records row.now → OnOk result
+        (items.new ≡ items.old ++ row_item (R.state space.old).records row.now ∷ []) }
+    ensures sound { R.tells
+        → IsNamedStore (R.state space.old).records (R.state space.old).shape names.now.names
+        → IsTyped (R.state space.old).records row.now → NotDamaged result }
+    ensures damaged { R.tells → IfErr result
+        (BlamesBroken (R.state space.old).records (R.state space.old).shape) }
+    ensures read { IsRead R.Reads space.old space.new }
+    ensures cause { HasFaultCause (R.faults space.old) (R.faults space.new) result }
+{
+    let mark = name_mark(space);
+    if row.label < mark {
+        let item = edge_item(alloc, text_of(names, row.label), row)?;
+        items.push(item)?;
+        return Ok(());
+    }
+    if let Some(item) = edge_at(alloc, space, names, row.id)? {
+        items.push(item)?;
+    }
+    Ok(())
 }
 
 /// The rows of the edges that a hop takes at a vertex. It reads what `expand` does, and nothing
@@ -82,6 +148,8 @@ fn rows_of<R: Reads>(
     ensures sound { R.tells
         → IsNamedStore (R.state space.old).records (R.state space.old).shape names.now.names
         → NotDamaged result }
+    ensures damaged { R.tells → IfErr result
+        (BlamesBroken (R.state space.old).records (R.state space.old).shape) }
     ensures read { IsRead R.Reads space.old space.new }
     ensures cause { HasFaultCause (R.faults space.old) (R.faults space.new) result }
 {

@@ -1,7 +1,7 @@
-ghost use Rattle.std.specs.Prelude.{◌≡◌, ◌≤◌, ◌<◌, ℕ, List, All, IfOk, IfSome, OnOk, find, map};
-ghost use Rattle.std.specs.Prelude.{nat_eq};
+ghost use Rattle.std.specs.Prelude.{◌≡◌, ◌≤◌, ◌<◌, ℕ, List, All, IfErr, IfOk, IfSome, OnOk, find, map};
+ghost use Rattle.std.specs.Prelude.{nat_eq, nat_lt};
 ghost use Rattle.std.specs.FinMap as maps;
-ghost use Rattle.std.specs.List.{filter_map};
+ghost use Rattle.std.specs.List.{filter_map, list_all};
 ghost use Rattle.std.specs.Option.{option_map};
 ghost use Rattle.plain_graph.specs.Forms.{IsKept};
 ghost use Rattle.plain_graph.specs.Meaning.{properties_of};
@@ -14,19 +14,20 @@ ghost use Rattle.rec_bytes.specs.declared.shape.Shape.{Shape};
 ghost use Rattle.store_rules.specs.Graph.{graph_of};
 ghost use Rattle.store_rules.specs.Views.{Records};
 ghost use Rattle.rec_bytes.specs.Fault.{HasFaultCause, NotDamaged};
+ghost use Rattle.prop_store.specs.Fault.{BlamesBroken};
 ghost use Rattle.traversal_run.specs.KeyValues.{AreRead, entry_below, entry_of, named_entry};
 ghost use Rattle.traversal_run.specs.KeyValues.{row_below};
 ghost use Rattle.traversal_run.specs.Naming.{name_count};
 ghost use Rattle.traversal_run.specs.Reading.{IsNamedStore, IsRead};
 
 use crate::elements::owner_of;
-use crate::naming::{name_of, number_of};
+use crate::naming::{name_mark, number_of, text_of, unnamed};
 use crate::shown::Shown;
 use crate::waiting::Waiting;
 use name_store::Names;
 use plain_graph::{Item, Text, Value};
 use prop_store::{Prop, read_all};
-use rec_bytes::{Fault, NAMES, Reads};
+use rec_bytes::{Fault, Reads};
 use std::alloc::{AllocError, Global};
 
 /// A value with the text of its key.
@@ -50,11 +51,14 @@ pub(crate) fn all_values<R: Reads>(
     ensures sound { R.tells
         → IsNamedStore (R.state space.old).records (R.state space.old).shape names.now.names
         → NotDamaged result }
+    ensures damaged { R.tells → IfErr result
+        (BlamesBroken (R.state space.old).records (R.state space.old).shape) }
     ensures read { IsRead R.Reads space.old space.new }
     ensures cause { HasFaultCause (R.faults space.old) (R.faults space.new) result }
 {
     let props = read_properties(alloc, space, names, item)?;
-    ordered_values(alloc, names, props)
+    let values = ordered_values(alloc, names, props)?;
+    Ok(values)
 }
 
 /// The values of several keys of an item, in the order of the keys.
@@ -72,6 +76,8 @@ pub(crate) fn several_values<R: Reads>(
     ensures sound { R.tells
         → IsNamedStore (R.state space.old).records (R.state space.old).shape names.now.names
         → NotDamaged result }
+    ensures damaged { R.tells → IfErr result
+        (BlamesBroken (R.state space.old).records (R.state space.old).shape) }
     ensures read { IsRead R.Reads space.old space.new }
     ensures cause { HasFaultCause (R.faults space.old) (R.faults space.new) result }
 {
@@ -94,29 +100,38 @@ fn read_properties<R: Reads>(
     ensures sound { R.tells
         → IsNamedStore (R.state space.old).records (R.state space.old).shape names.now.names
         → NotDamaged result }
+    ensures damaged { R.tells → IfErr result
+        (BlamesBroken (R.state space.old).records (R.state space.old).shape) }
     ensures kept { IfOk result (λ props. All (λ (prop : PropRow). IsKept prop.value) props.items) }
     ensures read { IsRead R.Reads space.old space.new }
     ensures cause { HasFaultCause (R.faults space.old) (R.faults space.new) result }
 {
+    let mark = name_mark(space);
     let Some(owner) = owner_of(space, item)? else {
         return Ok(Vec::new(alloc));
     };
     let props = read_all(alloc, space, owner)?;
+    if !have_keys_below(mark, &props) {
+        return Err(unnamed(owner.key.file, owner.key.id));
+    }
     Ok(props)
 }
 
+/// Whether each of their keys is below this mark.
+fn have_keys_below(mark: u32, props: &[Prop]) -> bool
+    ensures { result ≡ list_all (λ (prop : PropRow). nat_lt prop.key mark) props.now }
+{
+    props.iter().all(|prop| prop.key < mark)
+}
+
 /// The values of these properties, by ascending text of their keys.
-fn ordered_values(alloc: Global, names: &Names, props: Vec<Prop>) -> Result<Waiting, Fault>
-    requires kept { All (λ (prop : PropRow). IsKept prop.value) props.items }
-    ensures ordered { (records : Records) (shape : Shape)
+fn ordered_values(alloc: Global, names: &Names, props: Vec<Prop>) -> Result<Waiting, AllocError>
+    requires { All (λ (prop : PropRow). IsKept prop.value) props.items }
+    ensures { (records : Records) (shape : Shape)
         → IsNamedStore records shape names.now.names
         → All (λ (prop : PropRow). prop.key < name_count records) props.items
         → IfOk result (λ values. values ≡ map (λ (entry : List ℕ × ItemRow). entry.1)
         (sorted entry_below (map (named_entry records) props.items))) }
-    ensures sound { (records : Records) (shape : Shape) → IsNamedStore records shape names.now.names
-        → All (λ (prop : PropRow). prop.key < name_count records) props.items
-        → NotDamaged result }
-    ensures cause { (before now : ℕ) → before ≤ now → HasFaultCause before now result }
 {
     let mut rows = named_rows(alloc, names, props)?;
     sort(&mut rows)?;
@@ -124,24 +139,20 @@ fn ordered_values(alloc: Global, names: &Names, props: Vec<Prop>) -> Result<Wait
     Ok(values)
 }
 
-/// The values with the texts of their keys. Where a key is no name, that name is damaged.
+/// The values with the texts of their keys.
 fn named_rows<'a>(
     alloc: Global,
     names: &'a Names,
     props: Vec<Prop>,
-) -> Result<Vec<Named<'a>>, Fault>
-    requires kept { All (λ (prop : PropRow). IsKept prop.value) props.items }
-    ensures named { (records : Records) (shape : Shape) → IsNamedStore records shape names.now.names
+) -> Result<Vec<Named<'a>>, AllocError>
+    requires { All (λ (prop : PropRow). IsKept prop.value) props.items }
+    ensures { (records : Records) (shape : Shape) → IsNamedStore records shape names.now.names
         → All (λ (prop : PropRow). prop.key < name_count records) props.items
         → IfOk result (λ rows. map entry_of rows.items ≡ map (named_entry records) props.items) }
-    ensures sound { (records : Records) (shape : Shape) → IsNamedStore records shape names.now.names
-        → All (λ (prop : PropRow). prop.key < name_count records) props.items
-        → NotDamaged result }
-    ensures cause { (before now : ℕ) → before ≤ now → HasFaultCause before now result }
 {
     let mut rows = Vec::new(alloc);
     for prop in props {
-        let key = name_of(names, prop.key, NAMES, prop.key)?;
+        let key = text_of(names, prop.key);
         let value = Shown::value(prop.value);
         rows.push(Named { key, value })?;
     }

@@ -1,9 +1,10 @@
-ghost use Rattle.std.specs.Prelude.{◌≡◌, [], ◌∷◌, IfOk};
+ghost use Rattle.std.specs.Prelude.{◌≡◌, [], ◌∷◌, IfErr, IfOk};
 ghost use Rattle.std.specs.List.{list_any};
 ghost use Rattle.plain_graph.specs.Meaning.{label_value, own_rank, passes};
 ghost use Rattle.plain_graph.specs.Values.{is_text};
 ghost use Rattle.store_rules.specs.Graph.{graph_of};
 ghost use Rattle.rec_bytes.specs.Fault.{HasFaultCause, NotDamaged};
+ghost use Rattle.prop_store.specs.Fault.{BlamesBroken};
 ghost use Rattle.traversal_run.specs.Reading.{IsNamedStore, IsRead};
 ghost use Rattle.traversal_run.specs.Stage.{distinct_values, rank_in};
 
@@ -32,6 +33,8 @@ pub(crate) fn passes<R: Reads>(
     ensures sound { R.tells
         → IsNamedStore (R.state space.old).records (R.state space.old).shape names.now.names
         → NotDamaged result }
+    ensures damaged { R.tells → IfErr result
+        (BlamesBroken (R.state space.old).records (R.state space.old).shape) }
     ensures read { IsRead R.Reads space.old space.new }
     ensures cause { HasFaultCause (R.faults space.old) (R.faults space.new) result }
 {
@@ -77,6 +80,8 @@ pub(crate) fn distinct_values<R: Reads>(
     ensures sound { R.tells
         → IsNamedStore (R.state space.old).records (R.state space.old).shape names.now.names
         → NotDamaged result }
+    ensures damaged { R.tells → IfErr result
+        (BlamesBroken (R.state space.old).records (R.state space.old).shape) }
     ensures read { IsRead R.Reads space.old space.new }
     ensures cause { HasFaultCause (R.faults space.old) (R.faults space.new) result }
 {
@@ -102,6 +107,8 @@ fn one_value<R: Reads>(
     ensures sound { R.tells
         → IsNamedStore (R.state space.old).records (R.state space.old).shape names.now.names
         → NotDamaged result }
+    ensures damaged { R.tells → IfErr result
+        (BlamesBroken (R.state space.old).records (R.state space.old).shape) }
     ensures read { IsRead R.Reads space.old space.new }
     ensures cause { HasFaultCause (R.faults space.old) (R.faults space.new) result }
 {
@@ -128,6 +135,8 @@ pub(crate) fn label_value<R: Reads>(
     ensures sound { R.tells
         → IsNamedStore (R.state space.old).records (R.state space.old).shape names.now.names
         → NotDamaged result }
+    ensures damaged { R.tells → IfErr result
+        (BlamesBroken (R.state space.old).records (R.state space.old).shape) }
     ensures read { IsRead R.Reads space.old space.new }
     ensures cause { HasFaultCause (R.faults space.old) (R.faults space.new) result }
 {
@@ -151,6 +160,8 @@ pub(crate) fn rank<R: Reads>(
     ensures sound { R.tells
         → IsNamedStore (R.state space.old).records (R.state space.old).shape names.now.names
         → NotDamaged result }
+    ensures damaged { R.tells → IfErr result
+        (BlamesBroken (R.state space.old).records (R.state space.old).shape) }
     ensures read { IsRead R.Reads space.old space.new }
     ensures cause { HasFaultCause (R.faults space.old) (R.faults space.new) result }
 {

@@ -1,7 +1,7 @@
-ghost use Rattle.std.specs.Prelude.{◌≡◌, ◌≤◌, ◌<◌, ℕ, All, IfOk, IfSome, IsErrOf, length};
+ghost use Rattle.std.specs.Prelude.{◌≡◌, ◌≤◌, ◌<◌, All, IfOk, IfSome, length};
 ghost use Rattle.rec_bytes.specs.declared.shape.Shape.{Shape};
 ghost use Rattle.store_rules.specs.Views.{Records};
-ghost use Rattle.rec_bytes.specs.Fault.{HasFaultCause, NotDamaged};
+ghost use Rattle.store_rules.specs.Breaking.{damage};
 ghost use Rattle.rec_bytes.specs.declared.fault.Fault.TheVariants as faults;
 ghost use Rattle.traversal_run.specs.Naming.{FindsName, FindsNames, name_at, name_count};
 ghost use Rattle.traversal_run.specs.Reading.{IsNamedStore};
@@ -49,24 +49,33 @@ pub(crate) fn numbers_of<R: Reads>(
     Ok(numbers)
 }
 
-/// The name of a number that the record of an element has. Where it is no name's, the record is
-/// damaged.
-pub(crate) fn name_of(names: &Names, number: u32, file: u8, id: u32) -> Result<&[u8], Fault>
+/// How many names the store has.
+pub(crate) fn name_mark<R: Reads>(space: &R) -> u32
+    ensures { result ≡ name_count (R.state space.now).records }
+{
+    space.meta(NAMES).high
+}
+
+/// The text of a number among the names that are kept, and an empty one past them.
+pub(crate) fn text_of(names: &Names, number: u32) -> &[u8]
     ensures is { (records : Records) (shape : Shape) → IsNamedStore records shape names.now.names
-        → number < name_count records → IfOk result (λ name. name.now ≡ name_at records number) }
-    ensures sound { (records : Records) (shape : Shape) → IsNamedStore records shape names.now.names
-        → number < name_count records → NotDamaged result }
-    ensures short { IfOk result (λ name. length name.now ≤ 48) }
-    ensures no_disk { ¬ IsErrOf result faults.Disk }
-    ensures cause { (before now : ℕ) → before ≤ now → HasFaultCause before now result }
+        → number < name_count records → result.now ≡ name_at records number }
+    ensures short { length result.now ≤ 48 }
 {
     if number < names.count() {
-        Ok(names.text(number))
+        names.text(number)
     } else {
-        Err(Fault::Damaged(Damage {
-            file,
-            id,
-            rule: PROPERTY_RULE,
-        }))
+        &[]
     }
+}
+
+/// The element has a label, a type or a key that is no name.
+pub(crate) fn unnamed(file: u8, id: u32) -> Fault
+    ensures { result ≡ faults.Damaged (damage file id 5) }
+{
+    Fault::Damaged(Damage {
+        file,
+        id,
+        rule: PROPERTY_RULE,
+    })
 }

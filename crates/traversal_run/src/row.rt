@@ -19,7 +19,7 @@ ghost use Rattle.traversal_run.specs.Row.{
 };
 ghost use Rattle.traversal_run.specs.Scan.{limit_row};
 ghost use Rattle.traversal_run.specs.Stage.{is_count, is_open, limit_left, with_more};
-ghost use Rattle.traversal_run.specs.Stop.{HasStopCause, MayStop};
+ghost use Rattle.traversal_run.specs.Stop.{HasStopCause, MayStop, StopsAtBroken};
 
 use crate::stage::Stage;
 use crate::stop::Stop;
@@ -50,6 +50,8 @@ impl Row {
         ensures stops { R.tells
             → IsNamedStore (R.state space.old).records (R.state space.old).shape names.now.names
             → IfErr result (MayStop ⊥ (PassesAt self.old)) }
+        ensures damaged { R.tells → IfErr result
+            (StopsAtBroken (R.state space.old).records (R.state space.old).shape) }
         ensures limits { IfOk result (λ outs.
             with_more (limit_left self.new.stage) (length outs) ≡ limit_left self.old.stage) }
         ensures counts { is_count self.new.stage ≡ is_count self.old.stage }

@@ -21,6 +21,7 @@ ghost use Rattle.traversal_run.specs.Row.{through, with_first};
 ghost use Rattle.rec_bytes.specs.declared.damage.Damage.{Damage};
 ghost use Rattle.fault_count.specs.Cause.{Rose};
 ghost use Rattle.traversal_run.specs.Run.{
+  IfDamaged,
   IfItem,
   IsStopOf,
   allowed_by,
@@ -42,7 +43,8 @@ ghost use Rattle.traversal_run.specs.Scan.{
 ghost use Rattle.traversal_run.specs.Source.{is_over};
 ghost use Rattle.traversal_run.specs.Stage.{with_more};
 ghost use Rattle.traversal_run.specs.Starting.{limit_of};
-ghost use Rattle.traversal_run.specs.Stop.{HasStopCause, MayStop};
+ghost use Rattle.traversal_run.specs.Stop.{HasStopCause, MayStop, StopsAtBroken};
+ghost use Rattle.store_rules.specs.Breaking.{Breaks};
 
 use crate::row::{Row, first_open, have_no_count, last_waiting, put};
 use crate::source::Source;
@@ -102,6 +104,8 @@ fn advance_row<R: Reads>(
         → IsNamedStore (R.state space.old).records (R.state space.old).shape names.now.names
         → IfErr result (MayStop ⊥ ((coming : Stream)
         → (through (graph_of (R.state space.old).records) rows.old coming).past ≡ true)) }
+    ensures damaged { R.tells → IfErr result
+        (StopsAtBroken (R.state space.old).records (R.state space.old).shape) }
     ensures near { R.tells
         → IsNamedStore (R.state space.old).records (R.state space.old).shape names.now.names
         → (d most : ℕ) → HasDegreesUpTo (graph_of (R.state space.old).records) d
@@ -235,6 +239,8 @@ impl Run {
         ensures stops { R.tells
             → IsNamedStore (R.state space.old).records (R.state space.old).shape names.now.names
             → IfErr result (IsStopOf (to_come (graph_of (R.state space.old).records) self.old)) }
+        ensures damaged { R.tells → IfErr result
+            (StopsAtBroken (R.state space.old).records (R.state space.old).shape) }
         ensures allowed { OnOk result (still_allowed self.new ≡ still_allowed self.old) }
         ensures near { R.tells
             → IsNamedStore (R.state space.old).records (R.state space.old).shape names.now.names
@@ -304,6 +310,8 @@ impl Run {
         ensures stops { R.tells
             → IsNamedStore (R.state space.old).records (R.state space.old).shape names.now.names
             → IfErr result (IsStopOf (to_come (graph_of (R.state space.old).records) self.old)) }
+        ensures damaged { R.tells → IfErr result
+            (StopsAtBroken (R.state space.old).records (R.state space.old).shape) }
         ensures shown { IfOk result IsShown }
         ensures within { R.tells
             → IsNamedStore (R.state space.old).records (R.state space.old).shape names.now.names
@@ -367,6 +375,9 @@ impl Run {
         ensures sound { R.tells
             → IsNamedStore (R.state space.old).records (R.state space.old).shape names.now.names
             → stopped_by self.old ≡ None → (damage : Damage) → result ≢ Next.Damaged damage }
+        // A record that is said to be damaged breaks the rule that is named, in whatever store.
+        ensures damaged { R.tells → stopped_by self.old ≡ None → IfDamaged result
+            (Breaks (R.state space.old).records (R.state space.old).shape) }
         ensures cause { stopped_by self.old ≡ None → result ≡ Next.Disk
             → Rose (R.faults space.old) (R.faults space.new) }
 

@@ -1,8 +1,9 @@
-ghost use Rattle.std.specs.Prelude.{◌≡◌, ◌<◌, ◌+◌, ℕ, [], IfNone, IfOk, IfSome, None, false, true};
+ghost use Rattle.std.specs.Prelude.{◌≡◌, ◌<◌, ◌+◌, ℕ, [], IfNone, IfErr, IfOk, IfSome, None, false, true};
 ghost use Rattle.plain_graph.specs.Graph.{Graph};
 ghost use Rattle.plain_graph.specs.Meaning.{source_of};
 ghost use Rattle.store_rules.specs.Graph.{graph_of};
 ghost use Rattle.rec_bytes.specs.Fault.{HasFaultCause, NotDamaged};
+ghost use Rattle.prop_store.specs.Fault.{BlamesBroken};
 ghost use Rattle.traversal_run.specs.Reading.{IsNamedStore, IsRead};
 ghost use Rattle.traversal_run.specs.Scan.{TakesVertex, vertices_from};
 ghost use Rattle.traversal_run.specs.Source.{
@@ -98,6 +99,8 @@ impl Source {
         ensures sound { R.tells
             → IsNamedStore (R.state space.old).records (R.state space.old).shape names.now.names
             → NotDamaged result }
+        ensures damaged { R.tells → IfErr result
+            (BlamesBroken (R.state space.old).records (R.state space.old).shape) }
         // Of all vertices it costs a read for each identifier up to that of the one it gives.
         ensures vertex { (at : ℕ) → self.old ≡ vertices_from at
             → IfOk result (λ item. IfSome item (λ found. TakesVertex at

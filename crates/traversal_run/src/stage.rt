@@ -6,6 +6,7 @@ ghost use Rattle.plain_graph.specs.declared.item.Item.TheVariants as items;
 ghost use Rattle.std.specs.List.{cons_option};
 ghost use Rattle.store_rules.specs.Graph.{graph_of};
 ghost use Rattle.rec_bytes.specs.Fault.{HasFaultCause, NotDamaged};
+ghost use Rattle.prop_store.specs.Fault.{BlamesBroken};
 ghost use Rattle.traversal_run.specs.Held.{is_hop, is_plain};
 ghost use Rattle.traversal_run.specs.Reading.{IsNamedStore, IsRead};
 ghost use Rattle.traversal_run.specs.Stage.{
@@ -18,7 +19,7 @@ ghost use Rattle.traversal_run.specs.Stage.{
   limit_left,
   with_more,
 };
-ghost use Rattle.traversal_run.specs.Stop.{HasStopCause, MayStop};
+ghost use Rattle.traversal_run.specs.Stop.{HasStopCause, MayStop, StopsAtBroken};
 
 use crate::counter::Counter;
 use crate::hopping::{incident, neighbours};
@@ -82,6 +83,8 @@ impl Stage {
         ensures stops { R.tells
             → IsNamedStore (R.state space.old).records (R.state space.old).shape names.now.names
             → IfErr result (MayStop ⊥ (PassesWith self.old item)) }
+        ensures damaged { R.tells → IfErr result
+            (StopsAtBroken (R.state space.old).records (R.state space.old).shape) }
         ensures limits { IfOk result (λ outs.
             with_more (limit_left self.new) (length outs) ≡ limit_left self.old) }
         ensures counts { is_count self.new ≡ is_count self.old }
@@ -179,6 +182,8 @@ fn keep<R: Reads>(
     ensures sound { R.tells
         → IsNamedStore (R.state space.old).records (R.state space.old).shape names.now.names
         → NotDamaged result }
+    ensures damaged { R.tells → IfErr result
+        (BlamesBroken (R.state space.old).records (R.state space.old).shape) }
     ensures read { IsRead R.Reads space.old space.new }
     ensures cause { HasFaultCause (R.faults space.old) (R.faults space.new) result }
 {

@@ -1,6 +1,8 @@
 use Rattle.std.proofs.Common.{sym, ◌∙◌, None, subst}
 use Rattle.plain_graph.specs.declared.item.Item.{Item}
 use Rattle.traversal_run.specs.Elements.{IsOwnerOf}
+use Rattle.std.proofs.lemmas.Result.{err_from_is_err_and}
+use Rattle.traversal_run.proofs.Broken.{node_blamed, rel_blamed}
 use Rattle.traversal_run.proofs.Loaded.{edge_unowned, node_unowned}
 use Rattle.traversal_run.proofs.elements.owner_of.Goals as goal
 
@@ -13,3 +15,15 @@ pub returns-in-None-2-clause-found : goal.returns-in-None-2-clause-found
 returns-in-None-2-clause-found g c = λ tells.
     let s = g.R.Reads.state c.args.space.now in
     subst (λ (item : Item). IsOwnerOf s item None) (sym c.in-Edge.is) (edge_unowned s c.in-Edge.id c.in-Edge.label c.in-Edge.from c.in-Edge.to (sym c.in-None-2.is ∙ c.in_ok-load-in-Edge.ensures.found tells))
+
+pub returns-in_err-load-in-Vertex-clause-damaged : goal.returns-in_err-load-in-Vertex-clause-damaged
+returns-in_err-load-in-Vertex-clause-damaged g c = λ tells.
+    let s = g.R.Reads.state c.args.space.now in
+    let p = err_from_is_err_and c.from_residual.result c.from_residual.ensures.1 in
+    rw (p.1, p.2) (node_blamed s c.in-Vertex.id c.in_err-load-in-Vertex.field-0.0 (c.in_err-load-in-Vertex.ensures.damaged tells))
+
+pub returns-in_err-load-in-Edge-clause-damaged : goal.returns-in_err-load-in-Edge-clause-damaged
+returns-in_err-load-in-Edge-clause-damaged g c = λ tells.
+    let s = g.R.Reads.state c.args.space.now in
+    let p = err_from_is_err_and c.from_residual-in_err-load-in-Edge.result c.from_residual-in_err-load-in-Edge.ensures.1 in
+    rw (p.1, p.2) (rel_blamed s c.in-Edge.id c.in_err-load-in-Edge.field-0.0 (c.in_err-load-in-Edge.ensures.damaged tells))

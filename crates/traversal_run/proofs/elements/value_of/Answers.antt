@@ -9,6 +9,9 @@ use Rattle.prop_store.specs.Owner.{IsOwner}
 use Rattle.prop_store.specs.declared.owner.Owner.{Owner}
 use Rattle.store_rules.specs.Graph.{graph_of}
 use Rattle.traversal_run.specs.Elements.{IsOwnerOf}
+use Rattle.prop_store.specs.Owner.{IsInUse}
+use Rattle.rec_bytes.specs.Space.{State}
+use Rattle.traversal_run.proofs.Broken.{blamed_before}
 use Rattle.traversal_run.proofs.Loaded.{no_name_no_value}
 use Rattle.traversal_run.proofs.Owned.{listed_in, then_read, value_is}
 use Rattle.traversal_run.proofs.elements.value_of.Goals as goal
@@ -57,3 +60,13 @@ returns-clause-read g c = record {
   onward = g.met.R.Reads.further_onward c.args.space.now c.owner_of.new.space c.read_key.new.space c.in_ok-owner.ensures.read.onward c.read_key.ensures.onward;
   later = omega arith;
 }
+
+pub returns-in_err-value-clause-damaged : goal.returns-in_err-value-clause-damaged
+returns-in_err-value-clause-damaged g c = λ tells.
+    let s = g.R.Reads.state c.args.space.now in
+    let z = g.R.Reads.state c.owner_of.new.space in
+    let same = c.in_ok-owner.ensures.read.same in
+    let owns = subst (IsOwnerOf s c.args.item.now) c.in-Some-2.is (c.in_ok-owner.ensures.found tells) in
+    let used = subst (λ (t : State). IsInUse t.records c.in-Some-2.owner) (sym same) owns.used in
+    let p = err_from_is_err_and c.from_residual-in_err-value.result c.from_residual-in_err-value.ensures.1 in
+    rw (p.1, p.2) (blamed_before s z same c.in_err-value.field-0.0 (c.in_err-value.ensures.damaged tells used))

@@ -1,9 +1,13 @@
+use Rattle.std.specs.Prelude.{IfErr}
 use Rattle.std.proofs.Common.{◌≡◌, IfOk, List, map, sym, ap, ◌∙◌, subst}
 use Rattle.plain_graph.specs.Meaning.{edges_at, incident}
 use Rattle.plain_graph.specs.declared.item.Item.{Item}
+use Rattle.prop_store.specs.Fault.{BlamesBroken}
+use Rattle.rec_bytes.specs.Space.{State}
 use Rattle.store_rules.specs.Graph.{graph_of}
 use Rattle.traversal_run.specs.EdgeItems.{AreTyped, row_item}
 use Rattle.traversal_run.proofs.HopEdges.{rows-items, rows-typed}
+use Rattle.traversal_run.proofs.OnlyReads.{is_read-on, named-read}
 use Rattle.traversal_run.proofs.hopping.incident.Goals as goal
 
 pub returns-clause-found : goal.returns-clause-found
@@ -13,10 +17,14 @@ returns-clause-found g c = λ tells store.
     let hop = c.args.hop.now in
     let rows = c.in_ok-rows.rows.items in
     let edges = edges_at graph hop.direction hop.labels c.in-Vertex.id in
+    let read = c.in_ok-rows.ensures.read in
     let are = c.in_ok-rows.ensures.found tells store in
     let typed = subst (AreTyped s.records) (sym c.deref.ensures.value) (rows-typed s.records rows edges are) in
+    let then = subst (λ (t : State). AreTyped t.records c.deref.result.now) (sym read.same) typed in
     let same = ap (map (row_item s.records)) c.deref.ensures.value ∙ rows-items s.records rows edges are ∙ ap (incident graph hop) (sym c.in-Vertex.is) in
-    subst (λ (items : List Item). IfOk c.edge_items.result (λ value. value ≡ items)) same (c.edge_items.ensures.are s.records s.shape store typed)
+    let got = c.edge_items.ensures.are tells (named-read g.R.Reads c.args.space.now c.rows_of.new.space c.args.names.now.names read store) then in
+    subst (λ (items : List Item). IfOk c.edge_items.result (λ value. value ≡ items)) same
+    (subst (λ (t : State). IfOk c.edge_items.result (λ (value : List Item). value ≡ map (row_item t.records) c.deref.result.now)) read.same got)
 
 pub returns-clause-sound : goal.returns-clause-sound
 returns-clause-sound g c = λ tells store.
@@ -24,5 +32,13 @@ returns-clause-sound g c = λ tells store.
     let hop = c.args.hop.now in
     let rows = c.in_ok-rows.rows.items in
     let edges = edges_at (graph_of s.records) hop.direction hop.labels c.in-Vertex.id in
-    c.edge_items.ensures.sound s.records s.shape store
-    (subst (AreTyped s.records) (sym c.deref.ensures.value) (rows-typed s.records rows edges (c.in_ok-rows.ensures.found tells store)))
+    let read = c.in_ok-rows.ensures.read in
+    let typed = subst (AreTyped s.records) (sym c.deref.ensures.value) (rows-typed s.records rows edges (c.in_ok-rows.ensures.found tells store)) in
+    c.edge_items.ensures.sound tells (named-read g.R.Reads c.args.space.now c.rows_of.new.space c.args.names.now.names read store)
+    (subst (λ (t : State). AreTyped t.records c.deref.result.now) (sym read.same) typed)
+
+pub returns-clause-damaged : goal.returns-clause-damaged
+returns-clause-damaged g c = λ tells. subst (λ (t : State). IfErr c.edge_items.result (BlamesBroken t.records t.shape)) c.in_ok-rows.ensures.read.same (c.edge_items.ensures.damaged tells)
+
+pub returns-clause-read : goal.returns-clause-read
+returns-clause-read g c = is_read-on g.R.Reads g.met.R.Reads.further_onward c.args.space.now c.rows_of.new.space c.edge_items.new.space c.in_ok-rows.ensures.read c.edge_items.ensures.read

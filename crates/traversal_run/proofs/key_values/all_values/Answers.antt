@@ -1,4 +1,3 @@
-use Rattle.std.specs.Prelude.{IfOk}
 use Rattle.std.proofs.Common.{◌≡◌, ◌∙◌, ℕ, List, ap, map, sym, subst}
 use Rattle.std.specs.FinMap as maps
 use Rattle.plain_graph.specs.Properties.{Properties}
@@ -20,10 +19,4 @@ returns-clause-found g c = λ tells store.
     let is = ap (λ (props : List Prop). map (λ (entry : List ℕ × Item). entry.1) (sorted entry_below (map (named_entry s.records) props))) read.read
     ∙ values-sorted s.records (name_count s.records) store.store.names read.es read.known read.once
     ∙ ap (λ (properties : Properties). map items.Value (maps.values properties)) (sym read.are) in
-    subst (λ (list : List Item). IfOk c.ordered_values.result (λ values. values ≡ list)) is (c.ordered_values.ensures.ordered s.records s.shape store all)
-
-pub returns-clause-sound : goal.returns-clause-sound
-returns-clause-sound g c = λ tells store.
-    let s = g.R.Reads.state c.args.space.now in
-    let read = c.in_ok-props.ensures.found tells store in
-    c.ordered_values.ensures.sound s.records s.shape store (subst (All (λ (prop : Prop). prop.key < name_count s.records)) (sym read.read) (all_known (name_count s.records) read.es read.known))
+    c.in_ok-values.ensures s.records s.shape store all ∙ is

@@ -1,8 +1,16 @@
 use Rattle.std.specs.Prelude.{IfSome}
-use Rattle.std.proofs.Common.{Option, subst, arith}
+use Rattle.std.proofs.Common.{◌≡◌, ℕ, List, Option, Bool, true, false, nat_lt, map, sym, ap, ◌∙◌, subst, arith}
+use Rattle.std.specs.List.{list_all}
 use Rattle.std.proofs.lemmas.Result.{err_from_is_err_and}
 use Rattle.prop_store.specs.Owner.{IsOwner}
+use Rattle.prop_store.specs.Fault.{BlamesBroken}
+use Rattle.prop_store.specs.Owner.{IsInUse}
+use Rattle.prop_store.specs.Reading.{prop_of, properties_met}
 use Rattle.prop_store.specs.declared.owner.Owner.{Owner}
+use Rattle.prop_store.specs.declared.prop.Prop.{Prop}
+use Rattle.rec_bytes.specs.Space.{State}
+use Rattle.traversal_run.specs.Naming.{name_count}
+use Rattle.traversal_run.proofs.Broken.{blamed_before, keys_below, owner_unnamed}
 use Rattle.traversal_run.specs.Elements.{IsOwnerOf}
 use Rattle.traversal_run.proofs.Owned.{are_read, listed_in, none_read, then_read}
 use Rattle.traversal_run.proofs.key_values.read_properties.Goals as goal
@@ -40,6 +48,56 @@ returns-clause-found g c = λ tells store.
 
 pub returns-clause-read : goal.returns-clause-read
 returns-clause-read g c = record {
+  same = then_read (g.R.Reads.state c.args.space.now) (g.R.Reads.state c.owner_of.new.space) (g.R.Reads.state c.read_all.new.space) 737 c.in_ok-owner.ensures.read.same c.read_all.ensures.at_most;
+  onward = g.met.R.Reads.further_onward c.args.space.now c.owner_of.new.space c.read_all.new.space c.in_ok-owner.ensures.read.onward c.read_all.ensures.onward;
+  later = omega arith;
+}
+
+pub returns-in_err-props-clause-damaged : goal.returns-in_err-props-clause-damaged
+returns-in_err-props-clause-damaged g c = λ tells.
+    let s = g.R.Reads.state c.args.space.now in
+    let z = g.R.Reads.state c.owner_of.new.space in
+    let same = c.in_ok-owner.ensures.read.same in
+    let owns = subst (IsOwnerOf s c.args.item.now) c.in-Some.is (c.in_ok-owner.ensures.found tells) in
+    let used = subst (λ (t : State). IsInUse t.records c.in-Some.owner) (sym same) owns.used in
+    let p = err_from_is_err_and c.from_residual-in_err-props.result c.from_residual-in_err-props.ensures.1 in
+    rw (p.1, p.2) (blamed_before s z same c.in_err-props.field-0.0 (c.in_err-props.ensures.damaged tells used))
+
+-- ---- a key that is no name
+
+clash : (b : Bool) → b ≡ true → b ≡ false → ⊥
+clash b on off = cc
+
+pub returns-then-not-have_keys_below-clause-sound : goal.returns-then-not-have_keys_below-clause-sound
+returns-then-not-have_keys_below-clause-sound g c = λ tells store.
+    let s = g.R.Reads.state c.args.space.now in
+    let z = g.R.Reads.state c.owner_of.new.space in
+    let owns = subst (IsOwnerOf s c.args.item.now) c.in-Some.is (c.in_ok-owner.ensures.found tells) in
+    let is = subst (λ (o : Option Owner). IfSome o IsOwner) c.in-Some.is c.in_ok-owner.ensures.owner in
+    let listed = listed_in s z c.args.item.now c.in-Some.owner c.in_ok-owner.ensures.read.same store.store is owns in
+    let read = c.deref.ensures.value ∙ c.in_ok-props.ensures.read tells listed.es listed.has.are in
+    let below = c.have_keys_below.ensures
+    ∙ ap (λ (mark : ℕ). list_all (λ (prop : Prop). nat_lt prop.key mark) c.deref.result.now) c.name_mark-mark.ensures
+    ∙ ap (λ (props : List Prop). list_all (λ (prop : Prop). nat_lt prop.key (name_count s.records)) props) read
+    ∙ keys_below (name_count s.records) listed.es listed.known in
+    absurd (clash c.have_keys_below.result below c.if-not-have_keys_below.true)
+
+pub returns-then-not-have_keys_below-clause-damaged : goal.returns-then-not-have_keys_below-clause-damaged
+returns-then-not-have_keys_below-clause-damaged g c = λ tells.
+    let s = g.R.Reads.state c.args.space.now in
+    let same = c.in_ok-owner.ensures.read.same in
+    let owner = c.in-Some.owner in
+    let props = c.in_ok-props.props.items in
+    let owns = subst (IsOwnerOf s c.args.item.now) c.in-Some.is (c.in_ok-owner.ensures.found tells) in
+    let is = subst (λ (o : Option Owner). IfSome o IsOwner) c.in-Some.is c.in_ok-owner.ensures.owner in
+    let met = subst (λ (t : State). props ≡ map prop_of (properties_met t.records owner)) same (c.in_ok-props.ensures.met tells) in
+    let some = ap (λ (list : List Prop). list_all (λ (prop : Prop). nat_lt prop.key (name_count s.records)) list) (sym c.deref.ensures.value)
+    ∙ ap (λ (mark : ℕ). list_all (λ (prop : Prop). nat_lt prop.key mark) c.deref.result.now) (sym c.name_mark-mark.ensures)
+    ∙ sym c.have_keys_below.ensures ∙ c.if-not-have_keys_below.true in
+    subst (BlamesBroken s.records s.shape) (sym c.unnamed.ensures) (owner_unnamed s owner is owns.used props met some)
+
+pub returns-then-not-have_keys_below-clause-read : goal.returns-then-not-have_keys_below-clause-read
+returns-then-not-have_keys_below-clause-read g c = record {
   same = then_read (g.R.Reads.state c.args.space.now) (g.R.Reads.state c.owner_of.new.space) (g.R.Reads.state c.read_all.new.space) 737 c.in_ok-owner.ensures.read.same c.read_all.ensures.at_most;
   onward = g.met.R.Reads.further_onward c.args.space.now c.owner_of.new.space c.read_all.new.space c.in_ok-owner.ensures.read.onward c.read_all.ensures.onward;
   later = omega arith;

@@ -1,9 +1,11 @@
 use Rattle.std.proofs.Common.{◌≡◌, ◌∷◌, List, Bool, true, false, sym, refl, ap, ◌∙◌, subst, arith}
+use Rattle.std.proofs.lemmas.Result.{err_from_is_err_and}
 use Rattle.plain_graph.specs.declared.item.Item.{Item}
 use Rattle.rec_bytes.specs.Space.{State}
 use Rattle.store_rules.specs.Graph.{graph_of}
 use Rattle.traversal_run.specs.Held.{HasDegreesUpTo, IsNear}
 use Rattle.traversal_run.specs.Run.{still_allowed, to_come}
+use Rattle.traversal_run.specs.Stop.{StopsAtBroken}
 use Rattle.traversal_run.specs.declared.run.Run.{Run}
 use Rattle.traversal_run.proofs.HeldRuns.{near_begins, within-taken}
 use Rattle.traversal_run.proofs.Nothing.{spent-to_come}
@@ -73,3 +75,8 @@ returns-in-Some-clause-scan g c = λ at scan.
     let takes : run.ready ≡ c.into_item.result ∷ c.take_first.new.self = c.in-Some.ensures.some ∙ ap (λ (item : Item). item ∷ c.take_first.new.self) (sym c.into_item.ensures.is) in
     scan_gives at (space.state c.args.space.now).reads (space.state c.loop.space).reads run (record run { ready = c.take_first.new.self }) c.into_item.result takes refl refl
     (c.loop.invariant.stopped ∙ scan.going) (c.loop.invariant.scan at scan)
+
+pub returns-in_err-turn-clause-damaged : goal.returns-in_err-turn-clause-damaged
+returns-in_err-turn-clause-damaged g c = λ tells.
+    let p = err_from_is_err_and c.from_residual.result c.from_residual.ensures.1 in
+    rw (p.1, p.2) (subst (λ (t : State). StopsAtBroken t.records t.shape c.in_err-turn.field-0.0) c.loop.invariant.read.same (c.in_err-turn.ensures.damaged tells))

@@ -1,4 +1,5 @@
 use Rattle.std.proofs.Common.{◌≡◌, ◌++◌, ◌+◌, false, ap, sym, ◌∙◌, subst, arith}
+use Rattle.std.proofs.lemmas.Result.{err_from_is_err_and}
 use Rattle.rec_bytes.specs.Space.{State}
 use Rattle.store_rules.specs.Graph.{graph_of}
 use Rattle.store_rules.specs.Rows.{option_list}
@@ -6,6 +7,7 @@ use Rattle.traversal_run.specs.Finding.{element_at, element_mark}
 use Rattle.traversal_run.specs.Scan.{vertices_from}
 use Rattle.traversal_run.specs.Source.{HasNoneBelow, elements_left, left_of}
 use Rattle.traversal_run.specs.declared.source.Source.{Source}
+use Rattle.traversal_run.proofs.Broken.{blamed_before}
 use Rattle.traversal_run.proofs.LeftRows.{gives-later, gives-some, left-none, left-takes}
 use Rattle.traversal_run.proofs.OnlyReads.{is_read-on, named-read}
 use Rattle.traversal_run.proofs.Scans.{scan_found}
@@ -70,3 +72,9 @@ returns-clause-first g c = λ tells store.
     let none = subst (λ n. HasNoneBelow n now.left) mark c.in_default.ensures.none.0 in
     let nothing = left-none s.records now.edges now.left none in
     (sym (c.loop-id.invariant.same tells store) ∙ nothing, ap (elements_left (graph_of s.records) now.edges) c.in_default.ensures.none.1 ∙ nothing)
+
+pub returns-in_err-item-clause-damaged : goal.returns-in_err-item-clause-damaged
+returns-in_err-item-clause-damaged g c = λ tells.
+    let space = g.R.Reads in
+    let p = err_from_is_err_and c.from_residual.result c.from_residual.ensures.1 in
+    rw (p.1, p.2) (blamed_before (space.state c.args.space.now) (space.state c.loop-id.space) c.loop-id.invariant.read.same c.in_err-item.field-0.0 (c.in_err-item.ensures.damaged tells))
