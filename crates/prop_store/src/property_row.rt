@@ -50,7 +50,8 @@ pub(crate) fn property_at<R: Reads>(
         file: PROPERTIES,
         id,
     };
-    let rec = space.get(key)?;
+    let mut rec = Rec::ZEROS;
+    space.get_into(key, &mut rec)?;
     if rec.byte(KIND) == FREE {
         return Err(damaged(element.file, element.id, PROPERTY_RULE));
     }

@@ -19,17 +19,17 @@ use Rattle.prop_store.proofs.property_row.property_at.Goals as goal
 pub returns-in_err-test_link-clause-at_most : goal.returns-in_err-test_link-clause-at_most
 returns-in_err-test_link-clause-at_most g c = reads_none 1 _
 
-pub returns-in_err-rec-clause-at_most : goal.returns-in_err-rec-clause-at_most
-returns-in_err-rec-clause-at_most g c = reads_one 1 _ _ (omega arith) c.in_err-rec.ensures.state
+pub returns-in_err-get_into-clause-at_most : goal.returns-in_err-get_into-clause-at_most
+returns-in_err-get_into-clause-at_most g c = reads_one 1 _ _ (omega arith) c.in_err-get_into.ensures.state
 
 pub returns-then-byte-eq-FREE-clause-at_most : goal.returns-then-byte-eq-FREE-clause-at_most
-returns-then-byte-eq-FREE-clause-at_most g c = reads_one 1 _ _ (omega arith) c.in_ok-rec.ensures.state
+returns-then-byte-eq-FREE-clause-at_most g c = reads_one 1 _ _ (omega arith) c.in_ok-get_into.ensures.state
 
 pub returns-in-Some-clause-at_most : goal.returns-in-Some-clause-at_most
-returns-in-Some-clause-at_most g c = reads_one 1 _ _ (omega arith) c.in_ok-rec.ensures.state
+returns-in-Some-clause-at_most g c = reads_one 1 _ _ (omega arith) c.in_ok-get_into.ensures.state
 
 pub returns-in-None-clause-at_most : goal.returns-in-None-clause-at_most
-returns-in-None-clause-at_most g c = reads_one 1 _ _ (omega arith) c.in_ok-rec.ensures.state
+returns-in-None-clause-at_most g c = reads_one 1 _ _ (omega arith) c.in_ok-get_into.ensures.state
 
 -- ---- which record is blamed
 
@@ -55,17 +55,17 @@ pub returns-then-byte-eq-FREE-clause-damaged : goal.returns-then-byte-eq-FREE-cl
 returns-then-byte-eq-FREE-clause-damaged g c tells =
     let s = g.R.Reads.state c.args.space.now in
     subst (IsRowFault s c.args.element c.args.from c.args.id) (sym c.damaged.ensures)
-    (Unused (kind_read s c.args.id c.in_ok-rec.rec c.in_ok-test_link.ensures.given.low (c.in_ok-rec.ensures.got tells) ∙ sym c.byte.ensures ∙ c.if-byte-eq-FREE.true))
+    (Unused (kind_read s c.args.id c.get_into.new.rec c.in_ok-test_link.ensures.given.low (c.in_ok-get_into.ensures.got tells) ∙ sym c.byte.ensures ∙ c.if-byte-eq-FREE.true))
 
 pub returns-in-None-clause-damaged : goal.returns-in-None-clause-damaged
 returns-in-None-clause-damaged g c tells =
     let s = g.R.Reads.state c.args.space.now in
     subst (IsRowFault s c.args.element c.args.from c.args.id) (sym c.damaged-in-None.ensures)
-    (Unknown (λ e. c.if-byte-eq-FREE.false (c.byte.ensures ∙ sym (kind_read s c.args.id c.in_ok-rec.rec c.in_ok-test_link.ensures.given.low (c.in_ok-rec.ensures.got tells)) ∙ e))
-    (λ has. no_form c.in_ok-rec.rec (subst HasContent (sym (c.in_ok-rec.ensures.got tells)) has) (sym c.form_of.ensures.is ∙ c.in-None.is)))
+    (Unknown (λ e. c.if-byte-eq-FREE.false (c.byte.ensures ∙ sym (kind_read s c.args.id c.get_into.new.rec c.in_ok-test_link.ensures.given.low (c.in_ok-get_into.ensures.got tells)) ∙ e))
+    (λ has. no_form c.get_into.new.rec (subst HasContent (sym (c.in_ok-get_into.ensures.got tells)) has) (sym c.form_of.ensures.is ∙ c.in-None.is)))
 
 pub returns-in-Some-clause-read : goal.returns-in-Some-clause-read
 returns-in-Some-clause-read g c tells =
     let s = g.R.Reads.state c.args.space.now in
-    let got = c.in_ok-rec.ensures.got tells in
-    record { used = λ e. c.if-byte-eq-FREE.false (c.byte.ensures ∙ sym (kind_read s c.args.id c.in_ok-rec.rec c.in_ok-test_link.ensures.given.low got) ∙ e); rec_is = got }
+    let got = c.in_ok-get_into.ensures.got tells in
+    record { used = λ e. c.if-byte-eq-FREE.false (c.byte.ensures ∙ sym (kind_read s c.args.id c.get_into.new.rec c.in_ok-test_link.ensures.given.low got) ∙ e); rec_is = got }
