@@ -6,7 +6,7 @@ ghost use Rattle.group_store.specs.GroupRecord.{group_key};
 
 use crate::GroupRow;
 use crate::group_record::read_row;
-use rec_bytes::{Damage, GROUPS, Key, META, RANGE_RULE, Reads, RowFault, room_of};
+use rec_bytes::{Damage, GROUPS, Key, META, RANGE_RULE, Reads, Rec, RowFault, room_of};
 
 /// Reads the group of an identifier. It is none where the identifier isn't live. A record of
 /// an unknown kind is damaged, and so is the meta record of the groups where it counts the
@@ -33,8 +33,9 @@ pub fn load<R: Reads>(space: &mut R, id: u32) -> Result<Option<GroupRow>, RowFau
             rule: RANGE_RULE,
         }));
     }
-    match space.get(Key { file: GROUPS, id }) {
-        Ok(rec) => read_row(&rec, id),
+    let mut rec = Rec::ZEROS;
+    match space.get_into(Key { file: GROUPS, id }, &mut rec) {
+        Ok(()) => read_row(&rec, id),
         Err(_) => Err(RowFault::Disk),
     }
 }

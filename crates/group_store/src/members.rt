@@ -84,7 +84,8 @@ pub(crate) fn read_member<R: Reads>(space: &mut R, node: u32, id: u32) -> Result
             rule: RANGE_RULE,
         }));
     }
-    let rec = space.get(Key { file: GROUPS, id })?;
+    let mut rec = Rec::ZEROS;
+    space.get_into(Key { file: GROUPS, id }, &mut rec)?;
     if !is_group_of(&rec, node) {
         return Err(Fault::Damaged(member_damage(&rec, node, id)));
     }

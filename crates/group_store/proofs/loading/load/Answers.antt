@@ -19,5 +19,5 @@ pub returns-in-Ok-clause-damaged : goal.returns-in-Ok-clause-damaged
 returns-in-Ok-clause-damaged g c = λ tells.
     let s = g.R.Reads.state c.args.space.now in
     let mark : c.meta.result.high ≡ group_mark s = ap (λ (m : Meta). m.high) c.meta.ensures in
-    let fault = fault-read_row s c.args.id c.in-Ok.rec (omega arith) (c.in-Ok.ensures.got tells) in
+    let fault = fault-read_row s c.args.id c.get_into.new.rec (omega arith) (c.in-Ok.ensures.got tells) in
     subst (λ r. IfErr r (IsRowFault s c.args.id)) (sym c.read_row.ensures) fault
