@@ -1,6 +1,6 @@
 -- A record that is called damaged breaks the rule.
 use Rattle.std.specs.List.{list_all}
-use Rattle.std.proofs.Common.{◌≡◌, ◌≢◌, ◌<◌, ◌≤◌, ◌&&◌, ℕ, nat_lt, Bool, true, false, None, Some, List, [], ◌∷◌, map, not, inl, inr, refl, sym, ap, ◌∙◌, subst, arith}
+use Rattle.std.proofs.Common.{◌≡◌, ◌≢◌, ◌<◌, ◌≤◌, ◌&&◌, ℕ, nat_lt, Bool, true, false, Some, List, [], ◌∷◌, map, not, inl, inr, refl, sym, ap, ◌∙◌, subst, arith}
 use Rattle.rec_bytes.specs.Fault.{of_row}
 use Rattle.rec_bytes.specs.Format as format
 use Rattle.rec_bytes.specs.Space.{SameButReads, State}

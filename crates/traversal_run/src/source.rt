@@ -1,4 +1,5 @@
-ghost use Rattle.std.specs.Prelude.{◌≡◌, ◌<◌, ◌+◌, ℕ, [], IfNone, IfErr, IfOk, IfSome, None, false, true};
+ghost use Rattle.std.specs.Prelude.{◌≡◌, ◌<◌, ◌+◌, ℕ, [], IfErr, IfNone, IfOk, IfSome, None};
+ghost use Rattle.std.specs.Prelude.{false, true};
 ghost use Rattle.plain_graph.specs.Graph.{Graph};
 ghost use Rattle.plain_graph.specs.Meaning.{source_of};
 ghost use Rattle.store_rules.specs.Graph.{graph_of};

@@ -1,4 +1,4 @@
-use Rattle.std.proofs.Common.{◌≡◌, ◌∙◌, ℕ, List, ap, map, sym, subst}
+use Rattle.std.proofs.Common.{◌∙◌, ℕ, List, ap, map, sym, subst}
 use Rattle.std.specs.FinMap as maps
 use Rattle.plain_graph.specs.Properties.{Properties}
 use Rattle.plain_graph.specs.Sorting.{sorted}
