@@ -1,9 +1,9 @@
 -- Levels that keep their rules prove what they are to prove.
-use Rattle.std.proofs.Common.{◌≡◌, ◌≢◌, ◌<◌, ◌≤◌, ◌⊎◌, inl, inr, ℕ, zero, suc, ◌+◌, true, List, [], ◌∷◌, length, get_or, All, AllPairs, Contains, refl, sym, ap, subst, ◌∙◌, arith}
+use Rattle.std.proofs.Common.{◌≡◌, ◌≤◌, inl, inr, ℕ, suc, ◌+◌, List, [], ◌∷◌, length, Contains, refl, sym, ap, subst, ◌∙◌, arith}
 use Rattle.std.proofs.lemmas.Bool.{cases_lt}
 use Rattle.plain_graph.specs.Adjacency.{Adjacency}
-use Rattle.plain_graph.specs.Walks.{HasNoWalk, IsShortest, IsWalk, LeadsTo}
-use Rattle.plain_graph.specs.Levels.{AreLevels, AreLevelsFor, AreLevelsOfNoWalk, HasLevel, HasLevelUpTo, IsCertified, IsShortestOrNone, level_of}
+use Rattle.plain_graph.specs.Walks.{HasNoWalk, IsWalk, LeadsTo}
+use Rattle.plain_graph.specs.Levels.{AreLevels, AreLevelsFor, AreLevelsOfNoWalk, HasLevel, IsCertified, IsShortestOrNone, level_of}
 use Rattle.plain_graph.specs.declared.node_level.NodeLevel.{NodeLevel}
 use Rattle.path_find.proofs.Lists.{places}
 

@@ -5,7 +5,7 @@ use Rattle.std.specs.Prelude.{◌↔◌}
 use Rattle.std.proofs.lemmas.Bool.Decides.{nat_tests}
 use Rattle.std.proofs.lemmas.List.Elements.{All-contains, Contains-get_or}
 use Rattle.plain_graph.specs.Adjacency.{Adjacency}
-use Rattle.plain_graph.specs.Levels.{AreLevels, AreLevelsFor, AreLevelsOfNoWalk, IsCertified, IsShortestOrNone}
+use Rattle.plain_graph.specs.Levels.{AreLevels, IsCertified, IsShortestOrNone}
 use Rattle.plain_graph.specs.Walks.{LeadsTo}
 use Rattle.plain_graph.specs.declared.node_level.NodeLevel.{NodeLevel}
 use Rattle.path_find.specs.Checking.{AllSpread, AreDistinct, AreIn, HaveEnds, IsChecked, IsSpreadAt, IsStep, IsWalkOrNone, edges_of, is_last, is_past}

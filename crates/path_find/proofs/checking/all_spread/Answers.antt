@@ -1,12 +1,11 @@
-use Rattle.std.proofs.Common.{◌≡◌, ◌<◌, ◌≤◌, ℕ, get_or, length, Contains, sym, subst, arith, inl, inr}
+use Rattle.std.proofs.Common.{◌≡◌, get_or, sym, subst, arith, inl, inr}
 use Rattle.std.proofs.lemmas.Bool.{OnFalse_at, OnTrue_at, cases_lt}
 use Rattle.std.proofs.lemmas.List.{get_or_default}
 use Rattle.std.proofs.lemmas.List.Elements.{Contains-get_or, at_from_Contains}
 use Rattle.std.proofs.lemmas.Result.{err_from_is_err_and}
 use Rattle.plain_graph.specs.Levels.{level_of}
-use Rattle.plain_graph.specs.declared.node_level.NodeLevel.{NodeLevel}
 use Rattle.rec_bytes.specs.Space.{State}
-use Rattle.path_find.specs.Checking.{AllSpread, IsSpreadAt}
+use Rattle.path_find.specs.Checking.{IsSpreadAt}
 use Rattle.path_find.specs.Reads.{neighbours_at}
 use Rattle.path_find.proofs.OnlyReads.{broken-read, is_read-on, same-read, store-read}
 use Rattle.path_find.proofs.checking.all_spread.Goals as goal

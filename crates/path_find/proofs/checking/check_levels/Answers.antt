@@ -1,4 +1,4 @@
-use Rattle.std.proofs.Common.{◌≡◌, ℕ, Option, List, true, false, sym, ap, subst, ◌∙◌}
+use Rattle.std.proofs.Common.{ℕ, Option, List, false, sym, ap, subst, ◌∙◌}
 use Rattle.std.specs.Bool.{IsTrue, OnFalse, OnTrue}
 use Rattle.std.specs.Prelude.{◌↔◌}
 use Rattle.std.proofs.lemmas.Bool.{OnFalse_at, OnTrue_at}
@@ -7,11 +7,11 @@ use Rattle.plain_graph.specs.Adjacency.{Adjacency}
 use Rattle.plain_graph.specs.Levels.{IsCertified}
 use Rattle.plain_graph.specs.declared.node_level.NodeLevel.{NodeLevel}
 use Rattle.rec_bytes.specs.Space.{State}
-use Rattle.path_find.specs.Checking.{AllSpread, AreDistinct, HaveEnds, IsChecked, IsWalkOrNone, edges_of}
+use Rattle.path_find.specs.Checking.{AllSpread, AreDistinct, HaveEnds, IsWalkOrNone, edges_of}
 use Rattle.path_find.specs.Reads.{adjacency_of, neighbours_at}
 use Rattle.path_find.proofs.CheckLaws.{is_certified, not_certified, proves_shortest}
 use Rattle.path_find.proofs.NeighbourLaws.{neighbours_are}
-use Rattle.path_find.proofs.OnlyReads.{broken-read, is_read-on, same-read, store-read}
+use Rattle.path_find.proofs.OnlyReads.{same-read, store-read}
 use Rattle.path_find.proofs.checking.check_levels.Goals as goal
 
 pub returns-then-not-leads-clause-decides : goal.returns-then-not-leads-clause-decides

@@ -1,4 +1,4 @@
-use Rattle.std.proofs.Common.{◌≡◌, ℕ, nat_eq, Contains, subst}
+use Rattle.std.proofs.Common.{nat_eq, Contains, subst}
 use Rattle.std.proofs.lemmas.Bool.{OnFalse_from, OnTrue_from, eqb-false}
 use borrow.Author.Tests.{eqb-true}
 use Rattle.plain_graph.specs.Levels.{level_of}

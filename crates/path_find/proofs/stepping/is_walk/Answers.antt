@@ -1,4 +1,4 @@
-use Rattle.std.proofs.Common.{◌≡◌, ◌<◌, ◌≤◌, ◌+◌, ◌-◌, ℕ, Bool, true, false, nat_eq, get_or, length, sym, subst, ◌∙◌, arith, inl, inr}
+use Rattle.std.proofs.Common.{◌≡◌, ◌<◌, ◌+◌, ℕ, Bool, true, false, nat_eq, get_or, length, sym, subst, ◌∙◌, arith, inl, inr}
 use Rattle.std.proofs.lemmas.Bool.{OnFalse_at, OnFalse_from, OnTrue_at, OnTrue_from, cases_lt, eqb-false, false≢true}
 use Rattle.std.proofs.lemmas.Result.{err_from_is_err_and}
 use Rattle.plain_graph.specs.Graph.{has_node}
@@ -6,7 +6,6 @@ use Rattle.rec_bytes.specs.Fault.{of_row}
 use Rattle.rec_bytes.specs.Space.{State}
 use Rattle.expand.specs.Expanding.{graph_in}
 use Rattle.path_find.specs.Checking.{IsStep, IsWalkOrNone}
-use Rattle.path_find.specs.Damage.{BlamesBroken}
 use Rattle.path_find.specs.Reads.{neighbours_at}
 use Rattle.path_find.proofs.Answered.{load_fault}
 use Rattle.path_find.proofs.CheckLaws.{last-from_walk, step-from_walk, walk-from_steps}

@@ -1,4 +1,4 @@
-use Rattle.std.proofs.Common.{◌≡◌, ℕ, ◌+◌, ◌<◌, get_or}
+use Rattle.std.proofs.Common.{ℕ, ◌+◌, ◌<◌, get_or}
 use Rattle.rec_bytes.specs.Frame.{IsRead}
 use Rattle.expand.specs.Expanding.{IsStore}
 use Rattle.path_find.specs.Checking.{IsStep}
