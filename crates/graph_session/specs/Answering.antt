@@ -1,8 +1,7 @@
 -- The reply of an answer.
 use Rattle.std.specs.Prelude.{[]}
-use Rattle.plain_graph.specs.Reply.{Broken, Sound}
-use Rattle.plain_graph.specs.Reply.{Counted, DamagedRecord, DiskFailed, Done, Faulted, NoMemory}
-use Rattle.plain_graph.specs.Reply.{EdgeMade, NodeMade, Refused, Reply}
+use Rattle.plain_graph.specs.Reply.{DamagedRecord, DiskFailed, Done, EdgeMade, Faulted, NoMemory}
+use Rattle.plain_graph.specs.Reply.{NodeMade, Refused, Reply}
 use Rattle.graph_session.specs.declared.answer.Answer.{Answer}
 use Rattle.graph_session.specs.declared.answer.Answer.TheVariants as answers
 
@@ -10,9 +9,6 @@ abbrev pub reply_of : Answer → Reply
 reply_of answers.Done = Done
 reply_of (answers.NodeMade id) = NodeMade id
 reply_of (answers.EdgeMade id) = EdgeMade id
-reply_of (answers.Counted counts) = Counted counts
-reply_of answers.Sound = Sound
-reply_of (answers.Broken damage) = Broken damage.file damage.id damage.rule
 reply_of (answers.Refused why) = Refused why
 reply_of answers.NoMemory = Faulted [] NoMemory
 reply_of answers.DiskFailed = Faulted [] DiskFailed

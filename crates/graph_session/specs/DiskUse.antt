@@ -4,10 +4,8 @@ use Rattle.disk_model.specs.Spans.{OnlyReads}
 use Rattle.disk_model.specs.declared.disk.Disk.{Ghosts}
 use Rattle.stream_io.specs.Lines.{InputLine}
 use Rattle.plain_graph.specs.Changes.{IsChange}
-use Rattle.plain_graph.specs.Reply.{Broken, Sound}
-use Rattle.plain_graph.specs.Reply.{Counted, DamagedRecord, DiskFailed, Done, EdgeMade, Fault}
-use Rattle.plain_graph.specs.Reply.{Faulted, NoMemory, NodeMade, PastCount, Refused, Reply, Results}
-use Rattle.plain_graph.specs.Reply.{Silent}
+use Rattle.plain_graph.specs.Reply.{DamagedRecord, DiskFailed, Fault, Faulted, NoMemory, PastCount}
+use Rattle.plain_graph.specs.Reply.{Refused, Reply}
 use Rattle.plain_graph.specs.declared.command.Command.{Command}
 use Rattle.plain_graph.specs.declared.command.Command.TheVariants as commands
 use Rattle.plain_graph.specs.declared.refusal.Refusal.{Refusal}
@@ -32,16 +30,9 @@ IsUnwritten (DamagedRecord file id) = ⊥
 
 -- a reply that says that nothing changed
 abbrev pub TellsNoChange : Reply → Type 0
-TellsNoChange Silent = ⊥
-TellsNoChange Done = ⊥
-TellsNoChange (NodeMade id) = ⊥
-TellsNoChange (EdgeMade id) = ⊥
-TellsNoChange (Results results) = ⊥
-TellsNoChange (Counted counts) = ⊥
-TellsNoChange Sound = ⊥
-TellsNoChange (Broken file id rule) = ⊥
-TellsNoChange (Faulted results fault) = IsUnwritten fault
+TellsNoChange (Faulted lines fault) = IsUnwritten fault
 TellsNoChange (Refused why) = Unit {0}
+TellsNoChange _ = ⊥
 
 -- a line that needs no disk: it is refused before the graph is looked at, gets no reply, or is one
 -- of three words

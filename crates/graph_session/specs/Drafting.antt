@@ -73,9 +73,6 @@ module _ {D : Type 0} {g : Ghosts D} where
   IsStopped command old now answers.Done = ⊥
   IsStopped command old now (answers.NodeMade id) = ⊥
   IsStopped command old now (answers.EdgeMade id) = ⊥
-  IsStopped command old now (answers.Counted counts) = ⊥
-  IsStopped command old now answers.Sound = ⊥
-  IsStopped command old now (answers.Broken damage) = ⊥
   IsStopped command old now (answers.Refused why) = g.tells_reads → HasStore old
       → Refuses command (state_of old.store) why
   IsStopped command old now answers.NoMemory = Unit {0}

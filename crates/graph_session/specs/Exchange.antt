@@ -1,20 +1,15 @@
 -- The step of the console: from a state, a line may get this reply and lead to that state.
 use Rattle.std.specs.Prelude.{◌≡◌, ◌≢◌, ◌⊎◌, ℕ, ◌+◌, Bool, true, false, Option, Some, None, List}
-use Rattle.std.specs.Prelude.{[], ◌∷◌, ◌++◌, map}
+use Rattle.std.specs.Prelude.{[], ◌∷◌, ◌++◌}
 use Rattle.stream_io.specs.Lines.{InputLine}
 use Rattle.plain_graph.specs.Changes.{Changes, Weighs, start_weight}
-use Rattle.plain_graph.specs.Counts.{counts_of}
 use Rattle.plain_graph.specs.Graph.{Graph}
-use Rattle.plain_graph.specs.Meaning.{edge_item, edges_at, has_past_count, meaning}
-use Rattle.plain_graph.specs.Reply.{Broken, Sound}
-use Rattle.plain_graph.specs.Reply.{Counted, DamagedRecord, DiskFailed, Done, EdgeMade, Fault}
-use Rattle.plain_graph.specs.Reply.{Faulted, NoMemory, NodeMade, PastCount, Refused, Reply, Results}
-use Rattle.plain_graph.specs.Reply.{Silent}
+use Rattle.plain_graph.specs.Kinds.{Blanks, Bound, Change, Ending, Kind, Question, Upkeep, kind_of}
+use Rattle.plain_graph.specs.Readings.{Reading, Shows}
+use Rattle.plain_graph.specs.Reply.{DamagedRecord, DiskFailed, Done, EdgeMade, Fault, Faulted}
+use Rattle.plain_graph.specs.Reply.{NoMemory, NodeMade, PastCount, Refused, Reply, Silent, Told}
 use Rattle.plain_graph.specs.declared.command.Command.{Command}
 use Rattle.plain_graph.specs.declared.command.Command.TheVariants as commands
-use Rattle.plain_graph.specs.declared.direction.Direction.{Direction}
-use Rattle.plain_graph.specs.declared.item.Item.{Item}
-use Rattle.plain_graph.specs.declared.query.Query.{Query}
 use Rattle.graph_session.specs.Refusals.{IsAccepted, IsReached, IsRefused}
 use Rattle.graph_session.specs.State.{Admits, Failed, IsSilent, Live, NeverLacksMemory, SpellsLine}
 use Rattle.graph_session.specs.State.{State, Transaction, admitted, seen}
@@ -40,66 +35,59 @@ MakesChange old command reply new =
     × Changes old.shape.limit old.committed command reply graph
     × (new ≡ record old { committed = graph }))
 
--- the edges of this type at a node, as results
-abbrev pub expansion : Graph → ℕ → Direction → List ℕ → List Item
-expansion graph id direction label = map edge_item (edges_at graph direction (label ∷ []) id)
+-- the transaction begins or ends, with this reply
+abbrev pub MovesBound : State → Command → Reply → State → Type 0
+MovesBound old commands.Begin reply new =
+    (reply ≡ Done)
+    × (new ≡ opening old (Some (record { graph = old.committed; weight = start_weight })))
+MovesBound old commands.Commit reply new =
+    (reply ≡ Done) × (transaction : Transaction) × (old.open_one ≡ Some transaction)
+    × (new ≡ record old { committed = transaction.graph; open_one = None })
+MovesBound old commands.Rollback reply new = (reply ≡ Done) × (new ≡ opening old None)
+MovesBound old _ reply new = ⊥
+
+-- the store is brought into its files, or found again, with this reply
+abbrev pub KeepsStore : State → Command → Reply → State → Type 0
+KeepsStore old commands.Checkpoint reply new = (reply ≡ Done) × (new ≡ old)
+KeepsStore old commands.Reopen reply new =
+    (reply ≡ Done) × (graph : Graph) × Admits old graph
+    × (new ≡ record old { committed = graph; standing = Live })
+KeepsStore old _ reply new = ⊥
+
+-- The reply tells a reading of the graph that the line sees, in which no count passes.
+abbrev pub TellsReading : State → Command → Reply → State → Type 0
+TellsReading old command reply new =
+    (reading : Reading) × Shows (seen old) command reading × (reading.is_past ≡ false)
+    × (reply ≡ Told reading.lines reading.last) × (new ≡ old)
+
+-- A command of this kind is carried out, with this reply.
+abbrev pub CarriesKind : Kind → State → Command → Reply → State → Type 0
+CarriesKind Blanks old command reply new = ⊥
+CarriesKind Ending old command reply new = ⊥
+CarriesKind Bound old command reply new = MovesBound old command reply new
+CarriesKind Upkeep old command reply new = KeepsStore old command reply new
+CarriesKind Change old command reply new = MakesChange old command reply new
+CarriesKind Question old command reply new = TellsReading old command reply new
 
 -- The command is carried out, with this reply.
 abbrev pub CarriesOut : State → Command → Reply → State → Type 0
-CarriesOut old commands.Blank reply new = ⊥
-CarriesOut old commands.Begin reply new =
-    (reply ≡ Done)
-    × (new ≡ opening old (Some (record { graph = old.committed; weight = start_weight })))
-CarriesOut old commands.Commit reply new =
-    (reply ≡ Done) × (transaction : Transaction) × (old.open_one ≡ Some transaction)
-    × (new ≡ record old { committed = transaction.graph; open_one = None })
-CarriesOut old commands.Rollback reply new = (reply ≡ Done) × (new ≡ opening old None)
-CarriesOut old commands.Checkpoint reply new = (reply ≡ Done) × (new ≡ old)
-CarriesOut old commands.Check reply new = (reply ≡ Sound) × (new ≡ old)
-CarriesOut old commands.Stats reply new = (reply ≡ Counted (counts_of (seen old))) × (new ≡ old)
-CarriesOut old commands.Reopen reply new =
-    (reply ≡ Done) × (graph : Graph) × Admits old graph
-    × (new ≡ record old { committed = graph; standing = Live })
-CarriesOut old commands.Quit reply new = ⊥
-CarriesOut old (commands.Node label pairs) reply new =
-    MakesChange old (commands.Node label pairs) reply new
-CarriesOut old (commands.Edge from label to pairs) reply new =
-    MakesChange old (commands.Edge from label to pairs) reply new
-CarriesOut old (commands.Set target key value) reply new =
-    MakesChange old (commands.Set target key value) reply new
-CarriesOut old (commands.Unset target key) reply new =
-    MakesChange old (commands.Unset target key) reply new
-CarriesOut old (commands.Delete target) reply new =
-    MakesChange old (commands.Delete target) reply new
-CarriesOut old (commands.Expand id direction label) reply new =
-    (reply ≡ Results (expansion (seen old) id direction label)) × (new ≡ old)
-CarriesOut old (commands.Query query) reply new =
-    (reply ≡ Results (meaning (seen old) query)) × (has_past_count (seen old) query ≡ false)
-    × (new ≡ old)
+CarriesOut old command reply new = CarriesKind (kind_of command) old command reply new
 
--- the results shown are the first of these
-abbrev pub AreFirst : List Item → List Item → Type 0
-AreFirst results all = (more : List Item) × (results ++ more ≡ all)
+-- these lines are the first of those
+abbrev pub AreFirst : List (List ℕ) → List (List ℕ) → Type 0
+AreFirst lines all = (more : List (List ℕ)) × (lines ++ more ≡ all)
 
--- the results shown are the first of those that the command has; most commands show none
-abbrev pub ShowsSome : State → Command → List Item → Type 0
-ShowsSome state (commands.Query query) results = AreFirst results (meaning (seen state) query)
-ShowsSome state (commands.Expand id direction label) results =
-    AreFirst results (expansion (seen state) id direction label)
-ShowsSome state commands.Blank results = results ≡ []
-ShowsSome state commands.Begin results = results ≡ []
-ShowsSome state commands.Commit results = results ≡ []
-ShowsSome state commands.Rollback results = results ≡ []
-ShowsSome state commands.Checkpoint results = results ≡ []
-ShowsSome state commands.Check results = results ≡ []
-ShowsSome state commands.Stats results = results ≡ []
-ShowsSome state commands.Reopen results = results ≡ []
-ShowsSome state commands.Quit results = results ≡ []
-ShowsSome state (commands.Node label pairs) results = results ≡ []
-ShowsSome state (commands.Edge from label to pairs) results = results ≡ []
-ShowsSome state (commands.Set target key value) results = results ≡ []
-ShowsSome state (commands.Unset target key) results = results ≡ []
-ShowsSome state (commands.Delete target) results = results ≡ []
+-- The lines shown are none, or the first of a reading of the graph that the command asks for.
+abbrev pub ShowsSome : Graph → Command → List (List ℕ) → Type 0
+ShowsSome graph command lines =
+    (lines ≡ [])
+    ⊎ ((reading : Reading) × Shows graph command reading × AreFirst lines reading.lines)
+
+-- The lines shown are the first of a reading in which a count passes.
+abbrev pub ShowsPast : Graph → Command → List (List ℕ) → Type 0
+ShowsPast graph command lines =
+    (reading : Reading) × Shows graph command reading × (reading.is_past ≡ true)
+    × AreFirst lines reading.lines
 
 -- A change outside a transaction leaves the graph open: the one before, or the one after it where
 -- no condition refuses the line. Inside a transaction it leaves all as it was.
@@ -111,49 +99,49 @@ LeavesChange old line command new =
     × Changes old.shape.limit old.committed command reply graph
     × (new ≡ failing old (old.committed ∷ graph ∷ [])))))
 
--- What the disk leaves where it failed in the line.
-abbrev pub LeavesOpen : State → InputLine → Command → State → Type 0
-LeavesOpen old line commands.Blank new = ⊥
-LeavesOpen old line commands.Begin new = ⊥
-LeavesOpen old line commands.Commit new =
+-- A commit leaves open whether the transaction's graph is committed. Nothing else of a transaction
+-- calls the disk.
+abbrev pub LeavesBound : State → Command → State → Type 0
+LeavesBound old commands.Commit new =
     (transaction : Transaction) × (old.open_one ≡ Some transaction)
     × (new ≡ failing old (old.committed ∷ transaction.graph ∷ []))
-LeavesOpen old line commands.Rollback new = ⊥
-LeavesOpen old line commands.Checkpoint new = new ≡ failing old (old.committed ∷ [])
-LeavesOpen old line commands.Check new = new ≡ old
-LeavesOpen old line commands.Stats new = new ≡ old
-LeavesOpen old line commands.Reopen new = new ≡ failing old (admitted old)
-LeavesOpen old line commands.Quit new = ⊥
-LeavesOpen old line (commands.Node label pairs) new =
-    LeavesChange old line (commands.Node label pairs) new
-LeavesOpen old line (commands.Edge from label to pairs) new =
-    LeavesChange old line (commands.Edge from label to pairs) new
-LeavesOpen old line (commands.Set target key value) new =
-    LeavesChange old line (commands.Set target key value) new
-LeavesOpen old line (commands.Unset target key) new =
-    LeavesChange old line (commands.Unset target key) new
-LeavesOpen old line (commands.Delete target) new =
-    LeavesChange old line (commands.Delete target) new
-LeavesOpen old line (commands.Expand id direction label) new = new ≡ old
-LeavesOpen old line (commands.Query query) new = new ≡ old
+LeavesBound old _ new = ⊥
+
+-- a checkpoint leaves the committed graph, and `reopen` what there was
+abbrev pub LeavesStore : State → Command → State → Type 0
+LeavesStore old commands.Checkpoint new = new ≡ failing old (old.committed ∷ [])
+LeavesStore old commands.Reopen new = new ≡ failing old (admitted old)
+LeavesStore old _ new = ⊥
+
+-- what a command of this kind leaves
+abbrev pub LeavesKind : Kind → State → InputLine → Command → State → Type 0
+LeavesKind Blanks old line command new = ⊥
+LeavesKind Ending old line command new = ⊥
+LeavesKind Bound old line command new = LeavesBound old command new
+LeavesKind Upkeep old line command new = LeavesStore old command new
+LeavesKind Change old line command new = LeavesChange old line command new
+LeavesKind Question old line command new = new ≡ old
+
+-- What the disk leaves where it failed in the line.
+abbrev pub LeavesOpen : State → InputLine → Command → State → Type 0
+LeavesOpen old line command new = LeavesKind (kind_of command) old line command new
 
 -- A count that passes is told where it does. Want of memory is free for each line that may lack it,
 -- and changes nothing. The disk is blamed only where it failed. A record of a store that stands for
 -- a graph is never damaged.
-abbrev pub Stops : State → InputLine → Bool → List Item → Fault → State → Type 0
-Stops old line disk_failed results PastCount new =
-    IsReached old line × (query : Query) × SpellsLine line (commands.Query query)
-    × (has_past_count (seen old) query ≡ true) × ShowsSome old (commands.Query query) results
-    × (new ≡ old)
-Stops old line disk_failed results NoMemory new =
+abbrev pub Stops : State → InputLine → Bool → List (List ℕ) → Fault → State → Type 0
+Stops old line disk_failed lines PastCount new =
+    IsReached old line × (command : Command) × SpellsLine line command
+    × ShowsPast (seen old) command lines × (new ≡ old)
+Stops old line disk_failed lines NoMemory new =
     (¬ NeverLacksMemory line) × (new ≡ old)
-    × ((results ≡ [])
+    × ((lines ≡ [])
     ⊎ ((command : Command) × SpellsLine line command × IsReached old line
-    × ShowsSome old command results))
-Stops old line disk_failed results DiskFailed new =
+    × ShowsSome (seen old) command lines))
+Stops old line disk_failed lines DiskFailed new =
     (disk_failed ≡ true) × IsReached old line × (command : Command) × SpellsLine line command
-    × ShowsSome old command results × LeavesOpen old line command new
-Stops old line disk_failed results (DamagedRecord file id) new = ⊥
+    × ShowsSome (seen old) command lines × LeavesOpen old line command new
+Stops old line disk_failed lines (DamagedRecord file id) new = ⊥
 
 -- a line, whether the disk failed in it, and the reply
 pub record Exchange : Type 0 where
@@ -167,19 +155,15 @@ IsDone old x new =
     IsAccepted old x.line × (command : Command) × SpellsLine x.line command
     × CarriesOut old command x.reply new
 
--- The step, reply by reply. A refusal is the first of the reasons that hold. A store that stands
--- for a graph keeps all rules.
+-- The step, reply by reply. A refusal is the first of the reasons that hold.
 abbrev pub ConsoleStep : State → Exchange → State → Type 0
 ConsoleStep old x new = elim x.reply [
   | Silent ↦ IsSilent x.line × (new ≡ old)
   | Done ↦ IsDone old x new
   | NodeMade id ↦ IsDone old x new
   | EdgeMade id ↦ IsDone old x new
-  | Results results ↦ IsDone old x new
-  | Counted counts ↦ IsDone old x new
-  | Sound ↦ IsDone old x new
-  | Broken file id rule ↦ ⊥
-  | Faulted results fault ↦ Stops old x.line x.disk_failed results fault new
+  | Told lines last ↦ IsDone old x new
+  | Faulted lines fault ↦ Stops old x.line x.disk_failed lines fault new
   | Refused why ↦ IsRefused old x.line why × (new ≡ old)
 ]
 
@@ -191,16 +175,8 @@ told_in DiskFailed = 1
 told_in (DamagedRecord file id) = 0
 
 abbrev pub told_fault : Reply → ℕ
-told_fault Silent = 0
-told_fault Done = 0
-told_fault (NodeMade id) = 0
-told_fault (EdgeMade id) = 0
-told_fault (Results results) = 0
-told_fault (Counted counts) = 0
-told_fault Sound = 0
-told_fault (Broken file id rule) = 0
-told_fault (Faulted results fault) = told_in fault
-told_fault (Refused why) = 0
+told_fault (Faulted lines fault) = told_in fault
+told_fault _ = 0
 
 -- Where the disk tells what it reads, the exchange is a step of the console. In any case the reply
 -- blames the disk only where it failed in the line.

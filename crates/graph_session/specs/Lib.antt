@@ -12,7 +12,7 @@ pub mod MayStep
 pub mod Moments
 pub mod Naming
 pub mod Opening
-pub mod QueryResults
+pub mod Questions
 pub mod Refusals
 pub mod Session
 pub mod Settling

@@ -1,19 +1,26 @@
 -- What a line may do over any disk, whatever is in it: by its command and the reply, what becomes of
 -- the session, of its records and of the disk.
-use Rattle.std.specs.Prelude.{◌≡◌, ◌⊎◌, ◌≤◌, ℕ, true, false, Some, List, []}
+use Rattle.std.specs.Prelude.{◌≡◌, ◌≢◌, ◌⊎◌, ◌≤◌, ℕ, Bool, true, false, Some, List, [], map}
 use Rattle.fault_count.specs.Cause.{Rose}
 use Rattle.disk_model.specs.declared.disk.Disk.{Ghosts}
 use Rattle.stream_io.specs.Lines.{InputLine, Whole, Long}
 use Rattle.plain_graph.specs.Changes.{most_weight}
-use Rattle.plain_graph.specs.Reply.{Broken, Sound}
-use Rattle.plain_graph.specs.Reply.{Counted, DamagedRecord, DiskFailed, Done, EdgeMade, Fault}
-use Rattle.plain_graph.specs.Reply.{Faulted, NoMemory, NodeMade, PastCount, Refused, Reply, Results}
-use Rattle.plain_graph.specs.Reply.{Silent}
+use Rattle.plain_graph.specs.Graph.{Graph}
+use Rattle.plain_graph.specs.Kinds.{Blanks, Bound, Change, Ending, Kind, Question, Upkeep, kind_of}
+use Rattle.plain_graph.specs.Readings.{Reading, listed, one_line, walk_reading}
+use Rattle.plain_graph.specs.Refusals.{FirstReason, change_reasons}
+use Rattle.plain_graph.specs.Reply.{DamagedRecord, DiskFailed, Done, EdgeMade, Fault, Faulted}
+use Rattle.plain_graph.specs.Reply.{NoMemory, NodeMade, PastCount, Refused, Reply, Told, broken_text}
+use Rattle.plain_graph.specs.Reply.{counts_text, degree_text, end_text, item_line, level_text}
+use Rattle.plain_graph.specs.Reply.{sound_text}
 use Rattle.plain_graph.specs.declared.command.Command.{Command}
 use Rattle.plain_graph.specs.declared.command.Command.TheVariants as commands
 use Rattle.plain_graph.specs.declared.counts.Counts.{Counts}
+use Rattle.plain_graph.specs.declared.item.Item.{Item}
+use Rattle.plain_graph.specs.declared.node_level.NodeLevel.{NodeLevel}
 use Rattle.plain_graph.specs.declared.refusal.Refusal.{Refusal}
 use Rattle.plain_graph.specs.declared.refusal.Refusal.TheVariants as refusals
+use Rattle.rec_bytes.specs.declared.damage.Damage.{Damage}
 use Rattle.rec_bytes.specs.declared.key.Key.{Key}
 use Rattle.rec_bytes.specs.declared.record.Rec.{Rec}
 use Rattle.gremlin_parse.specs.Lines.{IsLeftmostFault}
@@ -23,8 +30,9 @@ use Rattle.graph_session.specs.Effects.{Begins, Commits, CommitsAlone, CommitsFr
 use Rattle.graph_session.specs.Effects.{FailsAlone, IsAloneInDoubt, IsBrought, IsFound, IsLeftOpen}
 use Rattle.graph_session.specs.Effects.{IsLost, IsStopped, Keeps, LeavesCommitted, LeavesEither}
 use Rattle.graph_session.specs.Effects.{LeavesSame, Stays}
+use Rattle.graph_session.specs.Exchange.{AreFirst, told_fault}
 use Rattle.graph_session.specs.Refusals.{refusal_of}
-use Rattle.graph_session.specs.State.{IsSilent, NeverLacksMemory, SpellsLine}
+use Rattle.graph_session.specs.State.{IsSilent, IsSpared, NeverLacksMemory, SpellsLine}
 use Rattle.graph_session.specs.declared.health.Health.TheVariants as healths
 
 -- a console that the disk has failed serves `reopen` alone
@@ -38,32 +46,56 @@ TellsMade (commands.Edge from label to pairs) reply = (id : ℕ) × (reply ≡ E
 TellsMade (commands.Set target key value) reply = reply ≡ Done
 TellsMade (commands.Unset target key) reply = reply ≡ Done
 TellsMade (commands.Delete target) reply = reply ≡ Done
-TellsMade commands.Blank reply = ⊥
-TellsMade commands.Begin reply = ⊥
-TellsMade commands.Commit reply = ⊥
-TellsMade commands.Rollback reply = ⊥
-TellsMade commands.Checkpoint reply = ⊥
-TellsMade commands.Check reply = ⊥
-TellsMade commands.Stats reply = ⊥
-TellsMade commands.Reopen reply = ⊥
-TellsMade commands.Quit reply = ⊥
-TellsMade (commands.Expand id direction label) reply = ⊥
-TellsMade (commands.Query query) reply = ⊥
+TellsMade _ reply = ⊥
 
 -- the reply says that a record is damaged, and has no results
 abbrev pub TellsDamage : Reply → Type 0
 TellsDamage reply = (file : ℕ) × (id : ℕ) × (reply ≡ Faulted [] (DamagedRecord file id))
 
--- only a line that asks for the edges of a node is refused by a graph that it only reads
-abbrev pub RefusesShowing : Command → Refusal → Type 0
-RefusesShowing (commands.Expand id direction label) why = (x : ℕ) × (why ≡ refusals.NoNode x)
-RefusesShowing (commands.Query query) why = ⊥
-RefusesShowing _ why = ⊥
+-- The form of what a line that reads is answered with, whatever is read.
+abbrev pub IsFormed : Command → Reading → Type 0
+IsFormed commands.Check reading =
+    (reading ≡ one_line sound_text)
+    ⊎ ((damage : Damage) × (reading ≡ one_line (broken_text damage.file damage.id damage.rule)))
+IsFormed commands.Stats reading = (counts : Counts) × (reading ≡ one_line (counts_text counts))
+IsFormed (commands.Degree id direction label) reading =
+    (edges : ℕ) × (reading ≡ one_line (degree_text edges))
+IsFormed (commands.Expand id direction label) reading =
+    (edges : List Item) × (reading ≡ listed (map item_line edges))
+IsFormed (commands.Path from to direction label) reading =
+    (walk : List ℕ) × (reading ≡ walk_reading walk)
+IsFormed (commands.Levels from to direction label) reading =
+    (levels : List NodeLevel) × (reading ≡ listed (map level_text levels))
+IsFormed (commands.Query query) reading =
+    (results : List Item) × (is_past : Bool)
+    × (reading ≡ record { lines = map item_line results; last = end_text; is_past = is_past })
+IsFormed _ reading = ⊥
 
--- only a query has a count that passes
-abbrev pub HasCount : Command → Type 0
-HasCount (commands.Query query) = Unit {0}
-HasCount _ = ⊥
+-- A count passes only in such an answer. What `check` finds damaged it tells in its verdict.
+abbrev pub MayStop : Command → Reading → Fault → Type 0
+MayStop command reading PastCount = reading.is_past ≡ true
+MayStop command reading NoMemory = Unit {0}
+MayStop command reading DiskFailed = Unit {0}
+MayStop command reading (DamagedRecord file id) = command ≢ commands.Check
+
+-- some graph refuses the command
+abbrev pub IsRefusable : Command → Type 0
+IsRefusable command =
+    (limit : ℕ) × (graph : Graph) × (why : Refusal)
+    × FirstReason change_reasons limit graph command why
+
+-- The reply to a line that reads: an answer of its form, or the first lines of one and a fault, or
+-- that a node is missing. What never lacks memory has no fault.
+abbrev pub MayTell : Command → Reply → Type 0
+MayTell command (Told lines last) =
+    (reading : Reading) × IsFormed command reading × (lines ≡ reading.lines)
+    × (last ≡ reading.last)
+MayTell command (Faulted lines fault) =
+    (¬ IsSpared command) × (reading : Reading) × IsFormed command reading
+    × MayStop command reading fault × AreFirst lines reading.lines
+MayTell command (Refused why) =
+    IsRefusable command × (id : ℕ) × (why ≡ refusals.NoNode id)
+MayTell command _ = ⊥
 
 -- the line is too long, or has this fault of the grammar
 abbrev pub IsUnread : InputLine → Refusal → Type 0
@@ -146,64 +178,40 @@ module _ {D : Type 0} (g : Ghosts D) (old : SessionView D) (reply : Reply) (new 
         × (((reply ≡ Done) × IsFound g old new) ⊎ (TellsDiskFault × IsLost g old new)
         ⊎ (TellsDamage reply × IsLost g old new)))
 
-    abbrev pub MayCount : Type 0
-    MayCount = (counts : Counts) × (reply ≡ Counted counts) × (new ≡ old)
+    -- The disk is only read, and blamed only where it failed. What never lacks memory doesn't call
+    -- it.
+    abbrev pub MayRead : Command → Type 0
+    MayRead command =
+        MayTell command reply
+        × (told_fault reply ≢ 0 → Rose (g.faults old.disk) (g.faults new.disk))
+        × Stays g old new × (IsSpared command → new ≡ old)
 
-    abbrev pub MayCheck : Type 0
-    MayCheck =
-        ((reply ≡ Sound)
-        ⊎ ((file : ℕ) × (id : ℕ) × (rule : ℕ) × (reply ≡ Broken file id rule))
-        ⊎ (reply ≡ Faulted [] NoMemory) ⊎ TellsDiskFault)
-        × Stays g old new
+    -- what begins or ends a transaction
+    abbrev pub MayBound : Command → Type 0
+    MayBound commands.Begin = MayBegin
+    MayBound commands.Commit = MayCommit
+    MayBound commands.Rollback = MayRollback
+    MayBound _ = ⊥
 
--- a fault after the first results; the disk is blamed only where it failed
-abbrev pub MayEndIn : {D : Type 0} → Ghosts D → Command → SessionView D → Fault → SessionView D
-    → Type 0
-MayEndIn g command old PastCount new = HasCount command
-MayEndIn g command old NoMemory new = Unit {0}
-MayEndIn g command old DiskFailed new = Rose (g.faults old.disk) (g.faults new.disk)
-MayEndIn g command old (DamagedRecord file id) new = Unit {0}
+    -- what is done to the store
+    abbrev pub MayKeep : Command → Type 0
+    MayKeep commands.Checkpoint = MayCheckpoint
+    MayKeep commands.Reopen = MayReopen
+    MayKeep _ = ⊥
 
--- the reply of a command with results: all of them, or the first of them and a fault
-abbrev pub TellsResults : {D : Type 0} → Ghosts D → Command → SessionView D → Reply → SessionView D
-    → Type 0
-TellsResults g command old (Results results) new = Unit {0}
-TellsResults g command old (Faulted results fault) new = MayEndIn g command old fault new
-TellsResults g command old (Refused why) new = RefusesShowing command why
-TellsResults g command old Silent new = ⊥
-TellsResults g command old Done new = ⊥
-TellsResults g command old (NodeMade id) new = ⊥
-TellsResults g command old (EdgeMade id) new = ⊥
-TellsResults g command old (Counted counts) new = ⊥
-TellsResults g command old Sound new = ⊥
-TellsResults g command old (Broken file id rule) new = ⊥
+    -- a command of this kind
+    abbrev pub MayAnswerKind : Kind → Command → Type 0
+    MayAnswerKind Blanks command = ⊥
+    MayAnswerKind Ending command = ⊥
+    MayAnswerKind Bound command = MayBound command
+    MayAnswerKind Upkeep command = MayKeep command
+    MayAnswerKind Change command = MayChange command
+    MayAnswerKind Question command = MayRead command
 
 module _ {D : Type 0} (g : Ghosts D) where
   -- What a command that is served may be answered with, and what it then leaves.
   abbrev pub MayAnswer : Command → SessionView D → Reply → SessionView D → Type 0
-  MayAnswer commands.Blank old reply new = ⊥
-  MayAnswer commands.Begin old reply new = MayBegin g old reply new
-  MayAnswer commands.Commit old reply new = MayCommit g old reply new
-  MayAnswer commands.Rollback old reply new = MayRollback g old reply new
-  MayAnswer commands.Checkpoint old reply new = MayCheckpoint g old reply new
-  MayAnswer commands.Check old reply new = MayCheck g old reply new
-  MayAnswer commands.Stats old reply new = MayCount g old reply new
-  MayAnswer commands.Reopen old reply new = MayReopen g old reply new
-  MayAnswer commands.Quit old reply new = ⊥
-  MayAnswer (commands.Node label pairs) old reply new =
-      MayChange g old reply new (commands.Node label pairs)
-  MayAnswer (commands.Edge from label to pairs) old reply new =
-      MayChange g old reply new (commands.Edge from label to pairs)
-  MayAnswer (commands.Set target key value) old reply new =
-      MayChange g old reply new (commands.Set target key value)
-  MayAnswer (commands.Unset target key) old reply new =
-      MayChange g old reply new (commands.Unset target key)
-  MayAnswer (commands.Delete target) old reply new =
-      MayChange g old reply new (commands.Delete target)
-  MayAnswer (commands.Expand id direction label) old reply new =
-      TellsResults g (commands.Expand id direction label) old reply new × Stays g old new
-  MayAnswer (commands.Query query) old reply new =
-      TellsResults g (commands.Query query) old reply new × Stays g old new
+  MayAnswer command old reply new = MayAnswerKind g old reply new (kind_of command) command
 
   -- A line of blanks and `quit` get no reply, and a line that is turned away changes nothing. Any
   -- other spells a command that is served.

@@ -1,22 +1,20 @@
 -- What a call says that settles a line of a command.
 use Rattle.std.specs.Prelude.{Bool, ℕ, Option, None, Some, List}
 use Rattle.disk_model.specs.declared.disk.Disk.{Ghosts}
-use Rattle.stream_io.specs.declared.streams.Sink.{Ghosts as SinkGhosts}
 use Rattle.stream_io.specs.Lines.{Whole}
-use Rattle.plain_graph.specs.Reply.{Reply, reply_text}
+use Rattle.plain_graph.specs.Kinds.{AreSilent, kind_of}
+use Rattle.plain_graph.specs.Reply.{Reply}
 use Rattle.plain_graph.specs.declared.command.Command.{Command}
-use Rattle.plain_graph.specs.declared.command.Command.TheVariants as commands
 use Rattle.plain_graph.specs.declared.refusal.Refusal.{Refusal}
 use Rattle.gremlin_parse.specs.declared.line_fault.LineFault.{LineFault}
 use Rattle.graph_session.specs.declared.answer.Answer.{Answer}
 use Rattle.graph_session.specs.declared.answer.Answer.TheVariants as answers
-use Rattle.graph_session.specs.Answer.{Gives, Settles, Terminal}
+use Rattle.graph_session.specs.Answer.{Settles}
 use Rattle.graph_session.specs.Console.{HasNoDraft, IsAt, Onward, SessionView}
 use Rattle.graph_session.specs.Known.{as_known}
 use Rattle.graph_session.specs.MayStep.{IsServed, MayAnswer}
 use Rattle.graph_session.specs.Refusals.{SpellsOnly, refusal_of}
 use Rattle.graph_session.specs.State.{State}
-use Rattle.graph_session.specs.declared.turn.Turn.{Turn}
 
 -- the answer of a line that spells no command: want of memory, or a refusal
 abbrev pub told_by : Option Refusal → Answer
@@ -26,22 +24,9 @@ told_by (Some why) = answers.Refused why
 abbrev pub told_of : LineFault → Answer
 told_of fault = told_by (refusal_of fault)
 
--- a command that gets a reply, and only of a live session another than a refusal
+-- a command that gets a reply
 abbrev pub IsLoud : Command → Type 0
-IsLoud commands.Blank = ⊥
-IsLoud commands.Quit = ⊥
-IsLoud commands.Reopen = ⊥
-IsLoud _ = Unit {0}
-
--- a command that only a live session carries out, other than those that ask for results or a check
-abbrev pub IsPlain : Command → Type 0
-IsPlain commands.Blank = ⊥
-IsPlain commands.Quit = ⊥
-IsPlain commands.Reopen = ⊥
-IsPlain commands.Check = ⊥
-IsPlain (commands.Expand id direction label) = ⊥
-IsPlain (commands.Query query) = ⊥
-IsPlain _ = Unit {0}
+IsLoud command = ¬ AreSilent (kind_of command)
 
 -- A session settles each line that spells just this command, from each state that it is at. What it
 -- does over any disk is said beside it.
@@ -52,10 +37,3 @@ pub record SettlesCommand {D : Type 0} (g : Ghosts D) (command : Command) (old n
       → Settles (as_known known g) (Whole line) old new state reply
   pub may : HasNoDraft old → MayAnswer g command old reply new
   pub onward : Onward g old new
-
--- A session settles each line that spells just this command, and its reply was given to the sink.
-pub record AnswersCommand {D K : Type 0} (g : Ghosts D) (sink : SinkGhosts K) (command : Command)
-    (old new : Terminal D K) (turn : Turn) : Type 0 where
-  pub reply : Reply
-  pub settles : SettlesCommand g command old.session new.session reply
-  pub gives : Gives sink (reply_text reply) old.output new.output turn

@@ -2,6 +2,7 @@
 use Rattle.std.specs.Prelude.{◌≡◌, ◌⊎◌, ℕ, Option, Some, None, List, [], ◌∷◌, Contains}
 use Rattle.stream_io.specs.Lines.{InputLine, Whole, Long}
 use Rattle.plain_graph.specs.Graph.{Graph}
+use Rattle.plain_graph.specs.Kinds.{Change, Kind, Question, kind_of}
 use Rattle.plain_graph.specs.declared.command.Command.{Command}
 use Rattle.plain_graph.specs.declared.command.Command.TheVariants as commands
 use Rattle.gremlin_parse.specs.Lines.{Spells}
@@ -75,9 +76,17 @@ IsQuit line = SpellsLine line commands.Quit
 abbrev pub IsSilent : InputLine → Type 0
 IsSilent line = SpellsLine line commands.Blank ⊎ IsQuit line
 
--- a line that never lacks memory: one of these words, or one that gets no reply or is too long
+-- lines of this kind never lack memory
+abbrev pub AreSpared : Kind → Type 0
+AreSpared Change = ⊥
+AreSpared Question = ⊥
+AreSpared _ = Unit {0}
+
+-- a command that never lacks memory: one that neither changes the graph nor reads it, or `stats`
+abbrev pub IsSpared : Command → Type 0
+IsSpared command = AreSpared (kind_of command) ⊎ (command ≡ commands.Stats)
+
+-- a line that never lacks memory: it is too long, or spells such a command
 abbrev pub NeverLacksMemory : InputLine → Type 0
 NeverLacksMemory line =
-    (line ≡ Long) ⊎ SpellsLine line commands.Begin ⊎ SpellsLine line commands.Commit
-    ⊎ SpellsLine line commands.Rollback ⊎ SpellsLine line commands.Checkpoint
-    ⊎ SpellsLine line commands.Reopen ⊎ SpellsLine line commands.Stats ⊎ IsSilent line
+    (line ≡ Long) ⊎ ((command : Command) × SpellsLine line command × IsSpared command)

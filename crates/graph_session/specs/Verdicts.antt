@@ -1,10 +1,10 @@
 -- What a line is answered with that asks whether the store keeps its rules, whatever is in it.
-use Rattle.std.specs.Prelude.{◌≡◌, []}
+use Rattle.std.specs.Prelude.{◌≡◌, ◌⊎◌, ℕ, List, []}
 use Rattle.stream_io.specs.declared.streams.Sink.{Ghosts as SinkGhosts}
-use Rattle.plain_graph.specs.Reply.{Broken, Counted, DamagedRecord, DiskFailed, Done, EdgeMade}
-use Rattle.plain_graph.specs.Reply.{Fault, Faulted, NoMemory, NodeMade, PastCount, Refused, Reply}
-use Rattle.plain_graph.specs.Reply.{Results, Silent, Sound, reply_text}
+use Rattle.plain_graph.specs.Reply.{DamagedRecord, DiskFailed, Fault, Faulted, NoMemory, PastCount}
+use Rattle.plain_graph.specs.Reply.{Reply, Told, broken_text, reply_text, sound_text}
 use Rattle.rec_bytes.specs.Space.{laid_over}
+use Rattle.rec_bytes.specs.declared.damage.Damage.{Damage}
 use Rattle.rec_bytes.specs.declared.shape.Shape.{Shape}
 use Rattle.store_check.specs.Verdicts.{IsLeastBroken}
 use Rattle.store_rules.specs.Rules.{IsWellFormed}
@@ -22,18 +22,17 @@ LeavesUnjudged (DamagedRecord file id) = ⊥
 
 -- `sound` only where the records keep all rules; `broken` with the least rule that is broken and a
 -- record that breaks it
+abbrev pub IsVerdict : Records → Shape → List ℕ → Type 0
+IsVerdict records shape text =
+    ((text ≡ sound_text) × IsWellFormed records shape)
+    ⊎ ((damage : Damage) × (text ≡ broken_text damage.file damage.id damage.rule)
+    × IsLeastBroken records shape 1 damage)
+
+-- the reply is a verdict, or says why there is none
 abbrev pub TellsVerdict : Records → Shape → Reply → Type 0
-TellsVerdict records shape Silent = ⊥
-TellsVerdict records shape Done = ⊥
-TellsVerdict records shape (NodeMade id) = ⊥
-TellsVerdict records shape (EdgeMade id) = ⊥
-TellsVerdict records shape (Results results) = ⊥
-TellsVerdict records shape (Counted counts) = ⊥
-TellsVerdict records shape Sound = IsWellFormed records shape
-TellsVerdict records shape (Broken file id rule) =
-    IsLeastBroken records shape 1 (record { file = file; id = id; rule = rule })
-TellsVerdict records shape (Faulted results fault) = (results ≡ []) × LeavesUnjudged fault
-TellsVerdict records shape (Refused why) = ⊥
+TellsVerdict records shape (Told lines last) = (lines ≡ []) × IsVerdict records shape last
+TellsVerdict records shape (Faulted lines fault) = (lines ≡ []) × LeavesUnjudged fault
+TellsVerdict records shape _ = ⊥
 
 -- the records that a line sees
 abbrev pub seen_records : ConsoleView → Records
