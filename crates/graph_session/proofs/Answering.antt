@@ -6,8 +6,7 @@ use Rattle.disk_model.specs.declared.disk.Disk.{Ghosts as DiskGhosts}
 use Rattle.disk_model.proofs.Spans.{OnlyNow}
 use Rattle.stream_io.specs.Lines.{InputLine}
 use Rattle.stream_io.specs.declared.streams.Sink.{Ghosts as SinkGhosts}
-use Rattle.plain_graph.specs.Reply.{Broken, Sound}
-use Rattle.plain_graph.specs.Reply.{Counted, DamagedRecord, Done, Faulted, NoMemory, EdgeMade, NodeMade, Refused, Reply, Results, Silent, reply_text}
+use Rattle.plain_graph.specs.Reply.{DamagedRecord, Done, EdgeMade, Faulted, NoMemory, NodeMade, Refused, Reply, Silent, Told, reply_text}
 use Rattle.plain_graph.specs.declared.refusal.Refusal.{Refusal}
 use Rattle.graph_session.specs.Answer.{AnswersLine, Delivers, Gives, Settles, Terminal}
 use Rattle.graph_session.specs.Console.{HasNoDraft, IsAt, Onward, SessionView}
@@ -30,11 +29,8 @@ IsGood Silent = ⊥
 IsGood Done = Unit {0}
 IsGood (NodeMade id) = Unit {0}
 IsGood (EdgeMade id) = Unit {0}
-IsGood (Results results) = Unit {0}
-IsGood (Counted counts) = Unit {0}
-IsGood Sound = Unit {0}
-IsGood (Broken file id rule) = ⊥
-IsGood (Faulted results fault) = ⊥
+IsGood (Told lines last) = Unit {0}
+IsGood (Faulted lines fault) = ⊥
 IsGood (Refused why) = ⊥
 
 abbrev pub exchange : InputLine → Bool → Reply → Exchange
@@ -45,11 +41,8 @@ good-step old new line disk_failed Silent good done = absurd good
 good-step old new line disk_failed Done good done = done
 good-step old new line disk_failed (NodeMade id) good done = done
 good-step old new line disk_failed (EdgeMade id) good done = done
-good-step old new line disk_failed (Results results) good done = done
-good-step old new line disk_failed (Counted counts) good done = done
-good-step old new line disk_failed Sound good done = done
-good-step old new line disk_failed (Broken file id rule) good done = absurd good
-good-step old new line disk_failed (Faulted results fault) good done = absurd good
+good-step old new line disk_failed (Told lines last) good done = done
+good-step old new line disk_failed (Faulted lines fault) good done = absurd good
 good-step old new line disk_failed (Refused why) good done = absurd good
 
 good-told : (reply : Reply) → IsGood reply → told_fault reply ≡ 0
@@ -57,11 +50,8 @@ good-told Silent good = refl
 good-told Done good = refl
 good-told (NodeMade id) good = refl
 good-told (EdgeMade id) good = refl
-good-told (Results results) good = refl
-good-told (Counted counts) good = refl
-good-told Sound good = refl
-good-told (Broken file id rule) good = absurd good
-good-told (Faulted results fault) good = absurd good
+good-told (Told lines last) good = refl
+good-told (Faulted lines fault) good = absurd good
 good-told (Refused why) good = refl
 
 -- and not that nothing changed
@@ -70,11 +60,8 @@ good-changed Silent good none = good
 good-changed Done good none = none
 good-changed (NodeMade id) good none = none
 good-changed (EdgeMade id) good none = none
-good-changed (Results results) good none = none
-good-changed (Counted counts) good none = none
-good-changed Sound good none = none
-good-changed (Broken file id rule) good none = good
-good-changed (Faulted results fault) good none = good
+good-changed (Told lines last) good none = none
+good-changed (Faulted lines fault) good none = good
 good-changed (Refused why) good none = good
 
 module _ {D : Type 0} {g : DiskGhosts D} {old new : SessionView D} where

@@ -9,6 +9,7 @@ use Rattle.disk_model.proofs.Spans.{at_each_moment_on}
 use Rattle.stream_io.specs.Lines.{Whole}
 use Rattle.plain_graph.specs.Changes.{Changes, IsChange, Weighs}
 use Rattle.plain_graph.specs.Graph.{Graph}
+use Rattle.plain_graph.specs.Kinds.{AreChanges, Blanks, Bound, Change, Ending, Kind, Question, Upkeep, kind_of}
 use Rattle.plain_graph.specs.Reply.{DiskFailed, Faulted, Reply}
 use Rattle.plain_graph.specs.declared.command.Command.{Command}
 use Rattle.plain_graph.specs.declared.command.Command.TheVariants as commands
@@ -19,7 +20,7 @@ use Rattle.store_rules.specs.Rules.{IsWellFormed}
 use Rattle.graph_session.specs.Answer.{Settles}
 use Rattle.graph_session.specs.Console.{IsAt, SessionView, TellsAll}
 use Rattle.graph_session.specs.Effects.{CommitsAlone, CommitsFrom, FailsAlone, IsAloneInDoubt, Keeps, Stays}
-use Rattle.graph_session.specs.Exchange.{CarriesOut, LeavesChange, LeavesOpen, MakesChange, ShowsSome, opening}
+use Rattle.graph_session.specs.Exchange.{CarriesKind, CarriesOut, LeavesChange, LeavesKind, LeavesOpen, MakesChange, opening}
 use Rattle.graph_session.specs.Refusals.{IsAccepted, IsReached, SpellsOnly}
 use Rattle.graph_session.specs.Stands.{HoldsAdmitted, IsAdmitted, IsAdmittedByEither}
 use Rattle.graph_session.specs.State.{Admits, Standing, State, Transaction, graphs_from, seen, seen_by}
@@ -44,60 +45,28 @@ change-one : (command : Command) → IsChange command → ¬ NeedsOne command
 change-one command change (inl e) = subst IsChange e change
 change-one command change (inr e) = subst IsChange e change
 
--- what is said of a change by its command
+-- what is said of a change by its kind
 carries-change : (old new : State) (command : Command) (reply : Reply) → IsChange command → MakesChange old command reply new → CarriesOut old command reply new
-carries-change old new commands.Blank reply change makes = absurd change
-carries-change old new commands.Begin reply change makes = absurd change
-carries-change old new commands.Commit reply change makes = absurd change
-carries-change old new commands.Rollback reply change makes = absurd change
-carries-change old new commands.Checkpoint reply change makes = absurd change
-carries-change old new commands.Check reply change makes = absurd change
-carries-change old new commands.Stats reply change makes = absurd change
-carries-change old new commands.Reopen reply change makes = absurd change
-carries-change old new commands.Quit reply change makes = absurd change
-carries-change old new (commands.Node label pairs) reply change makes = makes
-carries-change old new (commands.Edge from label to pairs) reply change makes = makes
-carries-change old new (commands.Set target key value) reply change makes = makes
-carries-change old new (commands.Unset target key) reply change makes = makes
-carries-change old new (commands.Delete target) reply change makes = makes
-carries-change old new (commands.Expand id direction label) reply change makes = absurd change
-carries-change old new (commands.Query query) reply change makes = absurd change
+carries-change old new command reply change makes = by (kind_of command) change
+  where
+    by : (kind : Kind) → AreChanges kind → CarriesKind kind old command reply new
+    by Blanks is = absurd is
+    by Ending is = absurd is
+    by Bound is = absurd is
+    by Upkeep is = absurd is
+    by Change is = makes
+    by Question is = absurd is
 
 leaves-change : (old new : State) (line : List ℕ) (command : Command) → IsChange command → LeavesChange old (Whole line) command new → LeavesOpen old (Whole line) command new
-leaves-change old new line commands.Blank change leaves = absurd change
-leaves-change old new line commands.Begin change leaves = absurd change
-leaves-change old new line commands.Commit change leaves = absurd change
-leaves-change old new line commands.Rollback change leaves = absurd change
-leaves-change old new line commands.Checkpoint change leaves = absurd change
-leaves-change old new line commands.Check change leaves = absurd change
-leaves-change old new line commands.Stats change leaves = absurd change
-leaves-change old new line commands.Reopen change leaves = absurd change
-leaves-change old new line commands.Quit change leaves = absurd change
-leaves-change old new line (commands.Node label pairs) change leaves = leaves
-leaves-change old new line (commands.Edge from label to pairs) change leaves = leaves
-leaves-change old new line (commands.Set target key value) change leaves = leaves
-leaves-change old new line (commands.Unset target key) change leaves = leaves
-leaves-change old new line (commands.Delete target) change leaves = leaves
-leaves-change old new line (commands.Expand id direction label) change leaves = absurd change
-leaves-change old new line (commands.Query query) change leaves = absurd change
-
-shows-none : (state : State) (command : Command) → IsChange command → ShowsSome state command []
-shows-none state commands.Blank change = refl
-shows-none state commands.Begin change = refl
-shows-none state commands.Commit change = refl
-shows-none state commands.Rollback change = refl
-shows-none state commands.Checkpoint change = refl
-shows-none state commands.Check change = refl
-shows-none state commands.Stats change = refl
-shows-none state commands.Reopen change = refl
-shows-none state commands.Quit change = refl
-shows-none state (commands.Node label pairs) change = refl
-shows-none state (commands.Edge from label to pairs) change = refl
-shows-none state (commands.Set target key value) change = refl
-shows-none state (commands.Unset target key) change = refl
-shows-none state (commands.Delete target) change = refl
-shows-none state (commands.Expand id direction label) change = absurd change
-shows-none state (commands.Query query) change = absurd change
+leaves-change old new line command change leaves = by (kind_of command) change
+  where
+    by : (kind : Kind) → AreChanges kind → LeavesKind kind old (Whole line) command new
+    by Blanks is = absurd is
+    by Ending is = absurd is
+    by Bound is = absurd is
+    by Upkeep is = absurd is
+    by Change is = leaves
+    by Question is = absurd is
 
 -- The records are those of a well-formed store, and these are the names of its graph.
 pub record IsGrown (state : State) (records : Key → Rec) (names : List (List ℕ)) : Type 0 where
@@ -182,7 +151,7 @@ module _ {D : Type 0} {g : Ghosts D} {old new : SessionView D} {state : State} (
         → Settles g (Whole line) old new state (Faulted [] DiskFailed)
     settles-change_fault {line = line} {command = command} only change stays rose =
         settles-fault {line = Whole line} {before = state} (Faulted [] DiskFailed) state (comes-stays at stays) rose
-        (λ told. (refl, change-reached at live only change, command, only.spelled, shows-none state command change, leaves-change state state line command change (inl (transaction, is, refl))))
+        (λ told. (refl, change-reached at live only change, command, only.spelled, inl refl, leaves-change state state line command change (inl (transaction, is, refl))))
         (uses-reads state only (change-needs command change) (change-reached at live only change) stays.beneath.disk)
 
   module _ (closed : old.console.is_open ≡ false) where
@@ -206,7 +175,7 @@ module _ {D : Type 0} {g : Ghosts D} {old new : SessionView D} {state : State} (
         → Settles g (Whole line) old new state (Faulted [] DiskFailed)
     settles-alone_read_fault {line = line} {command = command} only change fails rose =
         settles-fault {line = Whole line} {before = state} (Faulted [] DiskFailed) (stopped state) (record { is_at = fails_alone-at fails; crash = crash-kept at (stopped state) new.disk fails.disk }) rose
-        (λ told. (refl, change-reached at live only change, command, only.spelled, shows-none state command change, leaves-change state (stopped state) line command change (inr (is_closed at closed, inl refl))))
+        (λ told. (refl, change-reached at live only change, command, only.spelled, inl refl, leaves-change state (stopped state) line command change (inr (is_closed at closed, inl refl))))
         (uses-reads state only (change-needs command change) (change-reached at live only change) fails.disk)
 
     module _ (now : Key → Rec) where
@@ -282,7 +251,7 @@ module _ {D : Type 0} {g : Ghosts D} {old new : SessionView D} {state : State} (
             change-reached at live only change,
             command,
             only.spelled,
-            shows-none state command change,
+            inl refl,
             leaves-change state after line command change (inr (is_closed at closed, inr (accepted told, reply, graph_of now, changes told, refl))),
           ))
           (uses-writes state only (change-needs command change) (change-reached at live only change) (inl (is_closed at closed, command, change, only.spelled)) (λ none. none))

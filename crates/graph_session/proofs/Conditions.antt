@@ -2,7 +2,7 @@
 use Rattle.std.proofs.Common.{◌≡◌, ◌≢◌, ◌⊎◌, ◌+◌, ◌<◌, ◌≤◌, ◌∙◌, ℕ, true, true≢false, Some, None, List, [], ◌∷◌, ◌++◌, inl, inr, refl, sym, subst, arith}
 use Rattle.stream_io.specs.Lines.{Long, Whole}
 use Rattle.plain_graph.specs.Changes.{IsChange, Weighs, most_weight}
-use Rattle.plain_graph.specs.Graph.{Graph, empty_graph, has_node}
+use Rattle.plain_graph.specs.Graph.{empty_graph}
 use Rattle.plain_graph.specs.Refusals.{FirstReason, NoReason, Reason, change_reasons}
 use Rattle.plain_graph.specs.declared.command.Command.{Command}
 use Rattle.plain_graph.specs.declared.command.Command.TheVariants as commands
@@ -65,34 +65,9 @@ abbrev pub IsLight : State → Command → Type 0
 IsLight state command =
     (transaction : Transaction) → state.open_one ≡ Some transaction → (weight : ℕ) → Weighs state.shape.threshold transaction.graph command weight → transaction.weight + weight ≤ most_weight
 
--- no reason of a change holds of a line of blanks
-idle_reasons : NoReason change_reasons 0 empty_graph commands.Blank
+-- No reason holds of a line of blanks, and none of another command that neither changes the graph nor names a node of it.
+pub idle_reasons : NoReason change_reasons 0 empty_graph commands.Blank
 idle_reasons = (λ _ h. h, (λ _ h. h, (λ _ h. h, (λ _ h. h, (λ _ h. h, (λ _ h. h, (λ _ h. h, (λ _ h. h, (λ _ h. h, (λ _ h. h, (λ _ h. h, tt)))))))))))
-
--- the node that the command expands is there
-abbrev pub FindsNode : Graph → Command → Type 0
-FindsNode graph (commands.Expand id direction label) = has_node graph id ≡ true
-FindsNode graph _ = Unit {0}
-
--- nor of another command that is no change
-no_reason : (limit : ℕ) (graph : Graph) (command : Command) → ¬ IsChange command → FindsNode graph command → NoReason change_reasons limit graph command
-no_reason limit graph commands.Blank idle found = idle_reasons
-no_reason limit graph commands.Begin idle found = idle_reasons
-no_reason limit graph commands.Commit idle found = idle_reasons
-no_reason limit graph commands.Rollback idle found = idle_reasons
-no_reason limit graph commands.Checkpoint idle found = idle_reasons
-no_reason limit graph commands.Check idle found = idle_reasons
-no_reason limit graph commands.Stats idle found = idle_reasons
-no_reason limit graph commands.Reopen idle found = idle_reasons
-no_reason limit graph commands.Quit idle found = idle_reasons
-no_reason limit graph (commands.Node label pairs) idle found = absurd (idle tt)
-no_reason limit graph (commands.Edge from label to pairs) idle found = absurd (idle tt)
-no_reason limit graph (commands.Set target key value) idle found = absurd (idle tt)
-no_reason limit graph (commands.Unset target key) idle found = absurd (idle tt)
-no_reason limit graph (commands.Delete target) idle found = absurd (idle tt)
-no_reason limit graph (commands.Expand id direction label) idle found =
-    (λ _ h. h, (λ _ h. h, (λ _ h. h, (λ _ h. h, (λ _ h. true≢false (sym found ∙ h.0), idle_reasons.1.1.1.1.1)))))
-no_reason limit graph (commands.Query query) idle found = idle_reasons
 
 module _ (state : State) {line : List ℕ} {command : Command} (only : SpellsOnly line command) where
   -- a line that spells a command has no fault of the grammar
@@ -183,11 +158,10 @@ module _ (state : State) {line : List ℕ} {command : Command} (only : SpellsOnl
       (first_after (conditions_of change_reasons) (transaction_full ∷ []) state line refusals.TransactionFull (none-spelled change_reasons none)
       (inl (command, only.spelled, transaction, is, weight, weighs, more, refl)))
 
-  -- a command that is no change is accepted where the graph is looked at
-  pub idle-accepted : ¬ IsChange command → FindsNode (seen state) command → IsReached state (Whole line) → IsAccepted state (Whole line)
-  idle-accepted idle found reach =
-      accepted reach (no_reason state.shape.limit (seen state) command idle found)
-      (λ transaction is weight weighs. absurd (idle (Weighs-change state.shape.threshold transaction.graph command weight weighs)))
+  -- a command that is no change is accepted where the graph is looked at, and refuses it for no reason
+  pub idle-accepted : ¬ IsChange command → NoReason change_reasons state.shape.limit (seen state) command → IsReached state (Whole line) → IsAccepted state (Whole line)
+  idle-accepted idle free reach =
+      accepted reach free (λ transaction is weight weighs. absurd (idle (Weighs-change state.shape.threshold transaction.graph command weight weighs)))
 
 -- the open transaction, by what the change weighs
 pub weight-light : (state : State) (command : Command) (transaction : Transaction) → state.open_one ≡ Some transaction → (weight : ℕ) → Weighs state.shape.threshold transaction.graph command weight → transaction.weight + weight ≤ most_weight

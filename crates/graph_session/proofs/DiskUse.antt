@@ -1,17 +1,18 @@
 -- What a settled line did with the disk.
-use Rattle.std.proofs.Common.{◌≡◌, List, ℕ, [], ◌∷◌, inl, inr, refl, subst}
+use Rattle.std.proofs.Common.{◌≡◌, ◌⊎◌, List, ℕ, [], ◌∷◌, inl, inr, refl, subst}
 use Rattle.disk_model.specs.Spans.{OnlyReads}
 use Rattle.disk_model.specs.declared.disk.Disk.{Ghosts}
 use Rattle.disk_model.proofs.Spans.{OnlyNow, only_reads_none}
 use Rattle.stream_io.specs.Lines.{InputLine, Whole}
 use Rattle.plain_graph.specs.Changes.{IsChange}
+use Rattle.plain_graph.specs.Kinds.{IsQuestion}
 use Rattle.plain_graph.specs.Reply.{Reply}
 use Rattle.plain_graph.specs.declared.command.Command.{Command}
 use Rattle.plain_graph.specs.declared.command.Command.TheVariants as commands
 use Rattle.plain_graph.specs.declared.refusal.Refusal.{Refusal}
 use Rattle.graph_session.specs.DiskUse.{MayWrite, NeedsNoDisk, TellsNoChange, UsesDisk}
 use Rattle.graph_session.specs.Refusals.{Condition, FirstHolds, IsReached, NoneHolds, SpellsOnly, early_order}
-use Rattle.graph_session.specs.State.{State}
+use Rattle.graph_session.specs.State.{IsSpared, State}
 use Rattle.graph_session.proofs.Spelling.{spells-same}
 
 -- the first of conditions of which none holds
@@ -23,39 +24,28 @@ none-first (condition ∷ later) state line why none (inr more) = none-first lat
 -- these need the disk where the graph is looked at
 abbrev pub NeedsDisk : Command → Type 0
 NeedsDisk commands.Blank = ⊥
-NeedsDisk commands.Begin = ⊥
-NeedsDisk commands.Commit = Unit {0}
-NeedsDisk commands.Rollback = ⊥
-NeedsDisk commands.Checkpoint = Unit {0}
-NeedsDisk commands.Check = Unit {0}
-NeedsDisk commands.Stats = ⊥
-NeedsDisk commands.Reopen = Unit {0}
 NeedsDisk commands.Quit = ⊥
-NeedsDisk (commands.Node label pairs) = Unit {0}
-NeedsDisk (commands.Edge from label to pairs) = Unit {0}
-NeedsDisk (commands.Set target key value) = Unit {0}
-NeedsDisk (commands.Unset target key) = Unit {0}
-NeedsDisk (commands.Delete target) = Unit {0}
-NeedsDisk (commands.Expand id direction label) = Unit {0}
-NeedsDisk (commands.Query query) = Unit {0}
+NeedsDisk commands.Begin = ⊥
+NeedsDisk commands.Rollback = ⊥
+NeedsDisk commands.Stats = ⊥
+NeedsDisk _ = Unit {0}
 
 pub change-needs : (command : Command) → IsChange command → NeedsDisk command
 change-needs commands.Blank change = change
-change-needs commands.Begin change = change
-change-needs commands.Commit change = tt
-change-needs commands.Rollback change = change
-change-needs commands.Checkpoint change = tt
-change-needs commands.Check change = tt
-change-needs commands.Stats change = change
-change-needs commands.Reopen change = tt
 change-needs commands.Quit change = change
-change-needs (commands.Node label pairs) change = tt
-change-needs (commands.Edge from label to pairs) change = tt
-change-needs (commands.Set target key value) change = tt
-change-needs (commands.Unset target key) change = tt
-change-needs (commands.Delete target) change = tt
-change-needs (commands.Expand id direction label) change = tt
-change-needs (commands.Query query) change = tt
+change-needs commands.Begin change = change
+change-needs commands.Rollback change = change
+change-needs commands.Stats change = change
+change-needs _ change = tt
+
+-- what reads needs it, or never lacks memory
+pub asks-needs : (command : Command) → IsQuestion command → NeedsDisk command ⊎ IsSpared command
+asks-needs commands.Blank asks = absurd asks
+asks-needs commands.Quit asks = absurd asks
+asks-needs commands.Begin asks = absurd asks
+asks-needs commands.Rollback asks = absurd asks
+asks-needs commands.Stats asks = inr (inr refl)
+asks-needs _ asks = inl tt
 
 module _ {D : Type 0} {g : Ghosts D} {line : InputLine} {before : State} {reply : Reply} where
   -- it was only read, and not called where it is the same

@@ -19,7 +19,7 @@ use Rattle.graph_session.specs.Console.{SessionView}
 use Rattle.graph_session.specs.Refusals.{SpellsOnly, refusal_of}
 use Rattle.graph_session.specs.Known.{as_known}
 use Rattle.graph_session.specs.MayStep.{IsServed}
-use Rattle.graph_session.specs.Settling.{AnswersCommand, IsLoud, SettlesCommand, told_by, told_of}
+use Rattle.graph_session.specs.Settling.{IsLoud, SettlesCommand, told_by, told_of}
 use Rattle.graph_session.specs.declared.health.Health.TheVariants as healths
 use Rattle.graph_session.specs.declared.turn.Turn.{Turn}
 use Rattle.graph_session.specs.declared.turn.Turn.TheVariants as turns
@@ -52,10 +52,6 @@ module _ {D K : Type 0} {g : DiskGhosts D} {sink : SinkGhosts K} {line : List �
       → Gives sink (reply_text reply) old.output new.output turn → AnswersLine g sink (Whole line) old new turn
   answers-settled reply other served settles gives =
       answers-given {line = Whole line} reply gives (quit-only only other) settles.onward (λ none. may-served only served (settles.may none)) (λ known state at. settles.settles known line state only served at)
-
-  -- and one that was answered at once
-  pub answers-command : command ≢ commands.Quit → IsServed old.session.console command → AnswersCommand g sink command old new turn → AnswersLine g sink (Whole line) old new turn
-  answers-command other served answers = answers-settled answers.reply other served answers.settles answers.gives
 
 blank-not_quit : ¬ (commands.Quit ≡ commands.Blank)
 blank-not_quit e = cc
@@ -110,8 +106,5 @@ module _ {D K : Type 0} (g : DiskGhosts D) (only_now : OnlyNow g) (sink : SinkGh
         by (Some why) is given = answers-refused fault why (leftmost (refused-other fault why is)) is (none (refused-other fault why is) commands.Quit) given
 
 pub loud-not_mute : (command : Command) → IsLoud command → ¬ IsMute command
-loud-not_mute command loud (inl e) = subst IsLoud e loud
-loud-not_mute command loud (inr e) = subst IsLoud e loud
-
-pub loud-not_reopen : (command : Command) → IsLoud command → command ≢ commands.Reopen
-loud-not_reopen command loud e = subst IsLoud e loud
+loud-not_mute command loud (inl e) = subst IsLoud e loud tt
+loud-not_mute command loud (inr e) = subst IsLoud e loud tt

@@ -1,26 +1,28 @@
--- The lines of edges, and how the reply ends.
-use Rattle.std.proofs.Common.{◌≡◌, ◌≢◌, ◌∙◌, ◌+◌, ◌<◌, ◌≤◌, ℕ, false, List, [], ◌∷◌, ◌++◌, codes, get_or, length, take, drop, add-one, refl, sym, ap, subst, arith}
+-- The lines of edges, one after the other.
+use Rattle.std.proofs.Common.{◌≡◌, ◌≢◌, ◌∙◌, ◌+◌, ◌<◌, ◌≤◌, ℕ, List, [], ◌∷◌, ◌++◌, get_or, length, map, take, drop, add-one, refl, sym, ap, subst, arith}
 use Rattle.std.proofs.Math.Seq.{take-length, take-suc}
 use Rattle.std.proofs.lemmas.List.{map-append, take-append-drop}
 use Rattle.stream_io.specs.declared.streams.Sink.{Ghosts}
-use Rattle.plain_graph.specs.Reply.{Faulted, NoMemory, Results, fault_line, result_text, text_line}
+use Rattle.plain_graph.specs.Reply.{Told, end_text, item_line, reply_text, result_text, text_line}
 use Rattle.plain_graph.specs.declared.item.Item.{Item}
 use Rattle.rel_store.specs.declared.edge_row.EdgeRow.{EdgeRow}
 use Rattle.graph_session.specs.Answer.{Gives}
-use Rattle.graph_session.specs.EdgeResults.{GivesEdges, item_of, items_of}
+use Rattle.graph_session.specs.EdgeResults.{IsEdge, item_of, items_of}
 use Rattle.graph_session.specs.Exchange.{AreFirst}
 use Rattle.graph_session.specs.LineBuffer.{Adds}
 use Rattle.graph_session.specs.declared.turn.Turn.{Turn}
 use Rattle.graph_session.specs.declared.turn.Turn.TheVariants.{Go}
-use Rattle.graph_session.proofs.ListedLines.{Shows, rest_of, shows-add, shows-last, shows-stop, whole-form, whole-means, whole-text, whole-told, whole_of}
+use Rattle.graph_session.proofs.ListedLines.{HasLines, lines-add, lines-last, lines-none, lines-stop_in}
+use Rattle.graph_session.proofs.WholeReplies.{BeginResults, lines-first}
 
--- the edges of the first rows are the first edges
-pub items-first : (label : List ℕ) (rows : List EdgeRow) (n : ℕ) → AreFirst (items_of label (take n rows)) (items_of label rows)
-items-first label rows n = (items_of label (drop n rows), sym (map-append (item_of label) (take n rows) (drop n rows)) ∙ ap (items_of label) (take-append-drop n rows))
+-- the lines of the first rows
+abbrev pub edge_lines : List ℕ → ℕ → List EdgeRow → List (List ℕ)
+edge_lines label n rows = map item_line (items_of label (take n rows))
 
--- all of them
-pub items-all : (label : List ℕ) (rows : List EdgeRow) (n : ℕ) → n ≤ length rows → length rows ≤ n → items_of label (take n rows) ≡ items_of label rows
-items-all label rows n low high = let same : n ≡ length rows = omega (arith, low, high) in ap (λ (m : ℕ). items_of label (take m rows)) same ∙ ap (items_of label) (take-length rows)
+-- The lines of the first rows were gathered. The edge that is written next has the name of the type.
+pub record IsGiving {K : Type 0} (sink : Ghosts K) (before after : K) (held label : List ℕ) (edge : Item) (n : ℕ) (rows : List EdgeRow) : Type 0 where
+  pub has : HasLines sink before after held (edge_lines label n rows)
+  pub named : IsEdge label edge
 
 abbrev row_at : List EdgeRow → ℕ → EdgeRow
 row_at rows n = get_or rows n (record { id = 0; label = 0; from = 0; to = 0 })
@@ -30,42 +32,40 @@ items-more : (label : List ℕ) (rows : List EdgeRow) (n : ℕ) → n < length r
 items-more label rows n lt =
     ap (λ (m : ℕ). items_of label (take m rows)) (add-one n) ∙ ap (items_of label) (take-suc rows n (record { id = 0; label = 0; from = 0; to = 0 }) lt) ∙ map-append (item_of label) (take n rows) (row_at rows n ∷ [])
 
-pub items-first_more : (label : List ℕ) (rows : List EdgeRow) (n : ℕ) → n < length rows → AreFirst (items_of label (take n rows) ++ item_of label (row_at rows n) ∷ []) (items_of label rows)
-items-first_more label rows n lt = subst (λ (found : List Item). AreFirst found (items_of label rows)) (items-more label rows n lt) (items-first label rows (n + 1))
+lines-more : (label : List ℕ) (rows : List EdgeRow) (n : ℕ) → n < length rows → edge_lines label (n + 1) rows ≡ edge_lines label n rows ++ item_line (item_of label (row_at rows n)) ∷ []
+lines-more label rows n lt = ap (map item_line) (items-more label rows n lt) ∙ map-append item_line (items_of label (take n rows)) (item_of label (row_at rows n) ∷ [])
 
--- the line of one more was gathered
-pub edges-more : {K : Type 0} {sink : Ghosts K} {before after : K} {held : List ℕ} (label : List ℕ) (rows : List EdgeRow) (n : ℕ) → n < length rows → Shows sink before after held (items_of label (take n rows)) → (new : List ℕ) (then : K)
-    → Adds sink (result_text (item_of label (row_at rows n))) held new after then Go → Shows sink before then new (items_of label (take (n + 1) rows))
-edges-more {sink = sink} {before = before} label rows n lt shows new then adds =
-    subst (λ (found : List Item). Shows sink before then new found) (sym (items-more label rows n lt)) (shows-add shows (item_of label (row_at rows n)) new then adds)
+-- the lines of the first rows are the first lines
+first-rows : (label : List ℕ) (rows : List EdgeRow) (n : ℕ) → AreFirst (edge_lines label n rows) (map item_line (items_of label rows))
+first-rows label rows n =
+    lines-first (items_of label (take n rows)) (items_of label rows) (items_of label (drop n rows), sym (map-append (item_of label) (take n rows) (drop n rows)) ∙ ap (items_of label) (take-append-drop n rows))
 
-module _ {K : Type 0} {sink : Ghosts K} {edges : List Item} {before after : K} {held : List ℕ} {found : List Item} (shows : Shows sink before after held found) where
-  -- memory lacked
-  pub edges-memory : AreFirst found edges → (then : K) (turn : Turn) → Gives sink (held ++ fault_line NoMemory) after then turn → GivesEdges sink edges before then turn
-  edges-memory first then turn gives = record {
-    reply = Faulted found NoMemory;
-    form = tt;
-    gives = shows-last shows (fault_line NoMemory) then turn gives;
-    means = first;
-    blameless = refl;
-  }
+-- no line yet
+pub giving-none : {K : Type 0} {sink : Ghosts K} (k : K) (label : List ℕ) (rows : List EdgeRow) (id number from to : ℕ) → IsGiving sink k k [] label (item_of label (record { id = id; label = number; from = from; to = to })) 0 rows
+giving-none k label rows id number from to = record { has = lines-none k; named = (record { id = id; label = number; from = from; to = to }, refl) }
+
+module _ {K : Type 0} {sink : Ghosts K} {before after : K} {held label : List ℕ} {edge : Item} {n : ℕ} {rows : List EdgeRow} (giving : IsGiving sink before after held label edge n rows) where
+  module _ (lt : n < length rows) (item : Item) (is : item ≡ item_of label (row_at rows n)) (new : List ℕ) (then : K) where
+    adds-row : (turn : Turn) → Adds sink (result_text item) held new after then turn → Adds sink (text_line (item_line (item_of label (row_at rows n)))) held new after then turn
+    adds-row turn adds = subst (λ (x : Item). Adds sink (result_text x) held new after then turn) is adds
+
+    -- the line of one more
+    pub giving-more : Adds sink (result_text item) held new after then Go → IsGiving sink before then new label item (n + 1) rows
+    giving-more adds = record {
+      has = subst (λ (lines : List (List ℕ)). HasLines sink before then new lines) (sym (lines-more label rows n lt)) (lines-add giving.has (item_line (item_of label (row_at rows n))) new then (adds-row Go adds));
+      named = (row_at rows n, is);
+    }
+
+    -- the sink failed
+    pub giving-stop : (turn : Turn) → Adds sink (result_text item) held new after then turn → turn ≢ Go → Gives sink (reply_text (Told (map item_line (items_of label rows)) end_text)) before then turn
+    giving-stop turn adds stops =
+        lines-stop_in giving.has (map item_line (items_of label rows)) end_text (item_line (item_of label (row_at rows n)))
+        (subst (λ (lines : List (List ℕ)). AreFirst lines (map item_line (items_of label rows))) (lines-more label rows n lt) (first-rows label rows (n + 1))) new then turn (adds-row turn adds) stops
 
   -- all have lines
-  pub edges-end : found ≡ edges → (then : K) (turn : Turn) → Gives sink (held ++ text_line (codes "end")) after then turn → GivesEdges sink edges before then turn
-  edges-end all then turn gives = record {
-    reply = Results found;
-    form = tt;
-    gives = shows-last shows (text_line (codes "end")) then turn gives;
-    means = (all, refl);
-    blameless = refl;
-  }
-
-  -- the sink failed
-  pub edges-stop : (item : Item) → AreFirst (found ++ item ∷ []) edges → (new : List ℕ) (then : K) (turn : Turn) → Adds sink (result_text item) held new after then turn → turn ≢ Go → GivesEdges sink edges before then turn
-  edges-stop item first new then turn adds stops = record {
-    reply = whole_of false (found ++ item ∷ []) edges;
-    form = whole-form false (found ++ item ∷ []) edges;
-    gives = subst (λ (text : List ℕ). Gives sink text before then turn) (whole-text false (found ++ item ∷ []) edges) (shows-stop shows item new then turn adds stops (rest_of false (found ++ item ∷ []) edges));
-    means = whole-means false (found ++ item ∷ []) edges first;
-    blameless = whole-told false (found ++ item ∷ []) edges;
-  }
+  pub giving-end : n ≤ length rows → length rows ≤ n → (then : K) (turn : Turn) → Gives sink (held ++ text_line end_text) after then turn → Gives sink (reply_text (Told (map item_line (items_of label rows)) end_text)) before then turn
+  giving-end low high then turn gives =
+      let same : n ≡ length rows = omega (arith, low, high) in
+      subst (λ (lines : List (List ℕ)). Gives sink (reply_text (Told lines end_text)) before then turn)
+      (ap (λ (m : ℕ). edge_lines label m rows) same ∙ ap (λ (found : List EdgeRow). map item_line (items_of label found)) (take-length rows))
+      (lines-last giving.has (text_line end_text) then turn gives)

@@ -3,27 +3,30 @@ use Rattle.std.proofs.Common.{◌≡◌, ◌<◌, ◌≤◌, ◌∙◌, ℕ, zer
 use Rattle.std.specs.List.{AllByRecursion, filter}
 use borrow.Author.Tests.{eqb-true}
 use Rattle.std.proofs.lemmas.Bool.{cases_lt}
+use Rattle.std.proofs.lemmas.Slice.Zip.{AllZip-long}
 use Rattle.plain_graph.specs.Graph.{Edge, Graph}
 use Rattle.plain_graph.specs.Meaning.{edge_item, edges_at, entering, enters_by, is_named, leaves_by, leaving}
 use Rattle.plain_graph.specs.Values.{is_text}
+use Rattle.plain_graph.specs.Readings.{degree_at, expansion, types_of}
 use Rattle.plain_graph.specs.declared.direction.Direction.{Direction}
 use Rattle.plain_graph.specs.declared.direction.Direction.TheVariants as directions
 use Rattle.plain_graph.specs.declared.item.Item.TheVariants as items
 use Rattle.rec_bytes.specs.Space.{SameButReads, State, after_get, after_gets}
 use Rattle.rec_bytes.specs.declared.shape.Shape.{Shape}
+use Rattle.rec_bytes.specs.declared.space.Reads.{Ghosts as SpaceGhosts}
 use Rattle.store_rules.specs.Graph.{graph_of}
+use Rattle.store_rules.specs.Rules.{IsWellFormed}
 use Rattle.store_rules.specs.Views.{Records}
 use Rattle.name_store.specs.Names.{AreDistinct}
 use Rattle.rel_store.specs.declared.edge_row.EdgeRow.{EdgeRow}
-use Rattle.expand.specs.Expanding.{AreRowsOf, rows_of}
+use Rattle.expand.specs.Expanding.{AreRowsOf, IsRowOf, rows_of}
 use Rattle.expand.specs.Matching.{rows_at}
 use Rattle.expand.proofs.ModelEdges.{StandFor, rows_at_are}
 use Rattle.traversal_run.specs.Naming.{FindsName, name_at, name_count}
-use Rattle.traversal_run.specs.Reading.{IsNamedStore}
+use Rattle.traversal_run.specs.Reading.{IsNamedStore, IsRead}
 use Rattle.traversal_run.proofs.Asked.{same_tests}
 use Rattle.traversal_run.proofs.NamesKnown.{finds_later, finds_number, finds_unknown, is_text-same, names_enough}
 use Rattle.graph_session.specs.EdgeResults.{item_of, items_of}
-use Rattle.graph_session.specs.Exchange.{expansion}
 
 -- reads change nothing but their count
 same-gets : (count : ℕ) (s : State) → SameButReads s (after_gets count s)
@@ -31,8 +34,12 @@ unfolding after_gets
 same-gets zero s = refl
 same-gets (suc n) s = ap after_get (same-gets n s)
 
-pub gets-same : (s t : State) (count : ℕ) → t ≡ after_gets count s → SameButReads s t
+gets-same : (s t : State) (count : ℕ) → t ≡ after_gets count s → SameButReads s t
 gets-same s t count is = subst (SameButReads s) (sym is) (same-gets count s)
+
+-- so the space was only read
+pub is_read-gets : {R : Type 0} (space : SpaceGhosts R) {a b : R} (count : ℕ) → space.state b ≡ after_gets count (space.state a) → space.onward a b → space.faults a ≤ space.faults b → IsRead space a b
+is_read-gets space {a = a} {b = b} count is onward later = record { same = gets-same (space.state a) (space.state b) count is; onward = onward; later = later }
 
 -- ---- the number of a type
 
@@ -116,6 +123,12 @@ items-expansion records shape names store number label stand direction id rows i
     ap (items_of label) is
     ∙ items-rows records label (rows_at direction (number ∷ []) id (rows_of records)) (edges_at (graph_of records) direction (label ∷ []) id)
     (rows_at_are records shape store.store (number ∷ []) (label ∷ []) stand id direction) (edges_at-labels (graph_of records) label id direction)
+
+-- and there are as many rows as edges, of a type or of all
+pub rows-degree : (records : Records) (shape : Shape) → IsWellFormed records shape → (numbers : List ℕ) (label : Option (List ℕ)) → StandFor records numbers (types_of label) → (direction : Direction) (id : ℕ)
+    → length (rows_at direction numbers id (rows_of records)) ≡ degree_at (graph_of records) id direction label
+rows-degree records shape store numbers label stand direction id =
+    sym (AllZip-long (IsRowOf records) (rows_at direction numbers id (rows_of records)) (edges_at (graph_of records) direction (types_of label) id) (rows_at_are records shape store numbers (types_of label) stand id direction))
 
 -- what holds of a result's value
 pub ok-then : {T E : Type 0} {P Q : T → Type 0} (result : Result T E) → ((value : T) → P value → Q value) → IfOk result P → IfOk result Q

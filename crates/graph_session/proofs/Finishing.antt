@@ -80,9 +80,6 @@ module _ {D : Type 0} {g : Ghosts D} where
     settles-stopped answers.Done stopped stays fault = absurd stopped
     settles-stopped (answers.NodeMade id) stopped stays fault = absurd stopped
     settles-stopped (answers.EdgeMade id) stopped stays fault = absurd stopped
-    settles-stopped (answers.Counted counts) stopped stays fault = absurd stopped
-    settles-stopped answers.Sound stopped stays fault = absurd stopped
-    settles-stopped (answers.Broken damage) stopped stays fault = absurd stopped
     settles-stopped (answers.Refused why) stopped stays fault =
         settles-refused at (stays-known known (stays (λ e. cc))) why (λ told. refused state spelled (change-reached at live spelled change) why (sees-as (sees told) (λ limit graph. FirstReason change_reasons limit graph command why) (stopped (told_of known g told) (has told))))
         (unmade-uses at live spelled change (stays-known known (stays (λ e. cc))))

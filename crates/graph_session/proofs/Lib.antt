@@ -2,10 +2,9 @@ pub mod Answering
 pub mod Anyhow
 pub mod Asking
 pub mod Beginnings
+pub mod ChangeEnds
 pub mod Changes
-pub mod Checks
 pub mod Conditions
-pub mod Counts
 pub mod DiskUse
 pub mod Dispatch
 pub mod Drafts
@@ -14,12 +13,15 @@ pub mod Expansion
 pub mod Finishing
 pub mod FinishingAlone
 pub mod Held
-pub mod Known
+pub mod Judging
 pub mod Knowing
+pub mod Known
+pub mod Lifting
 pub mod ListedLines
 pub mod Moves
+pub mod NodeQuestions
 pub mod Openings
-pub mod Queries
+pub mod PartCounts
 pub mod Reopening
 pub mod Running
 pub mod Spelling
@@ -32,3 +34,4 @@ pub mod Streams
 pub mod Transactions
 pub mod Versions
 pub mod Weights
+pub mod WholeReplies

@@ -5,7 +5,7 @@ use Rattle.disk_model.specs.Spans.{AtEachMoment, OnlyReads}
 use Rattle.disk_model.specs.declared.disk.Disk.{Ghosts}
 use Rattle.disk_model.proofs.Spans.{OnlyNow, only_reads_none}
 use Rattle.plain_graph.specs.Changes.{start_weight}
-use Rattle.plain_graph.specs.Reply.{Counted, DiskFailed, Done, Faulted, Refused}
+use Rattle.plain_graph.specs.Reply.{DiskFailed, Done, Faulted, Refused}
 use Rattle.plain_graph.specs.declared.command.Command.TheVariants as commands
 use Rattle.plain_graph.specs.declared.refusal.Refusal.TheVariants as refusals
 use Rattle.rec_bytes.specs.Format.{names_file, nodes_file, properties_file, relationships_file, strings_file}
@@ -29,7 +29,6 @@ use Rattle.graph_session.specs.declared.health.Health.{Health}
 use Rattle.graph_session.specs.declared.health.Health.TheVariants as healths
 use Rattle.graph_session.proofs.Answering.{settles-refused_at_once}
 use Rattle.graph_session.proofs.Conditions.{closed-refused, open-refused}
-use Rattle.graph_session.proofs.Counts.{counts_from, counts_from-same, settles-stats}
 use Rattle.graph_session.proofs.Knowing.{begins-known, brought-known, commits-known, drops-known, left_open-known, stopped-known, told_all}
 use Rattle.graph_session.proofs.States.{is_open, not_failed, not_open}
 use Rattle.graph_session.proofs.Staying.{stays-none}
@@ -240,17 +239,3 @@ module _ {D : Type 0} {g : Ghosts D} where
       may = λ undrafted. inr (was_closed, (λ told. crash told.0 told.1), inr ((refl, rose), is_stopped failed undrafted));
       onward = record { disk_later = later_on };
     }
-
-  -- what is counted
-  pub counted : OnlyNow g → (s : Store D g) (health : Health) → health ≡ healths.Live → (weight : ℕ) (names : List (List ℕ)) (nodes edges properties blocks : Meta) (count : ℕ)
-      → nodes ≡ meta_of (state_of s) nodes_file → edges ≡ meta_of (state_of s) relationships_file → properties ≡ meta_of (state_of s) properties_file → blocks ≡ meta_of (state_of s) strings_file → count ≡ length names
-      → SettlesCommand g commands.Stats (seen_as s health weight names) (seen_as s health weight names) (Counted (counts_from nodes.live edges.live properties.live blocks.live count))
-  counted only_now s health live weight names nodes edges properties blocks count node_is edge_is property_is block_is all = record {
-    settles = λ known line state only served at.
-        let live_of = λ (meta : Meta) (file : ℕ) (is : meta ≡ meta_of (state_of s) file).
-        ap (λ (m : Meta). m.live) is ∙ ap (λ (records : Key → Rec). (meta_in records file).live) (drafted-none s at.no_draft) in
-        settles-stats at live only (stays-none {g = as_known known g} only_now (seen_as s health weight names) at.no_draft) refl (counts_from nodes.live edges.live properties.live blocks.live count)
-        (counts_from-same (live_of nodes nodes_file node_is) (live_of edges relationships_file edge_is) (live_of properties properties_file property_is) (live_of blocks strings_file block_is) all);
-    may = λ none. (counts_from nodes.live edges.live properties.live blocks.live count, refl, refl);
-    onward = record { disk_later = omega arith };
-  }

@@ -1,11 +1,12 @@
 -- A query's results, taken from its run one by one.
-use Rattle.std.proofs.Common.{◌≡◌, ◌≢◌, ◌∙◌, ℕ, true, None, List, [], ◌∷◌, ◌++◌, append_assoc, codes, refl, sym, ap, subst, arith}
-use Rattle.std.proofs.lemmas.List.{append-nil}
+use Rattle.std.proofs.Common.{◌≡◌, ◌≢◌, ◌∙◌, ℕ, true, None, List, [], ◌∷◌, ◌++◌, append_assoc, inl, inr, map, refl, sym, ap, subst, arith}
+use Rattle.std.proofs.lemmas.List.{append-nil, map-append}
 use Rattle.fault_count.specs.Cause.{Rose}
 use Rattle.stream_io.specs.declared.streams.Sink.{Ghosts as SinkGhosts}
 use Rattle.plain_graph.specs.Graph.{Graph}
 use Rattle.plain_graph.specs.Meaning.{has_past_count, meaning}
-use Rattle.plain_graph.specs.Reply.{Fault, Faulted, NoMemory, Results, fault_line, result_text, text_line}
+use Rattle.plain_graph.specs.Reply.{Fault, Faulted, NoMemory, Told, end_text, fault_line, item_line, result_text, text_line}
+use Rattle.plain_graph.specs.declared.command.Command.TheVariants as commands
 use Rattle.plain_graph.specs.declared.item.Item.{Item}
 use Rattle.plain_graph.specs.declared.query.Query.{Query}
 use Rattle.rec_bytes.specs.Space.{SameButReads, State}
@@ -18,12 +19,13 @@ use Rattle.traversal_run.specs.Row.{Stream, stream, with_first}
 use Rattle.traversal_run.specs.Run.{meant, stopped_by, to_come}
 use Rattle.traversal_run.specs.declared.run.Run.{Run}
 use Rattle.graph_session.specs.Answer.{Gives}
-use Rattle.graph_session.specs.Exchange.{AreFirst, told_in}
+use Rattle.graph_session.specs.Exchange.{ShowsPast, ShowsSome, told_in}
 use Rattle.graph_session.specs.LineBuffer.{Adds}
-use Rattle.graph_session.specs.QueryResults.{GivesQuery, Means}
+use Rattle.graph_session.specs.Questions.{GivesReading, MeansFault}
 use Rattle.graph_session.specs.declared.turn.Turn.{Turn}
 use Rattle.graph_session.specs.declared.turn.Turn.TheVariants.{Go}
-use Rattle.graph_session.proofs.ListedLines.{Shows, rest_of, shows-add, shows-last, shows-none, shows-stop, whole-form, whole-means, whole-text, whole-told, whole_of}
+use Rattle.graph_session.proofs.ListedLines.{HasLines, bytes_of, lines-add, lines-last, lines-none, lines-stop}
+use Rattle.graph_session.proofs.WholeReplies.{BeginResults, lines-first, query-all, query-spared, query-stop, query-tell, reading_of, rest_of, whole-form, whole-means, whole-text, whole-told, whole_of}
 use Rattle.graph_session.proofs.Streams.{Rose-from}
 
 -- ---- spaces that were only read
@@ -65,7 +67,7 @@ pub record IsRunning {R K : Type 0} (space : SpaceGhosts R) (sink : SinkGhosts K
       → meant (graph_of (space.state old).records) query ≡ with_first found (to_come (graph_of (space.state old).records) run)
   pub goes : stopped_by run ≡ None
   pub read : IsRead space old now
-  pub shows : Shows sink before after held found
+  pub has : HasLines sink before after held (map item_line found)
 
 -- nothing was found yet
 pub running-first : {R K : Type 0} {space : SpaceGhosts R} {sink : SinkGhosts K} (names : List (List ℕ)) (query : Query) → ((a : R) → space.onward a a) → (r : R) (k : K) (run : Run)
@@ -75,19 +77,21 @@ running-first {space = space} names query stays r k run begins goes = record {
   coming = λ told store. sym (begins (graph_of (space.state r).records));
   goes = goes;
   read = is_read-none space stays r;
-  shows = shows-none k;
+  has = lines-none k;
 }
 
 -- there was no memory for a run
 pub running-none : {R K : Type 0} {space : SpaceGhosts R} {sink : SinkGhosts K} (names : List (List ℕ)) (query : Query) → ((a : R) → space.onward a a) → (r : R) (k then : K) (turn : Turn)
-    → Gives sink (fault_line NoMemory) k then turn → GivesQuery space sink names query r r k then turn
+    → Gives sink (fault_line NoMemory) k then turn → GivesReading space sink names (commands.Query query) r r k then turn
 running-none {space = space} names query stays r k then turn gives = record {
   reply = Faulted [] NoMemory;
-  form = tt;
+  form = query-stop query [] NoMemory;
   gives = gives;
-  means = λ told store. (meaning (graph_of (space.state r).records) query, refl);
+  means = λ told store. inl refl;
+  verdict = λ told is. cc;
   told = λ blames. absurd (blames refl);
   read = is_read-none space stays r;
+  idle = λ spared. absurd (query-spared query spared);
 }
 
 module _ {R K : Type 0} {space : SpaceGhosts R} {sink : SinkGhosts K} {names : List (List ℕ)} {query : Query} (further : (a b c : R) → space.onward a b → space.onward b c → space.onward a c) {old now : R} {before after : K}
@@ -108,7 +112,7 @@ module _ {R K : Type 0} {space : SpaceGhosts R} {sink : SinkGhosts K} {names : L
   first-found : (coming : Stream) → to_come graph run ≡ coming → space.tells → IsNamedStore (space.state old).records (space.state old).shape names → meant graph query ≡ with_first running.found coming
   first-found coming is told store = running.coming told store ∙ ap (with_first running.found) is
 
-  pub are-first : space.tells → IsNamedStore (space.state old).records (space.state old).shape names → AreFirst running.found (meaning graph query)
+  are-first : space.tells → IsNamedStore (space.state old).records (space.state old).shape names → BeginResults running.found (meaning graph query)
   are-first told store = ((to_come graph run).items, sym (ap (λ (s : Stream). s.items) (running.coming told store)))
 
   module _ {next : R} (reads : IsRead space now next) where
@@ -129,51 +133,68 @@ module _ {R K : Type 0} {space : SpaceGhosts R} {sink : SinkGhosts K} {names : L
         coming = found_more;
         goes = goes;
         read = read-on;
-        shows = shows-add running.shows item new then adds;
+        has = subst (λ (lines : List (List ℕ)). HasLines sink before then new lines) (sym (map-append item_line running.found (item ∷ []))) (lines-add running.has (item_line item) new then adds);
       }
 
       -- the sink failed
-      pub running-stop : (new : List ℕ) (then : K) (turn : Turn) → Adds sink (result_text item) held new after then turn → turn ≢ Go → GivesQuery space sink names query old next before then turn
+      pub running-stop : (new : List ℕ) (then : K) (turn : Turn) → Adds sink (result_text item) held new after then turn → turn ≢ Go → GivesReading space sink names (commands.Query query) old next before then turn
       running-stop new then turn adds stops =
           let first = running.found ++ item ∷ [] in
           let all = meaning graph query in
           let past = has_past_count graph query in
           record {
             reply = whole_of past first all;
-            form = whole-form past first all;
-            gives = subst (λ (text : List ℕ). Gives sink text before then turn) (whole-text past first all) (shows-stop running.shows item new then turn adds stops (rest_of past first all));
-            means = λ told store. whole-means past first all ((to_come graph later).items, sym (ap (λ (s : Stream). s.items) (found_more told store)));
+            form = whole-form query past first all;
+            gives = subst (λ (text : List ℕ). Gives sink text before then turn) (whole-text past first all)
+                (subst (λ (lines : List (List ℕ)). Gives sink (bytes_of lines ++ rest_of past first all) before then turn) (sym (map-append item_line running.found (item ∷ [])))
+                (lines-stop running.has (item_line item) new then turn adds stops (rest_of past first all)));
+            means = λ told store. whole-means graph query past refl first ((to_come graph later).items, sym (ap (λ (s : Stream). s.items) (found_more told store)));
+            verdict = λ told is. cc;
             told = λ blames. absurd (blames (whole-told past first all));
             read = read-on;
+            idle = λ spared. absurd (query-spared query spared);
           }
 
     -- all results were found
     pub running-end : (space.tells → IsNamedStore (space.state now).records (space.state now).shape names → to_come graph_now run ≡ stream []) → (then : K) (turn : Turn)
-        → Gives sink (held ++ text_line (codes "end")) after then turn → GivesQuery space sink names query old next before then turn
+        → Gives sink (held ++ text_line end_text) after then turn → GivesReading space sink names (commands.Query query) old next before then turn
     running-end ends then turn gives = record {
-      reply = Results running.found;
-      form = tt;
-      gives = shows-last running.shows (text_line (codes "end")) then turn gives;
+      reply = Told (map item_line running.found) end_text;
+      form = query-tell query running.found;
+      gives = lines-last running.has (text_line end_text) then turn gives;
       means = λ told store.
           let all = first-found (stream []) (at_start (λ g. to_come g run ≡ stream []) ends told store) told store in
-          (sym (ap (λ (s : Stream). s.items) all ∙ append-nil running.found), ap (λ (s : Stream). s.past) all);
+          query-all graph query running.found (sym (ap (λ (s : Stream). s.items) all ∙ append-nil running.found)) (ap (λ (s : Stream). s.past) all);
+      verdict = λ told is. cc;
       told = λ blames. absurd (blames refl);
       read = read-on;
+      idle = λ spared. absurd (query-spared query spared);
     }
 
     -- the run stopped with a fault
-    pub running-fault : (fault : Fault) → (space.tells → IsNamedStore (space.state old).records (space.state old).shape names → Means (meaning graph query) (has_past_count graph query) (Faulted running.found fault))
-        → (told_in fault ≢ 0 → Rose (space.faults now) (space.faults next)) → (then : K) (turn : Turn) → Gives sink (held ++ fault_line fault) after then turn → GivesQuery space sink names query old next before then turn
+    pub running-fault : (fault : Fault) → (space.tells → IsNamedStore (space.state old).records (space.state old).shape names → MeansFault graph (commands.Query query) (map item_line running.found) fault)
+        → (told_in fault ≢ 0 → Rose (space.faults now) (space.faults next)) → (then : K) (turn : Turn) → Gives sink (held ++ fault_line fault) after then turn → GivesReading space sink names (commands.Query query) old next before then turn
     running-fault fault means rose then turn gives = record {
-      reply = Faulted running.found fault;
-      form = tt;
-      gives = shows-last running.shows (fault_line fault) then turn gives;
+      reply = Faulted (map item_line running.found) fault;
+      form = query-stop query running.found fault;
+      gives = lines-last running.has (fault_line fault) then turn gives;
       means = means;
+      verdict = λ told is. cc;
       told = λ blames. Rose-from (space.faults old) (space.faults now) (space.faults next) running.read.later (rose blames);
       read = read-on;
+      idle = λ spared. absurd (query-spared query spared);
     }
 
+  -- the lines so far are the first of those that the query asks for
+  pub shows-some : space.tells → IsNamedStore (space.state old).records (space.state old).shape names → ShowsSome graph (commands.Query query) (map item_line running.found)
+  shows-some told store = inr (reading_of graph query, refl, lines-first running.found (meaning graph query) (are-first told store))
+
   -- where a count passes of what is to come, the query's passes
-  pub past-found : (space.tells → IsNamedStore (space.state now).records (space.state now).shape names → (to_come graph_now run).past ≡ true) → space.tells → IsNamedStore (space.state old).records (space.state old).shape names
+  past-found : (space.tells → IsNamedStore (space.state now).records (space.state now).shape names → (to_come graph_now run).past ≡ true) → space.tells → IsNamedStore (space.state old).records (space.state old).shape names
       → has_past_count graph query ≡ true
   past-found passes told store = ap (λ (s : Stream). s.past) (running.coming told store) ∙ at_start (λ g. (to_come g run).past ≡ true) passes told store
+
+  -- so a count passes in what the query asks for
+  pub shows-past : (space.tells → IsNamedStore (space.state now).records (space.state now).shape names → (to_come graph_now run).past ≡ true) → space.tells → IsNamedStore (space.state old).records (space.state old).shape names
+      → ShowsPast graph (commands.Query query) (map item_line running.found)
+  shows-past passes told store = (reading_of graph query, refl, past-found passes told store, lines-first running.found (meaning graph query) (are-first told store))

@@ -1,24 +1,18 @@
 -- What a line is that spells one command.
-use Rattle.std.proofs.Common.{◌≡◌, ◌≢◌, ◌⊎◌, List, ℕ, inl, inr, subst, sym}
+use Rattle.std.proofs.Common.{◌≡◌, ◌≢◌, ◌⊎◌, List, ℕ, inl, inr, refl, subst, sym}
 use Rattle.stream_io.specs.Lines.{Whole}
 use Rattle.plain_graph.specs.Changes.{IsChange}
+use Rattle.plain_graph.specs.Kinds.{AreChanges, AreQuestions, Blanks, Bound, Change, Ending, IsQuestion, Kind, Question, Upkeep, kind_of}
 use Rattle.plain_graph.specs.declared.command.Command.{Command}
 use Rattle.plain_graph.specs.declared.command.Command.TheVariants as commands
 use Rattle.gremlin_parse.specs.Grammar.{NeedsNoMemory}
 use Rattle.gremlin_parse.specs.Lines.{Spells}
 use Rattle.graph_session.specs.Refusals.{SpellsOnly}
-use Rattle.graph_session.specs.State.{IsQuit, IsSilent, NeverLacksMemory, SpellsLine}
+use Rattle.graph_session.specs.State.{AreSpared, IsQuit, IsSilent, IsSpared, NeverLacksMemory, SpellsLine}
 
 -- these get no reply
 abbrev pub IsMute : Command → Type 0
 IsMute command = (command ≡ commands.Blank) ⊎ (command ≡ commands.Quit)
-
--- these never lack memory
-abbrev pub IsSpared : Command → Type 0
-IsSpared command =
-    (command ≡ commands.Begin) ⊎ (command ≡ commands.Commit) ⊎ (command ≡ commands.Rollback)
-    ⊎ (command ≡ commands.Checkpoint) ⊎ (command ≡ commands.Reopen) ⊎ (command ≡ commands.Stats)
-    ⊎ IsMute command
 
 module _ {line : List ℕ} {command : Command} (only : SpellsOnly line command) where
   -- it spells no other command
@@ -34,33 +28,56 @@ module _ {line : List ℕ} {command : Command} (only : SpellsOnly line command) 
 
   pub spared-only : NeverLacksMemory (Whole line) → IsSpared command
   spared-only (inl e) = cc
-  spared-only (inr (inl h)) = inl (spells-same commands.Begin h)
-  spared-only (inr (inr (inl h))) = inr (inl (spells-same commands.Commit h))
-  spared-only (inr (inr (inr (inl h)))) = inr (inr (inl (spells-same commands.Rollback h)))
-  spared-only (inr (inr (inr (inr (inl h))))) = inr (inr (inr (inl (spells-same commands.Checkpoint h))))
-  spared-only (inr (inr (inr (inr (inr (inl h)))))) = inr (inr (inr (inr (inl (spells-same commands.Reopen h)))))
-  spared-only (inr (inr (inr (inr (inr (inr (inl h))))))) = inr (inr (inr (inr (inr (inl (spells-same commands.Stats h))))))
-  spared-only (inr (inr (inr (inr (inr (inr (inr h))))))) = inr (inr (inr (inr (inr (inr (silent-mute h))))))
+  spared-only (inr (other, h, spared)) = subst IsSpared (sym (spells-same other h)) spared
+
+-- a command that never lacks memory is read without asking for any
+spared-needs_none : (command : Command) → IsSpared command → NeedsNoMemory command
+spared-needs_none (commands.Node label pairs) (inl spared) = spared
+spared-needs_none (commands.Node label pairs) (inr e) = cc
+spared-needs_none (commands.Edge from label to pairs) (inl spared) = spared
+spared-needs_none (commands.Edge from label to pairs) (inr e) = cc
+spared-needs_none (commands.Set target key value) (inl spared) = spared
+spared-needs_none (commands.Set target key value) (inr e) = cc
+spared-needs_none (commands.Unset target key) (inl spared) = spared
+spared-needs_none (commands.Unset target key) (inr e) = cc
+spared-needs_none (commands.Expand id direction label) (inl spared) = spared
+spared-needs_none (commands.Expand id direction label) (inr e) = cc
+spared-needs_none (commands.Degree id direction label) (inl spared) = spared
+spared-needs_none (commands.Degree id direction label) (inr e) = cc
+spared-needs_none (commands.Path from to direction label) (inl spared) = spared
+spared-needs_none (commands.Path from to direction label) (inr e) = cc
+spared-needs_none (commands.Levels from to direction label) (inl spared) = spared
+spared-needs_none (commands.Levels from to direction label) (inr e) = cc
+spared-needs_none (commands.Query query) (inl spared) = spared
+spared-needs_none (commands.Query query) (inr e) = cc
+spared-needs_none _ spared = tt
 
 -- a line that has no memory for its command spells none that needs no memory
 pub lacks-memory : (line : List ℕ) → ((command : Command) → NeedsNoMemory command → ¬ Spells line command) → ¬ NeverLacksMemory (Whole line)
 lacks-memory line none (inl e) = cc
-lacks-memory line none (inr (inl h)) = none commands.Begin tt h
-lacks-memory line none (inr (inr (inl h))) = none commands.Commit tt h
-lacks-memory line none (inr (inr (inr (inl h)))) = none commands.Rollback tt h
-lacks-memory line none (inr (inr (inr (inr (inl h))))) = none commands.Checkpoint tt h
-lacks-memory line none (inr (inr (inr (inr (inr (inl h)))))) = none commands.Reopen tt h
-lacks-memory line none (inr (inr (inr (inr (inr (inr (inl h))))))) = none commands.Stats tt h
-lacks-memory line none (inr (inr (inr (inr (inr (inr (inr (inl h)))))))) = none commands.Blank tt h
-lacks-memory line none (inr (inr (inr (inr (inr (inr (inr (inr h)))))))) = none commands.Quit tt h
+lacks-memory line none (inr (command, h, spared)) = none command (spared-needs_none command spared) h
+
+changes-spared : (kind : Kind) → AreChanges kind → ¬ AreSpared kind
+changes-spared Blanks change spared = change
+changes-spared Ending change spared = change
+changes-spared Bound change spared = change
+changes-spared Upkeep change spared = change
+changes-spared Change change spared = spared
+changes-spared Question change spared = change
 
 -- a change may lack memory
 pub change-spared : (command : Command) → IsChange command → ¬ IsSpared command
-change-spared command change (inl e) = subst IsChange e change
-change-spared command change (inr (inl e)) = subst IsChange e change
-change-spared command change (inr (inr (inl e))) = subst IsChange e change
-change-spared command change (inr (inr (inr (inl e)))) = subst IsChange e change
-change-spared command change (inr (inr (inr (inr (inl e))))) = subst IsChange e change
-change-spared command change (inr (inr (inr (inr (inr (inl e)))))) = subst IsChange e change
-change-spared command change (inr (inr (inr (inr (inr (inr (inl e))))))) = subst IsChange e change
-change-spared command change (inr (inr (inr (inr (inr (inr (inr e))))))) = subst IsChange e change
+change-spared command change (inl spared) = changes-spared (kind_of command) change spared
+change-spared command change (inr e) = subst IsChange e change
+
+questions-unchanging : (kind : Kind) → AreQuestions kind → ¬ AreChanges kind
+questions-unchanging Blanks asks change = asks
+questions-unchanging Ending asks change = asks
+questions-unchanging Bound asks change = asks
+questions-unchanging Upkeep asks change = asks
+questions-unchanging Change asks change = asks
+questions-unchanging Question asks change = change
+
+-- what reads changes nothing
+pub asks-unchanging : (command : Command) → IsQuestion command → ¬ IsChange command
+asks-unchanging command asks change = questions-unchanging (kind_of command) asks change

@@ -25,7 +25,7 @@ use Rattle.graph_session.specs.Stands.{IsAdmitted, IsAdmittedByEither}
 use Rattle.graph_session.specs.State.{Admits, Live, State, admitted, seen, seen_by}
 use Rattle.graph_session.specs.declared.health.Health.TheVariants as healths
 use Rattle.graph_session.proofs.Answering.{settles-damaged, settles-done, settles-fault}
-use Rattle.graph_session.proofs.Conditions.{NeedsOne, idle-accepted, reached}
+use Rattle.graph_session.proofs.Conditions.{NeedsOne, idle-accepted, idle_reasons, reached}
 use Rattle.graph_session.proofs.DiskUse.{uses-writes}
 use Rattle.graph_session.proofs.Held.{committed-one, held, seen_closed}
 use Rattle.graph_session.proofs.Known.{begin-same, known-admitted, known-one}
@@ -85,7 +85,7 @@ module _ {D : Type 0} {g : Ghosts D} {old new : SessionView D} {state : State} (
   pub settles-checkpoint : {line : List ℕ} → SpellsOnly line commands.Checkpoint → LeavesCommitted g old new.disk → IsBrought g old new → Settles g (Whole line) old new state Done
   settles-checkpoint {line = line} only leaves brought =
       settles-done {line = Whole line} {before = state} Done state tt (record { is_at = brought-at brought; crash = checkpoint-crash at live state new.disk leaves })
-      (λ told. (idle-accepted state only (λ change. change) tt (checkpoint-reached at live only closed), commands.Checkpoint, only.spelled, (refl, refl)))
+      (λ told. (idle-accepted state only (λ change. change) idle_reasons (checkpoint-reached at live only closed), commands.Checkpoint, only.spelled, (refl, refl)))
       (uses-writes state only tt (checkpoint-reached at live only closed) (inr (inr (inl only.spelled))) (λ none. none))
 
   stopped-at : IsStopped g old new → IsAt g new (stopped state)
@@ -107,7 +107,7 @@ module _ {D : Type 0} {g : Ghosts D} {old new : SessionView D} {state : State} (
       → Settles g (Whole line) old new state (Faulted [] DiskFailed)
   settles-checkpoint_fault {line = line} only leaves left rose =
       settles-fault {line = Whole line} {before = state} (Faulted [] DiskFailed) (stopped state) (record { is_at = stopped-at left; crash = checkpoint-crash at live (stopped state) new.disk leaves }) rose
-      (λ told. (refl, checkpoint-reached at live only closed, commands.Checkpoint, only.spelled, refl, refl))
+      (λ told. (refl, checkpoint-reached at live only closed, commands.Checkpoint, only.spelled, inl refl, refl))
       (uses-writes state only tt (checkpoint-reached at live only closed) (inr (inr (inl only.spelled))) (λ none. none))
 
 -- and so it is after further reads
@@ -170,7 +170,7 @@ module _ {D : Type 0} {g : Ghosts D} (counts : CountsNow g) {old new : SessionVi
       → Settles g (Whole line) old new state (Faulted [] DiskFailed)
   settles-reopen_fault {line = line} only leaves left rose =
       settles-fault {line = Whole line} {before = state} (Faulted [] DiskFailed) (lost state) (lost-comes leaves left) rose
-      (λ told. (refl, reopen-reached at closed only, commands.Reopen, only.spelled, refl, refl))
+      (λ told. (refl, reopen-reached at closed only, commands.Reopen, only.spelled, inl refl, refl))
       (uses-writes state only tt (reopen-reached at closed only) (inr (inr (inr only.spelled))) (λ none. none))
 
   -- a record is told to be damaged, of a disk that doesn't tell what it reads
@@ -226,7 +226,7 @@ module _ {D : Type 0} {g : Ghosts D} {old new : SessionView D} {state : State} (
   settles-reopen {line = line} only leaves =
       settles-done {line = Whole line} {before = state} Done after_found tt (record { is_at = found-at; crash = again-either at closed after_found new.disk leaves })
       (λ told. (
-        idle-accepted state only (λ change. change) tt (reopen-reached at closed only),
+        idle-accepted state only (λ change. change) idle_reasons (reopen-reached at closed only),
         commands.Reopen,
         only.spelled,
         (refl, graph_of new.console.committed, subst (λ (space : Key → Rec). Admits state (graph_of space)) (sym (found-same told)) (read-one at closed told).admits, refl),

@@ -21,7 +21,7 @@ use Rattle.graph_session.specs.Stands.{IsAdmittedByEither}
 use Rattle.graph_session.specs.State.{State, Transaction}
 use Rattle.graph_session.specs.declared.health.Health.TheVariants as healths
 use Rattle.graph_session.proofs.Answering.{settles-done, settles-fault}
-use Rattle.graph_session.proofs.Conditions.{NeedsNone, NeedsOne, idle-accepted, reached}
+use Rattle.graph_session.proofs.Conditions.{NeedsNone, NeedsOne, idle-accepted, idle_reasons, reached}
 use Rattle.graph_session.proofs.DiskUse.{uses-same, uses-writes}
 use Rattle.graph_session.proofs.Held.{committed-one, held, names-cut, seen_closed, seen_open, working-open}
 use Rattle.graph_session.proofs.Known.{begin-all, begin-same, known-two}
@@ -58,17 +58,17 @@ in_doubt state graph = failing state (state.committed ∷ graph ∷ [])
 module _ {D : Type 0} {g : Ghosts D} {old : SessionView D} {state : State} (at : IsAt g old state) (live : old.console.health ≡ healths.Live) where
   begin-accepted : {line : List ℕ} → SpellsOnly line commands.Begin → old.console.is_open ≡ false → IsAccepted state (Whole line)
   begin-accepted only closed =
-      idle-accepted state only (λ change. change) tt (reached state only (inl (not_failed at live)) (λ needs. not_open at closed) (λ needs. absurd (begin-closed needs)))
+      idle-accepted state only (λ change. change) idle_reasons (reached state only (inl (not_failed at live)) (λ needs. not_open at closed) (λ needs. absurd (begin-closed needs)))
 
   rollback-accepted : {line : List ℕ} → SpellsOnly line commands.Rollback → old.console.is_open ≡ true → IsAccepted state (Whole line)
   rollback-accepted only opened =
-      idle-accepted state only (λ change. change) tt (reached state only (inl (not_failed at live)) (λ needs. absurd (rollback-open needs)) (λ needs. is_open at opened))
+      idle-accepted state only (λ change. change) idle_reasons (reached state only (inl (not_failed at live)) (λ needs. absurd (rollback-open needs)) (λ needs. is_open at opened))
 
   commit-reached : {line : List ℕ} → SpellsOnly line commands.Commit → old.console.is_open ≡ true → IsReached state (Whole line)
   commit-reached only opened = reached state only (inl (not_failed at live)) (λ needs. absurd (commit-open needs)) (λ needs. is_open at opened)
 
   commit-accepted : {line : List ℕ} → SpellsOnly line commands.Commit → old.console.is_open ≡ true → IsAccepted state (Whole line)
-  commit-accepted only opened = idle-accepted state only (λ change. change) tt (commit-reached only opened)
+  commit-accepted only opened = idle-accepted state only (λ change. change) idle_reasons (commit-reached only opened)
 
   -- after a commit the records of the transaction are the committed ones
   written-one : g.tells_reads → (transaction : Transaction) → state.open_one ≡ Some transaction → IsOneOf (with_commit state transaction) old.console.working
@@ -211,5 +211,5 @@ module _ {D : Type 0} {g : Ghosts D} {old new : SessionView D} {state : State} (
     settles-commit_fault {line = line} only opened leaves left rose =
         settles-fault {line = Whole line} {before = state} (Faulted [] DiskFailed) (in_doubt state transaction.graph)
         (record { is_at = left_open-at left; crash = commit-crash at live (in_doubt state transaction.graph) new.disk (λ told. second-one at live told transaction is) leaves }) rose
-        (λ told. (refl, commit-reached at live only opened, commands.Commit, only.spelled, refl, (transaction, is, refl)))
+        (λ told. (refl, commit-reached at live only opened, commands.Commit, only.spelled, inl refl, (transaction, is, refl)))
         (uses-writes state only tt (commit-reached at live only opened) (inr (inl only.spelled)) (λ none. none))

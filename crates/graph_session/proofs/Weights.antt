@@ -35,15 +35,6 @@ weight-only of names line a b h k = h.2 ∙ ap of (NeedsNames-only names line h.
 
 -- a change weighs one number
 pub Weighs-only : (threshold : ℕ) (graph : Graph) (command : Command) (a b : ℕ) → Weighs threshold graph command a → Weighs threshold graph command b → a ≡ b
-Weighs-only threshold graph commands.Blank a b h k = absurd h
-Weighs-only threshold graph commands.Begin a b h k = absurd h
-Weighs-only threshold graph commands.Commit a b h k = absurd h
-Weighs-only threshold graph commands.Rollback a b h k = absurd h
-Weighs-only threshold graph commands.Checkpoint a b h k = absurd h
-Weighs-only threshold graph commands.Check a b h k = absurd h
-Weighs-only threshold graph commands.Stats a b h k = absurd h
-Weighs-only threshold graph commands.Reopen a b h k = absurd h
-Weighs-only threshold graph commands.Quit a b h k = absurd h
 Weighs-only threshold graph (commands.Node label pairs) a b h k = weight-only (λ (n : ℕ). 1 + properties_weight (with_pairs no_properties pairs) + n) graph.names (label ∷ keys_in pairs) a b h k
 Weighs-only threshold graph (commands.Edge from label to pairs) a b h k =
     weight-only (λ (n : ℕ). 9 + properties_weight (with_pairs no_properties pairs) + n + ends_weight threshold graph from to) graph.names (label ∷ keys_in pairs) a b h k
@@ -51,25 +42,14 @@ Weighs-only threshold graph (commands.Set target key value) a b h k = weight-onl
 Weighs-only threshold graph (commands.Unset target key) a b h k = h ∙ sym k
 Weighs-only threshold graph (commands.Delete (targets.Node id)) a b h k = h ∙ sym k
 Weighs-only threshold graph (commands.Delete (targets.Edge id)) a b h k = h ∙ sym k
-Weighs-only threshold graph (commands.Expand id direction label) a b h k = absurd h
-Weighs-only threshold graph (commands.Query query) a b h k = absurd h
+Weighs-only threshold graph _ a b h k = absurd h
 
 -- only changes weigh
 pub Weighs-change : (threshold : ℕ) (graph : Graph) (command : Command) (weight : ℕ) → Weighs threshold graph command weight → IsChange command
-Weighs-change threshold graph commands.Blank weight h = h
-Weighs-change threshold graph commands.Begin weight h = h
-Weighs-change threshold graph commands.Commit weight h = h
-Weighs-change threshold graph commands.Rollback weight h = h
-Weighs-change threshold graph commands.Checkpoint weight h = h
-Weighs-change threshold graph commands.Check weight h = h
-Weighs-change threshold graph commands.Stats weight h = h
-Weighs-change threshold graph commands.Reopen weight h = h
-Weighs-change threshold graph commands.Quit weight h = h
 Weighs-change threshold graph (commands.Node label pairs) weight h = tt
 Weighs-change threshold graph (commands.Edge from label to pairs) weight h = tt
 Weighs-change threshold graph (commands.Set target key value) weight h = tt
 Weighs-change threshold graph (commands.Unset target key) weight h = tt
 Weighs-change threshold graph (commands.Delete (targets.Node id)) weight h = tt
 Weighs-change threshold graph (commands.Delete (targets.Edge id)) weight h = tt
-Weighs-change threshold graph (commands.Expand id direction label) weight h = h
-Weighs-change threshold graph (commands.Query query) weight h = h
+Weighs-change threshold graph _ weight h = absurd h

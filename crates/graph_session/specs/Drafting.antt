@@ -1,6 +1,6 @@
 -- What the steps of a change say: its draft, and what becomes of that.
-use Rattle.std.specs.Prelude.{◌≡◌, ◌⊎◌, ℕ, ◌+◌, ◌<◌, ◌≤◌, IsTrue, false, Result, Ok, Err, List, []}
-use Rattle.std.specs.Prelude.{◌++◌, take}
+use Rattle.std.specs.Prelude.{◌≡◌, ◌⊎◌, ℕ, ◌+◌, ◌<◌, ◌≤◌, IsTrue, true, false, Result, Ok, Err}
+use Rattle.std.specs.Prelude.{List, [], ◌++◌, length, take}
 use Rattle.fault_count.specs.Cause.{Rose}
 use Rattle.disk_model.specs.Spans.{AtEachMoment}
 use Rattle.disk_model.specs.declared.disk.Disk.{Ghosts}
@@ -24,6 +24,7 @@ use Rattle.graph_session.specs.Answering.{reply_of}
 use Rattle.graph_session.specs.MayStep.{TellsMade}
 use Rattle.graph_session.specs.declared.answer.Answer.{Answer}
 use Rattle.graph_session.specs.declared.answer.Answer.TheVariants as answers
+use Rattle.graph_session.specs.declared.changing.Begun.{Begun}
 use Rattle.graph_session.specs.declared.changing.Drafted.{Drafted}
 use Rattle.graph_session.specs.declared.health.Health.TheVariants as healths
 use Rattle.graph_session.specs.declared.session.Session.{Session}
@@ -170,3 +171,28 @@ module _ {D : Type 0} {g : Ghosts D} where
       TriesCommit (drafted old.store) old new made.answer answer
       ⊎ ((answer ≡ answers.NoMemory) × DropsAlone count old new answer)
   FinishesAlone (Err why) count old new answer = (answer ≡ why) × DropsAlone count old new answer
+
+  -- A transaction was begun for a change by itself.
+  pub record BeginsAlone (old new : Session D g) : Type 0 where
+    pub closed : old.store.base.in_transaction ≡ false
+    pub idle : length old.store.base.own.pairs ≡ 0
+    pub opened : IsTrue new.store.base.in_transaction
+    pub same : SameBeneath old.store.base new.store.base
+    pub own : new.store.base.own.pairs ≡ []
+    pub draft : new.store.draft.pairs ≡ []
+    pub names : new.names.names ≡ old.names.names
+    pub health : new.health ≡ old.health
+
+  -- a change begins, in the open transaction or by itself
+  abbrev pub BeginsChange : Session D g → Session D g → Begun → Type 0
+  BeginsChange old new begun =
+      (begun.names ≡ length old.names.names)
+      × (((begun.alone ≡ false) × (old.store.base.in_transaction ≡ true) × (new ≡ old))
+      ⊎ ((begun.alone ≡ true) × BeginsAlone old new))
+
+  -- what becomes of its draft
+  abbrev pub EndsChange : Begun → Result Drafted Answer → Session D g → Session D g → Answer
+      → Type 0
+  EndsChange begun drafted old new answer =
+      ((begun.alone ≡ false) × Finishes drafted begun.names old new answer)
+      ⊎ ((begun.alone ≡ true) × FinishesAlone drafted begun.names old new answer)

@@ -1,5 +1,5 @@
 -- What the edges of a node are told as.
-use Rattle.std.specs.Prelude.{ℕ, List, map}
+use Rattle.std.specs.Prelude.{◌≡◌, ℕ, List, map}
 use Rattle.plain_graph.specs.declared.item.Item.{Item}
 use Rattle.plain_graph.specs.declared.item.Item.TheVariants as items
 use Rattle.plain_graph.specs.declared.refusal.Refusal.TheVariants as refusals
@@ -22,3 +22,7 @@ answer_for (faults.NoNode id) = answers.Refused (refusals.NoNode id)
 answer_for faults.Memory = answers.NoMemory
 answer_for faults.Disk = answers.DiskFailed
 answer_for (faults.Damaged damage) = answers.Damaged damage
+
+-- the result is an edge whose type has this name
+abbrev pub IsEdge : List ℕ → Item → Type 0
+IsEdge label item = (row : EdgeRow) × (item ≡ item_of label row)

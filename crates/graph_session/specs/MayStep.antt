@@ -10,9 +10,9 @@ use Rattle.plain_graph.specs.Kinds.{Blanks, Bound, Change, Ending, Kind, Questio
 use Rattle.plain_graph.specs.Readings.{Reading, listed, one_line, walk_reading}
 use Rattle.plain_graph.specs.Refusals.{FirstReason, change_reasons}
 use Rattle.plain_graph.specs.Reply.{DamagedRecord, DiskFailed, Done, EdgeMade, Fault, Faulted}
-use Rattle.plain_graph.specs.Reply.{NoMemory, NodeMade, PastCount, Refused, Reply, Told, broken_text}
-use Rattle.plain_graph.specs.Reply.{counts_text, degree_text, end_text, item_line, level_text}
-use Rattle.plain_graph.specs.Reply.{sound_text}
+use Rattle.plain_graph.specs.Reply.{NoMemory, NodeMade, PastCount, Refused, Reply, Silent, Told}
+use Rattle.plain_graph.specs.Reply.{broken_text, counts_text, degree_text, end_text, item_line}
+use Rattle.plain_graph.specs.Reply.{level_text, sound_text}
 use Rattle.plain_graph.specs.declared.command.Command.{Command}
 use Rattle.plain_graph.specs.declared.command.Command.TheVariants as commands
 use Rattle.plain_graph.specs.declared.counts.Counts.{Counts}

@@ -1,7 +1,7 @@
-use plain_graph::{Counts, Refusal};
+use plain_graph::Refusal;
 use rec_bytes::Damage;
 
-/// What a line is answered with that has no results.
+/// What a line is answered with that reads nothing of the graph.
 #[derive(Clone, Copy)]
 pub(crate) enum Answer {
     /// It was carried out.
@@ -10,12 +10,6 @@ pub(crate) enum Answer {
     NodeMade(u32),
     /// It made an edge of this identifier.
     EdgeMade(u32),
-    /// It asked for these.
-    Counted(Counts),
-    /// All rules of the store hold.
-    Sound,
-    /// This record breaks a rule of the store, the least that is broken.
-    Broken(Damage),
     /// It is refused, and changes nothing.
     Refused(Refusal),
     /// There was no memory for it, and it changes nothing.

@@ -1,5 +1,4 @@
 ghost use Rattle.std.specs.Prelude.{◌≡◌, IfErr, IsTrue, OnErr, OnOk};
-ghost use Rattle.plain_graph.specs.Changes.{IsChange};
 ghost use Rattle.plain_graph.specs.Forms.{HasForm};
 ghost use Rattle.plain_graph.specs.declared.command.Command.TheVariants as commands;
 ghost use Rattle.plain_graph.specs.declared.command.Target.TheVariants as targets;
@@ -14,7 +13,7 @@ use crate::{Health, Session};
 use disk_model::Disk;
 use fault_count::Failed;
 use graph_ops::{Added, ChangeFault, add_edge, add_node, delete_edge, delete_node, set, unset};
-use plain_graph::{Command, MOST_WEIGHT, Pairs, Refusal, Target, Text, Value};
+use plain_graph::{MOST_WEIGHT, Pairs, Refusal, Target, Text, Value};
 use rec_bytes::{NODES, PROPERTIES, RELATIONSHIPS};
 
 /// A change that stands in the store's draft: its answer, and what it weighs.
@@ -24,12 +23,23 @@ struct Drafted {
     weight: u32,
 }
 
+/// How a change begins.
+#[derive(Clone, Copy)]
+struct Begun {
+    /// It is a transaction by itself.
+    alone: bool,
+    /// So many names there were.
+    names: u32,
+}
+
 impl<'d, D: Disk> Session<'d, D> {
     ghost use Rattle.txn_core.specs.Store.{working};
     ghost use Rattle.graph_session.specs.Drafting.{
+      BeginsChange,
       Discards,
       Drafts,
       DropsAlone,
+      EndsChange,
       Finishes,
       FinishesAlone,
       IsUnkept,
@@ -39,55 +49,100 @@ impl<'d, D: Disk> Session<'d, D> {
     };
     ghost use Rattle.graph_session.specs.Session.{HaveSameDisk, view};
 
-    /// Carries a change out: in the open transaction, or else as a transaction by itself.
-    pub(crate) fn change(&mut self, command: &Command) -> Answer
-        requires change { IsChange command.now }
-        requires form { HasForm command.now }
+    /// Makes a node, in the open transaction or else as a transaction by itself.
+    pub(crate) fn make_node(&mut self, label: &Text, pairs: &Pairs) -> Answer
+        requires form { HasForm (commands.Node label.now pairs.now) }
         requires live { self.old.health ≡ healths.Live }
-        ensures settles { SettlesCommand D.Disk command.now
+        ensures settles { SettlesCommand D.Disk (commands.Node label.now pairs.now)
             (view self.old) (view self.new) (reply_of result) }
         ensures same_disk { HaveSameDisk self.old self.new }
     {
-        let names = self.names.count();
-        if self.store.in_transaction() {
-            let drafted = self.draft(command);
-            return self.finish(drafted, names);
-        }
-        self.store.begin();
-        let drafted = self.draft(command);
-        self.finish_alone(drafted, names)
+        let begun = self.begin_change();
+        let drafted = self.draft_node(label, pairs);
+        self.end_change(begun, drafted)
     }
 
-    // The change in the draft.
-    fn draft(&mut self, command: &Command) -> Result<Drafted, Answer>
-        requires change { IsChange command.now }
-        requires form { HasForm command.now }
-        ensures only { OnlyDrafts self.old self.new }
-        ensures drafts { Drafts command.now self.old self.new result }
+    /// Makes an edge, as `make_node` makes a node.
+    pub(crate) fn make_edge(&mut self, from: u32, label: &Text, to: u32, pairs: &Pairs) -> Answer
+        requires form { HasForm (commands.Edge from label.now to pairs.now) }
+        requires live { self.old.health ≡ healths.Live }
+        ensures settles { SettlesCommand D.Disk (commands.Edge from label.now to pairs.now)
+            (view self.old) (view self.new) (reply_of result) }
+        ensures same_disk { HaveSameDisk self.old self.new }
     {
-        match command {
-            Command::Node { label, pairs } => self.draft_node(label, pairs),
-            Command::Edge {
-                from,
-                label,
-                to,
-                pairs,
-            } => self.draft_edge(*from, label, *to, pairs),
-            Command::Set { target, key, value } => self.draft_value(*target, key, value),
-            Command::Unset { target, key } => self.draft_no_value(*target, key),
-            Command::Delete(Target::Node(id)) => self.draft_deletion(*id),
-            Command::Delete(Target::Edge(id)) => self.draft_edge_deletion(*id),
-            Command::Blank
-            | Command::Begin
-            | Command::Commit
-            | Command::Rollback
-            | Command::Checkpoint
-            | Command::Check
-            | Command::Stats
-            | Command::Reopen
-            | Command::Quit
-            | Command::Expand { .. }
-            | Command::Query(_) => unreachable!(),
+        let begun = self.begin_change();
+        let drafted = self.draft_edge(from, label, to, pairs);
+        self.end_change(begun, drafted)
+    }
+
+    /// Gives an element a value for a key.
+    pub(crate) fn set_value(&mut self, target: Target, key: &Text, value: &Value) -> Answer
+        requires form { HasForm (commands.Set target key.now value.now) }
+        requires live { self.old.health ≡ healths.Live }
+        ensures settles { SettlesCommand D.Disk (commands.Set target key.now value.now)
+            (view self.old) (view self.new) (reply_of result) }
+        ensures same_disk { HaveSameDisk self.old self.new }
+    {
+        let begun = self.begin_change();
+        let drafted = self.draft_value(target, key, value);
+        self.end_change(begun, drafted)
+    }
+
+    /// Takes the value of a key from an element.
+    pub(crate) fn unset_value(&mut self, target: Target, key: &Text) -> Answer
+        requires live { self.old.health ≡ healths.Live }
+        ensures settles { SettlesCommand D.Disk (commands.Unset target key.now)
+            (view self.old) (view self.new) (reply_of result) }
+        ensures same_disk { HaveSameDisk self.old self.new }
+    {
+        let begun = self.begin_change();
+        let drafted = self.draft_no_value(target, key);
+        self.end_change(begun, drafted)
+    }
+
+    /// Deletes a node or an edge.
+    pub(crate) fn delete(&mut self, target: Target) -> Answer
+        requires live { self.old.health ≡ healths.Live }
+        ensures settles { SettlesCommand D.Disk (commands.Delete target)
+            (view self.old) (view self.new) (reply_of result) }
+        ensures same_disk { HaveSameDisk self.old self.new }
+    {
+        let begun = self.begin_change();
+        match target {
+            Target::Node(id) => {
+                let drafted = self.draft_deletion(id);
+                self.end_change(begun, drafted)
+            }
+            Target::Edge(id) => {
+                let drafted = self.draft_edge_deletion(id);
+                self.end_change(begun, drafted)
+            }
+        }
+    }
+
+    // Begins a transaction for a change where none is open.
+    fn begin_change(&mut self) -> Begun
+        requires { self.old.health ≡ healths.Live }
+        ensures { BeginsChange self.old self.new result }
+    {
+        let names = self.names.count();
+        let alone = !self.store.in_transaction();
+        if alone {
+            self.store.begin();
+        }
+        Begun { alone, names }
+    }
+
+    // Takes a drafted change into the transaction, or commits it where it is one by itself.
+    fn end_change(&mut self, begun: Begun, drafted: Result<Drafted, Answer>) -> Answer
+        requires opened { IsTrue self.old.store.base.in_transaction }
+        requires live { IsTrue self.old.store.base.live }
+        ensures { EndsChange begun drafted self.old self.new result }
+    {
+        if begun.alone {
+            self.finish_alone(drafted, begun.names)
+        } else {
+            self.finish(drafted, begun.names)
         }
     }
 

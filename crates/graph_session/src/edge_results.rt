@@ -1,25 +1,56 @@
-ghost use Rattle.std.specs.Prelude.{◌≡◌, ◌≤◌, IfOk, length};
+ghost use Rattle.std.specs.Prelude.{◌≡◌, ◌≤◌, IfOk, List, ℕ, length, map};
+ghost use Rattle.plain_graph.specs.Forms.{HasForm};
 ghost use Rattle.plain_graph.specs.Graph.{has_node};
+ghost use Rattle.plain_graph.specs.Readings.{expansion, listed};
+ghost use Rattle.plain_graph.specs.Reply.{Told, end_text, item_line, reply_text};
+ghost use Rattle.plain_graph.specs.declared.command.Command.TheVariants as commands;
+ghost use Rattle.plain_graph.specs.declared.item.Item.TheVariants as items;
 ghost use Rattle.store_rules.specs.Graph.{graph_of};
 ghost use Rattle.expand.specs.ExpandFault.{HasExpandCause, NotDamaged};
 ghost use Rattle.expand.specs.Expanding.{TellsNode};
 ghost use Rattle.traversal_run.specs.Reading.{IsNamedStore, IsRead};
-ghost use Rattle.graph_session.specs.EdgeResults.{GivesEdges, answer_for, items_of};
-ghost use Rattle.graph_session.specs.Exchange.{expansion};
+ghost use Rattle.graph_session.specs.Answer.{Gives};
+ghost use Rattle.graph_session.specs.EdgeResults.{IsEdge, item_of, items_of};
+ghost use Rattle.graph_session.specs.Questions.{GivesReading};
 
 use crate::Turn;
-use crate::answer::Answer;
+use crate::giving::{give, give_answer};
 use crate::line_buffer::LineBuffer;
+use crate::type_numbers::number_of;
+use crate::unknown::answer_of;
 use expand::{ExpandFault, expand};
 use name_store::Names;
-use plain_graph::{Direction, Item, Refusal, Text, end_of_results, no_memory};
+use plain_graph::{Direction, Item, Text, end_of_results, no_memory};
 use rec_bytes::Reads;
 use rel_store::EdgeRow;
 use std::alloc::Global;
 use stream_io::Sink;
 
+/// Gives the edges of a type at a node, all of which are found before the first line.
+pub(crate) fn give_edges<R: Reads, K: Sink>(
+    alloc: Global,
+    space: &mut R,
+    names: &Names,
+    id: u32,
+    direction: Direction,
+    label: &Text,
+    output: &mut K,
+) -> Turn
+    requires { HasForm (commands.Expand id direction label.now) }
+    ensures { GivesReading R.Reads K.Sink names.now.names (commands.Expand id direction label.now)
+        space.old space.new output.old output.new result }
+{
+    let Ok(copy) = label.copy(alloc) else {
+        return give(output, no_memory());
+    };
+    match edges_of(alloc, space, names, id, direction, label) {
+        Ok(rows) => give_rows(&rows, copy, output),
+        Err(fault) => give_answer(output, answer_of(fault)),
+    }
+}
+
 /// The edges of a type at a node. Of a type that is no name of the store there are none.
-pub(crate) fn edges_of<R: Reads>(
+fn edges_of<R: Reads>(
     alloc: Global,
     space: &mut R,
     names: &Names,
@@ -40,32 +71,24 @@ pub(crate) fn edges_of<R: Reads>(
     ensures read { IsRead R.Reads space.old space.new }
     ensures cause { HasExpandCause (R.faults space.old) (R.faults space.new) result }
 {
-    // The number after the last name's is the type of no edge.
-    let number = names.find(label.as_bytes()).unwrap_or(names.count());
-    expand(alloc, space, id, direction, &[number])
+    expand(alloc, space, id, direction, &[number_of(names, label)])
 }
 
 /// Gives a line for each edge of this type, and the end.
-pub(crate) fn give_edges<K: Sink>(
-    alloc: Global,
-    rows: &[EdgeRow],
-    label: &Text,
-    output: &mut K,
-) -> Turn
-    requires { length label.now ≤ 48 }
-    ensures { GivesEdges K.Sink (items_of label.now rows.now) output.old output.new result }
+fn give_rows<K: Sink>(rows: &[EdgeRow], label: Text, output: &mut K) -> Turn
+    requires { length label ≤ 48 }
+    ensures { Gives K.Sink (reply_text (Told (map item_line (items_of label rows.now)) end_text))
+        output.old output.new result }
 {
     let mut lines = LineBuffer::new();
+    let mut edge = Item::Edge {
+        id: 0,
+        label,
+        from: 0,
+        to: 0,
+    };
     for row in rows {
-        let Ok(label) = label.copy(alloc) else {
-            return lines.finish(output, no_memory());
-        };
-        let edge = Item::Edge {
-            id: row.id,
-            label,
-            from: row.from,
-            to: row.to,
-        };
+        set_row(&mut edge, row);
         match lines.add_result(output, &edge) {
             Turn::Go => {}
             turn => return turn,
@@ -74,14 +97,13 @@ pub(crate) fn give_edges<K: Sink>(
     lines.finish(output, end_of_results())
 }
 
-/// The answer where the edges are not known.
-pub(crate) fn answer_of(fault: ExpandFault) -> Answer
-    ensures { result ≡ answer_for fault }
+// Makes of an edge the one of a row, with the same text of its type.
+fn set_row(edge: &mut Item, row: &EdgeRow)
+    ensures { (label : List ℕ) → IsEdge label edge.old → edge.new ≡ item_of label row.now }
 {
-    match fault {
-        ExpandFault::NoNode { id } => Answer::Refused(Refusal::NoNode { id }),
-        ExpandFault::Memory => Answer::NoMemory,
-        ExpandFault::Disk => Answer::DiskFailed,
-        ExpandFault::Damaged(damage) => Answer::Damaged(damage),
+    if let Item::Edge { id, from, to, .. } = edge {
+        *id = row.id;
+        *from = row.from;
+        *to = row.to;
     }
 }

@@ -5,9 +5,7 @@ ghost use Rattle.graph_session.specs.Answering.{reply_of};
 use crate::Turn;
 use crate::answer::Answer;
 use fault_count::Failed;
-use plain_graph::{
-    broken, counted, damaged, disk_fault, done, edge_made, no_memory, node_made, refused, sound,
-};
+use plain_graph::{damaged, disk_fault, done, edge_made, no_memory, node_made, refused};
 use stream_io::Sink;
 
 /// Gives an answer to the sink, in one piece. It takes no memory.
@@ -18,14 +16,6 @@ pub(crate) fn give_answer<K: Sink>(output: &mut K, answer: Answer) -> Turn
         Answer::Done => give(output, done()),
         Answer::NodeMade(id) => give(output, node_made(id).as_bytes()),
         Answer::EdgeMade(id) => give(output, edge_made(id).as_bytes()),
-        Answer::Counted(counts) => give(output, counted(counts).as_bytes()),
-        Answer::Sound => give(output, sound()),
-        Answer::Broken(damage) => {
-            give(
-                output,
-                broken(damage.file, damage.id, damage.rule).as_bytes(),
-            )
-        }
         Answer::Refused(why) => give(output, refused(why).as_bytes()),
         Answer::NoMemory => give(output, no_memory()),
         Answer::DiskFailed => give(output, disk_fault()),

@@ -5,20 +5,22 @@
 
 mod answer;
 mod changing;
-mod checking;
-mod counting;
+mod counts;
+mod degrees;
 mod edge_results;
-mod expanding;
 mod giving;
 mod health;
 mod line_buffer;
 mod opening;
 mod query_results;
-mod querying;
+mod questions;
 mod session;
 mod storing;
 mod transacting;
 mod turn;
+mod type_numbers;
+mod unknown;
+mod verdicts;
 
 pub use health::Health;
 pub use session::Session;

@@ -17,6 +17,8 @@ pub(crate) const BUFFER_BYTES: usize = 4_096;
 #[derive(Drop)]
 pub(crate) struct LineBuffer {
     bytes: ByteBuffer<BUFFER_BYTES>,
+    /// The line that is written next.
+    line: ResultLine,
 }
 
 impl Model for LineBuffer {
@@ -34,6 +36,7 @@ impl LineBuffer {
     {
         LineBuffer {
             bytes: ByteBuffer::new(),
+            line: ResultLine::new(),
         }
     }
 
@@ -43,9 +46,8 @@ impl LineBuffer {
         ensures { Adds K.Sink (result_text item.now)
             self.old self.new output.old output.new result }
     {
-        let mut line = ResultLine::new();
-        result_line(item, &mut line);
-        self.add(output, line.as_bytes())
+        result_line(item, &mut self.line);
+        gather(&mut self.bytes, output, self.line.as_bytes())
     }
 
     /// Puts a line at the end. Where it has no room, what was gathered goes to the sink first; a
@@ -53,17 +55,7 @@ impl LineBuffer {
     pub(crate) fn add<K: Sink>(&mut self, output: &mut K, line: &[u8]) -> Turn
         ensures { Adds K.Sink line.now self.old self.new output.old output.new result }
     {
-        if !self.bytes.has_room(line.len()) {
-            match self.flush(output) {
-                Turn::Go => {}
-                turn => return turn,
-            }
-            if line.len() > BUFFER_BYTES {
-                return give(output, line);
-            }
-        }
-        self.bytes.push(line);
-        Turn::Go
+        gather(&mut self.bytes, output, line)
     }
 
     /// Puts the last line at the end, and gives all to the sink.
@@ -76,13 +68,38 @@ impl LineBuffer {
         }
     }
 
-    /// Gives what was gathered to the sink, and forgets it.
-    pub(crate) fn flush<K: Sink>(&mut self, output: &mut K) -> Turn
+    // Gives what was gathered to the sink, and forgets it.
+    fn flush<K: Sink>(&mut self, output: &mut K) -> Turn
         ensures gives { Gives K.Sink self.old output.old output.new result }
         ensures empty { self.new ≡ [] }
     {
-        let turn = give(output, self.bytes.as_bytes());
-        self.bytes.clear();
-        turn
+        give_all(&mut self.bytes, output)
     }
+}
+
+// Puts a line after these bytes.
+fn gather<K: Sink>(bytes: &mut ByteBuffer<BUFFER_BYTES>, output: &mut K, line: &[u8]) -> Turn
+    ensures { Adds K.Sink line.now bytes.old bytes.new output.old output.new result }
+{
+    if !bytes.has_room(line.len()) {
+        match give_all(bytes, output) {
+            Turn::Go => {}
+            turn => return turn,
+        }
+        if line.len() > BUFFER_BYTES {
+            return give(output, line);
+        }
+    }
+    bytes.push(line);
+    Turn::Go
+}
+
+// Gives these bytes to the sink, and forgets them.
+fn give_all<K: Sink>(bytes: &mut ByteBuffer<BUFFER_BYTES>, output: &mut K) -> Turn
+    ensures gives { Gives K.Sink bytes.old output.old output.new result }
+    ensures empty { bytes.new ≡ [] }
+{
+    let turn = give(output, bytes.as_bytes());
+    bytes.clear();
+    turn
 }

@@ -1,4 +1,5 @@
-ghost use Rattle.graph_session.specs.QueryResults.{GivesQuery};
+ghost use Rattle.plain_graph.specs.declared.command.Command.TheVariants as commands;
+ghost use Rattle.graph_session.specs.Questions.{GivesReading};
 
 use crate::Turn;
 use crate::line_buffer::LineBuffer;
@@ -18,7 +19,7 @@ pub(crate) fn give_query<R: Reads, K: Sink>(
     query: &Query,
     output: &mut K,
 ) -> Turn
-    ensures { GivesQuery R.Reads K.Sink names.now.names query.now
+    ensures { GivesReading R.Reads K.Sink names.now.names (commands.Query query.now)
         space.old space.new output.old output.new result }
 {
     let mut lines = LineBuffer::new();

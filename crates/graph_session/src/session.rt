@@ -1,4 +1,4 @@
-ghost use Rattle.std.specs.Prelude.{◌≡◌, ◌≤◌, IsTrue, List, ℕ};
+ghost use Rattle.std.specs.Prelude.{◌≡◌, ◌≢◌, ◌≤◌, IfNone, IfSome, IsTrue, List, OnSome, false, ℕ};
 ghost use Rattle.stream_io.specs.Lines.{Long, Whole};
 ghost use Rattle.recovery.specs.Finding.{IsCareful};
 ghost use Rattle.graph_session.specs.Answer.{AnswersLine};
@@ -6,7 +6,9 @@ ghost use Rattle.graph_session.specs.Answering.{reply_of};
 ghost use Rattle.graph_session.specs.Console.{HasNoDraft};
 ghost use Rattle.graph_session.specs.Refusals.{SpellsOnly};
 ghost use Rattle.plain_graph.specs.Forms.{HasForm};
-ghost use Rattle.graph_session.specs.Settling.{IsLoud, IsPlain, SettlesCommand, told_of};
+ghost use Rattle.plain_graph.specs.Kinds.{IsQuestion};
+ghost use Rattle.graph_session.specs.MayStep.{IsServed};
+ghost use Rattle.graph_session.specs.Settling.{IsLoud, SettlesCommand, told_of};
 ghost use Rattle.graph_session.specs.Verdicts.{Judges};
 ghost use Rattle.gremlin_parse.specs.Lines.{Spells};
 ghost use Rattle.plain_graph.specs.declared.command.Command.TheVariants as commands;
@@ -14,6 +16,7 @@ ghost use Rattle.graph_session.specs.declared.health.Health.TheVariants as healt
 
 use crate::answer::Answer;
 use crate::giving::give_answer;
+use crate::questions::answer_question;
 use crate::{Health, Turn};
 use disk_model::Disk;
 use gremlin_parse::{LineFault, parse_line};
@@ -103,15 +106,11 @@ impl<'d, D: Disk> Session<'d, D> {
         match command {
             Command::Blank => Turn::Go,
             Command::Quit => Turn::Quit,
-            Command::Reopen => {
-                let answer = self.reopen();
-                give_answer(output, answer)
-            }
             other => self.serve(other, output),
         }
     }
 
-    // Answers a line of a command that a session refuses once the disk has failed it.
+    // Answers a line of a command that gets a reply.
     fn serve<K: Sink>(&mut self, command: &Command, output: &mut K) -> Turn
         requires form { HasForm command.now }
         requires loud { IsLoud command.now }
@@ -120,53 +119,59 @@ impl<'d, D: Disk> Session<'d, D> {
             (with_sink self.old output.old) (with_sink self.new output.new) result }
         ensures judges { command.now ≡ commands.Check → self.old.health ≡ healths.Live
             → Judges D.tells_reads K.Sink (view self.old).console output.old output.new result }
+        ensures careful { command.now ≡ commands.Reopen
+            → IsCareful D.Disk (view self.old).disk (view self.new).disk }
         ensures same_disk { HaveSameDisk self.old self.new }
     {
-        match self.health {
-            Health::Failed => give_answer(output, Answer::Refused(Refusal::Failed)),
-            Health::Live => match command {
-                Command::Query(query) => self.answer_query(query, output),
-                Command::Check => self.answer_check(output),
-                Command::Expand {
-                    id,
-                    direction,
-                    label,
-                } => self.answer_expand(*id, *direction, label, output),
-                other => {
-                    let answer = self.settle(other);
-                    give_answer(output, answer)
-                }
-            },
+        if self.refuses(command) {
+            return give_answer(output, Answer::Refused(Refusal::Failed));
+        }
+        match self.settle(command) {
+            Some(answer) => give_answer(output, answer),
+            None => answer_question(self.alloc, &mut self.store, &self.names, command, output),
         }
     }
 
-    // Carries out a command that has no results. It has no sink: what is said of the disk at its
-    // return holds before a byte of the reply is given.
-    fn settle(&mut self, command: &Command) -> Answer
-        requires live { self.old.health ≡ healths.Live }
+    // Whether the disk has failed the session, which then refuses the command.
+    fn refuses(&self, command: &Command) -> bool
+        ensures yes { IsTrue result → (self.now.health ≡ healths.Failed)
+            × (command.now ≢ commands.Reopen) }
+        ensures no { result ≡ false → IsServed (view self.now).console command.now }
+    {
+        !matches!(command, Command::Reopen) && matches!(self.health, Health::Failed)
+    }
+
+    // Carries out a command that is no question; of one it is none, and nothing is done. It has no
+    // sink: what is said of the disk at its return holds before a byte of the reply is given.
+    fn settle(&mut self, command: &Command) -> Option<Answer>
+        requires served { IsServed (view self.old).console command.now }
         requires form { HasForm command.now }
-        requires plain { IsPlain command.now }
-        ensures settles { SettlesCommand D.Disk command.now
-            (view self.old) (view self.new) (reply_of result) }
+        requires loud { IsLoud command.now }
+        ensures settles { IfSome result (λ answer. SettlesCommand D.Disk command.now
+            (view self.old) (view self.new) (reply_of answer)) }
+        ensures told { OnSome result (¬ IsQuestion command.now) }
+        ensures asked { IfNone result (IsQuestion command.now × (self.new ≡ self.old)) }
+        ensures careful { command.now ≡ commands.Reopen
+            → IsCareful D.Disk (view self.old).disk (view self.new).disk }
         ensures same_disk { HaveSameDisk self.old self.new }
     {
         match command {
-            Command::Begin => self.begin(),
-            Command::Commit => self.commit(),
-            Command::Rollback => self.rollback(),
-            Command::Checkpoint => self.checkpoint(),
-            Command::Stats => self.stats(),
-            Command::Node { .. }
-            | Command::Edge { .. }
-            | Command::Set { .. }
-            | Command::Unset { .. }
-            | Command::Delete(_) => self.change(command),
-            Command::Blank
-            | Command::Quit
-            | Command::Reopen
-            | Command::Check
-            | Command::Expand { .. }
-            | Command::Query(_) => unreachable!(),
+            Command::Begin => Some(self.begin()),
+            Command::Commit => Some(self.commit()),
+            Command::Rollback => Some(self.rollback()),
+            Command::Checkpoint => Some(self.checkpoint()),
+            Command::Reopen => Some(self.reopen()),
+            Command::Node { label, pairs } => Some(self.make_node(label, pairs)),
+            Command::Edge {
+                from,
+                label,
+                to,
+                pairs,
+            } => Some(self.make_edge(*from, label, *to, pairs)),
+            Command::Set { target, key, value } => Some(self.set_value(*target, key, value)),
+            Command::Unset { target, key } => Some(self.unset_value(*target, key)),
+            Command::Delete(target) => Some(self.delete(*target)),
+            _ => None,
         }
     }
 }

@@ -1,21 +1,38 @@
-use Rattle.std.proofs.Common.{get_or}
-use Rattle.graph_session.specs.EdgeResults.{item_of}
-use Rattle.graph_session.proofs.EdgeLines.{edges-end, edges-memory, edges-more, edges-stop, items-all, items-first, items-first_more}
+use Rattle.std.proofs.Common.{◌∙◌, Err, List, Vec, ap, map, refl}
+use Rattle.std.specs.declared.alloc.Global.{Global}
+use Rattle.plain_graph.specs.Readings.{listed}
+use Rattle.plain_graph.specs.Reply.{item_line}
+use Rattle.plain_graph.specs.declared.command.Command.TheVariants as commands
+use Rattle.plain_graph.specs.declared.item.Item.{Item}
+use Rattle.rel_store.specs.declared.edge_row.EdgeRow.{EdgeRow}
+use Rattle.expand.specs.declared.expand_fault.ExpandFault.TheVariants as faults
+use Rattle.store_rules.specs.Graph.{graph_of}
+use Rattle.graph_session.specs.EdgeResults.{items_of}
+use Rattle.graph_session.proofs.NodeQuestions.{expand-asks, expand-first, expand-free, gives-told, gives-unknown, one-missing, undamaged}
+use Rattle.graph_session.proofs.Running.{is_read-none}
 use Rattle.graph_session.proofs.edge_results.give_edges.Goals as goal
 
 pub returns-in_default : goal.returns-in_default
 returns-in_default g c =
-    edges-memory c.loop-row.invariant (items-first c.args.label.now c.args.rows.now c.loop-row.row-index) c.finish.new.output c.finish.result (rw c.no_memory.ensures at c.finish.ensures)
+    gives-unknown (expand-asks c.args.id c.args.direction c.args.label.now) (is_read-none g.R.Reads g.met.R.Reads.stays_onward c.args.space.now) faults.Memory (λ e. cc) (λ told store id e. cc) (λ told store damage e. cc) (rw c.no_memory.ensures at c.give.ensures)
 
-pub returns : goal.returns
-returns g c =
-    edges-end c.loop-row.invariant (items-all c.args.label.now c.args.rows.now c.loop-row.row-index c.loop-row.auto.row-index-end c.loop-row-test.false) c.finish-2.new.output c.finish-2.result (rw c.end_of_results.ensures at c.finish-2.ensures)
+pub returns-in-Ok-edges_of : goal.returns-in-Ok-edges_of
+returns-in-Ok-edges_of g c =
+    let s = g.R.Reads.state c.args.space.now in
+    let rows = c.in-Ok-edges_of.rows.items in
+    let met = c.in-Ok-edges_of.ensures in
+    gives-told (expand-asks c.args.id c.args.direction c.args.label.now) met.read (listed (map item_line (items_of c.args.label.now rows))) (items_of c.args.label.now rows, refl) refl
+    (λ told store limit. expand-free limit (graph_of s.records) c.args.id c.args.direction c.args.label.now (met.missing told store))
+    (λ told store. ap (λ (found : List Item). listed (map item_line found)) (met.found told store))
+    (rw (c.deref.ensures.value, c.in-Ok.ensures) at c.give_rows.ensures)
 
-pub loop-row-preserved : goal.loop-row-preserved
-loop-row-preserved g c =
-    edges-more c.args.label.now c.args.rows.now c.loop-row.row-index c.loop-row-test.true c.loop-row.invariant c.add_result.new.self c.add_result.new.output (rw (c.in-Go.is, c.in-Ok.ensures) at c.add_result.ensures)
-
-pub returns-in_default-add_result : goal.returns-in_default-add_result
-returns-in_default-add_result g c =
-    edges-stop c.loop-row.invariant (item_of c.args.label.now (get_or c.args.rows.now c.loop-row.row-index (record { id = 0; label = 0; from = 0; to = 0 })))
-    (items-first_more c.args.label.now c.args.rows.now c.loop-row.row-index c.loop-row-test.true) c.add_result.new.self c.add_result.new.output c.add_result.result (rw c.in-Ok.ensures at c.add_result.ensures) c.in_default-add_result.not-Go
+pub returns-in-Err : goal.returns-in-Err
+returns-in-Err g c =
+    let s = g.R.Reads.state c.args.space.now in
+    let met = c.in-Err.ensures in
+    let fault = c.in-Err.fault in
+    gives-unknown (expand-asks c.args.id c.args.direction c.args.label.now) met.read fault (λ disk. met.cause.disk (ap Err disk))
+    (λ told store.
+    one-missing (Vec EdgeRow Global) fault c.args.id (graph_of s.records) (commands.Expand c.args.id c.args.direction c.args.label.now) (λ limit. expand-first limit (graph_of s.records) c.args.id c.args.direction c.args.label.now) (met.missing told store))
+    (λ told store. undamaged (Vec EdgeRow Global) fault (met.sound told store))
+    (rw c.answer_of.ensures at c.give_answer.ensures)

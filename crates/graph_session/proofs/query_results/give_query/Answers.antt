@@ -1,6 +1,6 @@
 use Rattle.std.proofs.Common.{refl}
 use Rattle.plain_graph.specs.Reply.{DamagedRecord, DiskFailed, NoMemory, PastCount}
-use Rattle.graph_session.proofs.Running.{are-first, is_read-none, named-same, past-found, running-end, running-fault, running-first, running-none, running-on, running-stop}
+use Rattle.graph_session.proofs.Running.{is_read-none, named-same, running-end, running-fault, running-first, running-none, running-on, running-stop, shows-past, shows-some}
 use Rattle.graph_session.proofs.query_results.give_query.Goals as goal
 
 pub loop-init : goal.loop-init
@@ -26,12 +26,12 @@ returns-in-End g c =
 
 pub returns-in-Memory : goal.returns-in-Memory
 returns-in-Memory g c =
-    running-fault g.met.R.Reads.further_onward c.loop.invariant c.next.ensures.read NoMemory (are-first g.met.R.Reads.further_onward c.loop.invariant) (λ blames. absurd (blames refl)) c.finish-in-Memory.new.output c.finish-in-Memory.result
+    running-fault g.met.R.Reads.further_onward c.loop.invariant c.next.ensures.read NoMemory (shows-some g.met.R.Reads.further_onward c.loop.invariant) (λ blames. absurd (blames refl)) c.finish-in-Memory.new.output c.finish-in-Memory.result
     (rw c.no_memory-in-Memory.ensures at c.finish-in-Memory.ensures)
 
 pub returns-in-Disk : goal.returns-in-Disk
 returns-in-Disk g c =
-    running-fault g.met.R.Reads.further_onward c.loop.invariant c.next.ensures.read DiskFailed (are-first g.met.R.Reads.further_onward c.loop.invariant) (λ blames. c.in-Disk.ensures.cause c.loop.invariant.goes refl) c.finish-in-Disk.new.output
+    running-fault g.met.R.Reads.further_onward c.loop.invariant c.next.ensures.read DiskFailed (shows-some g.met.R.Reads.further_onward c.loop.invariant) (λ blames. c.in-Disk.ensures.cause c.loop.invariant.goes refl) c.finish-in-Disk.new.output
     c.finish-in-Disk.result (rw c.disk_fault.ensures at c.finish-in-Disk.ensures)
 
 pub returns-in-Damaged : goal.returns-in-Damaged
@@ -44,13 +44,10 @@ returns-in-Damaged g c =
 pub returns-in-PastCount : goal.returns-in-PastCount
 returns-in-PastCount g c =
     running-fault g.met.R.Reads.further_onward c.loop.invariant c.next.ensures.read PastCount
-    (λ told store. (
-      are-first g.met.R.Reads.further_onward c.loop.invariant told store,
-      past-found g.met.R.Reads.further_onward c.loop.invariant (λ told-now store-now. c.in-PastCount.ensures.past told-now store-now c.loop.invariant.goes refl) told store,
-    ))
+    (shows-past g.met.R.Reads.further_onward c.loop.invariant (λ told-now store-now. c.in-PastCount.ensures.past told-now store-now c.loop.invariant.goes refl))
     (λ blames. absurd (blames refl)) c.finish-in-PastCount.new.output c.finish-in-PastCount.result (rw c.past_count.ensures at c.finish-in-PastCount.ensures)
 
 pub returns : goal.returns
 returns g c =
-    running-fault g.met.R.Reads.further_onward c.loop.invariant (is_read-none g.R.Reads g.met.R.Reads.stays_onward c.loop.space) NoMemory (are-first g.met.R.Reads.further_onward c.loop.invariant) (λ blames. absurd (blames refl))
+    running-fault g.met.R.Reads.further_onward c.loop.invariant (is_read-none g.R.Reads g.met.R.Reads.stays_onward c.loop.space) NoMemory (shows-some g.met.R.Reads.further_onward c.loop.invariant) (λ blames. absurd (blames refl))
     c.finish-2.new.output c.finish-2.result (rw c.no_memory-2.ensures at c.finish-2.ensures)

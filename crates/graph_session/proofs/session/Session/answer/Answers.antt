@@ -1,8 +1,7 @@
-use Rattle.std.proofs.Common.{inr, refl, subst}
+use Rattle.std.proofs.Common.{subst}
 use Rattle.plain_graph.specs.declared.command.Command.{Command}
-use Rattle.graph_session.specs.Answering.{reply_of}
 use Rattle.graph_session.specs.Refusals.{SpellsOnly}
-use Rattle.graph_session.proofs.Dispatch.{answers-blank, answers-quit, answers-settled}
+use Rattle.graph_session.proofs.Dispatch.{answers-blank, answers-quit}
 use Rattle.graph_session.proofs.session.Session.answer.Goals as goal
 
 pub returns-in-Blank-clause-answers : goal.returns-in-Blank-clause-answers
@@ -10,7 +9,3 @@ returns-in-Blank-clause-answers g c = λ line only. answers-blank g.D.Disk g.met
 
 pub returns-in-Quit-clause-answers : goal.returns-in-Quit-clause-answers
 returns-in-Quit-clause-answers g c = λ line only. answers-quit g.D.Disk g.met.D.Disk.only_now g.K.Sink (subst (λ (command : Command). SpellsOnly line command) c.in-Quit.is only)
-
-pub returns-in-Reopen-clause-answers : goal.returns-in-Reopen-clause-answers
-returns-in-Reopen-clause-answers g c = λ line only.
-    answers-settled (subst (λ (command : Command). SpellsOnly line command) c.in-Reopen.is only) (reply_of c.reopen-answer.result) (λ e. cc) (inr refl) c.reopen-answer.ensures.settles c.give_answer.ensures

@@ -1,27 +1,51 @@
-use Rattle.std.proofs.Common.{inl, subst}
-use Rattle.plain_graph.specs.declared.command.Command.{Command}
+use Rattle.std.proofs.Common.{ap, refl, subst}
+use Rattle.txn_core.specs.declared.store.Store.{Store}
+use Rattle.plain_graph.specs.declared.command.Command.TheVariants as commands
 use Rattle.graph_session.specs.Answering.{reply_of}
-use Rattle.graph_session.specs.Refusals.{SpellsOnly}
+use Rattle.graph_session.specs.Session.{view}
 use Rattle.graph_session.specs.Settling.{IsLoud}
-use Rattle.graph_session.proofs.Dispatch.{answers-command, answers-failed, answers-settled, loud-not_mute, loud-not_reopen}
+use Rattle.graph_session.proofs.Anyhow.{may-read}
+use Rattle.graph_session.proofs.Asking.{stays-read}
+use Rattle.graph_session.proofs.Dispatch.{answers-failed, answers-settled, loud-not_mute}
+use Rattle.graph_session.proofs.Knowing.{stays-known, told_of}
+use Rattle.graph_session.proofs.Lifting.{asks-live, settles-asked}
+use Rattle.graph_session.proofs.Moves.{seen_as}
+use Rattle.graph_session.proofs.StoreRecords.{drafted-none}
 use Rattle.graph_session.proofs.session.Session.serve.Goals as goal
 
-pub returns-in-Failed-clause-answers : goal.returns-in-Failed-clause-answers
-returns-in-Failed-clause-answers g c = λ line only.
-    answers-failed g.D.Disk g.met.D.Disk.only_now g.K.Sink only c.in-Failed.is (loud-not_mute c.args.command.now c.requires.loud) (loud-not_reopen c.args.command.now c.requires.loud) c.give_answer.ensures
+pub returns-then-refuses-clause-answers : goal.returns-then-refuses-clause-answers
+returns-then-refuses-clause-answers g c = λ line only.
+    let refused = c.refuses.ensures.yes c.if-refuses.true in
+    answers-failed g.D.Disk g.met.D.Disk.only_now g.K.Sink only refused.0 (loud-not_mute c.args.command.now c.requires.loud) refused.1 c.give_answer.ensures
 
-pub returns-in_default : goal.returns-in_default
-returns-in_default g c = record {
-  answers = λ line only. answers-settled only (reply_of c.settle-answer.result) (λ e. subst IsLoud e c.requires.loud) (inl c.in-Live.is) c.settle-answer.ensures.settles c.give_answer-in_default.ensures;
-  judges = λ is live. absurd (c.in_default.not-Check is);
-  same_disk = c.settle-answer.ensures.same_disk;
-}
+pub returns-in-Some-clause-answers : goal.returns-in-Some-clause-answers
+returns-in-Some-clause-answers g c = λ line only.
+    answers-settled only (reply_of c.in-Some.answer) (λ e. subst IsLoud e c.requires.loud tt) (c.refuses.ensures.no c.if-refuses.false) c.in-Some.ensures.settles c.give_answer-in-Some.ensures
 
-pub returns-in-Query-clause-answers : goal.returns-in-Query-clause-answers
-returns-in-Query-clause-answers g c = λ line only. answers-command (subst (λ (command : Command). SpellsOnly line command) c.in-Query.is only) (λ e. cc) (inl c.in-Live.is) c.answer_query.ensures.answers
+pub returns-in-None-clause-answers : goal.returns-in-None-clause-answers
+returns-in-None-clause-answers g c = λ line only.
+    let asks = c.in-None.ensures.asked.0 in
+    let given = rw c.in-None.ensures.asked.1 at (c.answer_question.ensures asks) in
+    let s = c.args.self.now in
+    let live = asks-live (view s).console c.args.command.now asks (c.refuses.ensures.no c.if-refuses.false) in
+    rw c.in-None.ensures.asked.1
+    (answers-settled only given.reply (λ e. subst IsLoud e c.requires.loud tt) (c.refuses.ensures.no c.if-refuses.false)
+    (record {
+      settles = λ known of state alone served at.
+          settles-asked at live alone asks (stays-known known (stays-read s.store c.answer_question.new.space given.read.onward given.read.same at.no_draft s.health s.weight s.names.names)) given (λ told. told_of known g.D.Disk told)
+          (drafted-none s.store at.no_draft) refl (λ rose. rose) (λ same. ap (λ (store : Store _ _). seen_as store s.health s.weight s.names.names) same);
+      may = λ none.
+          may-read g.D.Disk (view s) given.reply (seen_as c.answer_question.new.space s.health s.weight s.names.names) c.args.command.now asks (
+            given.form,
+            given.told,
+            stays-read s.store c.answer_question.new.space given.read.onward given.read.same none s.health s.weight s.names.names,
+            λ spared. ap (λ (store : Store _ _). seen_as store s.health s.weight s.names.names) (given.idle spared),
+          );
+      onward = record { disk_later = given.read.later };
+    })
+    given.gives)
 
-pub returns-in-Check-clause-answers : goal.returns-in-Check-clause-answers
-returns-in-Check-clause-answers g c = λ line only. answers-command (subst (λ (command : Command). SpellsOnly line command) c.in-Check.is only) (λ e. cc) (inl c.in-Live.is) c.answer_check.ensures.answers
-
-pub returns-in-Expand-clause-answers : goal.returns-in-Expand-clause-answers
-returns-in-Expand-clause-answers g c = λ line only. answers-command (subst (λ (command : Command). SpellsOnly line command) c.in-Expand.is only) (λ e. cc) (inl c.in-Live.is) c.answer_expand.ensures.answers
+pub returns-in-None-clause-judges : goal.returns-in-None-clause-judges
+returns-in-None-clause-judges g c = λ is live.
+    let given = rw c.in-None.ensures.asked.1 at (c.answer_question.ensures c.in-None.ensures.asked.0) in
+    record { reply = given.reply; gives = given.gives; verdict = λ told. given.verdict told is }

@@ -1,0 +1,94 @@
+-- A verdict on the records of a space, and how many there are of each part of its graph.
+use Rattle.std.proofs.Common.{◌≡◌, ◌≢◌, ◌∙◌, ℕ, List, [], inl, inr, refl, sym, ap, subst, arith}
+use Rattle.fault_count.specs.Cause.{Rose}
+use Rattle.stream_io.specs.declared.streams.Sink.{Ghosts as SinkGhosts}
+use Rattle.plain_graph.specs.Counts.{counts_of}
+use Rattle.plain_graph.specs.Readings.{one_line}
+use Rattle.plain_graph.specs.Reply.{DiskFailed, Faulted, NoMemory, Told, broken_text, counts_text, reply_text, sound_text}
+use Rattle.plain_graph.specs.declared.command.Command.TheVariants as commands
+use Rattle.plain_graph.specs.declared.counts.Counts.{Counts}
+use Rattle.rec_bytes.specs.declared.damage.Damage.{Damage}
+use Rattle.rec_bytes.specs.declared.space.Reads.{Ghosts as SpaceGhosts}
+use Rattle.store_check.specs.Verdicts.{IsLeastBroken}
+use Rattle.store_check.specs.declared.verdict.Verdict.TheVariants as verdicts
+use Rattle.store_rules.specs.Graph.{graph_of}
+use Rattle.store_rules.specs.Rules.{IsWellFormed}
+use Rattle.traversal_run.specs.Reading.{IsNamedStore, IsRead}
+use Rattle.graph_session.specs.Answer.{Gives}
+use Rattle.graph_session.specs.Questions.{GivesReading}
+use Rattle.graph_session.specs.State.{IsSpared}
+use Rattle.graph_session.specs.declared.turn.Turn.{Turn}
+use Rattle.graph_session.proofs.Conditions.{idle_reasons}
+
+check-spared : ¬ IsSpared commands.Check
+check-spared (inl spared) = spared
+check-spared (inr e) = cc
+
+module _ {R K : Type 0} {space : SpaceGhosts R} {sink : SinkGhosts K} (names : List (List ℕ)) {a b : R} (read : IsRead space a b) {before after : K} {turn : Turn} where
+  -- the records keep the rules
+  pub gives-sound : (space.tells → IsWellFormed (space.state a).records (space.state a).shape) → Gives sink (reply_text (Told [] sound_text)) before after turn → GivesReading space sink names commands.Check a b before after turn
+  gives-sound keeps gives = record {
+    reply = Told [] sound_text;
+    form = (one_line sound_text, inl refl, refl, refl);
+    gives = gives;
+    means = λ told store. ((λ limit. idle_reasons), (one_line sound_text, refl, refl, refl, refl));
+    verdict = λ told is. (refl, inl (refl, keeps told));
+    told = λ blames. absurd (blames refl);
+    read = read;
+    idle = λ spared. absurd (check-spared spared);
+  }
+
+  -- a rule is broken, so it is no store that stands for a graph
+  pub gives-broken : (damage : Damage) → (space.tells → IsLeastBroken (space.state a).records (space.state a).shape 1 damage)
+      → (space.tells → IsWellFormed (space.state a).records (space.state a).shape → verdicts.Broken damage ≡ verdicts.Sound)
+      → Gives sink (reply_text (Told [] (broken_text damage.file damage.id damage.rule))) before after turn → GivesReading space sink names commands.Check a b before after turn
+  gives-broken damage least breaks gives = record {
+    reply = Told [] (broken_text damage.file damage.id damage.rule);
+    form = (one_line (broken_text damage.file damage.id damage.rule), inr (damage, refl), refl, refl);
+    gives = gives;
+    means = λ told store. absurd (let same = breaks told store.store in cc);
+    verdict = λ told is. (refl, inr (damage, refl, least told));
+    told = λ blames. absurd (blames refl);
+    read = read;
+    idle = λ spared. absurd (check-spared spared);
+  }
+
+  -- no verdict was found
+  pub gives-memory : Gives sink (reply_text (Faulted [] NoMemory)) before after turn → GivesReading space sink names commands.Check a b before after turn
+  gives-memory gives = record {
+    reply = Faulted [] NoMemory;
+    form = (check-spared, one_line sound_text, inl refl, tt, ([], refl));
+    gives = gives;
+    means = λ told store. inl refl;
+    verdict = λ told is. (refl, tt);
+    told = λ blames. absurd (blames refl);
+    read = read;
+    idle = λ spared. absurd (check-spared spared);
+  }
+
+  pub gives-disk : Rose (space.faults a) (space.faults b) → Gives sink (reply_text (Faulted [] DiskFailed)) before after turn → GivesReading space sink names commands.Check a b before after turn
+  gives-disk rose gives = record {
+    reply = Faulted [] DiskFailed;
+    form = (check-spared, one_line sound_text, inl refl, tt, ([], refl));
+    gives = gives;
+    means = λ told store. inl refl;
+    verdict = λ told is. (refl, tt);
+    told = λ blames. rose;
+    read = read;
+    idle = λ spared. absurd (check-spared spared);
+  }
+
+-- what is counted, of which no record is read
+pub gives-counts : {R K : Type 0} {space : SpaceGhosts R} {sink : SinkGhosts K} (names : List (List ℕ)) {a : R} → IsRead space a a → {before after : K} {turn : Turn} → (counts : Counts)
+    → (IsWellFormed (space.state a).records (space.state a).shape → counts ≡ counts_of (graph_of (space.state a).records))
+    → Gives sink (reply_text (Told [] (counts_text counts))) before after turn → GivesReading space sink names commands.Stats a a before after turn
+gives-counts names read counts are gives = record {
+  reply = Told [] (counts_text counts);
+  form = (one_line (counts_text counts), (counts, refl), refl, refl);
+  gives = gives;
+  means = λ told store. ((λ limit. idle_reasons), (one_line (counts_text counts), ap (λ (c : Counts). one_line (counts_text c)) (are store.store), refl, refl, refl));
+  verdict = λ told is. cc;
+  told = λ blames. absurd (blames refl);
+  read = read;
+  idle = λ spared. refl;
+}

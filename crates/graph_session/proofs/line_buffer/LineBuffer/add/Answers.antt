@@ -1,8 +1,0 @@
-use Rattle.graph_session.proofs.Streams.{adds-alone, adds-stop}
-use Rattle.graph_session.proofs.line_buffer.LineBuffer.add.Goals as goal
-
-pub returns-in_default : goal.returns-in_default
-returns-in_default g c = adds-stop c.flush.result c.flush.ensures.gives c.in_default.not-Go
-
-pub returns-then-line-gt-BUFFER_BYTES : goal.returns-then-line-gt-BUFFER_BYTES
-returns-then-line-gt-BUFFER_BYTES g c = rw c.flush.ensures.empty (adds-alone (rw c.in-Go.is at c.flush.ensures.gives) c.give.result c.give.ensures)

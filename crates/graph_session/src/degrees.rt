@@ -1,0 +1,32 @@
+ghost use Rattle.plain_graph.specs.declared.command.Command.TheVariants as commands;
+ghost use Rattle.graph_session.specs.Questions.{GivesReading};
+
+use crate::Turn;
+use crate::giving::{give, give_answer};
+use crate::type_numbers::number_in;
+use crate::unknown::answer_of;
+use expand::degree;
+use name_store::Names;
+use plain_graph::{Direction, Text, degree as degree_line};
+use rec_bytes::Reads;
+use std::alloc::Global;
+use stream_io::Sink;
+
+/// Gives how many edges a node has, of a type or of all types.
+pub(crate) fn give_degree<R: Reads, K: Sink>(
+    alloc: Global,
+    space: &mut R,
+    names: &Names,
+    id: u32,
+    direction: Direction,
+    label: &Option<Text>,
+    output: &mut K,
+) -> Turn
+    ensures { GivesReading R.Reads K.Sink names.now.names (commands.Degree id direction label.now)
+        space.old space.new output.old output.new result }
+{
+    match degree(alloc, space, id, direction, number_in(names, label)) {
+        Ok(edges) => give(output, degree_line(edges).as_bytes()),
+        Err(fault) => give_answer(output, answer_of(fault)),
+    }
+}

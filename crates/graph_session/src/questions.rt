@@ -1,0 +1,50 @@
+ghost use Rattle.plain_graph.specs.Forms.{HasForm};
+ghost use Rattle.plain_graph.specs.Kinds.{IsQuestion};
+ghost use Rattle.graph_session.specs.Questions.{GivesReading};
+
+use crate::Turn;
+use crate::counts::give_counts;
+use crate::degrees::give_degree;
+use crate::edge_results::give_edges;
+use crate::giving::give;
+use crate::query_results::give_query;
+use crate::verdicts::give_verdict;
+use name_store::Names;
+use plain_graph::{Command, no_memory};
+use rec_bytes::Reads;
+use std::alloc::Global;
+use stream_io::Sink;
+
+/// Answers a line that reads the graph of a space, whose names these are. A line of another kind
+/// gets no reply from it.
+pub(crate) fn answer_question<R: Reads, K: Sink>(
+    alloc: Global,
+    space: &mut R,
+    names: &Names,
+    command: &Command,
+    output: &mut K,
+) -> Turn
+    requires { HasForm command.now }
+    ensures { IsQuestion command.now → GivesReading R.Reads K.Sink names.now.names command.now
+        space.old space.new output.old output.new result }
+{
+    match command {
+        Command::Check => give_verdict(alloc, space, output),
+        Command::Stats => give_counts(space, output),
+        Command::Degree {
+            id,
+            direction,
+            label,
+        } => give_degree(alloc, space, names, *id, *direction, label, output),
+        Command::Expand {
+            id,
+            direction,
+            label,
+        } => give_edges(alloc, space, names, *id, *direction, label, output),
+        // No walk is searched yet.
+        Command::Path { .. } => give(output, no_memory()),
+        Command::Levels { .. } => give(output, no_memory()),
+        Command::Query(query) => give_query(alloc, space, names, query, output),
+        _ => Turn::Go,
+    }
+}

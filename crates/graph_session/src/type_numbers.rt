@@ -1,0 +1,30 @@
+ghost use Rattle.std.specs.Prelude.{List, ℕ, ◌∷◌, []};
+ghost use Rattle.plain_graph.specs.Readings.{types_of};
+ghost use Rattle.rec_bytes.specs.declared.shape.Shape.{Shape as AShape};
+ghost use Rattle.store_rules.specs.Rows.{option_list};
+ghost use Rattle.store_rules.specs.Views.{Records};
+ghost use Rattle.expand.proofs.ModelEdges.{StandFor};
+ghost use Rattle.traversal_run.specs.Reading.{IsNamedStore};
+
+use name_store::Names;
+use plain_graph::Text;
+
+/// The number of a type. Of a type that is no name of the store it is one that no edge has.
+pub(crate) fn number_of(names: &Names, label: &Text) -> u32
+    ensures { (records : Records) (shape : AShape) → IsNamedStore records shape names.now.names
+        → StandFor records (result ∷ []) (label.now ∷ []) }
+{
+    // The number after the last name's is the type of no edge.
+    names.find(label.as_bytes()).unwrap_or(names.count())
+}
+
+/// The number of the type that a line names, or none for all types.
+pub(crate) fn number_in(names: &Names, label: &Option<Text>) -> Option<u32>
+    ensures { (records : Records) (shape : AShape) → IsNamedStore records shape names.now.names
+        → StandFor records (option_list result) (types_of label.now) }
+{
+    match label {
+        Some(label) => Some(number_of(names, label)),
+        None => None,
+    }
+}
