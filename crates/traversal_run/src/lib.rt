@@ -10,6 +10,7 @@ mod edge_items;
 mod elements;
 mod finding;
 mod hopping;
+mod id_set;
 mod kept;
 mod key_values;
 mod lookups;

@@ -113,10 +113,7 @@ fn one_value<R: Reads>(
     ensures cause { HasFaultCause (R.faults space.old) (R.faults space.new) result }
 {
     match value_of(alloc, space, names, key.as_bytes(), item)? {
-        Some(value) => {
-            let values = Waiting::one(alloc, Shown::value(value))?;
-            Ok(values)
-        }
+        Some(value) => { Ok(Waiting::one(alloc, Shown::value(value))) }
         None => Ok(Waiting::new(alloc)),
     }
 }

@@ -271,7 +271,7 @@ impl Run {
             return Ok(());
         }
         if let Some(item) = self.source.next(self.alloc, space, names)? {
-            let outs = Waiting::one(self.alloc, item)?;
+            let outs = Waiting::one(self.alloc, item);
             put(&mut self.rows, &mut self.ready, 0, outs);
             return Ok(());
         }

@@ -1,28 +1,32 @@
-ghost use Rattle.std.specs.Prelude.{◌≡◌, ◌++◌, [], ◌∷◌, List, IfOk, cond};
+ghost use Rattle.std.specs.Prelude.{◌≡◌, ◌++◌, [], ◌∷◌, ℕ, List, IfOk, cond};
 ghost use Rattle.plain_graph.specs.Meaning.{unseen};
 ghost use Rattle.plain_graph.specs.declared.item.Item.{Item};
+ghost use Rattle.plain_graph.specs.declared.item.Item.TheVariants as items;
 ghost use Rattle.traversal_run.specs.Seen.{IsInRange, code_of};
 
+use crate::id_set::IdSet;
 use crate::text_set::TextSet;
 use plain_graph::{Item, Value};
 use std::alloc::{AllocError, Global};
 use std::marker::Model;
 
-/// Items that were seen, each by a code of a few bytes, or of a text's and one more. Contracts see
-/// the list of items, of an edge its identifier alone.
+/// Items that were seen: elements by their identifiers, a value by a code of a few bytes, or of a
+/// text's and one more. Contracts see the list of items, of an edge its identifier alone.
 #[derive(Drop)]
 pub(crate) struct Seen {
+    vertices: IdSet,
+    edges: IdSet,
     codes: TextSet,
 }
 
 impl Model for Seen {
     ghost use Rattle.std.specs.Prelude.{List};
     ghost use Rattle.plain_graph.specs.declared.item.Item.{Item};
-    ghost use Rattle.traversal_run.specs.Seen.{AreCodes, items_of};
+    ghost use Rattle.traversal_run.specs.Seen.{AreCodes, seen_items};
 
     ghost Value = { List Item };
 
-    ghost view = { λ s. items_of s.codes };
+    ghost view = { λ s. seen_items s.vertices s.edges s.codes };
 
     ghost invariant = { λ s. AreCodes s.codes };
 }
@@ -33,6 +37,8 @@ impl Seen {
         ensures { result ≡ [] }
     {
         Seen {
+            vertices: IdSet::new(alloc),
+            edges: IdSet::new(alloc),
             codes: TextSet::new(alloc),
         }
     }
@@ -43,25 +49,52 @@ impl Seen {
             → unseen self.old (item.now ∷ later)
             ≡ cond is_new (item.now ∷ []) [] ++ unseen self.new later) }
     {
-        let code = code_of(alloc, item)?;
+        match item {
+            Item::Vertex(id) => self.add_vertex(*id),
+            Item::Edge { id, .. } => self.add_edge(*id),
+            Item::Value(value) => self.add_value(alloc, value),
+        }
+    }
+
+    fn add_vertex(&mut self, id: u32) -> Result<bool, AllocError>
+        ensures { IfOk result (λ is_new. (later : List Item)
+            → unseen self.old (items.Vertex id ∷ later)
+            ≡ cond is_new (items.Vertex id ∷ []) [] ++ unseen self.new later) }
+    {
+        let is_new = self.vertices.add(id)?;
+        Ok(is_new)
+    }
+
+    /// Adds an edge, of whatever type and ends.
+    fn add_edge(&mut self, id: u32) -> Result<bool, AllocError>
+        ensures { (label : List ℕ) (from to : ℕ) → IfOk result (λ is_new. (later : List Item)
+            → unseen self.old (items.Edge id label from to ∷ later)
+            ≡ cond is_new (items.Edge id label from to ∷ []) [] ++ unseen self.new later) }
+    {
+        let is_new = self.edges.add(id)?;
+        Ok(is_new)
+    }
+
+    fn add_value(&mut self, alloc: Global, value: &Value) -> Result<bool, AllocError>
+        ensures { IfOk result (λ is_new. (later : List Item)
+            → unseen self.old (items.Value value.now ∷ later)
+            ≡ cond is_new (items.Value value.now ∷ []) [] ++ unseen self.new later) }
+    {
+        let code = code_of(alloc, value)?;
         let is_new = self.codes.add(code)?;
         Ok(is_new)
     }
 }
 
-/// The kind of an item, and its identifier or its content.
-fn code_of(alloc: Global, item: &Item) -> Result<Vec<u8>, AllocError>
-    ensures is { IfOk result (λ code. code.items ≡ code_of item.now) }
-    ensures range { IsInRange item.now }
+/// The type of a value, and its content.
+fn code_of(alloc: Global, value: &Value) -> Result<Vec<u8>, AllocError>
+    ensures is { IfOk result (λ code. code.items ≡ code_of value.now) }
+    ensures range { IsInRange value.now }
 {
-    match item {
-        Item::Vertex(id) => with_kind(alloc, 0, &id.to_le_bytes()),
-        Item::Edge { id, .. } => with_kind(alloc, 1, &id.to_le_bytes()),
-        Item::Value(Value::Int(number)) => {
-            with_kind(alloc, 2, &number.cast_unsigned().to_le_bytes())
-        }
-        Item::Value(Value::Bool(truth)) => with_kind(alloc, 3, &[u8::from(*truth)]),
-        Item::Value(Value::Text(text)) => with_kind(alloc, 4, text.as_bytes()),
+    match value {
+        Value::Int(number) => with_kind(alloc, 0, &number.cast_unsigned().to_le_bytes()),
+        Value::Bool(truth) => with_kind(alloc, 1, &[u8::from(*truth)]),
+        Value::Text(text) => with_kind(alloc, 2, text.as_bytes()),
     }
 }
 

@@ -108,8 +108,7 @@ impl Stage {
             }
             Stage::Filter(filter) => {
                 if passes(alloc, space, names, filter, item.as_item())? {
-                    let outs = Waiting::one(alloc, item)?;
-                    Ok(outs)
+                    Ok(Waiting::one(alloc, item))
                 } else {
                     Ok(Waiting::new(alloc))
                 }
@@ -120,29 +119,18 @@ impl Stage {
             }
             Stage::Label => {
                 let label = label_value(alloc, space, names, &item)?;
-                let outs = Waiting::one(alloc, label)?;
-                Ok(outs)
+                Ok(Waiting::one(alloc, label))
             }
             Stage::Order { key, kept, .. } => {
                 keep(alloc, space, names, key, kept, item)?;
                 Ok(Waiting::new(alloc))
             }
-            Stage::Id => {
-                let outs = identifier(alloc, item.as_item())?;
-                Ok(outs)
-            }
-            Stage::OutV => {
-                let outs = out_vertex(alloc, item.as_item())?;
-                Ok(outs)
-            }
-            Stage::InV => {
-                let outs = in_vertex(alloc, item.as_item())?;
-                Ok(outs)
-            }
+            Stage::Id => { Ok(identifier(alloc, item.as_item())) }
+            Stage::OutV => { Ok(out_vertex(alloc, item.as_item())) }
+            Stage::InV => { Ok(in_vertex(alloc, item.as_item())) }
             Stage::Dedup { seen } => {
                 if seen.add(alloc, item.as_item())? {
-                    let outs = Waiting::one(alloc, item)?;
-                    Ok(outs)
+                    Ok(Waiting::one(alloc, item))
                 } else {
                     Ok(Waiting::new(alloc))
                 }
@@ -152,8 +140,7 @@ impl Stage {
                     return Ok(Waiting::new(alloc));
                 }
                 *left -= 1;
-                let outs = Waiting::one(alloc, item)?;
-                Ok(outs)
+                Ok(Waiting::one(alloc, item))
             }
             Stage::Count { so_far, told } => {
                 if *told || so_far.add_one() {
@@ -197,33 +184,33 @@ fn keep<R: Reads>(
 }
 
 /// The identifier of an item.
-fn identifier(alloc: Global, item: &Item) -> Result<Waiting, AllocError>
-    ensures { IfOk result (λ items. items ≡ identifier item.now) }
+fn identifier(alloc: Global, item: &Item) -> Waiting
+    ensures { result ≡ identifier item.now }
 {
     match item {
         Item::Vertex(id) => Waiting::one(alloc, Shown::number(i64::from(*id))),
         Item::Edge { id, .. } => Waiting::one(alloc, Shown::number(i64::from(*id))),
-        Item::Value(_) => Ok(Waiting::new(alloc)),
+        Item::Value(_) => Waiting::new(alloc),
     }
 }
 
 /// The vertex that an edge leaves.
-fn out_vertex(alloc: Global, item: &Item) -> Result<Waiting, AllocError>
-    ensures { IfOk result (λ items. items ≡ out_vertex item.now) }
+fn out_vertex(alloc: Global, item: &Item) -> Waiting
+    ensures { result ≡ out_vertex item.now }
 {
     match item {
         Item::Edge { from, .. } => Waiting::one(alloc, Shown::vertex(*from)),
-        _ => Ok(Waiting::new(alloc)),
+        _ => Waiting::new(alloc),
     }
 }
 
 /// The vertex that an edge enters.
-fn in_vertex(alloc: Global, item: &Item) -> Result<Waiting, AllocError>
-    ensures { IfOk result (λ items. items ≡ in_vertex item.now) }
+fn in_vertex(alloc: Global, item: &Item) -> Waiting
+    ensures { result ≡ in_vertex item.now }
 {
     match item {
         Item::Edge { to, .. } => Waiting::one(alloc, Shown::vertex(*to)),
-        _ => Ok(Waiting::new(alloc)),
+        _ => Waiting::new(alloc),
     }
 }
 
@@ -264,7 +251,7 @@ impl Stage {
             Stage::Count { so_far, told } if !*told => {
                 *told = true;
                 let number = so_far.number();
-                Waiting::one(alloc, Shown::number(number))
+                Ok(Waiting::one(alloc, Shown::number(number)))
             }
             Stage::Order {
                 descending,

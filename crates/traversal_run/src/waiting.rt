@@ -1,4 +1,4 @@
-ghost use Rattle.std.specs.Prelude.{◌≡◌, ◌++◌, [], ◌∷◌, true, IfNone, IfOk, IfSome, OnOk};
+ghost use Rattle.std.specs.Prelude.{◌≡◌, ◌++◌, [], ◌∷◌, true, IfNone, IfSome, OnOk};
 ghost use Rattle.traversal_run.specs.Held.{elements_in};
 
 use crate::shown::Shown;
@@ -6,20 +6,23 @@ use std::alloc::{AllocError, Global};
 use std::collections::VecDeque;
 use std::marker::Model;
 
-/// Items that wait, the first one first. Contracts see the list of items.
+/// Items that wait, the first one first. A single one is kept in place, with no memory of its own.
+/// Contracts see the list of items.
 #[derive(Drop)]
 pub(crate) struct Waiting {
-    items: VecDeque<Shown>,
+    first: Option<Shown>,
+    later: VecDeque<Shown>,
 }
 
 impl Model for Waiting {
     ghost use Rattle.std.specs.Prelude.{List};
+    ghost use Rattle.std.specs.List.{cons_option};
     ghost use Rattle.std.specs.VecDeque.{deque_items};
     ghost use Rattle.plain_graph.specs.declared.item.Item.{Item};
 
     ghost Value = { List Item };
 
-    ghost view = { λ w. deque_items w.items };
+    ghost view = { λ w. cons_option w.first (deque_items w.later) };
 }
 
 impl Waiting {
@@ -28,17 +31,19 @@ impl Waiting {
         ensures { result ≡ [] }
     {
         Waiting {
-            items: VecDeque::new(alloc),
+            first: None,
+            later: VecDeque::new(alloc),
         }
     }
 
-    /// This one item.
-    pub(crate) fn one(alloc: Global, item: Shown) -> Result<Waiting, AllocError>
-        ensures { IfOk result (λ items. items ≡ item ∷ []) }
+    /// This one item. It takes no memory.
+    pub(crate) fn one(alloc: Global, item: Shown) -> Waiting
+        ensures { result ≡ item ∷ [] }
     {
-        let mut items = Waiting::new(alloc);
-        items.push(item)?;
-        Ok(items)
+        Waiting {
+            first: Some(item),
+            later: VecDeque::new(alloc),
+        }
     }
 
     /// Takes the first.
@@ -46,14 +51,21 @@ impl Waiting {
         ensures some { IfSome result (λ item. self.old ≡ item ∷ self.new) }
         ensures none { IfNone result ((self.old ≡ []) × (self.new ≡ [])) }
     {
-        self.items.pop_front()
+        match self.first.take() {
+            Some(item) => Some(item),
+            None => self.later.pop_front(),
+        }
     }
 
     /// Puts one after the others.
     pub(crate) fn push(&mut self, item: Shown) -> Result<(), AllocError>
         ensures { OnOk result (self.new ≡ self.old ++ item ∷ []) }
     {
-        self.items.push_back(item)?;
+        if self.is_empty() {
+            self.first = Some(item);
+        } else {
+            self.later.push_back(item)?;
+        }
         Ok(())
     }
 
@@ -61,7 +73,11 @@ impl Waiting {
     pub(crate) fn elements(&self) -> usize
         ensures { result ≡ elements_in self.now }
     {
-        self.items.iter().filter(|item| item.is_element()).count()
+        let later = self.later.iter().filter(|item| item.is_element()).count();
+        match &self.first {
+            Some(item) => later + usize::from(item.is_element()),
+            None => later,
+        }
     }
 
     /// Whether no item waits.
@@ -69,6 +85,6 @@ impl Waiting {
         ensures yes { result ≡ true → self.now ≡ [] }
         ensures no { self.now ≡ [] → result ≡ true }
     {
-        self.items.is_empty()
+        self.first.is_none() && self.later.is_empty()
     }
 }

@@ -57,7 +57,7 @@ returns-in-Some-2-clause-near g c = λ tells store d most degrees near.
     let idle : AreIdle old = subst AreIdle (c.deref.ensures.value ∙ sym rows) c.in_default.ensures.none in
     let before : IsNear d most old [] = subst (λ (rs : List Row). IsNear d most rs []) (sym rows) (subst (λ (ready : List Item). IsNear d most run.rows.items ready) c.requires near) in
     subst (λ (rs : List Row). IsNear d most rs c.put.new.ready) (sym back)
-    (near-sourced d most old c.put.new.rows c.in-Some-2.item c.in_ok-outs.outs c.put.new.ready c.in_ok-outs.ensures idle c.put.ensures.passed c.put.ensures.given c.put.ensures.rows before)
+    (near-sourced d most old c.put.new.rows c.in-Some-2.item c.one-outs.result c.put.new.ready c.one-outs.ensures idle c.put.ensures.passed c.put.ensures.given c.put.ensures.rows before)
 
 pub returns-in-Some-2-clause-scan : goal.returns-in-Some-2-clause-scan
 returns-in-Some-2-clause-scan g c = λ at most scan.
@@ -70,7 +70,7 @@ returns-in-Some-2-clause-scan g c = λ at most scan.
     let back = written_back c.put.new.rows run.rows.items run.rows.len (omega (arith, c.put.auto.rows, ap length rows)) run.rows.ok.0 in
     let takes = subst (λ (found : Option Item). IfSome found (λ item. TakesVertex at (space.state c.args.space.now).reads (space.state c.next.new.space).reads item c.next.new.self)) c.in-Some-2.is
     (c.in_ok-item.ensures.vertex at scan.source) in
-    let outs : c.in_ok-outs.outs ≡ c.in-Some-2.item ∷ [] = c.in_ok-outs.ensures in
+    let outs : c.one-outs.result ≡ c.in-Some-2.item ∷ [] = c.one-outs.ensures in
     let one : length old ≡ 1 = ap length only in
     (c.in-Some-2.item, takes, back ∙ c.put.ensures.rows any ∙ (λ i. set (only i) 0 (record (get_or (only i) 0 any) { waiting = outs i })), c.put.ensures.passed (omega arith))
 

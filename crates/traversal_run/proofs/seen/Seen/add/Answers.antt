@@ -1,29 +1,14 @@
-use Rattle.std.proofs.Common.{◌≡◌, ◌++◌, ◌∷◌, [], cond, not, nat_eq, List, ℕ, ap, sym, ◌∙◌, subst}
-use Rattle.std.specs.List.{list_any}
-use Rattle.std.specs.Cmp.Lexicographic.{pointwise}
+use Rattle.std.specs.Prelude.{IfOk}
+use Rattle.std.proofs.Common.{◌≡◌, ◌++◌, ◌∷◌, [], cond, Bool, List, sym, subst}
 use Rattle.plain_graph.specs.Meaning.{unseen}
 use Rattle.plain_graph.specs.declared.item.Item.{Item}
-use Rattle.traversal_run.specs.Seen.{AreCodes, code_of}
-use Rattle.traversal_run.proofs.Codes.{codes-kept, unseen-more}
 use Rattle.traversal_run.proofs.seen.Seen.add.Goals as goal
 
-pub invariant_of-self : goal.invariant_of-self
-invariant_of-self c = subst AreCodes (sym c.in_err-is_new.ensures.err) c.self.invariant
+pub returns-in-Vertex : goal.returns-in-Vertex
+returns-in-Vertex c = subst (λ (item : Item). IfOk c.add_vertex.result (λ (is_new : Bool). (later : List Item) → unseen c.args.self.now (item ∷ later) ≡ cond is_new (item ∷ []) [] ++ unseen c.add_vertex.new.self later)) (sym c.in-Vertex.is) c.add_vertex.ensures
 
-pub invariant_of-self-2 : goal.invariant_of-self-2
-invariant_of-self-2 c =
-    let codes = c.self.inside.codes in
-    let code = c.in_ok-code.ensures.is in
-    let kept : c.add.new.self ≡ cond c.in_ok-is_new.is_new (codes ++ code_of c.args.item.now ∷ []) codes
-    = c.in_ok-is_new.ensures.added ∙ ap (λ (t : List ℕ). cond c.in_ok-is_new.is_new (codes ++ t ∷ []) codes) code in
-    codes-kept codes c.add.new.self c.args.item.now c.in_ok-is_new.is_new c.in_ok-code.ensures.range c.self.invariant kept
+pub returns-in-Edge : goal.returns-in-Edge
+returns-in-Edge c = subst (λ (item : Item). IfOk c.add_edge.result (λ (is_new : Bool). (later : List Item) → unseen c.args.self.now (item ∷ later) ≡ cond is_new (item ∷ []) [] ++ unseen c.add_edge.new.self later)) (sym c.in-Edge.is) (c.add_edge.ensures c.in-Edge.label c.in-Edge.from c.in-Edge.to)
 
-pub returns : goal.returns
-returns c = λ later.
-    let codes = c.self.inside.codes in
-    let item = c.args.item.now in
-    let code = c.in_ok-code.ensures.is in
-    let is : c.in_ok-is_new.is_new ≡ not (list_any (pointwise nat_eq (code_of item)) codes) = c.in_ok-is_new.ensures.is_new ∙ ap (λ (t : List ℕ). not (list_any (pointwise nat_eq t) codes)) code in
-    let kept : c.add.new.self ≡ cond c.in_ok-is_new.is_new (codes ++ code_of item ∷ []) codes
-    = c.in_ok-is_new.ensures.added ∙ ap (λ (t : List ℕ). cond c.in_ok-is_new.is_new (codes ++ t ∷ []) codes) code in
-    ap (λ (seen : List Item). unseen seen (item ∷ later)) (sym c.self.view_is) ∙ unseen-more codes c.add.new.self item c.in_ok-is_new.is_new c.in_ok-code.ensures.range c.self.invariant is kept later
+pub returns-in-Value : goal.returns-in-Value
+returns-in-Value c = subst (λ (item : Item). IfOk c.add_value.result (λ (is_new : Bool). (later : List Item) → unseen c.args.self.now (item ∷ later) ≡ cond is_new (item ∷ []) [] ++ unseen c.add_value.new.self later)) (sym c.in-Value.is) c.add_value.ensures

@@ -12,5 +12,5 @@ returns-in-Limit-clause-takes g c = λ tells store.
     let graph = graph_of (g.R.Reads.state c.args.space.now).records in
     let new = stages.Limit (c.in-Limit.left - 1) in
     let takes = takes_limit graph c.in-Limit.left c.args.item c.if-left-eq0.false in
-    subst (λ (outs : List Item). Takes graph c.args.self.now c.args.item outs new) (sym c.in_ok-outs-in-Limit.ensures)
+    subst (λ (outs : List Item). Takes graph c.args.self.now c.args.item outs new) (sym c.one-in-Limit.ensures)
     (subst (λ (old : Stage). Takes graph old c.args.item (c.args.item ∷ []) new) (sym c.in-Limit.is) takes)

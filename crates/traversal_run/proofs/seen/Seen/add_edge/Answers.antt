@@ -1,0 +1,13 @@
+use Rattle.std.proofs.Common.{◌∷◌, List, ap, sym, ◌∙◌}
+use Rattle.plain_graph.specs.Meaning.{unseen}
+use Rattle.plain_graph.specs.declared.item.Item.{Item}
+use Rattle.plain_graph.specs.declared.item.Item.TheVariants as items
+use Rattle.traversal_run.proofs.Codes.{unseen-edge}
+use Rattle.traversal_run.proofs.seen.Seen.add_edge.Goals as goal
+
+pub returns : goal.returns
+returns c = λ label from to later.
+    let old = c.self.inside in
+    let ok = c.in_ok-is_new.ensures in
+    ap (λ (seen : List Item). unseen seen (items.Edge c.args.id label from to ∷ later)) (sym c.self.view_is)
+    ∙ unseen-edge old.vertices old.edges old.codes c.args.id from to label c.add.new.self c.in_ok-is_new.is_new ok.is_new ok.added later
