@@ -34,4 +34,5 @@ pub mod Streams
 pub mod Transactions
 pub mod Versions
 pub mod Weights
+pub mod WalkReplies
 pub mod WholeReplies

@@ -21,6 +21,7 @@ mod turn;
 mod type_numbers;
 mod unknown;
 mod verdicts;
+mod walks;
 
 pub use health::Health;
 pub use session::Session;

@@ -6,11 +6,11 @@ use crate::Turn;
 use crate::counts::give_counts;
 use crate::degrees::give_degree;
 use crate::edge_results::give_edges;
-use crate::giving::give;
 use crate::query_results::give_query;
 use crate::verdicts::give_verdict;
+use crate::walks::{give_levels, give_walk};
 use name_store::Names;
-use plain_graph::{Command, no_memory};
+use plain_graph::Command;
 use rec_bytes::Reads;
 use std::alloc::Global;
 use stream_io::Sink;
@@ -41,9 +41,18 @@ pub(crate) fn answer_question<R: Reads, K: Sink>(
             direction,
             label,
         } => give_edges(alloc, space, names, *id, *direction, label, output),
-        // No walk is searched yet.
-        Command::Path { .. } => give(output, no_memory()),
-        Command::Levels { .. } => give(output, no_memory()),
+        Command::Path {
+            from,
+            to,
+            direction,
+            label,
+        } => give_walk(alloc, space, names, *from, *to, *direction, label, output),
+        Command::Levels {
+            from,
+            to,
+            direction,
+            label,
+        } => give_levels(alloc, space, names, *from, *to, *direction, label, output),
         Command::Query(query) => give_query(alloc, space, names, query, output),
         _ => Turn::Go,
     }

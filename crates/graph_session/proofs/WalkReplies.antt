@@ -1,0 +1,128 @@
+-- The lines of a walk and of levels, and what the answer to a line that asks for them is.
+use Rattle.std.proofs.Common.{◌≡◌, ◌≢◌, ◌∙◌, ◌+◌, ◌-◌, ◌<◌, ◌≤◌, ℕ, false, true, true≢false, Option, Err, List, [], ◌∷◌, ◌++◌, append_assoc, get_or, length, map, take, drop, add-one, inl, inr, refl, sym, ap, subst, arith}
+use Rattle.std.proofs.Math.Seq.{take-length, take-suc}
+use Rattle.std.proofs.lemmas.List.{map-append, take-append-drop}
+use Rattle.stream_io.specs.declared.streams.Sink.{Ghosts}
+use Rattle.plain_graph.specs.Graph.{Graph, has_node}
+use Rattle.plain_graph.specs.Readings.{Reading, listed, walk_reading}
+use Rattle.plain_graph.specs.Refusals.{FirstReason, NoReason, change_reasons}
+use Rattle.plain_graph.specs.Reply.{Told, end_text, item_line, no_path_text, path_text, reply_text, text_line}
+use Rattle.plain_graph.specs.declared.command.Command.{Command}
+use Rattle.plain_graph.specs.declared.command.Command.TheVariants as commands
+use Rattle.plain_graph.specs.declared.direction.Direction.{Direction}
+use Rattle.plain_graph.specs.declared.item.Item.TheVariants as items
+use Rattle.plain_graph.specs.declared.refusal.Refusal.TheVariants as refusals
+use Rattle.expand.specs.declared.expand_fault.ExpandFault.{ExpandFault}
+use Rattle.expand.specs.declared.expand_fault.ExpandFault.TheVariants as faults
+use Rattle.path_find.specs.Finding.{TellsEnds}
+use Rattle.graph_session.specs.Answer.{Gives}
+use Rattle.graph_session.specs.Exchange.{AreFirst}
+use Rattle.graph_session.specs.LineBuffer.{Adds}
+use Rattle.graph_session.specs.declared.turn.Turn.{Turn}
+use Rattle.graph_session.specs.declared.turn.Turn.TheVariants.{Go}
+use Rattle.graph_session.proofs.Conditions.{idle_reasons}
+use Rattle.graph_session.proofs.ListedLines.{HasLines, lines-add, lines-last, lines-stop_in}
+
+-- ---- lines of a list, one after the other
+
+module _ {A : Type 0} (line_of : A → List ℕ) (front : List (List ℕ)) (xs : List A) where
+  -- the first lines, and those of the first places
+  abbrev pub lines_to : ℕ → List (List ℕ)
+  lines_to n = front ++ map line_of (take n xs)
+
+  -- one more
+  lines_to-more : (n : ℕ) (d : A) → n < length xs → lines_to (n + 1) ≡ lines_to n ++ line_of (get_or xs n d) ∷ []
+  lines_to-more n d lt =
+      ap (λ (m : ℕ). front ++ map line_of (take m xs)) (add-one n)
+      ∙ ap (λ (some : List A). front ++ map line_of some) (take-suc xs n d lt)
+      ∙ ap (λ (lines : List (List ℕ)). front ++ lines) (map-append line_of (take n xs) (get_or xs n d ∷ []))
+      ∙ sym (append_assoc front (map line_of (take n xs)) (line_of (get_or xs n d) ∷ []))
+
+  -- they are the first of all
+  lines_to-first : (n : ℕ) → AreFirst (lines_to n) (front ++ map line_of xs)
+  lines_to-first n = (
+    map line_of (drop n xs),
+    append_assoc front (map line_of (take n xs)) (map line_of (drop n xs))
+        ∙ ap (λ (lines : List (List ℕ)). front ++ lines) (sym (map-append line_of (take n xs) (drop n xs)) ∙ ap (map line_of) (take-append-drop n xs)),
+  )
+
+  module _ {K : Type 0} {sink : Ghosts K} {before after : K} {held : List ℕ} {n : ℕ} (has : HasLines sink before after held (lines_to n)) where
+    module _ (d : A) (lt : n < length xs) (new : List ℕ) (then : K) where
+      -- the line of one more
+      pub listing-more : Adds sink (text_line (line_of (get_or xs n d))) held new after then Go → HasLines sink before then new (lines_to (n + 1))
+      listing-more adds =
+          subst (λ (lines : List (List ℕ)). HasLines sink before then new lines) (sym (lines_to-more n d lt)) (lines-add has (line_of (get_or xs n d)) new then adds)
+
+      -- the sink failed
+      pub listing-stop : (last : List ℕ) (turn : Turn) → Adds sink (text_line (line_of (get_or xs n d))) held new after then turn → turn ≢ Go → Gives sink (reply_text (Told (front ++ map line_of xs) last)) before then turn
+      listing-stop last turn adds stops =
+          lines-stop_in has (front ++ map line_of xs) last (line_of (get_or xs n d))
+          (subst (λ (lines : List (List ℕ)). AreFirst lines (front ++ map line_of xs)) (lines_to-more n d lt) (lines_to-first (n + 1))) new then turn adds stops
+
+    -- all have lines
+    pub listing-end : n ≤ length xs → length xs ≤ n → (last : List ℕ) (then : K) (turn : Turn) → Gives sink (held ++ text_line last) after then turn → Gives sink (reply_text (Told (front ++ map line_of xs) last)) before then turn
+    listing-end low high last then turn gives =
+        let same : n ≡ length xs = omega (arith, low, high) in
+        subst (λ (lines : List (List ℕ)). Gives sink (reply_text (Told lines last)) before then turn)
+        (ap lines_to same ∙ ap (λ (all : List A). front ++ map line_of all) (take-length xs))
+        (lines-last has (text_line last) then turn gives)
+
+-- ---- walks
+
+-- the line of a node
+abbrev pub node_line : ℕ → List ℕ
+node_line id = item_line (items.Vertex id)
+
+-- the line before those of a walk's nodes
+abbrev pub edge_count_lines : List ℕ → List (List ℕ)
+edge_count_lines walk = path_text (length walk - 1) ∷ []
+
+-- a walk with nodes is told so
+walk-listed : (walk : List ℕ) → 0 < length walk → listed (edge_count_lines walk ++ map node_line walk) ≡ walk_reading walk
+walk-listed [] some = absurd (omega (arith, some))
+walk-listed (first ∷ later) some = ap (λ (edges : ℕ). listed (path_text edges ∷ map node_line (first ∷ later))) (omega arith)
+
+pub gives-walk : {K : Type 0} {sink : Ghosts K} {before after : K} {turn : Turn} (walk : List ℕ) → 0 < length walk → Gives sink (reply_text (Told (edge_count_lines walk ++ map node_line walk) end_text)) before after turn
+    → Gives sink (reply_text (Told (walk_reading walk).lines (walk_reading walk).last)) before after turn
+gives-walk {sink = sink} {before = before} {after = after} {turn = turn} walk some gives =
+    subst (λ (reading : Reading). Gives sink (reply_text (Told reading.lines reading.last)) before after turn) (walk-listed walk some) gives
+
+-- and one without any, so
+pub gives-no_walk : {K : Type 0} {sink : Ghosts K} {before after : K} {turn : Turn} (walk : List ℕ) → length walk ≡ 0 → Gives sink (text_line no_path_text) before after turn
+    → Gives sink (reply_text (Told (walk_reading walk).lines (walk_reading walk).last)) before after turn
+gives-no_walk [] none gives = gives
+gives-no_walk (first ∷ later) none gives = absurd (omega (arith, none))
+
+-- no count passes in one
+pub walk-counted : (walk : List ℕ) → (walk_reading walk).is_past ≡ false
+walk-counted [] = refl
+walk-counted (first ∷ later) = refl
+
+-- ---- the two nodes of a line
+
+-- both are there
+pub path-free : (limit : ℕ) (graph : Graph) (from to : ℕ) (direction : Direction) (label : Option (List ℕ)) → has_node graph from ≡ true → has_node graph to ≡ true → NoReason change_reasons limit graph (commands.Path from to direction label)
+path-free limit graph from to direction label source target = (λ _ h. h, (λ _ h. true≢false (sym source ∙ h.0), (λ _ h. true≢false (sym target ∙ h.0), idle_reasons.1.1.1)))
+
+pub levels-free : (limit : ℕ) (graph : Graph) (from to : ℕ) (direction : Direction) (label : Option (List ℕ)) → has_node graph from ≡ true → has_node graph to ≡ true → NoReason change_reasons limit graph (commands.Levels from to direction label)
+levels-free limit graph from to direction label source target = (λ _ h. h, (λ _ h. true≢false (sym source ∙ h.0), (λ _ h. true≢false (sym target ∙ h.0), idle_reasons.1.1.1)))
+
+-- the first is, and the second is not
+pub path-target : (limit : ℕ) (graph : Graph) (from to : ℕ) (direction : Direction) (label : Option (List ℕ)) → has_node graph from ≡ true → has_node graph to ≡ false
+    → FirstReason change_reasons limit graph (commands.Path from to direction label) (refusals.NoNode to)
+path-target limit graph from to direction label source missing = inr (λ _ h. h, inr (λ _ h. true≢false (sym source ∙ h.0), inl (missing, refl)))
+
+pub levels-target : (limit : ℕ) (graph : Graph) (from to : ℕ) (direction : Direction) (label : Option (List ℕ)) → has_node graph from ≡ true → has_node graph to ≡ false
+    → FirstReason change_reasons limit graph (commands.Levels from to direction label) (refusals.NoNode to)
+levels-target limit graph from to direction label source missing = inr (λ _ h. h, inr (λ _ h. true≢false (sym source ∙ h.0), inl (missing, refl)))
+
+-- which is said to be missing is the first of them that is
+pub end-missing : (V : Type 0) (fault : ExpandFault) (from to : ℕ) (graph : Graph) (command : Command) → ((limit : ℕ) → has_node graph from ≡ false → FirstReason change_reasons limit graph command (refusals.NoNode from))
+    → ((limit : ℕ) → has_node graph from ≡ true → has_node graph to ≡ false → FirstReason change_reasons limit graph command (refusals.NoNode to))
+    → TellsEnds {T = V} (Err fault) from to (has_node graph from) (has_node graph to) → (x : ℕ) → fault ≡ faults.NoNode x → (limit : ℕ) → FirstReason change_reasons limit graph command (refusals.NoNode x)
+end-missing V fault from to graph command source target tells x is limit =
+    by (subst (λ (f : ExpandFault). TellsEnds {T = V} (Err f) from to (has_node graph from) (has_node graph to)) is tells)
+  where
+    by : TellsEnds {T = V} (Err (faults.NoNode x)) from to (has_node graph from) (has_node graph to) → FirstReason change_reasons limit graph command (refusals.NoNode x)
+    by (inl missing) = subst (λ (n : ℕ). FirstReason change_reasons limit graph command (refusals.NoNode n)) (sym missing.0) (source limit missing.1)
+    by (inr missing) = subst (λ (n : ℕ). FirstReason change_reasons limit graph command (refusals.NoNode n)) (sym missing.0) (target limit missing.1 missing.2)
