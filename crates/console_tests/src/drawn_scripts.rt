@@ -96,14 +96,42 @@ impl Draws {
         }
     }
 
-    fn expansion(&mut self) -> Line {
-        let way = match self.draw() % 4 {
+    fn way(&mut self) -> Way {
+        match self.draw() % 4 {
             0 => Way::Out,
             1 => Way::In,
             _ => Way::Both,
+        }
+    }
+
+    /// What is asked of a node, of its edges or of walks from it; mostly of all types.
+    fn question(&mut self) -> Line {
+        let (way, node, name) = (self.way(), self.node(), self.name());
+        let label = if self.draw() % 3 == 0 {
+            Some(name)
+        } else {
+            None
         };
-        let (node, label) = (self.node(), self.name());
-        Line::Expand { node, way, label }
+        match self.draw() % 6 {
+            0 | 1 => Line::Expand {
+                node,
+                way,
+                label: name,
+            },
+            2 | 3 => Line::Degree { node, way, label },
+            4 => Line::Path {
+                from: node,
+                to: (self.draw() % 6) as u32,
+                way,
+                label,
+            },
+            _ => Line::Levels {
+                from: node,
+                to: (self.draw() % 6) as u32,
+                way,
+                label,
+            },
+        }
     }
 
     fn element(&mut self) -> Element {
@@ -237,7 +265,7 @@ fn draw_line(draws: &mut Draws, console: &Console, share: u64) -> Line {
                 Line::Check
             }
         }
-        3 | 4 => draws.expansion(),
+        3 | 4 => draws.question(),
         _ => draws.change(console),
     }
 }

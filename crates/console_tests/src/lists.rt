@@ -1,4 +1,6 @@
 //! A console over plain lists, by which the replies to lines are foretold.
+mod walks;
+
 use std::alloc::{AllocError, Global};
 
 /// What a transaction weighs before its first change, and what it may weigh.
@@ -95,6 +97,16 @@ impl Way {
     }
 }
 
+/// A type, or all of them.
+pub(crate) type Type = Option<char>;
+
+fn type_text(alloc: Global, label: Type) -> Result<String, AllocError> {
+    match label {
+        Some(name) => format!(in alloc; " {name}"),
+        None => Ok(String::new(alloc)),
+    }
+}
+
 /// A line of a script. Labels and types are letters.
 #[derive(Clone, Copy, Drop)]
 pub(crate) enum Line {
@@ -121,6 +133,23 @@ pub(crate) enum Line {
         node: u32,
         way: Way,
         label: char,
+    },
+    Degree {
+        node: u32,
+        way: Way,
+        label: Type,
+    },
+    Path {
+        from: u32,
+        to: u32,
+        way: Way,
+        label: Type,
+    },
+    Levels {
+        from: u32,
+        to: u32,
+        way: Way,
+        label: Type,
     },
     Begin,
     Commit,
@@ -165,6 +194,28 @@ impl Line {
             Line::Expand { node, way, label } => {
                 let way = way.word();
                 format!(in alloc; "expand {node} {way} {label}\n")
+            }
+            Line::Degree { node, way, label } => {
+                let (way, label) = (way.word(), type_text(alloc, label)?);
+                format!(in alloc; "degree {node} {way}{label}\n")
+            }
+            Line::Path {
+                from,
+                to,
+                way,
+                label,
+            } => {
+                let (way, label) = (way.word(), type_text(alloc, label)?);
+                format!(in alloc; "path {from} {to} {way}{label}\n")
+            }
+            Line::Levels {
+                from,
+                to,
+                way,
+                label,
+            } => {
+                let (way, label) = (way.word(), type_text(alloc, label)?);
+                format!(in alloc; "levels {from} {to} {way}{label}\n")
             }
             Line::Begin => String::from_str(alloc, "begin\n"),
             Line::Commit => String::from_str(alloc, "commit\n"),
@@ -411,6 +462,19 @@ impl Console {
             Line::Unset { element, key } => self.unset(element, key),
             Line::Delete(element) => self.delete(element),
             Line::Expand { node, way, label } => self.expand(node, way, label),
+            Line::Degree { node, way, label } => self.degree(node, way, label),
+            Line::Path {
+                from,
+                to,
+                way,
+                label,
+            } => self.path(from, to, way, label),
+            Line::Levels {
+                from,
+                to,
+                way,
+                label,
+            } => self.levels(from, to, way, label),
             Line::Begin => self.begin(),
             Line::Commit => self.commit(),
             Line::Rollback => self.rollback(),

@@ -2,13 +2,13 @@
 use Rattle.std.proofs.Common.{◌≡◌, ◌⊎◌, ⊎_elim, inl, inr, ℕ, ◌+◌, ◌-◌, ◌^◌, ◌≤◌, List, [], ◌∷◌, refl, ap, subst, ◌∙◌, arith}
 use Rattle.fault_count.specs.Cause.{Rose}
 use Rattle.disk_model.specs.declared.disk.Disk.{Ghosts}
+use Rattle.plain_graph.specs.Kinds.{Blanks, Bound, Change, Ending, Kind, Question, Upkeep, kind_of}
 use Rattle.plain_graph.specs.Reply as replies
 use Rattle.plain_graph.specs.Reply.{Fault, Reply}
 use Rattle.plain_graph.specs.declared.command.Command.{Command}
 use Rattle.plain_graph.specs.declared.command.Command.TheVariants as commands
-use Rattle.plain_graph.specs.declared.item.Item.{Item}
 use Rattle.console_words.specs.declared.run_options.RunOptions.{RunOptions}
-use Rattle.graph_session.specs.Exchange.{CarriesOut, ConsoleStep, Exchange, MakesChange, Stops, told_fault, told_in}
+use Rattle.graph_session.specs.Exchange.{CarriesKind, CarriesOut, ConsoleStep, Exchange, KeepsStore, MakesChange, MovesBound, Stops, told_fault, told_in}
 use Rattle.graph_session.specs.State.{Failed, Live, Standing, State, health_of}
 use Rattle.graph_session.specs.declared.health.Health.TheVariants as healths
 use Rattle.graph_console.specs.Program.{Serves, Writes, terms_for}
@@ -24,30 +24,34 @@ module _ (old new : State) (live : old.standing ≡ Live) where
   changed_live command reply (inl (transaction, opened, graph, weight, changes, weighs, is)) = ap (λ (s : State). s.standing) is ∙ live
   changed_live command reply (inr (closed, graph, changes, is)) = ap (λ (s : State). s.standing) is ∙ live
 
+  bound_live : (command : Command) (reply : Reply) → MovesBound old command reply new → new.standing ≡ Live
+  bound_live commands.Begin reply done = ap (λ (s : State). s.standing) done.1 ∙ live
+  bound_live commands.Commit reply done = ap (λ (s : State). s.standing) done.3 ∙ live
+  bound_live commands.Rollback reply done = ap (λ (s : State). s.standing) done.1 ∙ live
+  bound_live command reply never = absurd never
+
+  kept_live : (command : Command) (reply : Reply) → KeepsStore old command reply new → new.standing ≡ Live
+  kept_live commands.Checkpoint reply done = stays_live done.1
+  kept_live commands.Reopen reply done = ap (λ (s : State). s.standing) done.3
+  kept_live command reply never = absurd never
+
   -- a command that is carried out fails no console
   carried_live : (command : Command) (reply : Reply) → CarriesOut old command reply new → new.standing ≡ Live
-  carried_live commands.Blank reply never = absurd never
-  carried_live commands.Begin reply done = ap (λ (s : State). s.standing) done.1 ∙ live
-  carried_live commands.Commit reply done = ap (λ (s : State). s.standing) done.3 ∙ live
-  carried_live commands.Rollback reply done = ap (λ (s : State). s.standing) done.1 ∙ live
-  carried_live commands.Checkpoint reply done = stays_live done.1
-  carried_live commands.Check reply done = stays_live done.1
-  carried_live commands.Stats reply done = stays_live done.1
-  carried_live commands.Reopen reply done = ap (λ (s : State). s.standing) done.3
-  carried_live commands.Quit reply never = absurd never
-  carried_live (commands.Node label pairs) reply done = changed_live (commands.Node label pairs) reply done
-  carried_live (commands.Edge from label to pairs) reply done = changed_live (commands.Edge from label to pairs) reply done
-  carried_live (commands.Set target key value) reply done = changed_live (commands.Set target key value) reply done
-  carried_live (commands.Unset target key) reply done = changed_live (commands.Unset target key) reply done
-  carried_live (commands.Delete target) reply done = changed_live (commands.Delete target) reply done
-  carried_live (commands.Expand id direction label) reply done = stays_live done.1
-  carried_live (commands.Query query) reply done = stays_live done.2
+  carried_live command reply = by (kind_of command)
+    where
+      by : (kind : Kind) → CarriesKind kind old command reply new → new.standing ≡ Live
+      by Blanks never = absurd never
+      by Ending never = absurd never
+      by Bound done = bound_live command reply done
+      by Upkeep done = kept_live command reply done
+      by Change done = changed_live command reply done
+      by Question done = stays_live done.4
 
-  stopped_live : (x : Exchange) (results : List Item) (fault : Fault) → Stops old x.line x.disk_failed results fault new → (told_in fault ≡ 1) ⊎ (new.standing ≡ Live)
-  stopped_live x results replies.PastCount stops = inr (stays_live stops.5)
-  stopped_live x results replies.NoMemory stops = inr (stays_live stops.1)
-  stopped_live x results replies.DiskFailed stops = inl refl
-  stopped_live x results (replies.DamagedRecord file id) never = absurd never
+  stopped_live : (x : Exchange) (lines : List (List ℕ)) (fault : Fault) → Stops old x.line x.disk_failed lines fault new → (told_in fault ≡ 1) ⊎ (new.standing ≡ Live)
+  stopped_live x lines replies.PastCount stops = inr (stays_live stops.4)
+  stopped_live x lines replies.NoMemory stops = inr (stays_live stops.1)
+  stopped_live x lines replies.DiskFailed stops = inl refl
+  stopped_live x lines (replies.DamagedRecord file id) never = absurd never
 
   -- a step that fails a console tells of the disk
   step_told : (x : Exchange) → ConsoleStep old x new → (told_fault x.reply ≡ 1) ⊎ (new.standing ≡ Live)
@@ -55,15 +59,9 @@ module _ (old new : State) (live : old.standing ≡ Live) where
     where
       by : (reply : Reply) → ConsoleStep old (record x { reply = reply }) new → (told_fault reply ≡ 1) ⊎ (new.standing ≡ Live)
       by replies.Silent s = inr (stays_live s.1)
-      by replies.Done s = inr (carried_live s.1 replies.Done s.3)
-      by (replies.NodeMade id) s = inr (carried_live s.1 (replies.NodeMade id) s.3)
-      by (replies.EdgeMade id) s = inr (carried_live s.1 (replies.EdgeMade id) s.3)
-      by (replies.Results results) s = inr (carried_live s.1 (replies.Results results) s.3)
-      by (replies.Counted counts) s = inr (carried_live s.1 (replies.Counted counts) s.3)
-      by replies.Sound s = inr (carried_live s.1 replies.Sound s.3)
-      by (replies.Broken file id rule) never = absurd never
-      by (replies.Faulted results fault) s = stopped_live x results fault s
+      by (replies.Faulted lines fault) s = stopped_live x lines fault s
       by (replies.Refused why) s = inr (stays_live s.1)
+      by reply s = inr (carried_live s.1 reply s.3)
 
 run_told : (tells : Type 0) → tells → (first : State) (run : List Exchange) (last : State) → Run tells first run last → first.standing ≡ Live → (1 ≤ told_faults run) ⊎ (last.standing ≡ Live)
 run_told tells told first [] last same live = inr (ap (λ (s : State). s.standing) same ∙ live)

@@ -6,6 +6,7 @@ pub mod Histories
 pub mod Keeping
 pub mod LineLaws
 pub mod Opened
+mod Recorded
 pub mod Restarts
 pub mod Runs
 mod SampleStores

@@ -43,19 +43,9 @@ told_faults_on [] x = omega arith
 told_faults_on (y ∷ run) x = omega (arith, told_faults_on run x)
 
 told_once : (reply : Reply) → (told_fault reply ≡ 0) ⊎ (told_fault reply ≡ 1)
-told_once replies.Silent = inl refl
-told_once replies.Done = inl refl
-told_once (replies.NodeMade id) = inl refl
-told_once (replies.EdgeMade id) = inl refl
-told_once (replies.Results results) = inl refl
-told_once (replies.Counted counts) = inl refl
-told_once replies.Sound = inl refl
-told_once (replies.Broken file id rule) = inl refl
-told_once (replies.Faulted results replies.PastCount) = inl refl
-told_once (replies.Faulted results replies.NoMemory) = inl refl
-told_once (replies.Faulted results replies.DiskFailed) = inr refl
-told_once (replies.Faulted results (replies.DamagedRecord file id)) = inl refl
-told_once (replies.Refused why) = inl refl
+told_once (replies.Faulted lines replies.DiskFailed) = inr refl
+told_once (replies.Faulted lines fault) = inl refl
+told_once reply = inl refl
 
 -- only a reply to a line in which the disk failed says so
 told_failed : (tells : Type 0) (old : State) (x : Exchange) (new : State) → TakesStep tells old x new → (told_fault x.reply ≡ 0) ⊎ ((told_fault x.reply ≡ 1) × (x.disk_failed ≡ true))

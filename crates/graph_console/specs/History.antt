@@ -2,9 +2,7 @@
 use Rattle.std.specs.Prelude.{◌≡◌, ◌⊎◌, None, List, [], ◌∷◌, ◌++◌}
 use Rattle.plain_graph.specs.Changes.{IsChange}
 use Rattle.plain_graph.specs.Graph.{Graph}
-use Rattle.plain_graph.specs.Reply.{Broken, Sound}
-use Rattle.plain_graph.specs.Reply.{Counted, Done, EdgeMade, Faulted, NodeMade, Refused, Reply, Results}
-use Rattle.plain_graph.specs.Reply.{Silent}
+use Rattle.plain_graph.specs.Reply.{Faulted, Refused, Reply, Silent}
 use Rattle.plain_graph.specs.declared.command.Command.{Command}
 use Rattle.plain_graph.specs.declared.command.Command.TheVariants as commands
 use Rattle.graph_session.specs.Exchange.{Exchange, TakesStep}
@@ -13,15 +11,9 @@ use Rattle.graph_session.specs.State.{Failed, Live, SpellsLine, Standing, State}
 -- the reply says that a line was carried out
 abbrev pub TellsDone : Reply → Type 0
 TellsDone Silent = ⊥
-TellsDone Done = Unit {0}
-TellsDone (NodeMade id) = Unit {0}
-TellsDone (EdgeMade id) = Unit {0}
-TellsDone (Results results) = Unit {0}
-TellsDone (Counted counts) = Unit {0}
-TellsDone Sound = Unit {0}
-TellsDone (Broken file id rule) = ⊥
-TellsDone (Faulted results fault) = ⊥
+TellsDone (Faulted lines fault) = ⊥
 TellsDone (Refused why) = ⊥
+TellsDone _ = Unit {0}
 
 -- The reply acknowledges a transaction: that of `commit`, or of a change outside one.
 abbrev pub Acknowledges : State → Exchange → Type 0

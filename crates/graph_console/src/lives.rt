@@ -5,7 +5,7 @@ ghost use Rattle.rec_bytes.specs.declared.shape.Shape.{Shape as AShape};
 ghost use Rattle.console_words.specs.declared.run_options.RunOptions.{RunOptions};
 ghost use Rattle.graph_session.specs.Exchange.{Exchange};
 ghost use Rattle.graph_session.specs.Stands.{Stands};
-ghost use Rattle.graph_session.specs.State.{State};
+ghost use Rattle.graph_session.specs.State.{Live, State};
 ghost use Rattle.graph_console.specs.History.{Transactions, last_graph};
 ghost use Rattle.graph_console.specs.Lives.{Event, Happen, IsKept, Leads, World, start_of};
 ghost use Rattle.graph_console.specs.Program.{Serves, terms_for};
@@ -28,6 +28,10 @@ pub fn keeps_over_runs<D: Disk>()
         (input left written : List ℕ)
         → Serves (terms_for D.Disk options first last) exit input left written
         → Leads D.Disk first last }
+    // Each run from a console that has not failed has the list of its transactions.
+    ensures recorded { D.tells_reads → (first : State) (run : List Exchange) (last : State)
+        → first.standing ≡ Live → Run D.tells_reads first run last
+        → (graphs : List Graph) × Transactions D.tells_reads first run last graphs }
     // The committed graph of a state is that of the last transaction of the exchanges that lead to
     // it.
     ensures transactions { (first : State) (run : List Exchange) (last : State)
