@@ -106,10 +106,10 @@ module _ (old : State) (well : IsWell old) (line : InputLine) (disk_failed : Boo
     -- a line that spells no commit, and no change outside a transaction
     other : (reply : Reply) → ¬ SpellsLine line commands.Commit → (old.open_one ≡ None → ¬ IsChange command) → ¬ Acknowledges old (replied reply)
     other reply no_commit no_change = λ acknowledges. ⊎_elim
-      (λ (commit : SpellsLine line commands.Commit). no_commit commit)
-      (λ (change : (old.open_one ≡ None) × (c : Command) × IsChange c × SpellsLine line c).
-      no_change change.0 (subst IsChange (line_agrees line command change.1 spelled change.3) change.2))
-      acknowledges.1
+        (λ (commit : SpellsLine line commands.Commit). no_commit commit)
+        (λ (change : (old.open_one ≡ None) × (c : Command) × IsChange c × SpellsLine line c).
+        no_change change.0 (subst IsChange (line_agrees line command change.1 spelled change.3) change.2))
+        acknowledges.1
 
     -- the disk has not failed a console that carries such a line out
     live_at : IsAccepted old line → kind_of command ≢ Blanks → kind_of command ≢ Ending → kind_of command ≢ Upkeep → old.standing ≡ Live
