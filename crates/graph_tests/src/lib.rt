@@ -13,6 +13,8 @@ mod graphs;
 #[cfg(test)]
 mod nodes;
 #[cfg(test)]
+mod paths;
+#[cfg(test)]
 mod properties;
 #[cfg(test)]
 mod runs;
