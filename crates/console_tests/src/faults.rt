@@ -68,7 +68,10 @@ fn a_store_is_opened_again_after_each_fault(rt: HostRuntime) -> Result<(), Fail>
         let ended = run_words(alloc, &words, REOPENED, &mut disk)?;
         let taken = ended.output.taken();
         if ended.exit == Exit::DiskFault {
-            assert!(rt; !has_failed && taken == b"fault disk\n", "call {call}");
+            assert!(rt;
+                !has_failed && taken == b"fault disk\n".as_slice(),
+                "call {call}"
+            );
             continue;
         }
         let faults = count_lines(taken, b"fault disk");
