@@ -41,7 +41,7 @@ others_of records shape most empty keeps = record { ranges = keeps.ranges; split
 
 -- ---- the record of the node
 
-abbrev clear_of : Rec → Rec
+abbrev pub clear_of : Rec → Rec
 clear_of r = with_field 4 (with_field 1 r format.kind format.dense) format.node_first_link format.nil
 
 -- numbers but the kind and the first link stay
@@ -49,7 +49,7 @@ clear_other : (r : Rec) (n at : ℕ) → at + n ≤ 64 → 1 ≤ at → (at + n 
 clear_other r n at inside one apart = field-with_field_other 4 (with_field 1 r format.kind format.dense) format.node_first_link format.nil n at inside (⊎_elim (λ l. inr l) (λ l. inl l) apart)
     ∙ field-with_field_other 1 r format.kind format.dense n at inside (inl one)
 
-clear_kind : (r : Rec) → field 1 (clear_of r) format.kind ≡ format.dense
+pub clear_kind : (r : Rec) → field 1 (clear_of r) format.kind ≡ format.dense
 clear_kind r = field-with_field_other 4 (with_field 1 r format.kind format.dense) format.node_first_link format.nil 1 format.kind (omega arith) (inr (omega arith))
     ∙ field-with_field_same 1 r format.kind format.dense (omega arith) (omega arith)
 

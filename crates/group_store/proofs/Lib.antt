@@ -4,6 +4,8 @@ pub mod Clearing
 pub mod Closings
 pub mod Comings
 pub mod CountedRels
+pub mod DenseFaults
+pub mod DenseStays
 pub mod DropSteps
 pub mod DroppedRules
 pub mod Drops
@@ -32,6 +34,7 @@ pub mod Raises
 pub mod Regrouping
 pub mod Seeks
 pub mod SideCounts
+pub mod SparseChains
 pub mod Spreads
 pub mod Tallies
 pub mod Touches

@@ -1,13 +1,19 @@
 -- A sparse node that becomes dense: its relationships come into groups.
-use Rattle.std.specs.Prelude.{◌≡◌, ℕ, ◌+◌, ◌*◌, ◌≤◌, List, length}
+use Rattle.std.specs.Prelude.{◌≡◌, ◌⊎◌, ℕ, ◌+◌, ◌*◌, ◌≤◌, None, List, length}
+use Rattle.rec_bytes.specs.declared.damage.Damage.{Damage}
+use Rattle.rec_bytes.specs.declared.fault.Fault.{Fault}
+use Rattle.rec_bytes.specs.declared.fault.Fault.TheVariants.{Memory, Disk, Damaged}
 use Rattle.rec_bytes.specs.Format as format
 use Rattle.rec_bytes.specs.RecordFiles.{room_of}
 use Rattle.rec_bytes.specs.Space.{State, meta_of}
 use Rattle.store_rules.specs.Ends.{Regroups}
-use Rattle.store_rules.specs.Rules.{KeepsRules}
-use Rattle.store_rules.specs.Views.{degree, kind_at}
+use Rattle.store_rules.specs.Breaking.{Breaks}
+use Rattle.store_rules.specs.Rules.{Head, KeepsRules}
+use Rattle.store_rules.specs.Views.{Records, degree, kind_at, rel_at}
+use Rattle.chain_edit.specs.Pushing.{IsPushFault}
 use Rattle.group_store.specs.Leaving.{LeavesOthers}
-use Rattle.group_store.specs.Spreading.{HasCountedGroups}
+use Rattle.group_store.specs.Opening.{IsOpenFault}
+use Rattle.group_store.specs.Spreading.{HasCountedGroups, rels_damage}
 
 -- The node is sparse, in a store that keeps the rules, but that these groups may be empty.
 pub record CanBecomeDense (s : State) (node most : ℕ) (empty : List ℕ) : Type 0 where
@@ -29,3 +35,34 @@ pub record HasDenseRoom (s : State) (node threshold : ℕ) (empty : List ℕ) : 
   pub few : degree s.records node ≤ threshold
   pub room : 2 * (meta_of s format.relationships_file).live + length empty
       ≤ room_of s.shape format.groups_file
+
+-- the node is in use, and its first link is to a relationship
+abbrev pub IsSparse : Records → ℕ → Type 0
+IsSparse records node = kind_at records format.nodes_file node ≡ format.sparse
+
+-- What is told while the relationships come into groups, of the space as it is then. The record that
+-- is said to be damaged breaks the rule, or it is a group whose first link leads nowhere, or the file
+-- of groups is full.
+abbrev pub IsLateDamage : State → Damage → Type 0
+IsLateDamage t damage =
+    IsOpenFault t (Damaged damage)
+    ⊎ ((head : Head) × (head.key.file ≡ format.groups_file) × IsPushFault t head (Damaged damage))
+
+-- Why a relationship doesn't come into its group. It is so, or the relationship isn't there.
+abbrev pub IsMoveFault : State → State → ℕ → ℕ → Fault → Type 0
+IsMoveFault s t node rel Memory = Unit {0}
+IsMoveFault s t node rel Disk = Unit {0}
+IsMoveFault s t node rel (Damaged damage) =
+    IsLateDamage t damage ⊎ ((damage ≡ rels_damage node) × (rel_at s.records rel ≡ None))
+
+-- Why a sparse node doesn't become dense. The record that is said to be damaged breaks the rule in
+-- the space as it was: all of the node's own chain is read then. Or it is told later, of the space as
+-- it is. That the node's relationships aren't those that were read may be told later only where
+-- the store broke some rule.
+abbrev pub IsDenseFault : State → State → ℕ → Fault → Type 0
+IsDenseFault s t node Memory = Unit {0}
+IsDenseFault s t node Disk = Unit {0}
+IsDenseFault s t node (Damaged damage) =
+    Breaks s.records s.shape damage ⊎ (IsLateDamage t damage
+    ⊎ ((damage ≡ rels_damage node)
+    × ((most : ℕ) (empty : List ℕ) → ¬ CanBecomeDense s node most empty)))

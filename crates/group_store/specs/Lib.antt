@@ -15,6 +15,7 @@ pub mod Moving
 pub mod Opening
 pub mod Raising
 pub mod Sides
+pub mod SparseChain
 pub mod Spreading
 pub mod Touching
 pub mod Walking

@@ -3,7 +3,7 @@
 
 ghost use Rattle.std.specs.Prelude.{◌≡◌, ◌≤◌, ◌∷◌, [], ℕ, Some, IfErr, IfOk, OnOk};
 ghost use Rattle.rec_bytes.specs.Key.{IsKey};
-ghost use Rattle.rec_bytes.specs.Space.{HasCause, WritesOnly};
+ghost use Rattle.rec_bytes.specs.Space.{HasCause, WritesOnly, after_get};
 ghost use Rattle.rel_store.specs.RelRecord.{rel_key};
 ghost use Rattle.store_rules.specs.Breaking.{IsHeadOf};
 ghost use Rattle.store_rules.specs.Rules.{first_of};
@@ -12,7 +12,7 @@ ghost use Rattle.chain_edit.specs.Breaks.{IsBreakFault};
 ghost use Rattle.chain_edit.specs.Chains.{next_of, prev_of};
 ghost use Rattle.chain_edit.specs.Heads.{head_of, IsHead};
 ghost use Rattle.chain_edit.specs.Links.{IsRightLink};
-ghost use Rattle.chain_edit.specs.Pushing.{pushed};
+ghost use Rattle.chain_edit.specs.Pushing.{IsPushFault, pushed};
 ghost use Rattle.chain_edit.specs.Unlinking.{unlinked};
 ghost use Rattle.group_store.specs.Counting.{
   count_place,
@@ -21,7 +21,7 @@ ghost use Rattle.group_store.specs.Counting.{
   recounted,
   tallied,
 };
-ghost use Rattle.rec_bytes.specs.Fault.{HasFaultCause, NotDamaged};
+ghost use Rattle.rec_bytes.specs.Fault.{HasFaultCause, NotDamaged, OnDamage};
 
 use chain_edit::{Head, push_front, unlink};
 use rec_bytes::{
@@ -38,6 +38,8 @@ pub fn push_counted<S: Space>(space: &mut S, head: Head, node: u32, rel: u32) ->
         ≡ tallied one_more (pushed (S.state space.old) (head_of head) node rel) (head_of head)) }
     ensures first { S.tells → IfOk result
         (λ first. first ≡ first_of (S.state space.old).records (head_of head)) }
+    ensures damaged { S.tells → IfErr result (IsPushFault (S.state space.old) (head_of head)) }
+    ensures unwritten { OnDamage result (S.state space.new ≡ after_get (S.state space.old)) }
     ensures breaks { S.tells → (n : ℕ)
         → IsHeadOf (S.state space.old).records (head_of head) n
         → IfErr result (IsBreakFault (S.state space.old)) }

@@ -1,4 +1,4 @@
-ghost use Rattle.std.specs.Prelude.{◌≡◌, ◌≢◌, ◌⊎◌, ◌≤◌, ◌∷◌, [], ◌+◌, ◌*◌, ℕ, List, min, true, IfErr, IfOk, OnOk};
+ghost use Rattle.std.specs.Prelude.{◌≡◌, ◌≢◌, ◌⊎◌, ◌≤◌, ◌∷◌, [], ◌+◌, ◌*◌, ℕ, List, true, IfErr, IfOk, OnOk};
 ghost use Rattle.node_store.specs.NodeRecord.{node_key};
 ghost use Rattle.rec_bytes.specs.Key.{IsKey};
 ghost use Rattle.rec_bytes.specs.RecordFiles.{meta_key_of};
@@ -12,15 +12,15 @@ ghost use Rattle.store_rules.specs.Writes.{WritesBeside};
 ghost use Rattle.group_store.specs.Touching.{TouchesGroups};
 ghost use Rattle.chain_edit.specs.Links.{prev_set};
 ghost use Rattle.group_store.specs.Densing.{BecomesDense, CanBecomeDense, HasDenseRoom};
+ghost use Rattle.group_store.specs.Densing.{IsDenseFault, IsMoveFault, IsSparse};
 ghost use Rattle.group_store.specs.GroupChain.{IsDense};
-ghost use Rattle.rec_bytes.specs.Fault.{HasFaultCause, NotDamaged};
+ghost use Rattle.rec_bytes.specs.Fault.{HasFaultCause, NotDamaged, OnDamage};
 ghost use Rattle.group_store.specs.GroupRecord.{group_key};
 ghost use Rattle.group_store.specs.Leaving.{LeavesOthers};
 ghost use Rattle.group_store.specs.Moving.{GrowsBy, IsOwnTurn, turn_keys};
 ghost use Rattle.group_store.specs.Opening.{IsOpenFault};
 ghost use Rattle.group_store.specs.Raising.{IsGroupAt};
 ghost use Rattle.group_store.specs.Spreading.{HasEndRoom, HasOpened, IsSpread, KeepsBut, cleared};
-ghost use Rattle.group_store.specs.Spreading.{rels_damage};
 ghost use Rattle.group_store.specs.Walking.{group_row_at};
 
 use crate::Side;
@@ -29,18 +29,20 @@ use crate::finding::find_group;
 use crate::making::{OwnGroup, make_own};
 use crate::members::chain_damage;
 use crate::moved::{Moved, Turn};
+use crate::raising::degree_damage;
 use crate::side::group_head;
+use crate::sparse_chain::{rels_damage, test_chain};
 use rec_bytes::{
-    CHAIN_RULE, DENSE, Damage, Fault, KIND, Key, NIL, NODE_FIRST_LINK, NODES, RELATIONSHIPS, Space,
-    SpaceFault,
+    DENSE, Fault, KIND, Key, NIL, NODE_FIRST_LINK, NODES, RELATIONSHIPS, Space, SpaceFault,
 };
 use rel_store::{Linked, end_links, place_of};
 
 /// Makes a sparse node dense: each of its relationships comes into the group of its type, at the
-/// front of the chain of its direction. The node is damaged where it isn't sparse, where its chain
-/// leads to no relationship or to more than so many or than its degree says, or where what stood
-/// first at a group's head or
-/// among the groups didn't come there by this call.
+/// front of the chain of its direction. Its chain is read once before anything is written, and the
+/// node is damaged where it isn't sparse, where its degree says more than so many, or where its
+/// chain is broken or has more relationships than its degree says. It is too where, later, the chain
+/// isn't as it was read, or what stood first at a group's head or among the groups didn't come there
+/// by this call.
 pub fn make_dense<S: Space>(space: &mut S, node: u32, threshold: u32) -> Result<(), Fault>
     requires { threshold ≤ 200 }
     ensures made { S.tells → OnOk result ((most : ℕ) (empty : List ℕ)
@@ -49,6 +51,10 @@ pub fn make_dense<S: Space>(space: &mut S, node: u32, threshold: u32) -> Result<
     ensures sound { S.tells → (most : ℕ) (empty : List ℕ)
         → CanBecomeDense (S.state space.old) node most empty
         → HasDenseRoom (S.state space.old) node threshold empty → NotDamaged result }
+    ensures damaged { S.tells → IsSparse (S.state space.old).records node
+        → (S.state space.old).shape.threshold ≤ threshold
+        → IfErr result (IsDenseFault (S.state space.old) (S.state space.new) node) }
+    ensures dense { S.tells → OnOk result (IsDense (S.state space.new).records node) }
     ensures wrote { OnOk result (WritesBeside (node_key node) (2 * (threshold + 1))
         (S.state space.old) (S.state space.new)) }
     ensures writes { WritesBeside (node_key node) (2 * (threshold + 1) + 2)
@@ -67,10 +73,14 @@ pub fn make_dense<S: Space>(space: &mut S, node: u32, threshold: u32) -> Result<
     if row.dense {
         return Err(Fault::Damaged(chain_damage(node)));
     }
+    if row.degree > threshold {
+        return Err(Fault::Damaged(degree_damage(node)));
+    }
+    test_chain(space, node, row.first, row.degree)?;
     clear(space, node)?;
     let mut moved = Moved::new();
     let mut at = row.first;
-    for _ in 0..least(row.degree, threshold) {
+    for _ in 0..row.degree {
         if at == NIL {
             return Ok(());
         }
@@ -85,24 +95,6 @@ pub fn make_dense<S: Space>(space: &mut S, node: u32, threshold: u32) -> Result<
         return Err(Fault::Damaged(rels_damage(node)));
     }
     Ok(())
-}
-
-/// The lesser of two numbers.
-fn least(a: u32, b: u32) -> u32
-    ensures { result ≡ min a b }
-{
-    if a < b { a } else { b }
-}
-
-/// The damage of a node whose relationships break their rule.
-fn rels_damage(node: u32) -> Damage
-    ensures { result ≡ rels_damage node }
-{
-    Damage {
-        file: NODES,
-        id: node,
-        rule: CHAIN_RULE,
-    }
 }
 
 /// Makes a node dense, with no group.
@@ -135,6 +127,10 @@ fn move_one<S: Space>(space: &mut S, node: u32, rel: u32) -> Result<Turn, Fault>
     ensures own { S.tells → IfOk result (λ turn. (rest : List ℕ) (most : ℕ) (empty : List ℕ)
         → IsSpread (S.state space.old) node rel (rel ∷ rest) most empty
         → IsOwnTurn (S.state space.old) (S.state space.new) node (rel ∷ rest) turn) }
+    ensures damaged { S.tells → IsDense (S.state space.old).records node
+        → IfErr result (IsMoveFault (S.state space.old) (S.state space.new) node rel) }
+    ensures dense { S.tells → IsDense (S.state space.old).records node
+        → OnOk result (IsDense (S.state space.new).records node) }
     ensures wrote { IfOk result (λ turn.
         WritesOnly (S.state space.old) (S.state space.new) (turn_keys node rel turn)) }
     ensures touches { TouchesGroups (S.state space.old) (S.state space.new) node 2 2 }
@@ -177,6 +173,9 @@ pub(crate) fn own_group<S: Space>(space: &mut S, node: u32, label: u32) -> Resul
         → own.row ≡ group_row_at (S.state space.new).records own.row.id) }
     ensures damaged { S.tells → IsDense (S.state space.old).records node
         → IfErr result (IsOpenFault (S.state space.old)) }
+    ensures dense { S.tells → IsDense (S.state space.old).records node
+        → OnOk result (IsDense (S.state space.new).records node) }
+    ensures unwritten { OnDamage result (SameButReads (S.state space.old) (S.state space.new)) }
     ensures group { S.tells → IfOk result (λ own. IsDense (S.state space.old).records node
         → (own.row.counted ≡ true) ⊎ (IsGroupAt (S.state space.new) node own.row
         × SameButReads (S.state space.old) (S.state space.new))) }

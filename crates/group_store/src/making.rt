@@ -1,4 +1,4 @@
-ghost use Rattle.std.specs.Prelude.{◌≡◌, ◌≢◌, ◌∷◌, [], ℕ, List, true, IfErr, IfOk, OnOk};
+ghost use Rattle.std.specs.Prelude.{◌≡◌, ◌≢◌, ◌∷◌, [], ℕ, List, true, IfErr, IfOk, IsErr, OnOk};
 ghost use Rattle.id_freelist.specs.Taking.{room};
 ghost use Rattle.node_store.specs.Loading.{IsReadable};
 ghost use Rattle.node_store.specs.NodeRecord.{node_key};
@@ -42,6 +42,9 @@ pub fn make_group<S: Space>(space: &mut S, node: u32, label: u32) -> Result<Grou
         → CanMake (S.state space.old) node label free xs → IsDense (S.state space.old).records node
         → (meta_of (S.state space.old) groups_file).live ≢ room (S.state space.old) groups_file
         → NotDamaged result }
+    ensures full { S.tells
+        → (meta_of (S.state space.old) groups_file).live ≡ room (S.state space.old) groups_file
+        → IsErr result }
     ensures unwritten { OnDamage result (SameButReads (S.state space.old) (S.state space.new)) }
     ensures key { IfOk result (λ row. IsKey (group_key row.id)) }
     ensures rules { S.tells → IfOk result (λ row. (rest : List ℕ) (most : ℕ) (empty : List ℕ)
@@ -84,6 +87,9 @@ pub(crate) fn make_own<S: Space>(space: &mut S, node: u32, label: u32) -> Result
         → CanMake (S.state space.old) node label free xs → IsDense (S.state space.old).records node
         → (meta_of (S.state space.old) groups_file).live ≢ room (S.state space.old) groups_file
         → NotDamaged result }
+    ensures full { S.tells
+        → (meta_of (S.state space.old) groups_file).live ≡ room (S.state space.old) groups_file
+        → IsErr result }
     ensures unwritten { OnDamage result (SameButReads (S.state space.old) (S.state space.new)) }
     ensures key { IfOk result (λ own. IsKey (group_key own.row.id)) }
     ensures counted { IfOk result (λ own. own.row.counted ≡ true) }

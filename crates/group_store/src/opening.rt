@@ -12,6 +12,7 @@ ghost use Rattle.node_store.specs.Loading.{IsReadable};
 ghost use Rattle.node_store.specs.NodeRecord.{node_key};
 ghost use Rattle.chain_edit.specs.Breaks.{IsBreakFault};
 ghost use Rattle.chain_edit.specs.Heads.{head_of, IsHead};
+ghost use Rattle.group_store.specs.Densing.{IsDenseFault, IsSparse};
 ghost use Rattle.group_store.specs.FirstGroup.{IsNodeFault};
 ghost use Rattle.group_store.specs.GroupChain.{IsDense};
 ghost use Rattle.group_store.specs.GroupRecord.{group_key};
@@ -118,6 +119,8 @@ fn open_group<S: Space>(space: &mut S, node: u32, label: u32, side: Side) -> Res
         → HasGroupRoom (S.state space.old) empty → NotDamaged result }
     ensures damaged { S.tells → IsDense (S.state space.old).records node
         → IfErr result (IsOpenFault (S.state space.old)) }
+    ensures unwritten { S.tells → IsDense (S.state space.old).records node
+        → OnDamage result (SameButReads (S.state space.old) (S.state space.new)) }
     ensures head { IfOk result (λ head. IsHead (head_of head)) }
     ensures own { IfOk result (λ head. is_meta_file head.key.file ≡ true) }
     ensures wrote { IfOk result (λ head.
@@ -154,6 +157,10 @@ pub fn open_chain<S: Space>(
         → HasGroupRoom (S.state space.old) empty → NotDamaged result }
     ensures damaged { S.tells → IsDense (S.state space.old).records node ⊎ (degree ≢ threshold)
         → IfErr result (IsOpenFault (S.state space.old)) }
+    ensures blames { S.tells → IsDense (S.state space.old).records node
+        ⊎ IsSparse (S.state space.old).records node
+        → (S.state space.old).shape.threshold ≤ threshold
+        → IfErr result (IsDenseFault (S.state space.old) (S.state space.new) node) }
     ensures head { IfOk result (λ head. IsHead (head_of head)) }
     ensures own { IfOk result (λ head. is_meta_file head.key.file ≡ true) }
     ensures wrote { IfOk result (λ head. WritesOpened (S.state space.old) (S.state space.new)

@@ -184,7 +184,7 @@ fn set_counts<S: Space>(space: &mut S, id: u32, counts: Counts) -> Result<(), Sp
 }
 
 /// The damage of a node that has more relationships than its degree says.
-fn degree_damage(node: u32) -> Damage
+pub(crate) fn degree_damage(node: u32) -> Damage
     ensures { result ≡ degree_damage node }
 {
     Damage {

@@ -1,9 +1,25 @@
-use Rattle.std.proofs.Common.{◌∙◌, ◌+◌, ◌*◌, length, ap, sym, arith}
+use Rattle.std.proofs.Common.{◌≡◌, ◌≢◌, ◌∙◌, ◌+◌, ◌*◌, length, ap, subst, sym, inl, inr, arith}
+use Rattle.rec_bytes.specs.declared.damage.Damage.{Damage}
+use Rattle.rec_bytes.specs.Fault.{of_row}
+use Rattle.rec_bytes.specs.Format.{nodes_file, sparse as sparse_kind}
+use Rattle.rec_bytes.specs.Space.{State}
+use Rattle.node_store.proofs.Rows.{kind-row_at-Some as node_row}
+use Rattle.store_rules.specs.Breaking.{Breaks}
+use Rattle.group_store.specs.Densing.{CanBecomeDense}
+use Rattle.group_store.specs.GroupChain.{IsDense}
+use Rattle.group_store.proofs.BrokenGroups.{node_fault_breaks}
+use Rattle.group_store.proofs.ChainHeads.{same_twice}
+use Rattle.group_store.proofs.DenseFaults.{broken_then, can_of, left_there, none_unused, sparse_undamaged, unmoved}
+use Rattle.group_store.proofs.DenseStays.{dense_cleared}
+use Rattle.group_store.proofs.GroupWalks.{not_damaged}
+use Rattle.group_store.proofs.Raises.{breaks_read}
+use Rattle.group_store.proofs.Seeks.{dense_is, first_is}
+use Rattle.group_store.proofs.SparseChains.{many_break, sparse_breaks}
 use Rattle.std.proofs.lemmas.Bool.{false≢true}
-use Rattle.store_rules.specs.Views.{degree}
+use Rattle.store_rules.specs.Views.{degree, first_link, kind_at}
 use Rattle.std.proofs.lemmas.Result.{err_from_is_err_and}
 use Rattle.group_store.specs.declared.moved.Turn.{Turn}
-use Rattle.group_store.proofs.FirstGroups.{only_loads_node}
+use Rattle.group_store.proofs.FirstGroups.{node_fault, only_loads_node}
 use Rattle.group_store.proofs.Comings.{come_beside, come_next, come_none, come_touches, one_longer}
 use Rattle.group_store.proofs.Touches.{node_touched, touches_beside, touches_more, touches_none, touches_then}
 use Rattle.group_store.proofs.Openings.{handed}
@@ -14,17 +30,22 @@ pub loop-init : goal.loop-init
 loop-init g c =
     let s = g.S.Reads.state c.args.space.now in
     let l = g.S.Reads.state c.load.new.space in
+    let v = g.S.Reads.state c.test_chain.new.space in
     let t = g.S.Reads.state c.clear.new.space in
-    let same = only_loads_node s l c.args.node c.load.ensures.state in
+    let same = same_twice s l v (only_loads_node s l c.args.node c.load.ensures.state) c.in_ok-test_chain.ensures.state in
     let moved = c.new-moved.ensures in
     record {
-      left = λ tells most empty can. left_all s l t c.args.node c.in-Some.row most empty c.new-moved.result.relationships.items c.new-moved.result.groups.items same (sym c.in-Some.is ∙ c.in_ok-row.ensures.found tells) (c.in_ok-clear.ensures.ok tells)
+      left = λ tells most empty can. left_all s v t c.args.node c.in-Some.row most empty c.new-moved.result.relationships.items c.new-moved.result.groups.items same (sym c.in-Some.is ∙ c.in_ok-row.ensures.found tells) (c.in_ok-clear.ensures.ok tells)
           moved.relationships moved.groups can;
-      writes = come_none s l t c.args.node c.new-moved.result.relationships.items c.new-moved.result.groups.items same c.in_ok-clear.ensures.writes;
+      dense = λ tells.
+          let used = (node_row s.records c.args.node c.in-Some.row (sym (sym c.in-Some.is ∙ c.in_ok-row.ensures.found tells))).0 in
+          subst (λ (q : State). IsDense q.records c.args.node) (sym (c.in_ok-clear.ensures.ok tells))
+          (dense_cleared v c.args.node (subst (λ (q : State). kind_at q.records nodes_file c.args.node ≢ 0) (sym same) used));
+      writes = come_none s v t c.args.node c.new-moved.result.relationships.items c.new-moved.result.groups.items same c.in_ok-clear.ensures.writes;
       rels = ap length moved.relationships;
       groups = ap length moved.groups;
-      onward = g.met.S.Reads.further_onward c.args.space.now c.load.new.space c.clear.new.space c.load.ensures.onward c.in_ok-clear.ensures.onward;
-      later = let first = c.load.ensures.cause in let then = c.in_ok-clear.ensures.cause in omega (arith, first.later, then.later);
+      onward = g.met.S.Reads.further_onward c.args.space.now c.test_chain.new.space c.clear.new.space (g.met.S.Reads.further_onward c.args.space.now c.load.new.space c.test_chain.new.space c.load.ensures.onward c.in_ok-test_chain.ensures.onward) c.in_ok-clear.ensures.onward;
+      later = let first = c.load.ensures.cause in let next = c.in_ok-test_chain.ensures.cause in let then = c.in_ok-clear.ensures.cause in omega (arith, first.later, next.later, then.later);
     }
 
 pub loop-preserved : goal.loop-preserved
@@ -41,6 +62,7 @@ loop-preserved g c =
     record {
       left = λ tells most empty can. left_next s now end c.args.node c.loop.at c.loop.counter most empty came groups turn c.if-at.false (c.in_ok-turn.ensures.own tells) (was.left tells most empty can) xs ys
           c.note.ensures.relationships c.note.ensures.groups (c.in_ok-turn.ensures.moved tells);
+      dense = λ tells. c.in_ok-turn.ensures.dense tells (was.dense tells);
       writes = come_next s now end c.args.node c.loop.at turn came groups xs ys was.writes c.in_ok-turn.ensures.wrote (c.note.ensures.known.0 c.if-not-note.false) c.note.ensures.relationships c.note.ensures.groups;
       rels = one_longer c.loop.at c.loop.counter came xs c.note.ensures.relationships was.rels;
       groups = one_longer turn.group c.loop.counter groups ys c.note.ensures.groups was.groups;
@@ -52,86 +74,86 @@ loop-preserved g c =
 
 pub returns-in_err-turn-clause-writes : goal.returns-in_err-turn-clause-writes
 returns-in_err-turn-clause-writes g c =
-    touches_beside (g.S.Reads.state c.args.space.now) (g.S.Reads.state c.move_one.new.space) c.args.node (c.loop.counter + 1 + 2) (c.loop.counter + 1 + 2) (2 * (c.args.threshold + 1) + 2) (omega (arith, c.loop-test.true, c.least-end.ensures))
+    touches_beside (g.S.Reads.state c.args.space.now) (g.S.Reads.state c.move_one.new.space) c.args.node (c.loop.counter + 1 + 2) (c.loop.counter + 1 + 2) (2 * (c.args.threshold + 1) + 2) (omega (arith, c.loop-test.true, c.if-row-threshold.false))
     (touches_then (g.S.Reads.state c.args.space.now) (g.S.Reads.state c.loop.space) (g.S.Reads.state c.move_one.new.space) c.args.node (c.loop.counter + 1) (c.loop.counter + 1) 2 2 (come_touches (g.S.Reads.state c.args.space.now) (g.S.Reads.state c.loop.space) c.args.node c.loop.counter (c.loop.counter + 1) c.loop.moved.relationships.items c.loop.moved.groups.items c.loop.invariant.rels c.loop.invariant.groups (omega arith) c.loop.invariant.writes) c.in_err-turn.ensures.touches)
 
 pub returns-in_err-turn-clause-touches : goal.returns-in_err-turn-clause-touches
 returns-in_err-turn-clause-touches g c =
-    touches_more (g.S.Reads.state c.args.space.now) (g.S.Reads.state c.move_one.new.space) c.args.node (c.loop.counter + 1 + 2) (c.loop.counter + 1 + 2) (c.args.threshold + 2) (c.args.threshold + 2) (omega (arith, c.loop-test.true, c.least-end.ensures)) (omega (arith, c.loop-test.true, c.least-end.ensures))
+    touches_more (g.S.Reads.state c.args.space.now) (g.S.Reads.state c.move_one.new.space) c.args.node (c.loop.counter + 1 + 2) (c.loop.counter + 1 + 2) (c.args.threshold + 2) (c.args.threshold + 2) (omega (arith, c.loop-test.true, c.if-row-threshold.false)) (omega (arith, c.loop-test.true, c.if-row-threshold.false))
     (touches_then (g.S.Reads.state c.args.space.now) (g.S.Reads.state c.loop.space) (g.S.Reads.state c.move_one.new.space) c.args.node (c.loop.counter + 1) (c.loop.counter + 1) 2 2 (come_touches (g.S.Reads.state c.args.space.now) (g.S.Reads.state c.loop.space) c.args.node c.loop.counter (c.loop.counter + 1) c.loop.moved.relationships.items c.loop.moved.groups.items c.loop.invariant.rels c.loop.invariant.groups (omega arith) c.loop.invariant.writes) c.in_err-turn.ensures.touches)
 
 pub returns-in_err-turn-clause-few : goal.returns-in_err-turn-clause-few
 returns-in_err-turn-clause-few g c = λ tells.
     let e = row_degree (g.S.Reads.state c.args.space.now) c.args.node c.in-Some.row (sym c.in-Some.is ∙ c.in_ok-row.ensures.found tells) in
     let most = degree (g.S.Reads.state c.args.space.now).records c.args.node + 2 in
-    touches_more (g.S.Reads.state c.args.space.now) (g.S.Reads.state c.move_one.new.space) c.args.node (c.loop.counter + 1 + 2) (c.loop.counter + 1 + 2) most most (omega (arith, c.loop-test.true, c.least-end.ensures, e)) (omega (arith, c.loop-test.true, c.least-end.ensures, e))
+    touches_more (g.S.Reads.state c.args.space.now) (g.S.Reads.state c.move_one.new.space) c.args.node (c.loop.counter + 1 + 2) (c.loop.counter + 1 + 2) most most (omega (arith, c.loop-test.true, c.if-row-threshold.false, e)) (omega (arith, c.loop-test.true, c.if-row-threshold.false, e))
     (touches_then (g.S.Reads.state c.args.space.now) (g.S.Reads.state c.loop.space) (g.S.Reads.state c.move_one.new.space) c.args.node (c.loop.counter + 1) (c.loop.counter + 1) 2 2 (come_touches (g.S.Reads.state c.args.space.now) (g.S.Reads.state c.loop.space) c.args.node c.loop.counter (c.loop.counter + 1) c.loop.moved.relationships.items c.loop.moved.groups.items c.loop.invariant.rels c.loop.invariant.groups (omega arith) c.loop.invariant.writes) c.in_err-turn.ensures.touches)
 
 pub returns-then-not-note-clause-writes : goal.returns-then-not-note-clause-writes
 returns-then-not-note-clause-writes g c =
-    touches_beside (g.S.Reads.state c.args.space.now) (g.S.Reads.state c.move_one.new.space) c.args.node (c.loop.counter + 1 + 2) (c.loop.counter + 1 + 2) (2 * (c.args.threshold + 1) + 2) (omega (arith, c.loop-test.true, c.least-end.ensures))
+    touches_beside (g.S.Reads.state c.args.space.now) (g.S.Reads.state c.move_one.new.space) c.args.node (c.loop.counter + 1 + 2) (c.loop.counter + 1 + 2) (2 * (c.args.threshold + 1) + 2) (omega (arith, c.loop-test.true, c.if-row-threshold.false))
     (touches_then (g.S.Reads.state c.args.space.now) (g.S.Reads.state c.loop.space) (g.S.Reads.state c.move_one.new.space) c.args.node (c.loop.counter + 1) (c.loop.counter + 1) 2 2 (come_touches (g.S.Reads.state c.args.space.now) (g.S.Reads.state c.loop.space) c.args.node c.loop.counter (c.loop.counter + 1) c.loop.moved.relationships.items c.loop.moved.groups.items c.loop.invariant.rels c.loop.invariant.groups (omega arith) c.loop.invariant.writes) c.in_ok-turn.ensures.touches)
 
 pub returns-then-not-note-clause-touches : goal.returns-then-not-note-clause-touches
 returns-then-not-note-clause-touches g c =
-    touches_more (g.S.Reads.state c.args.space.now) (g.S.Reads.state c.move_one.new.space) c.args.node (c.loop.counter + 1 + 2) (c.loop.counter + 1 + 2) (c.args.threshold + 2) (c.args.threshold + 2) (omega (arith, c.loop-test.true, c.least-end.ensures)) (omega (arith, c.loop-test.true, c.least-end.ensures))
+    touches_more (g.S.Reads.state c.args.space.now) (g.S.Reads.state c.move_one.new.space) c.args.node (c.loop.counter + 1 + 2) (c.loop.counter + 1 + 2) (c.args.threshold + 2) (c.args.threshold + 2) (omega (arith, c.loop-test.true, c.if-row-threshold.false)) (omega (arith, c.loop-test.true, c.if-row-threshold.false))
     (touches_then (g.S.Reads.state c.args.space.now) (g.S.Reads.state c.loop.space) (g.S.Reads.state c.move_one.new.space) c.args.node (c.loop.counter + 1) (c.loop.counter + 1) 2 2 (come_touches (g.S.Reads.state c.args.space.now) (g.S.Reads.state c.loop.space) c.args.node c.loop.counter (c.loop.counter + 1) c.loop.moved.relationships.items c.loop.moved.groups.items c.loop.invariant.rels c.loop.invariant.groups (omega arith) c.loop.invariant.writes) c.in_ok-turn.ensures.touches)
 
 pub returns-then-not-note-clause-few : goal.returns-then-not-note-clause-few
 returns-then-not-note-clause-few g c = λ tells.
     let e = row_degree (g.S.Reads.state c.args.space.now) c.args.node c.in-Some.row (sym c.in-Some.is ∙ c.in_ok-row.ensures.found tells) in
     let most = degree (g.S.Reads.state c.args.space.now).records c.args.node + 2 in
-    touches_more (g.S.Reads.state c.args.space.now) (g.S.Reads.state c.move_one.new.space) c.args.node (c.loop.counter + 1 + 2) (c.loop.counter + 1 + 2) most most (omega (arith, c.loop-test.true, c.least-end.ensures, e)) (omega (arith, c.loop-test.true, c.least-end.ensures, e))
+    touches_more (g.S.Reads.state c.args.space.now) (g.S.Reads.state c.move_one.new.space) c.args.node (c.loop.counter + 1 + 2) (c.loop.counter + 1 + 2) most most (omega (arith, c.loop-test.true, c.if-row-threshold.false, e)) (omega (arith, c.loop-test.true, c.if-row-threshold.false, e))
     (touches_then (g.S.Reads.state c.args.space.now) (g.S.Reads.state c.loop.space) (g.S.Reads.state c.move_one.new.space) c.args.node (c.loop.counter + 1) (c.loop.counter + 1) 2 2 (come_touches (g.S.Reads.state c.args.space.now) (g.S.Reads.state c.loop.space) c.args.node c.loop.counter (c.loop.counter + 1) c.loop.moved.relationships.items c.loop.moved.groups.items c.loop.invariant.rels c.loop.invariant.groups (omega arith) c.loop.invariant.writes) c.in_ok-turn.ensures.touches)
 
 pub returns-then-at-clause-wrote : goal.returns-then-at-clause-wrote
 returns-then-at-clause-wrote g c =
     let was = c.loop.invariant in
-    come_beside (g.S.Reads.state c.args.space.now) (g.S.Reads.state c.loop.space) c.args.node c.loop.counter _ _ _ was.rels was.groups (omega (arith, c.loop-test.true, c.least-end.ensures)) was.writes
+    come_beside (g.S.Reads.state c.args.space.now) (g.S.Reads.state c.loop.space) c.args.node c.loop.counter _ _ _ was.rels was.groups (omega (arith, c.loop-test.true, c.if-row-threshold.false)) was.writes
 
 pub returns-then-at-clause-writes : goal.returns-then-at-clause-writes
 returns-then-at-clause-writes g c =
     let was = c.loop.invariant in
-    come_beside (g.S.Reads.state c.args.space.now) (g.S.Reads.state c.loop.space) c.args.node c.loop.counter _ _ _ was.rels was.groups (omega (arith, c.loop-test.true, c.least-end.ensures)) was.writes
+    come_beside (g.S.Reads.state c.args.space.now) (g.S.Reads.state c.loop.space) c.args.node c.loop.counter _ _ _ was.rels was.groups (omega (arith, c.loop-test.true, c.if-row-threshold.false)) was.writes
 
 pub returns-then-at-clause-touches : goal.returns-then-at-clause-touches
-returns-then-at-clause-touches g c = come_touches (g.S.Reads.state c.args.space.now) (g.S.Reads.state c.loop.space) c.args.node c.loop.counter (c.args.threshold + 2) c.loop.moved.relationships.items c.loop.moved.groups.items c.loop.invariant.rels c.loop.invariant.groups (omega (arith, c.loop-test.true, c.least-end.ensures)) c.loop.invariant.writes
+returns-then-at-clause-touches g c = come_touches (g.S.Reads.state c.args.space.now) (g.S.Reads.state c.loop.space) c.args.node c.loop.counter (c.args.threshold + 2) c.loop.moved.relationships.items c.loop.moved.groups.items c.loop.invariant.rels c.loop.invariant.groups (omega (arith, c.loop-test.true, c.if-row-threshold.false)) c.loop.invariant.writes
 
 pub returns-then-at-clause-few : goal.returns-then-at-clause-few
 returns-then-at-clause-few g c = λ tells.
     let e = row_degree (g.S.Reads.state c.args.space.now) c.args.node c.in-Some.row (sym c.in-Some.is ∙ c.in_ok-row.ensures.found tells) in
-    come_touches (g.S.Reads.state c.args.space.now) (g.S.Reads.state c.loop.space) c.args.node c.loop.counter (degree (g.S.Reads.state c.args.space.now).records c.args.node + 2) c.loop.moved.relationships.items c.loop.moved.groups.items c.loop.invariant.rels c.loop.invariant.groups (omega (arith, c.loop-test.true, c.least-end.ensures, e)) c.loop.invariant.writes
+    come_touches (g.S.Reads.state c.args.space.now) (g.S.Reads.state c.loop.space) c.args.node c.loop.counter (degree (g.S.Reads.state c.args.space.now).records c.args.node + 2) c.loop.moved.relationships.items c.loop.moved.groups.items c.loop.invariant.rels c.loop.invariant.groups (omega (arith, c.loop-test.true, c.if-row-threshold.false, e)) c.loop.invariant.writes
 
 pub returns-clause-wrote : goal.returns-clause-wrote
 returns-clause-wrote g c =
     let was = c.loop.invariant in
-    come_beside (g.S.Reads.state c.args.space.now) (g.S.Reads.state c.loop.space) c.args.node c.loop.counter _ _ _ was.rels was.groups (omega (arith, c.loop.auto.counter-end, c.least-end.ensures)) was.writes
+    come_beside (g.S.Reads.state c.args.space.now) (g.S.Reads.state c.loop.space) c.args.node c.loop.counter _ _ _ was.rels was.groups (omega (arith, c.loop.auto.counter-end, c.if-row-threshold.false)) was.writes
 
 pub returns-clause-writes : goal.returns-clause-writes
 returns-clause-writes g c =
     let was = c.loop.invariant in
-    come_beside (g.S.Reads.state c.args.space.now) (g.S.Reads.state c.loop.space) c.args.node c.loop.counter _ _ _ was.rels was.groups (omega (arith, c.loop.auto.counter-end, c.least-end.ensures)) was.writes
+    come_beside (g.S.Reads.state c.args.space.now) (g.S.Reads.state c.loop.space) c.args.node c.loop.counter _ _ _ was.rels was.groups (omega (arith, c.loop.auto.counter-end, c.if-row-threshold.false)) was.writes
 
 pub returns-clause-touches : goal.returns-clause-touches
-returns-clause-touches g c = come_touches (g.S.Reads.state c.args.space.now) (g.S.Reads.state c.loop.space) c.args.node c.loop.counter (c.args.threshold + 2) c.loop.moved.relationships.items c.loop.moved.groups.items c.loop.invariant.rels c.loop.invariant.groups (omega (arith, c.loop.auto.counter-end, c.least-end.ensures)) c.loop.invariant.writes
+returns-clause-touches g c = come_touches (g.S.Reads.state c.args.space.now) (g.S.Reads.state c.loop.space) c.args.node c.loop.counter (c.args.threshold + 2) c.loop.moved.relationships.items c.loop.moved.groups.items c.loop.invariant.rels c.loop.invariant.groups (omega (arith, c.loop.auto.counter-end, c.if-row-threshold.false)) c.loop.invariant.writes
 
 pub returns-clause-few : goal.returns-clause-few
 returns-clause-few g c = λ tells.
     let e = row_degree (g.S.Reads.state c.args.space.now) c.args.node c.in-Some.row (sym c.in-Some.is ∙ c.in_ok-row.ensures.found tells) in
-    come_touches (g.S.Reads.state c.args.space.now) (g.S.Reads.state c.loop.space) c.args.node c.loop.counter (degree (g.S.Reads.state c.args.space.now).records c.args.node + 2) c.loop.moved.relationships.items c.loop.moved.groups.items c.loop.invariant.rels c.loop.invariant.groups (omega (arith, c.loop.auto.counter-end, c.least-end.ensures, e)) c.loop.invariant.writes
+    come_touches (g.S.Reads.state c.args.space.now) (g.S.Reads.state c.loop.space) c.args.node c.loop.counter (degree (g.S.Reads.state c.args.space.now).records c.args.node + 2) c.loop.moved.relationships.items c.loop.moved.groups.items c.loop.invariant.rels c.loop.invariant.groups (omega (arith, c.loop.auto.counter-end, c.if-row-threshold.false, e)) c.loop.invariant.writes
 
 pub returns-then-at-2-clause-writes : goal.returns-then-at-2-clause-writes
 returns-then-at-2-clause-writes g c =
     let was = c.loop.invariant in
-    come_beside (g.S.Reads.state c.args.space.now) (g.S.Reads.state c.loop.space) c.args.node c.loop.counter _ _ _ was.rels was.groups (omega (arith, c.loop.auto.counter-end, c.least-end.ensures)) was.writes
+    come_beside (g.S.Reads.state c.args.space.now) (g.S.Reads.state c.loop.space) c.args.node c.loop.counter _ _ _ was.rels was.groups (omega (arith, c.loop.auto.counter-end, c.if-row-threshold.false)) was.writes
 
 pub returns-then-at-2-clause-touches : goal.returns-then-at-2-clause-touches
-returns-then-at-2-clause-touches g c = come_touches (g.S.Reads.state c.args.space.now) (g.S.Reads.state c.loop.space) c.args.node c.loop.counter (c.args.threshold + 2) c.loop.moved.relationships.items c.loop.moved.groups.items c.loop.invariant.rels c.loop.invariant.groups (omega (arith, c.loop.auto.counter-end, c.least-end.ensures)) c.loop.invariant.writes
+returns-then-at-2-clause-touches g c = come_touches (g.S.Reads.state c.args.space.now) (g.S.Reads.state c.loop.space) c.args.node c.loop.counter (c.args.threshold + 2) c.loop.moved.relationships.items c.loop.moved.groups.items c.loop.invariant.rels c.loop.invariant.groups (omega (arith, c.loop.auto.counter-end, c.if-row-threshold.false)) c.loop.invariant.writes
 
 pub returns-then-at-2-clause-few : goal.returns-then-at-2-clause-few
 returns-then-at-2-clause-few g c = λ tells.
     let e = row_degree (g.S.Reads.state c.args.space.now) c.args.node c.in-Some.row (sym c.in-Some.is ∙ c.in_ok-row.ensures.found tells) in
-    come_touches (g.S.Reads.state c.args.space.now) (g.S.Reads.state c.loop.space) c.args.node c.loop.counter (degree (g.S.Reads.state c.args.space.now).records c.args.node + 2) c.loop.moved.relationships.items c.loop.moved.groups.items c.loop.invariant.rels c.loop.invariant.groups (omega (arith, c.loop.auto.counter-end, c.least-end.ensures, e)) c.loop.invariant.writes
+    come_touches (g.S.Reads.state c.args.space.now) (g.S.Reads.state c.loop.space) c.args.node c.loop.counter (degree (g.S.Reads.state c.args.space.now).records c.args.node + 2) c.loop.moved.relationships.items c.loop.moved.groups.items c.loop.invariant.rels c.loop.invariant.groups (omega (arith, c.loop.auto.counter-end, c.if-row-threshold.false, e)) c.loop.invariant.writes
 
 pub returns-in_err-row-clause-touches : goal.returns-in_err-row-clause-touches
 returns-in_err-row-clause-touches g c = touches_none (g.S.Reads.state c.args.space.now) (g.S.Reads.state c.load.new.space) c.args.node _ _ (only_loads_node (g.S.Reads.state c.args.space.now) (g.S.Reads.state c.load.new.space) c.args.node c.load.ensures.state)
@@ -152,10 +174,38 @@ pub returns-then-row-clause-few : goal.returns-then-row-clause-few
 returns-then-row-clause-few g c = λ tells. touches_none (g.S.Reads.state c.args.space.now) (g.S.Reads.state c.load.new.space) c.args.node _ _ (only_loads_node (g.S.Reads.state c.args.space.now) (g.S.Reads.state c.load.new.space) c.args.node c.load.ensures.state)
 
 pub returns-in_err-clear-clause-touches : goal.returns-in_err-clear-clause-touches
-returns-in_err-clear-clause-touches g c = node_touched (g.S.Reads.state c.args.space.now) (g.S.Reads.state c.load.new.space) (g.S.Reads.state c.clear.new.space) c.args.node _ _ (only_loads_node (g.S.Reads.state c.args.space.now) (g.S.Reads.state c.load.new.space) c.args.node c.load.ensures.state) c.in_err-clear.ensures.writes
+returns-in_err-clear-clause-touches g c =
+    let s = g.S.Reads.state c.args.space.now in
+    let l = g.S.Reads.state c.load.new.space in
+    let v = g.S.Reads.state c.test_chain.new.space in
+    node_touched s v (g.S.Reads.state c.clear.new.space) c.args.node _ _ (same_twice s l v (only_loads_node s l c.args.node c.load.ensures.state) c.in_ok-test_chain.ensures.state) c.in_err-clear.ensures.writes
 
 pub returns-in_err-clear-clause-few : goal.returns-in_err-clear-clause-few
-returns-in_err-clear-clause-few g c = λ tells. node_touched (g.S.Reads.state c.args.space.now) (g.S.Reads.state c.load.new.space) (g.S.Reads.state c.clear.new.space) c.args.node _ _ (only_loads_node (g.S.Reads.state c.args.space.now) (g.S.Reads.state c.load.new.space) c.args.node c.load.ensures.state) c.in_err-clear.ensures.writes
+returns-in_err-clear-clause-few g c = λ tells.
+    let s = g.S.Reads.state c.args.space.now in
+    let l = g.S.Reads.state c.load.new.space in
+    let v = g.S.Reads.state c.test_chain.new.space in
+    node_touched s v (g.S.Reads.state c.clear.new.space) c.args.node _ _ (same_twice s l v (only_loads_node s l c.args.node c.load.ensures.state) c.in_ok-test_chain.ensures.state) c.in_err-clear.ensures.writes
+
+pub returns-in_err-test_chain-clause-touches : goal.returns-in_err-test_chain-clause-touches
+returns-in_err-test_chain-clause-touches g c =
+    let s = g.S.Reads.state c.args.space.now in
+    let l = g.S.Reads.state c.load.new.space in
+    let v = g.S.Reads.state c.test_chain.new.space in
+    touches_none s v c.args.node _ _ (same_twice s l v (only_loads_node s l c.args.node c.load.ensures.state) c.in_err-test_chain.ensures.state)
+
+pub returns-in_err-test_chain-clause-few : goal.returns-in_err-test_chain-clause-few
+returns-in_err-test_chain-clause-few g c = λ tells.
+    let s = g.S.Reads.state c.args.space.now in
+    let l = g.S.Reads.state c.load.new.space in
+    let v = g.S.Reads.state c.test_chain.new.space in
+    touches_none s v c.args.node _ _ (same_twice s l v (only_loads_node s l c.args.node c.load.ensures.state) c.in_err-test_chain.ensures.state)
+
+pub returns-then-row-threshold-clause-touches : goal.returns-then-row-threshold-clause-touches
+returns-then-row-threshold-clause-touches g c = touches_none (g.S.Reads.state c.args.space.now) (g.S.Reads.state c.load.new.space) c.args.node _ _ (only_loads_node (g.S.Reads.state c.args.space.now) (g.S.Reads.state c.load.new.space) c.args.node c.load.ensures.state)
+
+pub returns-then-row-threshold-clause-few : goal.returns-then-row-threshold-clause-few
+returns-then-row-threshold-clause-few g c = λ tells. touches_none (g.S.Reads.state c.args.space.now) (g.S.Reads.state c.load.new.space) c.args.node _ _ (only_loads_node (g.S.Reads.state c.args.space.now) (g.S.Reads.state c.load.new.space) c.args.node c.load.ensures.state)
 
 -- ---- what it does
 
@@ -191,4 +241,97 @@ pub returns-then-at-2-clause-sound : goal.returns-then-at-2-clause-sound
 returns-then-at-2-clause-sound g c = λ tells most empty can room.
     let e = row_degree (g.S.Reads.state c.args.space.now) c.args.node c.in-Some.row (sym c.in-Some.is ∙ c.in_ok-row.ensures.found tells) in
     none_over (g.S.Reads.state c.args.space.now) (g.S.Reads.state c.loop.space) c.args.node c.loop.at c.loop.counter most empty c.loop.moved.relationships.items c.loop.moved.groups.items c.if-at-2.true
-    (c.loop.invariant.left tells most empty can) (omega (arith, c.loop-test.false, c.least-end.ensures, e, room.few))
+    (c.loop.invariant.left tells most empty can) (omega (arith, c.loop-test.false, c.if-row-threshold.false, e, room.few))
+
+pub returns-then-row-threshold-clause-sound : goal.returns-then-row-threshold-clause-sound
+returns-then-row-threshold-clause-sound g c = λ tells most empty can room.
+    let e = row_degree (g.S.Reads.state c.args.space.now) c.args.node c.in-Some.row (sym c.in-Some.is ∙ c.in_ok-row.ensures.found tells) in
+    omega (arith, c.if-row-threshold.true, e, room.few)
+
+pub returns-in_err-test_chain-clause-sound : goal.returns-in_err-test_chain-clause-sound
+returns-in_err-test_chain-clause-sound g c = λ tells most empty can room.
+    let s = g.S.Reads.state c.args.space.now in
+    let l = g.S.Reads.state c.load.new.space in
+    let same = only_loads_node s l c.args.node c.load.ensures.state in
+    let found = sym c.in-Some.is ∙ c.in_ok-row.ensures.found tells in
+    let p = err_from_is_err_and c.from_residual-in_err-test_chain.result c.from_residual-in_err-test_chain.ensures.1 in
+    rw (p.1, p.2) (not_damaged Unit c.in_err-test_chain.field-0.0 (sparse_undamaged l c.args.node c.in-Some.row.degree most empty
+    (subst (λ (q : State). c.in-Some.row.degree ≡ degree q.records c.args.node) (sym same) (row_degree s c.args.node c.in-Some.row found))
+    (subst (λ (q : State). CanBecomeDense q c.args.node most empty) (sym same) (can_of s l.reads c.args.node most empty can)) c.in_err-test_chain.field-0.0
+    (c.in_err-test_chain.ensures.damaged tells (subst (λ (q : State). c.in-Some.row.first ≡ first_link q.records c.args.node) (sym same) (first_is s.records c.args.node c.in-Some.row found)))))
+
+-- ---- damage
+
+pub returns-in_err-row-clause-damaged : goal.returns-in_err-row-clause-damaged
+returns-in_err-row-clause-damaged g c = λ tells sparse le.
+    let s = g.S.Reads.state c.args.space.now in
+    let l = g.S.Reads.state c.load.new.space in
+    let fault = of_row c.in_err-row.field-0.0 in
+    let p = err_from_is_err_and c.from_residual.result c.from_residual.ensures.1 in
+    rw (p.1, p.2) (broken_then s l c.args.node fault (node_fault_breaks s c.args.node fault (node_fault s c.args.node c.in_err-row.field-0.0 (c.in_err-row.ensures.damaged tells))))
+
+pub returns-in_default-clause-damaged : goal.returns-in_default-clause-damaged
+returns-in_default-clause-damaged g c = λ tells sparse le.
+    absurd (none_unused (g.S.Reads.state c.args.space.now) c.args.node (sym c.in_default.is ∙ c.in_ok-row.ensures.found tells) (λ e. let z = sym e ∙ sparse in omega arith))
+
+pub returns-then-row-clause-damaged : goal.returns-then-row-clause-damaged
+returns-then-row-clause-damaged g c = λ tells sparse le.
+    let d = dense_is (g.S.Reads.state c.args.space.now).records c.args.node c.in-Some.row (sym c.in-Some.is ∙ c.in_ok-row.ensures.found tells) c.if-row.true in
+    absurd (let z = sym sparse ∙ d in omega arith)
+
+pub returns-then-row-threshold-clause-damaged : goal.returns-then-row-threshold-clause-damaged
+returns-then-row-threshold-clause-damaged g c = λ tells sparse le.
+    let s = g.S.Reads.state c.args.space.now in
+    let e = row_degree s c.args.node c.in-Some.row (sym c.in-Some.is ∙ c.in_ok-row.ensures.found tells) in
+    inl (subst (λ (d : Damage). Breaks s.records s.shape d) (sym c.degree_damage.ensures) (many_break s c.args.node sparse c.args.threshold le (omega (arith, c.if-row-threshold.true, e))))
+
+pub returns-in_err-test_chain-clause-damaged : goal.returns-in_err-test_chain-clause-damaged
+returns-in_err-test_chain-clause-damaged g c = λ tells sparse le.
+    let s = g.S.Reads.state c.args.space.now in
+    let l = g.S.Reads.state c.load.new.space in
+    let v = g.S.Reads.state c.test_chain.new.space in
+    let same = only_loads_node s l c.args.node c.load.ensures.state in
+    let found = sym c.in-Some.is ∙ c.in_ok-row.ensures.found tells in
+    let fault = c.in_err-test_chain.field-0.0 in
+    let p = err_from_is_err_and c.from_residual-in_err-test_chain.result c.from_residual-in_err-test_chain.ensures.1 in
+    rw (p.1, p.2) (broken_then s v c.args.node fault (breaks_read s l same fault (sparse_breaks l c.args.node (subst (λ (q : State). kind_at q.records nodes_file c.args.node ≡ sparse_kind) (sym same) sparse) c.in-Some.row.degree
+    (subst (λ (q : State). c.in-Some.row.degree ≡ degree q.records c.args.node) (sym same) (row_degree s c.args.node c.in-Some.row found)) fault
+    (c.in_err-test_chain.ensures.damaged tells (subst (λ (q : State). c.in-Some.row.first ≡ first_link q.records c.args.node) (sym same) (first_is s.records c.args.node c.in-Some.row found))))))
+
+pub returns-in_err-turn-clause-damaged : goal.returns-in_err-turn-clause-damaged
+returns-in_err-turn-clause-damaged g c = λ tells sparse le.
+    let s = g.S.Reads.state c.args.space.now in
+    let now = g.S.Reads.state c.loop.space in
+    let was = c.loop.invariant in
+    let p = err_from_is_err_and c.from_residual-in_err-turn.result c.from_residual-in_err-turn.ensures.1 in
+    rw (p.1, p.2) (unmoved s now (g.S.Reads.state c.move_one.new.space) c.args.node c.loop.at c.in_err-turn.field-0.0 (c.in_err-turn.ensures.damaged tells (was.dense tells))
+    (λ none most empty can. left_there s now c.args.node c.loop.at c.loop.counter most empty c.loop.moved.relationships.items c.loop.moved.groups.items c.if-at.false (was.left tells most empty can) none))
+
+pub returns-then-not-note-clause-damaged : goal.returns-then-not-note-clause-damaged
+returns-then-not-note-clause-damaged g c = λ tells sparse le.
+    let s = g.S.Reads.state c.args.space.now in
+    let now = g.S.Reads.state c.loop.space in
+    let end = g.S.Reads.state c.move_one.new.space in
+    inr (inr (
+      c.rels_damage.ensures,
+      λ most empty can.
+          false≢true (sym c.if-not-note.true ∙ c.note.ensures.known.1 (turn_known s now end c.args.node c.loop.at c.loop.counter most empty c.loop.moved.relationships.items c.loop.moved.groups.items c.in_ok-turn.turn c.if-at.false
+          (c.in_ok-turn.ensures.own tells) (c.loop.invariant.left tells most empty can))),
+    ))
+
+pub returns-then-at-2-clause-damaged : goal.returns-then-at-2-clause-damaged
+returns-then-at-2-clause-damaged g c = λ tells sparse le.
+    let s = g.S.Reads.state c.args.space.now in
+    let e = row_degree s c.args.node c.in-Some.row (sym c.in-Some.is ∙ c.in_ok-row.ensures.found tells) in
+    inr (inr (
+      c.rels_damage-then-at-2.ensures,
+      λ most empty can.
+          none_over s (g.S.Reads.state c.loop.space) c.args.node c.loop.at c.loop.counter most empty c.loop.moved.relationships.items c.loop.moved.groups.items c.if-at-2.true
+          (c.loop.invariant.left tells most empty can) (omega (arith, c.loop-test.false, e)),
+    ))
+
+pub returns-then-at-clause-dense : goal.returns-then-at-clause-dense
+returns-then-at-clause-dense g c = λ tells. c.loop.invariant.dense tells
+
+pub returns-clause-dense : goal.returns-clause-dense
+returns-clause-dense g c = λ tells. c.loop.invariant.dense tells

@@ -1,4 +1,4 @@
-use Rattle.std.proofs.Common.{◌≡◌, ◌∷◌, [], ◌∙◌, ℕ, ap, subst, sym, arith}
+use Rattle.std.proofs.Common.{◌≡◌, ◌∷◌, [], ◌∙◌, ℕ, ap, subst, sym, inr, arith}
 use Rattle.rec_bytes.specs.Format.{groups_file}
 use Rattle.rec_bytes.specs.RecordFiles.{meta_key_of}
 use Rattle.rec_bytes.specs.Space.{State, WritesOnly}
@@ -10,7 +10,9 @@ use Rattle.group_store.specs.declared.side.Side.{Side}
 use Rattle.group_store.specs.GroupRecord.{group_key}
 use Rattle.group_store.specs.Sides.{group_head}
 use Rattle.std.proofs.lemmas.Result.{err_from_is_err_and}
-use Rattle.rel_store.proofs.Rows.{IsReadable-AreInRange}
+use Rattle.rel_store.proofs.Rows.{IsReadable-AreInRange, rel_at-None}
+use Rattle.group_store.proofs.DenseFaults.{no_own, no_push, unread}
+use Rattle.group_store.proofs.DenseStays.{dense_moved}
 use Rattle.group_store.specs.GroupChain.{IsDense}
 use Rattle.rec_bytes.specs.Fault.{of_row}
 use Rattle.group_store.proofs.GroupWalks.{not_damaged_at}
@@ -142,3 +144,40 @@ returns-in_err-first-clause-sound g c = λ tells rest most empty spread room.
     (push_right s l (g.S.Reads.state c.own_group.new.space) c.args.node c.args.rel c.in-Some.row c.in_ok-own.own.row.id (only_loads s l c.args.rel c.load.ensures.state) (sym c.in-Some.is ∙ c.in_ok-row.ensures.found tells)
     (c.in_ok-own.ensures.opened tells) rest most empty spread t (head_of c.group_head-head.result) (c.in_ok-free_previous.ensures.ok tells)
     (c.group_head-head.ensures.is ∙ ap (λ (side : Side). group_head c.in_ok-own.own.row.id side) c.at.ensures))))
+
+-- ---- damage
+
+pub returns-in_err-row-clause-damaged : goal.returns-in_err-row-clause-damaged
+returns-in_err-row-clause-damaged g c = λ tells dense.
+    let s = g.S.Reads.state c.args.space.now in
+    let l = g.S.Reads.state c.load.new.space in
+    let p = err_from_is_err_and c.from_residual.result c.from_residual.ensures.1 in
+    rw (p.1, p.2) (unread s l c.args.node c.args.rel (only_loads s l c.args.rel c.load.ensures.state) c.in_err-row.field-0.0 (c.in_err-row.ensures.damaged tells))
+
+pub returns-in_default-clause-damaged : goal.returns-in_default-clause-damaged
+returns-in_default-clause-damaged g c = λ tells dense.
+    inr (c.rels_damage.ensures, rel_at-None (g.S.Reads.state c.args.space.now).records c.args.rel (sym (c.in_ok-row.ensures.found tells) ∙ c.in_default.is))
+
+pub returns-in_err-own-clause-damaged : goal.returns-in_err-own-clause-damaged
+returns-in_err-own-clause-damaged g c = λ tells dense.
+    let s = g.S.Reads.state c.args.space.now in
+    let l = g.S.Reads.state c.load.new.space in
+    let dense_l = subst (λ (q : State). IsDense q.records c.args.node) (sym (only_loads s l c.args.rel c.load.ensures.state)) dense in
+    let p = err_from_is_err_and c.from_residual-in_err-own.result c.from_residual-in_err-own.ensures.1 in
+    rw (p.1, p.2) (no_own s l (g.S.Reads.state c.own_group.new.space) c.args.node c.args.rel c.in_err-own.field-0.0 (c.in_err-own.ensures.damaged tells dense_l) c.in_err-own.ensures.unwritten)
+
+pub returns-in_err-first-clause-damaged : goal.returns-in_err-first-clause-damaged
+returns-in_err-first-clause-damaged g c = λ tells dense.
+    let p = err_from_is_err_and c.from_residual-in_err-first.result c.from_residual-in_err-first.ensures.1 in
+    rw (p.1, p.2) (no_push (g.S.Reads.state c.args.space.now) (g.S.Reads.state c.free_previous.new.space) (g.S.Reads.state c.push_counted.new.space) c.args.node c.args.rel (head_of c.group_head-head.result)
+    (ap (λ (h : Head). h.key.file) c.group_head-head.ensures.is) c.in_err-first.field-0.0 (c.in_err-first.ensures.damaged tells) c.in_err-first.ensures.unwritten)
+
+-- ---- the node stays dense
+
+pub returns-clause-dense : goal.returns-clause-dense
+returns-clause-dense g c = λ tells dense.
+    let s = g.S.Reads.state c.args.space.now in
+    let l = g.S.Reads.state c.load.new.space in
+    let dense_l = subst (λ (q : State). IsDense q.records c.args.node) (sym (only_loads s l c.args.rel c.load.ensures.state)) dense in
+    dense_moved (g.S.Reads.state c.own_group.new.space) (g.S.Reads.state c.free_previous.new.space) (g.S.Reads.state c.push_counted.new.space) c.args.node c.args.rel (head_of c.group_head-head.result)
+    (ap (λ (h : Head). h.key.file) c.group_head-head.ensures.is) (c.in_ok-free_previous.ensures.ok tells) (c.in_ok-first.ensures.ok tells) (c.in_ok-own.ensures.dense tells dense_l)

@@ -1,19 +1,20 @@
 use Rattle.std.proofs.Common.{◌≡◌, ◌≢◌, Option, Some, inr, ◌∷◌, [], ℕ, List, ap, subst, sym, ◌∙◌}
 use Rattle.rec_bytes.specs.RecordFiles.{meta_key_of}
 use Rattle.rec_bytes.specs.Format.{groups_file}
-use Rattle.rec_bytes.specs.Space.{State, WritesOnly, meta_of}
+use Rattle.rec_bytes.specs.Space.{SameButReads, State, WritesOnly, meta_of}
 use Rattle.node_store.specs.NodeRecord.{node_key}
 use Rattle.group_store.specs.declared.group_row.GroupRow.{GroupRow}
 use Rattle.group_store.specs.declared.making.OwnGroup.{OwnGroup}
 use Rattle.group_store.specs.Finding.{IsFound}
 use Rattle.group_store.specs.GroupChain.{IsDense, LacksGroup}
 use Rattle.group_store.specs.GroupRecord.{group_key}
-use Rattle.group_store.specs.Making.{IsMakeFault}
+use Rattle.group_store.specs.Making.{IsMakeFault, made}
 use Rattle.group_store.specs.Opening.{IsOpenFault}
 use Rattle.group_store.proofs.BrokenGroups.{find_breaks, if_err, make_breaks, only_breaks, open_read}
 use Rattle.group_store.specs.Spreading.{HasOpened, KeepsBut}
 use Rattle.group_store.specs.Walking.{group_row_at}
-use Rattle.group_store.proofs.MakeSteps.{same_read, same_writes}
+use Rattle.group_store.proofs.MakeSteps.{on_damage, same_read, same_then, same_writes}
+use Rattle.group_store.proofs.DenseStays.{dense_made, if_damage}
 use Rattle.id_freelist.specs.Taking.{room}
 use Rattle.std.proofs.lemmas.Result.{err_from_is_err_and}
 use Rattle.group_store.proofs.Openings.{handed}
@@ -164,3 +165,35 @@ returns-in-None-clause-damaged g c = λ tells dense.
     let same = same_read _ s now c.find_group.ensures.at_most in
     let dense_now = subst (λ (t : State). IsDense t.records c.args.node) (sym same) dense in
     if_err c.make_own.result (IsMakeFault now c.args.node) (IsOpenFault s) (λ e told. open_read s now same e (make_breaks now c.args.node dense_now e told)) (c.make_own.ensures.damaged tells)
+
+-- ---- the node stays dense
+
+pub returns-in-Some-clause-dense : goal.returns-in-Some-clause-dense
+returns-in-Some-clause-dense g c = λ tells dense.
+    let s = g.S.Reads.state c.args.space.now in
+    let now = g.S.Reads.state c.find_group.new.space in
+    subst (λ (t : State). IsDense t.records c.args.node) (sym (same_read _ s now c.find_group.ensures.at_most)) dense
+
+pub returns-in-None-clause-dense : goal.returns-in-None-clause-dense
+returns-in-None-clause-dense g c = λ tells dense.
+    let s = g.S.Reads.state c.args.space.now in
+    let now = g.S.Reads.state c.find_group.new.space in
+    let end = g.S.Reads.state c.make_own.new.space in
+    let dense_now = subst (λ (t : State). IsDense t.records c.args.node) (sym (same_read _ s now c.find_group.ensures.at_most)) dense in
+    if_ok c.make_own.result (λ (_ : OwnGroup). end ≡ made now c.args.node c.args.label) (λ (_ : OwnGroup). IsDense end.records c.args.node)
+    (λ own is. subst (λ (t : State). IsDense t.records c.args.node) (sym is) (dense_made now c.args.node c.args.label dense_now)) (c.make_own.ensures.ok tells)
+
+-- ---- what is refused writes nothing
+
+pub returns-in_err-row-clause-unwritten : goal.returns-in_err-row-clause-unwritten
+returns-in_err-row-clause-unwritten g c =
+    let s = g.S.Reads.state c.args.space.now in
+    let now = g.S.Reads.state c.find_group.new.space in
+    on_damage c.from_residual.result _ (same_read _ s now c.find_group.ensures.at_most)
+
+pub returns-in-None-clause-unwritten : goal.returns-in-None-clause-unwritten
+returns-in-None-clause-unwritten g c =
+    let s = g.S.Reads.state c.args.space.now in
+    let now = g.S.Reads.state c.find_group.new.space in
+    let end = g.S.Reads.state c.make_own.new.space in
+    if_damage c.make_own.result (SameButReads now end) (SameButReads s end) (λ k. same_then s now end (same_read _ s now c.find_group.ensures.at_most) k) c.make_own.ensures.unwritten

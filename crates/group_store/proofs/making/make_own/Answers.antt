@@ -14,7 +14,8 @@ use Rattle.group_store.specs.Making.{IsMakeDamage, IsMakeFault, link_damage}
 use Rattle.group_store.specs.Making.IsMakeDamage.{NotDense, BadLink}
 use Rattle.group_store.proofs.MakeSteps.{all_writes, link_told, made_has, made_is, node_told, on_damage, right_first, same_read, same_then, same_writes, take_told}
 use Rattle.group_store.proofs.MadeRules.{rules_made}
-use Rattle.rec_bytes.specs.Space.{WritesOnly, after_get}
+use Rattle.id_freelist.specs.Taking.{room}
+use Rattle.rec_bytes.specs.Space.{State, WritesOnly, after_get, meta_of}
 use Rattle.group_store.proofs.making.make_own.Goals as goal
 
 pub returns-in_err-first-clause-damaged : goal.returns-in_err-first-clause-damaged
@@ -151,3 +152,13 @@ returns-clause-rules g c = λ tells rest most empty keeps dense lacks.
     rules_made s now (g.S.Reads.state c.take.new.space) (g.S.Reads.state c.lead.new.space) c.args.node c.args.label c.in-Some.first c.in-Ok.id c.empty_group.result c.empty_row.result
     read (λ free. c.in-Ok.ensures.taken tells free) (c.in-Ok.ensures.fresh tells) c.in-Ok.ensures.small (c.in-Ok.ensures.ok tells) first.1 c.empty_group.ensures (c.in_ok-lead.ensures.ok tells) c.empty_row.ensures
     (omega (arith, c.ranges.node.fits)) (omega (arith, c.ranges.label.fits)) rest most empty keeps dense lacks
+
+-- ---- a full file
+
+pub returns-clause-full : goal.returns-clause-full
+returns-clause-full g c = λ tells full.
+    let s = g.S.Reads.state c.args.space.now in
+    let now = g.S.Reads.state c.first_group.new.space in
+    let read : now ≡ after_get s = subst (λ (first : Option ℕ). IfSome first (λ _. now ≡ after_get s)) c.in-Some.is (c.in_ok-first.ensures.read tells) in
+    let e = c.in-Ok.ensures.full (subst (λ (q : State). (meta_of q groups_file).live ≡ room q groups_file) (sym read) full) in
+    absurd cc

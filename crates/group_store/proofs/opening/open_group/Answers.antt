@@ -9,6 +9,7 @@ use Rattle.group_store.specs.Opening.{OpensChain, WritesOpened}
 use Rattle.group_store.proofs.GroupWrites.{found_writes, made_writes, opened_writes, raised_writes}
 use Rattle.group_store.proofs.Openings.{handed}
 use Rattle.group_store.proofs.BrokenGroups.{only_breaks}
+use Rattle.group_store.proofs.Heads.{then_unwritten}
 use Rattle.group_store.proofs.Raises.{breaks_read}
 use Rattle.group_store.proofs.Opens.{all_but, can_raise, not_full, opens_group}
 use Rattle.group_store.proofs.opening.open_group.Goals as goal
@@ -87,3 +88,17 @@ returns-in_err-count_group-clause-damaged g c = λ tells dense.
     let p = err_from_is_err_and c.from_residual-in_err-count_group.result c.from_residual-in_err-count_group.ensures.1 in
     rw (p.1, p.2) (⊎_elim (λ counted. absurd (false≢true (c.in_err-count_group.ensures.counted counted)))
     (λ k. only_breaks s fault (breaks_read s m k.1 fault (c.in_err-count_group.ensures.breaks tells k.0))) (c.in_ok-own.ensures.group tells dense))
+
+pub returns-in_err-own-clause-unwritten : goal.returns-in_err-own-clause-unwritten
+returns-in_err-own-clause-unwritten g c = λ tells dense.
+    let p = err_from_is_err_and c.from_residual.result c.from_residual.ensures.1 in
+    rw (p.1, p.2) c.in_err-own.ensures.unwritten
+
+pub returns-in_err-count_group-clause-unwritten : goal.returns-in_err-count_group-clause-unwritten
+returns-in_err-count_group-clause-unwritten g c = λ tells dense.
+    let s = g.S.Reads.state c.args.space.now in
+    let m = g.S.Reads.state c.own_group.new.space in
+    let fault = c.in_err-count_group.field-0.0 in
+    let p = err_from_is_err_and c.from_residual-in_err-count_group.result c.from_residual-in_err-count_group.ensures.1 in
+    rw (p.1, p.2) (⊎_elim (λ counted. absurd (false≢true (c.in_err-count_group.ensures.counted counted)))
+    (λ k. then_unwritten s m (g.S.Reads.state c.count_group.new.space) k.1 fault c.in_err-count_group.ensures.unwritten) (c.in_ok-own.ensures.group tells dense))
