@@ -1,5 +1,6 @@
 -- A run begins with all that its query means.
-use Rattle.std.proofs.Common.{◌≡◌, ℕ, ◌+◌, suc, zero, List, [], ◌∷◌, ◌++◌, length, map, refl, sym, ap, ◌∙◌, append_assoc, zero-add, pos, Bool, true, false, ◌||◌, nat_lt, arith}
+use Rattle.std.proofs.Common.{◌≡◌, ℕ, ◌+◌, suc, zero, List, [], ◌∷◌, ◌++◌, length, map, refl, sym, ap, ◌∙◌, append_assoc, zero-add, pos, Bool, true, false, ◌||◌, nat_lt, cond, arith}
+use Rattle.std.specs.List.{filter, flat_map}
 use Rattle.plain_graph.specs.Graph.{Graph}
 use Rattle.plain_graph.specs.declared.item.Item.{Item}
 use Rattle.plain_graph.specs.declared.item.Item.TheVariants as items
@@ -8,12 +9,15 @@ use Rattle.plain_graph.specs.declared.query.BodyStep.{BodyStep}
 use Rattle.plain_graph.specs.declared.query.BodyStep.TheVariants as bodies
 use Rattle.plain_graph.specs.declared.query.Step.{Step}
 use Rattle.plain_graph.specs.declared.query.Step.TheVariants as steps
-use Rattle.plain_graph.specs.Meaning.{after_step, after_steps, after_body, after_bodies, repeated, counts_past as step_past, counts_past_in}
+use Rattle.plain_graph.specs.declared.filter.Filter.{Filter}
+use Rattle.plain_graph.specs.Meaning.{after_step, after_steps, after_body, after_bodies, label_value, passes, repeated, counts_past as step_past, counts_past_in}
 use Rattle.traversal_run.specs.declared.row.Row.{Row}
 use Rattle.traversal_run.specs.Row.{Stream, after_row, through}
 use Rattle.traversal_run.specs.Stage.{after_stage, counts_past}
 use Rattle.traversal_run.specs.declared.stage.Stage.{Stage}
 use Rattle.traversal_run.specs.declared.stage.Stage.TheVariants as stages
+use Rattle.traversal_run.specs.declared.mapping.Mapping.TheVariants as mappings
+use Rattle.traversal_run.specs.Mapping.{filtered, mapped}
 use Rattle.traversal_run.specs.Starting.{fresh, body_row, repeat_rows, rows_of_step, rows_of}
 
 or_false : (p : Bool) → p || false ≡ p
@@ -35,10 +39,24 @@ changed f coming = record { items = f coming.items; past = coming.past }
 no_count : (graph : Graph) (stage : Stage) (coming : Stream) → counts_past stage coming.items ≡ false → after_row graph (fresh stage) coming ≡ changed (after_stage graph stage) coming
 no_count graph stage coming none = λ i. record { items = after_stage graph stage coming.items; past = (ap (λ (b : Bool). coming.past || b) none ∙ or_false coming.past) i }
 
+filtered_all : (graph : Graph) (test : Filter) (list : List Item) → flat_map (filtered graph test) list ≡ filter (passes graph test) list
+filtered_all graph test [] = refl
+filtered_all graph test (item ∷ list) = by (passes graph test item) ∙ ap (λ rest. cond (passes graph test item) (item ∷ rest) rest) (filtered_all graph test list)
+  where
+    by : (b : Bool) → cond b (item ∷ []) [] ++ flat_map (filtered graph test) list ≡ cond b (item ∷ flat_map (filtered graph test) list) (flat_map (filtered graph test) list)
+    by true = refl
+    by false = refl
+
+labels_all : (graph : Graph) (list : List Item) → flat_map (mapped graph mappings.Label) list ≡ map (label_value graph) list
+labels_all graph [] = refl
+labels_all graph (item ∷ list) = ap (λ rest. label_value graph item ∷ rest) (labels_all graph list)
+
 through_body : (graph : Graph) (body : List BodyStep) (coming : Stream) → through graph (map body_row body) coming ≡ changed (after_bodies graph body) coming
 through_body graph [] coming = refl
-through_body graph (bodies.Neighbours hop ∷ body) coming = ap (through graph (map body_row body)) (no_count graph (stages.Neighbours hop) coming refl) ∙ through_body graph body (changed (after_body graph (bodies.Neighbours hop)) coming)
-through_body graph (bodies.Filter test ∷ body) coming = ap (through graph (map body_row body)) (no_count graph (stages.Filter test) coming refl) ∙ through_body graph body (changed (after_body graph (bodies.Filter test)) coming)
+through_body graph (bodies.Neighbours hop ∷ body) coming = ap (through graph (map body_row body)) (no_count graph (stages.Mapped (mappings.Neighbours hop)) coming refl) ∙ through_body graph body (changed (after_body graph (bodies.Neighbours hop)) coming)
+through_body graph (bodies.Filter test ∷ body) coming =
+    ap (through graph (map body_row body)) (no_count graph (stages.Mapped (mappings.Filter test)) coming refl ∙ (λ i. record { items = filtered_all graph test coming.items i; past = coming.past }))
+    ∙ through_body graph body (changed (after_body graph (bodies.Filter test)) coming)
 
 through_repeat : (graph : Graph) (body : List BodyStep) (times : ℕ) (coming : Stream) → through graph (repeat_rows times (map body_row body)) coming ≡ changed (repeated graph body times) coming
 through_repeat graph body zero coming = refl
@@ -58,6 +76,10 @@ through_step : (graph : Graph) (step : Step) (coming : Stream) → through graph
 through_step graph (steps.Repeat body times) coming = quiet_step graph (steps.Repeat body times) coming (through graph (rows_of_step (steps.Repeat body times)) coming) (through_repeat graph body times coming) refl
 through_step graph (steps.Values []) coming = refl
 through_step graph (steps.Values (key ∷ keys)) coming = refl
+through_step graph (steps.Filter test) coming = quiet_step graph (steps.Filter test) coming (through graph (rows_of_step (steps.Filter test)) coming)
+    (no_count graph (stages.Mapped (mappings.Filter test)) coming refl ∙ (λ i. record { items = filtered_all graph test coming.items i; past = coming.past })) refl
+through_step graph steps.Label coming = quiet_step graph steps.Label coming (through graph (rows_of_step steps.Label) coming)
+    (no_count graph (stages.Mapped mappings.Label) coming refl ∙ (λ i. record { items = labels_all graph coming.items i; past = coming.past })) refl
 through_step graph steps.Count coming = let len : 0 + length coming.items ≡ length coming.items = zero-add (length coming.items) in λ i. record { items = items.Value (values.Int (pos (len i))) ∷ []; past = coming.past || nat_lt 9223372036854775807 (len i) }
 through_step graph step coming = refl
 

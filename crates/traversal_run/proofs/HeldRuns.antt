@@ -79,8 +79,7 @@ within-taken d most run item list is near =
 -- ---- rows are left out
 
 pub spent_no_hop : (stage : Stage) → is_spent stage ≡ true → is_hop stage ≡ false
-spent_no_hop (stages.Neighbours hop) spent = absurd cc
-spent_no_hop (stages.Incident hop) spent = absurd cc
+spent_no_hop (stages.Mapped mapping) spent = absurd cc
 spent_no_hop stage spent = refl
 
 near_cut : (d : ℕ) (behind : Bool) (rows : List Row) (ready : List Item) (at : ℕ) (row any : Row) → at < length rows → row ≡ get_or rows at any → is_hop row.stage ≡ false

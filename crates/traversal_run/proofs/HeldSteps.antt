@@ -17,7 +17,10 @@ use Rattle.store_rules.specs.Graph.{graph_of}
 use Rattle.store_rules.specs.Rules.{IsWellFormed}
 use Rattle.store_rules.specs.Views.{Records}
 use Rattle.traversal_run.specs.Held.{HasDegreesUpTo, IsBatch, elements_in, is_hop, is_plain}
-use Rattle.traversal_run.specs.Stage.{Takes, after_stage, distinct_values, is_open}
+use Rattle.traversal_run.specs.Mapping.{distinct_values, gives_edges, mapped}
+use Rattle.traversal_run.specs.Stage.{Takes, after_stage, is_open}
+use Rattle.traversal_run.specs.declared.mapping.Mapping.{Mapping}
+use Rattle.traversal_run.specs.declared.mapping.Mapping.TheVariants as mappings
 use Rattle.traversal_run.specs.declared.stage.Stage.{Stage}
 use Rattle.traversal_run.specs.declared.stage.Stage.TheVariants as stages
 use Rattle.traversal_run.specs.declared.stop.Stop.{Stop}
@@ -111,34 +114,37 @@ module _ (graph : Graph) (d : ℕ) (few : AreFewAt graph d) where
   one_batch : (list : List Item) → length list ≤ 1 → IsBatch d false (list ++ [])
   one_batch list one = inr (subst (λ (l : List Item). length l ≤ 1) (sym (append-nil list)) one)
 
-  stage_batch : (stage : Stage) (item : Item) → is_plain stage ≡ true → IsBatch d (is_hop stage) (after_stage graph stage (item ∷ []))
-  stage_batch (stages.Neighbours hop) (items.Vertex id) plain = hop_batch _ (neighbours_few hop.direction hop.labels id)
-  stage_batch (stages.Neighbours hop) (items.Edge id label from to) plain = hop_batch [] (omega arith)
-  stage_batch (stages.Neighbours hop) (items.Value value) plain = hop_batch [] (omega arith)
-  stage_batch (stages.Incident hop) (items.Vertex id) plain = hop_batch _ (edges_most hop.direction hop.labels id)
+  mapped_batch : (mapping : Mapping) (item : Item) → IsBatch d (gives_edges mapping) (mapped graph mapping item ++ [])
+  mapped_batch (mappings.Neighbours hop) (items.Vertex id) = hop_batch _ (neighbours_few hop.direction hop.labels id)
+  mapped_batch (mappings.Neighbours hop) (items.Edge id label from to) = hop_batch [] (omega arith)
+  mapped_batch (mappings.Neighbours hop) (items.Value value) = hop_batch [] (omega arith)
+  mapped_batch (mappings.Incident hop) (items.Vertex id) = hop_batch _ (edges_most hop.direction hop.labels id)
     where
       edges_most : (direction : Direction) (labels : List (List ℕ)) (id : ℕ) → length (incident graph (record { direction = direction; labels = labels }) (items.Vertex id)) ≤ 2 * d
       edges_most direction labels id = let most = few direction labels id in omega (arith, length-map (edges_at graph direction labels id) edge_item)
-  stage_batch (stages.Incident hop) (items.Edge id label from to) plain = hop_batch [] (omega arith)
-  stage_batch (stages.Incident hop) (items.Value value) plain = hop_batch [] (omega arith)
-  stage_batch stages.OutV (items.Vertex id) plain = inr (omega arith)
-  stage_batch stages.OutV (items.Edge id label from to) plain = inr (omega arith)
-  stage_batch stages.OutV (items.Value value) plain = inr (omega arith)
-  stage_batch stages.InV (items.Vertex id) plain = inr (omega arith)
-  stage_batch stages.InV (items.Edge id label from to) plain = inr (omega arith)
-  stage_batch stages.InV (items.Value value) plain = inr (omega arith)
-  stage_batch (stages.Filter test) item plain = inr (by (passes graph test item))
+  mapped_batch (mappings.Incident hop) (items.Edge id label from to) = hop_batch [] (omega arith)
+  mapped_batch (mappings.Incident hop) (items.Value value) = hop_batch [] (omega arith)
+  mapped_batch mappings.OutV (items.Vertex id) = inr (omega arith)
+  mapped_batch mappings.OutV (items.Edge id label from to) = inr (omega arith)
+  mapped_batch mappings.OutV (items.Value value) = inr (omega arith)
+  mapped_batch mappings.InV (items.Vertex id) = inr (omega arith)
+  mapped_batch mappings.InV (items.Edge id label from to) = inr (omega arith)
+  mapped_batch mappings.InV (items.Value value) = inr (omega arith)
+  mapped_batch (mappings.Filter test) item = inr (by (passes graph test item))
     where
-      by : (b : Bool) → length (cond b (item ∷ []) []) ≤ 1
+      by : (b : Bool) → length (cond b (item ∷ []) [] ++ []) ≤ 1
       by true = omega arith
       by false = omega arith
-  stage_batch (stages.Values keys) item plain =
+  mapped_batch (mappings.Values keys) item =
       let none : elements_in (distinct_values graph keys item ++ []) ≡ 0 = ap elements_in (append-nil (distinct_values graph keys item)) ∙ distinct_none graph keys item in
       inl (omega arith)
-  stage_batch stages.Id (items.Vertex id) plain = inr (omega arith)
-  stage_batch stages.Id (items.Edge id label from to) plain = inr (omega arith)
-  stage_batch stages.Id (items.Value value) plain = inr (omega arith)
-  stage_batch stages.Label item plain = inr (omega arith)
+  mapped_batch mappings.Id (items.Vertex id) = inr (omega arith)
+  mapped_batch mappings.Id (items.Edge id label from to) = inr (omega arith)
+  mapped_batch mappings.Id (items.Value value) = inr (omega arith)
+  mapped_batch mappings.Label item = inr (omega arith)
+
+  stage_batch : (stage : Stage) (item : Item) → is_plain stage ≡ true → IsBatch d (is_hop stage) (after_stage graph stage (item ∷ []))
+  stage_batch (stages.Mapped mapping) item plain = mapped_batch mapping item
   stage_batch (stages.Limit zero) item plain = inr (omega arith)
   stage_batch (stages.Limit (suc left)) item plain = inr (limited left)
     where

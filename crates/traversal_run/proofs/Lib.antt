@@ -21,6 +21,5 @@ pub mod Scans
 pub mod Sorting
 pub mod Stops
 pub mod TakenValues
-pub mod Taking
 pub mod Texts
 pub mod ValueOrder

@@ -58,33 +58,19 @@ advanced graph rows later ready at row new any outs coming lt is advances front 
     ∙ advanced_suc graph rows at row new any outs coming lt is advances
 
 pub nothing_after : (graph : Graph) (stage : Stage) → is_open stage ≡ false → after_stage graph stage [] ≡ []
-nothing_after graph (stages.Neighbours hop) quiet = refl
-nothing_after graph (stages.Filter test) quiet = refl
-nothing_after graph stages.OutV quiet = refl
-nothing_after graph stages.InV quiet = refl
+nothing_after graph (stages.Mapped mapping) quiet = refl
 nothing_after graph (stages.Dedup seen) quiet = refl
 nothing_after graph (stages.Limit zero) quiet = refl
 nothing_after graph (stages.Limit (suc left)) quiet = refl
-nothing_after graph (stages.Incident hop) quiet = refl
-nothing_after graph (stages.Values keys) quiet = refl
-nothing_after graph stages.Id quiet = refl
-nothing_after graph stages.Label quiet = refl
 nothing_after graph (stages.Order key descending kept true) quiet = refl
 nothing_after graph (stages.Order key descending kept false) quiet = cc
 nothing_after graph (stages.Count so_far true) quiet = refl
 nothing_after graph (stages.Count so_far false) quiet = cc
 
 no_count : (stage : Stage) → is_open stage ≡ false → counts_past stage [] ≡ false
-no_count (stages.Neighbours hop) quiet = refl
-no_count (stages.Filter test) quiet = refl
-no_count stages.OutV quiet = refl
-no_count stages.InV quiet = refl
+no_count (stages.Mapped mapping) quiet = refl
 no_count (stages.Dedup seen) quiet = refl
 no_count (stages.Limit left) quiet = refl
-no_count (stages.Incident hop) quiet = refl
-no_count (stages.Values keys) quiet = refl
-no_count stages.Id quiet = refl
-no_count stages.Label quiet = refl
 no_count (stages.Order key descending kept told) quiet = refl
 no_count (stages.Count so_far true) quiet = refl
 no_count (stages.Count so_far false) quiet = cc

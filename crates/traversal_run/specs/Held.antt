@@ -8,6 +8,7 @@ use Rattle.plain_graph.specs.declared.query.BodyStep.{BodyStep}
 use Rattle.plain_graph.specs.declared.query.BodyStep.TheVariants as bodies
 use Rattle.plain_graph.specs.declared.query.Step.{Step}
 use Rattle.plain_graph.specs.declared.query.Step.TheVariants as steps
+use Rattle.traversal_run.specs.Mapping.{gives_edges}
 use Rattle.traversal_run.specs.Row.{AreIdle}
 use Rattle.traversal_run.specs.declared.row.Row.{Row}
 use Rattle.traversal_run.specs.declared.run.Run.{Run}
@@ -36,8 +37,7 @@ as_size count = min count (2 ^ 64 - 1)
 
 -- the step gives neighbours or edges
 abbrev pub is_hop : Stage → Bool
-is_hop (stages.Neighbours hop) = true
-is_hop (stages.Incident hop) = true
+is_hop (stages.Mapped mapping) = gives_edges mapping
 is_hop stage = false
 
 -- how many of the steps do

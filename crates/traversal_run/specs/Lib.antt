@@ -5,6 +5,7 @@ pub mod Finding
 pub mod Held
 pub mod KeyValues
 pub mod Kept
+pub mod Mapping
 pub mod Naming
 pub mod Reading
 pub mod Row

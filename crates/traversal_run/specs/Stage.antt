@@ -2,16 +2,16 @@
 use Rattle.std.specs.Prelude.{◌≡◌, ℕ, ◌+◌, pos, Bool, true, false, not, ◌&&◌, nat_lt, nat_eq}
 use Rattle.std.specs.Prelude.{Option, Some, None, List, [], ◌∷◌, ◌++◌, length, take, map}
 use Rattle.std.specs.FinMap as maps
-use Rattle.std.specs.List.{filter, filter_map, flat_map}
+use Rattle.std.specs.List.{filter_map, flat_map}
 use Rattle.plain_graph.specs.Graph.{Graph}
-use Rattle.plain_graph.specs.Meaning.{Ranked, identifier, in_vertex, incident, label_value}
-use Rattle.plain_graph.specs.Meaning.{neighbours, out_vertex, own_rank, passes, properties_of}
-use Rattle.plain_graph.specs.Meaning.{ranked, ranks_below, unseen}
+use Rattle.plain_graph.specs.Meaning.{Ranked, own_rank, properties_of, ranked, ranks_below}
+use Rattle.plain_graph.specs.Meaning.{unseen}
 use Rattle.plain_graph.specs.Sorting.{sorted}
 use Rattle.plain_graph.specs.declared.item.Item.{Item}
 use Rattle.plain_graph.specs.declared.item.Item.TheVariants as items
 use Rattle.plain_graph.specs.declared.value.Value.{Value}
 use Rattle.plain_graph.specs.declared.value.Value.TheVariants as values
+use Rattle.traversal_run.specs.Mapping.{mapped}
 use Rattle.traversal_run.specs.declared.stage.Stage.{Stage}
 use Rattle.traversal_run.specs.declared.stage.Stage.TheVariants as stages
 
@@ -26,22 +26,9 @@ told_in_order true descending kept = []
 told_in_order false descending kept =
     map (λ (r : Ranked). r.item) (sorted (ranks_below descending) kept)
 
--- the values of these keys, each of which is written once, or of all keys where none is written
-abbrev pub distinct_values : Graph → List (List ℕ) → Item → List Item
-distinct_values graph [] item = map items.Value (maps.values (properties_of graph item))
-distinct_values graph (key ∷ keys) item =
-    map items.Value (filter_map (maps.get (properties_of graph item)) (key ∷ keys))
-
 -- what a step under way makes of the items that are still to come to it
 abbrev pub after_stage : Graph → Stage → List Item → List Item
-after_stage graph (stages.Neighbours hop) coming = flat_map (neighbours graph hop) coming
-after_stage graph (stages.Incident hop) coming = flat_map (incident graph hop) coming
-after_stage graph stages.OutV coming = flat_map out_vertex coming
-after_stage graph stages.InV coming = flat_map in_vertex coming
-after_stage graph (stages.Filter test) coming = filter (passes graph test) coming
-after_stage graph (stages.Values keys) coming = flat_map (distinct_values graph keys) coming
-after_stage graph stages.Id coming = flat_map identifier coming
-after_stage graph stages.Label coming = map (label_value graph) coming
+after_stage graph (stages.Mapped mapping) coming = flat_map (mapped graph mapping) coming
 after_stage graph (stages.Dedup seen) coming = unseen seen coming
 after_stage graph (stages.Count so_far told) coming = counted told (so_far + length coming)
 after_stage graph (stages.Limit left) coming = take left coming
@@ -51,14 +38,7 @@ after_stage graph (stages.Order key descending kept told) coming =
 -- the step counts more than the greatest number of a value: what it has counted, and what is still
 -- to come to it
 abbrev pub counts_past : Stage → List Item → Bool
-counts_past (stages.Neighbours hop) coming = false
-counts_past (stages.Incident hop) coming = false
-counts_past stages.OutV coming = false
-counts_past stages.InV coming = false
-counts_past (stages.Filter test) coming = false
-counts_past (stages.Values keys) coming = false
-counts_past stages.Id coming = false
-counts_past stages.Label coming = false
+counts_past (stages.Mapped mapping) coming = false
 counts_past (stages.Dedup seen) coming = false
 counts_past (stages.Count so_far told) coming =
     not told && nat_lt 9223372036854775807 (so_far + length coming)
@@ -82,14 +62,7 @@ Finishes graph old outs new = (after_stage graph old [] ≡ outs ++ after_stage 
 
 -- the step gives more once nothing more comes to it
 abbrev pub is_open : Stage → Bool
-is_open (stages.Neighbours hop) = false
-is_open (stages.Incident hop) = false
-is_open stages.OutV = false
-is_open stages.InV = false
-is_open (stages.Filter test) = false
-is_open (stages.Values keys) = false
-is_open stages.Id = false
-is_open stages.Label = false
+is_open (stages.Mapped mapping) = false
 is_open (stages.Dedup seen) = false
 is_open (stages.Count so_far told) = not told
 is_open (stages.Limit left) = false
@@ -97,14 +70,7 @@ is_open (stages.Order key descending kept told) = not told
 
 -- how many items a limit still lets through
 abbrev pub limit_left : Stage → Option ℕ
-limit_left (stages.Neighbours hop) = None
-limit_left (stages.Incident hop) = None
-limit_left stages.OutV = None
-limit_left stages.InV = None
-limit_left (stages.Filter test) = None
-limit_left (stages.Values keys) = None
-limit_left stages.Id = None
-limit_left stages.Label = None
+limit_left (stages.Mapped mapping) = None
 limit_left (stages.Dedup seen) = None
 limit_left (stages.Count so_far told) = None
 limit_left (stages.Limit left) = Some left
@@ -124,14 +90,7 @@ abbrev pub is_spent : Stage → Bool
 is_spent stage = is_zero (limit_left stage)
 
 abbrev pub is_count : Stage → Bool
-is_count (stages.Neighbours hop) = false
-is_count (stages.Incident hop) = false
-is_count stages.OutV = false
-is_count stages.InV = false
-is_count (stages.Filter test) = false
-is_count (stages.Values keys) = false
-is_count stages.Id = false
-is_count stages.Label = false
+is_count (stages.Mapped mapping) = false
 is_count (stages.Dedup seen) = false
 is_count (stages.Count so_far told) = true
 is_count (stages.Limit left) = false

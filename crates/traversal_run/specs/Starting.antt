@@ -7,6 +7,8 @@ use Rattle.plain_graph.specs.declared.query.BodyStep.{BodyStep}
 use Rattle.plain_graph.specs.declared.query.BodyStep.TheVariants as bodies
 use Rattle.plain_graph.specs.declared.query.Step.{Step}
 use Rattle.plain_graph.specs.declared.query.Step.TheVariants as steps
+use Rattle.traversal_run.specs.declared.mapping.Mapping.{Mapping}
+use Rattle.traversal_run.specs.declared.mapping.Mapping.TheVariants as mappings
 use Rattle.traversal_run.specs.declared.row.Row.{Row}
 use Rattle.traversal_run.specs.declared.stage.Stage.{Stage}
 use Rattle.traversal_run.specs.declared.stage.Stage.TheVariants as stages
@@ -15,9 +17,12 @@ use Rattle.traversal_run.specs.declared.stage.Stage.TheVariants as stages
 abbrev pub fresh : Stage → Row
 fresh stage = record { stage = stage; waiting = [] }
 
+abbrev pub each : Mapping → Row
+each mapping = fresh (stages.Mapped mapping)
+
 abbrev pub body_row : BodyStep → Row
-body_row (bodies.Neighbours hop) = fresh (stages.Neighbours hop)
-body_row (bodies.Filter test) = fresh (stages.Filter test)
+body_row (bodies.Neighbours hop) = each (mappings.Neighbours hop)
+body_row (bodies.Filter test) = each (mappings.Filter test)
 
 abbrev pub repeat_rows : ℕ → List Row → List Row
 repeat_rows zero rows = []
@@ -25,14 +30,14 @@ repeat_rows (suc times) rows = rows ++ repeat_rows times rows
 
 -- a repeat is written out
 abbrev pub rows_of_step : Step → List Row
-rows_of_step (steps.Neighbours hop) = fresh (stages.Neighbours hop) ∷ []
-rows_of_step (steps.Incident hop) = fresh (stages.Incident hop) ∷ []
-rows_of_step steps.OutV = fresh stages.OutV ∷ []
-rows_of_step steps.InV = fresh stages.InV ∷ []
-rows_of_step (steps.Filter test) = fresh (stages.Filter test) ∷ []
-rows_of_step (steps.Values keys) = fresh (stages.Values (texts_once [] keys)) ∷ []
-rows_of_step steps.Id = fresh stages.Id ∷ []
-rows_of_step steps.Label = fresh stages.Label ∷ []
+rows_of_step (steps.Neighbours hop) = each (mappings.Neighbours hop) ∷ []
+rows_of_step (steps.Incident hop) = each (mappings.Incident hop) ∷ []
+rows_of_step steps.OutV = each mappings.OutV ∷ []
+rows_of_step steps.InV = each mappings.InV ∷ []
+rows_of_step (steps.Filter test) = each (mappings.Filter test) ∷ []
+rows_of_step (steps.Values keys) = each (mappings.Values (texts_once [] keys)) ∷ []
+rows_of_step steps.Id = each mappings.Id ∷ []
+rows_of_step steps.Label = each mappings.Label ∷ []
 rows_of_step steps.Dedup = fresh (stages.Dedup []) ∷ []
 rows_of_step steps.Count = fresh (stages.Count 0 false) ∷ []
 rows_of_step (steps.Limit most) = fresh (stages.Limit most) ∷ []

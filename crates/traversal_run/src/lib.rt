@@ -14,6 +14,7 @@ mod id_set;
 mod kept;
 mod key_values;
 mod lookups;
+mod mapping;
 mod naming;
 mod row;
 mod run;

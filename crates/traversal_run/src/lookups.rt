@@ -5,8 +5,9 @@ ghost use Rattle.plain_graph.specs.Values.{is_text};
 ghost use Rattle.store_rules.specs.Graph.{graph_of};
 ghost use Rattle.rec_bytes.specs.Fault.{HasFaultCause, NotDamaged};
 ghost use Rattle.prop_store.specs.Fault.{BlamesBroken};
+ghost use Rattle.traversal_run.specs.Mapping.{distinct_values};
 ghost use Rattle.traversal_run.specs.Reading.{IsNamedStore, IsRead};
-ghost use Rattle.traversal_run.specs.Stage.{distinct_values, rank_in};
+ghost use Rattle.traversal_run.specs.Stage.{rank_in};
 
 use crate::comparing::{is_related, is_text};
 use crate::elements::{label_of, value_of};
@@ -124,11 +125,11 @@ pub(crate) fn label_value<R: Reads>(
     space: &mut R,
     names: &Names,
     item: &Shown,
-) -> Result<Shown, Fault>
+) -> Result<Waiting, Fault>
     ensures found { R.tells
         → IsNamedStore (R.state space.old).records (R.state space.old).shape names.now.names
-        → IfOk result (λ value. value
-        ≡ label_value (graph_of (R.state space.old).records) item.now) }
+        → IfOk result (λ outs. outs
+        ≡ label_value (graph_of (R.state space.old).records) item.now ∷ []) }
     ensures sound { R.tells
         → IsNamedStore (R.state space.old).records (R.state space.old).shape names.now.names
         → NotDamaged result }
@@ -139,7 +140,8 @@ pub(crate) fn label_value<R: Reads>(
 {
     let label = label_of(space, names, item.as_item())?;
     let bytes = Vec::from_slice(alloc, label)?;
-    Ok(Shown::value(Value::Text(Text::new(bytes))))
+    let label = Shown::value(Value::Text(Text::new(bytes)));
+    Ok(Waiting::one(alloc, label))
 }
 
 /// What gives an item its place in an order.

@@ -1,8 +1,8 @@
 ghost use Rattle.std.specs.Prelude.{◌≡◌, [], ◌++◌, IfErr, IfOk, OnOk, length};
-ghost use Rattle.std.specs.Prelude.{◌-◌, ◌∷◌, ℕ, take};
+ghost use Rattle.std.specs.Prelude.{◌+◌, ◌-◌, ◌∷◌, ℕ, List, take};
 ghost use Rattle.plain_graph.specs.Graph.{Graph};
-ghost use Rattle.plain_graph.specs.Meaning.{identifier, in_vertex, out_vertex, ranked};
-ghost use Rattle.plain_graph.specs.declared.item.Item.TheVariants as items;
+ghost use Rattle.plain_graph.specs.Meaning.{ranked, unseen};
+ghost use Rattle.plain_graph.specs.declared.item.Item.{Item};
 ghost use Rattle.std.specs.List.{cons_option};
 ghost use Rattle.store_rules.specs.Graph.{graph_of};
 ghost use Rattle.rec_bytes.specs.Fault.{HasFaultCause, NotDamaged};
@@ -22,30 +22,22 @@ ghost use Rattle.traversal_run.specs.Stage.{
 ghost use Rattle.traversal_run.specs.Stop.{HasStopCause, MayStop, StopsAtBroken};
 
 use crate::counter::Counter;
-use crate::hopping::{incident, neighbours};
 use crate::kept::{Kept, Ranked};
-use crate::lookups::{distinct_values, label_value, passes, rank};
+use crate::lookups::rank;
+use crate::mapping::{Mapping, mapped};
 use crate::seen::Seen;
 use crate::shown::Shown;
 use crate::stop::Stop;
 use crate::waiting::Waiting;
 use name_store::Names;
-use plain_graph::{Filter, Hop, Item, Text, Texts};
+use plain_graph::Text;
 use rec_bytes::{Fault, Reads};
 use std::alloc::{AllocError, Global};
 
 /// A step under way.
 #[derive(Drop)]
 pub(crate) enum Stage {
-    Neighbours(Hop),
-    Incident(Hop),
-    OutV,
-    InV,
-    Filter(Filter),
-    /// Each key once.
-    Values(Texts),
-    Id,
-    Label,
+    Mapped(Mapping),
     Dedup {
         seen: Seen,
     },
@@ -98,49 +90,13 @@ impl Stage {
         ensures cause { HasStopCause (R.faults space.old) (R.faults space.new) result }
     {
         match self {
-            Stage::Neighbours(hop) => {
-                let outs = neighbours(alloc, space, names, hop, item.as_item())?;
+            Stage::Mapped(mapping) => {
+                let outs = mapped(alloc, space, names, mapping, item)?;
                 Ok(outs)
             }
-            Stage::Incident(hop) => {
-                let outs = incident(alloc, space, names, hop, item.as_item())?;
-                Ok(outs)
-            }
-            Stage::Filter(filter) => {
-                if passes(alloc, space, names, filter, item.as_item())? {
-                    Ok(Waiting::one(alloc, item))
-                } else {
-                    Ok(Waiting::new(alloc))
-                }
-            }
-            Stage::Values(keys) => {
-                let outs = distinct_values(alloc, space, names, keys, item.as_item())?;
-                Ok(outs)
-            }
-            Stage::Label => {
-                let label = label_value(alloc, space, names, &item)?;
-                Ok(Waiting::one(alloc, label))
-            }
-            Stage::Order { key, kept, .. } => {
-                keep(alloc, space, names, key, kept, item)?;
-                Ok(Waiting::new(alloc))
-            }
-            Stage::Id => { Ok(identifier(alloc, item.as_item())) }
-            Stage::OutV => { Ok(out_vertex(alloc, item.as_item())) }
-            Stage::InV => { Ok(in_vertex(alloc, item.as_item())) }
             Stage::Dedup { seen } => {
-                if seen.add(alloc, item.as_item())? {
-                    Ok(Waiting::one(alloc, item))
-                } else {
-                    Ok(Waiting::new(alloc))
-                }
-            }
-            Stage::Limit { left } => {
-                if *left == 0 {
-                    return Ok(Waiting::new(alloc));
-                }
-                *left -= 1;
-                Ok(Waiting::one(alloc, item))
+                let outs = unseen(alloc, seen, item)?;
+                Ok(outs)
             }
             Stage::Count { so_far, told } => {
                 if *told || so_far.add_one() {
@@ -149,8 +105,40 @@ impl Stage {
                     Err(Stop::PastCount)
                 }
             }
+            Stage::Limit { left } => Ok(let_through(alloc, left, item)),
+            Stage::Order { key, kept, .. } => {
+                keep(alloc, space, names, key, kept, item)?;
+                Ok(Waiting::new(alloc))
+            }
         }
     }
+}
+
+/// The item, where none that was seen is the same.
+fn unseen(alloc: Global, seen: &mut Seen, item: Shown) -> Result<Waiting, AllocError>
+    ensures { IfOk result (λ outs. (later : List Item)
+        → unseen seen.old (item ∷ later) ≡ outs ++ unseen seen.new later) }
+{
+    if seen.add(alloc, item.as_item())? {
+        Ok(Waiting::one(alloc, item))
+    } else {
+        Ok(Waiting::new(alloc))
+    }
+}
+
+/// The item, where a limit lets one more through.
+fn let_through(alloc: Global, left: &mut u32, item: Shown) -> Waiting
+    ensures gives { result ≡ take left.old (item ∷ []) }
+    ensures left { left.new ≡ left.old - 1 }
+    ensures through { (later : List Item)
+        → take left.old (item ∷ later) ≡ result ++ take left.new later }
+    ensures fewer { left.new + length result ≡ left.old }
+{
+    if *left == 0 {
+        return Waiting::new(alloc);
+    }
+    *left -= 1;
+    Waiting::one(alloc, item)
 }
 
 /// Keeps an item that has a place in the order.
@@ -180,37 +168,6 @@ fn keep<R: Reads>(
             Ok(())
         }
         None => Ok(()),
-    }
-}
-
-/// The identifier of an item.
-fn identifier(alloc: Global, item: &Item) -> Waiting
-    ensures { result ≡ identifier item.now }
-{
-    match item {
-        Item::Vertex(id) => Waiting::one(alloc, Shown::number(i64::from(*id))),
-        Item::Edge { id, .. } => Waiting::one(alloc, Shown::number(i64::from(*id))),
-        Item::Value(_) => Waiting::new(alloc),
-    }
-}
-
-/// The vertex that an edge leaves.
-fn out_vertex(alloc: Global, item: &Item) -> Waiting
-    ensures { result ≡ out_vertex item.now }
-{
-    match item {
-        Item::Edge { from, .. } => Waiting::one(alloc, Shown::vertex(*from)),
-        _ => Waiting::new(alloc),
-    }
-}
-
-/// The vertex that an edge enters.
-fn in_vertex(alloc: Global, item: &Item) -> Waiting
-    ensures { result ≡ in_vertex item.now }
-{
-    match item {
-        Item::Edge { to, .. } => Waiting::one(alloc, Shown::vertex(*to)),
-        _ => Waiting::new(alloc),
     }
 }
 

@@ -1,6 +1,7 @@
 ghost use Rattle.std.specs.Prelude.{◌≡◌, ◌++◌, [], ◌∷◌, IfOk, OnOk, map};
 ghost use Rattle.traversal_run.specs.Starting.{
   body_row,
+  each,
   fresh,
   repeat_rows,
   rows_of,
@@ -9,6 +10,7 @@ ghost use Rattle.traversal_run.specs.Starting.{
 
 use crate::counter::Counter;
 use crate::kept::Kept;
+use crate::mapping::Mapping;
 use crate::row::Row;
 use crate::seen::Seen;
 use crate::stage::Stage;
@@ -36,24 +38,24 @@ fn push_step(alloc: Global, rows: &mut Vec<Row>, step: &Step) -> Result<(), Allo
         Step::Repeat { body, times } => push_repeat(alloc, rows, body.as_slice(), *times),
         Step::Neighbours(hop) => {
             let hop = copy_hop(alloc, hop)?;
-            push_fresh(alloc, rows, Stage::Neighbours(hop))
+            push_each(alloc, rows, Mapping::Neighbours(hop))
         }
         Step::Incident(hop) => {
             let hop = copy_hop(alloc, hop)?;
-            push_fresh(alloc, rows, Stage::Incident(hop))
+            push_each(alloc, rows, Mapping::Incident(hop))
         }
         Step::Filter(filter) => {
             let filter = filter.copy(alloc)?;
-            push_fresh(alloc, rows, Stage::Filter(filter))
+            push_each(alloc, rows, Mapping::Filter(filter))
         }
         Step::Values(keys) => {
             let keys = distinct_texts(alloc, keys.as_slice())?;
-            push_fresh(alloc, rows, Stage::Values(Texts::new(keys)))
+            push_each(alloc, rows, Mapping::Values(Texts::new(keys)))
         }
-        Step::OutV => push_fresh(alloc, rows, Stage::OutV),
-        Step::InV => push_fresh(alloc, rows, Stage::InV),
-        Step::Id => push_fresh(alloc, rows, Stage::Id),
-        Step::Label => push_fresh(alloc, rows, Stage::Label),
+        Step::OutV => push_each(alloc, rows, Mapping::OutV),
+        Step::InV => push_each(alloc, rows, Mapping::InV),
+        Step::Id => push_each(alloc, rows, Mapping::Id),
+        Step::Label => push_each(alloc, rows, Mapping::Label),
         Step::Dedup => {
             let seen = Seen::new(alloc);
             push_fresh(alloc, rows, Stage::Dedup { seen })
@@ -85,6 +87,13 @@ fn push_step(alloc: Global, rows: &mut Vec<Row>, step: &Step) -> Result<(), Allo
             )
         }
     }
+}
+
+/// Puts a step that makes of each item what that item alone gives after the others.
+fn push_each(alloc: Global, rows: &mut Vec<Row>, mapping: Mapping) -> Result<(), AllocError>
+    ensures { OnOk result (rows.new.items ≡ rows.old.items ++ each mapping ∷ []) }
+{
+    push_fresh(alloc, rows, Stage::Mapped(mapping))
 }
 
 /// Puts a step to which no item has come after the others.
@@ -128,11 +137,11 @@ fn push_body_step(alloc: Global, rows: &mut Vec<Row>, step: &BodyStep) -> Result
     match step {
         BodyStep::Neighbours(hop) => {
             let hop = copy_hop(alloc, hop)?;
-            push_fresh(alloc, rows, Stage::Neighbours(hop))
+            push_each(alloc, rows, Mapping::Neighbours(hop))
         }
         BodyStep::Filter(filter) => {
             let filter = filter.copy(alloc)?;
-            push_fresh(alloc, rows, Stage::Filter(filter))
+            push_each(alloc, rows, Mapping::Filter(filter))
         }
     }
 }

@@ -46,8 +46,27 @@ impl TextSet {
     }
 }
 
-/// These texts, each once, where it first stands.
+/// These texts, each once, where it first stands. A single one needs no set.
 pub(crate) fn distinct_texts(alloc: Global, texts: &[Text]) -> Result<Vec<Text>, AllocError>
+    ensures { IfOk result (λ distinct. distinct.items ≡ texts_once [] texts.now) }
+{
+    match texts {
+        [text] => single_text(alloc, text),
+        several => each_once(alloc, several),
+    }
+}
+
+/// This text alone.
+fn single_text(alloc: Global, text: &Text) -> Result<Vec<Text>, AllocError>
+    ensures { IfOk result (λ single. single.items ≡ text.now ∷ []) }
+{
+    let mut single = Vec::new(alloc);
+    single.push(text.copy(alloc)?)?;
+    Ok(single)
+}
+
+/// These texts, each once, found by a set of those before.
+fn each_once(alloc: Global, texts: &[Text]) -> Result<Vec<Text>, AllocError>
     ensures { IfOk result (λ distinct. distinct.items ≡ texts_once [] texts.now) }
 {
     let mut set = TextSet::new(alloc);

@@ -6,8 +6,8 @@ use Rattle.std.proofs.lemmas.List.{append-nil}
 use Rattle.plain_graph.specs.Meaning.{texts_once}
 use Rattle.plain_graph.specs.declared.text.Text.{Text}
 use Rattle.traversal_run.proofs.Texts.{texts_once-step}
-use Rattle.traversal_run.proofs.text_set.distinct_texts.Goals as goal
-use Rattle.traversal_run.proofs.text_set.distinct_texts.Goals.{then-branch+in_ok-copy+in_ok-push, else-branch}
+use Rattle.traversal_run.proofs.text_set.each_once.Goals as goal
+use Rattle.traversal_run.proofs.text_set.each_once.Goals.{then-branch+in_ok-copy+in_ok-push, else-branch}
 
 pub loop-text-preserved : goal.loop-text-preserved
 loop-text-preserved c =

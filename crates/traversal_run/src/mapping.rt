@@ -1,0 +1,120 @@
+ghost use Rattle.std.specs.Prelude.{◌≡◌, IfErr, IfOk};
+ghost use Rattle.plain_graph.specs.Meaning.{identifier, in_vertex, out_vertex};
+ghost use Rattle.store_rules.specs.Graph.{graph_of};
+ghost use Rattle.rec_bytes.specs.Fault.{HasFaultCause, NotDamaged};
+ghost use Rattle.prop_store.specs.Fault.{BlamesBroken};
+ghost use Rattle.traversal_run.specs.Mapping.{filtered, mapped};
+ghost use Rattle.traversal_run.specs.Reading.{IsNamedStore, IsRead};
+
+use crate::hopping::{incident, neighbours};
+use crate::lookups::{distinct_values, label_value, passes};
+use crate::shown::Shown;
+use crate::waiting::Waiting;
+use name_store::Names;
+use plain_graph::{Filter, Hop, Item, Texts};
+use rec_bytes::{Fault, Reads};
+use std::alloc::Global;
+
+/// A step that makes of each item what that item alone gives, whatever came before it.
+#[derive(Drop)]
+pub(crate) enum Mapping {
+    Neighbours(Hop),
+    Incident(Hop),
+    OutV,
+    InV,
+    Filter(Filter),
+    /// Each key once.
+    Values(Texts),
+    Id,
+    Label,
+}
+
+/// What the step makes of an item.
+pub(crate) fn mapped<R: Reads>(
+    alloc: Global,
+    space: &mut R,
+    names: &Names,
+    mapping: &Mapping,
+    item: Shown,
+) -> Result<Waiting, Fault>
+    ensures found { R.tells
+        → IsNamedStore (R.state space.old).records (R.state space.old).shape names.now.names
+        → IfOk result (λ outs. outs
+        ≡ mapped (graph_of (R.state space.old).records) mapping.now item) }
+    ensures sound { R.tells
+        → IsNamedStore (R.state space.old).records (R.state space.old).shape names.now.names
+        → NotDamaged result }
+    ensures damaged { R.tells → IfErr result
+        (BlamesBroken (R.state space.old).records (R.state space.old).shape) }
+    ensures read { IsRead R.Reads space.old space.new }
+    ensures cause { HasFaultCause (R.faults space.old) (R.faults space.new) result }
+{
+    match mapping {
+        Mapping::Neighbours(hop) => neighbours(alloc, space, names, hop, item.as_item()),
+        Mapping::Incident(hop) => incident(alloc, space, names, hop, item.as_item()),
+        Mapping::Filter(filter) => filtered(alloc, space, names, filter, item),
+        Mapping::Values(keys) => distinct_values(alloc, space, names, keys, item.as_item()),
+        Mapping::Label => label_value(alloc, space, names, &item),
+        Mapping::Id => Ok(identifier(alloc, item.as_item())),
+        Mapping::OutV => Ok(out_vertex(alloc, item.as_item())),
+        Mapping::InV => Ok(in_vertex(alloc, item.as_item())),
+    }
+}
+
+/// The item, where it passes a filter.
+fn filtered<R: Reads>(
+    alloc: Global,
+    space: &mut R,
+    names: &Names,
+    filter: &Filter,
+    item: Shown,
+) -> Result<Waiting, Fault>
+    ensures found { R.tells
+        → IsNamedStore (R.state space.old).records (R.state space.old).shape names.now.names
+        → IfOk result (λ outs. outs
+        ≡ filtered (graph_of (R.state space.old).records) filter.now item) }
+    ensures sound { R.tells
+        → IsNamedStore (R.state space.old).records (R.state space.old).shape names.now.names
+        → NotDamaged result }
+    ensures damaged { R.tells → IfErr result
+        (BlamesBroken (R.state space.old).records (R.state space.old).shape) }
+    ensures read { IsRead R.Reads space.old space.new }
+    ensures cause { HasFaultCause (R.faults space.old) (R.faults space.new) result }
+{
+    if passes(alloc, space, names, filter, item.as_item())? {
+        Ok(Waiting::one(alloc, item))
+    } else {
+        Ok(Waiting::new(alloc))
+    }
+}
+
+/// The identifier of an item.
+fn identifier(alloc: Global, item: &Item) -> Waiting
+    ensures { result ≡ identifier item.now }
+{
+    match item {
+        Item::Vertex(id) => Waiting::one(alloc, Shown::number(i64::from(*id))),
+        Item::Edge { id, .. } => Waiting::one(alloc, Shown::number(i64::from(*id))),
+        Item::Value(_) => Waiting::new(alloc),
+    }
+}
+
+/// The vertex that an edge leaves.
+fn out_vertex(alloc: Global, item: &Item) -> Waiting
+    ensures { result ≡ out_vertex item.now }
+{
+    match item {
+        Item::Edge { from, .. } => Waiting::one(alloc, Shown::vertex(*from)),
+        _ => Waiting::new(alloc),
+    }
+}
+
+/// The vertex that an edge enters.
+fn in_vertex(alloc: Global, item: &Item) -> Waiting
+    ensures { result ≡ in_vertex item.now }
+{
+    match item {
+        Item::Edge { to, .. } => Waiting::one(alloc, Shown::vertex(*to)),
+        _ => Waiting::new(alloc),
+    }
+}
