@@ -118,7 +118,7 @@ below_at b [] j d h lt = absurd (omega arith)
 below_at b (pair ∷ rest) zero d h lt = h.0
 below_at b (pair ∷ rest) (suc j) d h lt = below_at b rest j d h.1 (omega arith)
 
-place_of : (ps : Pairs) (key : Key) (i : ℕ) (d : Key × Rec) → IsOrdered ps → i < length ps → (get_or ps i d).0 ≡ key → IsPlaceOf ps key i
+pub place_of : (ps : Pairs) (key : Key) (i : ℕ) (d : Key × Rec) → IsOrdered ps → i < length ps → (get_or ps i d).0 ≡ key → IsPlaceOf ps key i
 place_of [] key i d h lt e = absurd (omega arith)
 place_of (pair ∷ rest) key zero d h lt e = sym e
 place_of (pair ∷ rest) key (suc i) d h lt e = (reverse pair.0 key Less (subst (λ q. key_cmp pair.0 q ≡ Less) e (below_at pair.0 rest i d h.0 (omega arith))), place_of rest key i d h.1 (omega arith) e)

@@ -15,6 +15,7 @@ mod limits;
 mod map_space;
 mod meta;
 mod meta_form;
+mod place_hints;
 mod record;
 mod record_files;
 mod row_fault;
