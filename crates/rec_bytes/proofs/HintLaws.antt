@@ -1,6 +1,6 @@
 -- What the slots of a write set say of its keys.
 use mathlib.Core.Bool.{false≢true}
-use Rattle.std.proofs.Common.{◌≡◌, ℕ, zero, suc, ◌+◌, ◌*◌, ◌/◌, ◌-◌, ◌<◌, ◌≤◌, bit_and, Bool, true, false, cond, List, [], ◌∷◌, ◌++◌, length, get_or, set, Option, Some, None, is_some, unwrap_or, inl, inr, ⊎_elim, IsSome, IfSome, IfNone, sym, ap, ◌∙◌, subst, arith, refl}
+use Rattle.std.proofs.Common.{◌≡◌, ℕ, zero, suc, ◌+◌, ◌*◌, ◌/◌, ◌-◌, ◌<◌, ◌≤◌, Bool, true, false, cond, List, [], ◌∷◌, ◌++◌, length, get_or, set, Option, Some, None, is_some, unwrap_or, inl, inr, ⊎_elim, IsSome, IfSome, IfNone, sym, ap, ◌∙◌, subst, arith, refl}
 use Rattle.std.specs.List.{insert, AllByRecursion}
 use Rattle.std.proofs.lemmas.Bool.{cases_lt}
 use Rattle.std.proofs.lemmas.List.{length-append, length-set, get_or_default}
@@ -108,15 +108,6 @@ hinted_set ps order hints key rec place is of = record {
       (subst (λ (z : Pairs). IsSome (find_pair z q)) (hinted_replaced ps order hints key rec place is of) some);
 }
 
--- a key whose slot is empty isn't there
-pub unmarked_out : (ps : Pairs) (order hints : List ℕ) (key : Key) → IsHinted ps order hints → get_or hints (slot_of (length hints) key) 1 ≡ 0
-    → find_pair (in_order ps order) key ≡ None
-unmarked_out ps order hints key is empty = by (find_pair (in_order ps order) key) refl
-  where
-    by : (o : Option Rec) → find_pair (in_order ps order) key ≡ o → find_pair (in_order ps order) key ≡ None
-    by None e = e
-    by (Some rec) e = let marked : 0 < get_or hints (slot_of (length hints) key) 1 = is.marked key (ap is_some e) in absurd (omega (arith, marked, empty))
-
 written_kept : (hints : List ℕ) (slot hint n : ℕ) → 0 < hint → 0 < get_or hints n 1 → 0 < get_or (set hints slot hint) n 1
 written_kept [] zero hint n positive h = h
 written_kept [] (suc slot) hint n positive h = h
@@ -175,13 +166,6 @@ hinted_anew ps order old new is all = record {
   marked = λ q some. let found = found_among ps order q is.ordered.places some in subst (IsMarked new) found.2 (all found.0 found.1);
 }
 
-pub hinted_none : (hints : List ℕ) → IsInOrder [] [] → IsHinted [] [] hints
-hinted_none hints is = record {
-  ordered = is;
-  covers = λ p lt. absurd (omega arith);
-  marked = λ q some. absurd (false≢true some);
-}
-
 -- by how much a put makes the pairs longer
 pub growth_some : (ps : Pairs) (key : Key) (b : Bool) → b ≡ is_some (find_pair ps key) → growth ps key ≡ cond b 0 1
 growth_some ps key b is = ap (λ x. cond x 0 1) (sym is)
@@ -193,17 +177,6 @@ none_found ps key h = by (find_pair ps key) refl
     by None e = e
     by (Some rec) e = absurd (false≢true (sym h ∙ ap is_some e))
 
--- where there are no slots, a write does nothing, and a read gives what it is asked to
-pub set_none : (xs : List ℕ) (i v : ℕ) → length xs ≡ 0 → xs ≡ set xs i v
-set_none [] zero v h = refl
-set_none [] (suc i) v h = refl
-set_none (x ∷ xs) i v h = absurd (omega arith)
-
-pub read_none : (xs : List ℕ) (i d : ℕ) → length xs ≡ 0 → d ≡ get_or xs i d
-read_none [] zero d h = refl
-read_none [] (suc i) d h = refl
-read_none (x ∷ xs) i d h = absurd (omega arith)
-
 pub slot_below : (slots : ℕ) (key : Key) → 0 < slots → slot_of slots key < slots
 unfolding slot_of
 slot_below slots key h = omega (arith, and_le_r ((key.id * 2654435769 + key.file * 31415927) / 4096) (slots - 1))
@@ -212,14 +185,6 @@ slot_below slots key h = omega (arith, and_le_r ((key.id * 2654435769 + key.file
 pub pair_read : (ps : Pairs) (order : List ℕ) (key : Key) (place : ℕ) (pair : Key × Rec) → IsInOrder ps order → IsPairOf ps order key place
     → pair ≡ get_or ps place pair → get_or ps place no_pair ≡ pair
 pair_read ps order key place pair is of read = get_or_default ps place no_pair pair (pair_within ps order key place is of) ∙ sym read
-
--- the record that is held at a key, where it is found, and where it was put
-pub held_found : (ps : Pairs) (key : Key) (absent : Rec) → is_some (find_pair ps key) ≡ true → find_pair ps key ≡ Some (held_at ps key absent)
-held_found ps key absent h = by (find_pair ps key) refl
-  where
-    by : (o : Option Rec) → find_pair ps key ≡ o → find_pair ps key ≡ Some (held_at ps key absent)
-    by None e = absurd (false≢true (sym (ap is_some e) ∙ h))
-    by (Some rec) e = e ∙ ap (λ o. Some (unwrap_or o absent)) (sym e)
 
 pub held_put : (ps : Pairs) (key : Key) (absent : Rec) → find_pair ps key ≡ None → find_pair (with_pair ps key absent) key ≡ Some (held_at ps key absent)
 held_put ps key absent none =

@@ -17,7 +17,6 @@ use Rattle.std.specs.Prelude.{
   slice_index_or,
   IsSome,
 }
-use Rattle.rec_bytes.specs.declared.record.Rec.{Rec}
 use Rattle.rec_bytes.specs.declared.key.Key.{Key}
 use Rattle.rec_bytes.specs.Pairs.{Pairs, find_pair, IsPlaceOf}
 use Rattle.rec_bytes.specs.PairOrder.{no_pair, in_order, IsInOrder}

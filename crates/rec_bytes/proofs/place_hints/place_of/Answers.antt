@@ -1,4 +1,4 @@
-use Rattle.std.proofs.Common.{◌<◌, length, refl}
+use Rattle.std.proofs.Common.{refl}
 use Rattle.rec_bytes.proofs.PairLaws.{find_gap, place_in_range}
 use Rattle.rec_bytes.proofs.OrderLaws.{place_within, place_read}
 use Rattle.rec_bytes.proofs.HintLaws.{pair_at_place, pair_searched}

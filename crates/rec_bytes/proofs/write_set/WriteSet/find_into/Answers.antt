@@ -1,6 +1,4 @@
 use Rattle.std.proofs.Common.{◌<◌, sym, ap, ◌∙◌, subst, length, get_or, is_some, unwrap_or}
-use Rattle.rec_bytes.specs.declared.record.Rec.{Rec}
-use Rattle.rec_bytes.specs.declared.key.Key.{Key}
 use Rattle.rec_bytes.specs.Pairs.{Held, Pairs, find_pair}
 use Rattle.rec_bytes.specs.PairOrder.{no_pair}
 use Rattle.rec_bytes.proofs.HintLaws.{pair_within, pair_found}
