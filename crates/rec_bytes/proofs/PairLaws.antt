@@ -1,5 +1,5 @@
 -- What an edit of ordered pairs leaves, and what a search of them finds.
-use Rattle.std.proofs.Common.{◌≡◌, ◌≢◌, ℕ, zero, suc, ◌<◌, ◌≤◌, Bool, true, false, cond, [], ◌∷◌, length, get_or, set, Option, Some, None, is_some, unwrap_or, Result, Ok, Err, IfOk, IfErr, ◌+◌, drop, add-one, drop-cons, ⊎_elim, below_more, Ordering, sym, ap, ◌∙◌, subst, arith, refl}
+use Rattle.std.proofs.Common.{◌≡◌, ◌≢◌, ℕ, zero, suc, ◌<◌, ◌≤◌, Bool, true, false, cond, [], ◌∷◌, length, get_or, set, Option, Some, None, is_some, ◌+◌, drop, add-one, drop-cons, ⊎_elim, below_more, Ordering, sym, ap, ◌∙◌, subst, arith, refl}
 use Rattle.std.specs.declared.cmp.Ordering.TheVariants.{Less, Equal, Greater}
 use mathlib.Core.Bool.{false≢true}
 use Rattle.std.specs.Option.{option_or}
@@ -9,8 +9,6 @@ use Rattle.std.specs.Cmp.{IsTotalOrder}
 use Rattle.std.proofs.lemmas.Cmp.{on_total, then_total, nat_cmp_total, tied_itself}
 use Rattle.std.proofs.lemmas.Bool.{cases_lt}
 use Rattle.std.specs.List.{slice_get}
-use Rattle.std.specs.Result.{is_err}
-use Rattle.std.proofs.lemmas.List.{length-set}
 use Rattle.std.proofs.lemmas.Option.{get_or_from_slice_get}
 use Rattle.std.proofs.lemmas.List.Edits.{length-insert}
 use Rattle.std.proofs.lemmas.Map.Lookups.{exact_pairs, exact_unsigned}
@@ -18,7 +16,7 @@ use Rattle.rec_bytes.specs.declared.record.Rec.{Rec}
 use Rattle.rec_bytes.specs.declared.key.Key.{Key}
 use Rattle.rec_bytes.specs.Key.{key_eq, key_cmp}
 use Rattle.rec_bytes.proofs.KeyLaws.{key_eq-same, key_eq-other, key_eq_true}
-use Rattle.rec_bytes.specs.Pairs.{Pairs, find_pair, held_at, with_pair, merged, growth, growth_by, by_order, IsBelow, IsOrdered, IsPlaceOf, IsGapFor}
+use Rattle.rec_bytes.specs.Pairs.{Pairs, find_pair, with_pair, merged, growth, growth_by, by_order, IsBelow, IsOrdered, IsPlaceOf, IsGapFor}
 
 pub keys_total : IsTotalOrder key_cmp
 keys_total = then_total (on_total (λ (k : Key). k.file) nat_cmp_total) (on_total (λ (k : Key). k.id) nat_cmp_total)
@@ -118,7 +116,7 @@ below_at b [] j d h lt = absurd (omega arith)
 below_at b (pair ∷ rest) zero d h lt = h.0
 below_at b (pair ∷ rest) (suc j) d h lt = below_at b rest j d h.1 (omega arith)
 
-place_of : (ps : Pairs) (key : Key) (i : ℕ) (d : Key × Rec) → IsOrdered ps → i < length ps → (get_or ps i d).0 ≡ key → IsPlaceOf ps key i
+pub place_of : (ps : Pairs) (key : Key) (i : ℕ) (d : Key × Rec) → IsOrdered ps → i < length ps → (get_or ps i d).0 ≡ key → IsPlaceOf ps key i
 place_of [] key i d h lt e = absurd (omega arith)
 place_of (pair ∷ rest) key zero d h lt e = sym e
 place_of (pair ∷ rest) key (suc i) d h lt e = (reverse pair.0 key Less (subst (λ q. key_cmp pair.0 q ≡ Less) e (below_at pair.0 rest i d h.0 (omega arith))), place_of rest key i d h.1 (omega arith) e)
@@ -221,12 +219,6 @@ find_merged ps (pair ∷ rest) q h =
     pick true (Some x) y z h some = ap (λ o. option_or o (Some x)) (h refl)
     pick false x y z h some = refl
 
-pub place_inserted : (ps : Pairs) (key : Key) (rec : Rec) (i : ℕ) → IsGapFor ps key i → IsPlaceOf (insert ps i (key, rec)) key i
-place_inserted [] key rec zero h = refl
-place_inserted [] key rec (suc i) h = absurd h
-place_inserted (pair ∷ rest) key rec zero h = refl
-place_inserted (pair ∷ rest) key rec (suc i) h = (h.0, place_inserted rest key rec i h.1)
-
 -- the second of two writes stands
 pub with_twice : (ps : Pairs) (key : Key) (a b : Rec) → with_pair (with_pair ps key a) key b ≡ with_pair ps key b
 unfolding with_pair
@@ -247,19 +239,7 @@ place_in_range [] key i h = absurd h
 place_in_range (pair ∷ rest) key zero h = omega arith
 place_in_range (pair ∷ rest) key (suc i) h = omega (arith, place_in_range rest key i h.1)
 
--- what a place or a gap says of the record that is held there
-pub held_place : (ps : Pairs) (key : Key) (i : ℕ) (absent : Rec) → IsPlaceOf ps key i → find_pair ps key ≡ Some (held_at ps key absent)
-held_place ps key i absent h = let f = find_at ps key i (key, absent) h in f ∙ ap (λ o. Some (unwrap_or o absent)) (sym f)
-
-pub held_gap : (ps : Pairs) (key : Key) (i : ℕ) (absent : Rec) → IsGapFor ps key i → find_pair (with_pair ps key absent) key ≡ Some (held_at ps key absent)
-held_gap ps key i absent h =
-    find_with ps key absent key ∙ ap (λ b. cond b (Some absent) (find_pair ps key)) (key_eq-same key)
-    ∙ ap (λ o. Some (unwrap_or o absent)) (sym (find_gap ps key i h))
-
--- by how much a put makes the pairs longer
-pub growth_place : (ps : Pairs) (key : Key) (i : ℕ) → IsPlaceOf ps key i → growth ps key ≡ 0
-growth_place ps key i h = ap (λ o. cond (is_some o) 0 1) (find_at ps key i (key, record { bytes = [] }) h)
-
+-- a key at a gap makes the pairs longer
 pub growth_gap : (ps : Pairs) (key : Key) (i : ℕ) → IsGapFor ps key i → growth ps key ≡ 1
 growth_gap ps key i h = ap (λ o. cond (is_some o) 0 1) (find_gap ps key i h)
 
@@ -271,9 +251,6 @@ all_with P (pair ∷ rest) key rec all new = by_cmp key pair.0 (AllByRecursion P
     (λ e. rw (step pair rest key rec Less e) (new, all))
     (λ e. rw (step pair rest key rec Equal e) (new, all.1))
     (λ e. rw (step pair rest key rec Greater e) (all.0, all_with P rest key rec all.1 new))
-
-pub length-with_place : (ps : Pairs) (key : Key) (rec : Rec) (i : ℕ) → IsPlaceOf ps key i → length (with_pair ps key rec) ≡ length ps
-length-with_place ps key rec i h = ap length (sym (set_place ps key rec i h)) ∙ length-set ps i (key, rec)
 
 pub length-with_gap : (ps : Pairs) (key : Key) (rec : Rec) (i : ℕ) → IsGapFor ps key i → length (with_pair ps key rec) ≡ length ps + 1
 length-with_gap ps key rec i h = ap length (sym (insert_gap ps key rec i h)) ∙ length-insert ps i (key, rec) (gap_in_range ps key i h)
@@ -298,10 +275,6 @@ growth_by-step ps pair rest h =
     ap (λ n. growth ps pair.0 + n) (growth_by-same (with_pair ps pair.0 pair.1) ps pair.0 rest h.0 h.1
     (λ q greater. ap is_some (find_with ps pair.0 pair.1 q)
     ∙ ap (λ b. is_some (cond b (Some pair.1) (find_pair ps q))) (apart q pair.0 Greater (reverse pair.0 q Less greater) (λ e. cc))))
-
-pub growth_found : (ps : Pairs) (key : Key) (r : Result ℕ ℕ) → IfOk r (IsPlaceOf ps key) → IfErr r (IsGapFor ps key) → growth ps key ≡ cond (is_err r) 1 0
-growth_found ps key (Ok i) found absent = growth_place ps key i found
-growth_found ps key (Err i) found absent = growth_gap ps key i absent
 
 -- the pairs from one on
 pub next_pair : (other : Pairs) (i : ℕ) (pair : Key × Rec) → slice_get other i ≡ Some pair → i < length other → drop i other ≡ pair ∷ drop (i + 1) other

@@ -12,6 +12,7 @@ pub mod MetaForm
 pub mod PairLending
 pub mod PairOrder
 pub mod Pairs
+pub mod PlaceHints
 pub mod Record
 pub mod RecordFiles
 pub mod RowFault

@@ -1,6 +1,7 @@
 //! Records of 64 bytes, the places of the numbers in them, the files that they stand in, and sets
-//! of written records by key. A number costs a few instructions, a find a binary search, a put of a
-//! new key a move of two bytes for each greater key, a merge that for each record of the other set.
+//! of written records by key. A number costs a few instructions, a find a read of a slot that a hash
+//! picks, a put of a new key a binary search and a move of two bytes for each greater key, a merge
+//! one of these for each record of the other set.
 #![tactic(auto)]
 
 mod allowed_shape;
@@ -15,6 +16,7 @@ mod limits;
 mod map_space;
 mod meta;
 mod meta_form;
+mod place_hints;
 mod record;
 mod record_files;
 mod row_fault;

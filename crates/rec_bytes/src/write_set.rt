@@ -4,12 +4,13 @@ ghost use Rattle.std.specs.Prelude.{
   ◌≤◌,
   ◌<◌,
   [],
+  None,
   Some,
+  if◌then◌else◌,
   is_some,
   length,
   slice_index_or,
   IfOk,
-  IfErr,
   OnOk,
   OnErr,
   IsOk,
@@ -17,7 +18,6 @@ ghost use Rattle.std.specs.Prelude.{
 };
 ghost use Rattle.std.specs.Borrow.{sem};
 ghost use Rattle.std.specs.List.{slice_get, AllByRecursion};
-ghost use Rattle.std.specs.List.Sorted.{IsSearchInRange};
 ghost use Rattle.rec_bytes.specs.Key.{IsKey};
 ghost use Rattle.rec_bytes.specs.PairOrder.{SetsAlike, no_pair};
 ghost use Rattle.rec_bytes.specs.Pairs.{
@@ -26,18 +26,17 @@ ghost use Rattle.rec_bytes.specs.Pairs.{
   growth_by,
   held_at,
   merged,
+  most_pairs,
   with_pair,
   FindsMerged,
   FindsPut,
-  IsGapFor,
   IsOrdered,
-  IsPlaceOf,
 };
 
 use crate::key::Key;
+use crate::place_hints::{are_few, forget, gap_of, place_of, renew, write_hint};
 use crate::record::Rec;
 use std::alloc::{AllocError, Global};
-use std::cmp::Ordering;
 use std::marker::Model;
 
 /// A set has at most so many records, since a place among them has 16 bits.
@@ -45,17 +44,20 @@ const MOST_PAIRS: usize = 65_535;
 
 /// Written records, at most one for a key and 65,535 in all. Contracts see the pairs by ascending
 /// key, and how many more records need no memory.
-#[derive(Debug, Drop)]
+#[derive(Drop)]
 pub struct WriteSet {
     // In the order of first put.
     pairs: Vec<(Key, Rec)>,
     // The places of the pairs, by ascending key.
     order: Vec<u16>,
+    // By a hash of the key, where the pair is. A set of few pairs has none.
+    hints: Vec<u16>,
 }
 
 impl Model for WriteSet {
     ghost use Rattle.rec_bytes.specs.Pairs.{most_pairs, Held};
-    ghost use Rattle.rec_bytes.specs.PairOrder.{in_order, IsInOrder};
+    ghost use Rattle.rec_bytes.specs.PairOrder.{in_order};
+    ghost use Rattle.rec_bytes.specs.PlaceHints.{IsHinted};
     ghost use Rattle.std.specs.Prelude.{◌-◌, min, vec_capacity, length};
 
     ghost Value = { Held };
@@ -67,7 +69,7 @@ impl Model for WriteSet {
           - length s.pairs.items;
     } };
 
-    ghost invariant = { λ s. IsInOrder s.pairs.items s.order.items };
+    ghost invariant = { λ s. IsHinted s.pairs.items s.order.items s.hints.items };
 }
 
 impl WriteSet {
@@ -82,6 +84,7 @@ impl WriteSet {
         WriteSet {
             pairs: Vec::new(alloc),
             order: Vec::new(alloc),
+            hints: Vec::new(alloc),
         }
     }
 
@@ -121,9 +124,11 @@ impl WriteSet {
     pub fn find(&self, key: Key) -> Option<Rec>
         ensures { result ≡ find_pair self.now.pairs key }
     {
-        match self.search(key) {
-            Ok(i) => Some(self.at(i).1),
-            Err(_) => None,
+        let mut rec = Rec::ZEROS;
+        if self.find_into(key, &mut rec) {
+            Some(rec)
+        } else {
+            None
         }
     }
 
@@ -133,13 +138,12 @@ impl WriteSet {
         ensures found { result ≡ is_some (find_pair self.now.pairs key) }
         ensures rec { rec.new ≡ held_at self.now.pairs key rec.old }
     {
-        match self.search(key) {
-            Ok(i) => {
-                let place = self.order[i] as usize;
+        match place_of(&self.pairs, &self.order, &self.hints, key) {
+            Some(place) => {
                 copy_record(&self.pairs, place, rec);
                 true
             }
-            Err(_) => false,
+            None => false,
         }
     }
 
@@ -154,7 +158,10 @@ impl WriteSet {
             return Err(AllocError);
         }
         self.order.reserve(more)?;
-        self.pairs.reserve(more)
+        self.pairs.reserve(more)?;
+        let count = self.pairs.len() + more;
+        self.widen(count);
+        Ok(())
     }
 
     /// Sets the record at a key. It needs memory only where the key is new and there is no room.
@@ -167,13 +174,11 @@ impl WriteSet {
         ensures in_place { IsSome (find_pair self.old.pairs key) → IsOk result }
         ensures room { OnOk result (self.old.room ≤ self.new.room + growth self.old.pairs key) }
     {
-        match self.search(key) {
-            Ok(i) => self.replace(i, key, rec),
-            Err(i) => {
-                self.reserve(1)?;
-                self.add(i, key, rec);
-            }
+        if self.replace(key, rec) {
+            return Ok(());
         }
+        self.reserve(1)?;
+        self.add(key, rec);
         Ok(())
     }
 
@@ -196,8 +201,10 @@ impl WriteSet {
         ensures succeeds { 0 < self.old.room → IsOk result }
         ensures in_place { IsSome (find_pair self.old.pairs key) → IsOk result }
     {
-        let i = self.place_for(key, absent)?;
-        let place = self.order[i] as usize;
+        self.provide(key, absent)?;
+        let Some(place) = place_of(&self.pairs, &self.order, &self.hints, key) else {
+            unreachable!();
+        };
         let pair = &mut self.pairs[place];
         Ok(&mut pair.1)
     }
@@ -208,7 +215,7 @@ impl WriteSet {
     {
         let mut count = 0;
         for i in 0..other.len() {
-            if self.search(other.at(i).0).is_err() {
+            if !self.has(other.at(i).0) {
                 count += 1;
             }
         }
@@ -234,53 +241,59 @@ impl WriteSet {
         ensures pairs { self.new.pairs ≡ [] }
         ensures room { self.new.room ≡ self.old.room + length self.old.pairs }
     {
+        forget(&mut self.hints, &self.pairs);
         self.pairs.clear();
         self.order.clear();
     }
 
-    // Where in the order the key is, or where it would go.
-    fn search(&self, key: Key) -> Result<usize, usize>
-        ensures bound { IsSearchInRange result (length self.now.pairs) }
-        ensures found { IfOk result (IsPlaceOf self.now.pairs key) }
-        ensures absent { IfErr result (IsGapFor self.now.pairs key) }
+    // Makes more slots, if they are few for so many pairs.
+    fn widen(&mut self, count: usize)
+        requires { count ≤ most_pairs }
+        ensures { self.new ≡ self.old }
     {
-        let mut low = 0;
-        let mut high = self.order.len();
-        while low < high {
-            let middle = low + (high - low) / 2;
-            let place = self.order[middle] as usize;
-            match self.pairs[place].0.cmp(&key) {
-                Ordering::Less => low = middle + 1,
-                Ordering::Equal => return Ok(middle),
-                Ordering::Greater => high = middle,
-            }
+        if are_few(&self.hints, count) {
+            renew(&mut self.hints, &self.pairs, count);
         }
-        Err(low)
     }
 
-    // Sets the record at a key that is the i-th by ascending key.
-    fn replace(&mut self, i: usize, key: Key, rec: Rec)
-        requires place { IsPlaceOf self.old.pairs key i }
-        ensures pairs { self.new.pairs ≡ with_pair self.old.pairs key rec }
-        ensures room { self.new.room ≡ self.old.room }
+    // Whether there is a record at a key.
+    fn has(&self, key: Key) -> bool
+        ensures { result ≡ is_some (find_pair self.now.pairs key) }
     {
-        let place = self.order[i] as usize;
-        self.pairs[place] = (key, rec);
+        place_of(&self.pairs, &self.order, &self.hints, key).is_some()
     }
 
-    // Adds a record at a new key, which becomes the i-th by ascending key.
-    fn add(&mut self, i: usize, key: Key, rec: Rec)
+    // Sets the record at a key, if there is one, and says whether there is.
+    fn replace(&mut self, key: Key, rec: Rec) -> bool
+        ensures found { result ≡ is_some (find_pair self.old.pairs key) }
+        ensures pairs { self.new.pairs
+            ≡ (if result then with_pair self.old.pairs key rec else self.old.pairs) }
+        ensures room { self.new.room ≡ self.old.room }
+        ensures count { length self.new.pairs ≡ length self.old.pairs }
+    {
+        let Some(place) = place_of(&self.pairs, &self.order, &self.hints, key) else {
+            return false;
+        };
+        self.pairs[place] = (key, rec);
+        true
+    }
+
+    // Adds a record at a new key.
+    fn add(&mut self, key: Key, rec: Rec)
         requires key { IsKey key }
-        requires gap { IsGapFor self.old.pairs key i }
+        requires absent { find_pair self.old.pairs key ≡ None }
         requires room { 0 < self.old.room }
         ensures pairs { self.new.pairs ≡ with_pair self.old.pairs key rec }
         ensures room { self.old.room ≡ self.new.room + 1 }
+        ensures count { length self.new.pairs ≡ length self.old.pairs + 1 }
     {
+        let i = gap_of(&self.pairs, &self.order, key);
         let place = self.pairs.len() as u16;
         self.pairs.push_reserved((key, rec));
         if self.order.insert(i, place).is_err() {
             unreachable!();
         }
+        write_hint(&mut self.hints, key, place + 1);
     }
 
     // Sets the record at a key. A new key needs room.
@@ -291,16 +304,15 @@ impl WriteSet {
         ensures room { self.old.room ≡ self.new.room + growth self.old.pairs key }
         ensures count { length self.new.pairs ≡ length self.old.pairs + growth self.old.pairs key }
     {
-        match self.search(key) {
-            Ok(i) => self.replace(i, key, rec),
-            Err(i) => self.add(i, key, rec),
+        if self.replace(key, rec) {
+            return;
         }
+        self.add(key, rec);
     }
 
-    // Where in the order the key is, with this record where it was absent.
-    fn place_for(&mut self, key: Key, absent: Rec) -> Result<usize, AllocError>
+    // Adds this record at a key, if there is none.
+    fn provide(&mut self, key: Key, absent: Rec) -> Result<(), AllocError>
         requires { IsKey key }
-        ensures place { IfOk result (IsPlaceOf self.new.pairs key) }
         ensures sets { OnOk result (SetsAlike self.old.pairs self.new.pairs key) }
         ensures found { OnOk result
             (find_pair self.new.pairs key ≡ Some (held_at self.old.pairs key absent)) }
@@ -308,14 +320,12 @@ impl WriteSet {
         ensures succeeds { 0 < self.old.room → IsOk result }
         ensures in_place { IsSome (find_pair self.old.pairs key) → IsOk result }
     {
-        match self.search(key) {
-            Ok(i) => Ok(i),
-            Err(i) => {
-                self.reserve(1)?;
-                self.add(i, key, absent);
-                Ok(i)
-            }
+        if self.has(key) {
+            return Ok(());
         }
+        self.reserve(1)?;
+        self.add(key, absent);
+        Ok(())
     }
 }
 

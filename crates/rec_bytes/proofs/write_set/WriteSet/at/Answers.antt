@@ -18,7 +18,7 @@ pair_at-requires c =
     let ps = c.self.inside.pairs.items in
     let order = c.self.inside.order.items in
     let within = place_within ps order c.args.i (subst (λ (v : Held). c.args.i < length v.pairs) (sym c.self.view_is) c.requires) in
-    let fits = subst (λ place. place < length ps) (sym c.index.ensures) (all_at (λ place. place < length ps) order c.args.i c.index.result.now c.self.invariant.places within) in
+    let fits = subst (λ place. place < length ps) (sym c.index.ensures) (all_at (λ place. place < length ps) order c.args.i c.index.result.now c.self.invariant.ordered.places within) in
     subst (λ (p : Pairs). c.index.result.now < length p) (sym c.deref.ensures.value) fits
 
 pub returns-clause-value : goal.returns-clause-value
@@ -30,7 +30,7 @@ returns-clause-value c =
     let read = sym (get_or_from_slice_get ps c.index.result.now c.pair_at.result c.pair_at.result got) in
     ap (λ (v : Held). slice_get v.pairs c.args.i) (sym c.self.view_is)
     ∙ slice_get-get_or (in_order ps order) c.args.i no_pair within
-    ∙ ap (λ (p : Key × Rec). Some p) (read_at ps order c.args.i c.index.result.now c.pair_at.result c.self.invariant within c.index.ensures read)
+    ∙ ap (λ (p : Key × Rec). Some p) (read_at ps order c.args.i c.index.result.now c.pair_at.result c.self.invariant.ordered within c.index.ensures read)
 
 pub returns-clause-key : goal.returns-clause-key
 returns-clause-key c =
@@ -39,5 +39,5 @@ returns-clause-key c =
     let within = subst (λ (v : Held). c.args.i < length v.pairs) (sym c.self.view_is) c.requires in
     let got = ap (λ (p : Pairs). slice_get p c.index.result.now) (sym c.deref.ensures.value) ∙ c.pair_at.ensures in
     let read = sym (get_or_from_slice_get ps c.index.result.now c.pair_at.result c.pair_at.result got) in
-    subst (λ (p : Key × Rec). IsKey p.0) (read_at ps order c.args.i c.index.result.now c.pair_at.result c.self.invariant within c.index.ensures read)
-    (all_at (λ (p : Key × Rec). IsKey p.0) (in_order ps order) c.args.i no_pair c.self.invariant.keys within)
+    subst (λ (p : Key × Rec). IsKey p.0) (read_at ps order c.args.i c.index.result.now c.pair_at.result c.self.invariant.ordered within c.index.ensures read)
+    (all_at (λ (p : Key × Rec). IsKey p.0) (in_order ps order) c.args.i no_pair c.self.invariant.ordered.keys within)

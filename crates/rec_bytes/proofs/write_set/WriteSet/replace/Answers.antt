@@ -1,33 +1,26 @@
-use Rattle.std.proofs.Common.{◌<◌, sym, ap, ◌∙◌, subst, length, set}
-use Rattle.rec_bytes.specs.Pairs.{Held, IsPlaceOf, with_pair}
-use Rattle.rec_bytes.specs.PairOrder.{in_order, IsInOrder}
-use Rattle.rec_bytes.proofs.PairLaws.{place_in_range}
-use Rattle.rec_bytes.proofs.OrderLaws.{all_at, place_within, place_read, replaced, in_order_replaced}
+use Rattle.std.proofs.Common.{sym, ap, ◌∙◌, is_some, length, set}
+use Rattle.rec_bytes.specs.Pairs.{Held, find_pair, with_pair}
+use Rattle.rec_bytes.proofs.OrderLaws.{length-in_order}
+use Rattle.rec_bytes.proofs.HintLaws.{hinted_set, hinted_replaced, pair_found}
 use Rattle.rec_bytes.proofs.write_set.WriteSet.replace.Goals as goal
-
-pub index-requires : goal.index-requires
-index-requires c =
-    let place = subst (λ (v : Held). IsPlaceOf v.pairs c.args.key c.args.i) (sym c.self.view_is) c.requires.place in
-    rw (c.self.inside.order.ok.0) (place_within c.self.inside.pairs.items c.self.inside.order.items c.args.i (place_in_range _ _ _ place))
-
-pub index_mut-requires : goal.index_mut-requires
-index_mut-requires c =
-    let place = subst (λ (v : Held). IsPlaceOf v.pairs c.args.key c.args.i) (sym c.self.view_is) c.requires.place in
-    rw (c.self.inside.pairs.ok.0) (subst (λ n. n < length c.self.inside.pairs.items) (sym c.index.ensures)
-    (all_at (λ n. n < length c.self.inside.pairs.items) c.self.inside.order.items c.args.i c.index.result.now c.self.invariant.places
-    (place_within c.self.inside.pairs.items c.self.inside.order.items c.args.i (place_in_range _ _ _ place))))
 
 pub invariant_of-self : goal.invariant_of-self
 invariant_of-self c =
-    let place = subst (λ (v : Held). IsPlaceOf v.pairs c.args.key c.args.i) (sym c.self.view_is) c.requires.place in
-    subst (λ n. IsInOrder (set c.self.inside.pairs.items n (c.args.key, c.args.rec)) c.self.inside.order.items)
-    (place_read c.self.inside.pairs.items c.self.inside.order.items c.args.i c.index.result.now (place_in_range _ _ _ place) c.index.ensures)
-    (in_order_replaced c.self.inside.pairs.items c.self.inside.order.items c.args.key c.args.rec c.args.i c.self.invariant place)
+    hinted_set c.self.inside.pairs.items c.self.inside.order.items c.self.inside.hints.items c.args.key c.args.rec c.in-Some.place c.self.invariant c.in-Some.ensures.found
+
+pub returns-clause-found : goal.returns-clause-found
+returns-clause-found c =
+    sym (ap is_some (sym (ap (λ (v : Held). find_pair v.pairs c.args.key) c.self.view_is)
+    ∙ pair_found c.self.inside.pairs.items c.self.inside.order.items c.args.key c.in-Some.place c.in-Some.ensures.found))
 
 pub returns-clause-pairs : goal.returns-clause-pairs
 returns-clause-pairs c =
-    let place = subst (λ (v : Held). IsPlaceOf v.pairs c.args.key c.args.i) (sym c.self.view_is) c.requires.place in
-    ap (λ n. in_order (set c.self.inside.pairs.items n (c.args.key, c.args.rec)) c.self.inside.order.items)
-    (sym (place_read c.self.inside.pairs.items c.self.inside.order.items c.args.i c.index.result.now (place_in_range _ _ _ place) c.index.ensures))
-    ∙ replaced c.self.inside.pairs.items c.self.inside.order.items c.args.key c.args.rec c.args.i c.self.invariant place
+    hinted_replaced c.self.inside.pairs.items c.self.inside.order.items c.self.inside.hints.items c.args.key c.args.rec c.in-Some.place c.self.invariant c.in-Some.ensures.found
     ∙ ap (λ (v : Held). with_pair v.pairs c.args.key c.args.rec) c.self.view_is
+
+pub returns-clause-count : goal.returns-clause-count
+returns-clause-count c =
+    let items = c.self.inside.pairs.items in
+    length-in_order (set items c.in-Some.place (c.args.key, c.args.rec)) c.self.inside.order.items
+    ∙ sym (length-in_order items c.self.inside.order.items)
+    ∙ ap (λ (v : Held). length v.pairs) c.self.view_is

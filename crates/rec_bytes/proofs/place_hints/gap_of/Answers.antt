@@ -1,0 +1,10 @@
+use mathlib.Core.Bool.{false≢true}
+use Rattle.std.proofs.Common.{ap, sym, ◌∙◌, is_some}
+use Rattle.rec_bytes.specs.PairOrder.{no_pair, in_order}
+use Rattle.rec_bytes.proofs.PairLaws.{find_at}
+use Rattle.rec_bytes.proofs.place_hints.gap_of.Goals as goal
+
+pub unreachable-requires : goal.unreachable-requires
+unreachable-requires c =
+    absurd (false≢true (sym (ap is_some c.requires.absent)
+    ∙ ap is_some (find_at (in_order c.args.pairs.now.items c.args.order.now.items) c.args.key c.in-Ok.field-0 no_pair c.in-Ok.ensures.found)))
