@@ -3,6 +3,7 @@ pub mod Answered
 pub mod BlockRecords
 pub mod BlockSteps
 pub mod Breaches
+pub mod Causes
 pub mod ChainDrops
 pub mod Clearing
 pub mod DropSteps

@@ -23,4 +23,4 @@ pub mod RecordLaws
 pub mod SideLaws
 pub mod TextLaws
 pub mod VerdictLaws
-mod Causes
+pub mod Causes

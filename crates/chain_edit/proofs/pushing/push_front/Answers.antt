@@ -27,10 +27,14 @@ returns-in_err-test_link-clause-breaks g c = λ tells n owns.
     (damage_read s (g.S.Reads.state c.get.new.self) c.number-first.result (first_of s.records (head_of c.args.head)) (first_damage c.args.head.key) c.in_err-test_link.field-0.0
     c.in_ok-rec.ensures.state first c.in_err-test_link.ensures.damaged))
 
+pub returns-clause-ok : goal.returns-clause-ok
+unfolding pushed
+returns-clause-ok g c = λ tells. search rules
+
 pub returns-clause-chains : goal.returns-clause-chains
 unfolding pushed
 returns-clause-chains g c = λ tells xs can.
     let old = g.S.Reads.state c.args.space.now in
-    let is : g.S.Reads.state c.put.new.self ≡ pushed old (head_of c.args.head) c.args.node c.args.rel = search rules in
+    let is : g.S.Reads.state c.put.new.self ≡ pushed old (head_of c.args.head) c.args.node c.args.rel = returns-clause-ok g c tells in
     let small : c.args.rel < 2 ^ 25 = omega (arith, c.requires.rel.id) in
     subst (λ (new : State). HasPushed old.records new.records (head_of c.args.head) c.args.node c.args.rel xs) (sym is) (has_pushed old (head_of c.args.head) c.args.node c.args.rel c.requires.head.place xs small can)

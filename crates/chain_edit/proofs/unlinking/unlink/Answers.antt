@@ -55,9 +55,13 @@ pub returns-in_err-rec-clause-writes : goal.returns-in_err-rec-clause-writes
 returns-in_err-rec-clause-writes g c =
     (0, 0, writes_none (g.S.Reads.state c.args.space.now) (g.S.Reads.state c.get.new.self) _ (ap (λ (t : State). t.written) c.in_err-rec.ensures.state))
 
+pub returns-clause-ok : goal.returns-clause-ok
+unfolding unlinked
+returns-clause-ok g c = λ tells. search rules
+
 pub returns-clause-chains : goal.returns-clause-chains
 unfolding unlinked
 returns-clause-chains g c = λ tells xs can.
     let old = g.S.Reads.state c.args.space.now in
-    let is : g.S.Reads.state c.lead.new.space ≡ unlinked old (head_of c.args.head) c.args.node c.args.rel = search rules in
+    let is : g.S.Reads.state c.lead.new.space ≡ unlinked old (head_of c.args.head) c.args.node c.args.rel = returns-clause-ok g c tells in
     subst (λ (new : State). HasUnlinked old.records new.records (head_of c.args.head) c.args.node c.args.rel xs) (sym is) (has_unlinked old (head_of c.args.head) c.args.node c.args.rel c.requires.head.place xs can)
