@@ -11,8 +11,12 @@ use Rattle.rec_bytes.specs.declared.fault.Fault.TheVariants as faults
 use Rattle.rec_bytes.specs.declared.space.SpaceFault.{SpaceFault}
 use Rattle.rec_bytes.specs.declared.space.SpaceFault.TheVariants as spaces
 
+-- one call after another
+pub later_on : {before mid now : ℕ} → before ≤ mid → mid ≤ now → before ≤ now
+later_on one other = omega (arith, one, other)
+
 -- of a call that came after others, where no fault was blamed before
-passed : {T U E F : Type 0} (into : E → F) (one : E) (other : F) (before mid now : ℕ) (r : Result T F) (fault : E) → (into fault ≡ other → fault ≡ one) → before ≤ mid → HasDiskCause {T = U} one mid now (Err fault) → IsErrAnd r (λ f. f ≡ into fault) → HasDiskCause other before now r
+pub passed : {T U E F : Type 0} (into : E → F) (one : E) (other : F) (before mid now : ℕ) (r : Result T F) (fault : E) → (into fault ≡ other → fault ≡ one) → before ≤ mid → HasDiskCause {T = U} one mid now (Err fault) → IsErrAnd r (λ f. f ≡ into fault) → HasDiskCause other before now r
 passed {T} {U} {E} {F} into one other before mid now r fault blames early cause is =
     let p = err_from_is_err_and r is in
     let here : HasDiskCause {T = T} other before now (Err (into fault)) = record {

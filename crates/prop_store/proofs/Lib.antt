@@ -32,8 +32,9 @@ pub mod ReadCounts
 pub mod RecordFits
 pub mod RecordMoves
 pub mod ReleaseSteps
+pub mod SetCauses
 pub mod TextSteps
-pub mod ValueRemovals
 pub mod Touches
+pub mod ValueRemovals
 pub mod WalkSteps
 pub mod WriteCounts
