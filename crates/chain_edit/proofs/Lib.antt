@@ -1,6 +1,7 @@
 pub mod AllPushed
 pub mod AllUnlinked
 pub mod Broken
+pub mod Causes
 pub mod ChainSteps
 pub mod Damages
 pub mod Edits

@@ -3,6 +3,7 @@ pub mod Answered
 pub mod BlockRecords
 pub mod BlockSteps
 pub mod Breaches
+pub mod Causes
 pub mod ChainDrops
 pub mod Clearing
 pub mod DropSteps
@@ -31,8 +32,9 @@ pub mod ReadCounts
 pub mod RecordFits
 pub mod RecordMoves
 pub mod ReleaseSteps
+pub mod SetCauses
 pub mod TextSteps
-pub mod ValueRemovals
 pub mod Touches
+pub mod ValueRemovals
 pub mod WalkSteps
 pub mod WriteCounts

@@ -23,3 +23,4 @@ pub mod RecordLaws
 pub mod SideLaws
 pub mod TextLaws
 pub mod VerdictLaws
+pub mod Causes

@@ -11,6 +11,7 @@ use Rattle.chain_edit.specs.Walking.{chain_damage}
 use Rattle.chain_edit.proofs.Broken.{length_breaks, length_fault_breaks}
 use Rattle.chain_edit.proofs.Lengths.{CountsSoFar, counts_all, counts_more, counts_none, no_member, rest_all, rest_more, step_fault, undamaged}
 use Rattle.chain_edit.proofs.Walks.{mark_then, next_read, read_next as reads_more, reads_next, reads_within, rec_then, step_then}
+use Rattle.chain_edit.proofs.Causes.{cause_passed}
 use Rattle.chain_edit.proofs.length.chain_length.Goals as goal
 
 pub loop-count-init : goal.loop-count-init
@@ -121,3 +122,7 @@ returns-clause-counted g c = λ tells.
     let all : c.loop-count.count ≡ c.args.budget = omega (arith, c.loop-count.auto.count-end, c.loop-count-test.false) in
     counts_all (g.R.Reads.state c.args.space.now) c.args.chain.now.first c.args.chain.now.node c.args.members c.args.budget c.loop-count.before c.loop-count.at c.args.budget (λ lt. absurd (omega arith))
     (subst (CountsSoFar (g.R.Reads.state c.args.space.now) c.args.chain.now.first c.args.chain.now.node c.args.members c.loop-count.before c.loop-count.at) all (c.loop-count.invariant.counts tells))
+
+pub returns-in_err-read_next-clause-cause : goal.returns-in_err-read_next-clause-cause
+returns-in_err-read_next-clause-cause g c =
+    cause_passed _ _ _ c.from_residual.result c.in_err-read_next.field-0.0 c.loop-count.invariant.later c.in_err-read_next.ensures.cause c.from_residual.ensures.1

@@ -8,6 +8,7 @@ use Rattle.chain_edit.specs.Pushing.{HasPushed, first_damage, pushed}
 use Rattle.chain_edit.proofs.Broken.{head_breaks}
 use Rattle.chain_edit.proofs.Damages.{damage_read}
 use Rattle.chain_edit.proofs.Pushes.{has_pushed}
+use Rattle.chain_edit.proofs.Causes.{damage_cause, space_cause_passed}
 use Rattle.chain_edit.proofs.pushing.push_front.Goals as goal
 
 pub returns-in_err-test_link-clause-damaged : goal.returns-in_err-test_link-clause-damaged
@@ -27,10 +28,35 @@ returns-in_err-test_link-clause-breaks g c = λ tells n owns.
     (damage_read s (g.S.Reads.state c.get.new.self) c.number-first.result (first_of s.records (head_of c.args.head)) (first_damage c.args.head.key) c.in_err-test_link.field-0.0
     c.in_ok-rec.ensures.state first c.in_err-test_link.ensures.damaged))
 
+pub returns-clause-ok : goal.returns-clause-ok
+unfolding pushed
+returns-clause-ok g c = λ tells. search rules
+
 pub returns-clause-chains : goal.returns-clause-chains
 unfolding pushed
 returns-clause-chains g c = λ tells xs can.
     let old = g.S.Reads.state c.args.space.now in
-    let is : g.S.Reads.state c.put.new.self ≡ pushed old (head_of c.args.head) c.args.node c.args.rel = search rules in
+    let is : g.S.Reads.state c.put.new.self ≡ pushed old (head_of c.args.head) c.args.node c.args.rel = returns-clause-ok g c tells in
     let small : c.args.rel < 2 ^ 25 = omega (arith, c.requires.rel.id) in
     subst (λ (new : State). HasPushed old.records new.records (head_of c.args.head) c.args.node c.args.rel xs) (sym is) (has_pushed old (head_of c.args.head) c.args.node c.args.rel c.requires.head.place xs small can)
+
+pub returns-in_err-test_link-clause-cause : goal.returns-in_err-test_link-clause-cause
+returns-in_err-test_link-clause-cause g c =
+    damage_cause _ _ c.from_residual-in_err-test_link.result c.in_err-test_link.field-0.0 c.in_ok-rec.ensures.cause.later c.from_residual-in_err-test_link.ensures.1
+
+pub returns-in_err-back-clause-cause : goal.returns-in_err-back-clause-cause
+returns-in_err-back-clause-cause g c =
+    space_cause_passed _ _ _ c.from_residual-in_err-back.result c.in_err-back.field-0.0 c.in_ok-rec.ensures.cause.later c.in_err-back.ensures.cause c.from_residual-in_err-back.ensures.1
+
+pub returns-in_err-set_next-clause-cause : goal.returns-in_err-set_next-clause-cause
+returns-in_err-set_next-clause-cause g c =
+    let later0 = c.in_ok-rec.ensures.cause.later in
+    let later1 = c.in_ok-back.ensures.cause.later in
+    space_cause_passed _ _ _ c.from_residual-in_err-set_next.result c.in_err-set_next.field-0.0 (omega (arith, later0, later1)) c.in_err-set_next.ensures.cause c.from_residual-in_err-set_next.ensures.1
+
+pub returns-in_err-put-clause-cause : goal.returns-in_err-put-clause-cause
+returns-in_err-put-clause-cause g c =
+    let later0 = c.in_ok-rec.ensures.cause.later in
+    let later1 = c.in_ok-back.ensures.cause.later in
+    let later2 = c.in_ok-set_next.ensures.cause.later in
+    space_cause_passed _ _ _ c.from_residual-in_err-put.result c.in_err-put.field-0.0 (omega (arith, later0, later1, later2)) c.in_err-put.ensures.cause c.from_residual-in_err-put.ensures.1

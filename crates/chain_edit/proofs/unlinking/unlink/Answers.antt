@@ -1,4 +1,4 @@
-use Rattle.std.proofs.Common.{◌≡◌, ◌+◌, ap, ◌∙◌, rules, subst, sym, inl, inr}
+use Rattle.std.proofs.Common.{arith, ◌≡◌, ◌+◌, ap, ◌∙◌, rules, subst, sym, inl, inr}
 use Rattle.std.proofs.lemmas.Result.{err_from_is_err_and}
 use Rattle.rec_bytes.specs.Record.{field}
 use Rattle.rec_bytes.specs.Space.{State}
@@ -11,6 +11,7 @@ use Rattle.chain_edit.specs.Unlinking.{HasUnlinked, unlinked}
 use Rattle.chain_edit.proofs.Broken.{next_breaks, prev_breaks}
 use Rattle.chain_edit.proofs.Damages.{damage_read}
 use Rattle.chain_edit.proofs.Removals.{has_unlinked}
+use Rattle.chain_edit.proofs.Causes.{damage_cause, space_cause_passed}
 use Rattle.chain_edit.proofs.unlinking.unlink.Goals as goal
 
 pub returns-in_err-test_link-clause-damaged : goal.returns-in_err-test_link-clause-damaged
@@ -55,9 +56,38 @@ pub returns-in_err-rec-clause-writes : goal.returns-in_err-rec-clause-writes
 returns-in_err-rec-clause-writes g c =
     (0, 0, writes_none (g.S.Reads.state c.args.space.now) (g.S.Reads.state c.get.new.self) _ (ap (λ (t : State). t.written) c.in_err-rec.ensures.state))
 
+pub returns-clause-ok : goal.returns-clause-ok
+unfolding unlinked
+returns-clause-ok g c = λ tells. search rules
+
 pub returns-clause-chains : goal.returns-clause-chains
 unfolding unlinked
 returns-clause-chains g c = λ tells xs can.
     let old = g.S.Reads.state c.args.space.now in
-    let is : g.S.Reads.state c.lead.new.space ≡ unlinked old (head_of c.args.head) c.args.node c.args.rel = search rules in
+    let is : g.S.Reads.state c.lead.new.space ≡ unlinked old (head_of c.args.head) c.args.node c.args.rel = returns-clause-ok g c tells in
     subst (λ (new : State). HasUnlinked old.records new.records (head_of c.args.head) c.args.node c.args.rel xs) (sym is) (has_unlinked old (head_of c.args.head) c.args.node c.args.rel c.requires.head.place xs can)
+
+pub returns-in_err-test_link-clause-cause : goal.returns-in_err-test_link-clause-cause
+returns-in_err-test_link-clause-cause g c =
+    damage_cause _ _ c.from_residual-in_err-test_link.result c.in_err-test_link.field-0.0 c.in_ok-rec.ensures.cause.later c.from_residual-in_err-test_link.ensures.1
+
+pub returns-in_err-test_link-2-clause-cause : goal.returns-in_err-test_link-2-clause-cause
+returns-in_err-test_link-2-clause-cause g c =
+    damage_cause _ _ c.from_residual-in_err-test_link-2.result c.in_err-test_link-2.field-0.0 c.in_ok-rec.ensures.cause.later c.from_residual-in_err-test_link-2.ensures.1
+
+pub returns-in_err-put-clause-cause : goal.returns-in_err-put-clause-cause
+returns-in_err-put-clause-cause g c =
+    space_cause_passed _ _ _ c.from_residual-in_err-put.result c.in_err-put.field-0.0 c.in_ok-rec.ensures.cause.later c.in_err-put.ensures.cause c.from_residual-in_err-put.ensures.1
+
+pub returns-in_err-back-clause-cause : goal.returns-in_err-back-clause-cause
+returns-in_err-back-clause-cause g c =
+    let later0 = c.in_ok-rec.ensures.cause.later in
+    let later1 = c.in_ok-put.ensures.cause.later in
+    space_cause_passed _ _ _ c.from_residual-in_err-back.result c.in_err-back.field-0.0 (omega (arith, later0, later1)) c.in_err-back.ensures.cause c.from_residual-in_err-back.ensures.1
+
+pub returns-in_err-lead-clause-cause : goal.returns-in_err-lead-clause-cause
+returns-in_err-lead-clause-cause g c =
+    let later0 = c.in_ok-rec.ensures.cause.later in
+    let later1 = c.in_ok-put.ensures.cause.later in
+    let later2 = c.in_ok-back.ensures.cause.later in
+    space_cause_passed _ _ _ c.from_residual-in_err-lead.result c.in_err-lead.field-0.0 (omega (arith, later0, later1, later2)) c.in_err-lead.ensures.cause c.from_residual-in_err-lead.ensures.1

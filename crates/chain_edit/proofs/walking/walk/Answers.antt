@@ -9,6 +9,7 @@ use Rattle.chain_edit.specs.Walking.{IsSoundWalk, IsWalkDamage, chain_damage}
 use Rattle.chain_edit.specs.Walking.IsWalkDamage.{NoWalk}
 use Rattle.chain_edit.proofs.Broken.{walk_breaks, walk_fault_breaks}
 use Rattle.chain_edit.proofs.Walks.{few_next, few_then, left_more, left_none, link_is, mark_then, next_read, one_longer, read_next as reads_more, reads_next, reads_within, rec_then, rows_all, rows_more, rows_none, step_then, undamaged, walk_fault}
+use Rattle.chain_edit.proofs.Causes.{cause_passed, memory_cause}
 use Rattle.chain_edit.proofs.walking.walk.Goals as goal
 
 pub loop-init : goal.loop-init
@@ -129,3 +130,13 @@ pub returns-in_err-push-clause-few_reads : goal.returns-in_err-push-clause-few_r
 returns-in_err-push-clause-few_reads g c = λ tells xs sound.
     few_next (g.R.Reads.state c.args.space.now) (g.R.Reads.state c.loop.space) (g.R.Reads.state c.read_next.new.space) c.args.chain.now.first c.args.chain.now.node c.args.budget c.loop.before (c.args.budget - c.loop.counter) c.loop.at c.loop.rows.items xs
     c.if-at.false (c.loop.invariant.met tells) (c.loop.invariant.left tells xs sound) sound c.loop.invariant.read c.in_ok-read_next.ensures.at_most
+
+pub returns-in_err-read_next-clause-cause : goal.returns-in_err-read_next-clause-cause
+returns-in_err-read_next-clause-cause g c =
+    cause_passed _ _ _ c.from_residual.result c.in_err-read_next.field-0.0 c.loop.invariant.later c.in_err-read_next.ensures.cause c.from_residual.ensures.1
+
+pub returns-in_err-push-clause-cause : goal.returns-in_err-push-clause-cause
+returns-in_err-push-clause-cause g c =
+    let later0 = c.loop.invariant.later in
+    let later1 = c.in_ok-read_next.ensures.cause.later in
+    memory_cause _ _ c.from_residual-in_err-push.result (omega (arith, later0, later1)) c.from_residual-in_err-push.ensures.1

@@ -1,4 +1,4 @@
-use Rattle.std.proofs.Common.{◌≡◌, None, inl, inr, refl, sym, subst, ◌∙◌}
+use Rattle.std.proofs.Common.{arith, ◌≡◌, None, inl, inr, refl, sym, subst, ◌∙◌}
 use Rattle.std.proofs.lemmas.Bool.{OnFalse_at}
 use Rattle.std.proofs.lemmas.Result.{err_from_is_err_and}
 use Rattle.rec_bytes.specs.Space.{State}
@@ -13,6 +13,7 @@ use Rattle.expand.specs.Expanding.{graph_in}
 use Rattle.path_find.proofs.Answered.{answered, closed_graph, ends_there, node_fault, search_fault, search_sound, search_tells}
 use Rattle.path_find.proofs.Certified.{certified_answer, shortest_or_none}
 use Rattle.path_find.proofs.OnlyReads.{is_read-on, same-read, store-read}
+use Rattle.path_find.proofs.Causes.{expand_cause_passed, expand_memory_cause, later_on, row_cause_passed}
 use Rattle.path_find.proofs.finding.find_path.Goals as goal
 
 pub returns-in_err-from_there-clause-damaged : goal.returns-in_err-from_there-clause-damaged
@@ -111,3 +112,15 @@ returns-clause-certified g c = λ tells store types stand.
     let near = adjacency_of s c.args.direction types in
     let there = sym (c.in_ok-from_there.ensures.is tells store) ∙ c.if-not-from_there.false in
     certified_answer near (closed_graph s store c.args.direction c.args.labels.now types stand) c.args.from c.args.to there c.in_ok-answer.answer.walk c.in_ok-answer.answer.levels (returns-clause-found g c tells store types stand)
+
+pub returns-in_err-to_there-clause-cause : goal.returns-in_err-to_there-clause-cause
+returns-in_err-to_there-clause-cause g c =
+    row_cause_passed _ _ _ c.from_residual-in_err-to_there.result c.in_err-to_there.field-0.0 c.in_ok-from_there.ensures.cause.later c.in_err-to_there.ensures.cause c.from_residual-in_err-to_there.ensures.1
+
+pub returns-in_err-tree-clause-cause : goal.returns-in_err-tree-clause-cause
+returns-in_err-tree-clause-cause g c =
+    expand_cause_passed _ _ _ c.from_residual-in_err-tree.result c.in_err-tree.field-0.0 (later_on c.in_ok-from_there.ensures.cause.later c.in_ok-to_there.ensures.cause.later) c.in_err-tree.ensures.cause c.from_residual-in_err-tree.ensures.1
+
+pub returns-in_err-answer-clause-cause : goal.returns-in_err-answer-clause-cause
+returns-in_err-answer-clause-cause g c =
+    expand_memory_cause _ _ c.from_residual-in_err-answer.result (later_on (later_on c.in_ok-from_there.ensures.cause.later c.in_ok-to_there.ensures.cause.later) c.in_ok-tree.ensures.cause.later) c.from_residual-in_err-answer.ensures.1

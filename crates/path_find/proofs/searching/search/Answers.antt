@@ -10,6 +10,7 @@ use Rattle.path_find.specs.Reads.{neighbours_at}
 use Rattle.path_find.specs.Search.{IsNarrow}
 use Rattle.path_find.specs.Tree.{AreNeighbours, IsTree, Rows, Spans}
 use Rattle.path_find.proofs.SearchSteps.{first_on, narrow_on, tree_past}
+use Rattle.path_find.proofs.Causes.{cause_passed, later_on, memory_cause}
 use Rattle.path_find.proofs.searching.search.Goals as goal
 use Rattle.path_find.proofs.searching.search.Goals.{in-Some+in_ok-spread, in_default}
 
@@ -111,3 +112,11 @@ loop-row-preserved g c =
       read = is_read-on g.R.Reads g.met.R.Reads.further_onward c.args.space.now c.loop-row.space c.neighbours.new.space inv.read c.neighbours.ensures.read;
       spans = next.3;
     }
+
+pub returns-in_err-found-clause-cause : goal.returns-in_err-found-clause-cause
+returns-in_err-found-clause-cause g c =
+    cause_passed _ _ _ c.from_residual-in_err-found.result c.in_err-found.field-0.0 c.loop-row.invariant.read.later c.in_err-found.ensures.cause c.from_residual-in_err-found.ensures.1
+
+pub returns-in_err-spread-clause-cause : goal.returns-in_err-spread-clause-cause
+returns-in_err-spread-clause-cause g c =
+    memory_cause _ _ c.from_residual-in_err-spread.result (later_on c.loop-row.invariant.read.later c.in_ok-found.ensures.cause.later) c.from_residual-in_err-spread.ensures.1

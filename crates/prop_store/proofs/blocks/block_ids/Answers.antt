@@ -12,6 +12,7 @@ use Rattle.prop_store.proofs.Breaches.{block_fault, leads_on, text_begins, text_
 use Rattle.prop_store.proofs.Exits.{same_has}
 use Rattle.prop_store.proofs.ReadCounts.{reads_none, reads_one, reads_records, reads_same, reads_then}
 use Rattle.prop_store.proofs.TextSteps.{all_left, block_here, right_here, text_after, text_over}
+use Rattle.prop_store.proofs.Causes.{cause_passed}
 use Rattle.prop_store.proofs.blocks.block_ids.Goals as goal
 
 pub loop-left-init : goal.loop-left-init
@@ -85,3 +86,7 @@ returns-then-at-clause-damaged g c tells text =
     let old = g.R.Reads.state c.args.space.now in
     subst (IsTextFault old c.args.property) (sym c.damaged.ensures)
     (text_too_long old c.args.property c.loop-left.from c.loop-left.at c.loop-left.left text.long (c.loop-left.invariant.reached tells text) (omega (arith, c.loop-left-test.false)) c.if-at.true)
+
+pub returns-in_err-rec-clause-cause : goal.returns-in_err-rec-clause-cause
+returns-in_err-rec-clause-cause g c =
+    cause_passed _ _ _ c.from_residual.result c.in_err-rec.field-0.0 c.loop-left.invariant.later c.in_err-rec.ensures.cause c.from_residual.ensures.1

@@ -12,6 +12,7 @@ use Rattle.prop_store.proofs.Exits.{same_has, space_has}
 use Rattle.prop_store.proofs.ReadCounts.{reads_one, reads_same}
 use Rattle.prop_store.proofs.Touches.{touches_after, touches_beside, touches_more, touches_owner, touches_reads, touches_then}
 use Rattle.prop_store.proofs.WriteCounts.{touched_beside}
+use Rattle.prop_store.proofs.Causes.{cause_passed, space_cause_passed}
 use Rattle.prop_store.proofs.changing.drop_all.Goals as goal
 use Rattle.prop_store.proofs.changing.drop_all.Goals.{In_ok-dropped, In_ok-first}
 use Rattle.prop_store.proofs.changing.drop_all.Given.{Over}
@@ -127,3 +128,13 @@ returns-in_err-dropped-clause-damaged g c tells used =
     let said : IsInUse s.records c.args.owner → c.in_ok-first.first ≡ first_of s.records c.args.owner → BlamesDropped s.records s.shape fault
     = subst (λ (y : State). IsInUse y.records c.args.owner → c.in_ok-first.first ≡ first_of y.records c.args.owner → BlamesDropped y.records y.shape fault) c.first.ensures.state (c.in_err-dropped.ensures.damaged tells) in
     same_has (BlamesDropped s.records s.shape) c.from_residual-in_err-dropped.result fault c.from_residual-in_err-dropped.ensures.1 (said used (c.in_ok-first.ensures.got tells))
+
+pub returns-in_err-dropped-clause-cause : goal.returns-in_err-dropped-clause-cause
+returns-in_err-dropped-clause-cause g c =
+    cause_passed _ _ _ c.from_residual-in_err-dropped.result c.in_err-dropped.field-0.0 c.in_ok-first.ensures.cause.later c.in_err-dropped.ensures.cause c.from_residual-in_err-dropped.ensures.1
+
+pub returns-in_err-set_number-clause-cause : goal.returns-in_err-set_number-clause-cause
+returns-in_err-set_number-clause-cause g c =
+    let later0 = c.in_ok-first.ensures.cause.later in
+    let later1 = c.in_ok-dropped.ensures.cause.later in
+    space_cause_passed _ _ _ c.from_residual-in_err-set_number.result c.in_err-set_number.field-0.0 (omega (arith, later0, later1)) c.in_err-set_number.ensures.cause c.from_residual-in_err-set_number.ensures.1

@@ -20,6 +20,7 @@ use Rattle.prop_store.proofs.ReadCounts.{reads_records, reads_same, reads_one}
 use Rattle.prop_store.proofs.Touches.{touches_after, touches_beside, touches_link, touches_more, touches_reads, touches_then}
 use Rattle.prop_store.proofs.ValueRemovals.{value_removed}
 use Rattle.prop_store.proofs.WriteCounts.{at_most_then, one_writes, reads_write, touched_count}
+use Rattle.prop_store.proofs.Causes.{cause_passed, space_cause_passed}
 use Rattle.prop_store.proofs.changing.unset.Goals as goal
 use Rattle.prop_store.proofs.changing.unset.Goals.{In-Found}
 use Rattle.prop_store.proofs.changing.unset.Given.{Over}
@@ -188,3 +189,13 @@ pub returns-in_err-set_number-in-Found-clause-damaged : goal.returns-in_err-set_
 returns-in_err-set_number-in-Found-clause-damaged g c tells used =
     let s = g.S.Reads.state c.args.space.now in
     space_has (BlamesBroken s.records s.shape) tt tt c.from_residual-in_err-set_number-in-Found.result c.in_err-set_number-in-Found.field-0.0 c.from_residual-in_err-set_number-in-Found.ensures.1
+
+pub returns-in_err-released-in-Found-clause-cause : goal.returns-in_err-released-in-Found-clause-cause
+returns-in_err-released-in-Found-clause-cause g c =
+    cause_passed _ _ _ c.from_residual-in_err-released-in-Found.result c.in_err-released-in-Found.field-0.0 c.in_ok-find.ensures.cause.later c.in_err-released-in-Found.ensures.cause c.from_residual-in_err-released-in-Found.ensures.1
+
+pub returns-in_err-set_number-in-Found-clause-cause : goal.returns-in_err-set_number-in-Found-clause-cause
+returns-in_err-set_number-in-Found-clause-cause g c =
+    let later0 = c.in_ok-find.ensures.cause.later in
+    let later1 = c.in_ok-released-in-Found.ensures.cause.later in
+    space_cause_passed _ _ _ c.from_residual-in_err-set_number-in-Found.result c.in_err-set_number-in-Found.field-0.0 (omega (arith, later0, later1)) c.in_err-set_number-in-Found.ensures.cause c.from_residual-in_err-set_number-in-Found.ensures.1

@@ -14,6 +14,7 @@ use Rattle.prop_store.proofs.Clearing.{cleared_next, row_blames_before, text_bla
 use Rattle.prop_store.proofs.Exits.{same_has}
 use Rattle.prop_store.proofs.ReadCounts.{reads_records, reads_same}
 use Rattle.prop_store.proofs.Touches.{touches_after, touches_more, touches_reads, touches_then}
+use Rattle.prop_store.proofs.Causes.{cause_passed}
 use Rattle.prop_store.proofs.dropping.drop_chain.Goals as goal
 
 pub loop-at-init : goal.loop-at-init
@@ -142,3 +143,13 @@ returns-in_err-released-clause-damaged g c tells used is =
     (text_blames_before old now c.args.owner c.requires used (g.met.S.Reads.onward_shape _ _ c.loop-at.invariant.onward) c.loop-at.from c.loop-at.at c.loop-at.properties w.reached w.cleared c.loop-at-test.true fault
     (subst (λ (z : ℕ). IsTextFault now z fault) c.in_ok-row.ensures.row.id_is
     (text_fault_same now read same (ap (λ (z : State). z.shape) (reads_same 1 now read reads)) c.in_ok-row.row.id fault (c.in_err-released.ensures.damaged tells its))))
+
+pub returns-in_err-row-clause-cause : goal.returns-in_err-row-clause-cause
+returns-in_err-row-clause-cause g c =
+    cause_passed _ _ _ c.from_residual.result c.in_err-row.field-0.0 c.loop-at.invariant.later c.in_err-row.ensures.cause c.from_residual.ensures.1
+
+pub returns-in_err-released-clause-cause : goal.returns-in_err-released-clause-cause
+returns-in_err-released-clause-cause g c =
+    let later0 = c.loop-at.invariant.later in
+    let later1 = c.in_ok-row.ensures.cause.later in
+    cause_passed _ _ _ c.from_residual-in_err-released.result c.in_err-released.field-0.0 (omega (arith, later0, later1)) c.in_err-released.ensures.cause c.from_residual-in_err-released.ensures.1

@@ -18,6 +18,7 @@ use Rattle.prop_store.proofs.Keys.{absent_key, found_here, keys_passed, link_aft
 use Rattle.prop_store.proofs.OwnerPlaces.{place_within}
 use Rattle.prop_store.proofs.ReadCounts.{reads_one, reads_records, reads_same, reads_then}
 use Rattle.prop_store.proofs.WalkSteps.{fewer_passed, right_property, walk_after, walk_begins, walk_here, walk_over}
+use Rattle.prop_store.proofs.Causes.{cause_passed}
 use Rattle.prop_store.proofs.finding.find.Goals as goal
 
 pub returns-in_err-at-clause-at_most : goal.returns-in_err-at-clause-at_most
@@ -141,3 +142,7 @@ returns-then-at-2-clause-damaged g c tells used =
     let old = g.R.Reads.state c.args.space.now in
     subst (BlamesBroken old.records old.shape) (sym c.damaged.ensures)
     (too_many old c.args.owner c.requires used c.loop-count.link.key c.loop-count.at c.loop-count.count (c.loop-count.invariant.reached tells) c.if-at-2.true (omega arith))
+
+pub returns-in_err-row-clause-cause : goal.returns-in_err-row-clause-cause
+returns-in_err-row-clause-cause g c =
+    cause_passed _ _ _ c.from_residual-in_err-row.result c.in_err-row.field-0.0 c.loop-count.invariant.later c.in_err-row.ensures.cause c.from_residual-in_err-row.ensures.1

@@ -21,6 +21,7 @@ use Rattle.prop_store.proofs.Breaches.{reached_first, reached_next, row_blames, 
 use Rattle.prop_store.proofs.Exits.{same_has}
 use Rattle.prop_store.proofs.ReadCounts.{reads_one, reads_records, reads_same, reads_then}
 use Rattle.prop_store.proofs.WalkSteps.{blocks_given, has_value, right_property, walk_after, walk_begins, walk_here}
+use Rattle.prop_store.proofs.Causes.{cause_passed, memory_cause}
 use Rattle.prop_store.proofs.reading.read_all.Goals as goal
 
 pub returns-in_err-at-clause-at_most : goal.returns-in_err-at-clause-at_most
@@ -153,3 +154,20 @@ returns-then-at-2-clause-damaged g c tells used =
     let old = g.R.Reads.state c.args.space.now in
     subst (BlamesBroken old.records old.shape) (sym c.damaged.ensures)
     (too_many old c.args.owner c.requires used c.loop.from c.loop.at c.loop.counter (c.loop.invariant.reached tells) c.if-at-2.true (omega arith))
+
+pub returns-in_err-row-clause-cause : goal.returns-in_err-row-clause-cause
+returns-in_err-row-clause-cause g c =
+    cause_passed _ _ _ c.from_residual-in_err-row.result c.in_err-row.field-0.0 c.loop.invariant.later c.in_err-row.ensures.cause c.from_residual-in_err-row.ensures.1
+
+pub returns-in_err-value-clause-cause : goal.returns-in_err-value-clause-cause
+returns-in_err-value-clause-cause g c =
+    let later0 = c.loop.invariant.later in
+    let later1 = c.in_ok-row.ensures.cause.later in
+    cause_passed _ _ _ c.from_residual-in_err-value.result c.in_err-value.field-0.0 (omega (arith, later0, later1)) c.in_err-value.ensures.cause c.from_residual-in_err-value.ensures.1
+
+pub returns-in_err-push-clause-cause : goal.returns-in_err-push-clause-cause
+returns-in_err-push-clause-cause g c =
+    let later0 = c.loop.invariant.later in
+    let later1 = c.in_ok-row.ensures.cause.later in
+    let later2 = c.in_ok-value.ensures.cause.later in
+    memory_cause _ _ c.from_residual-in_err-push.result (omega (arith, later0, later1, later2)) c.from_residual-in_err-push.ensures.1

@@ -13,6 +13,7 @@ use Rattle.prop_store.proofs.Breaches.{text_blames, text_fault_same}
 use Rattle.prop_store.proofs.Exits.{same_has}
 use Rattle.prop_store.proofs.ReadCounts.{reads_records, reads_same, reads_then}
 use Rattle.prop_store.proofs.WalkSteps.{blocks_given, has_value}
+use Rattle.prop_store.proofs.Causes.{cause_passed}
 use Rattle.prop_store.proofs.reading.read_key.Goals as goal
 
 pub returns-in_err-value-in-Found-clause-sound : goal.returns-in_err-value-in-Found-clause-sound
@@ -63,3 +64,7 @@ returns-in_err-value-in-Found-clause-damaged g c tells used =
     same_has (BlamesBroken old.records old.shape) c.from_residual-in_err-value-in-Found.result c.in_err-value-in-Found.field-0.0 c.from_residual-in_err-value-in-Found.ensures.1
     (text_blames old c.in-Found.spot.row.id c.in_err-value-in-Found.field-0.0
     (text_fault_same old now (reads_records 33 old now reads) (ap (λ (z : State). z.shape) (reads_same 33 old now reads)) c.in-Found.spot.row.id c.in_err-value-in-Found.field-0.0 (c.in_err-value-in-Found.ensures.damaged tells read)))
+
+pub returns-in_err-value-in-Found-clause-cause : goal.returns-in_err-value-in-Found-clause-cause
+returns-in_err-value-in-Found-clause-cause g c =
+    cause_passed _ _ _ c.from_residual-in_err-value-in-Found.result c.in_err-value-in-Found.field-0.0 c.in_ok-find.ensures.cause.later c.in_err-value-in-Found.ensures.cause c.from_residual-in_err-value-in-Found.ensures.1

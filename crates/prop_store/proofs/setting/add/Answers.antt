@@ -20,6 +20,8 @@ use Rattle.prop_store.proofs.Midway.{exact_of_space, set_has, set_of_space, set_
 use Rattle.prop_store.proofs.ReadCounts.{reads_one, reads_same}
 use Rattle.prop_store.proofs.Touches.{touches_after, touches_beside, touches_owner, touches_reads, touches_then}
 use Rattle.prop_store.proofs.WriteCounts.{touched_beside}
+use Rattle.prop_store.proofs.Causes.{later_on}
+use Rattle.prop_store.proofs.SetCauses.{set_cause_passed, space_set_cause}
 use Rattle.prop_store.proofs.setting.add.Goals as goal
 
 -- as few are listed
@@ -152,3 +154,11 @@ pub returns-in_err-set_number-clause-exact : goal.returns-in_err-set_number-clau
 returns-in_err-set_number-clause-exact g c tells =
     let s = g.S.Reads.state c.args.space.now in
     set_has (IsExact s.shape) c.from_residual-in_err-set_number.result _ c.from_residual-in_err-set_number.ensures.1 (exact_of_space s.shape c.in_err-set_number.field-0.0)
+
+pub returns-in_err-id-clause-cause : goal.returns-in_err-id-clause-cause
+returns-in_err-id-clause-cause g c =
+    set_cause_passed _ _ _ c.from_residual-in_err-id.result c.in_err-id.field-0.0 c.in_ok-next.ensures.cause.later c.in_err-id.ensures.cause c.from_residual-in_err-id.ensures.1
+
+pub returns-in_err-set_number-clause-cause : goal.returns-in_err-set_number-clause-cause
+returns-in_err-set_number-clause-cause g c =
+    space_set_cause _ _ _ c.from_residual-in_err-set_number.result c.in_err-set_number.field-0.0 (later_on c.in_ok-next.ensures.cause.later c.in_ok-id.ensures.cause.later) c.in_err-set_number.ensures.cause c.from_residual-in_err-set_number.ensures.1

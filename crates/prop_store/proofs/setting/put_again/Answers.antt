@@ -20,6 +20,8 @@ use Rattle.prop_store.proofs.PutSteps.{blocks_needed, again_put, again_text_faul
 use Rattle.prop_store.proofs.PutTouches.{touches_new, touches_texts}
 use Rattle.prop_store.proofs.ReadCounts.{reads_records, reads_same}
 use Rattle.prop_store.proofs.Touches.{touches_freed, touches_more, touches_reads, touches_same}
+use Rattle.prop_store.proofs.Causes.{later_on}
+use Rattle.prop_store.proofs.SetCauses.{space_set_cause}
 use Rattle.prop_store.proofs.setting.put_again.Goals as goal
 
 pub returns-in_err-blocks-clause-refused : goal.returns-in_err-blocks-clause-refused
@@ -179,3 +181,11 @@ pub returns-in_err-test_free-clause-cause : goal.returns-in_err-test_free-clause
 returns-in_err-test_free-clause-cause g c =
     let cause = c.value_blocks.ensures.cause in
     set_cause _ _ c.from_residual-in_err-test_free.result c.in_err-test_free.field-0.0 _ c.from_residual-in_err-test_free.ensures.1 c.in_err-test_free.ensures.named cause.later
+
+pub returns-in_err-release-clause-cause : goal.returns-in_err-release-clause-cause
+returns-in_err-release-clause-cause g c =
+    space_set_cause _ _ _ c.from_residual-in_err-release.result c.in_err-release.field-0.0 c.in_ok-blocks.ensures.cause.later c.in_err-release.ensures.cause c.from_residual-in_err-release.ensures.1
+
+pub returns-in_err-put-clause-cause : goal.returns-in_err-put-clause-cause
+returns-in_err-put-clause-cause g c =
+    space_set_cause _ _ _ c.from_residual-in_err-put.result c.in_err-put.field-0.0 (later_on (later_on c.in_ok-blocks.ensures.cause.later c.in_ok-release.ensures.cause.later) c.in_ok-first.ensures.cause.later) c.in_err-put.ensures.cause c.from_residual-in_err-put.ensures.1

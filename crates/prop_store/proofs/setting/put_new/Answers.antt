@@ -9,6 +9,8 @@ use Rattle.prop_store.proofs.Midway.{exact_of_space, exact_of_take, exact_take, 
 use Rattle.prop_store.proofs.PutSteps.{blocks_needed, property_put, take_put_fault}
 use Rattle.prop_store.proofs.PutTouches.{touches_new, touches_text, touches_text_taken}
 use Rattle.prop_store.proofs.Touches.{touches_more, touches_same}
+use Rattle.prop_store.proofs.Causes.{later_on}
+use Rattle.prop_store.proofs.SetCauses.{space_set_cause}
 use Rattle.prop_store.proofs.setting.put_new.Goals as goal
 
 pub returns-in_err-id-clause-refused : goal.returns-in_err-id-clause-refused
@@ -89,3 +91,7 @@ pub returns-in_err-put-clause-exact : goal.returns-in_err-put-clause-exact
 returns-in_err-put-clause-exact g c tells =
     let s = g.S.Reads.state c.args.space.now in
     set_has (IsExact s.shape) c.from_residual-in_err-put.result _ c.from_residual-in_err-put.ensures.1 (exact_of_space s.shape c.in_err-put.field-0.0)
+
+pub returns-in_err-put-clause-cause : goal.returns-in_err-put-clause-cause
+returns-in_err-put-clause-cause g c =
+    space_set_cause _ _ _ c.from_residual-in_err-put.result c.in_err-put.field-0.0 (later_on c.in_ok-first.ensures.cause.later c.in_ok-id.ensures.cause.later) c.in_err-put.ensures.cause c.from_residual-in_err-put.ensures.1

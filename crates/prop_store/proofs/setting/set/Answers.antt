@@ -27,6 +27,7 @@ use Rattle.prop_store.proofs.Midway.{exact_of_fault, set_has, set_of_fault, set_
 use Rattle.prop_store.proofs.ReadCounts.{reads_records, reads_same}
 use Rattle.prop_store.proofs.Touches.{touches_after, touches_beside, touches_more, touches_reads}
 use Rattle.prop_store.proofs.WriteCounts.{beside_writes, touched_beside}
+use Rattle.prop_store.proofs.SetCauses.{set_cause_passed}
 use Rattle.prop_store.proofs.setting.set.Goals as goal
 use Rattle.prop_store.proofs.setting.set.Goals.{After-put_again}
 use Rattle.prop_store.proofs.setting.set.Given.{Over}
@@ -262,3 +263,7 @@ returns-in-Found-clause-exact g c tells =
     let s = g.S.Reads.state c.args.space.now in
     let z = g.S.Reads.state c.find.new.space in
     IfErr-weaker c.put_again.result (IsExact z.shape) (IsExact s.shape) (λ fault why. subst (λ (h : Shape). IsExact h fault) (ap (λ (y : State). y.shape) (same g c)) why) (c.put_again.ensures.exact tells)
+
+pub returns-in_err-add-in-Absent-clause-cause : goal.returns-in_err-add-in-Absent-clause-cause
+returns-in_err-add-in-Absent-clause-cause g c =
+    set_cause_passed _ _ _ c.from_residual-in_err-add-in-Absent.result c.in_err-add-in-Absent.field-0.0 c.in_ok-count.ensures.cause.later c.in_err-add-in-Absent.ensures.cause c.from_residual-in_err-add-in-Absent.ensures.1

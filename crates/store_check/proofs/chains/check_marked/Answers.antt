@@ -1,4 +1,4 @@
-use Rattle.std.proofs.Common.{rules, ◌<◌, ℕ, IfNone, IfSome, subst, refl}
+use Rattle.std.proofs.Common.{arith, rules, ◌<◌, ℕ, IfNone, IfSome, subst, refl}
 use Rattle.rec_bytes.specs.Format.{relationships_file}
 use Rattle.store_rules.specs.Views.{Records, high}
 use Rattle.store_rules.specs.Breaking.{damage}
@@ -7,6 +7,7 @@ use Rattle.store_check.specs.NodeChains.{AreMet, RelHolds}
 use Rattle.store_check.proofs.EndLaws.{rel_holds, rel_kept}
 use Rattle.store_check.proofs.LinkedLaws.{is_linked}
 use Rattle.store_check.proofs.VerdictLaws.{breaks_by}
+use Rattle.store_check.proofs.Causes.{cause_passed}
 use Rattle.store_check.proofs.chains.check_marked.Goals as goal
 
 pub returns-in-Some-2-clause-decided : goal.returns-in-Some-2-clause-decided
@@ -29,3 +30,11 @@ returns-in-None-clause-decided g c = λ tells.
     = subst (λ (r : Records). IfNone c.in_ok-id.field-0 ((x : ℕ) → x < high r relationships_file → RelHolds r marks x)) c.in_ok-damage.ensures.same (c.in_ok-id.ensures.none tells) in
     let holds : (x : ℕ) → x < high s.records relationships_file → RelHolds s.records marks x = search (rules, none) in
     is_linked s.records met.nodes met.groups (λ x lt. rel_kept s.records marks met.told x (holds x lt))
+
+pub returns-in_err-damage-clause-cause : goal.returns-in_err-damage-clause-cause
+returns-in_err-damage-clause-cause g c =
+    cause_passed _ _ _ c.from_residual.result c.in_err-damage.field-0.0 (omega arith) c.in_err-damage.ensures.cause c.from_residual.ensures.1
+
+pub returns-in_err-id-clause-cause : goal.returns-in_err-id-clause-cause
+returns-in_err-id-clause-cause g c =
+    cause_passed _ _ _ c.from_residual-in_err-id.result c.in_err-id.field-0.0 c.in_ok-damage.ensures.cause.later c.in_err-id.ensures.cause c.from_residual-in_err-id.ensures.1

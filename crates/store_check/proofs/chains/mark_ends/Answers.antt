@@ -12,6 +12,7 @@ use Rattle.store_check.specs.NodeChains.{AreGroupEnds, AreNodeEnds, IsLeading, I
 use Rattle.store_check.proofs.EndLaws.{all_met, group_never_twice, head_of_keeps, heads_of_keeps, keeps_of_head, keeps_of_heads, never_twice}
 use Rattle.store_check.proofs.HeadLaws.{told_clear}
 use Rattle.store_check.proofs.VerdictLaws.{breaks_by}
+use Rattle.store_check.proofs.Causes.{cause_passed}
 use Rattle.store_check.proofs.chains.mark_ends.Goals as goal
 
 pub returns-in-Some-Head-clause-broken : goal.returns-in-Some-Head-clause-broken
@@ -83,3 +84,11 @@ returns-in-None-2-clause-met g c = λ tells.
       told = all_met s.records leaders led first last node_told
           (subst (λ m. (p : ℕ) → Decides (marked last p) ((marked first p ≡ true) ⊎ AmongHeads (λ k. IsLeading leaders s.records (group_of k)) (AreGroupEnds s.records) (3 * m) p)) group_mark group_told);
     }
+
+pub returns-in_err-id-clause-cause : goal.returns-in_err-id-clause-cause
+returns-in_err-id-clause-cause g c =
+    cause_passed _ _ _ c.from_residual.result c.in_err-id.field-0.0 (omega arith) c.in_err-id.ensures.cause c.from_residual.ensures.1
+
+pub returns-in_err-id-2-clause-cause : goal.returns-in_err-id-2-clause-cause
+returns-in_err-id-2-clause-cause g c =
+    cause_passed _ _ _ c.from_residual-in_err-id-2.result c.in_err-id-2.field-0.0 c.in_ok-id.ensures.cause.later c.in_err-id-2.ensures.cause c.from_residual-in_err-id-2.ensures.1

@@ -9,6 +9,7 @@ use Rattle.store_check.specs.Elements.{AreItsProperties, HasName, IsInUse}
 use Rattle.store_check.specs.Heads.{AmongHeads, AtHead, BrokeIs, HeadKeeps, IsOnce}
 use Rattle.store_check.specs.Marks.{marked}
 use Rattle.store_check.proofs.ElementLaws.{are_listed, element_head, had_twice}
+use Rattle.store_check.proofs.Causes.{cause_passed}
 use Rattle.store_check.proofs.elements.check_file.Goals as goal
 
 pub returns-in-Some-Head-clause-found : goal.returns-in-Some-Head-clause-found
@@ -43,3 +44,11 @@ returns-in-None-2-clause-none g c = λ tells.
     = subst (λ (r : Records). IfNone c.in_ok-id-2.field-0 ((x : ℕ) → x < n → HasName named r x)) c.in_ok-id.ensures.same (c.in_ok-id-2.ensures.none tells) in
     let each : (x : ℕ) → x < n → HasName named records x = search (rules, names) in
     are_listed records heads c.requires.file n old new mark keeps told once fresh each
+
+pub returns-in_err-id-clause-cause : goal.returns-in_err-id-clause-cause
+returns-in_err-id-clause-cause g c =
+    cause_passed _ _ _ c.from_residual.result c.in_err-id.field-0.0 (omega arith) c.in_err-id.ensures.cause c.from_residual.ensures.1
+
+pub returns-in_err-id-2-clause-cause : goal.returns-in_err-id-2-clause-cause
+returns-in_err-id-2-clause-cause g c =
+    cause_passed _ _ _ c.from_residual-in_err-id-2.result c.in_err-id-2.field-0.0 c.in_ok-id.ensures.cause.later c.in_err-id-2.ensures.cause c.from_residual-in_err-id-2.ensures.1

@@ -7,6 +7,7 @@ use Rattle.store_rules.specs.Breaking.{key_of}
 use Rattle.store_check.specs.Elements.{AreKeys, property_line}
 use Rattle.store_check.specs.Lines.{IsLineIn}
 use Rattle.store_check.proofs.PropertyLaws.{IsIt, keys_from, no_properties, properties_of}
+use Rattle.store_check.proofs.Causes.{cause_passed}
 use Rattle.store_check.proofs.elements.property_list.Goals as goal
 
 pub returns-in_default-clause-none : goal.returns-in_default-clause-none
@@ -55,3 +56,11 @@ returns-clause-found g c = λ tells.
     let len : c.len.result ≡ length ids = search rules in
     let few : length ids ≤ 32 = omega (arith, c.if-len-gt-MOST_PROPERTIES.false) in
     properties_of records c.args.first room ids it few (subst (λ n. AreKeys n (map (key_of records) ids)) names (subst (λ ks. AreKeys c.meta.result.high ks) keys (c.are_keys.ensures.0 yes)))
+
+pub returns-in_err-ids-clause-cause : goal.returns-in_err-ids-clause-cause
+returns-in_err-ids-clause-cause g c =
+    cause_passed _ _ _ c.from_residual.result c.in_err-ids.field-0.0 (omega arith) c.in_err-ids.ensures.cause c.from_residual.ensures.1
+
+pub returns-in_err-keys-clause-cause : goal.returns-in_err-keys-clause-cause
+returns-in_err-keys-clause-cause g c =
+    cause_passed _ _ _ c.from_residual-in_err-keys.result c.in_err-keys.field-0.0 c.in_ok-ids.ensures.cause.later c.in_err-keys.ensures.cause c.from_residual-in_err-keys.ensures.1

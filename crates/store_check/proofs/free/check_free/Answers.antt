@@ -1,4 +1,4 @@
-use Rattle.std.proofs.Common.{rules, ◌≡◌, ◌≢◌, ◌∙◌, ℕ, List, length, ap, sym, subst, refl}
+use Rattle.std.proofs.Common.{arith, rules, ◌≡◌, ◌≢◌, ◌∙◌, ℕ, List, length, ap, sym, subst, refl}
 use Rattle.rec_bytes.specs.declared.meta.Meta.{Meta}
 use Rattle.rec_bytes.specs.Space.{meta_in}
 use Rattle.store_rules.specs.Rows.{ids}
@@ -11,6 +11,7 @@ use Rattle.store_check.specs.Marks.{is_among, marked}
 use Rattle.store_check.specs.declared.free.Counted.TheVariants.{Live, OffList}
 use Rattle.store_check.proofs.FreeLaws.{IsIt, counted_at, is_off, is_split, no_list, wrong_count}
 use Rattle.store_check.proofs.VerdictLaws.{breaks_by}
+use Rattle.store_check.proofs.Causes.{cause_passed}
 use Rattle.store_check.proofs.free.check_free.Goals as goal
 
 pub returns-in_default-clause-broken : goal.returns-in_default-clause-broken
@@ -49,3 +50,11 @@ returns-clause-broken g c = λ tells.
     let marks : (p : ℕ) → marked c.in-Ok.marks.items p ≡ is_among c.in-Some.ids.items p = search rules in
     breaks_by s.records s.shape 2 _ (damage c.args.file c.in-OffList.id 2) refl refl
     (OffFreeList c.args.file c.in-OffList.id c.requires.file counted.0 counted.1 (is_off s.records c.args.file c.requires.mark c.in-Ok.marks.items c.in-Some.ids.items it marks c.in-OffList.id counted.2))
+
+pub returns-in_err-ids-clause-cause : goal.returns-in_err-ids-clause-cause
+returns-in_err-ids-clause-cause g c =
+    cause_passed _ _ _ c.from_residual.result c.in_err-ids.field-0.0 (omega arith) c.in_err-ids.ensures.cause c.from_residual.ensures.1
+
+pub returns-in_err-live-clause-cause : goal.returns-in_err-live-clause-cause
+returns-in_err-live-clause-cause g c =
+    cause_passed _ _ _ c.from_residual-in_err-live.result c.in_err-live.field-0.0 c.in_ok-ids.ensures.cause.later c.in_err-live.ensures.cause c.from_residual-in_err-live.ensures.1

@@ -1,4 +1,4 @@
-use Rattle.std.proofs.Common.{rules, ◌<◌, ℕ, IfNone, IfSome, subst, refl}
+use Rattle.std.proofs.Common.{arith, rules, ◌<◌, ℕ, IfNone, IfSome, subst, refl}
 use Rattle.rec_bytes.specs.Format.{groups_file, relationships_file}
 use Rattle.store_rules.specs.Views.{Records, high}
 use Rattle.store_rules.specs.Breaking.{damage}
@@ -7,6 +7,7 @@ use Rattle.store_check.specs.Counts.{CountsHold}
 use Rattle.store_check.proofs.GroupChainLaws.{Grouped}
 use Rattle.store_check.proofs.GroupCountLaws.{are_exact, counts_hold}
 use Rattle.store_check.proofs.VerdictLaws.{breaks_by}
+use Rattle.store_check.proofs.Causes.{cause_passed}
 use Rattle.store_check.proofs.groups.check_groups.Goals as goal
 
 pub returns-in-Some-2-clause-decided : goal.returns-in-Some-2-clause-decided
@@ -26,3 +27,11 @@ returns-clause-decided g c = λ tells.
     = subst (λ (r : Records). IfNone c.in_ok-id.field-0 ((k : ℕ) → k < high r groups_file → CountsHold r k)) c.in_ok-damage.ensures.same (c.in_ok-id.ensures.none tells) in
     let hold : (k : ℕ) → k < high s.records groups_file → CountsHold s.records k = search (rules, none) in
     record { grouped = grouped; exact = are_exact s.records (c.requires.linked tells) (c.requires.low relationships_file refl) grouped hold }
+
+pub returns-in_err-damage-clause-cause : goal.returns-in_err-damage-clause-cause
+returns-in_err-damage-clause-cause g c =
+    cause_passed _ _ _ c.from_residual.result c.in_err-damage.field-0.0 (omega arith) c.in_err-damage.ensures.cause c.from_residual.ensures.1
+
+pub returns-in_err-id-clause-cause : goal.returns-in_err-id-clause-cause
+returns-in_err-id-clause-cause g c =
+    cause_passed _ _ _ c.from_residual-in_err-id.result c.in_err-id.field-0.0 c.in_ok-damage.ensures.cause.later c.in_err-id.ensures.cause c.from_residual-in_err-id.ensures.1

@@ -12,6 +12,7 @@ use Rattle.store_check.specs.NodeChains.{IsDense}
 use Rattle.store_check.proofs.GroupChainLaws.{are_grouped, head_of_keeps, keeps_of_head, mark_of_member, member_of_mark, never_twice}
 use Rattle.store_check.proofs.HeadLaws.{told_clear}
 use Rattle.store_check.proofs.VerdictLaws.{breaks_by}
+use Rattle.store_check.proofs.Causes.{cause_passed}
 use Rattle.store_check.proofs.groups.find_ungrouped.Goals as goal
 
 pub returns-in-Some-Head-clause-broken : goal.returns-in-Some-Head-clause-broken
@@ -55,3 +56,11 @@ returns-in-None-2-clause-grouped g c = λ tells.
     = subst (λ (r : Records). IfNone c.in_ok-id-2.field-0 ((x : ℕ) → x < high r groups_file → is_live r groups_file x ≡ true → marked marks x ≡ true)) c.in_ok-id.ensures.same (c.in_ok-id-2.ensures.none tells) in
     let held : (x : ℕ) → x < high s.records groups_file → is_live s.records groups_file x ≡ true → marked marks x ≡ true = search (rules, none) in
     are_grouped s.records (λ n lt. keeps_of_head s.records n (heads n (omega arith))) (λ x lt. member_of_mark s.records marks told2 x (held x lt))
+
+pub returns-in_err-id-clause-cause : goal.returns-in_err-id-clause-cause
+returns-in_err-id-clause-cause g c =
+    cause_passed _ _ _ c.from_residual.result c.in_err-id.field-0.0 (omega arith) c.in_err-id.ensures.cause c.from_residual.ensures.1
+
+pub returns-in_err-id-2-clause-cause : goal.returns-in_err-id-2-clause-cause
+returns-in_err-id-2-clause-cause g c =
+    cause_passed _ _ _ c.from_residual-in_err-id-2.result c.in_err-id-2.field-0.0 c.in_ok-id.ensures.cause.later c.in_err-id-2.ensures.cause c.from_residual-in_err-id-2.ensures.1

@@ -1,4 +1,4 @@
-use Rattle.std.proofs.Common.{rules, ◌≡◌, ℕ, List, map, nat_eq, false, true, ◌∙◌, ap, sym, subst}
+use Rattle.std.proofs.Common.{arith, rules, ◌≡◌, ℕ, List, map, nat_eq, false, true, ◌∙◌, ap, sym, subst}
 use Rattle.std.specs.List.{IsDistinct}
 use Rattle.std.proofs.lemmas.Bool.{true≢false}
 use Rattle.store_rules.specs.Views.{Records}
@@ -6,6 +6,7 @@ use Rattle.store_rules.specs.Breaking.{group_label}
 use Rattle.store_check.specs.Groups.{group_line}
 use Rattle.store_check.specs.Lines.{IsLineIn}
 use Rattle.store_check.proofs.GroupChainLaws.{groups_one}
+use Rattle.store_check.proofs.Causes.{cause_passed}
 use Rattle.store_check.proofs.groups.groups_from.Goals as goal
 
 pub returns-in_default-clause-told : goal.returns-in_default-clause-told
@@ -34,3 +35,11 @@ returns-clause-told g c = λ tells.
     = c.deref_mut.ensures.value ∙ c.in_ok-types.ensures.types tells ∙ ap (λ (r : Records). map (group_label r) c.deref.result.now) c.in_ok-ids.ensures.same ∙ ap (map (group_label records)) c.deref.ensures.value in
     let well : c.are_distinct.result ≡ true = search rules in
     record { line = it; types = subst (IsDistinct nat_eq) types (c.are_distinct.ensures.0 well) }
+
+pub returns-in_err-ids-clause-cause : goal.returns-in_err-ids-clause-cause
+returns-in_err-ids-clause-cause g c =
+    cause_passed _ _ _ c.from_residual.result c.in_err-ids.field-0.0 (omega arith) c.in_err-ids.ensures.cause c.from_residual.ensures.1
+
+pub returns-in_err-types-clause-cause : goal.returns-in_err-types-clause-cause
+returns-in_err-types-clause-cause g c =
+    cause_passed _ _ _ c.from_residual-in_err-types.result c.in_err-types.field-0.0 c.in_ok-ids.ensures.cause.later c.in_err-types.ensures.cause c.from_residual-in_err-types.ensures.1

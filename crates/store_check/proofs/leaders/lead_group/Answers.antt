@@ -1,4 +1,4 @@
-use Rattle.std.proofs.Common.{rules, ◌≡◌, ◌≢◌, ◌&&◌, ◌∙◌, None, Some, cond, nat_eq, ap, sym, subst}
+use Rattle.std.proofs.Common.{arith, rules, ◌≡◌, ◌≢◌, ◌&&◌, ◌∙◌, None, Some, cond, nat_eq, ap, sym, subst}
 use Rattle.rec_bytes.specs.Format.{group_owner, group_type, groups_file}
 use Rattle.rec_bytes.specs.Record.{field}
 use Rattle.store_rules.specs.Views.{Records, kind_at, rec_at}
@@ -7,6 +7,7 @@ use Rattle.store_check.specs.Leading.{IsGroupAt, have_same_firsts, leader}
 use Rattle.store_check.specs.NodeChains.{IsDense, owner_at}
 use Rattle.store_check.proofs.LeadLaws.{alike_from, group_here, group_parts, led_new, led_same, led_skip, not_alike}
 use Rattle.store_check.proofs.RecordLaws.{kind_read}
+use Rattle.store_check.proofs.Causes.{cause_passed}
 use Rattle.store_check.proofs.leaders.lead_group.Goals as goal
 
 pub returns-then-byte-eq-FREE-clause-led : goal.returns-then-byte-eq-FREE-clause-led
@@ -72,3 +73,17 @@ returns-in_ok-add-in-None-clause-led g c = λ tells led _.
     (λ o l. c.in_ok-add-in-None.ensures.added o l
     ∙ ap (λ z. cond (nat_eq z o && nat_eq c.number-label.result l) (Some id) (leader old o l)) owner
     ∙ ap (λ z. cond (nat_eq (owner_at records id) o && nat_eq z l) (Some id) (leader old o l)) label)
+
+pub returns-in_err-rec-clause-cause : goal.returns-in_err-rec-clause-cause
+returns-in_err-rec-clause-cause g c =
+    cause_passed _ _ _ c.from_residual.result c.in_err-rec.field-0.0 (omega arith) c.in_err-rec.ensures.cause c.from_residual.ensures.1
+
+pub returns-in_err-is_dense-clause-cause : goal.returns-in_err-is_dense-clause-cause
+returns-in_err-is_dense-clause-cause g c =
+    cause_passed _ _ _ c.from_residual-in_err-is_dense.result c.in_err-is_dense.field-0.0 c.in_ok-rec.ensures.cause.later c.in_err-is_dense.ensures.cause c.from_residual-in_err-is_dense.ensures.1
+
+pub returns-in_err-other-in-Some-clause-cause : goal.returns-in_err-other-in-Some-clause-cause
+returns-in_err-other-in-Some-clause-cause g c =
+    let later = c.in_ok-rec.ensures.cause.later in
+    let later1 = c.in_ok-is_dense.ensures.cause.later in
+    cause_passed _ _ _ c.from_residual-in_err-other-in-Some.result c.in_err-other-in-Some.field-0.0 (omega (arith, later, later1)) c.in_err-other-in-Some.ensures.cause c.from_residual-in_err-other-in-Some.ensures.1

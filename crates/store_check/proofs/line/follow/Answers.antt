@@ -3,6 +3,7 @@ use Rattle.std.proofs.lemmas.Grind.{common_steps}
 use Rattle.rec_bytes.specs.Format.{nil}
 use Rattle.store_rules.specs.Views.{rec_at}
 use Rattle.store_check.proofs.LineLaws.{path_step, path_ends, no_line, no_line_so_long}
+use Rattle.store_check.proofs.Causes.{cause_passed}
 use Rattle.store_check.proofs.line.follow.Goals as goal
 
 pub returns-then-at-clause-found : goal.returns-then-at-clause-found
@@ -64,3 +65,16 @@ loop-init g c = record {
   onward = g.met.R.Reads.stays_onward c.args.space.now;
   faults = omega arith;
 }
+
+pub returns-in_err-rec-clause-cause : goal.returns-in_err-rec-clause-cause
+returns-in_err-rec-clause-cause g c =
+    cause_passed _ _ _ c.from_residual.result c.in_err-rec.field-0.0 c.loop.invariant.faults c.in_err-rec.ensures.cause c.from_residual.ensures.1
+
+pub returns-in_err-rec-clause-onward : goal.returns-in_err-rec-clause-onward
+returns-in_err-rec-clause-onward g c = g.met.R.Reads.further_onward c.args.space.now c.loop.space c.get.new.self c.loop.invariant.onward c.in_err-rec.ensures.onward
+
+pub returns-in_err-rec-clause-same : goal.returns-in_err-rec-clause-same
+returns-in_err-rec-clause-same g c = ap (λ s. s.records) c.in_err-rec.ensures.state ∙ c.loop.invariant.same
+
+pub returns-in_err-rec-clause-written : goal.returns-in_err-rec-clause-written
+returns-in_err-rec-clause-written g c = ap (λ s. s.written) c.in_err-rec.ensures.state ∙ c.loop.invariant.written

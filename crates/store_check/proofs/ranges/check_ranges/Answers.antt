@@ -12,6 +12,7 @@ use Rattle.store_check.specs.Fitting.{FitsUnused}
 use Rattle.store_check.proofs.FileLaws.{in_range_of, taken_right}
 use Rattle.store_check.proofs.LayoutLaws.{unfit}
 use Rattle.store_check.proofs.VerdictLaws.{breaks_by}
+use Rattle.store_check.proofs.Causes.{cause_passed}
 use Rattle.store_check.proofs.ranges.check_ranges.Goals as goal
 
 pub returns-then-not-branch-clause-decided : goal.returns-then-not-branch-clause-decided
@@ -61,3 +62,17 @@ returns-in-None-clause-decided g c = λ tells.
       metas = λ f is. in_range_of s.shape f (s.records (meta_key_of f)) is (metas f (is_record_file-low f (is_meta_file-record f is)));
       fit = fit;
     }
+
+pub returns-in_err-is_own_right-clause-cause : goal.returns-in_err-is_own_right-clause-cause
+returns-in_err-is_own_right-clause-cause g c =
+    cause_passed _ _ _ c.from_residual.result c.in_err-is_own_right.field-0.0 (omega arith) c.in_err-is_own_right.ensures.cause c.from_residual.ensures.1
+
+pub returns-in_err-id-clause-cause : goal.returns-in_err-id-clause-cause
+returns-in_err-id-clause-cause g c =
+    cause_passed _ _ _ c.from_residual-in_err-id.result c.in_err-id.field-0.0 c.in_ok-is_own_right.ensures.cause.later c.in_err-id.ensures.cause c.from_residual-in_err-id.ensures.1
+
+pub returns-in_err-key-clause-cause : goal.returns-in_err-key-clause-cause
+returns-in_err-key-clause-cause g c =
+    let later = c.in_ok-is_own_right.ensures.cause.later in
+    let later1 = c.in_ok-id.ensures.cause.later in
+    cause_passed _ _ _ c.from_residual-in_err-key.result c.in_err-key.field-0.0 (omega (arith, later, later1)) c.in_err-key.ensures.cause c.from_residual-in_err-key.ensures.1

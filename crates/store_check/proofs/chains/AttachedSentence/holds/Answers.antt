@@ -8,6 +8,7 @@ use Rattle.store_check.specs.Marks.{marked}
 use Rattle.store_check.specs.NodeChains.{EndHolds, end_in}
 use Rattle.store_check.proofs.EndLaws.{hold_both, hold_from, hold_to, none_holds}
 use Rattle.store_check.proofs.RecordLaws.{kind_read}
+use Rattle.store_check.proofs.Causes.{cause_passed}
 use Rattle.store_check.proofs.chains.AttachedSentence.holds.Goals as goal
 
 pub returns-then-byte-eq-FREE-clause-told : goal.returns-then-byte-eq-FREE-clause-told
@@ -39,3 +40,17 @@ returns-else-leaves-clause-told g c = λ tells.
     let got = c.in_ok-rec.ensures.got tells in
     let from : Decides c.in_ok-leaves.leaves (EndHolds records (field 4 r 8) (marked marks (end_in r (field 4 r 8) c.args.id))) = search (rules, c.in_ok-leaves.ensures.holds tells) in
     ((λ e. absurd (true≢false (sym e ∙ c.if-leaves.false))), (λ h. from.1 (hold_from records marks c.args.id r lt got some h)))
+
+pub returns-in_err-rec-clause-cause : goal.returns-in_err-rec-clause-cause
+returns-in_err-rec-clause-cause g c =
+    cause_passed _ _ _ c.from_residual.result c.in_err-rec.field-0.0 (omega arith) c.in_err-rec.ensures.cause c.from_residual.ensures.1
+
+pub returns-in_err-leaves-clause-cause : goal.returns-in_err-leaves-clause-cause
+returns-in_err-leaves-clause-cause g c =
+    cause_passed _ _ _ c.from_residual-in_err-leaves.result c.in_err-leaves.field-0.0 c.in_ok-rec.ensures.cause.later c.in_err-leaves.ensures.cause c.from_residual-in_err-leaves.ensures.1
+
+pub returns-in_err-enters-clause-cause : goal.returns-in_err-enters-clause-cause
+returns-in_err-enters-clause-cause g c =
+    let later = c.in_ok-rec.ensures.cause.later in
+    let later1 = c.in_ok-leaves.ensures.cause.later in
+    cause_passed _ _ _ c.from_residual-in_err-enters.result c.in_err-enters.field-0.0 (omega (arith, later, later1)) c.in_err-enters.ensures.cause c.from_residual-in_err-enters.ensures.1

@@ -10,6 +10,7 @@ use Rattle.store_check.specs.NodeChains.{EndsFound, IsLeading, group_of, owner_a
 use Rattle.store_check.proofs.ChainLaws.{IsSideOf, found_is, group_side}
 use Rattle.store_check.proofs.RecordLaws.{kind_read}
 use Rattle.store_check.proofs.SideLaws.{place_first}
+use Rattle.store_check.proofs.Causes.{cause_passed}
 use Rattle.store_check.proofs.chains.GroupHeadsHeads.list.Goals as goal
 
 pub returns-then-byte-eq-FREE-clause-told : goal.returns-then-byte-eq-FREE-clause-told
@@ -54,3 +55,11 @@ returns-clause-told g c = λ tells.
     (ap (λ s. s.records) c.in_ok-rec.ensures.state) c.requires.suits.relationships c.requires.suits.few_relationships first (IsLeading leaders records id) leads
     (subst (λ o. EndsFound (g.R.Reads.state c.get.new.self).records c.args.self.now.relationships (side_at place (group_label records id)) o c.number-first.result c.in_ok-found.found) node
     (subst (λ s. EndsFound (g.R.Reads.state c.get.new.self).records c.args.self.now.relationships s c.number-node.result c.number-first.result c.in_ok-found.found) side found))
+
+pub returns-in_err-rec-clause-cause : goal.returns-in_err-rec-clause-cause
+returns-in_err-rec-clause-cause g c =
+    cause_passed _ _ _ c.from_residual.result c.in_err-rec.field-0.0 (omega arith) c.in_err-rec.ensures.cause c.from_residual.ensures.1
+
+pub returns-in_err-found-clause-cause : goal.returns-in_err-found-clause-cause
+returns-in_err-found-clause-cause g c =
+    cause_passed _ _ _ c.from_residual-in_err-found.result c.in_err-found.field-0.0 c.in_ok-rec.ensures.cause.later c.in_err-found.ensures.cause c.from_residual-in_err-found.ensures.1

@@ -6,6 +6,7 @@ use Rattle.store_rules.specs.Breaking.{IsPropertyList}
 use Rattle.store_check.specs.Elements.{first_of}
 use Rattle.store_check.proofs.PropertyLaws.{properties_one}
 use Rattle.store_check.proofs.RecordLaws.{free_read, live_read}
+use Rattle.store_check.proofs.Causes.{cause_passed}
 use Rattle.store_check.proofs.elements.ElementHeadsHeads.list.Goals as goal
 
 pub property_list-requires-clause-mark : goal.property_list-requires-clause-mark
@@ -44,3 +45,11 @@ returns-in-None-clause-told g c = λ tells.
     let read = ap (λ s. s.records) c.in_ok-rec.ensures.state in
     let none : (xs : List ℕ) → ¬ IsPropertyList (g.R.Reads.state c.get.new.self).records c.number-first.result xs = search (rules, c.in_ok-ids.ensures.none tells) in
     (live, subst (λ f. (xs : List ℕ) → ¬ IsPropertyList records f xs) first (subst (λ (r : Records). (xs : List ℕ) → ¬ IsPropertyList r c.number-first.result xs) read none))
+
+pub returns-in_err-rec-clause-cause : goal.returns-in_err-rec-clause-cause
+returns-in_err-rec-clause-cause g c =
+    cause_passed _ _ _ c.from_residual.result c.in_err-rec.field-0.0 (omega arith) c.in_err-rec.ensures.cause c.from_residual.ensures.1
+
+pub returns-in_err-ids-clause-cause : goal.returns-in_err-ids-clause-cause
+returns-in_err-ids-clause-cause g c =
+    cause_passed _ _ _ c.from_residual-in_err-ids.result c.in_err-ids.field-0.0 c.in_ok-rec.ensures.cause.later c.in_err-ids.ensures.cause c.from_residual-in_err-ids.ensures.1
