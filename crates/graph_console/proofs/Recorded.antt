@@ -4,7 +4,8 @@ use Rattle.std.specs.List.{prefix_len}
 use Rattle.stream_io.specs.Lines.{InputLine, Long, Whole}
 use Rattle.plain_graph.specs.Changes.{IsChange}
 use Rattle.plain_graph.specs.Graph.{Graph}
-use Rattle.plain_graph.specs.Kinds.{AreChanges, Blanks, Bound, Change, Ending, Kind, Question, Upkeep, kind_of}
+use Rattle.plain_graph.specs.Kinds.{AreChanges, Blanks, Bound, Change, Ending, Kind, Question, Upkeep}
+use Rattle.plain_graph.specs.Lines.{kind_of}
 use Rattle.plain_graph.specs.Reply as replies
 use Rattle.plain_graph.specs.Reply.{Fault, Reply}
 use Rattle.plain_graph.specs.declared.command.Command.{Command}

@@ -1,8 +1,8 @@
 ghost use Rattle.std.specs.Prelude.{◌≡◌, ◌≤◌, ◌<◌, ◌++◌, ◌+◌, ◌-◌, ◌*◌, ◌∷◌, ℕ, List, IfErr, IfOk};
 ghost use Rattle.std.specs.Prelude.{IsErr, OnErr, length};
 ghost use Rattle.plain_graph.specs.Changes.{most_weight, properties_weight, start_weight};
-ghost use Rattle.plain_graph.specs.Forms.{HasForm};
 ghost use Rattle.plain_graph.specs.Graph.{UsesNames};
+ghost use Rattle.plain_graph.specs.Lines.{HasForm};
 ghost use Rattle.plain_graph.specs.Properties.{keys_in, no_properties, with_pairs};
 ghost use Rattle.plain_graph.specs.Refusals.{most_names};
 ghost use Rattle.plain_graph.specs.Reply.{EdgeMade};

@@ -1,9 +1,9 @@
 ghost use Rattle.std.specs.Prelude.{◌≡◌, ◌++◌, ◌+◌, ◌<◌, ◌≤◌, ℕ, List, [], ◌∷◌, IfErr, IfOk, IsErr};
 ghost use Rattle.std.specs.Prelude.{OnErr, length};
 ghost use Rattle.plain_graph.specs.Changes.{most_weight, start_weight};
-ghost use Rattle.plain_graph.specs.Forms.{HasForm};
 ghost use Rattle.name_store.specs.Interning.{interned};
 ghost use Rattle.plain_graph.specs.Graph.{UsesNames};
+ghost use Rattle.plain_graph.specs.Lines.{HasForm};
 ghost use Rattle.plain_graph.specs.Properties.{blocks_of};
 ghost use Rattle.plain_graph.specs.Refusals.{most_names};
 ghost use Rattle.plain_graph.specs.Reply.{Done};

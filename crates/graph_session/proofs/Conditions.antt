@@ -1,5 +1,5 @@
 -- Which of the conditions of a refusal hold.
-use Rattle.std.proofs.Common.{◌≡◌, ◌≢◌, ◌⊎◌, ◌+◌, ◌<◌, ◌≤◌, ◌∙◌, ℕ, true, true≢false, Some, None, List, [], ◌∷◌, ◌++◌, inl, inr, refl, sym, subst, arith}
+use Rattle.std.proofs.Common.{◌≡◌, ◌≢◌, ◌⊎◌, ◌+◌, ◌<◌, ◌≤◌, ◌∙◌, ℕ, Some, None, List, [], ◌∷◌, ◌++◌, inl, inr, refl, sym, subst, arith}
 use Rattle.stream_io.specs.Lines.{Long, Whole}
 use Rattle.plain_graph.specs.Changes.{IsChange, Weighs, most_weight}
 use Rattle.plain_graph.specs.Graph.{empty_graph}
@@ -12,6 +12,7 @@ use Rattle.gremlin_parse.specs.Lines.{IsLeftmostFault}
 use Rattle.gremlin_parse.specs.declared.line_fault.LineFault.{LineFault}
 use Rattle.graph_session.specs.Refusals.{Condition, FirstHolds, IsAccepted, IsReached, IsRefused, NoneHolds, SpellsOnly, conditions_of, early_order, grammar_fault, late_order, line_too_long, no_transaction, refusal_of, store_failed, transaction_full, transaction_open}
 use Rattle.graph_session.specs.State.{IsFailed, IsOpen, SpellsLine, State, Transaction, seen}
+use Rattle.graph_session.proofs.Reasons.{unchanging-free}
 use Rattle.graph_session.proofs.Spelling.{IsMute, silent-mute, spells-same}
 use Rattle.graph_session.proofs.States.{same_one}
 use Rattle.graph_session.proofs.Weights.{Weighs-change, Weighs-only}
@@ -67,7 +68,7 @@ IsLight state command =
 
 -- No reason holds of a line of blanks, and none of another command that neither changes the graph nor names a node of it.
 pub idle_reasons : NoReason change_reasons 0 empty_graph commands.Blank
-idle_reasons = (λ _ h. h, (λ _ h. h, (λ _ h. h, (λ _ h. h, (λ _ h. h, (λ _ h. h, (λ _ h. h, (λ _ h. h, (λ _ h. h, (λ _ h. h, (λ _ h. h, tt)))))))))))
+idle_reasons = unchanging-free commands.Blank (λ h. h) 0 empty_graph tt
 
 module _ (state : State) {line : List ℕ} {command : Command} (only : SpellsOnly line command) where
   -- a line that spells a command has no fault of the grammar

@@ -5,7 +5,7 @@ use Rattle.disk_model.specs.declared.disk.Disk.{Ghosts}
 use Rattle.disk_model.proofs.Spans.{OnlyNow, only_reads_none}
 use Rattle.stream_io.specs.Lines.{InputLine, Whole}
 use Rattle.plain_graph.specs.Changes.{IsChange}
-use Rattle.plain_graph.specs.Kinds.{IsQuestion}
+use Rattle.plain_graph.specs.Lines.{IsQuestion}
 use Rattle.plain_graph.specs.Reply.{Reply}
 use Rattle.plain_graph.specs.declared.command.Command.{Command}
 use Rattle.plain_graph.specs.declared.command.Command.TheVariants as commands

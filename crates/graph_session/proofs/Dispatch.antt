@@ -9,7 +9,7 @@ use Rattle.plain_graph.specs.declared.command.Command.{Command}
 use Rattle.plain_graph.specs.declared.command.Command.TheVariants as commands
 use Rattle.plain_graph.specs.declared.refusal.Refusal.{Refusal}
 use Rattle.plain_graph.specs.declared.refusal.Refusal.TheVariants as refusals
-use Rattle.gremlin_parse.specs.Grammar.{NeedsNoMemory}
+use Rattle.gremlin_parse.specs.Commands.{NeedsNoMemory}
 use Rattle.gremlin_parse.specs.Lines.{IsLeftmostFault, Spells}
 use Rattle.gremlin_parse.specs.declared.line_fault.LineFault.{LineFault}
 use Rattle.gremlin_parse.specs.declared.line_fault.LineFault.TheVariants as faults

@@ -5,9 +5,9 @@ use borrow.Author.Tests.{eqb-true}
 use Rattle.std.proofs.lemmas.Bool.{cases_lt}
 use Rattle.std.proofs.lemmas.Slice.Zip.{AllZip-long}
 use Rattle.plain_graph.specs.Graph.{Edge, Graph}
+use Rattle.plain_graph.specs.Lines.{degree_at, expansion, types_of}
 use Rattle.plain_graph.specs.Meaning.{edge_item, edges_at, entering, enters_by, is_named, leaves_by, leaving}
 use Rattle.plain_graph.specs.Values.{is_text}
-use Rattle.plain_graph.specs.Readings.{degree_at, expansion, types_of}
 use Rattle.plain_graph.specs.declared.direction.Direction.{Direction}
 use Rattle.plain_graph.specs.declared.direction.Direction.TheVariants as directions
 use Rattle.plain_graph.specs.declared.item.Item.TheVariants as items

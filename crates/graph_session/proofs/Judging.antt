@@ -3,8 +3,8 @@ use Rattle.std.proofs.Common.{◌≡◌, ◌≢◌, ◌∙◌, ℕ, List, [], in
 use Rattle.fault_count.specs.Cause.{Rose}
 use Rattle.stream_io.specs.declared.streams.Sink.{Ghosts as SinkGhosts}
 use Rattle.plain_graph.specs.Counts.{counts_of}
-use Rattle.plain_graph.specs.Readings.{one_line}
-use Rattle.plain_graph.specs.Reply.{DiskFailed, Faulted, NoMemory, Told, broken_text, counts_text, reply_text, sound_text}
+use Rattle.plain_graph.specs.Lines.{broken_text, counts_text, one_line, sound_text}
+use Rattle.plain_graph.specs.Reply.{DiskFailed, Faulted, NoMemory, Told, reply_text}
 use Rattle.plain_graph.specs.declared.command.Command.TheVariants as commands
 use Rattle.plain_graph.specs.declared.counts.Counts.{Counts}
 use Rattle.rec_bytes.specs.declared.damage.Damage.{Damage}
@@ -44,7 +44,7 @@ module _ {R K : Type 0} {space : SpaceGhosts R} {sink : SinkGhosts K} (names : L
       → Gives sink (reply_text (Told [] (broken_text damage.file damage.id damage.rule))) before after turn → GivesReading space sink names commands.Check a b before after turn
   gives-broken damage least breaks gives = record {
     reply = Told [] (broken_text damage.file damage.id damage.rule);
-    form = (one_line (broken_text damage.file damage.id damage.rule), inr (damage, refl), refl, refl);
+    form = (one_line (broken_text damage.file damage.id damage.rule), inr (damage.file, damage.id, damage.rule, refl), refl, refl);
     gives = gives;
     means = λ told store. absurd (let same = breaks told store.store in cc);
     verdict = λ told is. (refl, inr (damage, refl, least told));

@@ -22,6 +22,7 @@ pub mod Moves
 pub mod NodeQuestions
 pub mod Openings
 pub mod PartCounts
+pub mod Reasons
 pub mod Reopening
 pub mod Running
 pub mod Spelling

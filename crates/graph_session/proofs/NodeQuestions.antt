@@ -1,14 +1,14 @@
 -- A line that asks of nodes: what it is told, and why it isn't.
-use Rattle.std.proofs.Common.{◌≡◌, ◌≢◌, ◌∙◌, ℕ, false, true≢false, true, Option, Err, List, [], inl, inr, refl, sym, subst}
+use Rattle.std.proofs.Common.{◌≡◌, ◌≢◌, ℕ, false, Err, List, inl, inr, refl, subst}
 use Rattle.fault_count.specs.Cause.{Rose}
 use Rattle.stream_io.specs.declared.streams.Sink.{Ghosts as SinkGhosts}
+use Rattle.plain_graph.specs.Changes.{IsChange}
 use Rattle.plain_graph.specs.Graph.{Graph, empty_graph, has_node}
-use Rattle.plain_graph.specs.Readings.{Reading, Shows, listed, one_line}
-use Rattle.plain_graph.specs.Refusals.{FirstReason, NoReason, change_reasons}
-use Rattle.plain_graph.specs.Reply.{DamagedRecord, DiskFailed, Faulted, NoMemory, Refused, Told, degree_text, no_path_text, reply_text}
+use Rattle.plain_graph.specs.Kinds.{AreQuestions, Kind, Question}
+use Rattle.plain_graph.specs.Lines.{At, Between, IsFormed, IsQuestion, Reading, Shows, kind_of, nodes_of}
+use Rattle.plain_graph.specs.Reply.{DamagedRecord, DiskFailed, Faulted, NoMemory, Refused, Told, reply_text}
 use Rattle.plain_graph.specs.declared.command.Command.{Command}
 use Rattle.plain_graph.specs.declared.command.Command.TheVariants as commands
-use Rattle.plain_graph.specs.declared.direction.Direction.{Direction}
 use Rattle.plain_graph.specs.declared.refusal.Refusal.TheVariants as refusals
 use Rattle.rec_bytes.specs.declared.damage.Damage.{Damage}
 use Rattle.rec_bytes.specs.declared.space.Reads.{Ghosts as SpaceGhosts}
@@ -17,109 +17,60 @@ use Rattle.expand.specs.ExpandFault.{NotDamaged}
 use Rattle.expand.specs.Expanding.{TellsNode}
 use Rattle.expand.specs.declared.expand_fault.ExpandFault.{ExpandFault}
 use Rattle.expand.specs.declared.expand_fault.ExpandFault.TheVariants as faults
+use Rattle.path_find.specs.Finding.{TellsEnds}
 use Rattle.traversal_run.specs.Reading.{IsNamedStore, IsRead}
 use Rattle.graph_session.specs.Answer.{Gives}
 use Rattle.graph_session.specs.Answering.{reply_of}
 use Rattle.graph_session.specs.EdgeResults.{answer_for}
-use Rattle.graph_session.specs.MayStep.{IsFormed, IsRefusable}
+use Rattle.graph_session.specs.MayStep.{IsRefusable}
 use Rattle.graph_session.specs.Questions.{GivesReading}
-use Rattle.graph_session.specs.State.{IsSpared}
+use Rattle.graph_session.specs.State.{AreSpared, IsSpared}
 use Rattle.graph_session.specs.declared.turn.Turn.{Turn}
-use Rattle.graph_session.proofs.Conditions.{idle_reasons}
+use Rattle.graph_session.proofs.Reasons.{AsksSome, HasNodes, LacksNode, empty-lacks, unchanging-free, unchanging-refused}
+use Rattle.graph_session.proofs.Spelling.{asks-unchanging}
 
--- A line that asks of nodes: some answer has its form, and some graph refuses it.
+-- A line that asks of nodes: it reads, and some answer has its form.
 pub record AsksNodes (command : Command) : Type 0 where
-  pub unspared : ¬ IsSpared command
-  pub other : command ≢ commands.Check
+  pub question : IsQuestion command
+  pub some : AsksSome (nodes_of command)
   pub reading : Reading
   pub formed : IsFormed command reading
-  pub refusable : IsRefusable command
 
--- ---- of one node
+-- lines of this kind may lack memory, but for one that asks of no node
+reads-lacks : (kind : Kind) → AreQuestions kind → ¬ AreSpared kind
+reads-lacks Question reads spared = spared
+reads-lacks kind reads spared = absurd reads
 
--- none has the identifier
-pub expand-first : (limit : ℕ) (graph : Graph) (id : ℕ) (direction : Direction) (label : List ℕ) → has_node graph id ≡ false → FirstReason change_reasons limit graph (commands.Expand id direction label) (refusals.NoNode id)
-expand-first limit graph id direction label missing = inr (λ _ h. h, inr (λ _ h. h, inr (λ _ h. h, inr (λ _ h. h, inl (missing, refl)))))
+module _ {command : Command} (asks : AsksNodes command) where
+  -- it is no line that asks of no node
+  other-than : (other : Command) → ¬ AsksSome (nodes_of other) → command ≢ other
+  other-than other none is = none (subst (λ (c : Command). AsksSome (nodes_of c)) is asks.some)
 
-pub degree-first : (limit : ℕ) (graph : Graph) (id : ℕ) (direction : Direction) (label : Option (List ℕ)) → has_node graph id ≡ false → FirstReason change_reasons limit graph (commands.Degree id direction label) (refusals.NoNode id)
-degree-first limit graph id direction label missing = inr (λ _ h. h, inr (λ _ h. h, inr (λ _ h. h, inr (λ _ h. h, inl (missing, refl)))))
+  pub asks-unchecked : command ≢ commands.Check
+  asks-unchecked = other-than commands.Check (λ some. some)
 
--- one has
-pub expand-free : (limit : ℕ) (graph : Graph) (id : ℕ) (direction : Direction) (label : List ℕ) → has_node graph id ≡ true → NoReason change_reasons limit graph (commands.Expand id direction label)
-expand-free limit graph id direction label found = (λ _ h. h, (λ _ h. h, (λ _ h. h, (λ _ h. h, (λ _ h. true≢false (sym found ∙ h.0), idle_reasons.1.1.1.1.1)))))
+  pub asks-unspared : ¬ IsSpared command
+  asks-unspared (inl spared) = reads-lacks (kind_of command) asks.question spared
+  asks-unspared (inr is) = other-than commands.Stats (λ some. some) is
 
-pub degree-free : (limit : ℕ) (graph : Graph) (id : ℕ) (direction : Direction) (label : Option (List ℕ)) → has_node graph id ≡ true → NoReason change_reasons limit graph (commands.Degree id direction label)
-degree-free limit graph id direction label found = (λ _ h. h, (λ _ h. h, (λ _ h. h, (λ _ h. h, (λ _ h. true≢false (sym found ∙ h.0), idle_reasons.1.1.1.1.1)))))
+  pub asks-idle : ¬ IsChange command
+  asks-idle = asks-unchanging command asks.question
 
-expand-spared : (id : ℕ) (direction : Direction) (label : List ℕ) → ¬ IsSpared (commands.Expand id direction label)
-expand-spared id direction label (inl spared) = spared
-expand-spared id direction label (inr e) = cc
-
-degree-spared : (id : ℕ) (direction : Direction) (label : Option (List ℕ)) → ¬ IsSpared (commands.Degree id direction label)
-degree-spared id direction label (inl spared) = spared
-degree-spared id direction label (inr e) = cc
-
-pub expand-asks : (id : ℕ) (direction : Direction) (label : List ℕ) → AsksNodes (commands.Expand id direction label)
-expand-asks id direction label = record {
-  unspared = expand-spared id direction label;
-  other = λ e. cc;
-  reading = listed [];
-  formed = ([], refl);
-  refusable = (0, empty_graph, refusals.NoNode id, expand-first 0 empty_graph id direction label refl);
-}
-
-pub degree-asks : (id : ℕ) (direction : Direction) (label : Option (List ℕ)) → AsksNodes (commands.Degree id direction label)
-degree-asks id direction label = record {
-  unspared = degree-spared id direction label;
-  other = λ e. cc;
-  reading = one_line (degree_text 0);
-  formed = (0, refl);
-  refusable = (0, empty_graph, refusals.NoNode id, degree-first 0 empty_graph id direction label refl);
-}
-
--- ---- of two nodes
-
--- none has the identifier that a walk is to leave
-pub path-source : (limit : ℕ) (graph : Graph) (from to : ℕ) (direction : Direction) (label : Option (List ℕ)) → has_node graph from ≡ false → FirstReason change_reasons limit graph (commands.Path from to direction label) (refusals.NoNode from)
-path-source limit graph from to direction label missing = inr (λ _ h. h, inl (missing, refl))
-
-pub levels-source : (limit : ℕ) (graph : Graph) (from to : ℕ) (direction : Direction) (label : Option (List ℕ)) → has_node graph from ≡ false → FirstReason change_reasons limit graph (commands.Levels from to direction label) (refusals.NoNode from)
-levels-source limit graph from to direction label missing = inr (λ _ h. h, inl (missing, refl))
-
-path-spared : (from to : ℕ) (direction : Direction) (label : Option (List ℕ)) → ¬ IsSpared (commands.Path from to direction label)
-path-spared from to direction label (inl spared) = spared
-path-spared from to direction label (inr e) = cc
-
-levels-spared : (from to : ℕ) (direction : Direction) (label : Option (List ℕ)) → ¬ IsSpared (commands.Levels from to direction label)
-levels-spared from to direction label (inl spared) = spared
-levels-spared from to direction label (inr e) = cc
-
-pub path-asks : (from to : ℕ) (direction : Direction) (label : Option (List ℕ)) → AsksNodes (commands.Path from to direction label)
-path-asks from to direction label = record {
-  unspared = path-spared from to direction label;
-  other = λ e. cc;
-  reading = one_line no_path_text;
-  formed = ([], refl);
-  refusable = (0, empty_graph, refusals.NoNode from, path-source 0 empty_graph from to direction label refl);
-}
-
-pub levels-asks : (from to : ℕ) (direction : Direction) (label : Option (List ℕ)) → AsksNodes (commands.Levels from to direction label)
-levels-asks from to direction label = record {
-  unspared = levels-spared from to direction label;
-  other = λ e. cc;
-  reading = listed [];
-  formed = ([], refl);
-  refusable = (0, empty_graph, refusals.NoNode from, levels-source 0 empty_graph from to direction label refl);
-}
+  -- some graph refuses it
+  pub asks-refusable : IsRefusable command
+  asks-refusable =
+      let missing = empty-lacks (nodes_of command) asks.some in
+      (0, empty_graph, refusals.NoNode missing.0, unchanging-refused command asks-idle 0 empty_graph missing.0 missing.1)
 
 -- ---- faults
 
 -- which is said to be missing is the one of the line
-pub one-missing : (V : Type 0) (fault : ExpandFault) (node : ℕ) (graph : Graph) (command : Command) → ((limit : ℕ) → has_node graph node ≡ false → FirstReason change_reasons limit graph command (refusals.NoNode node))
-    → TellsNode {T = V} (Err fault) node (has_node graph node) → (x : ℕ) → fault ≡ faults.NoNode x → (limit : ℕ) → FirstReason change_reasons limit graph command (refusals.NoNode x)
-one-missing V fault node graph command first tells x is limit =
-    let missing : (x ≡ node) × (has_node graph node ≡ false) = subst (λ (f : ExpandFault). TellsNode {T = V} (Err f) node (has_node graph node)) is tells in
-    subst (λ (n : ℕ). FirstReason change_reasons limit graph command (refusals.NoNode n)) (sym missing.0) (first limit missing.1)
+pub one-missing : (V : Type 0) (fault : ExpandFault) (node : ℕ) (graph : Graph) → TellsNode {T = V} (Err fault) node (has_node graph node) → (id : ℕ) → fault ≡ faults.NoNode id → LacksNode graph (At node) id
+one-missing V fault node graph tells id is = subst (λ (f : ExpandFault). TellsNode {T = V} (Err f) node (has_node graph node)) is tells
+
+-- or the first of the two that is
+pub end-missing : (V : Type 0) (fault : ExpandFault) (from to : ℕ) (graph : Graph) → TellsEnds {T = V} (Err fault) from to (has_node graph from) (has_node graph to) → (id : ℕ) → fault ≡ faults.NoNode id → LacksNode graph (Between from to) id
+end-missing V fault from to graph tells id is = subst (λ (f : ExpandFault). TellsEnds {T = V} (Err f) from to (has_node graph from) (has_node graph to)) is tells
 
 -- no record is said to be damaged
 pub undamaged : (V : Type 0) (fault : ExpandFault) → NotDamaged {T = V} (Err fault) → (damage : Damage) → ¬ (fault ≡ faults.Damaged damage)
@@ -130,62 +81,62 @@ undamaged V fault sound damage is = subst (λ (f : ExpandFault). NotDamaged {T =
 module _ {R K : Type 0} {space : SpaceGhosts R} {sink : SinkGhosts K} {names : List (List ℕ)} {command : Command} (asks : AsksNodes command) {a b : R} (read : IsRead space a b) {before after : K} {turn : Turn} where
   -- the reading was told
   pub gives-told : (reading : Reading) → IsFormed command reading → reading.is_past ≡ false
-      → (space.tells → IsNamedStore (space.state a).records (space.state a).shape names → (limit : ℕ) → NoReason change_reasons limit (graph_of (space.state a).records) command)
+      → (space.tells → IsNamedStore (space.state a).records (space.state a).shape names → HasNodes (graph_of (space.state a).records) (nodes_of command))
       → (space.tells → IsNamedStore (space.state a).records (space.state a).shape names → Shows (graph_of (space.state a).records) command reading)
       → Gives sink (reply_text (Told reading.lines reading.last)) before after turn → GivesReading space sink names command a b before after turn
-  gives-told reading formed none free shows gives = record {
+  gives-told reading formed none has shows gives = record {
     reply = Told reading.lines reading.last;
     form = (reading, formed, refl, refl);
     gives = gives;
-    means = λ told store. (free told store, (reading, shows told store, none, refl, refl));
-    verdict = λ told is. absurd (asks.other is);
+    means = λ told store. ((λ limit. unchanging-free command (asks-idle asks) limit (graph_of (space.state a).records) (has told store)), (reading, shows told store, none, refl, refl));
+    verdict = λ told is. absurd (asks-unchecked asks is);
     told = λ blames. absurd (blames refl);
     read = read;
-    idle = λ spared. absurd (asks.unspared spared);
+    idle = λ spared. absurd (asks-unspared asks spared);
   }
 
   -- it is not known
   pub gives-unknown : (fault : ExpandFault) → (fault ≡ faults.Disk → Rose (space.faults a) (space.faults b))
-      → (space.tells → IsNamedStore (space.state a).records (space.state a).shape names → (id : ℕ) → fault ≡ faults.NoNode id → (limit : ℕ) → FirstReason change_reasons limit (graph_of (space.state a).records) command (refusals.NoNode id))
+      → (space.tells → IsNamedStore (space.state a).records (space.state a).shape names → (id : ℕ) → fault ≡ faults.NoNode id → LacksNode (graph_of (space.state a).records) (nodes_of command) id)
       → (space.tells → IsNamedStore (space.state a).records (space.state a).shape names → (damage : Damage) → ¬ (fault ≡ faults.Damaged damage))
       → Gives sink (reply_text (reply_of (answer_for fault))) before after turn → GivesReading space sink names command a b before after turn
   gives-unknown (faults.NoNode id) rose missing sound gives = record {
     reply = Refused (refusals.NoNode id);
-    form = (asks.refusable, id, refl);
+    form = (asks-refusable asks, id, refl);
     gives = gives;
-    means = λ told store. missing told store id refl;
-    verdict = λ told is. absurd (asks.other is);
+    means = λ told store limit. unchanging-refused command (asks-idle asks) limit (graph_of (space.state a).records) id (missing told store id refl);
+    verdict = λ told is. absurd (asks-unchecked asks is);
     told = λ blames. absurd (blames refl);
     read = read;
-    idle = λ spared. absurd (asks.unspared spared);
+    idle = λ spared. absurd (asks-unspared asks spared);
   }
   gives-unknown faults.Memory rose missing sound gives = record {
     reply = Faulted [] NoMemory;
-    form = (asks.unspared, asks.reading, asks.formed, tt, (asks.reading.lines, refl));
+    form = (asks-unspared asks, asks.reading, asks.formed, tt, (asks.reading.lines, refl));
     gives = gives;
     means = λ told store. inl refl;
-    verdict = λ told is. absurd (asks.other is);
+    verdict = λ told is. absurd (asks-unchecked asks is);
     told = λ blames. absurd (blames refl);
     read = read;
-    idle = λ spared. absurd (asks.unspared spared);
+    idle = λ spared. absurd (asks-unspared asks spared);
   }
   gives-unknown faults.Disk rose missing sound gives = record {
     reply = Faulted [] DiskFailed;
-    form = (asks.unspared, asks.reading, asks.formed, tt, (asks.reading.lines, refl));
+    form = (asks-unspared asks, asks.reading, asks.formed, tt, (asks.reading.lines, refl));
     gives = gives;
     means = λ told store. inl refl;
-    verdict = λ told is. absurd (asks.other is);
+    verdict = λ told is. absurd (asks-unchecked asks is);
     told = λ blames. rose refl;
     read = read;
-    idle = λ spared. absurd (asks.unspared spared);
+    idle = λ spared. absurd (asks-unspared asks spared);
   }
   gives-unknown (faults.Damaged damage) rose missing sound gives = record {
     reply = Faulted [] (DamagedRecord damage.file damage.id);
-    form = (asks.unspared, asks.reading, asks.formed, asks.other, (asks.reading.lines, refl));
+    form = (asks-unspared asks, asks.reading, asks.formed, asks-unchecked asks, (asks.reading.lines, refl));
     gives = gives;
     means = λ told store. sound told store damage refl;
-    verdict = λ told is. absurd (asks.other is);
+    verdict = λ told is. absurd (asks-unchecked asks is);
     told = λ blames. absurd (blames refl);
     read = read;
-    idle = λ spared. absurd (asks.unspared spared);
+    idle = λ spared. absurd (asks-unspared asks spared);
   }

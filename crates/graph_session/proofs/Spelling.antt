@@ -2,10 +2,11 @@
 use Rattle.std.proofs.Common.{◌≡◌, ◌≢◌, ◌⊎◌, List, ℕ, inl, inr, refl, subst, sym}
 use Rattle.stream_io.specs.Lines.{Whole}
 use Rattle.plain_graph.specs.Changes.{IsChange}
-use Rattle.plain_graph.specs.Kinds.{AreChanges, AreQuestions, Blanks, Bound, Change, Ending, IsQuestion, Kind, Question, Upkeep, kind_of}
+use Rattle.plain_graph.specs.Kinds.{AreChanges, AreQuestions, Blanks, Bound, Change, Ending, Kind, Question, Upkeep}
+use Rattle.plain_graph.specs.Lines.{IsQuestion, kind_of}
 use Rattle.plain_graph.specs.declared.command.Command.{Command}
 use Rattle.plain_graph.specs.declared.command.Command.TheVariants as commands
-use Rattle.gremlin_parse.specs.Grammar.{NeedsNoMemory}
+use Rattle.gremlin_parse.specs.Commands.{NeedsNoMemory}
 use Rattle.gremlin_parse.specs.Lines.{Spells}
 use Rattle.graph_session.specs.Refusals.{SpellsOnly}
 use Rattle.graph_session.specs.State.{AreSpared, IsQuit, IsSilent, IsSpared, NeverLacksMemory, SpellsLine}
@@ -32,25 +33,18 @@ module _ {line : List ℕ} {command : Command} (only : SpellsOnly line command) 
 
 -- a command that never lacks memory is read without asking for any
 spared-needs_none : (command : Command) → IsSpared command → NeedsNoMemory command
-spared-needs_none (commands.Node label pairs) (inl spared) = spared
-spared-needs_none (commands.Node label pairs) (inr e) = cc
-spared-needs_none (commands.Edge from label to pairs) (inl spared) = spared
-spared-needs_none (commands.Edge from label to pairs) (inr e) = cc
-spared-needs_none (commands.Set target key value) (inl spared) = spared
-spared-needs_none (commands.Set target key value) (inr e) = cc
-spared-needs_none (commands.Unset target key) (inl spared) = spared
-spared-needs_none (commands.Unset target key) (inr e) = cc
-spared-needs_none (commands.Expand id direction label) (inl spared) = spared
-spared-needs_none (commands.Expand id direction label) (inr e) = cc
-spared-needs_none (commands.Degree id direction label) (inl spared) = spared
-spared-needs_none (commands.Degree id direction label) (inr e) = cc
-spared-needs_none (commands.Path from to direction label) (inl spared) = spared
-spared-needs_none (commands.Path from to direction label) (inr e) = cc
-spared-needs_none (commands.Levels from to direction label) (inl spared) = spared
-spared-needs_none (commands.Levels from to direction label) (inr e) = cc
-spared-needs_none (commands.Query query) (inl spared) = spared
-spared-needs_none (commands.Query query) (inr e) = cc
-spared-needs_none _ spared = tt
+spared-needs_none commands.Blank spared = tt
+spared-needs_none commands.Begin spared = tt
+spared-needs_none commands.Commit spared = tt
+spared-needs_none commands.Rollback spared = tt
+spared-needs_none commands.Checkpoint spared = tt
+spared-needs_none commands.Check spared = tt
+spared-needs_none commands.Stats spared = tt
+spared-needs_none commands.Reopen spared = tt
+spared-needs_none commands.Quit spared = tt
+spared-needs_none (commands.Delete target) spared = tt
+spared-needs_none command (inl spared) = spared
+spared-needs_none command (inr e) = cc
 
 -- a line that has no memory for its command spells none that needs no memory
 pub lacks-memory : (line : List ℕ) → ((command : Command) → NeedsNoMemory command → ¬ Spells line command) → ¬ NeverLacksMemory (Whole line)

@@ -1,26 +1,18 @@
 -- The lines of a walk and of levels, and what the answer to a line that asks for them is.
-use Rattle.std.proofs.Common.{◌≡◌, ◌≢◌, ◌∙◌, ◌+◌, ◌-◌, ◌<◌, ◌≤◌, ℕ, false, true, true≢false, Option, Err, List, [], ◌∷◌, ◌++◌, append_assoc, get_or, length, map, take, drop, add-one, inl, inr, refl, sym, ap, subst, arith}
+use Rattle.std.proofs.Common.{◌≡◌, ◌≢◌, ◌∙◌, ◌+◌, ◌-◌, ◌<◌, ◌≤◌, ℕ, false, List, [], ◌∷◌, ◌++◌, append_assoc, get_or, length, map, take, drop, add-one, refl, sym, ap, subst, arith}
 use Rattle.std.proofs.Math.Seq.{take-length, take-suc}
 use Rattle.std.proofs.lemmas.List.{map-append, take-append-drop}
 use Rattle.stream_io.specs.declared.streams.Sink.{Ghosts}
-use Rattle.plain_graph.specs.Graph.{Graph, has_node}
-use Rattle.plain_graph.specs.Readings.{Reading, listed, walk_reading}
-use Rattle.plain_graph.specs.Refusals.{FirstReason, NoReason, change_reasons}
-use Rattle.plain_graph.specs.Reply.{Told, end_text, item_line, no_path_text, path_text, reply_text, text_line}
+use Rattle.plain_graph.specs.Lines.{Reading, listed, no_path_text, path_text, walk_reading}
+use Rattle.plain_graph.specs.Reply.{Told, end_text, item_line, reply_text, text_line}
 use Rattle.plain_graph.specs.declared.command.Command.{Command}
-use Rattle.plain_graph.specs.declared.command.Command.TheVariants as commands
-use Rattle.plain_graph.specs.declared.direction.Direction.{Direction}
 use Rattle.plain_graph.specs.declared.item.Item.TheVariants as items
-use Rattle.plain_graph.specs.declared.refusal.Refusal.TheVariants as refusals
 use Rattle.expand.specs.declared.expand_fault.ExpandFault.{ExpandFault}
-use Rattle.expand.specs.declared.expand_fault.ExpandFault.TheVariants as faults
-use Rattle.path_find.specs.Finding.{TellsEnds}
 use Rattle.graph_session.specs.Answer.{Gives}
 use Rattle.graph_session.specs.Exchange.{AreFirst}
 use Rattle.graph_session.specs.LineBuffer.{Adds}
 use Rattle.graph_session.specs.declared.turn.Turn.{Turn}
 use Rattle.graph_session.specs.declared.turn.Turn.TheVariants.{Go}
-use Rattle.graph_session.proofs.Conditions.{idle_reasons}
 use Rattle.graph_session.proofs.ListedLines.{HasLines, lines-add, lines-last, lines-stop_in}
 
 -- ---- lines of a list, one after the other
@@ -97,32 +89,3 @@ gives-no_walk (first ∷ later) none gives = absurd (omega (arith, none))
 pub walk-counted : (walk : List ℕ) → (walk_reading walk).is_past ≡ false
 walk-counted [] = refl
 walk-counted (first ∷ later) = refl
-
--- ---- the two nodes of a line
-
--- both are there
-pub path-free : (limit : ℕ) (graph : Graph) (from to : ℕ) (direction : Direction) (label : Option (List ℕ)) → has_node graph from ≡ true → has_node graph to ≡ true → NoReason change_reasons limit graph (commands.Path from to direction label)
-path-free limit graph from to direction label source target = (λ _ h. h, (λ _ h. true≢false (sym source ∙ h.0), (λ _ h. true≢false (sym target ∙ h.0), idle_reasons.1.1.1)))
-
-pub levels-free : (limit : ℕ) (graph : Graph) (from to : ℕ) (direction : Direction) (label : Option (List ℕ)) → has_node graph from ≡ true → has_node graph to ≡ true → NoReason change_reasons limit graph (commands.Levels from to direction label)
-levels-free limit graph from to direction label source target = (λ _ h. h, (λ _ h. true≢false (sym source ∙ h.0), (λ _ h. true≢false (sym target ∙ h.0), idle_reasons.1.1.1)))
-
--- the first is, and the second is not
-pub path-target : (limit : ℕ) (graph : Graph) (from to : ℕ) (direction : Direction) (label : Option (List ℕ)) → has_node graph from ≡ true → has_node graph to ≡ false
-    → FirstReason change_reasons limit graph (commands.Path from to direction label) (refusals.NoNode to)
-path-target limit graph from to direction label source missing = inr (λ _ h. h, inr (λ _ h. true≢false (sym source ∙ h.0), inl (missing, refl)))
-
-pub levels-target : (limit : ℕ) (graph : Graph) (from to : ℕ) (direction : Direction) (label : Option (List ℕ)) → has_node graph from ≡ true → has_node graph to ≡ false
-    → FirstReason change_reasons limit graph (commands.Levels from to direction label) (refusals.NoNode to)
-levels-target limit graph from to direction label source missing = inr (λ _ h. h, inr (λ _ h. true≢false (sym source ∙ h.0), inl (missing, refl)))
-
--- which is said to be missing is the first of them that is
-pub end-missing : (V : Type 0) (fault : ExpandFault) (from to : ℕ) (graph : Graph) (command : Command) → ((limit : ℕ) → has_node graph from ≡ false → FirstReason change_reasons limit graph command (refusals.NoNode from))
-    → ((limit : ℕ) → has_node graph from ≡ true → has_node graph to ≡ false → FirstReason change_reasons limit graph command (refusals.NoNode to))
-    → TellsEnds {T = V} (Err fault) from to (has_node graph from) (has_node graph to) → (x : ℕ) → fault ≡ faults.NoNode x → (limit : ℕ) → FirstReason change_reasons limit graph command (refusals.NoNode x)
-end-missing V fault from to graph command source target tells x is limit =
-    by (subst (λ (f : ExpandFault). TellsEnds {T = V} (Err f) from to (has_node graph from) (has_node graph to)) is tells)
-  where
-    by : TellsEnds {T = V} (Err (faults.NoNode x)) from to (has_node graph from) (has_node graph to) → FirstReason change_reasons limit graph command (refusals.NoNode x)
-    by (inl missing) = subst (λ (n : ℕ). FirstReason change_reasons limit graph command (refusals.NoNode n)) (sym missing.0) (source limit missing.1)
-    by (inr missing) = subst (λ (n : ℕ). FirstReason change_reasons limit graph command (refusals.NoNode n)) (sym missing.0) (target limit missing.1 missing.2)

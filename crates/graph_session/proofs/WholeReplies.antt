@@ -4,8 +4,8 @@ use Rattle.std.proofs.Math.Seq.{drop-append_seam}
 use Rattle.std.proofs.lemmas.Grind.{flat_map-append}
 use Rattle.std.proofs.lemmas.List.{append-nil, map-append}
 use Rattle.plain_graph.specs.Graph.{Graph}
+use Rattle.plain_graph.specs.Lines.{Reading}
 use Rattle.plain_graph.specs.Meaning.{has_past_count, meaning}
-use Rattle.plain_graph.specs.Readings.{Reading}
 use Rattle.plain_graph.specs.Reply.{DamagedRecord, DiskFailed, Fault, Faulted, NoMemory, PastCount, Reply, Told, end_text, fault_line, item_line, reply_text, text_line}
 use Rattle.plain_graph.specs.declared.command.Command.TheVariants as commands
 use Rattle.plain_graph.specs.declared.item.Item.{Item}

@@ -1,26 +1,20 @@
 -- What a line may do over any disk, whatever is in it: by its command and the reply, what becomes of
 -- the session, of its records and of the disk.
-use Rattle.std.specs.Prelude.{◌≡◌, ◌≢◌, ◌⊎◌, ◌≤◌, ℕ, Bool, true, false, Some, List, [], map}
+use Rattle.std.specs.Prelude.{◌≡◌, ◌≢◌, ◌⊎◌, ◌≤◌, ℕ, true, false, Some, List, []}
 use Rattle.fault_count.specs.Cause.{Rose}
 use Rattle.disk_model.specs.declared.disk.Disk.{Ghosts}
 use Rattle.stream_io.specs.Lines.{InputLine, Whole, Long}
 use Rattle.plain_graph.specs.Changes.{most_weight}
 use Rattle.plain_graph.specs.Graph.{Graph}
-use Rattle.plain_graph.specs.Kinds.{Blanks, Bound, Change, Ending, Kind, Question, Upkeep, kind_of}
-use Rattle.plain_graph.specs.Readings.{Reading, listed, one_line, walk_reading}
+use Rattle.plain_graph.specs.Kinds.{Blanks, Bound, Change, Ending, Kind, Question, Upkeep}
+use Rattle.plain_graph.specs.Lines.{IsFormed, Reading, kind_of}
 use Rattle.plain_graph.specs.Refusals.{FirstReason, change_reasons}
 use Rattle.plain_graph.specs.Reply.{DamagedRecord, DiskFailed, Done, EdgeMade, Fault, Faulted}
 use Rattle.plain_graph.specs.Reply.{NoMemory, NodeMade, PastCount, Refused, Reply, Silent, Told}
-use Rattle.plain_graph.specs.Reply.{broken_text, counts_text, degree_text, end_text, item_line}
-use Rattle.plain_graph.specs.Reply.{level_text, sound_text}
 use Rattle.plain_graph.specs.declared.command.Command.{Command}
 use Rattle.plain_graph.specs.declared.command.Command.TheVariants as commands
-use Rattle.plain_graph.specs.declared.counts.Counts.{Counts}
-use Rattle.plain_graph.specs.declared.item.Item.{Item}
-use Rattle.plain_graph.specs.declared.node_level.NodeLevel.{NodeLevel}
 use Rattle.plain_graph.specs.declared.refusal.Refusal.{Refusal}
 use Rattle.plain_graph.specs.declared.refusal.Refusal.TheVariants as refusals
-use Rattle.rec_bytes.specs.declared.damage.Damage.{Damage}
 use Rattle.rec_bytes.specs.declared.key.Key.{Key}
 use Rattle.rec_bytes.specs.declared.record.Rec.{Rec}
 use Rattle.gremlin_parse.specs.Lines.{IsLeftmostFault}
@@ -51,25 +45,6 @@ TellsMade _ reply = ⊥
 -- the reply says that a record is damaged, and has no results
 abbrev pub TellsDamage : Reply → Type 0
 TellsDamage reply = (file : ℕ) × (id : ℕ) × (reply ≡ Faulted [] (DamagedRecord file id))
-
--- The form of what a line that reads is answered with, whatever is read.
-abbrev pub IsFormed : Command → Reading → Type 0
-IsFormed commands.Check reading =
-    (reading ≡ one_line sound_text)
-    ⊎ ((damage : Damage) × (reading ≡ one_line (broken_text damage.file damage.id damage.rule)))
-IsFormed commands.Stats reading = (counts : Counts) × (reading ≡ one_line (counts_text counts))
-IsFormed (commands.Degree id direction label) reading =
-    (edges : ℕ) × (reading ≡ one_line (degree_text edges))
-IsFormed (commands.Expand id direction label) reading =
-    (edges : List Item) × (reading ≡ listed (map item_line edges))
-IsFormed (commands.Path from to direction label) reading =
-    (walk : List ℕ) × (reading ≡ walk_reading walk)
-IsFormed (commands.Levels from to direction label) reading =
-    (levels : List NodeLevel) × (reading ≡ listed (map level_text levels))
-IsFormed (commands.Query query) reading =
-    (results : List Item) × (is_past : Bool)
-    × (reading ≡ record { lines = map item_line results; last = end_text; is_past = is_past })
-IsFormed _ reading = ⊥
 
 -- A count passes only in such an answer. What `check` finds damaged it tells in its verdict.
 abbrev pub MayStop : Command → Reading → Fault → Type 0

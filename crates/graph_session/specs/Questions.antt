@@ -3,7 +3,7 @@ use Rattle.std.specs.Prelude.{◌≡◌, ◌≢◌, ℕ, false, List}
 use Rattle.fault_count.specs.Cause.{Rose}
 use Rattle.stream_io.specs.declared.streams.Sink.{Ghosts as SinkGhosts}
 use Rattle.plain_graph.specs.Graph.{Graph}
-use Rattle.plain_graph.specs.Readings.{Reading, Shows}
+use Rattle.plain_graph.specs.Lines.{Reading, Shows}
 use Rattle.plain_graph.specs.Refusals.{FirstReason, NoReason, change_reasons}
 use Rattle.plain_graph.specs.Reply.{DamagedRecord, DiskFailed, Fault, Faulted, NoMemory, PastCount}
 use Rattle.plain_graph.specs.Reply.{Refused, Reply, Told, reply_text}

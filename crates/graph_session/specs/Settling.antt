@@ -2,7 +2,8 @@
 use Rattle.std.specs.Prelude.{Bool, ℕ, Option, None, Some, List}
 use Rattle.disk_model.specs.declared.disk.Disk.{Ghosts}
 use Rattle.stream_io.specs.Lines.{Whole}
-use Rattle.plain_graph.specs.Kinds.{AreSilent, kind_of}
+use Rattle.plain_graph.specs.Kinds.{AreSilent}
+use Rattle.plain_graph.specs.Lines.{kind_of}
 use Rattle.plain_graph.specs.Reply.{Reply}
 use Rattle.plain_graph.specs.declared.command.Command.{Command}
 use Rattle.plain_graph.specs.declared.refusal.Refusal.{Refusal}

@@ -2,7 +2,8 @@
 use Rattle.std.specs.Prelude.{◌≡◌, ◌⊎◌, ℕ, Option, Some, None, List, [], ◌∷◌, Contains}
 use Rattle.stream_io.specs.Lines.{InputLine, Whole, Long}
 use Rattle.plain_graph.specs.Graph.{Graph}
-use Rattle.plain_graph.specs.Kinds.{Change, Kind, Question, kind_of}
+use Rattle.plain_graph.specs.Kinds.{Change, Kind, Question}
+use Rattle.plain_graph.specs.Lines.{kind_of}
 use Rattle.plain_graph.specs.declared.command.Command.{Command}
 use Rattle.plain_graph.specs.declared.command.Command.TheVariants as commands
 use Rattle.gremlin_parse.specs.Lines.{Spells}

@@ -1,8 +1,9 @@
 -- What a line is answered with that asks whether the store keeps its rules, whatever is in it.
 use Rattle.std.specs.Prelude.{◌≡◌, ◌⊎◌, ℕ, List, []}
 use Rattle.stream_io.specs.declared.streams.Sink.{Ghosts as SinkGhosts}
+use Rattle.plain_graph.specs.Lines.{broken_text, sound_text}
 use Rattle.plain_graph.specs.Reply.{DamagedRecord, DiskFailed, Fault, Faulted, NoMemory, PastCount}
-use Rattle.plain_graph.specs.Reply.{Reply, Told, broken_text, reply_text, sound_text}
+use Rattle.plain_graph.specs.Reply.{Reply, Told, reply_text}
 use Rattle.rec_bytes.specs.Space.{laid_over}
 use Rattle.rec_bytes.specs.declared.damage.Damage.{Damage}
 use Rattle.rec_bytes.specs.declared.shape.Shape.{Shape}

@@ -5,14 +5,10 @@
 
 mod answer;
 mod changing;
-mod counts;
-mod degrees;
-mod edge_results;
 mod giving;
 mod health;
 mod line_buffer;
 mod opening;
-mod query_results;
 mod questions;
 mod session;
 mod storing;
@@ -20,8 +16,6 @@ mod transacting;
 mod turn;
 mod type_numbers;
 mod unknown;
-mod verdicts;
-mod walks;
 
 pub use health::Health;
 pub use session::Session;

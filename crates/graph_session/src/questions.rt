@@ -1,19 +1,25 @@
-ghost use Rattle.plain_graph.specs.Forms.{HasForm};
-ghost use Rattle.plain_graph.specs.Kinds.{IsQuestion};
+ghost use Rattle.plain_graph.specs.Lines.{HasForm, IsQuestion};
 ghost use Rattle.graph_session.specs.Questions.{GivesReading};
 
 use crate::Turn;
-use crate::counts::give_counts;
-use crate::degrees::give_degree;
-use crate::edge_results::give_edges;
-use crate::query_results::give_query;
-use crate::verdicts::give_verdict;
-use crate::walks::{give_levels, give_walk};
+use crate::questions::counts::give_counts;
+use crate::questions::degrees::give_degree;
+use crate::questions::edge_results::give_edges;
+use crate::questions::query_results::give_query;
+use crate::questions::verdicts::give_verdict;
+use crate::questions::walks::{give_levels, give_walk};
 use name_store::Names;
 use plain_graph::Command;
 use rec_bytes::Reads;
 use std::alloc::Global;
 use stream_io::Sink;
+
+mod counts;
+mod degrees;
+mod edge_results;
+mod query_results;
+mod verdicts;
+mod walks;
 
 /// Answers a line that reads the graph of a space, whose names these are. A line of another kind
 /// gets no reply from it.

@@ -5,12 +5,11 @@ ghost use Rattle.graph_session.specs.Answer.{AnswersLine};
 ghost use Rattle.graph_session.specs.Answering.{reply_of};
 ghost use Rattle.graph_session.specs.Console.{HasNoDraft};
 ghost use Rattle.graph_session.specs.Refusals.{SpellsOnly};
-ghost use Rattle.plain_graph.specs.Forms.{HasForm};
-ghost use Rattle.plain_graph.specs.Kinds.{IsQuestion};
 ghost use Rattle.graph_session.specs.MayStep.{IsServed};
 ghost use Rattle.graph_session.specs.Settling.{IsLoud, SettlesCommand, told_of};
 ghost use Rattle.graph_session.specs.Verdicts.{Judges};
 ghost use Rattle.gremlin_parse.specs.Lines.{Spells};
+ghost use Rattle.plain_graph.specs.Lines.{HasForm, IsQuestion};
 ghost use Rattle.plain_graph.specs.declared.command.Command.TheVariants as commands;
 ghost use Rattle.graph_session.specs.declared.health.Health.TheVariants as healths;
 

@@ -1,5 +1,5 @@
 ghost use Rattle.std.specs.Prelude.{List, ℕ, ◌∷◌, []};
-ghost use Rattle.plain_graph.specs.Readings.{types_of};
+ghost use Rattle.plain_graph.specs.Lines.{types_of};
 ghost use Rattle.rec_bytes.specs.declared.shape.Shape.{Shape as AShape};
 ghost use Rattle.store_rules.specs.Rows.{option_list};
 ghost use Rattle.store_rules.specs.Views.{Records};

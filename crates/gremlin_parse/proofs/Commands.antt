@@ -1,8 +1,9 @@
 -- A command and the contents of its production: its parts, its form, and that one tail is of one command.
 use Rattle.std.proofs.Common.{◌≡◌, ◌≢◌, ◌⊎◌, inl, inr, ℕ, Option, Some, None, List, [], ◌∷◌, ◌++◌, codes, refl, sym, ap, ◌∙◌, subst, ⊎_elim}
 use Rattle.std.specs.List.{AllByRecursion}
+use Rattle.plain_graph.specs.Lines.{HasForm}
 use Rattle.plain_graph.specs.Names.{is_name_byte, IsShortName}
-use Rattle.plain_graph.specs.Forms.{ArePairs, IsMaybeName, HasForm}
+use Rattle.plain_graph.specs.Forms.{ArePairs, IsMaybeName}
 use Rattle.plain_graph.specs.declared.command.Command.{Command}
 use Rattle.plain_graph.specs.declared.command.Command.TheVariants as commands
 use Rattle.plain_graph.specs.declared.command.Target.{Target}
@@ -11,14 +12,14 @@ use Rattle.plain_graph.specs.declared.direction.Direction.{Direction}
 use Rattle.plain_graph.specs.declared.direction.Direction.TheVariants as directions
 use Rattle.plain_graph.specs.declared.pairs.Pair.{Pair}
 use Rattle.plain_graph.specs.declared.query.Query.{Query}
-use Rattle.gremlin_parse.specs.Grammar.{most_id, Part, Blanks, Gap, Exactly, Name, Number, Written, IsPart, IsMadeOf, target_parts, between_parts, direction_name, pairs_to_end, name_to_end, IsBounded, parts_of, IsCommand, KeepsBounds, NeedsNoMemory}
+use Rattle.gremlin_parse.specs.Commands.{Asks, IsAfter, IsCommand, IsLast, IsLastOf, IsPlain, IsTail, KeepsBounds, KeepsTail, LacksMemory, LastContent, LastOf, NeedsNoMemory, SpellsAfter, command_of, element_of, head_words, last_part, parts_of, plain_command, production, word_of}
+use Rattle.gremlin_parse.specs.Grammar.{most_id, Part, Blanks, Gap, Exactly, Name, Number, Written, IsPart, IsMadeOf, target_parts, between_parts, direction_name, pairs_to_end, name_to_end, IsBounded}
 use Rattle.gremlin_parse.specs.Queries.{IsKeptQuery}
 use Rattle.gremlin_parse.specs.Lines.{IsKeptTail, Spells}
 use Rattle.gremlin_parse.specs.Keywords.{Entry, InTable, plain, TakesWord}
 use Rattle.gremlin_parse.specs.Symbols.{Contents, ReadsAll}
 use Rattle.gremlin_parse.specs.Arguments.{target_names, direction_named, direction_names}
 use Rattle.gremlin_parse.specs.Lasts.{Lacks, last_parts}
-use Rattle.gremlin_parse.specs.Commands.{IsLastOf, word_of, head_words, element_of, last_part, production, LastContent, LastOf, IsPlain, Asks, KeepsTail, command_of, plain_command, IsLast, IsAfter, SpellsAfter, IsTail, LacksMemory}
 use Rattle.gremlin_parse.specs.declared.head.Head.{Head}
 use Rattle.gremlin_parse.specs.declared.head.Head.TheVariants as heads
 use Rattle.gremlin_parse.specs.declared.word.Word.{Word}

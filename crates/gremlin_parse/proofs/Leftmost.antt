@@ -3,13 +3,12 @@ use Rattle.std.proofs.Common.{◌≡◌, ◌≢◌, ◌≤◌, ◌<◌, ◌+◌,
 use Rattle.std.proofs.lemmas.List.{append-nil}
 use Rattle.std.proofs.lemmas.Bool.{cases_lt}
 use Rattle.plain_graph.specs.declared.command.Command.{Command}
-use Rattle.gremlin_parse.specs.Grammar.{NeedsNoMemory}
+use Rattle.gremlin_parse.specs.Commands.{BadTail, IsSomeTail, IsTail, KeepsTail, LacksMemory, NeedsNoMemory}
 use Rattle.gremlin_parse.specs.Lines.{Spells, IsLine, HasBad, HasFault, IsLeftmostFault, place_of}
 use Rattle.gremlin_parse.specs.Faults.{IsViable, StopsAt}
 use Rattle.gremlin_parse.specs.Reading.{StopsBefore}
 use Rattle.gremlin_parse.specs.Symbols.{AnyBlanks, Takes}
 use Rattle.gremlin_parse.specs.Stopping.{BadStop, IsStop, left_of, fault_of, bad_fault}
-use Rattle.gremlin_parse.specs.Commands.{BadTail, IsSomeTail, IsTail, KeepsTail, LacksMemory}
 use Rattle.gremlin_parse.specs.declared.bad_token.BadToken.{BadToken}
 use Rattle.gremlin_parse.specs.declared.bad_token.BadToken.TheVariants.{LongName, LongText, WideNumber, WrongTimes, UnfitStep, LateStep}
 use Rattle.gremlin_parse.specs.declared.line_fault.LineFault.{LineFault}

@@ -3,7 +3,8 @@ use Rattle.std.proofs.Common.{◌≡◌, ◌+◌, ◌-◌, ◌≤◌, ◌⊎◌,
 use Rattle.std.specs.List.{AllByRecursion}
 use Rattle.plain_graph.specs.declared.command.Command.{Command}
 use Rattle.plain_graph.specs.declared.command.Command.TheVariants as commands
-use Rattle.gremlin_parse.specs.Grammar.{Part, Blanks, Exactly, IsMadeOf, IsBounded, parts_of, IsCommand, KeepsBounds, AreBlanks, is_blank}
+use Rattle.gremlin_parse.specs.Commands.{BadAfter, BadLast, BadTail, IsCommand, IsPlain, IsSomeTail, IsTail, KeepsBounds, KeepsTail, LastContent, LastOf, SpellsAfter, command_of, head_words, last_part, parts_of, production, word_of}
+use Rattle.gremlin_parse.specs.Grammar.{Part, Blanks, Exactly, IsMadeOf, IsBounded, AreBlanks, is_blank}
 use Rattle.gremlin_parse.specs.Lines.{AfterFront, IsLooseTail, IsKeptTail, IsFaultyTail, SpellsLoosely, Spells, IsLine, HasBad}
 use Rattle.gremlin_parse.specs.Queries.{Start, turn, is_loose, IsKeptQuery}
 use Rattle.gremlin_parse.specs.Keywords.{ThenWord}
@@ -17,7 +18,6 @@ use Rattle.gremlin_parse.specs.Reading.{Then, BadParts}
 use Rattle.gremlin_parse.specs.Symbols.{AnyBlanks, Takes}
 use Rattle.gremlin_parse.specs.Stopping.{Bads, IsStop, BadInOne}
 use Rattle.gremlin_parse.specs.Lasts.{last_parts}
-use Rattle.gremlin_parse.specs.Commands.{word_of, head_words, last_part, production, BadLast, LastContent, LastOf, IsPlain, KeepsTail, command_of, BadAfter, SpellsAfter, IsSomeTail, BadTail, IsTail}
 use Rattle.gremlin_parse.specs.declared.bad_token.BadToken.{BadToken}
 use Rattle.gremlin_parse.specs.declared.head.Head.{Head}
 use Rattle.gremlin_parse.specs.declared.head.Head.TheVariants as heads

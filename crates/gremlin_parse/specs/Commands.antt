@@ -1,10 +1,14 @@
--- Commands and queries by their first word: the table of words, and what stands after each.
-use Rattle.std.specs.Prelude.{◌≡◌, ◌⊎◌, ℕ, false, List, [], ◌∷◌, map, codes}
+-- The table of commands: the parts that spell each, its first word, what stands after it, and what
+-- it is built of.
+use Rattle.std.specs.Prelude.{◌≡◌, ◌⊎◌, ℕ, false, List, [], ◌∷◌, ◌++◌, map, codes}
+use Rattle.std.specs.List.{AllByRecursion}
 use Rattle.plain_graph.specs.declared.command.Command.{Command}
 use Rattle.plain_graph.specs.declared.command.Command.TheVariants as commands
 use Rattle.plain_graph.specs.declared.command.Target.{Target}
 use Rattle.plain_graph.specs.declared.command.Target.TheVariants as targets
-use Rattle.gremlin_parse.specs.Grammar.{Exactly, KeepsBounds, NeedsNoMemory}
+use Rattle.gremlin_parse.specs.Grammar.{Blanks, Exactly, Gap, IsBounded, Name, Number, Part}
+use Rattle.gremlin_parse.specs.Grammar.{Written, alone, between_parts, direction_name, most_id}
+use Rattle.gremlin_parse.specs.Grammar.{name_to_end, pairs_to_end, target_parts}
 use Rattle.gremlin_parse.specs.Keywords.{Entry, ThenWord}
 use Rattle.gremlin_parse.specs.Symbols.{Symbol, Contents, Follows, BadFollows}
 use Rattle.gremlin_parse.specs.Stopping.{Bads, IsStop}
@@ -27,6 +31,66 @@ use Rattle.gremlin_parse.specs.declared.head.Head.TheVariants as heads
 use Rattle.gremlin_parse.specs.declared.stop.Stop.{Stop}
 use Rattle.gremlin_parse.specs.declared.target.TargetWord.{TargetWord}
 use Rattle.gremlin_parse.specs.declared.target.TargetWord.TheVariants as target_kinds
+
+-- the parts that spell a command, from its first letter
+abbrev pub parts_of : Command → List Part
+parts_of commands.Blank = []
+parts_of commands.Begin = alone (codes "begin")
+parts_of commands.Commit = alone (codes "commit")
+parts_of commands.Rollback = alone (codes "rollback")
+parts_of commands.Checkpoint = alone (codes "checkpoint")
+parts_of commands.Check = alone (codes "check")
+parts_of commands.Stats = alone (codes "stats")
+parts_of commands.Reopen = alone (codes "reopen")
+parts_of commands.Quit = alone (codes "quit")
+parts_of (commands.Node label pairs) =
+    Exactly (codes "node") ∷ Gap ∷ Name label ∷ pairs_to_end pairs
+parts_of (commands.Edge from label to pairs) =
+    Exactly (codes "edge") ∷ Gap ∷ Number most_id from ∷ Gap ∷ Name label ∷ Gap
+    ∷ Number most_id to
+    ∷ pairs_to_end pairs
+parts_of (commands.Set target key value) =
+    (Exactly (codes "set") ∷ Gap ∷ []) ++ target_parts target
+    ++ Gap ∷ Name key ∷ Gap ∷ Written value ∷ Blanks ∷ []
+parts_of (commands.Unset target key) =
+    (Exactly (codes "unset") ∷ Gap ∷ []) ++ target_parts target
+    ++ Gap ∷ Name key ∷ Blanks ∷ []
+parts_of (commands.Delete target) =
+    (Exactly (codes "delete") ∷ Gap ∷ []) ++ target_parts target ++ Blanks ∷ []
+parts_of (commands.Expand id direction label) =
+    Exactly (codes "expand") ∷ Gap ∷ Number most_id id ∷ Gap
+    ∷ Exactly (direction_name direction)
+    ∷ Gap ∷ Name label ∷ Blanks ∷ []
+parts_of (commands.Degree id direction label) =
+    (Exactly (codes "degree") ∷ Gap ∷ Number most_id id ∷ Gap
+    ∷ Exactly (direction_name direction)
+    ∷ []) ++ name_to_end label
+parts_of (commands.Path from to direction label) =
+    between_parts (codes "path") from to direction ++ name_to_end label
+parts_of (commands.Levels from to direction label) =
+    between_parts (codes "levels") from to direction ++ name_to_end label
+parts_of (commands.Query query) = []
+
+-- The command is spelled by its parts; a query is spelled from place to place.
+abbrev pub IsCommand : Command → Type 0
+IsCommand (commands.Query query) = ⊥
+IsCommand _ = Unit {0}
+
+abbrev pub KeepsBounds : Command → Type 0
+KeepsBounds command = AllByRecursion IsBounded (parts_of command)
+
+-- The command is read without asking for memory.
+abbrev pub NeedsNoMemory : Command → Type 0
+NeedsNoMemory (commands.Node label pairs) = ⊥
+NeedsNoMemory (commands.Edge from label to pairs) = ⊥
+NeedsNoMemory (commands.Set target key value) = ⊥
+NeedsNoMemory (commands.Unset target key) = ⊥
+NeedsNoMemory (commands.Expand id direction label) = ⊥
+NeedsNoMemory (commands.Degree id direction label) = ⊥
+NeedsNoMemory (commands.Path from to direction label) = ⊥
+NeedsNoMemory (commands.Levels from to direction label) = ⊥
+NeedsNoMemory (commands.Query query) = ⊥
+NeedsNoMemory _ = Unit {0}
 
 -- what a command or a query begins with
 abbrev pub word_of : Head → List ℕ

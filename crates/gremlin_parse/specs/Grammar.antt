@@ -4,8 +4,6 @@ use Rattle.std.specs.Prelude.{List, [], ◌∷◌, ◌++◌, length, codes, flat
 use Rattle.std.specs.List.{AllByRecursion}
 use Rattle.plain_graph.specs.Names.{IsName}
 use Rattle.plain_graph.specs.Forms.{IsKept}
-use Rattle.plain_graph.specs.declared.command.Command.{Command}
-use Rattle.plain_graph.specs.declared.command.Command.TheVariants as commands
 use Rattle.plain_graph.specs.declared.command.Target.{Target}
 use Rattle.plain_graph.specs.declared.command.Target.TheVariants as targets
 use Rattle.plain_graph.specs.declared.direction.Direction.{Direction}
@@ -108,50 +106,6 @@ between_parts word from to direction =
     Exactly word ∷ Gap ∷ Number most_id from ∷ Gap ∷ Number most_id to ∷ Gap
     ∷ Exactly (direction_name direction) ∷ []
 
--- the parts that spell a command, from its first letter
-abbrev pub parts_of : Command → List Part
-parts_of commands.Blank = []
-parts_of commands.Begin = alone (codes "begin")
-parts_of commands.Commit = alone (codes "commit")
-parts_of commands.Rollback = alone (codes "rollback")
-parts_of commands.Checkpoint = alone (codes "checkpoint")
-parts_of commands.Check = alone (codes "check")
-parts_of commands.Stats = alone (codes "stats")
-parts_of commands.Reopen = alone (codes "reopen")
-parts_of commands.Quit = alone (codes "quit")
-parts_of (commands.Node label pairs) =
-    Exactly (codes "node") ∷ Gap ∷ Name label ∷ pairs_to_end pairs
-parts_of (commands.Edge from label to pairs) =
-    Exactly (codes "edge") ∷ Gap ∷ Number most_id from ∷ Gap ∷ Name label ∷ Gap
-    ∷ Number most_id to
-    ∷ pairs_to_end pairs
-parts_of (commands.Set target key value) =
-    (Exactly (codes "set") ∷ Gap ∷ []) ++ target_parts target
-    ++ Gap ∷ Name key ∷ Gap ∷ Written value ∷ Blanks ∷ []
-parts_of (commands.Unset target key) =
-    (Exactly (codes "unset") ∷ Gap ∷ []) ++ target_parts target
-    ++ Gap ∷ Name key ∷ Blanks ∷ []
-parts_of (commands.Delete target) =
-    (Exactly (codes "delete") ∷ Gap ∷ []) ++ target_parts target ++ Blanks ∷ []
-parts_of (commands.Expand id direction label) =
-    Exactly (codes "expand") ∷ Gap ∷ Number most_id id ∷ Gap
-    ∷ Exactly (direction_name direction)
-    ∷ Gap ∷ Name label ∷ Blanks ∷ []
-parts_of (commands.Degree id direction label) =
-    (Exactly (codes "degree") ∷ Gap ∷ Number most_id id ∷ Gap
-    ∷ Exactly (direction_name direction)
-    ∷ []) ++ name_to_end label
-parts_of (commands.Path from to direction label) =
-    between_parts (codes "path") from to direction ++ name_to_end label
-parts_of (commands.Levels from to direction label) =
-    between_parts (codes "levels") from to direction ++ name_to_end label
-parts_of (commands.Query query) = []
-
--- The command is spelled by its parts; a query is spelled from place to place.
-abbrev pub IsCommand : Command → Type 0
-IsCommand (commands.Query query) = ⊥
-IsCommand _ = Unit {0}
-
 -- The part is within the bounds that are no part of the loose grammar.
 abbrev pub IsBounded : Part → Type 0
 IsBounded Blanks = Unit {0}
@@ -163,19 +117,3 @@ IsBounded (Times number) = (1 ≤ number) × (number ≤ 16)
 IsBounded (Written value) = IsKept value
 IsBounded (Closed double name) = length name ≤ most_name_bytes
 IsBounded (Called word fault) = fault ≡ None
-
-abbrev pub KeepsBounds : Command → Type 0
-KeepsBounds command = AllByRecursion IsBounded (parts_of command)
-
--- The command is read without asking for memory.
-abbrev pub NeedsNoMemory : Command → Type 0
-NeedsNoMemory (commands.Node label pairs) = ⊥
-NeedsNoMemory (commands.Edge from label to pairs) = ⊥
-NeedsNoMemory (commands.Set target key value) = ⊥
-NeedsNoMemory (commands.Unset target key) = ⊥
-NeedsNoMemory (commands.Expand id direction label) = ⊥
-NeedsNoMemory (commands.Degree id direction label) = ⊥
-NeedsNoMemory (commands.Path from to direction label) = ⊥
-NeedsNoMemory (commands.Levels from to direction label) = ⊥
-NeedsNoMemory (commands.Query query) = ⊥
-NeedsNoMemory _ = Unit {0}

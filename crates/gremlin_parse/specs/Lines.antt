@@ -2,7 +2,8 @@
 use Rattle.std.specs.Prelude.{◌≡◌, ◌⊎◌, ℕ, ◌+◌, ◌≤◌, List, length, codes}
 use Rattle.plain_graph.specs.declared.command.Command.{Command}
 use Rattle.plain_graph.specs.declared.command.Command.TheVariants as commands
-use Rattle.gremlin_parse.specs.Grammar.{Blanks, Exactly, IsMadeOf, parts_of, IsCommand, KeepsBounds}
+use Rattle.gremlin_parse.specs.Commands.{IsCommand, KeepsBounds, parts_of}
+use Rattle.gremlin_parse.specs.Grammar.{Blanks, Exactly, IsMadeOf}
 use Rattle.gremlin_parse.specs.Faults.{StopsAt}
 use Rattle.gremlin_parse.specs.Reading.{Then, BadParts}
 use Rattle.gremlin_parse.specs.Queries.{QueryTo, IsKeptQuery, BadQuery}

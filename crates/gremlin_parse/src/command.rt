@@ -1,7 +1,7 @@
 ghost use Rattle.std.specs.Prelude.{IfOk, IfErr};
-ghost use Rattle.gremlin_parse.specs.Grammar.{KeepsBounds};
-ghost use Rattle.gremlin_parse.specs.Commands.{IsTail, IsSomeTail, BadTail, KeepsTail, LacksMemory};
-ghost use Rattle.gremlin_parse.specs.Commands.{SpellsAfter, StopsAfter, IsPlain, Asks};
+ghost use Rattle.gremlin_parse.specs.Commands.{Asks, BadTail, IsPlain, IsSomeTail, IsTail};
+ghost use Rattle.gremlin_parse.specs.Commands.{KeepsBounds, KeepsTail, LacksMemory, SpellsAfter};
+ghost use Rattle.gremlin_parse.specs.Commands.{StopsAfter};
 ghost use Rattle.gremlin_parse.specs.Stopping.{IsStop};
 
 use crate::argument::read_arguments;

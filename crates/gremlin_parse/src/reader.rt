@@ -1,7 +1,7 @@
 ghost use Rattle.std.specs.Prelude.{◌≡◌, ◌≢◌, ◌≤◌, length, IfOk, IfErr};
+ghost use Rattle.plain_graph.specs.Lines.{HasForm};
 ghost use Rattle.plain_graph.specs.declared.command.Command.{Command};
-ghost use Rattle.plain_graph.specs.Forms.{HasForm};
-ghost use Rattle.gremlin_parse.specs.Grammar.{NeedsNoMemory};
+ghost use Rattle.gremlin_parse.specs.Commands.{NeedsNoMemory};
 ghost use Rattle.gremlin_parse.specs.Lines.{Spells, HasFault, IsLeftmostFault};
 ghost use Rattle.gremlin_parse.specs.Stopping.{left_of, fault_of};
 ghost use Rattle.gremlin_parse.specs.declared.line_fault.LineFault.{LineFault};

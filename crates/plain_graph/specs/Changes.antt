@@ -3,7 +3,8 @@ use Rattle.std.specs.Prelude.{◌≡◌, ℕ, ◌+◌, ◌*◌, nat_eq, if◌the
 use Rattle.std.specs.FinMap as maps
 use Rattle.plain_graph.specs.Graph.{AddsEdge, AddsNode, Graph, NeedsNames, RemovesEdge, RemovesNode}
 use Rattle.plain_graph.specs.Graph.{SetsProperty, UnsetsProperty, degree_in, properties_at}
-use Rattle.plain_graph.specs.Kinds.{AreChanges, kind_of}
+use Rattle.plain_graph.specs.Kinds.{AreChanges}
+use Rattle.plain_graph.specs.Lines.{kind_of}
 use Rattle.plain_graph.specs.Properties.{Properties, blocks_at, blocks_in, blocks_of, keys_in}
 use Rattle.plain_graph.specs.Properties.{no_properties, with_pairs}
 use Rattle.plain_graph.specs.Reply.{Done, EdgeMade, NodeMade, Reply}

@@ -3,8 +3,6 @@ use Rattle.std.specs.Prelude.{◌≤◌, ℕ, Option, Some, None, List, [], ◌�
 use Rattle.std.specs.Int.RustNames.{FitsSigned}
 use mir.Syntax.{w64}
 use Rattle.plain_graph.specs.Names.{IsShortName}
-use Rattle.plain_graph.specs.declared.command.Command.{Command}
-use Rattle.plain_graph.specs.declared.command.Command.TheVariants as commands
 use Rattle.plain_graph.specs.declared.item.Item.{Item}
 use Rattle.plain_graph.specs.declared.item.Item.TheVariants as items
 use Rattle.plain_graph.specs.declared.pairs.Pair.{Pair}
@@ -32,25 +30,3 @@ ArePairs (pair ∷ later) = IsShortName pair.key × IsKept pair.value × ArePair
 abbrev pub IsMaybeName : Option (List ℕ) → Type 0
 IsMaybeName None = Unit {0}
 IsMaybeName (Some name) = IsShortName name
-
--- labels, types and keys of the command are names, and its values ones that a store may keep
-abbrev pub HasForm : Command → Type 0
-HasForm commands.Blank = Unit {0}
-HasForm commands.Begin = Unit {0}
-HasForm commands.Commit = Unit {0}
-HasForm commands.Rollback = Unit {0}
-HasForm commands.Checkpoint = Unit {0}
-HasForm commands.Check = Unit {0}
-HasForm commands.Stats = Unit {0}
-HasForm commands.Reopen = Unit {0}
-HasForm commands.Quit = Unit {0}
-HasForm (commands.Node label pairs) = IsShortName label × ArePairs pairs
-HasForm (commands.Edge from label to pairs) = IsShortName label × ArePairs pairs
-HasForm (commands.Set target key value) = IsShortName key × IsKept value
-HasForm (commands.Unset target key) = IsShortName key
-HasForm (commands.Delete target) = Unit {0}
-HasForm (commands.Expand id direction label) = IsShortName label
-HasForm (commands.Degree id direction label) = IsMaybeName label
-HasForm (commands.Path from to direction label) = IsMaybeName label
-HasForm (commands.Levels from to direction label) = IsMaybeName label
-HasForm (commands.Query query) = Unit {0}

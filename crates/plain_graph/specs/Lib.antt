@@ -5,11 +5,11 @@ pub mod Forms
 pub mod Graph
 pub mod Kinds
 pub mod Levels
+pub mod Lines
 pub mod Meaning
 pub mod Names
 pub mod Properties
 pub mod Reached
-pub mod Readings
 pub mod Refusals
 pub mod Reply
 pub mod Sorting

@@ -3,6 +3,7 @@ use Rattle.std.specs.Prelude.{◌≡◌, ◌≢◌, ◌⊎◌, ℕ, ◌+◌, ◌
 use Rattle.std.specs.FinMap as maps
 use Rattle.plain_graph.specs.Graph.{Graph, UsesNames, block_count, degree_in, has_edge, has_node}
 use Rattle.plain_graph.specs.Graph.{properties_at, property_count, with_value}
+use Rattle.plain_graph.specs.Lines.{At, Between, Nodes, nodes_of}
 use Rattle.plain_graph.specs.Properties.{Properties, blocks_in, keys_in, no_properties, with_pairs}
 use Rattle.plain_graph.specs.declared.command.Command.{Command}
 use Rattle.plain_graph.specs.declared.command.Command.TheVariants as commands
@@ -32,19 +33,28 @@ nodes_full limit graph _ why = ⊥
 abbrev pub lacks_node : Graph → ℕ → Refusal → Type 0
 lacks_node graph id why = (has_node graph id ≡ false) × (why ≡ refusals.NoNode id)
 
+-- no node has the identifier of the first of two nodes, of the second, or of the only one
+abbrev pub lacks_source : Nodes → Graph → Refusal → Type 0
+lacks_source (Between from to) graph why = lacks_node graph from why
+lacks_source _ graph why = ⊥
+
+abbrev pub lacks_target : Nodes → Graph → Refusal → Type 0
+lacks_target (Between from to) graph why = lacks_node graph to why
+lacks_target _ graph why = ⊥
+
+abbrev pub lacks_only : Nodes → Graph → Refusal → Type 0
+lacks_only (At id) graph why = lacks_node graph id why
+lacks_only _ graph why = ⊥
+
 -- no node has the identifier that the new edge, or a walk, is to leave
 abbrev pub no_source : Reason
 no_source limit graph (commands.Edge from label to pairs) why = lacks_node graph from why
-no_source limit graph (commands.Path from to direction label) why = lacks_node graph from why
-no_source limit graph (commands.Levels from to direction label) why = lacks_node graph from why
-no_source limit graph _ why = ⊥
+no_source limit graph command why = lacks_source (nodes_of command) graph why
 
 -- no node has the identifier that it is to come to
 abbrev pub no_target : Reason
 no_target limit graph (commands.Edge from label to pairs) why = lacks_node graph to why
-no_target limit graph (commands.Path from to direction label) why = lacks_node graph to why
-no_target limit graph (commands.Levels from to direction label) why = lacks_node graph to why
-no_target limit graph _ why = ⊥
+no_target limit graph command why = lacks_target (nodes_of command) graph why
 
 -- an edge more would be more than the limit
 abbrev pub edges_full : Reason
@@ -57,9 +67,7 @@ abbrev pub no_node : Reason
 no_node limit graph (commands.Set (targets.Node id) key value) why = lacks_node graph id why
 no_node limit graph (commands.Unset (targets.Node id) key) why = lacks_node graph id why
 no_node limit graph (commands.Delete (targets.Node id)) why = lacks_node graph id why
-no_node limit graph (commands.Expand id direction label) why = lacks_node graph id why
-no_node limit graph (commands.Degree id direction label) why = lacks_node graph id why
-no_node limit graph _ why = ⊥
+no_node limit graph command why = lacks_only (nodes_of command) graph why
 
 -- no edge has the identifier
 abbrev pub lacks_edge : Graph → ℕ → Refusal → Type 0

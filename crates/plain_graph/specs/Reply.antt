@@ -2,10 +2,8 @@
 use Rattle.std.specs.Prelude.{ℕ, nat_eq, if◌then◌else◌, List, [], ◌∷◌, ◌++◌, codes, decimal}
 use Rattle.std.specs.Prelude.{flat_map, slice_index_or}
 use Rattle.std.specs.Fmt.{signed_decimal}
-use Rattle.plain_graph.specs.declared.counts.Counts.{Counts}
 use Rattle.plain_graph.specs.declared.item.Item.{Item}
 use Rattle.plain_graph.specs.declared.item.Item.TheVariants as items
-use Rattle.plain_graph.specs.declared.node_level.NodeLevel.{NodeLevel}
 use Rattle.plain_graph.specs.declared.value.Value.{Value}
 use Rattle.plain_graph.specs.declared.value.Value.TheVariants as values
 use Rattle.plain_graph.specs.declared.refusal.Refusal.{Refusal}
@@ -72,21 +70,6 @@ result_text item = text_line (item_line item)
 abbrev pub end_text : List ℕ
 end_text = codes "end"
 
--- how many edges a node has
-abbrev pub degree_text : ℕ → List ℕ
-degree_text edges = codes "degree " ++ decimal edges
-
--- how many edges a walk has, or that none leads there
-abbrev pub path_text : ℕ → List ℕ
-path_text edges = codes "path " ++ decimal edges
-
-abbrev pub no_path_text : List ℕ
-no_path_text = codes "no path"
-
--- a node and the least number of edges that lead to it
-abbrev pub level_text : NodeLevel → List ℕ
-level_text row = codes "==>v[" ++ decimal row.node ++ codes "] " ++ decimal row.level
-
 abbrev pub refusal_text : Refusal → List ℕ
 refusal_text refusals.LongLine = codes "error line"
 refusal_text (refusals.Syntax at) = codes "error syntax " ++ decimal at
@@ -111,14 +94,6 @@ refusal_text (refusals.HasRelationships id) =
     codes "error node " ++ decimal id ++ codes " has relationships"
 refusal_text refusals.TransactionFull = codes "error transaction full"
 
--- how many there are of each part of the graph
-abbrev pub counts_text : Counts → List ℕ
-counts_text counts =
-    codes "nodes " ++ decimal counts.nodes ++ codes " edges " ++ decimal counts.edges
-    ++ codes " properties " ++ decimal counts.properties ++ codes " blocks "
-    ++ decimal counts.blocks
-    ++ codes " names " ++ decimal counts.names
-
 -- what the lines of the console call each file of the store
 abbrev pub file_name : ℕ → List ℕ
 file_name file =
@@ -130,15 +105,6 @@ file_name file =
 -- place of an entry
 abbrev pub damaged_text : ℕ → ℕ → List ℕ
 damaged_text file id = codes "damaged " ++ file_name file ++ codes " " ++ decimal id
-
--- all rules of the store hold
-abbrev pub sound_text : List ℕ
-sound_text = codes "sound"
-
--- this record of the file breaks the rule of the store of this number, the least that is broken
-abbrev pub broken_text : ℕ → ℕ → ℕ → List ℕ
-broken_text file id rule =
-    codes "broken " ++ file_name file ++ codes " " ++ decimal id ++ codes " " ++ decimal rule
 
 -- the line of a fault
 abbrev pub fault_line : Fault → List ℕ

@@ -1,11 +1,13 @@
 ghost use Rattle.std.specs.Prelude.{◌≡◌, ◌≤◌, ◌+◌, ◌*◌, ◌++◌, codes, decimal, flat_map, length};
 ghost use Rattle.plain_graph.specs.Forms.{IsKept, IsShown};
+ghost use Rattle.plain_graph.specs.Lines.{broken_text, counts_text, degree_text, level_text};
+ghost use Rattle.plain_graph.specs.Lines.{no_path_text, path_text, sound_text};
 ghost use Rattle.plain_graph.specs.Reply.{DamagedRecord, DiskFailed, Done, EdgeMade, NoMemory};
-ghost use Rattle.plain_graph.specs.Reply.{NodeMade, PastCount, Refused, broken_text};
-ghost use Rattle.plain_graph.specs.Reply.{configuration_text, counts_text, damaged_text};
-ghost use Rattle.plain_graph.specs.Reply.{degree_text, edge_text, end_text, escaped, fault_line};
-ghost use Rattle.plain_graph.specs.Reply.{file_name, level_text, no_path_text, path_text};
-ghost use Rattle.plain_graph.specs.Reply.{reply_text, result_text, sound_text, text_line};
+ghost use Rattle.plain_graph.specs.Reply.{NodeMade, PastCount, Refused};
+ghost use Rattle.plain_graph.specs.Reply.{configuration_text, damaged_text};
+ghost use Rattle.plain_graph.specs.Reply.{edge_text, end_text, escaped, fault_line};
+ghost use Rattle.plain_graph.specs.Reply.{file_name};
+ghost use Rattle.plain_graph.specs.Reply.{reply_text, result_text, text_line};
 ghost use Rattle.plain_graph.specs.Reply.{value_text};
 
 use crate::{ByteBuffer, Counts, Item, NodeLevel, Refusal, Text, Value};

@@ -2,12 +2,12 @@ use Rattle.std.proofs.Common.{List, sym, subst}
 use Rattle.std.specs.List.{AllByRecursion}
 use Rattle.std.proofs.lemmas.Result.{err_from_is_err_and}
 use Rattle.plain_graph.specs.declared.command.Command.{Command}
-use Rattle.gremlin_parse.specs.Grammar.{KeepsBounds, IsBounded}
+use Rattle.gremlin_parse.specs.Commands.{Asks, BadLast, IsLast, KeepsBounds, SpellsAfter, arguments_of, built, last_part}
+use Rattle.gremlin_parse.specs.Grammar.{IsBounded}
 use Rattle.gremlin_parse.specs.Symbols.{ReadsAll, LeavesOne}
 use Rattle.gremlin_parse.specs.Stopping.{IsStop}
 use Rattle.gremlin_parse.specs.Arguments.{spaced, contents_in, listed}
 use Rattle.gremlin_parse.specs.Lasts.{last_content, last_parts, LastIs, SomeLast, BadInLast, Lacks}
-use Rattle.gremlin_parse.specs.Commands.{Asks, IsLast, BadLast, SpellsAfter, arguments_of, last_part, built}
 use Rattle.gremlin_parse.specs.declared.argument.Argument.{Argument}
 use Rattle.gremlin_parse.specs.declared.last.LastPart.{LastPart}
 use Rattle.gremlin_parse.proofs.Heads.{stop_in_head, stop_after_head, stop_lacks}

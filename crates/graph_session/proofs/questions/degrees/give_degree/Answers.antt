@@ -1,0 +1,32 @@
+use Rattle.std.proofs.Common.{◌∙◌, ℕ, Option, Err, List, ap, refl}
+use Rattle.plain_graph.specs.Lines.{degree_text, one_line}
+use Rattle.plain_graph.specs.declared.command.Command.TheVariants as commands
+use Rattle.plain_graph.specs.declared.direction.Direction.{Direction}
+use Rattle.store_rules.specs.Graph.{graph_of}
+use Rattle.store_rules.specs.Rows.{option_list}
+use Rattle.graph_session.proofs.Expansion.{is_read-gets, rows-degree}
+use Rattle.graph_session.proofs.NodeQuestions.{AsksNodes, gives-told, gives-unknown, one-missing, undamaged}
+use Rattle.graph_session.proofs.questions.degrees.give_degree.Goals as goal
+
+asks : (id : ℕ) (direction : Direction) (label : Option (List ℕ)) → AsksNodes (commands.Degree id direction label)
+asks id direction label = record { question = tt; some = tt; reading = one_line (degree_text 0); formed = (0, refl) }
+
+pub returns-in-Ok : goal.returns-in-Ok
+returns-in-Ok g c =
+    let s = g.R.Reads.state c.args.space.now in
+    let met = c.in-Ok.ensures in
+    gives-told (asks c.args.id c.args.direction c.args.label.now) (is_read-gets g.R.Reads met.at_most.count met.at_most.is met.onward met.cause.later) (one_line (degree_text c.in-Ok.edges)) (c.in-Ok.edges, refl) refl
+    (λ told store. met.missing told store.store)
+    (λ told store.
+    ap (λ (edges : ℕ). one_line (degree_text edges))
+    (met.rows told store.store ∙ rows-degree s.records s.shape store.store (option_list c.number_in.result) c.args.label.now (c.number_in.ensures s.records s.shape store) c.args.direction c.args.id))
+    (rw (c.as_bytes.ensures, c.degree-in-Ok.ensures) at c.give.ensures)
+
+pub returns-in-Err : goal.returns-in-Err
+returns-in-Err g c =
+    let s = g.R.Reads.state c.args.space.now in
+    let met = c.in-Err.ensures in
+    gives-unknown (asks c.args.id c.args.direction c.args.label.now) (is_read-gets g.R.Reads met.at_most.count met.at_most.is met.onward met.cause.later) c.in-Err.fault (λ disk. met.cause.disk (ap Err disk))
+    (λ told store. one-missing ℕ c.in-Err.fault c.args.id (graph_of s.records) (met.missing told store.store))
+    (λ told store. undamaged ℕ c.in-Err.fault (met.sound told store.store))
+    (rw c.answer_of.ensures at c.give_answer.ensures)

@@ -1,0 +1,16 @@
+use Rattle.std.proofs.Common.{Vec, [], ◌∷◌}
+use Rattle.std.specs.declared.alloc.Global.{Global}
+use Rattle.rel_store.specs.declared.edge_row.EdgeRow.{EdgeRow}
+use Rattle.graph_session.proofs.Expansion.{is_read-gets, items-expansion, ok-then}
+use Rattle.graph_session.proofs.questions.edge_results.edges_of.Goals as goal
+
+pub returns-clause-found : goal.returns-clause-found
+returns-clause-found g c = λ tells store.
+    let s = g.R.Reads.state c.args.space.now in
+    ok-then c.expand.result
+    (λ (rows : Vec EdgeRow Global) found.
+    items-expansion s.records s.shape c.args.names.now.names store c.number_of.result c.args.label.now (c.number_of.ensures s.records s.shape store) c.args.direction c.args.id rows.items (found store.store))
+    (c.expand.ensures.rows tells)
+
+pub returns-clause-read : goal.returns-clause-read
+returns-clause-read g c = is_read-gets g.R.Reads c.expand.ensures.at_most.count c.expand.ensures.at_most.is c.expand.ensures.onward c.expand.ensures.cause.later
