@@ -1,11 +1,12 @@
 use Rattle.std.proofs.Common.{ℕ, Option, Err, List, [], ap, refl}
-use Rattle.plain_graph.specs.Lines.{no_path_text, one_line, walk_reading}
+use Rattle.plain_graph.specs.Adjacency.{adjacency_in}
+use Rattle.plain_graph.specs.Lines.{no_path_text, one_line, types_of, walk_reading}
 use Rattle.plain_graph.specs.declared.command.Command.TheVariants as commands
 use Rattle.plain_graph.specs.declared.direction.Direction.{Direction}
 use Rattle.store_rules.specs.Graph.{graph_of}
 use Rattle.path_find.specs.declared.answer.Answer.{Answer}
 use Rattle.graph_session.proofs.NodeQuestions.{AsksNodes, end-missing, gives-told, gives-unknown, undamaged}
-use Rattle.graph_session.proofs.WalkReplies.{walk-counted}
+use Rattle.graph_session.proofs.WalkReplies.{answer-walk, walk-counted}
 use Rattle.graph_session.proofs.questions.walks.give_walk.Goals as goal
 
 asks : (from to : ℕ) (direction : Direction) (label : Option (List ℕ)) → AsksNodes (commands.Path from to direction label)
@@ -18,7 +19,7 @@ returns-in-Ok g c =
     let levels = c.in-Ok.answer.levels in
     gives-told (asks c.args.from c.args.to c.args.direction c.args.label.now) met.read (walk_reading walk) (walk, refl) (walk-counted walk)
     (λ told store. met.missing told store)
-    (λ told store. (walk, levels, met.found told store, refl)) (rw c.as_slice.ensures at c.give_nodes.ensures)
+    (λ told store. (walk, answer-walk (adjacency_in (graph_of (g.R.Reads.state c.args.space.now).records) c.args.direction (types_of c.args.label.now)) c.args.from c.args.to walk levels (met.found told store), refl)) (rw c.as_slice.ensures at c.give_nodes.ensures)
 
 pub returns-in-Err : goal.returns-in-Err
 returns-in-Err g c =
