@@ -3,6 +3,9 @@ pub mod Damage
 pub mod Ends
 pub mod Finding
 pub mod Growing
+pub mod Least
+pub mod Meeting
+pub mod Reach
 pub mod Reading
 pub mod Reads
 pub mod Search
