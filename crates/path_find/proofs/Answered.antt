@@ -16,7 +16,7 @@ use Rattle.expand.proofs.LoadedRows.{row_fault}
 use Rattle.plain_graph.specs.Adjacency.{Adjacency}
 use Rattle.plain_graph.specs.Reached.{IsAnswer}
 use Rattle.path_find.specs.Damage.{BlamesBroken}
-use Rattle.path_find.specs.Least.{IsLeastOrNone}
+use Rattle.plain_graph.specs.Reached.{IsLeastOrNone}
 use Rattle.path_find.specs.Finding.{IsPathFault, TellsEnds}
 use Rattle.path_find.specs.Reads.{StandFor, adjacency_of, neighbours_at}
 use Rattle.path_find.specs.Search.{HasSearched}

@@ -5,7 +5,7 @@ use Rattle.std.proofs.lemmas.List.{length-append}
 use Rattle.std.proofs.lemmas.List.Elements.{Contains-get_or}
 use Rattle.plain_graph.specs.Adjacency.{Adjacency}
 use Rattle.plain_graph.specs.Walks.{HasNoWalk, IsLeastShortest, IsNotAfter, IsWalk, LeadsTo}
-use Rattle.path_find.specs.Least.{IsLeastOrNone}
+use Rattle.plain_graph.specs.Reached.{IsLeastOrNone}
 use Rattle.path_find.specs.Meeting.{AreApart, AreJoined, IsShared}
 use Rattle.path_find.specs.Reach.{AreLayers}
 use Rattle.path_find.specs.Tree.{Rows, Spans, level_at, node_at, row_count, way_to}

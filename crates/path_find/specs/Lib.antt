@@ -3,7 +3,6 @@ pub mod Damage
 pub mod Ends
 pub mod Finding
 pub mod Growing
-pub mod Least
 pub mod Meeting
 pub mod Reach
 pub mod Reading

@@ -7,7 +7,7 @@ ghost use Rattle.rec_bytes.specs.Fault.{HasFaultCause, NotDamaged};
 ghost use Rattle.rec_bytes.specs.Frame.{IsRead};
 ghost use Rattle.expand.specs.Expanding.{IsStore, graph_in};
 ghost use Rattle.path_find.specs.Damage.{BlamesBroken};
-ghost use Rattle.path_find.specs.Least.{IsLeastOrNone};
+ghost use Rattle.plain_graph.specs.Reached.{IsLeastOrNone};
 ghost use Rattle.path_find.specs.Meeting.{
   AreApart,
   AreCloser,

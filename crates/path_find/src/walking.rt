@@ -1,6 +1,6 @@
 ghost use Rattle.std.specs.Prelude.{ℕ, List, IfErr, IfOk};
 ghost use Rattle.plain_graph.specs.Graph.{has_node};
-ghost use Rattle.path_find.specs.Least.{IsLeastOrNone};
+ghost use Rattle.plain_graph.specs.Reached.{IsLeastOrNone};
 ghost use Rattle.rec_bytes.specs.Frame.{IsRead};
 ghost use Rattle.expand.specs.ExpandFault.{HasExpandCause, NotDamaged};
 ghost use Rattle.expand.specs.Expanding.{IsStore, graph_in};

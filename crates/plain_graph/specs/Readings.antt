@@ -4,7 +4,7 @@ use Rattle.plain_graph.specs.Adjacency.{adjacency_in}
 use Rattle.plain_graph.specs.Counts.{counts_of}
 use Rattle.plain_graph.specs.Graph.{Graph}
 use Rattle.plain_graph.specs.Meaning.{edge_item, edges_at, has_past_count, meaning}
-use Rattle.plain_graph.specs.Reached.{IsAnswer}
+use Rattle.plain_graph.specs.Reached.{IsAnswer, IsLeastOrNone}
 use Rattle.plain_graph.specs.Reply.{counts_text, degree_text, end_text, item_line, level_text}
 use Rattle.plain_graph.specs.Reply.{no_path_text, path_text, sound_text}
 use Rattle.plain_graph.specs.declared.command.Command.{Command}
@@ -63,8 +63,8 @@ Shows graph (commands.Degree id direction label) reading =
 Shows graph (commands.Expand id direction label) reading =
     reading ≡ listed (map item_line (expansion graph id direction label))
 Shows graph (commands.Path from to direction label) reading =
-    (walk : List ℕ) × (levels : List NodeLevel)
-    × IsFound graph from to direction label walk levels × (reading ≡ walk_reading walk)
+    (walk : List ℕ) × IsLeastOrNone (adjacency_in graph direction (types_of label)) from to walk
+    × (reading ≡ walk_reading walk)
 Shows graph (commands.Levels from to direction label) reading =
     (walk : List ℕ) × (levels : List NodeLevel)
     × IsFound graph from to direction label walk levels

@@ -4,7 +4,7 @@ use Rattle.std.proofs.lemmas.Result.{err_from_is_err_and}
 use Rattle.rec_bytes.specs.Space.{State}
 use Rattle.rec_bytes.specs.declared.fault.Fault.TheVariants.{Disk}
 use Rattle.expand.specs.Expanding.{IsStore}
-use Rattle.path_find.specs.Least.{IsLeastOrNone}
+use Rattle.plain_graph.specs.Reached.{IsLeastOrNone}
 use Rattle.path_find.specs.Meeting.{AreApart, AreJoined, CanDescend, reversed}
 use Rattle.path_find.specs.Reach.{AreLayers}
 use Rattle.path_find.specs.Reads.{neighbours_at}

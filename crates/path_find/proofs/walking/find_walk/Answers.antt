@@ -6,7 +6,7 @@ use Rattle.node_store.specs.Loading.{row_at}
 use Rattle.expand.specs.ExpandFault.{of_row}
 use Rattle.path_find.specs.Damage.{BlamesBroken}
 use Rattle.path_find.specs.Finding.{IsPathFault}
-use Rattle.path_find.specs.Least.{IsLeastOrNone}
+use Rattle.plain_graph.specs.Reached.{IsLeastOrNone}
 use Rattle.path_find.specs.Reads.{adjacency_of}
 use Rattle.plain_graph.specs.Graph.{has_node}
 use Rattle.expand.specs.Expanding.{graph_in}
