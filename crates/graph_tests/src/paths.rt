@@ -1,6 +1,6 @@
 use crate::graphs::Graph;
 use expand::ExpandFault;
-use path_find::{Answer, Levels, Walk, check_levels, find_path};
+use path_find::{Answer, Levels, Walk, check_levels, find_path, find_walk};
 use plain_graph::{Direction, NodeLevel};
 use rec_bytes::Fault;
 use std::alloc::{AllocError, Global};
@@ -93,6 +93,10 @@ fn nodes_that_are_missing_are_told(rt: HostRuntime) -> Result<(), Fail> {
             Ok(answer) => assert!(rt; false, "{} nodes", answer.walk.as_slice().len()),
             Err(fault) => assert!(rt; fault == ExpandFault::NoNode { id }),
         }
+        match walked(rt.alloc(), &mut graph, (from, to, Direction::Both, &[])) {
+            Ok(walk) => assert!(rt; false, "{} nodes", walk.as_slice().len()),
+            Err(fault) => assert!(rt; fault == ExpandFault::NoNode { id }),
+        }
     }
     Ok(())
 }
@@ -105,12 +109,14 @@ fn with_edges(rt: &HostRuntime, count: u32, edges: &[(u32, &[u8], u32)]) -> Resu
     Ok(graph)
 }
 
-// The answer is the row's and passes, and a spoiled one does not. Where there is no walk, no level is
-// too high.
+// The walk and the answer are the row's, the answer passes, and a spoiled one does not. Where there
+// is no walk, no level is too high.
 fn holds(alloc: Global, graph: &mut Graph, row: Row) -> Result<bool, Fail> {
     let (question, walk, levels) = row;
     let answer = asked(alloc, graph, question)?;
-    let is_shown = answer.walk.as_slice() == walk && are_rows(answer.levels.as_slice(), levels);
+    let alone = walked(alloc, graph, question)?;
+    let is_walk = answer.walk.as_slice() == walk && alone.as_slice() == walk;
+    let is_shown = is_walk && are_rows(answer.levels.as_slice(), levels);
     let fewer = spoiled(alloc, &answer, false)?;
     let higher = spoiled(alloc, &answer, true)?;
     let is_passed = passes(alloc, graph, question, &answer)?;
@@ -122,6 +128,11 @@ fn holds(alloc: Global, graph: &mut Graph, row: Row) -> Result<bool, Fail> {
 fn asked(alloc: Global, graph: &mut Graph, question: Question) -> Result<Answer, ExpandFault> {
     let (from, to, direction, labels) = question;
     find_path(alloc, &mut graph.space, from, to, direction, labels)
+}
+
+fn walked(alloc: Global, graph: &mut Graph, question: Question) -> Result<Walk, ExpandFault> {
+    let (from, to, direction, labels) = question;
+    find_walk(alloc, &mut graph.space, from, to, direction, labels)
 }
 
 fn passes(
