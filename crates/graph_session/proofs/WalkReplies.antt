@@ -3,13 +3,9 @@ use Rattle.std.proofs.Common.{◌≡◌, ◌≢◌, ◌∙◌, ◌+◌, ◌-◌,
 use Rattle.std.proofs.Math.Seq.{take-length, take-suc}
 use Rattle.std.proofs.lemmas.List.{map-append, take-append-drop}
 use Rattle.stream_io.specs.declared.streams.Sink.{Ghosts}
-use Rattle.plain_graph.specs.Adjacency.{Adjacency}
 use Rattle.plain_graph.specs.Lines.{Reading, listed, no_path_text, path_text, walk_reading}
 use Rattle.plain_graph.specs.Reply.{Told, end_text, item_line, reply_text, text_line}
-use Rattle.plain_graph.specs.Walks.{IsLeastOrNone}
-use Rattle.plain_graph.specs.Reached.{IsAnswer}
 use Rattle.plain_graph.specs.declared.command.Command.{Command}
-use Rattle.plain_graph.specs.declared.node_level.NodeLevel.{NodeLevel}
 use Rattle.plain_graph.specs.declared.item.Item.TheVariants as items
 use Rattle.expand.specs.declared.expand_fault.ExpandFault.{ExpandFault}
 use Rattle.graph_session.specs.Answer.{Gives}
@@ -88,11 +84,6 @@ pub gives-no_walk : {K : Type 0} {sink : Ghosts K} {before after : K} {turn : Tu
     → Gives sink (reply_text (Told (walk_reading walk).lines (walk_reading walk).last)) before after turn
 gives-no_walk [] none gives = gives
 gives-no_walk (first ∷ later) none gives = absurd (omega (arith, none))
-
--- the walk of an answer is a least of the shortest, or none
-pub answer-walk : (near : Adjacency) (from to : ℕ) (walk : List ℕ) (levels : List NodeLevel) → IsAnswer near from to walk levels → IsLeastOrNone near from to walk
-answer-walk near from to [] levels answer = answer.0
-answer-walk near from to (first ∷ later) levels answer = answer.0
 
 -- no count passes in one
 pub walk-counted : (walk : List ℕ) → (walk_reading walk).is_past ≡ false

@@ -16,6 +16,7 @@ use Rattle.expand.proofs.LoadedRows.{row_fault}
 use Rattle.plain_graph.specs.Adjacency.{Adjacency}
 use Rattle.plain_graph.specs.Reached.{IsAnswer}
 use Rattle.path_find.specs.Damage.{BlamesBroken}
+use Rattle.plain_graph.specs.Reached.{IsLeastOrNone}
 use Rattle.path_find.specs.Finding.{IsPathFault, TellsEnds}
 use Rattle.path_find.specs.Reads.{StandFor, adjacency_of, neighbours_at}
 use Rattle.path_find.specs.Search.{HasSearched}
@@ -68,3 +69,12 @@ module _ (s : State) (store : IsStore s) (direction : Direction) (labels : List 
       let has = searched (subst IsStore (sym same) store) (subst (λ (u : State). has_node (graph_in u) from ≡ true) (sym same) there) in
       let at_s = subst (λ (u : State). HasSearched (neighbours_at u direction labels) rows from to) same has in
       subst (λ (near : Adjacency). IsAnswer near from to walk levels) (neighbours_are s store direction labels types stand) (answer (neighbours_at s direction labels) from at_s)
+
+  -- so with the walk alone
+  pub walked : (t : State) → SameButReads s t → (from to : ℕ) → has_node (graph_in s) from ≡ true → has_node (graph_in s) to ≡ true → (walk : List ℕ)
+      → (IsStore t → has_node (graph_in t) from ≡ true → has_node (graph_in t) to ≡ true → IsLeastOrNone (neighbours_at t direction labels) from to walk)
+      → IsLeastOrNone (adjacency_of s direction types) from to walk
+  walked t same from to there to_there walk found =
+      let at_t = found (subst IsStore (sym same) store) (subst (λ (u : State). has_node (graph_in u) from ≡ true) (sym same) there) (subst (λ (u : State). has_node (graph_in u) to ≡ true) (sym same) to_there) in
+      let at_s = subst (λ (u : State). IsLeastOrNone (neighbours_at u direction labels) from to walk) same at_t in
+      subst (λ (near : Adjacency). IsLeastOrNone near from to walk) (neighbours_are s store direction labels types stand) at_s

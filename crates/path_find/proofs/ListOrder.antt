@@ -34,3 +34,13 @@ not_after-earlier (x ∷ xs) (y ∷ ys) (z ∷ zs) h k = elim h [
     | inr rest ↦ inr (first.0 ∙ rest.0, not_after-earlier xs ys zs first.1 rest.1)
   ]
 ]
+
+-- lists in two parts, of which the first are as long
+pub not_after-join : (xs ys us vs : List ℕ) → length xs ≡ length ys → IsNotAfter xs ys → (xs ≡ ys → IsNotAfter us vs) → IsNotAfter (xs ++ us) (ys ++ vs)
+not_after-join [] [] us vs same h rest = rest refl
+not_after-join [] (y ∷ ys) us vs same h rest = absurd (omega (arith, same))
+not_after-join (x ∷ xs) [] us vs same h rest = absurd h
+not_after-join (x ∷ xs) (y ∷ ys) us vs same h rest = elim h [
+  | inl lt ↦ inl lt
+  | inr first ↦ inr (first.0, not_after-join xs ys us vs (omega (arith, same)) first.1 (λ e. rest (λ i. first.0 i ∷ e i)))
+]

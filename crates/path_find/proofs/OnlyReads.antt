@@ -15,6 +15,10 @@ written-after_gets zero s = refl
 written-after_gets (suc n) s = written-after_gets n s
 
 module _ {R : Type 0} (space : Ghosts R) where
+  -- nothing was read
+  pub is_read-none : ((a : R) → space.onward a a) → (a : R) → IsRead space a a
+  is_read-none stays a = record { records = refl; written = refl; onward = stays a; later = omega arith }
+
   -- more was read
   pub is_read-on : ((a b c : R) → space.onward a b → space.onward b c → space.onward a c) → (a b c : R) → IsRead space a b → IsRead space b c → IsRead space a c
   is_read-on further a b c first more = record {

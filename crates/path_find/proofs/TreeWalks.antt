@@ -23,10 +23,10 @@ module _ (rows : Rows) (done : ℕ) (tree : IsTree rows done) where
     | inr le ↦ let none : i ≡ 0 = omega arith in let root = tree.root in let same = ap (level_at rows) none in absurd (omega (arith, root, same))
   ]
 
-  parent_level : (i l : ℕ) → i < row_count rows → level_at rows i ≡ suc l → level_at rows (parent_at rows i) ≡ l
+  pub parent_level : (i l : ℕ) → i < row_count rows → level_at rows i ≡ suc l → level_at rows (parent_at rows i) ≡ l
   parent_level i l low is = let grown = (tree.grown i (row_later i l is) low).level in omega (arith, grown)
 
-  parent_low : (i l : ℕ) → i < row_count rows → level_at rows i ≡ suc l → parent_at rows i < row_count rows
+  pub parent_low : (i l : ℕ) → i < row_count rows → level_at rows i ≡ suc l → parent_at rows i < row_count rows
   parent_low i l low is = let earlier = (tree.grown i (row_later i l is) low).earlier in omega (arith, earlier)
 
   -- a level is at most the number of its row
@@ -57,7 +57,7 @@ module _ (rows : Rows) (done : ℕ) (tree : IsTree rows done) where
   length-way_to (suc l) i = let long = length_push (way_to rows l (parent_at rows i)) (node_at rows i) in let rest = length-way_to l (parent_at rows i) in omega (arith, long, rest)
 
   -- rows of a level stand in the order of their ways
-  way_to-order : (l i j : ℕ) → level_at rows i ≡ l → level_at rows j ≡ l → i < j → j < row_count rows → IsEarlier (way_to rows l i) (way_to rows l j)
+  pub way_to-order : (l i j : ℕ) → level_at rows i ≡ l → level_at rows j ≡ l → i < j → j < row_count rows → IsEarlier (way_to rows l i) (way_to rows l j)
   way_to-order zero i j is is' lt low = let none = row_first j low is' in absurd (omega (arith, none))
   way_to-order (suc l) i j is is' lt low =
       let pos = row_later i l is in

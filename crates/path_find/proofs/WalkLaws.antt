@@ -1,5 +1,5 @@
--- Walks by their last edge.
-use Rattle.std.proofs.Common.{◌≡◌, ℕ, true, List, [], ◌∷◌, ◌++◌, Contains, refl, sym, ap, subst}
+-- Walks by their last edge, and in two parts.
+use Rattle.std.proofs.Common.{◌≡◌, ◌≤◌, ℕ, zero, suc, true, List, [], ◌∷◌, ◌++◌, length, Contains, refl, sym, ap, subst, ◌∙◌, arith}
 use Rattle.plain_graph.specs.Adjacency.{Adjacency}
 use Rattle.plain_graph.specs.Walks.{LeadsTo}
 
@@ -33,4 +33,52 @@ module _ (near : Adjacency) where
         is = ap (λ (list : List ℕ). node ∷ list) rest.is;
         leads = (leads.0, leads.1, rest.leads);
         edge = rest.edge;
+      }
+
+  -- one walk after another
+  pub LeadsTo-append : (first second : List ℕ) (at mid to : ℕ) → LeadsTo near at first mid → LeadsTo near mid second to → LeadsTo near at (first ++ second) to
+  LeadsTo-append [] second at mid to leads then = subst (λ n. LeadsTo near n second to) (sym leads.1) then
+  LeadsTo-append (node ∷ first) second at mid to leads then = (leads.0, leads.1, LeadsTo-append first second node mid to leads.2 then)
+
+  -- the nodes of a walk say where it ends
+  pub one_end : (later : List ℕ) (at to other : ℕ) → LeadsTo near at later to → LeadsTo near at later other → to ≡ other
+  one_end [] at to other leads also = sym leads.1 ∙ also.1
+  one_end (node ∷ later) at to other leads also = one_end later node to other leads.2 also.2
+
+  -- a walk in two parts, the first of so many edges
+  pub record HasParts (at : ℕ) (walk : List ℕ) (to count : ℕ) : Type 0 where
+    pub before : List ℕ
+    pub mid : ℕ
+    pub after : List ℕ
+    pub is : walk ≡ before ++ after
+    pub long : length before ≡ count
+    pub leads : LeadsTo near at before mid
+    pub rest : LeadsTo near mid after to
+
+  pub parts : (count : ℕ) (walk : List ℕ) (at to : ℕ) → LeadsTo near at walk to → count ≤ length walk → HasParts at walk to count
+  parts zero walk at to leads few = record {
+    before = [];
+    mid = at;
+    after = walk;
+    is = refl;
+    long = refl;
+    leads = (start walk at to leads, refl);
+    rest = leads;
+  }
+    where
+      start : (walk : List ℕ) (at to : ℕ) → LeadsTo near at walk to → near.is_node at ≡ true
+      start [] at to leads = leads.0
+      start (node ∷ later) at to leads = leads.0
+  parts (suc count) [] at to leads few = absurd (omega (arith, few))
+  parts (suc count) (node ∷ later) at to leads few =
+      let two = parts count later node to leads.2 (omega (arith, few)) in
+      let long = two.long in
+      record {
+        before = node ∷ two.before;
+        mid = two.mid;
+        after = two.after;
+        is = ap (λ (list : List ℕ). node ∷ list) two.is;
+        long = ap suc long;
+        leads = (leads.0, leads.1, two.leads);
+        rest = two.rest;
       }

@@ -3,6 +3,8 @@ pub mod Damage
 pub mod Ends
 pub mod Finding
 pub mod Growing
+pub mod Meeting
+pub mod Reach
 pub mod Reading
 pub mod Reads
 pub mod Search

@@ -10,9 +10,8 @@ use Rattle.plain_graph.specs.Kinds.{AreQuestions, Blanks, Bound, Change, Ending,
 use Rattle.plain_graph.specs.Kinds.{Upkeep}
 use Rattle.plain_graph.specs.Meaning.{edge_item, edges_at, has_past_count, meaning}
 use Rattle.plain_graph.specs.Names.{IsShortName}
-use Rattle.plain_graph.specs.Reached.{IsAnswer}
+use Rattle.plain_graph.specs.Reached.{IsAnswer, IsLeastOrNone}
 use Rattle.plain_graph.specs.Reply.{end_text, file_name, item_line}
-use Rattle.plain_graph.specs.Walks.{IsLeastOrNone}
 use Rattle.plain_graph.specs.declared.command.Command.{Command}
 use Rattle.plain_graph.specs.declared.command.Command.TheVariants as commands
 use Rattle.plain_graph.specs.declared.counts.Counts.{Counts}
@@ -94,11 +93,6 @@ walk_reading (first ∷ later) =
     listed (path_text (length later)
     ∷ map (λ (id : ℕ). item_line (items.Vertex id)) (first ∷ later))
 
--- a least walk of the shortest, or none
-abbrev pub IsWay : Graph → ℕ → ℕ → Direction → Option (List ℕ) → List ℕ → Type 0
-IsWay graph from to direction label walk =
-    IsLeastOrNone (adjacency_in graph direction (types_of label)) from to walk
-
 -- a least walk of the shortest, with the levels of the nodes that are reached
 abbrev pub IsFound : Graph → ℕ → ℕ → Direction → Option (List ℕ) → List ℕ → List NodeLevel → Type 0
 IsFound graph from to direction label walk levels =
@@ -164,7 +158,8 @@ Shows graph (commands.Expand id direction label) reading =
 Shows graph (commands.Degree id direction label) reading =
     reading ≡ one_line (degree_text (degree_at graph id direction label))
 Shows graph (commands.Path from to direction label) reading =
-    (walk : List ℕ) × IsWay graph from to direction label walk × (reading ≡ walk_reading walk)
+    (walk : List ℕ) × IsLeastOrNone (adjacency_in graph direction (types_of label)) from to walk
+    × (reading ≡ walk_reading walk)
 Shows graph (commands.Levels from to direction label) reading =
     (walk : List ℕ) × (levels : List NodeLevel)
     × IsFound graph from to direction label walk levels

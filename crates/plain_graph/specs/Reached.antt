@@ -22,3 +22,8 @@ IsAnswer near from to [] levels =
 IsAnswer near from to (first ∷ later) levels =
     IsLeastShortest near from to (first ∷ later)
     × HoldReached near from (λ edges. edges ≤ length later) levels
+
+-- the least walk of the shortest, or none where there is none
+abbrev pub IsLeastOrNone : Adjacency → ℕ → ℕ → List ℕ → Type 0
+IsLeastOrNone near from to [] = HasNoWalk near from to
+IsLeastOrNone near from to (first ∷ later) = IsLeastShortest near from to (first ∷ later)

@@ -36,11 +36,6 @@ pub record IsLeastShortest (near : Adjacency) (from to : ℕ) (walk : List ℕ) 
   pub first : (other : List ℕ) → IsWalk near from to other → length other ≡ length walk
       → IsNotAfter walk other
 
--- the least of the shortest walks, or none where there is none
-abbrev pub IsLeastOrNone : Adjacency → ℕ → ℕ → List ℕ → Type 0
-IsLeastOrNone near from to [] = HasNoWalk near from to
-IsLeastOrNone near from to (first ∷ later) = IsLeastShortest near from to (first ∷ later)
-
 -- the least length of a walk to a node is so many edges
 pub record IsDistance (near : Adjacency) (from node edges : ℕ) : Type 0 where
   pub walk : List ℕ

@@ -1,6 +1,8 @@
 ghost use Rattle.std.specs.Prelude.{IfOk, map};
+ghost use Rattle.plain_graph.specs.Adjacency.{adjacency_in};
 ghost use Rattle.plain_graph.specs.Graph.{has_node};
-ghost use Rattle.plain_graph.specs.Lines.{IsFound, level_text, walk_reading};
+ghost use Rattle.plain_graph.specs.Lines.{IsFound, level_text, types_of, walk_reading};
+ghost use Rattle.plain_graph.specs.Reached.{IsLeastOrNone};
 ghost use Rattle.plain_graph.specs.Reply.{Told, end_text, reply_text};
 ghost use Rattle.plain_graph.specs.declared.command.Command.TheVariants as commands;
 ghost use Rattle.store_rules.specs.Graph.{graph_of};
@@ -17,7 +19,7 @@ use crate::type_numbers::number_of;
 use crate::unknown::answer_of;
 use expand::ExpandFault;
 use name_store::Names;
-use path_find::{Answer, find_path};
+use path_find::{Answer, Walk, find_path, find_walk};
 use plain_graph::{Direction, Item, NodeLevel, Text, end_of_results, level_line, no_path, path};
 use rec_bytes::Reads;
 use std::alloc::Global;
@@ -39,7 +41,7 @@ pub(crate) fn give_walk<R: Reads, K: Sink>(
         space.old space.new output.old output.new result }
 {
     match found_walk(alloc, space, names, from, to, direction, label) {
-        Ok(answer) => give_nodes(answer.walk.as_slice(), output),
+        Ok(walk) => give_nodes(walk.as_slice(), output),
         Err(fault) => give_answer(output, answer_of(fault)),
     }
 }
@@ -59,14 +61,47 @@ pub(crate) fn give_levels<R: Reads, K: Sink>(
         (commands.Levels from to direction label.now)
         space.old space.new output.old output.new result }
 {
-    match found_walk(alloc, space, names, from, to, direction, label) {
+    match found_levels(alloc, space, names, from, to, direction, label) {
         Ok(answer) => give_node_levels(answer.levels.as_slice(), output),
         Err(fault) => give_answer(output, answer_of(fault)),
     }
 }
 
-/// A walk by the edges of the type that a line names, or of all types, with its levels.
+/// A walk by the edges of the type that a line names, or of all types.
 fn found_walk<R: Reads>(
+    alloc: Global,
+    space: &mut R,
+    names: &Names,
+    from: u32,
+    to: u32,
+    direction: Direction,
+    label: &Option<Text>,
+) -> Result<Walk, ExpandFault>
+    ensures found { R.tells
+        → IsNamedStore (R.state space.old).records (R.state space.old).shape names.now.names
+        → IfOk result (λ walk. IsLeastOrNone (adjacency_in (graph_of (R.state space.old).records)
+        direction (types_of label.now)) from to walk) }
+    ensures missing { R.tells
+        → IsNamedStore (R.state space.old).records (R.state space.old).shape names.now.names
+        → TellsEnds result from to (has_node (graph_of (R.state space.old).records) from)
+        (has_node (graph_of (R.state space.old).records) to) }
+    ensures sound { R.tells
+        → IsNamedStore (R.state space.old).records (R.state space.old).shape names.now.names
+        → NotDamaged result }
+    ensures read { IsRead R.Reads space.old space.new }
+    ensures cause { HasExpandCause (R.faults space.old) (R.faults space.new) result }
+{
+    match label {
+        Some(label) => {
+            let number = number_of(names, label);
+            find_walk(alloc, space, from, to, direction, &[number])
+        }
+        None => find_walk(alloc, space, from, to, direction, &[]),
+    }
+}
+
+/// A walk by these edges, with its levels.
+fn found_levels<R: Reads>(
     alloc: Global,
     space: &mut R,
     names: &Names,

@@ -1,12 +1,10 @@
 use Rattle.std.proofs.Common.{ℕ, Option, Err, List, [], ap, refl}
-use Rattle.plain_graph.specs.Adjacency.{adjacency_in}
-use Rattle.plain_graph.specs.Lines.{no_path_text, one_line, types_of, walk_reading}
+use Rattle.plain_graph.specs.Lines.{no_path_text, one_line, walk_reading}
 use Rattle.plain_graph.specs.declared.command.Command.TheVariants as commands
 use Rattle.plain_graph.specs.declared.direction.Direction.{Direction}
 use Rattle.store_rules.specs.Graph.{graph_of}
-use Rattle.path_find.specs.declared.answer.Answer.{Answer}
 use Rattle.graph_session.proofs.NodeQuestions.{AsksNodes, end-missing, gives-told, gives-unknown, undamaged}
-use Rattle.graph_session.proofs.WalkReplies.{answer-walk, walk-counted}
+use Rattle.graph_session.proofs.WalkReplies.{walk-counted}
 use Rattle.graph_session.proofs.questions.walks.give_walk.Goals as goal
 
 asks : (from to : ℕ) (direction : Direction) (label : Option (List ℕ)) → AsksNodes (commands.Path from to direction label)
@@ -15,11 +13,10 @@ asks from to direction label = record { question = tt; some = tt; reading = one_
 pub returns-in-Ok : goal.returns-in-Ok
 returns-in-Ok g c =
     let met = c.in-Ok.ensures in
-    let walk = c.in-Ok.answer.walk in
-    let levels = c.in-Ok.answer.levels in
+    let walk = c.in-Ok.walk in
     gives-told (asks c.args.from c.args.to c.args.direction c.args.label.now) met.read (walk_reading walk) (walk, refl) (walk-counted walk)
     (λ told store. met.missing told store)
-    (λ told store. (walk, answer-walk (adjacency_in (graph_of (g.R.Reads.state c.args.space.now).records) c.args.direction (types_of c.args.label.now)) c.args.from c.args.to walk levels (met.found told store), refl)) (rw c.as_slice.ensures at c.give_nodes.ensures)
+    (λ told store. (walk, met.found told store, refl)) (rw c.as_slice.ensures at c.give_nodes.ensures)
 
 pub returns-in-Err : goal.returns-in-Err
 returns-in-Err g c =
@@ -27,5 +24,5 @@ returns-in-Err g c =
     let fault = c.in-Err.fault in
     let a = c.args in
     gives-unknown (asks a.from a.to a.direction a.label.now) met.read fault (λ disk. met.cause.disk (ap Err disk))
-    (λ told store. end-missing Answer fault a.from a.to (graph_of (g.R.Reads.state c.args.space.now).records) (met.missing told store))
-    (λ told store. undamaged Answer fault (met.sound told store)) (rw c.answer_of.ensures at c.give_answer.ensures)
+    (λ told store. end-missing (List ℕ) fault a.from a.to (graph_of (g.R.Reads.state c.args.space.now).records) (met.missing told store))
+    (λ told store. undamaged (List ℕ) fault (met.sound told store)) (rw c.answer_of.ensures at c.give_answer.ensures)

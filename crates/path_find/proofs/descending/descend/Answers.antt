@@ -1,0 +1,77 @@
+use Rattle.std.proofs.Common.{◌≡◌, ◌-◌, ◌++◌, ◌∷◌, [], ℕ, suc, List, length, append-nil, sym, ap, subst, ◌∙◌, arith}
+use Rattle.std.proofs.lemmas.List.{length_push}
+use Rattle.std.proofs.lemmas.Result.{err_from_is_err_and}
+use Rattle.rec_bytes.specs.Space.{State}
+use Rattle.expand.specs.Expanding.{IsStore}
+use Rattle.path_find.specs.Meeting.{CanDescend, HasNearer, IsDescent, IsNextRow}
+use Rattle.path_find.specs.Reads.{neighbours_at}
+use Rattle.path_find.specs.Tree.{node_at}
+use Rattle.path_find.proofs.Descents.{descent_on}
+use Rattle.path_find.proofs.OnlyReads.{broken-read, is_read-none, is_read-on, same-read, store-read}
+use Rattle.path_find.proofs.descending.descend.Goals as goal
+
+pub returns-in_err-next-clause-sound : goal.returns-in_err-next-clause-sound
+returns-in_err-next-clause-sound g c = λ tells store.
+    let p = err_from_is_err_and c.from_residual.result c.from_residual.ensures.1 in
+    rw (p.1, p.2) (c.in_err-next.ensures.sound tells (store-read g.R.Reads g.met.R.Reads.onward_shape c.args.space.now c.loop-level.space c.loop-level.invariant.read store))
+
+pub returns-in_err-next-clause-damaged : goal.returns-in_err-next-clause-damaged
+returns-in_err-next-clause-damaged g c = λ tells.
+    let p = err_from_is_err_and c.from_residual.result c.from_residual.ensures.1 in
+    rw (p.1, p.2) (broken-read g.R.Reads g.met.R.Reads.onward_shape c.args.space.now c.loop-level.space c.loop-level.invariant.read c.in_err-next.field-0.0 (c.in_err-next.ensures.damaged tells))
+
+pub returns-in_err-push-clause-sound : goal.returns-in_err-push-clause-sound
+returns-in_err-push-clause-sound g c = λ tells store.
+    let p = err_from_is_err_and c.from_residual-in_err-push.result c.from_residual-in_err-push.ensures.1 in
+    rw (p.1, p.2) tt
+
+pub loop-level-init : goal.loop-level-init
+loop-level-init g c = record {
+  low = c.requires.low;
+  long = let none = ap length c.new-way.ensures.items in let level = c.level-level.ensures in omega (arith, none, level);
+  read = is_read-none g.R.Reads g.met.R.Reads.stays_onward c.args.space.now;
+  level = λ tells store can. sym c.level-level.ensures;
+  descends = λ tells store can rest long descends.
+      subst (λ (list : List ℕ). IsDescent (neighbours_at (g.R.Reads.state c.args.space.now) c.args.direction c.args.labels.now) c.args.tree.now c.args.row (list ++ rest)) (sym c.new-way.ensures.items) descends;
+}
+
+pub loop-level-preserved : goal.loop-level-preserved
+loop-level-preserved g c =
+    let inv = c.loop-level.invariant in
+    let rows = c.args.tree.now in
+    let at = c.loop-level.at in
+    let level = c.loop-level.level in
+    let below = c.loop-level.level - 1 in
+    let old = g.R.Reads.state c.args.space.now in
+    let near = neighbours_at old c.args.direction c.args.labels.now in
+    let test = c.loop-level-test.true in
+    let up : level ≡ suc below = omega (arith, test) in
+    let next = c.in_ok-next.next in
+    let way = c.loop-level.way.items in
+    let new = c.push.new.self.items in
+    let same = same-read g.R.Reads g.met.R.Reads.onward_shape c.args.space.now c.loop-level.space inv.read in
+    let pushed : new ≡ way ++ node_at rows next ∷ [] = c.in_ok-push.ensures.items ∙ ap (λ n. way ++ n ∷ []) c.node.ensures in
+    let step : g.R.Reads.tells → IsStore old → CanDescend near rows → IsNextRow near rows at below next = λ tells store can.
+    let nearer = can at below inv.low (inv.level tells store can ∙ up) in
+    let found = c.in_ok-next.ensures.next tells (store-read g.R.Reads g.met.R.Reads.onward_shape c.args.space.now c.loop-level.space inv.read store) in
+    subst (λ (t : State). IsNextRow (neighbours_at t c.args.direction c.args.labels.now) rows at below next) same
+    (found (subst (λ (t : State). HasNearer (neighbours_at t c.args.direction c.args.labels.now) rows at below) (sym same) nearer)) in
+    record {
+      low = c.in_ok-next.ensures.low;
+      long = let long = inv.long in let more = length_push way (node_at rows next) in let is = ap length pushed in omega (arith, long, more, is, up);
+      read = is_read-on g.R.Reads g.met.R.Reads.further_onward c.args.space.now c.loop-level.space c.next_row.new.space inv.read c.next_row.ensures.read;
+      level = λ tells store can. (step tells store can).exact;
+      descends = λ tells store can. descent_on near rows c.args.row at next level below way new up (inv.descends tells store can) (step tells store can) pushed;
+    }
+
+pub returns-clause-descends : goal.returns-clause-descends
+returns-clause-descends g c = λ tells store can.
+    let near = neighbours_at (g.R.Reads.state c.args.space.now) c.args.direction c.args.labels.now in
+    let test = c.loop-level-test.false in
+    subst (IsDescent near c.args.tree.now c.args.row) (append-nil c.loop-level.way.items) (c.loop-level.invariant.descends tells store can [] (omega (arith, test)) tt)
+
+pub returns-clause-long : goal.returns-clause-long
+returns-clause-long g c = λ tells store can.
+    let test = c.loop-level-test.false in
+    let long = c.loop-level.invariant.long in
+    omega (arith, test, long)

@@ -1,0 +1,23 @@
+use Rattle.std.proofs.Common.{◌≡◌, ◌+◌, ◌<◌, ◌++◌, List, ℕ, length}
+use Rattle.rec_bytes.specs.Frame.{IsRead}
+use Rattle.expand.specs.Expanding.{IsStore}
+use Rattle.path_find.specs.Meeting.{CanDescend, IsDescent}
+use Rattle.path_find.specs.Reads.{neighbours_at}
+use Rattle.path_find.specs.Tree.{level_at, row_count}
+use Rattle.path_find.proofs.descending.descend.Given as goal
+
+abbrev pub invariant-loop-level : goal.invariant-loop-level
+invariant-loop-level g l =
+    let old = g.R.Reads.state l.fn.space in
+    let near = neighbours_at old l.direction l.labels in
+    record {
+      low : l.at < row_count l.tree;
+      long : length l.way.items + l.level ≡ level_at l.tree l.row;
+      read : IsRead g.R.Reads l.fn.space l.space;
+      level : g.R.Reads.tells → IsStore old → CanDescend near l.tree → level_at l.tree l.at ≡ l.level;
+      descends : g.R.Reads.tells → IsStore old → CanDescend near l.tree → (rest : List ℕ) → length rest ≡ l.level
+          → IsDescent near l.tree l.at rest → IsDescent near l.tree l.row (l.way.items ++ rest);
+    }
+
+abbrev pub decreases-loop-level : goal.decreases-loop-level
+decreases-loop-level g l = l.level

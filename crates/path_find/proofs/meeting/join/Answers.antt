@@ -1,0 +1,25 @@
+use Rattle.std.proofs.Common.{◌++◌, ℕ, List, ap, ◌∙◌, arith}
+use Rattle.path_find.specs.Meeting.{AreApartFrom}
+use Rattle.path_find.specs.Tree.{row_count}
+use Rattle.path_find.proofs.meeting.join.Goals as goal
+
+pub returns-clause-joins : goal.returns-clause-joins
+returns-clause-joins g c = λ tells store can. record {
+  row = c.in-Some.row;
+  low = c.in-Some.ensures.low;
+  last = c.in-Some-find.last;
+  last_low = c.in-Some-find.ensures.low;
+  shared = c.in-Some-find.ensures.is ∙ c.node.ensures;
+  before = c.in-Some.ensures.before;
+  way = c.in_ok-way.way.items;
+  descends = c.in_ok-way.ensures.descends tells store can;
+  long = c.in_ok-way.ensures.long tells store can;
+  is = c.in_ok-append.ensures.items ∙ ap (λ (list : List ℕ). list ++ c.in_ok-way.way.items) c.in_ok-walk.ensures;
+}
+
+-- both have found some node
+pub unreachable-requires : goal.unreachable-requires
+unreachable-requires g c =
+    let apart : AreApartFrom c.args.ahead.now 0 (row_count c.args.ahead.now) c.args.behind.now = rw c.in_default.is at c.first_shared.ensures.none in
+    let met = c.requires.met in
+    absurd (apart met.row (omega arith) met.low met.shared)

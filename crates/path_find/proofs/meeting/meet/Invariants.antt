@@ -1,0 +1,33 @@
+use Rattle.std.proofs.Common.{◌≡◌, ◌+◌, ◌-◌, ◌^◌, true}
+use Rattle.std.specs.Bool.{OnFalse, OnTrue}
+use Rattle.plain_graph.specs.Graph.{has_node}
+use Rattle.rec_bytes.specs.Frame.{IsRead}
+use Rattle.expand.specs.Expanding.{IsStore, graph_in}
+use Rattle.path_find.specs.Meeting.{AreApart, HaveMet, reversed}
+use Rattle.path_find.specs.Reach.{HasLayers}
+use Rattle.path_find.specs.Reads.{neighbours_at}
+use Rattle.path_find.specs.Tree.{Spans, node_at}
+use Rattle.path_find.proofs.Joined.{AreLonger}
+use Rattle.path_find.proofs.meeting.meet.Given as goal
+
+abbrev pub invariant-loop-has_met : goal.invariant-loop-has_met
+invariant-loop-has_met g l =
+    let old = g.R.Reads.state l.fn.space in
+    let near = neighbours_at old l.direction l.labels in
+    let back = neighbours_at old (reversed l.direction) l.labels in
+    record {
+      ahead : HasLayers l.ahead.tree l.ahead.done;
+      behind : HasLayers l.behind.tree l.behind.done;
+      first : node_at l.ahead.tree 0 ≡ l.from;
+      last : node_at l.behind.tree 0 ≡ l.to;
+      met : OnTrue l.has_met (HaveMet l.ahead.tree l.behind.tree);
+      apart : OnFalse l.has_met (AreApart l.ahead.tree l.behind.tree);
+      read : IsRead g.R.Reads l.fn.space l.space;
+      ahead_spans : g.R.Reads.tells → IsStore old → has_node (graph_in old) l.from ≡ true → Spans near l.ahead.tree l.ahead.done;
+      behind_spans : g.R.Reads.tells → IsStore old → has_node (graph_in old) l.to ≡ true → Spans back l.behind.tree l.behind.done;
+      longer : g.R.Reads.tells → IsStore old → has_node (graph_in old) l.from ≡ true → has_node (graph_in old) l.to ≡ true
+          → AreLonger near l.from l.to (ahead.depth + behind.depth);
+    }
+
+abbrev pub decreases-loop-has_met : goal.decreases-loop-has_met
+decreases-loop-has_met g l = 2 ^ 33 - (l.ahead.done + l.behind.done)

@@ -1,0 +1,88 @@
+use Rattle.std.proofs.Common.{◌≡◌, ℕ, List, None, inl, inr, refl, sym, subst}
+use Rattle.std.proofs.lemmas.Bool.{OnFalse_at}
+use Rattle.std.proofs.lemmas.Result.{err_from_is_err_and}
+use Rattle.rec_bytes.specs.Space.{State}
+use Rattle.node_store.specs.Loading.{row_at}
+use Rattle.expand.specs.ExpandFault.{of_row}
+use Rattle.path_find.specs.Damage.{BlamesBroken}
+use Rattle.path_find.specs.Finding.{IsPathFault}
+use Rattle.plain_graph.specs.Reached.{IsLeastOrNone}
+use Rattle.path_find.specs.Reads.{adjacency_of}
+use Rattle.plain_graph.specs.Graph.{has_node}
+use Rattle.expand.specs.Expanding.{graph_in}
+use Rattle.path_find.proofs.Answered.{ends_there, node_fault, search_fault, search_sound, search_tells, walked}
+use Rattle.path_find.proofs.OnlyReads.{is_read-on, same-read, store-read}
+use Rattle.path_find.proofs.walking.find_walk.Goals as goal
+
+pub returns-in_err-from_there-clause-damaged : goal.returns-in_err-from_there-clause-damaged
+returns-in_err-from_there-clause-damaged g c = λ tells.
+    let p = err_from_is_err_and c.from_residual.result c.from_residual.ensures.1 in
+    let s = g.R.Reads.state c.args.reads.now in
+    rw (p.1, p.2) (node_fault s c.args.from c.args.to c.args.from c.in_err-from_there.field-0.0 (c.in_err-from_there.ensures.damaged tells))
+
+pub returns-then-not-from_there-clause-damaged : goal.returns-then-not-from_there-clause-damaged
+returns-then-not-from_there-clause-damaged g c = λ tells. (inl refl, OnFalse_at c.if-not-from_there.true (c.in_ok-from_there.ensures.row tells))
+
+pub returns-in_err-to_there-clause-damaged : goal.returns-in_err-to_there-clause-damaged
+returns-in_err-to_there-clause-damaged g c = λ tells.
+    let p = err_from_is_err_and c.from_residual-in_err-to_there.result c.from_residual-in_err-to_there.ensures.1 in
+    let same = same-read g.R.Reads g.met.R.Reads.onward_shape c.args.reads.now c.is_node.new.reads c.is_node.ensures.read in
+    let fault = c.in_err-to_there.field-0.0 in
+    rw (p.1, p.2) (subst (λ (s : State). IsPathFault s c.args.from c.args.to (of_row fault)) same
+    (node_fault (g.R.Reads.state c.is_node.new.reads) c.args.from c.args.to c.args.to fault (c.in_err-to_there.ensures.damaged tells)))
+
+pub returns-then-not-to_there-clause-damaged : goal.returns-then-not-to_there-clause-damaged
+returns-then-not-to_there-clause-damaged g c = λ tells.
+    let same = same-read g.R.Reads g.met.R.Reads.onward_shape c.args.reads.now c.is_node.new.reads c.is_node.ensures.read in
+    (inr refl, subst (λ (s : State). row_at s.records c.args.to ≡ None) same (OnFalse_at c.if-not-to_there.true (c.in_ok-to_there.ensures.row tells)))
+
+pub returns-in_err-walk-clause-damaged : goal.returns-in_err-walk-clause-damaged
+returns-in_err-walk-clause-damaged g c = λ tells.
+    let p = err_from_is_err_and c.from_residual-in_err-walk.result c.from_residual-in_err-walk.ensures.1 in
+    let both = is_read-on g.R.Reads g.met.R.Reads.further_onward c.args.reads.now c.is_node.new.reads c.is_node-2.new.reads c.is_node.ensures.read c.is_node-2.ensures.read in
+    let same = same-read g.R.Reads g.met.R.Reads.onward_shape c.args.reads.now c.is_node-2.new.reads both in
+    let fault = c.in_err-walk.field-0.0 in
+    rw (p.1, p.2) (search_fault (g.R.Reads.state c.args.reads.now) c.args.from c.args.to fault
+    (subst (λ (s : State). BlamesBroken s fault) same (c.in_err-walk.ensures.damaged tells)))
+
+pub returns-in_err-walk-clause-missing : goal.returns-in_err-walk-clause-missing
+returns-in_err-walk-clause-missing g c = λ tells store.
+    let p = err_from_is_err_and c.from_residual-in_err-walk.result c.from_residual-in_err-walk.ensures.1 in
+    let s = g.R.Reads.state c.args.reads.now in
+    let same = same-read g.R.Reads g.met.R.Reads.onward_shape c.args.reads.now c.is_node.new.reads c.is_node.ensures.read in
+    let both = ends_there s (g.R.Reads.state c.is_node.new.reads) same store c.args.from c.args.to c.in_ok-from_there.from_there c.in_ok-to_there.to_there
+    (c.in_ok-from_there.ensures.is tells store) c.if-not-from_there.false (c.in_ok-to_there.ensures.is tells) c.if-not-to_there.false in
+    rw (p.1, p.2) (search_tells (List ℕ) c.args.from c.args.to (has_node (graph_in s) c.args.from) (has_node (graph_in s) c.args.to) c.in_err-walk.field-0.0 both)
+
+pub returns-in_err-walk-clause-sound : goal.returns-in_err-walk-clause-sound
+returns-in_err-walk-clause-sound g c = λ tells store.
+    let p = err_from_is_err_and c.from_residual-in_err-walk.result c.from_residual-in_err-walk.ensures.1 in
+    let both = is_read-on g.R.Reads g.met.R.Reads.further_onward c.args.reads.now c.is_node.new.reads c.is_node-2.new.reads c.is_node.ensures.read c.is_node-2.ensures.read in
+    let there = store-read g.R.Reads g.met.R.Reads.onward_shape c.args.reads.now c.is_node-2.new.reads both store in
+    rw (p.1, p.2) (search_sound (List ℕ) c.in_err-walk.field-0.0 (c.in_err-walk.ensures.sound tells there))
+
+pub returns-clause-missing : goal.returns-clause-missing
+returns-clause-missing g c = λ tells store.
+    let s = g.R.Reads.state c.args.reads.now in
+    let same = same-read g.R.Reads g.met.R.Reads.onward_shape c.args.reads.now c.is_node.new.reads c.is_node.ensures.read in
+    ends_there s (g.R.Reads.state c.is_node.new.reads) same store c.args.from c.args.to c.in_ok-from_there.from_there c.in_ok-to_there.to_there
+    (c.in_ok-from_there.ensures.is tells store) c.if-not-from_there.false (c.in_ok-to_there.ensures.is tells) c.if-not-to_there.false
+
+pub returns-clause-read : goal.returns-clause-read
+returns-clause-read g c =
+    let further = g.met.R.Reads.further_onward in
+    let start = c.args.reads.now in
+    let both = is_read-on g.R.Reads further start c.is_node.new.reads c.is_node-2.new.reads c.is_node.ensures.read c.is_node-2.ensures.read in
+    is_read-on g.R.Reads further start c.is_node-2.new.reads c.meet.new.space both c.meet.ensures.read
+
+pub returns-clause-found : goal.returns-clause-found
+returns-clause-found g c = λ tells store types stand.
+    let s = g.R.Reads.state c.args.reads.now in
+    let first = same-read g.R.Reads g.met.R.Reads.onward_shape c.args.reads.now c.is_node.new.reads c.is_node.ensures.read in
+    let both = is_read-on g.R.Reads g.met.R.Reads.further_onward c.args.reads.now c.is_node.new.reads c.is_node-2.new.reads c.is_node.ensures.read c.is_node-2.ensures.read in
+    let same = same-read g.R.Reads g.met.R.Reads.onward_shape c.args.reads.now c.is_node-2.new.reads both in
+    let there = ends_there s (g.R.Reads.state c.is_node.new.reads) first store c.args.from c.args.to c.in_ok-from_there.from_there c.in_ok-to_there.to_there
+    (c.in_ok-from_there.ensures.is tells store) c.if-not-from_there.false (c.in_ok-to_there.ensures.is tells) c.if-not-to_there.false in
+    let walk = walked s store c.args.direction c.args.labels.now types stand (g.R.Reads.state c.is_node-2.new.reads) same c.args.from c.args.to there.0 there.1
+    c.in_ok-walk.walk.items (c.in_ok-walk.ensures.found tells) in
+    subst (λ list. IsLeastOrNone (adjacency_of s c.args.direction types) c.args.from c.args.to list) (sym c.new.ensures) walk

@@ -1,0 +1,122 @@
+//! The way on from a node to the one that a search went back from.
+
+ghost use Rattle.std.specs.Prelude.{◌≡◌, ◌<◌, ℕ, IfErr, IfNone, IfOk, IfSome, List, length};
+ghost use Rattle.rec_bytes.specs.Fault.{HasFaultCause, NotDamaged};
+ghost use Rattle.rec_bytes.specs.Frame.{IsRead};
+ghost use Rattle.expand.specs.Expanding.{IsStore};
+ghost use Rattle.path_find.specs.Damage.{BlamesBroken};
+ghost use Rattle.path_find.specs.Meeting.{
+  CanDescend,
+  HasNearer,
+  IsAtLevel,
+  IsDescent,
+  IsFirstAtLevel,
+  IsNextRow,
+  SomeAtLevel,
+};
+ghost use Rattle.path_find.specs.Reading.{IsSomeTree};
+ghost use Rattle.path_find.specs.Reads.{neighbours_at};
+ghost use Rattle.path_find.specs.Tree.{level_at, row_count};
+
+use crate::neighbours::neighbours;
+use crate::tree::Tree;
+use plain_graph::Direction;
+use rec_bytes::{Fault, Reads};
+use std::alloc::Global;
+
+/// The nodes after a row's up to the first one's, each the least neighbour that is a level lower.
+/// The neighbours of each but the last are read once.
+pub(crate) fn descend<R: Reads>(
+    alloc: Global,
+    space: &mut R,
+    tree: &Tree,
+    row: usize,
+    direction: Direction,
+    labels: &[u32],
+) -> Result<Vec<u32>, Fault>
+    requires low { row < row_count tree.now }
+    requires tree { IsSomeTree tree.now }
+    ensures descends { R.tells → IsStore (R.state space.old)
+        → CanDescend (neighbours_at (R.state space.old) direction labels.now) tree.now
+        → IfOk result (λ way.
+        IsDescent (neighbours_at (R.state space.old) direction labels.now) tree.now row way.items) }
+    ensures long { R.tells → IsStore (R.state space.old)
+        → CanDescend (neighbours_at (R.state space.old) direction labels.now) tree.now
+        → IfOk result (λ way. length way.items ≡ level_at tree.now row) }
+    ensures sound { R.tells → IsStore (R.state space.old) → NotDamaged result }
+    ensures damaged { R.tells → IfErr result (BlamesBroken (R.state space.old)) }
+    ensures read { IsRead R.Reads space.old space.new }
+    ensures cause { HasFaultCause (R.faults space.old) (R.faults space.new) result }
+{
+    let mut way = Vec::new(alloc);
+    let mut at = row;
+    let mut level = tree.level(row);
+    while level > 0 {
+        level -= 1;
+        let next = next_row(alloc, space, tree, at, level, direction, labels)?;
+        way.push(tree.node(next))?;
+        at = next;
+    }
+    Ok(way)
+}
+
+/// Of the neighbours of a row's node that have a level, the row of the least; the row itself where
+/// there is none.
+fn next_row<R: Reads>(
+    alloc: Global,
+    space: &mut R,
+    tree: &Tree,
+    at: usize,
+    level: usize,
+    direction: Direction,
+    labels: &[u32],
+) -> Result<usize, Fault>
+    requires low { at < row_count tree.now }
+    requires tree { IsSomeTree tree.now }
+    ensures low { IfOk result (λ row. row < row_count tree.now) }
+    ensures next { R.tells → IsStore (R.state space.old) → IfOk result (λ row.
+        HasNearer (neighbours_at (R.state space.old) direction labels.now) tree.now at level
+        → IsNextRow (neighbours_at (R.state space.old) direction labels.now) tree.now at level
+        row) }
+    ensures sound { R.tells → IsStore (R.state space.old) → NotDamaged result }
+    ensures damaged { R.tells → IfErr result (BlamesBroken (R.state space.old)) }
+    ensures read { IsRead R.Reads space.old space.new }
+    ensures cause { HasFaultCause (R.faults space.old) (R.faults space.new) result }
+{
+    let node = tree.node(at);
+    let found = neighbours(alloc, space, node, direction, labels)?;
+    match found {
+        Some(ends) => Ok(first_at_level(tree, at, level, &ends)),
+        None => Ok(at),
+    }
+}
+
+/// Of these nodes the row of the first that has a level, or another row where there is none.
+fn first_at_level(tree: &Tree, at: usize, level: usize, ends: &[u32]) -> usize
+    requires low { at < row_count tree.now }
+    requires tree { IsSomeTree tree.now }
+    ensures low { result < row_count tree.now }
+    ensures is { SomeAtLevel tree.now level ends.now
+        → IsFirstAtLevel tree.now level ends.now result }
+{
+    for end in ends {
+        if let Some(row) = row_at_level(tree, level, *end) {
+            return row;
+        }
+    }
+    at
+}
+
+/// The row of a node, if it has a level.
+fn row_at_level(tree: &Tree, level: usize, node: u32) -> Option<usize>
+    requires { IsSomeTree tree.now }
+    ensures some { IfSome result (IsAtLevel tree.now level node) }
+    ensures none { IfNone result ((row : ℕ) → ¬ IsAtLevel tree.now level node row) }
+{
+    let row = tree.find(node)?;
+    if tree.level(row) == level {
+        Some(row)
+    } else {
+        None
+    }
+}

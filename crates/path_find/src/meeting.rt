@@ -1,0 +1,165 @@
+//! A least walk, by searches from both of its ends.
+
+ghost use Rattle.std.specs.Prelude.{◌≡◌, ◌<◌, ◌≤◌, ◌+◌, ℕ, IfErr, IfOk, OnOk, true};
+ghost use Rattle.std.specs.Bool.{OnFalse, OnTrue};
+ghost use Rattle.plain_graph.specs.Graph.{has_node};
+ghost use Rattle.rec_bytes.specs.Fault.{HasFaultCause, NotDamaged};
+ghost use Rattle.rec_bytes.specs.Frame.{IsRead};
+ghost use Rattle.expand.specs.Expanding.{IsStore, graph_in};
+ghost use Rattle.path_find.specs.Damage.{BlamesBroken};
+ghost use Rattle.plain_graph.specs.Reached.{IsLeastOrNone};
+ghost use Rattle.path_find.specs.Meeting.{
+  AreApart,
+  AreCloser,
+  AreJoined,
+  CanDescend,
+  HaveMet,
+  reversed,
+};
+ghost use Rattle.path_find.specs.Reach.{AreLayers};
+ghost use Rattle.path_find.specs.Reading.{IsSomeTree};
+ghost use Rattle.path_find.specs.Reads.{neighbours_at};
+ghost use Rattle.path_find.specs.Tree.{IsTree, Spans, row_count};
+
+use crate::descending::descend;
+use crate::reach::{Reach, grow, is_over, width_of};
+use crate::reading::walk_to;
+use crate::sharing::{first_shared, has_shared};
+use crate::tree::Tree;
+use plain_graph::Direction;
+use rec_bytes::{Fault, Reads};
+use std::alloc::Global;
+
+/// The least of the shortest walks from a node to another, or none where none leads there. Of the
+/// two searches the one goes on that has fewer farthest nodes, until both have found a node.
+pub(crate) fn meet<R: Reads>(
+    alloc: Global,
+    space: &mut R,
+    from: u32,
+    to: u32,
+    direction: Direction,
+    labels: &[u32],
+) -> Result<Vec<u32>, Fault>
+    ensures found { R.tells → IsStore (R.state space.old)
+        → has_node (graph_in (R.state space.old)) from ≡ true
+        → has_node (graph_in (R.state space.old)) to ≡ true → IfOk result (λ walk.
+        IsLeastOrNone (neighbours_at (R.state space.old) direction labels.now) from to walk.items) }
+    ensures sound { R.tells → IsStore (R.state space.old) → NotDamaged result }
+    ensures damaged { R.tells → IfErr result (BlamesBroken (R.state space.old)) }
+    ensures read { IsRead R.Reads space.old space.new }
+    ensures cause { HasFaultCause (R.faults space.old) (R.faults space.new) result }
+{
+    let from_tree = Tree::new(alloc, from)?;
+    let to_tree = Tree::new(alloc, to)?;
+    let mut ahead = Reach {
+        tree: from_tree,
+        done: 0,
+    };
+    let mut behind = Reach {
+        tree: to_tree,
+        done: 0,
+    };
+    let mut has_met = from == to;
+    while !has_met {
+        let over = is_over(&ahead, &behind);
+        if over {
+            let none = Vec::new(alloc);
+            return Ok(none);
+        }
+        let met = approach(alloc, space, &mut ahead, &mut behind, direction, labels)?;
+        has_met = met;
+    }
+    let walk = join(alloc, space, &ahead.tree, &behind.tree, direction, labels)?;
+    Ok(walk)
+}
+
+/// Lets the search with fewer farthest nodes go on by a level, and tells whether both have found a
+/// node then.
+fn approach<R: Reads>(
+    alloc: Global,
+    space: &mut R,
+    ahead: &mut Reach,
+    behind: &mut Reach,
+    direction: Direction,
+    labels: &[u32],
+) -> Result<bool, Fault>
+    requires ahead { IsTree ahead.old.tree ahead.old.done }
+    requires behind { IsTree behind.old.tree behind.old.done }
+    requires ahead_left { ahead.old.done < row_count ahead.old.tree }
+    requires behind_left { behind.old.done < row_count behind.old.tree }
+    ensures met { IfOk result (λ met. OnTrue met (HaveMet ahead.new.tree behind.new.tree)) }
+    ensures apart { IfOk result (λ met. OnFalse met (AreApart ahead.old.tree behind.old.tree
+        → AreApart ahead.new.tree behind.new.tree)) }
+    ensures closer { OnOk result ((ahead_depth behind_depth : ℕ)
+        → AreLayers ahead.old.tree ahead.old.done ahead_depth
+        → AreLayers behind.old.tree behind.old.done behind_depth
+        → AreCloser ahead.old.tree behind.old.tree ahead.new.tree behind.new.tree
+        ahead.new.done behind.new.done (ahead_depth + behind_depth)) }
+    ensures more { OnOk result (ahead.old.done + behind.old.done
+        < ahead.new.done + behind.new.done) }
+    ensures ahead_spans { R.tells → IsStore (R.state space.old) → OnOk result (
+        Spans (neighbours_at (R.state space.old) direction labels.now) ahead.old.tree ahead.old.done
+        → Spans (neighbours_at (R.state space.old) direction labels.now)
+        ahead.new.tree ahead.new.done) }
+    ensures behind_spans { R.tells → IsStore (R.state space.old) → OnOk result (
+        Spans (neighbours_at (R.state space.old) (reversed direction) labels.now)
+        behind.old.tree behind.old.done
+        → Spans (neighbours_at (R.state space.old) (reversed direction) labels.now)
+        behind.new.tree behind.new.done) }
+    ensures sound { R.tells → IsStore (R.state space.old) → NotDamaged result }
+    ensures damaged { R.tells → IfErr result (BlamesBroken (R.state space.old)) }
+    ensures read { IsRead R.Reads space.old space.new }
+    ensures cause { HasFaultCause (R.faults space.old) (R.faults space.new) result }
+{
+    if width_of(ahead) <= width_of(behind) {
+        grow(alloc, space, ahead, direction, labels)?;
+        Ok(has_shared(&ahead.tree, ahead.done, &behind.tree))
+    } else {
+        grow(alloc, space, behind, reversed(direction), labels)?;
+        Ok(has_shared(&behind.tree, behind.done, &ahead.tree))
+    }
+}
+
+/// The edges of a direction, seen from their other ends.
+fn reversed(direction: Direction) -> Direction
+    ensures { result ≡ reversed direction }
+{
+    match direction {
+        Direction::Outgoing => Direction::Incoming,
+        Direction::Incoming => Direction::Outgoing,
+        Direction::Both => Direction::Both,
+    }
+}
+
+/// The way to the first node that both have found, and from there the way on.
+fn join<R: Reads>(
+    alloc: Global,
+    space: &mut R,
+    ahead: &Tree,
+    behind: &Tree,
+    direction: Direction,
+    labels: &[u32],
+) -> Result<Vec<u32>, Fault>
+    requires ahead { IsSomeTree ahead.now }
+    requires behind { IsSomeTree behind.now }
+    requires met { HaveMet ahead.now behind.now }
+    ensures joins { R.tells → IsStore (R.state space.old) → IfOk result (λ walk.
+        CanDescend (neighbours_at (R.state space.old) direction labels.now) behind.now
+        → AreJoined (neighbours_at (R.state space.old) direction labels.now) ahead.now behind.now
+        walk.items) }
+    ensures sound { R.tells → IsStore (R.state space.old) → NotDamaged result }
+    ensures damaged { R.tells → IfErr result (BlamesBroken (R.state space.old)) }
+    ensures read { IsRead R.Reads space.old space.new }
+    ensures cause { HasFaultCause (R.faults space.old) (R.faults space.new) result }
+{
+    let Some(row) = first_shared(ahead, 0, behind) else {
+        unreachable!();
+    };
+    let Some(last) = behind.find(ahead.node(row)) else {
+        unreachable!();
+    };
+    let mut walk = walk_to(alloc, ahead, row)?;
+    let mut way = descend(alloc, space, behind, last, direction, labels)?;
+    walk.append(&mut way)?;
+    Ok(walk)
+}

@@ -1,0 +1,54 @@
+ghost use Rattle.std.specs.Prelude.{ℕ, List, IfErr, IfOk};
+ghost use Rattle.plain_graph.specs.Graph.{has_node};
+ghost use Rattle.plain_graph.specs.Reached.{IsLeastOrNone};
+ghost use Rattle.rec_bytes.specs.Frame.{IsRead};
+ghost use Rattle.expand.specs.ExpandFault.{HasExpandCause, NotDamaged};
+ghost use Rattle.expand.specs.Expanding.{IsStore, graph_in};
+ghost use Rattle.path_find.specs.Finding.{IsPathFault, TellsEnds};
+ghost use Rattle.path_find.specs.Reads.{StandFor, adjacency_of};
+
+use crate::Walk;
+use crate::meeting::meet;
+use crate::node_test::is_node;
+use expand::ExpandFault;
+use plain_graph::Direction;
+use rec_bytes::Reads;
+use std::alloc::Global;
+
+/// The walk that `find_path` finds, without levels. It searches from both nodes, so it mostly reads
+/// far less.
+///
+/// It costs a read for each of the two nodes; what `expand` reads at the nodes that are within some
+/// edges of the first, or of the last against the direction, once at each; and once more at each
+/// node of the walk from where the two searches met. The two numbers of edges are one less together
+/// than the walk has.
+pub fn find_walk<R: Reads>(
+    alloc: Global,
+    reads: &mut R,
+    from: u32,
+    to: u32,
+    direction: Direction,
+    labels: &[u32],
+) -> Result<Walk, ExpandFault>
+    ensures found { R.tells → IsStore (R.state reads.old) → (types : List (List ℕ))
+        → StandFor (R.state reads.old).records labels.now types → IfOk result (λ walk.
+        IsLeastOrNone (adjacency_of (R.state reads.old) direction types) from to walk) }
+    ensures missing { R.tells → IsStore (R.state reads.old)
+        → TellsEnds result from to (has_node (graph_in (R.state reads.old)) from)
+        (has_node (graph_in (R.state reads.old)) to) }
+    ensures sound { R.tells → IsStore (R.state reads.old) → NotDamaged result }
+    ensures damaged { R.tells → IfErr result (IsPathFault (R.state reads.old) from to) }
+    ensures read { IsRead R.Reads reads.old reads.new }
+    ensures cause { HasExpandCause (R.faults reads.old) (R.faults reads.new) result }
+{
+    let from_there = is_node(reads, from)?;
+    if !from_there {
+        return Err(ExpandFault::NoNode { id: from });
+    }
+    let to_there = is_node(reads, to)?;
+    if !to_there {
+        return Err(ExpandFault::NoNode { id: to });
+    }
+    let walk = meet(alloc, reads, from, to, direction, labels)?;
+    Ok(Walk::new(walk))
+}
