@@ -1,5 +1,5 @@
 -- A line that asks of nodes: what it is told, and why it isn't.
-use Rattle.std.proofs.Common.{◌≡◌, ◌≢◌, ℕ, false, Err, List, inl, inr, refl, subst}
+use Rattle.std.proofs.Common.{◌≡◌, ◌≢◌, ℕ, false, Err, List, [], inl, inr, refl, subst}
 use Rattle.fault_count.specs.Cause.{Rose}
 use Rattle.stream_io.specs.declared.streams.Sink.{Ghosts as SinkGhosts}
 use Rattle.plain_graph.specs.Changes.{IsChange}
