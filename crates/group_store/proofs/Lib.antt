@@ -1,4 +1,5 @@
 pub mod BrokenGroups
+pub mod Causes
 pub mod ChainHeads
 pub mod Clearing
 pub mod Closings

@@ -24,6 +24,7 @@ use Rattle.group_store.proofs.Comings.{come_beside, come_next, come_none, come_t
 use Rattle.group_store.proofs.Touches.{node_touched, touches_beside, touches_more, touches_none, touches_then}
 use Rattle.group_store.proofs.Openings.{handed}
 use Rattle.group_store.proofs.Spreads.{left_all, left_first, left_next, left_none, none_over, not_dense_row, row_degree, turn_known}
+use Rattle.group_store.proofs.Causes.{cause_passed, later_on, row_cause_passed, space_cause_passed}
 use Rattle.group_store.proofs.densing.make_dense.Goals as goal
 
 pub loop-init : goal.loop-init
@@ -335,3 +336,19 @@ returns-then-at-clause-dense g c = λ tells. c.loop.invariant.dense tells
 
 pub returns-clause-dense : goal.returns-clause-dense
 returns-clause-dense g c = λ tells. c.loop.invariant.dense tells
+
+pub returns-in_err-row-clause-cause : goal.returns-in_err-row-clause-cause
+returns-in_err-row-clause-cause g c =
+    row_cause_passed _ _ _ c.from_residual.result c.in_err-row.field-0.0 (omega arith) c.in_err-row.ensures.cause c.from_residual.ensures.1
+
+pub returns-in_err-test_chain-clause-cause : goal.returns-in_err-test_chain-clause-cause
+returns-in_err-test_chain-clause-cause g c =
+    cause_passed _ _ _ c.from_residual-in_err-test_chain.result c.in_err-test_chain.field-0.0 c.in_ok-row.ensures.cause.later c.in_err-test_chain.ensures.cause c.from_residual-in_err-test_chain.ensures.1
+
+pub returns-in_err-clear-clause-cause : goal.returns-in_err-clear-clause-cause
+returns-in_err-clear-clause-cause g c =
+    space_cause_passed _ _ _ c.from_residual-in_err-clear.result c.in_err-clear.field-0.0 (later_on c.in_ok-row.ensures.cause.later c.in_ok-test_chain.ensures.cause.later) c.in_err-clear.ensures.cause c.from_residual-in_err-clear.ensures.1
+
+pub returns-in_err-turn-clause-cause : goal.returns-in_err-turn-clause-cause
+returns-in_err-turn-clause-cause g c =
+    cause_passed _ _ _ c.from_residual-in_err-turn.result c.in_err-turn.field-0.0 c.loop.invariant.later c.in_err-turn.ensures.cause c.from_residual-in_err-turn.ensures.1

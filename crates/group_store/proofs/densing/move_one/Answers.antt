@@ -23,6 +23,7 @@ use Rattle.group_store.proofs.Openings.{handed}
 use Rattle.group_store.proofs.OwnGroups.{keeps_then, writes_after}
 use Rattle.group_store.proofs.Spreads.{has_room, moved, only_loads, push_right, rel_there, row_sound, writes_freed, writes_pushed}
 use Rattle.group_store.proofs.Turns.{own_turn}
+use Rattle.group_store.proofs.Causes.{cause_passed, later_on, row_cause_passed, space_cause_passed}
 use Rattle.group_store.proofs.densing.move_one.Goals as goal
 
 pub returns-in_err-row-clause-touches : goal.returns-in_err-row-clause-touches
@@ -181,3 +182,19 @@ returns-clause-dense g c = λ tells dense.
     let dense_l = subst (λ (q : State). IsDense q.records c.args.node) (sym (only_loads s l c.args.rel c.load.ensures.state)) dense in
     dense_moved (g.S.Reads.state c.own_group.new.space) (g.S.Reads.state c.free_previous.new.space) (g.S.Reads.state c.push_counted.new.space) c.args.node c.args.rel (head_of c.group_head-head.result)
     (ap (λ (h : Head). h.key.file) c.group_head-head.ensures.is) (c.in_ok-free_previous.ensures.ok tells) (c.in_ok-first.ensures.ok tells) (c.in_ok-own.ensures.dense tells dense_l)
+
+pub returns-in_err-row-clause-cause : goal.returns-in_err-row-clause-cause
+returns-in_err-row-clause-cause g c =
+    row_cause_passed _ _ _ c.from_residual.result c.in_err-row.field-0.0 (omega arith) c.in_err-row.ensures.cause c.from_residual.ensures.1
+
+pub returns-in_err-own-clause-cause : goal.returns-in_err-own-clause-cause
+returns-in_err-own-clause-cause g c =
+    cause_passed _ _ _ c.from_residual-in_err-own.result c.in_err-own.field-0.0 c.in_ok-row.ensures.cause.later c.in_err-own.ensures.cause c.from_residual-in_err-own.ensures.1
+
+pub returns-in_err-free_previous-clause-cause : goal.returns-in_err-free_previous-clause-cause
+returns-in_err-free_previous-clause-cause g c =
+    space_cause_passed _ _ _ c.from_residual-in_err-free_previous.result c.in_err-free_previous.field-0.0 (later_on c.in_ok-row.ensures.cause.later c.in_ok-own.ensures.cause.later) c.in_err-free_previous.ensures.cause c.from_residual-in_err-free_previous.ensures.1
+
+pub returns-in_err-first-clause-cause : goal.returns-in_err-first-clause-cause
+returns-in_err-first-clause-cause g c =
+    cause_passed _ _ _ c.from_residual-in_err-first.result c.in_err-first.field-0.0 (later_on (later_on c.in_ok-row.ensures.cause.later c.in_ok-own.ensures.cause.later) c.in_ok-free_previous.ensures.cause.later) c.in_err-first.ensures.cause c.from_residual-in_err-first.ensures.1

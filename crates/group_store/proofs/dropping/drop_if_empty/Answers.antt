@@ -1,4 +1,4 @@
-use Rattle.std.proofs.Common.{true, false, ap, ◌∙◌, sym}
+use Rattle.std.proofs.Common.{arith, true, false, ap, ◌∙◌, sym}
 use Rattle.std.specs.Prelude.{not}
 use Rattle.std.proofs.lemmas.Bool.{false≢true, true≢false}
 use Rattle.std.proofs.lemmas.Result.{err_from_is_err_and}
@@ -13,6 +13,7 @@ use Rattle.group_store.proofs.BrokenGroups.{drop_breaks}
 use Rattle.group_store.proofs.DropSteps.{is_undamaged, right_next, right_previous, back_writes, dropped_has, dropped_is, filled_is, follow_writes, give_writes, link_read, member_told, number_read, same_one}
 use Rattle.group_store.proofs.GroupWalks.{not_damaged_at}
 use Rattle.group_store.proofs.MakeSteps.{on_damage, same_read, same_writes}
+use Rattle.group_store.proofs.Causes.{cause_passed, damage_cause, later_on, space_cause_passed}
 use Rattle.group_store.proofs.dropping.drop_if_empty.Goals as goal
 
 pub returns-in_err-rec-clause-damaged : goal.returns-in_err-rec-clause-damaged
@@ -178,3 +179,27 @@ returns-in_err-test_link-2-clause-breaks g c = λ tells row is owner.
     rw (p.1, p.2) (drop_breaks s c.args.node c.args.group row is owner (Damaged c.in_err-test_link-2.field-0.0) (BadNext c.in_err-test_link-2.field-0.0
     (link_read s (g.S.Reads.state c.read_member.new.space) c.number-after.result (next_group s.records c.args.group) (range_damage c.args.group) c.in_err-test_link-2.field-0.0
     c.in_ok-rec.ensures.read after c.in_err-test_link-2.ensures.damaged)))
+
+pub returns-in_err-rec-clause-cause : goal.returns-in_err-rec-clause-cause
+returns-in_err-rec-clause-cause g c =
+    cause_passed _ _ _ c.from_residual.result c.in_err-rec.field-0.0 (omega arith) c.in_err-rec.ensures.cause c.from_residual.ensures.1
+
+pub returns-in_err-test_link-clause-cause : goal.returns-in_err-test_link-clause-cause
+returns-in_err-test_link-clause-cause g c =
+    damage_cause _ _ c.from_residual-in_err-test_link.result c.in_err-test_link.field-0.0 c.in_ok-rec.ensures.cause.later c.from_residual-in_err-test_link.ensures.1
+
+pub returns-in_err-test_link-2-clause-cause : goal.returns-in_err-test_link-2-clause-cause
+returns-in_err-test_link-2-clause-cause g c =
+    damage_cause _ _ c.from_residual-in_err-test_link-2.result c.in_err-test_link-2.field-0.0 c.in_ok-rec.ensures.cause.later c.from_residual-in_err-test_link-2.ensures.1
+
+pub returns-in_err-back-clause-cause : goal.returns-in_err-back-clause-cause
+returns-in_err-back-clause-cause g c =
+    space_cause_passed _ _ _ c.from_residual-in_err-back.result c.in_err-back.field-0.0 c.in_ok-rec.ensures.cause.later c.in_err-back.ensures.cause c.from_residual-in_err-back.ensures.1
+
+pub returns-in_err-follow-clause-cause : goal.returns-in_err-follow-clause-cause
+returns-in_err-follow-clause-cause g c =
+    space_cause_passed _ _ _ c.from_residual-in_err-follow.result c.in_err-follow.field-0.0 (later_on c.in_ok-rec.ensures.cause.later c.in_ok-back.ensures.cause.later) c.in_err-follow.ensures.cause c.from_residual-in_err-follow.ensures.1
+
+pub returns-in_err-give-clause-cause : goal.returns-in_err-give-clause-cause
+returns-in_err-give-clause-cause g c =
+    space_cause_passed _ _ _ c.from_residual-in_err-give.result c.in_err-give.field-0.0 (later_on (later_on c.in_ok-rec.ensures.cause.later c.in_ok-back.ensures.cause.later) c.in_ok-follow.ensures.cause.later) c.in_err-give.ensures.cause c.from_residual-in_err-give.ensures.1

@@ -9,6 +9,7 @@ use Rattle.group_store.specs.Walking.{IsWalkDamage}
 use Rattle.group_store.specs.Walking.IsWalkDamage.{NoList}
 use Rattle.group_store.proofs.GroupWalks.{few_groups, few_owned, left_more, left_none, link_then, member_then, not_damaged_at, passed_all, passed_more, passed_none, read_next, reads_more, reads_so_far, rec_then, undamaged, walk_fault}
 use Rattle.group_store.proofs.Seeks.{group_found, lacks_more, lacks_none, passed_few, passed_fewer, type_then}
+use Rattle.group_store.proofs.Causes.{cause_passed}
 use Rattle.group_store.proofs.finding.seek.Goals as goal
 
 pub loop-init : goal.loop-init
@@ -145,3 +146,7 @@ returns-then-at-2-clause-sound g c = λ tells xs can.
     let s = g.R.Reads.state c.args.space.now in
     let ge = c.loop-test.false in
     absurd (c.if-at-2.true (left_none s.records (c.meta-budget.result.high - c.loop.counter) c.loop.at xs (omega arith) (c.loop.invariant.left tells xs can.list.walk (few_groups s.records c.args.node c.args.first xs can.list))))
+
+pub returns-in_err-rec-clause-cause : goal.returns-in_err-rec-clause-cause
+returns-in_err-rec-clause-cause g c =
+    cause_passed _ _ _ c.from_residual.result c.in_err-rec.field-0.0 c.loop.invariant.later c.in_err-rec.ensures.cause c.from_residual.ensures.1

@@ -16,6 +16,7 @@ use Rattle.group_store.proofs.MakeSteps.{all_writes, link_told, made_has, made_i
 use Rattle.group_store.proofs.MadeRules.{rules_made}
 use Rattle.id_freelist.specs.Taking.{room}
 use Rattle.rec_bytes.specs.Space.{State, WritesOnly, after_get, meta_of}
+use Rattle.group_store.proofs.Causes.{cause_passed, damage_cause}
 use Rattle.group_store.proofs.making.make_own.Goals as goal
 
 pub returns-in_err-first-clause-damaged : goal.returns-in_err-first-clause-damaged
@@ -162,3 +163,11 @@ returns-clause-full g c = λ tells full.
     let read : now ≡ after_get s = subst (λ (first : Option ℕ). IfSome first (λ _. now ≡ after_get s)) c.in-Some.is (c.in_ok-first.ensures.read tells) in
     let e = c.in-Ok.ensures.full (subst (λ (q : State). (meta_of q groups_file).live ≡ room q groups_file) (sym read) full) in
     absurd cc
+
+pub returns-in_err-first-clause-cause : goal.returns-in_err-first-clause-cause
+returns-in_err-first-clause-cause g c =
+    cause_passed _ _ _ c.from_residual.result c.in_err-first.field-0.0 (omega arith) c.in_err-first.ensures.cause c.from_residual.ensures.1
+
+pub returns-in_err-test_link-clause-cause : goal.returns-in_err-test_link-clause-cause
+returns-in_err-test_link-clause-cause g c =
+    damage_cause _ _ c.from_residual-in_err-test_link.result c.in_err-test_link.field-0.0 c.in_ok-first.ensures.cause.later c.from_residual-in_err-test_link.ensures.1

@@ -15,6 +15,7 @@ use Rattle.group_store.proofs.GroupWrites.{opened_more, opened_none}
 use Rattle.group_store.proofs.Opens.{dense_beside, dense_can, dense_group_can, dense_group_room, dense_opened, dense_opens, dense_room, failed_beside, group_can, group_opened, opens_node, room_same, then_opens}
 use Rattle.group_store.specs.Densing.{IsSparse}
 use Rattle.group_store.proofs.DenseFaults.{broken_then, dense_read, not_opened}
+use Rattle.group_store.proofs.Causes.{cause_passed}
 use Rattle.group_store.proofs.opening.open_chain.Goals as goal
 
 pub returns-then-branch-clause-opened : goal.returns-then-branch-clause-opened
@@ -174,3 +175,11 @@ returns-clause-blames g c = λ tells way le.
     let u = g.S.Reads.state c.make_dense.new.space in
     let dense = c.in_ok-make_dense.ensures.dense tells in
     not_opened s u (g.S.Reads.state c.open_group-2.new.space) c.args.node c.open_group-2.result (c.open_group-2.ensures.damaged tells dense) (c.open_group-2.ensures.unwritten tells dense)
+
+pub returns-in_err-is_dense-clause-cause : goal.returns-in_err-is_dense-clause-cause
+returns-in_err-is_dense-clause-cause g c =
+    cause_passed _ _ _ c.from_residual.result c.in_err-is_dense.field-0.0 (omega arith) c.in_err-is_dense.ensures.cause c.from_residual.ensures.1
+
+pub returns-in_err-make_dense-clause-cause : goal.returns-in_err-make_dense-clause-cause
+returns-in_err-make_dense-clause-cause g c =
+    cause_passed _ _ _ c.from_residual-in_err-make_dense.result c.in_err-make_dense.field-0.0 c.in_ok-is_dense.ensures.cause.later c.in_err-make_dense.ensures.cause c.from_residual-in_err-make_dense.ensures.1

@@ -1,4 +1,4 @@
-use Rattle.std.proofs.Common.{[], ◌∷◌, sym, ap, subst, ⊎_elim}
+use Rattle.std.proofs.Common.{arith, [], ◌∷◌, sym, ap, subst, ⊎_elim}
 use Rattle.std.proofs.lemmas.Bool.{false≢true}
 use Rattle.std.proofs.lemmas.Result.{err_from_is_err_and}
 use Rattle.rec_bytes.specs.declared.key.Key.{Key}
@@ -12,6 +12,7 @@ use Rattle.group_store.proofs.BrokenGroups.{only_breaks}
 use Rattle.group_store.proofs.Heads.{then_unwritten}
 use Rattle.group_store.proofs.Raises.{breaks_read}
 use Rattle.group_store.proofs.Opens.{all_but, can_raise, not_full, opens_group}
+use Rattle.group_store.proofs.Causes.{cause_passed}
 use Rattle.group_store.proofs.opening.open_group.Goals as goal
 
 pub returns-in_err-own-clause-sound : goal.returns-in_err-own-clause-sound
@@ -102,3 +103,11 @@ returns-in_err-count_group-clause-unwritten g c = λ tells dense.
     let p = err_from_is_err_and c.from_residual-in_err-count_group.result c.from_residual-in_err-count_group.ensures.1 in
     rw (p.1, p.2) (⊎_elim (λ counted. absurd (false≢true (c.in_err-count_group.ensures.counted counted)))
     (λ k. then_unwritten s m (g.S.Reads.state c.count_group.new.space) k.1 fault c.in_err-count_group.ensures.unwritten) (c.in_ok-own.ensures.group tells dense))
+
+pub returns-in_err-own-clause-cause : goal.returns-in_err-own-clause-cause
+returns-in_err-own-clause-cause g c =
+    cause_passed _ _ _ c.from_residual.result c.in_err-own.field-0.0 (omega arith) c.in_err-own.ensures.cause c.from_residual.ensures.1
+
+pub returns-in_err-count_group-clause-cause : goal.returns-in_err-count_group-clause-cause
+returns-in_err-count_group-clause-cause g c =
+    cause_passed _ _ _ c.from_residual-in_err-count_group.result c.in_err-count_group.field-0.0 c.in_ok-own.ensures.cause.later c.in_err-count_group.ensures.cause c.from_residual-in_err-count_group.ensures.1

@@ -1,4 +1,4 @@
-use Rattle.std.proofs.Common.{Option, [], ◌∷◌, ◌+◌, sym, ap, ◌∙◌, subst}
+use Rattle.std.proofs.Common.{arith, Option, [], ◌∷◌, ◌+◌, sym, ap, ◌∙◌, subst}
 use Rattle.std.proofs.lemmas.Bool.{false≢true}
 use Rattle.std.proofs.lemmas.Result.{err_from_is_err_and}
 use Rattle.rec_bytes.specs.declared.damage.Damage.{Damage}
@@ -21,6 +21,7 @@ use Rattle.group_store.proofs.Heads.{finds_group, finds_node, found_at, found_ra
 use Rattle.group_store.proofs.MakeSteps.{on_damage, same_writes}
 use Rattle.group_store.proofs.Openings.{handed, keeps_read}
 use Rattle.group_store.proofs.OwnGroups.{writes_after}
+use Rattle.group_store.proofs.Causes.{cause_passed, later_on}
 use Rattle.group_store.proofs.opening.open_head.Goals as goal
 
 pub returns-then-not-branch-clause-found : goal.returns-then-not-branch-clause-found
@@ -204,3 +205,15 @@ returns-in_err-count_group-clause-breaks g c = λ tells row live end members.
     let at = found_at s z y c.in_ok-is_dense.ensures.state same c.args.node c.args.label c.in-Some.group found in
     let p = err_from_is_err_and c.from_residual-in_err-count_group.result c.from_residual-in_err-count_group.ensures.1 in
     rw (p.1, p.2) (breaks_read s y (same_twice s z y c.in_ok-is_dense.ensures.state same) c.in_err-count_group.field-0.0 (c.in_err-count_group.ensures.breaks tells at))
+
+pub returns-in_err-is_dense-clause-cause : goal.returns-in_err-is_dense-clause-cause
+returns-in_err-is_dense-clause-cause g c =
+    cause_passed _ _ _ c.from_residual.result c.in_err-is_dense.field-0.0 (omega arith) c.in_err-is_dense.ensures.cause c.from_residual.ensures.1
+
+pub returns-in_err-group-clause-cause : goal.returns-in_err-group-clause-cause
+returns-in_err-group-clause-cause g c =
+    cause_passed _ _ _ c.from_residual-in_err-group.result c.in_err-group.field-0.0 c.in_ok-is_dense.ensures.cause.later c.in_err-group.ensures.cause c.from_residual-in_err-group.ensures.1
+
+pub returns-in_err-count_group-clause-cause : goal.returns-in_err-count_group-clause-cause
+returns-in_err-count_group-clause-cause g c =
+    cause_passed _ _ _ c.from_residual-in_err-count_group.result c.in_err-count_group.field-0.0 (later_on c.in_ok-is_dense.ensures.cause.later c.in_ok-group.ensures.cause.later) c.in_err-count_group.ensures.cause c.from_residual-in_err-count_group.ensures.1

@@ -8,6 +8,7 @@ use Rattle.group_store.specs.Raising.{first_in, members_of}
 use Rattle.group_store.proofs.ChainHeads.{same_twice}
 use Rattle.group_store.proofs.Openings.{handed}
 use Rattle.group_store.proofs.Raises.{can_read, counted_read, degree_breaks, degree_right, side_chain}
+use Rattle.group_store.proofs.Causes.{cause_passed, later_on}
 use Rattle.group_store.proofs.raising.count_chains.Goals as goal
 
 pub returns-in_err-out-clause-sound : goal.returns-in_err-out-clause-sound
@@ -88,3 +89,15 @@ returns-clause-counts g c = λ tells.
       into = into.whole (omega arith);
       loops = loops.whole few;
     }
+
+pub returns-in_err-out-clause-cause : goal.returns-in_err-out-clause-cause
+returns-in_err-out-clause-cause g c =
+    cause_passed _ _ _ c.from_residual.result c.in_err-out.field-0.0 (omega arith) c.in_err-out.ensures.cause c.from_residual.ensures.1
+
+pub returns-in_err-into-clause-cause : goal.returns-in_err-into-clause-cause
+returns-in_err-into-clause-cause g c =
+    cause_passed _ _ _ c.from_residual-in_err-into.result c.in_err-into.field-0.0 c.in_ok-out.ensures.cause.later c.in_err-into.ensures.cause c.from_residual-in_err-into.ensures.1
+
+pub returns-in_err-loops-clause-cause : goal.returns-in_err-loops-clause-cause
+returns-in_err-loops-clause-cause g c =
+    cause_passed _ _ _ c.from_residual-in_err-loops.result c.in_err-loops.field-0.0 (later_on c.in_ok-out.ensures.cause.later c.in_ok-into.ensures.cause.later) c.in_err-loops.ensures.cause c.from_residual-in_err-loops.ensures.1

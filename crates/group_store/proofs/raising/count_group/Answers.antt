@@ -1,8 +1,9 @@
-use Rattle.std.proofs.Common.{sym, subst}
+use Rattle.std.proofs.Common.{arith, sym, subst}
 use Rattle.rec_bytes.specs.Space.{State}
 use Rattle.group_store.specs.Raising.{HasRaised}
 use Rattle.group_store.proofs.ChainHeads.{same_twice}
 use Rattle.group_store.proofs.Raises.{can_read, got_same, lengths_read, raises, raises_after, raises_none}
+use Rattle.group_store.proofs.Causes.{cause_passed, later_on, space_cause_passed}
 use Rattle.group_store.proofs.raising.count_group.Goals as goal
 
 pub returns-then-row-clause-raised : goal.returns-then-row-clause-raised
@@ -20,3 +21,15 @@ returns-clause-raised g c = λ tells most empty can.
     let lengths = lengths_read y z node row c.in_ok-counts.counts c.in_ok-counts.ensures.state (c.in_ok-counts.ensures.counts tells) in
     raises_after s z t node row.id most empty same
     (subst (λ (q : State). HasRaised z q node row.id most empty) (sym (c.in_ok-set_counts.ensures.ok tells)) (raises z node row most empty (can_read s z node row most empty same can) c.if-row.false c.in_ok-counts.counts lengths))
+
+pub returns-in_err-rec-clause-cause : goal.returns-in_err-rec-clause-cause
+returns-in_err-rec-clause-cause g c =
+    space_cause_passed _ _ _ c.from_residual.result c.in_err-rec.field-0.0 (omega arith) c.in_err-rec.ensures.cause c.from_residual.ensures.1
+
+pub returns-in_err-counts-clause-cause : goal.returns-in_err-counts-clause-cause
+returns-in_err-counts-clause-cause g c =
+    cause_passed _ _ _ c.from_residual-in_err-counts.result c.in_err-counts.field-0.0 c.in_ok-rec.ensures.cause.later c.in_err-counts.ensures.cause c.from_residual-in_err-counts.ensures.1
+
+pub returns-in_err-set_counts-clause-cause : goal.returns-in_err-set_counts-clause-cause
+returns-in_err-set_counts-clause-cause g c =
+    space_cause_passed _ _ _ c.from_residual-in_err-set_counts.result c.in_err-set_counts.field-0.0 (later_on c.in_ok-rec.ensures.cause.later c.in_ok-counts.ensures.cause.later) c.in_err-set_counts.ensures.cause c.from_residual-in_err-set_counts.ensures.1

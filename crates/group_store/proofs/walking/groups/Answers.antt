@@ -8,6 +8,7 @@ use Rattle.group_store.specs.Loading.{group_mark}
 use Rattle.group_store.specs.Walking.{IsWalkDamage, group_row_at}
 use Rattle.group_store.specs.Walking.IsWalkDamage.{NoList}
 use Rattle.group_store.proofs.GroupWalks.{few_groups, few_owned, few_next, few_then, left_more, left_none, link_then, member_then, passed_all, passed_more, passed_none, read_next, reads_more, reads_so_far, rec_then, rows_more, not_damaged_at, undamaged, walk_fault}
+use Rattle.group_store.proofs.Causes.{cause_passed, later_on, memory_cause}
 use Rattle.group_store.proofs.walking.groups.Goals as goal
 
 pub loop-init : goal.loop-init
@@ -146,3 +147,11 @@ returns-then-at-2-clause-sound g c = λ tells xs can.
     let s = g.R.Reads.state c.args.space.now in
     let ge = c.loop-test.false in
     absurd (c.if-at-2.true (left_none s.records (c.meta-budget.result.high - c.loop.counter) c.loop.at xs (omega arith) (c.loop.invariant.left tells xs can.list.walk (few_groups s.records c.args.row.now.id c.args.row.now.first xs can.list))))
+
+pub returns-in_err-rec-clause-cause : goal.returns-in_err-rec-clause-cause
+returns-in_err-rec-clause-cause g c =
+    cause_passed _ _ _ c.from_residual.result c.in_err-rec.field-0.0 c.loop.invariant.later c.in_err-rec.ensures.cause c.from_residual.ensures.1
+
+pub returns-in_err-push-clause-cause : goal.returns-in_err-push-clause-cause
+returns-in_err-push-clause-cause g c =
+    memory_cause _ _ c.from_residual-in_err-push.result (later_on c.loop.invariant.later c.in_ok-rec.ensures.cause.later) c.from_residual-in_err-push.ensures.1
