@@ -4,6 +4,7 @@ pub mod HeldRows
 pub mod HeldRuns
 pub mod HeldSteps
 pub mod Broken
+pub mod Causes
 pub mod Codes
 pub mod HopEdges
 pub mod LeftRows

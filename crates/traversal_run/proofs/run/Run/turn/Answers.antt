@@ -8,6 +8,7 @@ use Rattle.traversal_run.specs.Scan.{TakesVertex, limit_row}
 use Rattle.traversal_run.specs.Source.{GivesFirst, left_of}
 use Rattle.traversal_run.specs.Stage.{is_open}
 use Rattle.traversal_run.specs.declared.row.Row.{Row}
+use Rattle.traversal_run.proofs.Causes.{fault_stop_cause, memory_stop_cause, stop_cause_passed}
 use Rattle.traversal_run.proofs.HeldRows.{near-sourced, plain_at}
 use Rattle.traversal_run.proofs.HeldSteps.{plain_quiet}
 use Rattle.traversal_run.proofs.Places.{written_back}
@@ -86,3 +87,15 @@ returns-in-Some-first_open-clause-near g c = λ tells store d most degrees near.
 pub returns-in-Some-first_open-clause-scan : goal.returns-in-Some-first_open-clause-scan
 returns-in-Some-first_open-clause-scan g c = λ at most scan.
     absurd (quiet_scan c.deref-2.result.now most c.in-Some-first_open.at (limit_row most []) (c.deref-2.ensures.value ∙ scan.rows) c.in-Some-first_open.ensures.some.0 (c.in-Some-first_open.ensures.opens (limit_row most [])))
+
+pub returns-in_err-advance_row-clause-cause : goal.returns-in_err-advance_row-clause-cause
+returns-in_err-advance_row-clause-cause g c =
+    stop_cause_passed _ _ _ c.from_residual.result c.in_err-advance_row.field-0.0 (omega arith) c.in_err-advance_row.ensures.cause c.from_residual.ensures.1
+
+pub returns-in_err-item-clause-cause : goal.returns-in_err-item-clause-cause
+returns-in_err-item-clause-cause g c =
+    fault_stop_cause _ _ _ c.from_residual-in_err-item.result c.in_err-item.field-0.0 (omega arith) c.in_err-item.ensures.cause c.from_residual-in_err-item.ensures.1
+
+pub returns-in_err-finish_row-clause-cause : goal.returns-in_err-finish_row-clause-cause
+returns-in_err-finish_row-clause-cause g c =
+    memory_stop_cause _ _ c.from_residual-in_err-finish_row.result c.in_ok-item.ensures.cause.later c.from_residual-in_err-finish_row.ensures.1
