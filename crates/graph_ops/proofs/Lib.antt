@@ -4,6 +4,7 @@ pub mod Broken
 pub mod Causes
 pub mod Counted
 pub mod Deleting
+pub mod DiskCauses
 pub mod EdgeAdded
 pub mod EdgeClosed
 pub mod EdgeJoined

@@ -16,6 +16,7 @@ use Rattle.graph_ops.proofs.NewNames.{placed_grows}
 use Rattle.graph_ops.proofs.Places.{has_room, no_room}
 use Rattle.store_rules.proofs.WriteLaws.{more_written, none_written, then_written}
 use Rattle.graph_ops.proofs.Adding.{beyond_then, key_beyond}
+use Rattle.graph_ops.proofs.DiskCauses.{intern_cause_passed}
 use Rattle.graph_ops.proofs.assigning.assign_pairs.Goals as goal
 use Rattle.graph_ops.proofs.assigning.assign_pairs.Goals.{After-as_bytes, After-len}
 use Rattle.graph_ops.proofs.assigning.assign_pairs.Given.{Over}
@@ -151,3 +152,7 @@ returns-in_err-key-clause-few_writes g c =
 
 pub returns-clause-stays : goal.returns-clause-stays
 returns-clause-stays g c tells = c.loop-place.invariant.stays tells
+
+pub returns-in_err-key-clause-cause : goal.returns-in_err-key-clause-cause
+returns-in_err-key-clause-cause g c =
+    intern_cause_passed _ _ _ c.from_residual.result c.in_err-key.field-0.0 c.loop-place.invariant.later c.in_err-key.ensures.cause c.from_residual.ensures.1

@@ -19,6 +19,7 @@ use Rattle.graph_ops.proofs.Writes.{on_any_err, touched_written}
 use Rattle.graph_ops.proofs.Causes.{add_caused}
 use Rattle.graph_ops.specs.Damage.{BreaksAdding, IfBlames}
 use Rattle.graph_ops.proofs.Adding.{adds_none, adds_then, adds_value, value_breaks}
+use Rattle.graph_ops.proofs.DiskCauses.{set_cause_passed}
 use Rattle.graph_ops.proofs.assigning.put_properties.Goals as goal
 use Rattle.graph_ops.proofs.assigning.put_properties.Goals.{After-index-pairs-assignment}
 use Rattle.graph_ops.proofs.assigning.put_properties.Given.{Over}
@@ -131,3 +132,7 @@ returns-in_err-add-clause-damaged g c tells =
     let key = c.args.owner.key in
     fault_exit of_set (IfBlames (BreaksAdding key s)) c.in_err-add.field-0.0 c.from_residual.result c.from_residual.ensures.1
     (value_breaks g.S.Reads.tells key _ s t tells (c.loop-assignment.invariant.adds tells) c.in_err-add.field-0.0 (c.in_err-add.ensures.damaged tells))
+
+pub returns-in_err-add-clause-cause : goal.returns-in_err-add-clause-cause
+returns-in_err-add-clause-cause g c =
+    set_cause_passed _ _ _ c.from_residual.result c.in_err-add.field-0.0 c.loop-assignment.invariant.later c.in_err-add.ensures.cause c.from_residual.ensures.1

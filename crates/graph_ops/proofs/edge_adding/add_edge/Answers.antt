@@ -30,6 +30,7 @@ use Rattle.store_rules.proofs.WriteLaws.{beside_then, beside_written, more_writt
 use Rattle.graph_ops.proofs.Writes.{on_any_err}
 use Rattle.graph_ops.specs.Causes.{IsCaused}
 use Rattle.graph_ops.proofs.Causes.{absent_caused, caused_read, failure_caused, line_edge, no_edge, node_of, put_caused, room_caused}
+use Rattle.graph_ops.proofs.DiskCauses.{change_cause_passed, later_on, room_refusal_cause}
 use Rattle.graph_ops.proofs.edge_adding.add_edge.Goals as goal
 use Rattle.graph_ops.proofs.edge_adding.add_edge.Goals.{After-prepare, After-put_properties, In_err-id, In_err-put_properties, In_ok-id, In_ok-prepared, In_ok-put_properties, In_ok-target, In_ok-test_room}
 use Rattle.graph_ops.proofs.edge_adding.add_edge.Given.{Over}
@@ -381,3 +382,23 @@ returns-in_err-put_properties-clause-caused g c tells =
     let shape = (g.met.S.Reads.onward_shape _ _ c.put_edge.ensures.onward) ∙ (g.met.S.Reads.onward_shape _ _ c.prepare.ensures.onward) ∙ to_prepare in
     fault_exit (λ f. f) (IsCaused command s c.args.names.now.names) c.in_err-put_properties.field-0.0 c.from_residual-in_err-put_properties.result c.from_residual-in_err-put_properties.ensures.1
     (put_caused command s c.args.names.now.names v.shape shape tt c.in_err-put_properties.field-0.0 (c.in_err-put_properties.ensures.caused tells))
+
+pub returns-in_err-target-clause-cause : goal.returns-in_err-target-clause-cause
+returns-in_err-target-clause-cause g c =
+    change_cause_passed _ _ _ c.from_residual-in_err-target.result c.in_err-target.field-0.0 c.in_ok-source.ensures.cause.later c.in_err-target.ensures.cause c.from_residual-in_err-target.ensures.1
+
+pub returns-in_err-test_room-clause-cause : goal.returns-in_err-test_room-clause-cause
+returns-in_err-test_room-clause-cause g c =
+    room_refusal_cause _ _ c.from_residual-in_err-test_room.result c.in_err-test_room.field-0.0 c.in_err-test_room.ensures.full (later_on c.in_ok-source.ensures.cause.later c.in_ok-target.ensures.cause.later) c.from_residual-in_err-test_room.ensures.1
+
+pub returns-in_err-prepared-clause-cause : goal.returns-in_err-prepared-clause-cause
+returns-in_err-prepared-clause-cause g c =
+    change_cause_passed _ _ _ c.from_residual-in_err-prepared.result c.in_err-prepared.field-0.0 (later_on c.in_ok-source.ensures.cause.later c.in_ok-target.ensures.cause.later) c.in_err-prepared.ensures.cause c.from_residual-in_err-prepared.ensures.1
+
+pub returns-in_err-id-clause-cause : goal.returns-in_err-id-clause-cause
+returns-in_err-id-clause-cause g c =
+    change_cause_passed _ _ _ c.from_residual-in_err-id.result c.in_err-id.field-0.0 (later_on (later_on c.in_ok-source.ensures.cause.later c.in_ok-target.ensures.cause.later) c.in_ok-prepared.ensures.cause.later) c.in_err-id.ensures.cause c.from_residual-in_err-id.ensures.1
+
+pub returns-in_err-put_properties-clause-cause : goal.returns-in_err-put_properties-clause-cause
+returns-in_err-put_properties-clause-cause g c =
+    change_cause_passed _ _ _ c.from_residual-in_err-put_properties.result c.in_err-put_properties.field-0.0 (later_on (later_on (later_on c.in_ok-source.ensures.cause.later c.in_ok-target.ensures.cause.later) c.in_ok-prepared.ensures.cause.later) c.in_ok-id.ensures.cause.later) c.in_err-put_properties.ensures.cause c.from_residual-in_err-put_properties.ensures.1

@@ -25,6 +25,7 @@ use Rattle.graph_ops.proofs.Setting.{prop_refused}
 use Rattle.graph_ops.proofs.Reasons.{outside_refused}
 use Rattle.store_rules.proofs.WriteLaws.{beside_then, beside_written, more_written, none_written, then_written}
 use Rattle.graph_ops.proofs.Writes.{on_any_err, touched_written}
+use Rattle.graph_ops.proofs.DiskCauses.{change_cause_passed, fault_cause_passed, later_on}
 use Rattle.graph_ops.proofs.edge_deleting.delete_edge.Goals as goal
 use Rattle.graph_ops.proofs.edge_deleting.delete_edge.Goals.{After-drop_all, After-load, After-take_edge}
 use Rattle.graph_ops.proofs.edge_deleting.delete_edge.Given.{Over}
@@ -179,3 +180,11 @@ returns-in_err-take_edge-clause-caused g c tells =
     let s = g.S.Reads.state c.args.space.now in
     fault_exit (λ f. f) (IsCaused command s c.args.names.now.names) c.in_err-take_edge.field-0.0 c.from_residual-in_err-take_edge.result c.from_residual-in_err-take_edge.ensures.1
     (failure_caused command s c.args.names.now.names c.in_err-take_edge.field-0.0 c.in_err-take_edge.ensures.failure)
+
+pub returns-in_err-dropped-clause-cause : goal.returns-in_err-dropped-clause-cause
+returns-in_err-dropped-clause-cause g c =
+    fault_cause_passed _ _ _ c.from_residual-in_err-dropped.result c.in_err-dropped.field-0.0 c.in_ok-rel.ensures.cause.later c.in_err-dropped.ensures.cause c.from_residual-in_err-dropped.ensures.1
+
+pub returns-in_err-take_edge-clause-cause : goal.returns-in_err-take_edge-clause-cause
+returns-in_err-take_edge-clause-cause g c =
+    change_cause_passed _ _ _ c.from_residual-in_err-take_edge.result c.in_err-take_edge.field-0.0 (later_on c.in_ok-rel.ensures.cause.later c.in_ok-dropped.ensures.cause.later) c.in_err-take_edge.ensures.cause c.from_residual-in_err-take_edge.ensures.1

@@ -6,6 +6,7 @@ use Rattle.graph_ops.specs.ChangeFault.{IsOutside, IsFailure, of_fault}
 use Rattle.graph_ops.proofs.EndsFound.{end_found, end_of, end_readable}
 use Rattle.graph_ops.proofs.EndWrites.{read_then}
 use Rattle.graph_ops.proofs.Exits.{fault_exit, fault_fails, fault_outside}
+use Rattle.graph_ops.proofs.DiskCauses.{fault_cause_passed}
 use Rattle.graph_ops.proofs.edge_deleting.edge_end.Goals as goal
 
 -- ---- why it fails
@@ -48,3 +49,7 @@ returns-clause-writes g c = (c.open_head.ensures.writes.0, read_then _ _ _ _ c.e
 
 pub returns-clause-wrote : goal.returns-clause-wrote
 returns-clause-wrote g c = read_then _ _ _ _ c.end_degree.ensures.state c.in_ok-head.ensures.wrote
+
+pub returns-in_err-head-clause-cause : goal.returns-in_err-head-clause-cause
+returns-in_err-head-clause-cause g c =
+    fault_cause_passed _ _ _ c.from_residual-in_err-head.result c.in_err-head.field-0.0 c.in_ok-degree.ensures.cause.later c.in_err-head.ensures.cause c.from_residual-in_err-head.ensures.1

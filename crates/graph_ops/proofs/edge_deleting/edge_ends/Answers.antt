@@ -4,6 +4,7 @@ use Rattle.graph_ops.specs.ChangeFault.{IsOutside}
 use Rattle.graph_ops.proofs.EndsFound.{both_found, loop_found, there_then}
 use Rattle.graph_ops.proofs.EndWrites.{one_group, one_head}
 use Rattle.graph_ops.proofs.Exits.{fault_exit}
+use Rattle.graph_ops.proofs.DiskCauses.{change_cause_passed}
 use Rattle.graph_ops.proofs.edge_deleting.edge_ends.Goals as goal
 
 -- ---- why it fails
@@ -53,3 +54,7 @@ returns-then-rel-clause-wrote g c = one_head _ _ c.in_ok-source.source.head.key 
 
 pub returns-clause-wrote : goal.returns-clause-wrote
 returns-clause-wrote g c = writes_then _ _ _ _ _ c.in_ok-source.ensures.wrote c.in_ok-target.ensures.wrote
+
+pub returns-in_err-target-clause-cause : goal.returns-in_err-target-clause-cause
+returns-in_err-target-clause-cause g c =
+    change_cause_passed _ _ _ c.from_residual-in_err-target.result c.in_err-target.field-0.0 c.in_ok-source.ensures.cause.later c.in_err-target.ensures.cause c.from_residual-in_err-target.ensures.1

@@ -2,6 +2,7 @@ use Rattle.graph_ops.specs.ChangeFault.{IsOutside, of_fault}
 use Rattle.graph_ops.proofs.EdgeClosed.{loop_taken, pair_taken, source_closes, target_closes}
 use Rattle.graph_ops.proofs.EndWrites.{ends_taken, source_taken, target_taken}
 use Rattle.graph_ops.proofs.Exits.{fault_exit, fault_outside}
+use Rattle.graph_ops.proofs.DiskCauses.{fault_cause_passed, later_on}
 use Rattle.graph_ops.proofs.edge_deleting.unlink_edge.Goals as goal
 
 -- ---- why it fails
@@ -64,3 +65,11 @@ returns-in_err-close_chain-2-clause-writes g c = target_taken _ _ c.args.id c.ar
 
 pub returns-in_ok-close_chain-2-clause-writes : goal.returns-in_ok-close_chain-2-clause-writes
 returns-in_ok-close_chain-2-clause-writes g c = target_taken _ _ c.args.id c.args.source c.args.target c.part_edge.ensures.writes _ c.close_chain.ensures.writes _ c.close_chain-then-source-target.ensures.writes
+
+pub returns-in_err-close_chain-clause-cause : goal.returns-in_err-close_chain-clause-cause
+returns-in_err-close_chain-clause-cause g c =
+    fault_cause_passed _ _ _ c.from_residual-in_err-close_chain.result c.in_err-close_chain.field-0.0 c.in_ok-part_edge.ensures.cause.later c.in_err-close_chain.ensures.cause c.from_residual-in_err-close_chain.ensures.1
+
+pub returns-in_err-close_chain-2-clause-cause : goal.returns-in_err-close_chain-2-clause-cause
+returns-in_err-close_chain-2-clause-cause g c =
+    fault_cause_passed _ _ _ c.from_residual-in_err-close_chain-2.result c.in_err-close_chain-2.field-0.0 (later_on c.in_ok-part_edge.ensures.cause.later c.in_ok-close_chain.ensures.cause.later) c.in_err-close_chain-2.ensures.cause c.from_residual-in_err-close_chain-2.ensures.1

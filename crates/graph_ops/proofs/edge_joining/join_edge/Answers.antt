@@ -5,6 +5,7 @@ use Rattle.graph_ops.proofs.EdgePut.{first_right, puts_edge, second_right}
 use Rattle.graph_ops.proofs.Exits.{fault_exit}
 use Rattle.graph_ops.proofs.JoinWrites.{placed_joined, placed_written}
 use Rattle.graph_ops.proofs.Writes.{on_any_err}
+use Rattle.graph_ops.proofs.DiskCauses.{change_cause_passed}
 use Rattle.graph_ops.proofs.edge_joining.join_edge.Goals as goal
 
 pub returns-in_err-id-clause-sound : goal.returns-in_err-id-clause-sound
@@ -40,3 +41,7 @@ returns-in_err-join_ends-clause-err_writes g c =
     let w : (id : ℕ) × WritesJoined (g.S.Reads.state c.args.space.now) (g.S.Reads.state c.join_ends.new.space) id c.args.source c.args.target
     = (c.in_ok-id.id, placed_joined _ _ _ c.in_ok-id.id c.args.source c.args.target c.in_ok-id.ensures.writes c.join_ends.ensures.writes) in
     on_any_err _ _ w
+
+pub returns-in_err-join_ends-clause-cause : goal.returns-in_err-join_ends-clause-cause
+returns-in_err-join_ends-clause-cause g c =
+    change_cause_passed _ _ _ c.from_residual-in_err-join_ends.result c.in_err-join_ends.field-0.0 c.in_ok-id.ensures.cause.later c.in_err-join_ends.ensures.cause c.from_residual-in_err-join_ends.ensures.1

@@ -1,6 +1,7 @@
 use Rattle.graph_ops.specs.ChangeFault.{IsFailure, of_fault, of_space}
 use Rattle.graph_ops.proofs.Exits.{fault_fails, fault_exit, space_fails}
 use Rattle.graph_ops.proofs.JoinWrites.{end_written, head_written}
+use Rattle.graph_ops.proofs.DiskCauses.{space_cause_passed}
 use Rattle.graph_ops.proofs.edge_joining.join_end.Goals as goal
 
 pub returns-clause-writes : goal.returns-clause-writes
@@ -17,3 +18,7 @@ returns-in_err-push_counted-clause-failure g c = fault_exit of_fault IsFailure c
 
 pub returns-in_err-set_number-clause-failure : goal.returns-in_err-set_number-clause-failure
 returns-in_err-set_number-clause-failure g c = fault_exit of_space IsFailure c.in_err-set_number.field-0.0 c.from_residual-in_err-set_number.result c.from_residual-in_err-set_number.ensures.1 (space_fails c.in_err-set_number.field-0.0)
+
+pub returns-in_err-set_number-clause-cause : goal.returns-in_err-set_number-clause-cause
+returns-in_err-set_number-clause-cause g c =
+    space_cause_passed _ _ _ c.from_residual-in_err-set_number.result c.in_err-set_number.field-0.0 c.in_ok-push_counted.ensures.cause.later c.in_err-set_number.ensures.cause c.from_residual-in_err-set_number.ensures.1

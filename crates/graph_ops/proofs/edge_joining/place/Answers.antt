@@ -11,6 +11,7 @@ use Rattle.graph_ops.proofs.Exits.{fault_exit, space_fails}
 use Rattle.graph_ops.proofs.Takes.{taken-shape}
 use Rattle.store_rules.proofs.WriteLaws.{among_metas}
 use Rattle.graph_ops.proofs.Writes.{on_any_err, only_read}
+use Rattle.graph_ops.proofs.DiskCauses.{space_cause_passed}
 use Rattle.graph_ops.proofs.edge_joining.place.Goals as goal
 use Rattle.graph_ops.proofs.edge_joining.place.Goals.{After-save, In_ok-id}
 use Rattle.graph_ops.proofs.edge_joining.place.Given.{Over}
@@ -58,3 +59,7 @@ returns-in_err-id-clause-err_writes g c =
 
 pub returns-in_err-save-clause-failure : goal.returns-in_err-save-clause-failure
 returns-in_err-save-clause-failure g c = fault_exit of_space IsFailure c.in_err-save.field-0.0 c.from_residual-in_err-save.result c.from_residual-in_err-save.ensures.1 (space_fails c.in_err-save.field-0.0)
+
+pub returns-in_err-save-clause-cause : goal.returns-in_err-save-clause-cause
+returns-in_err-save-clause-cause g c =
+    space_cause_passed _ _ _ c.from_residual-in_err-save.result c.in_err-save.field-0.0 c.in_ok-id.ensures.cause.later c.in_err-save.ensures.cause c.from_residual-in_err-save.ensures.1

@@ -9,6 +9,7 @@ use Rattle.graph_ops.proofs.EdgeOpening.{both_opened, end_of, loop_opened, sourc
 use Rattle.graph_ops.proofs.Exits.{fault_exit}
 use Rattle.graph_ops.proofs.OpenWrites.{both_wrote, loop_moved, loop_wrote, pair_moved}
 use Rattle.store_rules.proofs.WriteLaws.{beside_written, more_written, then_written}
+use Rattle.graph_ops.proofs.DiskCauses.{change_cause_passed}
 use Rattle.graph_ops.proofs.edge_opening.open_ends.Goals as goal
 use Rattle.graph_ops.proofs.edge_opening.open_ends.Goals.{In_ok-source}
 use Rattle.graph_ops.proofs.edge_opening.open_ends.Given.{Over}
@@ -94,3 +95,7 @@ returns-clause-wrote g c =
     subst (λ (e : EdgeEnd). WritesEndsOpened s u (record { source = e; target = c.in_ok-target.target }) most) (sym c.in_ok-source.ensures.is)
     (subst (λ (e : EdgeEnd). WritesEndsOpened s u (record { source = end_of c.args.from c.in_ok-source.source.head c.args.from_degree; target = e }) most) (sym c.in_ok-target.ensures.is)
     (both_wrote s t u (end_of c.args.from c.in_ok-source.source.head c.args.from_degree) (end_of c.args.to c.in_ok-target.target.head c.args.to_degree) (omega arith) c.in_ok-source.ensures.wrote c.in_ok-target.ensures.wrote))
+
+pub returns-in_err-target-clause-cause : goal.returns-in_err-target-clause-cause
+returns-in_err-target-clause-cause g c =
+    change_cause_passed _ _ _ c.from_residual-in_err-target.result c.in_err-target.field-0.0 c.in_ok-source.ensures.cause.later c.in_err-target.ensures.cause c.from_residual-in_err-target.ensures.1

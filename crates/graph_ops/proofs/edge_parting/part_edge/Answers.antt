@@ -3,6 +3,7 @@ use Rattle.graph_ops.specs.ChangeFault.{IsOutside}
 use Rattle.graph_ops.proofs.EdgeTaken.{parts_edge, right_from_next, right_from_prev, right_to_next, right_to_prev}
 use Rattle.graph_ops.proofs.EndWrites.{ends_given}
 use Rattle.graph_ops.proofs.Exits.{fault_exit}
+use Rattle.graph_ops.proofs.DiskCauses.{space_cause_passed}
 use Rattle.graph_ops.proofs.edge_parting.part_edge.Goals as goal
 
 pub returns-in_err-part_ends-clause-sound : goal.returns-in_err-part_ends-clause-sound
@@ -25,3 +26,7 @@ returns-clause-writes g c = ends_given _ _ _ c.args.source c.args.target _ c.par
 
 pub returns-in_err-give-clause-writes : goal.returns-in_err-give-clause-writes
 returns-in_err-give-clause-writes g c = ends_given _ _ _ c.args.source c.args.target _ c.part_ends.ensures.writes c.give.ensures.writes
+
+pub returns-in_err-give-clause-cause : goal.returns-in_err-give-clause-cause
+returns-in_err-give-clause-cause g c =
+    space_cause_passed _ _ _ c.from_residual-in_err-give.result c.in_err-give.field-0.0 c.in_ok-part_ends.ensures.cause.later c.in_err-give.ensures.cause c.from_residual-in_err-give.ensures.1

@@ -28,6 +28,7 @@ use Rattle.graph_ops.specs.Damage.{BlamesAdding, BreaksAdding, IfBlames}
 use Rattle.store_rules.specs.Views.{key_in}
 use Rattle.graph_ops.proofs.Adding.{adds_none, adds_then, breaks_then, line_blamed, node_damage, room_blamed}
 use Rattle.graph_ops.proofs.Broken.{blames_more}
+use Rattle.graph_ops.proofs.DiskCauses.{change_cause_passed, later_on}
 use Rattle.graph_ops.proofs.node_adding.add_node.Goals as goal
 use Rattle.graph_ops.proofs.node_adding.add_node.Goals.{After-put_properties, In_err-id, In_err-put_properties, In_ok-id, In_ok-prepared}
 use Rattle.graph_ops.proofs.node_adding.add_node.Given.{Over}
@@ -267,3 +268,15 @@ returns-in_err-put_properties-clause-damaged g c tells =
     let told = subst (λ (o : Owner). IfBlames (BreaksAdding o.key v) c.in_err-put_properties.field-0.0) c.node_owner.ensures (c.in_err-put_properties.ensures.damaged tells) in
     fault_exit (λ f. f) (BlamesAdding format.nodes_file s) c.in_err-put_properties.field-0.0 c.from_residual-in_err-put_properties.result c.from_residual-in_err-put_properties.ensures.1
     (blames_more _ _ (λ damage breaks. inr (id, breaks_then key s v adds damage breaks)) c.in_err-put_properties.field-0.0 told)
+
+pub returns-in_err-prepared-clause-cause : goal.returns-in_err-prepared-clause-cause
+returns-in_err-prepared-clause-cause g c =
+    change_cause_passed _ _ _ c.from_residual-in_err-prepared.result c.in_err-prepared.field-0.0 (omega arith) c.in_err-prepared.ensures.cause c.from_residual-in_err-prepared.ensures.1
+
+pub returns-in_err-id-clause-cause : goal.returns-in_err-id-clause-cause
+returns-in_err-id-clause-cause g c =
+    change_cause_passed _ _ _ c.from_residual-in_err-id.result c.in_err-id.field-0.0 c.in_ok-prepared.ensures.cause.later c.in_err-id.ensures.cause c.from_residual-in_err-id.ensures.1
+
+pub returns-in_err-put_properties-clause-cause : goal.returns-in_err-put_properties-clause-cause
+returns-in_err-put_properties-clause-cause g c =
+    change_cause_passed _ _ _ c.from_residual-in_err-put_properties.result c.in_err-put_properties.field-0.0 (later_on c.in_ok-prepared.ensures.cause.later c.in_ok-id.ensures.cause.later) c.in_err-put_properties.ensures.cause c.from_residual-in_err-put_properties.ensures.1

@@ -15,6 +15,7 @@ use Rattle.graph_ops.specs.Damage.{AddsElement, IfBlames}
 use Rattle.id_freelist.specs.Taking.{IsTakeDamage}
 use Rattle.graph_ops.specs.NodeAdding.{new_row}
 use Rattle.graph_ops.proofs.Adding.{adds_record, space_blamed, take_blamed}
+use Rattle.graph_ops.proofs.DiskCauses.{space_cause_passed}
 use Rattle.graph_ops.proofs.node_adding.put_node.Goals as goal
 use Rattle.graph_ops.proofs.node_adding.put_node.Goals.{In_ok-id}
 use Rattle.graph_ops.proofs.node_adding.put_node.Given.{Over}
@@ -77,3 +78,7 @@ returns-clause-adds g c tells =
     let row = new_row c.in_ok-id.id c.args.label in
     subst (AddsElement key s) (sym (c.in_ok-save.ensures.ok ∙ ap (λ (r : NodeRow). after_put t (node_key r.id) (node_record r)) c.new_row.ensures))
     (adds_record key s t (node_record row) (took g (goal.at.returns-clause-adds g c).In_ok-id tells) (c.take.ensures.stays tells))
+
+pub returns-in_err-save-clause-cause : goal.returns-in_err-save-clause-cause
+returns-in_err-save-clause-cause g c =
+    space_cause_passed _ _ _ c.from_residual-in_err-save.result c.in_err-save.field-0.0 c.in_ok-id.ensures.cause.later c.in_err-save.ensures.cause c.from_residual-in_err-save.ensures.1

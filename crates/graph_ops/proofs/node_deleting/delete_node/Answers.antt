@@ -27,6 +27,7 @@ use Rattle.graph_ops.proofs.Setting.{has_owner, prop_refused}
 use Rattle.graph_ops.proofs.Readings.{made_read, store_read, there_read}
 use Rattle.store_rules.proofs.WriteLaws.{among_metas, beside_then, beside_written, more_written, none_written, then_written, this_written}
 use Rattle.graph_ops.proofs.Writes.{on_any_err, read_exit, touched_written}
+use Rattle.graph_ops.proofs.DiskCauses.{fault_cause_passed, later_on, space_cause_passed}
 use Rattle.graph_ops.proofs.node_deleting.delete_node.Goals as goal
 use Rattle.graph_ops.proofs.node_deleting.delete_node.Goals.{After-give, After-load}
 use Rattle.graph_ops.proofs.node_deleting.delete_node.Given.{Over}
@@ -180,3 +181,11 @@ returns-in_err-give-clause-caused g c tells =
     let s = g.S.Reads.state c.args.space.now in
     fault_exit of_space (IsCaused command s c.args.names.now.names) c.in_err-give.field-0.0 c.from_residual-in_err-give.result c.from_residual-in_err-give.ensures.1
     (failure_caused command s c.args.names.now.names (of_space c.in_err-give.field-0.0) (space_fails c.in_err-give.field-0.0))
+
+pub returns-in_err-dropped-clause-cause : goal.returns-in_err-dropped-clause-cause
+returns-in_err-dropped-clause-cause g c =
+    fault_cause_passed _ _ _ c.from_residual-in_err-dropped.result c.in_err-dropped.field-0.0 c.in_ok-node.ensures.cause.later c.in_err-dropped.ensures.cause c.from_residual-in_err-dropped.ensures.1
+
+pub returns-in_err-give-clause-cause : goal.returns-in_err-give-clause-cause
+returns-in_err-give-clause-cause g c =
+    space_cause_passed _ _ _ c.from_residual-in_err-give.result c.in_err-give.field-0.0 (later_on c.in_ok-node.ensures.cause.later c.in_ok-dropped.ensures.cause.later) c.in_err-give.ensures.cause c.from_residual-in_err-give.ensures.1

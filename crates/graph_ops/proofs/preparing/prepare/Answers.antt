@@ -21,6 +21,7 @@ use Rattle.graph_ops.proofs.Preparation.{assign_refused_by, label_refused, prepa
 use Rattle.store_rules.proofs.WriteLaws.{more_written, then_written}
 use Rattle.graph_ops.proofs.Causes.{assign_caused, label_caused, reserve_caused}
 use Rattle.graph_ops.proofs.Adding.{beyond_then, interned_beyond}
+use Rattle.graph_ops.proofs.DiskCauses.{change_cause_passed, intern_cause_passed, later_on, reserve_refusal_cause}
 use Rattle.graph_ops.proofs.preparing.prepare.Goals as goal
 use Rattle.graph_ops.proofs.preparing.prepare.Goals.{After-assign_pairs, After-intern, In_ok-assigned, In_ok-label}
 use Rattle.graph_ops.proofs.preparing.prepare.Given.{Over}
@@ -216,3 +217,15 @@ returns-clause-stays g c tells =
     let s = g.S.Reads.state c.args.space.now in
     let t = g.S.Reads.state c.intern.new.space in
     beyond_then s t (g.S.Reads.state c.assign_pairs.new.space) (interned_beyond s t c.args.names.now.names c.as_bytes.result.now (c.in_ok-label.ensures.ok tells)) (c.in_ok-assigned.ensures.stays tells)
+
+pub returns-in_err-label-clause-cause : goal.returns-in_err-label-clause-cause
+returns-in_err-label-clause-cause g c =
+    intern_cause_passed _ _ _ c.from_residual.result c.in_err-label.field-0.0 (omega arith) c.in_err-label.ensures.cause c.from_residual.ensures.1
+
+pub returns-in_err-assigned-clause-cause : goal.returns-in_err-assigned-clause-cause
+returns-in_err-assigned-clause-cause g c =
+    change_cause_passed _ _ _ c.from_residual-in_err-assigned.result c.in_err-assigned.field-0.0 c.in_ok-label.ensures.cause.later c.in_err-assigned.ensures.cause c.from_residual-in_err-assigned.ensures.1
+
+pub returns-in_err-blocks-clause-cause : goal.returns-in_err-blocks-clause-cause
+returns-in_err-blocks-clause-cause g c =
+    reserve_refusal_cause _ _ c.from_residual-in_err-blocks.result c.in_err-blocks.field-0.0 c.in_err-blocks.ensures.refused (later_on c.in_ok-label.ensures.cause.later c.in_ok-assigned.ensures.cause.later) c.from_residual-in_err-blocks.ensures.1

@@ -32,6 +32,7 @@ use Rattle.prop_store.specs.Owner.{IsInUse}
 use Rattle.rec_bytes.specs.Space.{SameButReads, State}
 use Rattle.graph_ops.proofs.Broken.{blames_more, interned_in_use, interned_read, key_blamed, value_blamed}
 use Rattle.graph_ops.proofs.Causes.{absent_caused, add_caused, key_caused, put_caused}
+use Rattle.graph_ops.proofs.DiskCauses.{intern_cause_passed, later_on, set_cause_passed}
 use Rattle.graph_ops.proofs.property_setting.set.Goals as goal
 use Rattle.graph_ops.proofs.property_setting.set.Goals.{After-intern, After-set}
 use Rattle.graph_ops.proofs.property_setting.set.Given.{Over}
@@ -237,3 +238,11 @@ returns-in_err-released-clause-damaged g c tells =
     let kept = subst (λ (z : State). IsInUse z.records (owner_of c.args.target)) (sym is) (interned_in_use m names key c.args.target used) in
     fault_exit of_set (BlamesGiven g.S.Reads.tells blocks s named) c.in_err-released.field-0.0 c.from_residual-in_err-released.result c.from_residual-in_err-released.ensures.1
     (value_blamed g.S.Reads.tells blocks s named t same c.in_err-released.field-0.0 (c.in_err-released.ensures.damaged tells (subst (IsInUse t.records) (sym c.in_ok-owner.ensures.owner) kept)))
+
+pub returns-in_err-number-clause-cause : goal.returns-in_err-number-clause-cause
+returns-in_err-number-clause-cause g c =
+    intern_cause_passed _ _ _ c.from_residual-in_err-number.result c.in_err-number.field-0.0 c.in_ok-owner.ensures.cause.later c.in_err-number.ensures.cause c.from_residual-in_err-number.ensures.1
+
+pub returns-in_err-released-clause-cause : goal.returns-in_err-released-clause-cause
+returns-in_err-released-clause-cause g c =
+    set_cause_passed _ _ _ c.from_residual-in_err-released.result c.in_err-released.field-0.0 (later_on c.in_ok-owner.ensures.cause.later c.in_ok-number.ensures.cause.later) c.in_err-released.ensures.cause c.from_residual-in_err-released.ensures.1

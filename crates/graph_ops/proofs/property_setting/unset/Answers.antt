@@ -16,6 +16,7 @@ use Rattle.graph_ops.proofs.Causes.{absent_caused, failure_caused}
 use Rattle.graph_ops.proofs.Exits.{fault_exit, fault_fails}
 use Rattle.graph_ops.proofs.Readings.{made_read, store_read, there_read}
 use Rattle.graph_ops.proofs.Setting.{has_key, prop_refused, unnamed_none, unset_absent, unset_missing, unset_nothing, unset_value}
+use Rattle.graph_ops.proofs.DiskCauses.{fault_cause_passed}
 use Rattle.graph_ops.proofs.property_setting.unset.Goals as goal
 
 pub returns-in_err-owner-clause-refused : goal.returns-in_err-owner-clause-refused
@@ -108,3 +109,7 @@ returns-in_err-released-clause-caused g c tells =
     let command = commands.Unset c.args.target c.args.key.now in
     fault_exit of_fault (IsCaused command s c.args.names.now.names) c.in_err-released.field-0.0 c.from_residual-in_err-released.result c.from_residual-in_err-released.ensures.1
     (failure_caused command s c.args.names.now.names (of_fault c.in_err-released.field-0.0) (fault_fails c.in_err-released.field-0.0))
+
+pub returns-in_err-released-clause-cause : goal.returns-in_err-released-clause-cause
+returns-in_err-released-clause-cause g c =
+    fault_cause_passed _ _ _ c.from_residual-in_err-released.result c.in_err-released.field-0.0 c.in_ok-owner.ensures.cause.later c.in_err-released.ensures.cause c.from_residual-in_err-released.ensures.1
