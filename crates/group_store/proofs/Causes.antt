@@ -63,10 +63,6 @@ damage_cause {T} before now r damage early is =
     let here : HasFaultCause {T = T} before now (Err (faults.Damaged damage)) = record { later = early; disk = λ blamed. absurd cc } in
     subst (HasFaultCause before now) (sym p.1) (subst (λ f. HasFaultCause {T = T} before now (Err f)) (sym p.2) here)
 
--- where the code names the damage itself
-pub damaged_cause : {T : Type 0} (before now : ℕ) (damage : Damage) → before ≤ now → HasFaultCause {T = T} before now (Err (faults.Damaged damage))
-damaged_cause before now damage early = record { later = early; disk = λ blamed. absurd cc }
-
 -- of a call whose own fault is a space's
 pub space_cause : {T U : Type 0} (before mid now : ℕ) (r : Result T SpaceFault) (fault : SpaceFault) → before ≤ mid → HasCause {T = U} mid now (Err fault) → IsErrAnd r (λ f. f ≡ fault) → HasCause before now r
 space_cause before mid now r fault early cause is = passed (λ f. f) spaces.Disk spaces.Disk before mid now r fault (λ e. e) early cause is

@@ -1,4 +1,4 @@
-use Rattle.std.proofs.Common.{ℕ, Bool, [], ◌∷◌, sym, subst}
+use Rattle.std.proofs.Common.{arith, ℕ, Bool, [], ◌∷◌, sym, subst}
 use Rattle.std.proofs.lemmas.Result.{err_from_is_err_and}
 use Rattle.rec_bytes.specs.Format as format
 use Rattle.rec_bytes.specs.RecordFiles.{meta_key_of}
@@ -10,6 +10,7 @@ use Rattle.chain_edit.specs.Heads.{head_of}
 use Rattle.group_store.proofs.BrokenGroups.{close_breaks}
 use Rattle.group_store.proofs.Closings.{closable, closed_by}
 use Rattle.group_store.proofs.Openings.{handed}
+use Rattle.group_store.proofs.Causes.{cause_passed}
 use Rattle.group_store.proofs.closing.close_chain.Goals as goal
 use Rattle.group_store.proofs.closing.close_chain.Goals.{After-drop_if_empty}
 use Rattle.group_store.proofs.closing.close_chain.Given.{Over}
@@ -43,3 +44,7 @@ returns-in_err-drop_if_empty-clause-breaks g c = λ tells owns.
     let s = g.S.Reads.state c.args.space.now in
     let p = err_from_is_err_and c.from_residual.result c.from_residual.ensures.1 in
     rw (p.1, p.2) (close_breaks s (head_of c.args.head) c.args.node owns c.if-head-eq-GROUPS.true c.in_err-drop_if_empty.field-0.0 (c.in_err-drop_if_empty.ensures.damaged tells))
+
+pub returns-in_err-drop_if_empty-clause-cause : goal.returns-in_err-drop_if_empty-clause-cause
+returns-in_err-drop_if_empty-clause-cause g c =
+    cause_passed _ _ _ c.from_residual.result c.in_err-drop_if_empty.field-0.0 (omega arith) c.in_err-drop_if_empty.ensures.cause c.from_residual.ensures.1

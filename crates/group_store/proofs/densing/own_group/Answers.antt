@@ -1,4 +1,4 @@
-use Rattle.std.proofs.Common.{◌≡◌, ◌≢◌, Option, Some, inr, ◌∷◌, [], ℕ, List, ap, subst, sym, ◌∙◌}
+use Rattle.std.proofs.Common.{arith, ◌≡◌, ◌≢◌, Option, Some, inr, ◌∷◌, [], ℕ, List, ap, subst, sym, ◌∙◌}
 use Rattle.rec_bytes.specs.RecordFiles.{meta_key_of}
 use Rattle.rec_bytes.specs.Format.{groups_file}
 use Rattle.rec_bytes.specs.Space.{SameButReads, State, WritesOnly, meta_of}
@@ -21,6 +21,7 @@ use Rattle.group_store.proofs.Openings.{handed}
 use Rattle.group_store.proofs.OwnRoom.{can_make, can_walk, chain_ids, free_ids, node_known}
 use Rattle.group_store.proofs.OwnGroups.{if_ok, keeps_then, none_found, opened_found, opened_made, writes_after}
 use Rattle.group_store.proofs.Turns.{found_grows, made_grows}
+use Rattle.group_store.proofs.Causes.{cause_passed}
 use Rattle.group_store.proofs.densing.own_group.Goals as goal
 
 pub returns-in_err-row-clause-writes : goal.returns-in_err-row-clause-writes
@@ -197,3 +198,7 @@ returns-in-None-clause-unwritten g c =
     let now = g.S.Reads.state c.find_group.new.space in
     let end = g.S.Reads.state c.make_own.new.space in
     if_damage c.make_own.result (SameButReads now end) (SameButReads s end) (λ k. same_then s now end (same_read _ s now c.find_group.ensures.at_most) k) c.make_own.ensures.unwritten
+
+pub returns-in_err-row-clause-cause : goal.returns-in_err-row-clause-cause
+returns-in_err-row-clause-cause g c =
+    cause_passed _ _ _ c.from_residual.result c.in_err-row.field-0.0 (omega arith) c.in_err-row.ensures.cause c.from_residual.ensures.1

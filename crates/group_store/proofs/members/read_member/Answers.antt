@@ -8,6 +8,7 @@ use Rattle.group_store.specs.Walking.{IsMemberDamage}
 use Rattle.group_store.specs.Walking.IsMemberDamage.{NoMember, HighMember}
 use Rattle.group_store.proofs.GroupWalks.{reads_none, reads_one}
 use Rattle.group_store.proofs.GroupRecords.{above_none, group_is, not_member}
+use Rattle.group_store.proofs.Causes.{space_cause_passed}
 use Rattle.group_store.proofs.members.read_member.Goals as goal
 
 pub returns-then-id-meta-clause-at_most : goal.returns-then-id-meta-clause-at_most
@@ -50,3 +51,7 @@ returns-clause-member g c = λ tells.
 
 pub returns-clause-at_most : goal.returns-clause-at_most
 returns-clause-at_most g c = reads_one (g.R.Reads.state c.args.space.now) (g.R.Reads.state c.get_into.new.self) c.in_ok-get_into.ensures.state
+
+pub returns-in_err-get_into-clause-cause : goal.returns-in_err-get_into-clause-cause
+returns-in_err-get_into-clause-cause g c =
+    space_cause_passed _ _ _ c.from_residual.result c.in_err-get_into.field-0.0 (omega arith) c.in_err-get_into.ensures.cause c.from_residual.ensures.1
