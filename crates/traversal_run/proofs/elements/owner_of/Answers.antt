@@ -1,9 +1,10 @@
-use Rattle.std.proofs.Common.{sym, ◌∙◌, None, subst}
+use Rattle.std.proofs.Common.{arith, sym, ◌∙◌, None, subst}
 use Rattle.plain_graph.specs.declared.item.Item.{Item}
 use Rattle.traversal_run.specs.Elements.{IsOwnerOf}
 use Rattle.std.proofs.lemmas.Result.{err_from_is_err_and}
 use Rattle.traversal_run.proofs.Broken.{node_blamed, rel_blamed}
 use Rattle.traversal_run.proofs.Loaded.{edge_unowned, node_unowned}
+use Rattle.traversal_run.proofs.Causes.{row_cause_passed}
 use Rattle.traversal_run.proofs.elements.owner_of.Goals as goal
 
 pub returns-in-None-clause-found : goal.returns-in-None-clause-found
@@ -27,3 +28,11 @@ returns-in_err-load-in-Edge-clause-damaged g c = λ tells.
     let s = g.R.Reads.state c.args.space.now in
     let p = err_from_is_err_and c.from_residual-in_err-load-in-Edge.result c.from_residual-in_err-load-in-Edge.ensures.1 in
     rw (p.1, p.2) (rel_blamed s c.in-Edge.id c.in_err-load-in-Edge.field-0.0 (c.in_err-load-in-Edge.ensures.damaged tells))
+
+pub returns-in_err-load-in-Vertex-clause-cause : goal.returns-in_err-load-in-Vertex-clause-cause
+returns-in_err-load-in-Vertex-clause-cause g c =
+    row_cause_passed _ _ _ c.from_residual.result c.in_err-load-in-Vertex.field-0.0 (omega arith) c.in_err-load-in-Vertex.ensures.cause c.from_residual.ensures.1
+
+pub returns-in_err-load-in-Edge-clause-cause : goal.returns-in_err-load-in-Edge-clause-cause
+returns-in_err-load-in-Edge-clause-cause g c =
+    row_cause_passed _ _ _ c.from_residual-in_err-load-in-Edge.result c.in_err-load-in-Edge.field-0.0 (omega arith) c.in_err-load-in-Edge.ensures.cause c.from_residual-in_err-load-in-Edge.ensures.1

@@ -14,6 +14,7 @@ use Rattle.rec_bytes.specs.Space.{State}
 use Rattle.traversal_run.proofs.Broken.{blamed_before}
 use Rattle.traversal_run.proofs.Loaded.{no_name_no_value}
 use Rattle.traversal_run.proofs.Owned.{listed_in, then_read, value_is}
+use Rattle.traversal_run.proofs.Causes.{cause_passed}
 use Rattle.traversal_run.proofs.elements.value_of.Goals as goal
 
 pub returns-in_default-clause-found : goal.returns-in_default-clause-found
@@ -70,3 +71,11 @@ returns-in_err-value-clause-damaged g c = λ tells.
     let used = subst (λ (t : State). IsInUse t.records c.in-Some-2.owner) (sym same) owns.used in
     let p = err_from_is_err_and c.from_residual-in_err-value.result c.from_residual-in_err-value.ensures.1 in
     rw (p.1, p.2) (blamed_before s z same c.in_err-value.field-0.0 (c.in_err-value.ensures.damaged tells used))
+
+pub returns-in_err-owner-clause-cause : goal.returns-in_err-owner-clause-cause
+returns-in_err-owner-clause-cause g c =
+    cause_passed _ _ _ c.from_residual.result c.in_err-owner.field-0.0 (omega arith) c.in_err-owner.ensures.cause c.from_residual.ensures.1
+
+pub returns-in_err-value-clause-cause : goal.returns-in_err-value-clause-cause
+returns-in_err-value-clause-cause g c =
+    cause_passed _ _ _ c.from_residual-in_err-value.result c.in_err-value.field-0.0 c.in_ok-owner.ensures.cause.later c.in_err-value.ensures.cause c.from_residual-in_err-value.ensures.1

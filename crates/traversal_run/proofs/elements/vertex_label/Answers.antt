@@ -3,6 +3,7 @@ use Rattle.std.proofs.lemmas.Result.{err_from_is_err_and}
 use Rattle.prop_store.specs.Fault.{BlamesBroken}
 use Rattle.traversal_run.proofs.Broken.{node_blamed, node_unnamed}
 use Rattle.traversal_run.proofs.Loaded.{label_known, no_node_label, node_label-is}
+use Rattle.traversal_run.proofs.Causes.{row_cause_passed}
 use Rattle.traversal_run.proofs.elements.vertex_label.Goals as goal
 
 pub returns-in_err-row-clause-damaged : goal.returns-in_err-row-clause-damaged
@@ -35,3 +36,7 @@ returns-clause-found g c = λ tells store.
     let row = sym c.in-Some.is ∙ c.in_ok-row.ensures.found tells in
     c.text_of.ensures.is s.records s.shape store (label_known s.records s.shape store.store c.args.id c.in-Some.row row)
     ∙ sym (node_label-is s.records c.args.id c.in-Some.row row)
+
+pub returns-in_err-row-clause-cause : goal.returns-in_err-row-clause-cause
+returns-in_err-row-clause-cause g c =
+    row_cause_passed _ _ _ c.from_residual.result c.in_err-row.field-0.0 (omega arith) c.in_err-row.ensures.cause c.from_residual.ensures.1

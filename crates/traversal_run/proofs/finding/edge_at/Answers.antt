@@ -17,6 +17,7 @@ use Rattle.store_rules.specs.Views as views
 use Rattle.store_rules.specs.Views.{Records, rec_at}
 use Rattle.traversal_run.specs.Naming.{name_count}
 use Rattle.traversal_run.proofs.Broken.{rel_blamed, rel_unnamed}
+use Rattle.traversal_run.proofs.Causes.{memory_cause, row_cause_passed}
 use Rattle.traversal_run.proofs.finding.edge_at.Goals as goal
 
 row_typed : (records : Records) (shape : Shape) (id : ℕ) (row : RelRow) → IsWellFormed records shape → row_at records id ≡ Some row → row.label < name_count records
@@ -52,3 +53,11 @@ returns-clause-is g c = λ tells store.
     let name = c.text_of.ensures.is s.records s.shape store low in
     ap (λ (item : Item). Some item) (c.in_ok-item.ensures ∙ ap (λ (label : List ℕ). items.Edge row.id label row.from row.to) name)
     ∙ ap (λ (row : Option views.RelRow). option_map edge_item (edge_from (rec_at s.records names_file) (property_records s.records) row)) (sym (rel_at-Some s.records c.args.id c.in-Some.row found))
+
+pub returns-in_err-row-clause-cause : goal.returns-in_err-row-clause-cause
+returns-in_err-row-clause-cause g c =
+    row_cause_passed _ _ _ c.from_residual.result c.in_err-row.field-0.0 (omega arith) c.in_err-row.ensures.cause c.from_residual.ensures.1
+
+pub returns-in_err-item-clause-cause : goal.returns-in_err-item-clause-cause
+returns-in_err-item-clause-cause g c =
+    memory_cause _ _ c.from_residual-in_err-item.result c.in_ok-row.ensures.cause.later c.from_residual-in_err-item.ensures.1

@@ -8,6 +8,7 @@ use Rattle.traversal_run.specs.EdgeItems.{row_item}
 use Rattle.traversal_run.specs.Naming.{name_count}
 use Rattle.traversal_run.proofs.Broken.{blamed_before}
 use Rattle.traversal_run.proofs.OnlyReads.{is_read-on, named-read}
+use Rattle.traversal_run.proofs.Causes.{cause_passed}
 use Rattle.traversal_run.proofs.hopping.edge_items.Goals as goal
 
 -- after reads the numbers of names are the same
@@ -58,3 +59,7 @@ pub returns-clause-are : goal.returns-clause-are
 returns-clause-are g c = λ tells store typed.
     let s = g.R.Reads.state c.args.space.now in
     c.loop-row.invariant.are tells store typed ∙ ap (map (row_item s.records)) (take_all c.loop-row.row-index c.args.rows.now (omega arith))
+
+pub returns-in_err-push_edge-clause-cause : goal.returns-in_err-push_edge-clause-cause
+returns-in_err-push_edge-clause-cause g c =
+    cause_passed _ _ _ c.from_residual.result c.in_err-push_edge.field-0.0 c.loop-row.invariant.read.later c.in_err-push_edge.ensures.cause c.from_residual.ensures.1

@@ -1,8 +1,9 @@
-use Rattle.std.proofs.Common.{map, sym, ap, ◌∙◌}
+use Rattle.std.proofs.Common.{arith, map, sym, ap, ◌∙◌}
 use Rattle.plain_graph.specs.Meaning.{neighbours}
 use Rattle.store_rules.specs.Graph.{graph_of}
 use Rattle.traversal_run.specs.EdgeItems.{end_item}
 use Rattle.traversal_run.proofs.HopEdges.{rows-ends}
+use Rattle.traversal_run.proofs.Causes.{cause_passed, memory_cause}
 use Rattle.traversal_run.proofs.hopping.neighbours.Goals as goal
 
 pub returns-clause-found : goal.returns-clause-found
@@ -15,3 +16,11 @@ returns-clause-found g c = λ tells store.
     ∙ ap (map (end_item id)) c.deref.ensures.value
     ∙ rows-ends s.records graph hop.labels id hop.direction c.in_ok-rows.rows.items (c.in_ok-rows.ensures.found tells store)
     ∙ ap (neighbours graph hop) (sym c.in-Vertex.is)
+
+pub returns-in_err-rows-clause-cause : goal.returns-in_err-rows-clause-cause
+returns-in_err-rows-clause-cause g c =
+    cause_passed _ _ _ c.from_residual.result c.in_err-rows.field-0.0 (omega arith) c.in_err-rows.ensures.cause c.from_residual.ensures.1
+
+pub returns-in_err-items-clause-cause : goal.returns-in_err-items-clause-cause
+returns-in_err-items-clause-cause g c =
+    memory_cause _ _ c.from_residual-in_err-items.result c.in_ok-rows.ensures.cause.later c.from_residual-in_err-items.ensures.1

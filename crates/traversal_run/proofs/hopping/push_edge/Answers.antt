@@ -1,6 +1,7 @@
 use Rattle.std.proofs.Common.{◌++◌, ◌∷◌, [], List, ℕ, ap, ◌∙◌, arith}
 use Rattle.plain_graph.specs.declared.item.Item.{Item}
 use Rattle.plain_graph.specs.declared.item.Item.TheVariants as items
+use Rattle.traversal_run.proofs.Causes.{cause_passed, memory_cause}
 use Rattle.traversal_run.proofs.hopping.push_edge.Goals as goal
 
 pub returns-then-row-mark-clause-is : goal.returns-then-row-mark-clause-is
@@ -19,3 +20,19 @@ pub returns-in_default-clause-is : goal.returns-in_default-clause-is
 returns-in_default-clause-is g c = λ tells store typed.
     let mark = c.name_mark-mark.ensures in
     absurd (omega (arith, c.if-row-mark.false))
+
+pub returns-in_err-item-clause-cause : goal.returns-in_err-item-clause-cause
+returns-in_err-item-clause-cause g c =
+    memory_cause _ _ c.from_residual.result (omega arith) c.from_residual.ensures.1
+
+pub returns-in_err-push-clause-cause : goal.returns-in_err-push-clause-cause
+returns-in_err-push-clause-cause g c =
+    memory_cause _ _ c.from_residual-in_err-push.result (omega arith) c.from_residual-in_err-push.ensures.1
+
+pub returns-in_err-item-2-clause-cause : goal.returns-in_err-item-2-clause-cause
+returns-in_err-item-2-clause-cause g c =
+    cause_passed _ _ _ c.from_residual-in_err-item-2.result c.in_err-item-2.field-0.0 (omega arith) c.in_err-item-2.ensures.cause c.from_residual-in_err-item-2.ensures.1
+
+pub returns-in_err-push-2-clause-cause : goal.returns-in_err-push-2-clause-cause
+returns-in_err-push-2-clause-cause g c =
+    memory_cause _ _ c.from_residual-in_err-push-2.result c.in_ok-item-2.ensures.cause.later c.from_residual-in_err-push-2.ensures.1

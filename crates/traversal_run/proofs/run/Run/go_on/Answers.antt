@@ -11,6 +11,7 @@ use Rattle.traversal_run.proofs.HeldRuns.{near_begins, within-taken}
 use Rattle.traversal_run.proofs.Nothing.{spent-to_come}
 use Rattle.traversal_run.proofs.OnlyReads.{is_read-on, named-read}
 use Rattle.traversal_run.proofs.Scans.{ScanState, scan_gives, scan_starts, scan_turns}
+use Rattle.traversal_run.proofs.Causes.{stop_cause_passed}
 use Rattle.traversal_run.proofs.run.Run.go_on.Goals as goal
 
 pub returns-then-is_spent-clause-stops : goal.returns-then-is_spent-clause-stops
@@ -80,3 +81,7 @@ pub returns-in_err-turn-clause-damaged : goal.returns-in_err-turn-clause-damaged
 returns-in_err-turn-clause-damaged g c = λ tells.
     let p = err_from_is_err_and c.from_residual.result c.from_residual.ensures.1 in
     rw (p.1, p.2) (subst (λ (t : State). StopsAtBroken t.records t.shape c.in_err-turn.field-0.0) c.loop.invariant.read.same (c.in_err-turn.ensures.damaged tells))
+
+pub returns-in_err-turn-clause-cause : goal.returns-in_err-turn-clause-cause
+returns-in_err-turn-clause-cause g c =
+    stop_cause_passed _ _ _ c.from_residual.result c.in_err-turn.field-0.0 c.loop.invariant.read.later c.in_err-turn.ensures.cause c.from_residual.ensures.1

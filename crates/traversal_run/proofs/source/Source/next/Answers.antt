@@ -11,6 +11,7 @@ use Rattle.traversal_run.proofs.Broken.{blamed_before}
 use Rattle.traversal_run.proofs.LeftRows.{gives-later, gives-some, left-none, left-takes}
 use Rattle.traversal_run.proofs.OnlyReads.{is_read-on, named-read}
 use Rattle.traversal_run.proofs.Scans.{scan_found}
+use Rattle.traversal_run.proofs.Causes.{cause_passed}
 use Rattle.traversal_run.proofs.source.Source.next.Goals as goal
 
 pub returns-then-is_some-clause-vertex : goal.returns-then-is_some-clause-vertex
@@ -78,3 +79,7 @@ returns-in_err-item-clause-damaged g c = λ tells.
     let space = g.R.Reads in
     let p = err_from_is_err_and c.from_residual.result c.from_residual.ensures.1 in
     rw (p.1, p.2) (blamed_before (space.state c.args.space.now) (space.state c.loop-id.space) c.loop-id.invariant.read.same c.in_err-item.field-0.0 (c.in_err-item.ensures.damaged tells))
+
+pub returns-in_err-item-clause-cause : goal.returns-in_err-item-clause-cause
+returns-in_err-item-clause-cause g c =
+    cause_passed _ _ _ c.from_residual.result c.in_err-item.field-0.0 c.loop-id.invariant.read.later c.in_err-item.ensures.cause c.from_residual.ensures.1
