@@ -1,6 +1,6 @@
 //! Snapshots of a space of records. For each open one the old records are kept that commits have
-//! replaced since it was taken. A read costs a binary search in each layer from the snapshot's own
-//! on, at most seven; a release moves each record of the next older layer once.
+//! replaced since it was taken. A read finds a key in each layer from the snapshot's own on, at most
+//! seven; a release moves each record of the next older layer once.
 #![tactic(auto)]
 
 mod keeping;
