@@ -11,7 +11,7 @@ use rec_bytes::{
 use std::alloc::{AllocError, Global};
 use std::process::Abort;
 use std::test::Fail;
-use txn_core::{AgainFault, Config, Health, OpenFault, Store};
+use txn_core::{AgainFault, Committed, Config, Health, OpenFault, Store};
 
 const ROOM: Room = Room {
     calls: 256,
@@ -395,7 +395,7 @@ struct Course {
     commits: bool,
 }
 
-/// Goes through a transaction.
+/// Goes through a transaction. What is committed meanwhile is that of the new store.
 fn go(rt: &impl Abort, store: &mut Store<'_, QuietDisk>, course: Course) -> Result<(), DiskFault> {
     let few = if course.puts { FOUR } else { 0 };
     assert!(rt; store.health() == Health::Live && !store.in_transaction());
@@ -405,6 +405,8 @@ fn go(rt: &impl Abort, store: &mut Store<'_, QuietDisk>, course: Course) -> Resu
     if course.keeps {
         assert!(rt; store.keep() == Ok(()));
     }
+    assert!(rt; store.old(meta_key(NODES)) == Ok(Meta::EMPTY.to_record()));
+    assert!(rt; Committed { store }.meta(NODES) == Meta::EMPTY);
     assert!(rt; store.health() == Health::Live && store.in_transaction());
     if course.commits {
         return store.commit();

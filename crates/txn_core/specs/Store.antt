@@ -1,5 +1,5 @@
 -- What a store stands for.
-use Rattle.std.specs.Prelude.{is_some}
+use Rattle.std.specs.Prelude.{false, is_some}
 use Rattle.disk_model.specs.Contents.{Files}
 use Rattle.disk_model.specs.declared.disk.Disk.{Ghosts}
 use Rattle.rec_bytes.specs.declared.key.Key.{Key}
@@ -31,6 +31,15 @@ module _ {D : Type 0} {g : Ghosts D} where
   state_of s = record {
     records = drafted s;
     written = λ key. is_some (find_pair s.draft.pairs key);
+    reads = s.reads;
+    shape = s.base.shape;
+  }
+
+  -- what it is as a space where only what is committed is read
+  abbrev pub committed_state : Store D g → State
+  committed_state s = record {
+    records = committed s;
+    written = λ key. false;
     reads = s.reads;
     shape = s.base.shape;
   }

@@ -4,7 +4,7 @@ ghost use Rattle.rec_bytes.specs.Key.{IsKey};
 ghost use Rattle.rec_bytes.specs.Pairs.{find_pair, held_at};
 ghost use Rattle.rec_bytes.specs.RecordFiles.{is_meta_file, meta_key_of};
 ghost use Rattle.page_cache.specs.Pages.{kept_page};
-ghost use Rattle.txn_core.specs.Base.{OnlyReadsBase, working};
+ghost use Rattle.txn_core.specs.Base.{OnlyReadsBase, committed, working};
 
 use crate::base::Base;
 use disk_model::Disk;
@@ -24,7 +24,26 @@ impl<'d, D: Disk> Base<'d, D> {
         ensures onward { OnlyReadsBase self.old self.new }
         ensures cause { HasCause (D.faults self.old.disk.now) (D.faults self.new.disk.now) result }
     {
-        if found_into(&self.own, key, rec) || found_into(&self.changed, key, rec) {
+        if found_into(&self.own, key, rec) {
+            return Ok(());
+        }
+        self.fetch_committed_into(key, rec)
+    }
+
+    // Reads the record at a key, as it is committed, into the caller's, which an error leaves as it
+    // was. If the record is in memory, or its page is, the disk isn't called; else it is called
+    // once.
+    pub(crate) fn fetch_committed_into(&mut self, key: Key, rec: &mut Rec) -> Result<(), DiskFault>
+        requires { IsKey key }
+        ensures got { D.tells_reads → OnOk result (rec.new ≡ committed self.old key) }
+        ensures err { OnErr result (rec.new ≡ rec.old) }
+        ensures hit { IsSome (kept_page key self.old.cache)
+            → IsOk result × (self.new.disk.now ≡ self.old.disk.now) }
+        ensures records { committed self.new ≡ committed self.old }
+        ensures onward { OnlyReadsBase self.old self.new }
+        ensures cause { HasCause (D.faults self.old.disk.now) (D.faults self.new.disk.now) result }
+    {
+        if found_into(&self.changed, key, rec) {
             return Ok(());
         }
         if let Some(meta) = self.metas.find(key) {
@@ -39,11 +58,18 @@ impl<'d, D: Disk> Base<'d, D> {
         requires { is_meta_file file ≡ true }
         ensures { result ≡ working self.now (meta_key_of file) }
     {
-        let key = meta_key(file);
+        let mut rec = self.committed_meta(file);
+        found_into(&self.own, meta_key(file), &mut rec);
+        rec
+    }
+
+    // The meta record of a file as it is committed.
+    pub(crate) fn committed_meta(&self, file: u8) -> Rec
+        requires { is_meta_file file ≡ true }
+        ensures { result ≡ committed self.now (meta_key_of file) }
+    {
         let mut rec = self.metas.of_file(file);
-        if !found_into(&self.own, key, &mut rec) {
-            found_into(&self.changed, key, &mut rec);
-        }
+        found_into(&self.changed, meta_key(file), &mut rec);
         rec
     }
 }

@@ -6,11 +6,13 @@
 mod again_fault;
 mod base;
 mod checking_point;
+mod committed;
 mod committing;
 mod config;
 mod fetching;
 mod health;
 mod not_opened;
+mod old_records;
 mod open_fault;
 mod opening;
 mod recovering_again;
@@ -19,6 +21,7 @@ mod store;
 mod transacting;
 
 pub use again_fault::AgainFault;
+pub use committed::Committed;
 pub use config::Config;
 pub use health::Health;
 pub use not_opened::NotOpened;

@@ -71,7 +71,7 @@ impl<'d, D: Disk> Space for Store<'d, D> {
 }
 
 // A copy of a record. The type of what a call gives says that it is whole.
-fn copy_of(rec: &Rec) -> Rec
+pub(crate) fn copy_of(rec: &Rec) -> Rec
     ensures { result ≡ rec.now }
 {
     *rec

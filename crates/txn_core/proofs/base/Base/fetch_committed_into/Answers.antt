@@ -1,6 +1,6 @@
 use Rattle.std.proofs.Common.{◌∙◌}
 use Rattle.page_cache.proofs.Agreement.{KeepsPage-room}
-use Rattle.txn_core.proofs.base.Base.fetch_into.Goals as goal
+use Rattle.txn_core.proofs.base.Base.fetch_committed_into.Goals as goal
 
 pub invariant_of-self-clause-room : goal.invariant_of-self-clause-room
 invariant_of-self-clause-room g c =
