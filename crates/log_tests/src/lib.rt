@@ -21,6 +21,8 @@ mod records;
 #[cfg(test)]
 mod refusals;
 #[cfg(test)]
+mod snapshots;
+#[cfg(test)]
 mod stops;
 #[cfg(test)]
 mod stores;

@@ -9,8 +9,6 @@ mod pending;
 mod releasing;
 mod snap_state;
 mod snaps;
-#[cfg(test)]
-mod three_snapshots;
 mod view;
 
 pub use keeping::keep_old;

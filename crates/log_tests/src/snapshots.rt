@@ -1,9 +1,10 @@
+//! Snapshots of a space in memory.
 ghost use Rattle.std.specs.Prelude.{[], ◌∷◌};
 ghost use Rattle.rec_bytes.specs.Key.{IsKey};
 ghost use Rattle.rec_bytes.specs.MapSpace.{map_state};
 
-use crate::{Pending, SnapState, Snaps, keep_old};
 use rec_bytes::{DiskFault, Key, MapSpace, NODES, Reads, Rec, Shape, Space};
+use snap_store::{Pending, SnapState, Snaps, keep_old};
 use std::test::Fail;
 
 const SHAPE: Shape = Shape {
