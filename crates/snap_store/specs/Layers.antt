@@ -17,6 +17,7 @@ use Rattle.std.specs.Prelude.{
   None,
   is_some,
   length,
+  map,
   unwrap_or,
   if◌then◌else◌,
 }
@@ -33,6 +34,10 @@ pub record Layer : Type 0 where
 -- the layers of all open snapshots, the oldest first
 abbrev pub Layers : Type 0
 Layers = List Layer
+
+-- the readers of these layers
+abbrev pub readers_of : Layers → List ℕ
+readers_of layers = map (λ (layer : Layer). layer.reader) layers
 
 -- how many old records are kept at most, in all layers
 abbrev pub most_kept : ℕ
