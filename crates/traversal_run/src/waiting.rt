@@ -1,4 +1,4 @@
-ghost use Rattle.std.specs.Prelude.{◌≡◌, ◌++◌, [], ◌∷◌, true, IfNone, IfSome, OnOk};
+ghost use Rattle.std.specs.Prelude.{◌≡◌, ◌++◌, [], ◌∷◌, true, IfNone, IfSome, OnOk, length};
 ghost use Rattle.traversal_run.specs.Held.{elements_in};
 
 use crate::shown::Shown;
@@ -67,6 +67,13 @@ impl Waiting {
             self.later.push_back(item)?;
         }
         Ok(())
+    }
+
+    /// How many they are.
+    pub(crate) fn len(&self) -> usize
+        ensures { result ≡ length self.now }
+    {
+        self.later.len() + usize::from(self.first.is_some())
     }
 
     /// How many of them are vertices or edges.
