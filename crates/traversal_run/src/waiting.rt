@@ -1,4 +1,4 @@
-ghost use Rattle.std.specs.Prelude.{◌≡◌, ◌++◌, [], ◌∷◌, true, IfNone, IfSome, OnOk, length};
+ghost use Rattle.std.specs.Prelude.{◌≡◌, ◌++◌, [], ◌∷◌, true, IfNone, IfOk, IfSome, OnOk, length};
 ghost use Rattle.traversal_run.specs.Held.{elements_in};
 
 use crate::shown::Shown;
@@ -34,6 +34,14 @@ impl Waiting {
             first: None,
             later: VecDeque::new(alloc),
         }
+    }
+
+    /// No items, with room for so many, of which the first needs none.
+    pub(crate) fn with_room(alloc: Global, count: usize) -> Result<Waiting, AllocError>
+        ensures { IfOk result (λ waiting. waiting ≡ []) }
+    {
+        let later = VecDeque::with_capacity(alloc, count.saturating_sub(1))?;
+        Ok(Waiting { first: None, later })
     }
 
     /// This one item. It takes no memory.
