@@ -44,3 +44,10 @@ memory_cause {T} before now r early is =
     let p = err_from_is_err_and r is in
     let here : HasFaultCause {T = T} before now (Err faults.Memory) = record { later = early; disk = λ blamed. absurd cc } in
     subst (HasFaultCause before now) (sym p.1) (subst (λ f. HasFaultCause {T = T} before now (Err f)) (sym p.2) here)
+
+-- a call that came after others has its cause also seen from before them
+pub cause_after : {T : Type 0} (before mid now : ℕ) (r : Result T Fault) → before ≤ mid → HasFaultCause mid now r → HasFaultCause before now r
+cause_after before mid now r early cause = record {
+  later = let later = cause.later in omega (arith, early, later);
+  disk = λ blamed. let rose = cause.disk blamed in omega (arith, early, rose);
+}

@@ -79,7 +79,8 @@ pub(crate) fn drop_chain<S: Space>(
         if properties == MOST_PROPERTIES {
             return Err(damaged(owner.key.file, owner.key.id, PROPERTY_RULE));
         }
-        let row = property_at(space, owner.key, from, at)?;
+        let mut row = PropertyRow::BLANK;
+        property_at(space, owner.key, from, at, &mut row)?;
         let released = drop_property(space, &row)?;
         properties += 1;
         blocks += released;

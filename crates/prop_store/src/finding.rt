@@ -1,4 +1,4 @@
-ghost use Rattle.std.specs.Prelude.{◌+◌, List, IfErr, IfOk, OnOk, length};
+ghost use Rattle.std.specs.Prelude.{◌≡◌, ◌+◌, List, IfErr, IfOk, OnOk, length};
 ghost use Rattle.store_rules.specs.Properties.{AreProperties, Property, property_records};
 ghost use Rattle.rec_bytes.specs.Fault.{HasFaultCause, NotDamaged};
 ghost use Rattle.prop_store.specs.Fault.{BlamesBroken};
@@ -48,13 +48,47 @@ pub(crate) fn find<R: Reads>(space: &mut R, owner: Owner, key: u32) -> Result<Se
     ensures onward { R.onward space.old space.new }
     ensures cause { HasFaultCause (R.faults space.old) (R.faults space.new) result }
 {
+    let first = owner.first(space)?;
+    find_from(space, owner, first, key)
+}
+
+/// The same of an element whose first property is known, or `NIL` where it has none. It costs no
+/// read of the element.
+pub(crate) fn find_from<R: Reads>(
+    space: &mut R,
+    owner: Owner,
+    first: u32,
+    key: u32,
+) -> Result<Search, Fault>
+    requires owner { IsOwner owner }
+    requires first { R.tells → first ≡ first_of (R.state space.old).records owner }
+    ensures found { R.tells → (es : List Property)
+        → AreProperties (property_records (R.state space.old).records)
+        (first_of (R.state space.old).records owner) es
+        → IfOk result (IsSought (R.state space.old).records owner es key) }
+    ensures met { R.tells → IfOk result (IsMet (R.state space.old).records owner key) }
+    ensures sound { R.tells → (es : List Property)
+        → HasProperties (R.state space.old).records owner es → NotDamaged result }
+    ensures read { R.tells → IfOk result (IsReadAt (R.state space.old).records) }
+    ensures damaged { R.tells → IsInUse (R.state space.old).records owner
+        → IfErr result (BlamesBroken (R.state space.old).records (R.state space.old).shape) }
+    ensures placed { IfOk result (IsPlaced owner key) }
+    ensures cost { R.tells → (es : List Property)
+        → AreProperties (property_records (R.state space.old).records)
+        (first_of (R.state space.old).records owner) es
+        → OnOk result (ReadsAtMost (length es) (R.state space.old) (R.state space.new)) }
+    ensures at_most { ReadsAtMost 32 (R.state space.old) (R.state space.new) }
+    ensures onward { R.onward space.old space.new }
+    ensures cause { HasFaultCause (R.faults space.old) (R.faults space.new) result }
+{
     let mut link = Link::of(owner);
-    let mut at = owner.first(space)?;
+    let mut at = first;
     for count in 0..MOST_PROPERTIES {
         if at == NIL {
             return Ok(Search::Absent(count));
         }
-        let row = property_at(space, owner.key, link.key, at)?;
+        let mut row = PropertyRow::BLANK;
+        property_at(space, owner.key, link.key, at, &mut row)?;
         if row.rec.number(PROPERTY_KEY) == key {
             return Ok(Search::Found(Spot { link, row }));
         }

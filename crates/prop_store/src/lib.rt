@@ -28,7 +28,7 @@ mod values;
 pub use changing::{Dropped, drop_all, unset};
 pub use owner::Owner;
 pub use prop::Prop;
-pub use reading::{read_all, read_key};
+pub use reading::{read_all, read_all_from, read_key, read_key_from};
 pub use rec_bytes::Fault;
 pub use set_fault::SetFault;
 pub use setting::{add, set};

@@ -1,4 +1,4 @@
-ghost use Rattle.std.specs.Prelude.{◌≡◌, IfErr, IfOk, OnOk};
+ghost use Rattle.std.specs.Prelude.{◌≡◌, IfErr, OnOk};
 ghost use Rattle.rec_bytes.specs.Format.{properties_file};
 ghost use Rattle.rec_bytes.specs.Space.{after_get};
 ghost use Rattle.store_rules.specs.Views.{rec_at};
@@ -23,22 +23,33 @@ pub(crate) struct PropertyRow {
     pub form: Form,
 }
 
-/// Reads the property of an element that a link of this record leads to. The record is damaged where
-/// the link leads past the mark, the element where it leads to a record that is not in use, and the
-/// property where it is of no known form.
+impl PropertyRow {
+    /// A row to read one into.
+    pub(crate) const BLANK: PropertyRow = PropertyRow {
+        id: 0,
+        rec: Rec::ZEROS,
+        form: Form::Truth(false),
+    };
+}
+
+/// Reads the property of an element that a link of this record leads to into the caller's row, so
+/// that its record is not copied. The record of the link is damaged where it leads past the mark,
+/// the element where it leads to a record that is not in use, and the property where it is of no
+/// known form.
 pub(crate) fn property_at<R: Reads>(
     space: &mut R,
     element: Key,
     from: Key,
     id: u32,
-) -> Result<PropertyRow, Fault>
-    ensures row { IfOk result (IsRow id) }
-    ensures got { R.tells
-        → IfOk result (λ row. row.rec ≡ rec_at (R.state space.old).records properties_file id) }
+    row: &mut PropertyRow,
+) -> Result<(), Fault>
+    ensures row { OnOk result (IsRow id row.new) }
+    ensures got { R.tells → OnOk result
+        (row.new.rec ≡ rec_at (R.state space.old).records properties_file id) }
     ensures sound { R.tells → IsGivenOut (R.state space.old).records properties_file id
         → HasContent (rec_at (R.state space.old).records properties_file id)
         → NotDamaged result }
-    ensures read { R.tells → IfOk result (IsReadRow (R.state space.old).records) }
+    ensures read { R.tells → OnOk result (IsReadRow (R.state space.old).records row.new) }
     ensures damaged { R.tells → IfErr result (IsRowFault (R.state space.old) element from id) }
     ensures state { OnOk result (R.state space.new ≡ after_get (R.state space.old)) }
     ensures at_most { ReadsAtMost 1 (R.state space.old) (R.state space.new) }
@@ -50,13 +61,16 @@ pub(crate) fn property_at<R: Reads>(
         file: PROPERTIES,
         id,
     };
-    let mut rec = Rec::ZEROS;
-    space.get_into(key, &mut rec)?;
-    if rec.byte(KIND) == FREE {
+    space.get_into(key, &mut row.rec)?;
+    if row.rec.byte(KIND) == FREE {
         return Err(damaged(element.file, element.id, PROPERTY_RULE));
     }
-    match form_of(&rec) {
-        Some(form) => Ok(PropertyRow { id, rec, form }),
+    match form_of(&row.rec) {
+        Some(form) => {
+            row.id = id;
+            row.form = form;
+            Ok(())
+        }
         None => Err(damaged(PROPERTIES, id, RANGE_RULE)),
     }
 }

@@ -9,8 +9,8 @@ ghost use Rattle.prop_store.specs.Owner.{HasProperties, IsInUse, IsOwner, first_
 ghost use Rattle.prop_store.specs.Reading.{ReadsAtMost, block_total, prop_of, properties_met};
 
 use crate::damaged::damaged;
-use crate::finding::{Search, find};
-use crate::property_row::property_at;
+use crate::finding::{Search, find_from};
+use crate::property_row::{PropertyRow, property_at};
 use crate::values::read_value;
 use crate::{Owner, Prop};
 use plain_graph::Value;
@@ -49,7 +49,44 @@ pub fn read_key<R: Reads>(
     ensures onward { R.onward space.old space.new }
     ensures cause { HasFaultCause (R.faults space.old) (R.faults space.new) result }
 {
-    match find(space, owner, key)? {
+    let first = owner.first(space)?;
+    read_key_from(alloc, space, owner, first, key)
+}
+
+/// The value of a key of an element whose first property is known, or `NIL` where it has none. It
+/// costs no read of the element.
+pub fn read_key_from<R: Reads>(
+    alloc: Global,
+    space: &mut R,
+    owner: Owner,
+    first: u32,
+    key: u32,
+) -> Result<Option<Value>, Fault>
+    requires owner { IsOwner owner }
+    requires first { R.tells → first ≡ first_of (R.state space.old).records owner }
+    ensures read { R.tells → (es : List Property)
+        → AreProperties (property_records (R.state space.old).records)
+        (first_of (R.state space.old).records owner) es
+        → IfOk result (λ value. value ≡ value_of es key) }
+    ensures met { R.tells → IfOk result
+        (λ value. value ≡ value_of (properties_met (R.state space.old).records owner) key) }
+    ensures sound { R.tells → (es : List Property)
+        → HasProperties (R.state space.old).records owner es → NotDamaged result }
+    ensures damaged { R.tells → IsInUse (R.state space.old).records owner
+        → IfErr result (BlamesBroken (R.state space.old).records (R.state space.old).shape) }
+    ensures kept { IfOk result (λ value. IfSome value IsKept) }
+    ensures cost { R.tells → (es : List Property)
+        → AreProperties (property_records (R.state space.old).records)
+        (first_of (R.state space.old).records owner) es
+        → IfOk result (λ value. ReadsAtMost (length es + blocks_if value)
+        (R.state space.old) (R.state space.new)) }
+    ensures reads { IfOk result (λ value. ReadsAtMost (32 + blocks_if value)
+        (R.state space.old) (R.state space.new)) }
+    ensures at_most { ReadsAtMost 54 (R.state space.old) (R.state space.new) }
+    ensures onward { R.onward space.old space.new }
+    ensures cause { HasFaultCause (R.faults space.old) (R.faults space.new) result }
+{
+    match find_from(space, owner, first, key)? {
         Search::Absent(_) => Ok(None),
         Search::Found(spot) => {
             let value = read_value(alloc, space, &spot.row)?;
@@ -80,14 +117,48 @@ pub fn read_all<R: Reads>(alloc: Global, space: &mut R, owner: Owner) -> Result<
     ensures onward { R.onward space.old space.new }
     ensures cause { HasFaultCause (R.faults space.old) (R.faults space.new) result }
 {
+    let first = owner.first(space)?;
+    read_all_from(alloc, space, owner, first)
+}
+
+/// The properties of an element whose first property is known, or `NIL` where it has none. It costs
+/// no read of the element.
+pub fn read_all_from<R: Reads>(
+    alloc: Global,
+    space: &mut R,
+    owner: Owner,
+    first: u32,
+) -> Result<Vec<Prop>, Fault>
+    requires owner { IsOwner owner }
+    requires first { R.tells → first ≡ first_of (R.state space.old).records owner }
+    ensures read { R.tells → (es : List Property)
+        → AreProperties (property_records (R.state space.old).records)
+        (first_of (R.state space.old).records owner) es
+        → IfOk result (λ props. props.items ≡ map prop_of es) }
+    ensures met { R.tells → IfOk result
+        (λ props. props.items ≡ map prop_of (properties_met (R.state space.old).records owner)) }
+    ensures sound { R.tells → (es : List Property)
+        → HasProperties (R.state space.old).records owner es → NotDamaged result }
+    ensures damaged { R.tells → IsInUse (R.state space.old).records owner
+        → IfErr result (BlamesBroken (R.state space.old).records (R.state space.old).shape) }
+    ensures kept { IfOk result (λ props. All (λ prop. IsKept prop.value) props.items) }
+    ensures few { IfOk result (λ props. length props.items ≤ 32) }
+    ensures reads { IfOk result
+        (λ props. ReadsAtMost (length props.items + block_total props.items)
+        (R.state space.old) (R.state space.new)) }
+    ensures at_most { ReadsAtMost 736 (R.state space.old) (R.state space.new) }
+    ensures onward { R.onward space.old space.new }
+    ensures cause { HasFaultCause (R.faults space.old) (R.faults space.new) result }
+{
     let mut props = Vec::new(alloc);
     let mut from = owner.key;
-    let mut at = owner.first(space)?;
+    let mut at = first;
     for _ in 0..MOST_PROPERTIES {
         if at == NIL {
             return Ok(props);
         }
-        let row = property_at(space, owner.key, from, at)?;
+        let mut row = PropertyRow::BLANK;
+        property_at(space, owner.key, from, at, &mut row)?;
         let value = read_value(alloc, space, &row)?;
         let key = row.rec.number(PROPERTY_KEY);
         props.push(Prop { key, value })?;

@@ -1,6 +1,5 @@
 -- What a step that keeps nothing gives for one item.
-use Rattle.std.proofs.Common.{◌≡◌, inl, inr, ◌≤◌, ℕ, ◌*◌, suc, zero, nat_eq, Bool, true, false, ◌||◌, cond, List, [], ◌∷◌, ◌++◌, length, map, take, Result, Ok, Err, refl, sym, ap, ◌∙◌, subst, arith}
-use Rattle.std.specs.Result.{IfOk}
+use Rattle.std.proofs.Common.{◌≡◌, inl, inr, ◌≤◌, ℕ, ◌*◌, suc, zero, nat_eq, Bool, true, false, ◌||◌, cond, List, [], ◌∷◌, ◌++◌, length, map, take, refl, sym, ap, ◌∙◌, subst, arith}
 use Rattle.std.specs.FinMap as maps
 use Rattle.std.specs.List.{filter, filter_map}
 use Rattle.std.proofs.lemmas.Bool.{and_parts}
@@ -18,12 +17,11 @@ use Rattle.store_rules.specs.Rules.{IsWellFormed}
 use Rattle.store_rules.specs.Views.{Records}
 use Rattle.traversal_run.specs.Held.{HasDegreesUpTo, IsBatch, elements_in, is_hop, is_plain}
 use Rattle.traversal_run.specs.Mapping.{distinct_values, gives_edges, mapped}
-use Rattle.traversal_run.specs.Stage.{Takes, after_stage, is_open}
+use Rattle.traversal_run.specs.Stage.{Takes, after_stage, is_count, is_open}
 use Rattle.traversal_run.specs.declared.mapping.Mapping.{Mapping}
 use Rattle.traversal_run.specs.declared.mapping.Mapping.TheVariants as mappings
 use Rattle.traversal_run.specs.declared.stage.Stage.{Stage}
 use Rattle.traversal_run.specs.declared.stage.Stage.TheVariants as stages
-use Rattle.traversal_run.specs.declared.stop.Stop.{Stop}
 use Rattle.traversal_run.proofs.HeldRows.{elements-cons, elements-few}
 use Rattle.traversal_run.proofs.HopEdges.{edges_at-no_node}
 use Rattle.traversal_run.proofs.Rows.{nothing_after}
@@ -155,6 +153,10 @@ module _ (graph : Graph) (d : ℕ) (few : AreFewAt graph d) where
   stage_batch (stages.Count so_far told) item plain = absurd cc
   stage_batch (stages.Order key descending kept told) item plain = absurd cc
 
+pub plain_uncounted : (stage : Stage) → is_plain stage ≡ true → is_count stage ≡ false
+plain_uncounted (stages.Count so_far told) plain = absurd cc
+plain_uncounted stage plain = refl
+
 pub plain_quiet : (stage : Stage) → is_plain stage ≡ true → is_open stage ≡ false
 plain_quiet (stages.Dedup seen) plain = refl
 plain_quiet (stages.Count so_far told) plain = absurd cc
@@ -168,8 +170,3 @@ takes_batch graph d few old new item outs plain same takes =
     let quiet = nothing_after graph new (plain_quiet new (same ∙ plain)) in
     let is : after_stage graph old (item ∷ []) ≡ outs = (takes []).0 ∙ ap (λ (list : List Item). outs ++ list) quiet ∙ append-nil outs in
     subst (IsBatch d (is_hop old)) is (stage_batch graph d few old item plain)
-
-pub batch_taken : (graph : Graph) (d : ℕ) → AreFewAt graph d → (old new : Stage) (item : Item) (result : Result (List Item) Stop) → is_plain old ≡ true → is_plain new ≡ is_plain old
-    → IfOk result (λ outs. Takes graph old item outs new) → IfOk result (λ outs. IsBatch d (is_hop old) outs)
-batch_taken graph d few old new item (Ok outs) plain same takes = takes_batch graph d few old new item outs plain same takes
-batch_taken graph d few old new item (Err stop) plain same takes = tt

@@ -6,6 +6,7 @@ pub mod HeldSteps
 pub mod Broken
 pub mod Causes
 pub mod Codes
+pub mod Counting
 pub mod HopEdges
 pub mod LeftRows
 pub mod Limits
@@ -17,10 +18,12 @@ pub mod Orders
 pub mod Owned
 pub mod Places
 pub mod Ranks
+pub mod RowLists
 pub mod Rows
 pub mod Scans
 pub mod Sorting
 pub mod Stops
 pub mod TakenValues
 pub mod Texts
+pub mod TypeNumbers
 pub mod ValueOrder

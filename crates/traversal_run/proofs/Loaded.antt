@@ -32,7 +32,10 @@ use Rattle.node_store.specs.Loading as nodes
 use Rattle.node_store.proofs.Rows as node_rows
 use Rattle.rel_store.specs.Loading as rels
 use Rattle.rel_store.specs.RelRecord.{row_of}
+use Rattle.rel_store.specs.declared.rel_row.RelRow.{RelRow}
+use Rattle.rel_store.proofs.Rows as rel_rows
 use Rattle.traversal_run.specs.Elements.{IsOwnerOf}
+use Rattle.traversal_run.specs.declared.elements.Owned.{Owned}
 use Rattle.traversal_run.specs.Naming.{FindsName, name_at, name_count}
 use Rattle.traversal_run.proofs.NamesKnown.{is_text-itself}
 
@@ -69,6 +72,23 @@ node_unowned s id none = no_node_properties s.records id (node_rows.kind-row_at-
 
 pub edge_unowned : (s : State) (id : ℕ) (label : List ℕ) (from to : ℕ) → None ≡ rels.row_at s.records id → IsOwnerOf s (items.Edge id label from to) None
 edge_unowned s id label from to none = no_edge_properties s.records id (rel_free s.records id (sym none))
+
+-- what was loaded owns the item's properties
+abbrev pub node_owner : ℕ → NodeRow → Owned
+node_owner id row = record { owner = record { key = record { file = format.nodes_file; id = id }; field = format.node_first_property }; first = row.props }
+
+pub node_owned : (s : State) (id : ℕ) (row : NodeRow) → Some row ≡ nodes.row_at s.records id → IsOwnerOf s (items.Vertex id) (Some (node_owner id row))
+node_owned s id row found =
+    let is = node_rows.kind-row_at-Some s.records id row (sym found) in
+    record { used = is.0; are = refl; first = ap (λ (r : NodeRow). r.props) is.1 }
+
+abbrev pub edge_owner : ℕ → RelRow → Owned
+edge_owner id row = record { owner = record { key = record { file = format.relationships_file; id = id }; field = format.relationship_first_property }; first = row.property }
+
+pub edge_owned : (s : State) (id : ℕ) (label : List ℕ) (from to : ℕ) (row : RelRow) → Some row ≡ rels.row_at s.records id → IsOwnerOf s (items.Edge id label from to) (Some (edge_owner id row))
+edge_owned s id label from to row found =
+    let is = rel_rows.kind-row_at-Some s.records id row (sym found) in
+    record { used = is.0; are = refl; first = sym (ap (λ (r : RelRow). r.property) is.1) }
 
 pub no_node_label : (s : Records) (id : ℕ) → None ≡ nodes.row_at s id → label_of (graph_of s) (items.Vertex id) ≡ []
 no_node_label s id none = ap node_label (node_not_found s id (node_rows.kind-row_at-None s id (sym none)))

@@ -15,7 +15,7 @@ use Rattle.prop_store.specs.Changing.{HasElement}
 use Rattle.prop_store.specs.Finding.{property_of, value_of}
 use Rattle.prop_store.specs.Reading.{ReadsAtMost, prop_of}
 use Rattle.prop_store.specs.declared.prop.Prop.{Prop}
-use Rattle.prop_store.specs.Owner.{HasProperties, IsOwner}
+use Rattle.prop_store.specs.Owner.{HasProperties, IsOwner, first_of}
 use Rattle.prop_store.specs.declared.owner.Owner.{Owner}
 use Rattle.prop_store.proofs.ElementChanges.{has_properties}
 use Rattle.prop_store.proofs.ElementGraphs.{listed_at, owns_listed}
@@ -35,6 +35,7 @@ use Rattle.store_rules.proofs.PropertyMaps.{get-map_of_none}
 use Rattle.traversal_run.specs.Elements.{Owns}
 use Rattle.traversal_run.specs.KeyValues.{AreRead}
 use Rattle.traversal_run.specs.Naming.{FindsName, name_at, name_count}
+use Rattle.traversal_run.specs.declared.elements.Owned.{Owned}
 use Rattle.traversal_run.proofs.Asked.{same_tests}
 use Rattle.traversal_run.proofs.NamesKnown.{is_text-itself, is_text-same}
 
@@ -50,8 +51,9 @@ pub record HasListed (records now : Records) (item : Item) (owner : Owner) : Typ
   pub is : properties_of (graph_of records) item ≡ map_of (rec_at records format.names_file) es
 
 -- so it is in a store, after reads
-pub listed_in : (s z : State) (item : Item) (owner : Owner) → SameButReads s z → IsWellFormed s.records s.shape → IsOwner owner → Owns s item owner → HasListed s.records z.records item owner
-listed_in s z item owner same store is owns =
+pub listed_in : (s z : State) (item : Item) (owned : Owned) → SameButReads s z → IsWellFormed s.records s.shape → IsOwner owned.owner → Owns s item owned → HasListed s.records z.records item owned.owner
+listed_in s z item owned same store is owns =
+    let owner = owned.owner in
     let has : HasElement s owner = record { store = store; used = owns.used } in
     let es = listed_at s owner is has in
     let listed = owns_listed s owner is has in
@@ -62,6 +64,10 @@ listed_in s z item owner same store is owns =
       known = listed.known;
       is = owns.are ∙ properties_at-is s.records owner.key.file owner.key.id es is.file has.used chain;
     })
+
+-- where the first one is the same
+pub first_in : (s z : State) (item : Item) (owned : Owned) → SameButReads s z → Owns s item owned → owned.first ≡ first_of z.records owned.owner
+first_in s z item owned same owns = subst (λ (t : State). owned.first ≡ first_of t.records owned.owner) (sym same) owns.first
 
 -- ---- the value of a key
 

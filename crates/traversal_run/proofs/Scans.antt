@@ -1,7 +1,6 @@
 -- Where a scan stands amid a call.
-use Rattle.std.proofs.Common.{◌≡◌, ◌⊎◌, inl, inr, ⊎_elim, ◌<◌, ◌≤◌, ℕ, ◌+◌, ◌-◌, suc, zero, true, false, Option, None, Some, Result, Ok, Err, List, [], ◌∷◌, length, drop, get_or, take, set, add-one, refl, sym, ap, ◌∙◌, subst, arith}
+use Rattle.std.proofs.Common.{◌≡◌, ◌⊎◌, inl, inr, ⊎_elim, ◌<◌, ◌≤◌, ℕ, ◌+◌, ◌-◌, suc, zero, true, false, Option, None, Some, List, [], ◌∷◌, length, drop, get_or, take, set, add-one, refl, sym, ap, ◌∙◌, subst, arith}
 use Rattle.std.specs.Option.{IfSome}
-use Rattle.std.specs.Result.{IfOk}
 use Rattle.std.proofs.lemmas.List.{length-set}
 use Rattle.plain_graph.specs.declared.item.Item.{Item}
 use Rattle.plain_graph.specs.declared.item.Item.TheVariants as items
@@ -18,7 +17,6 @@ use Rattle.traversal_run.specs.declared.run.Run.{Run}
 use Rattle.traversal_run.specs.declared.source.Source.{Source}
 use Rattle.traversal_run.specs.declared.stage.Stage.{Stage}
 use Rattle.traversal_run.specs.declared.stage.Stage.TheVariants as stages
-use Rattle.traversal_run.specs.declared.stop.Stop.{Stop}
 
 -- the scan begins
 pub record ScanBegins (at before now : ℕ) (run : Run) : Type 0 where
@@ -196,11 +194,10 @@ limit_advanced Same rows later at row new any outs ready most item lt is only ta
     (rows_is ∙ ap (λ r. r ∷ []) step.1, given (omega arith) ∙ step.0, step.2)
 
 -- the limit takes the item that waits
-pub limit_taken : (Same : Type 0) (old : Row) (stage : Stage) (waiting : List Item) (taken item : Item) (most : ℕ) (result : Result (List Item) Stop) → old ≡ limit_row most (item ∷ []) → old.waiting ≡ taken ∷ waiting
-    → (old.stage ≡ stages.Limit most → IfOk result (λ outs. (outs ≡ take most (taken ∷ [])) × (stage ≡ stages.Limit (most - 1)) × Same))
-    → IfOk result (λ outs. (outs ≡ take most (item ∷ [])) × (record { stage = stage; waiting = waiting } ≡ limit_row (most - 1) []) × Same)
-limit_taken Same old stage waiting taken item most (Err stop) is first takes = tt
-limit_taken Same old stage waiting taken item most (Ok outs) is first takes =
+pub limit_taken : (Same : Type 0) (old : Row) (stage : Stage) (waiting outs : List Item) (taken item : Item) (most : ℕ) → old ≡ limit_row most (item ∷ []) → old.waiting ≡ taken ∷ waiting
+    → (old.stage ≡ stages.Limit most → (outs ≡ take most (taken ∷ [])) × (stage ≡ stages.Limit (most - 1)) × Same)
+    → (outs ≡ take most (item ∷ [])) × (record { stage = stage; waiting = waiting } ≡ limit_row (most - 1) []) × Same
+limit_taken Same old stage waiting outs taken item most is first takes =
     let step = takes (ap (λ (r : Row). r.stage) is) in
     let both = first_is taken item old.waiting waiting first (ap (λ (r : Row). r.waiting) is) in
     (step.0 ∙ ap (λ x. take most (x ∷ [])) both.0, (λ i. record { stage = step.1 i; waiting = both.1 i }), step.2)

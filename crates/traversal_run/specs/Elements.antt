@@ -4,18 +4,20 @@ use Rattle.plain_graph.specs.Meaning as meaning
 use Rattle.plain_graph.specs.Properties.{no_properties}
 use Rattle.plain_graph.specs.declared.item.Item.{Item}
 use Rattle.prop_store.specs.Changing.{properties_of}
-use Rattle.prop_store.specs.declared.owner.Owner.{Owner}
+use Rattle.prop_store.specs.Owner.{first_of}
 use Rattle.rec_bytes.specs.Format.{free_kind}
 use Rattle.rec_bytes.specs.Space.{State}
 use Rattle.store_rules.specs.Graph.{graph_of}
 use Rattle.store_rules.specs.Views.{kind_at}
+use Rattle.traversal_run.specs.declared.elements.Owned.{Owned}
 
--- The owner is an element in use, and its properties are those of the item.
-pub record Owns (s : State) (item : Item) (owner : Owner) : Type 0 where
-  pub used : kind_at s.records owner.key.file owner.key.id ≢ free_kind
-  pub are : meaning.properties_of (graph_of s.records) item ≡ properties_of s owner
+-- The owner is an element in use, and its properties are those of the item, from this first one on.
+pub record Owns (s : State) (item : Item) (owned : Owned) : Type 0 where
+  pub used : kind_at s.records owned.owner.key.file owned.owner.key.id ≢ free_kind
+  pub are : meaning.properties_of (graph_of s.records) item ≡ properties_of s owned.owner
+  pub first : owned.first ≡ first_of s.records owned.owner
 
 -- the owner of the item's properties, or none where it has no properties
-abbrev pub IsOwnerOf : State → Item → Option Owner → Type 0
+abbrev pub IsOwnerOf : State → Item → Option Owned → Type 0
 IsOwnerOf s item None = meaning.properties_of (graph_of s.records) item ≡ no_properties
-IsOwnerOf s item (Some owner) = Owns s item owner
+IsOwnerOf s item (Some owned) = Owns s item owned

@@ -3,6 +3,7 @@ pub mod EdgeItems
 pub mod Elements
 pub mod Finding
 pub mod Held
+pub mod Hopping
 pub mod KeyValues
 pub mod Kept
 pub mod Mapping

@@ -51,10 +51,6 @@ Takes graph old item outs new = (coming : List Item)
     → (after_stage graph old (item ∷ coming) ≡ outs ++ after_stage graph new coming)
     × (counts_past old (item ∷ coming) ≡ counts_past new coming)
 
--- a count of this item and of what is still to come passes, whatever that is
-abbrev pub PassesWith : Stage → Item → Type 0
-PassesWith stage item = (coming : List Item) → counts_past stage (item ∷ coming) ≡ true
-
 -- Where nothing more comes to it, the step gives these, and goes on as the new one.
 abbrev pub Finishes : Graph → Stage → List Item → Stage → Type 0
 Finishes graph old outs new = (after_stage graph old [] ≡ outs ++ after_stage graph new [])

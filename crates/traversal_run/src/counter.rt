@@ -1,4 +1,4 @@
-ghost use Rattle.std.specs.Prelude.{◌≡◌, ◌+◌, false, pos, true};
+ghost use Rattle.std.specs.Prelude.{◌≡◌, ◌<◌, ◌+◌, false, pos, true};
 
 use std::marker::Model;
 
@@ -29,15 +29,16 @@ impl Counter {
         Counter { count: 0 }
     }
 
-    /// Counts one more. It tells whether a value can say it; else the count stays.
-    pub(crate) fn add_one(&mut self) -> bool
-        ensures counted { result ≡ true → self.new ≡ self.old + 1 }
-        ensures full { result ≡ false → self.old ≡ 9223372036854775807 }
+    /// Counts so many more. It tells whether a value can say it; else the count stays.
+    pub(crate) fn add(&mut self, more: usize) -> bool
+        ensures counted { result ≡ true → self.new ≡ self.old + more }
+        ensures past { result ≡ false → 9223372036854775807 < self.old + more }
+        ensures stays { result ≡ false → self.new ≡ self.old }
     {
-        if self.count >= GREATEST_COUNT {
+        if more as u64 > GREATEST_COUNT - self.count {
             return false;
         }
-        self.count += 1;
+        self.count += more as u64;
         true
     }
 

@@ -24,7 +24,7 @@ pub(crate) fn edge_item(alloc: Global, name: &[u8], row: &EdgeRow) -> Result<Sho
 pub(crate) fn end_items(alloc: Global, rows: &[EdgeRow], id: u32) -> Result<Waiting, AllocError>
     ensures { IfOk result (λ items. items ≡ map (end_item id) rows.now) }
 {
-    let mut items = Waiting::new(alloc);
+    let mut items = Waiting::with_room(alloc, rows.len())?;
     for row in rows {
         items.push(Shown::vertex(other_end(row, id)))?;
     }

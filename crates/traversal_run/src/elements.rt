@@ -14,43 +14,56 @@ ghost use Rattle.traversal_run.specs.Reading.{IsNamedStore, IsRead};
 use crate::naming::{name_mark, number_of, text_of, unnamed};
 use name_store::Names;
 use plain_graph::{Item, Value};
-use prop_store::{Owner, read_key};
+use prop_store::{Owner, read_key_from};
 use rec_bytes::{
     Fault, Key, NODE_FIRST_PROPERTY, NODES, RELATIONSHIP_FIRST_PROPERTY, RELATIONSHIPS, Reads,
 };
 use std::alloc::Global;
 
+/// The owner of an item's properties, and the first of them, or `NIL`.
+#[derive(Clone, Copy)]
+pub(crate) struct Owned {
+    pub(crate) owner: Owner,
+    pub(crate) first: u32,
+}
+
 /// The owner of an item's properties; none where it has no properties, as it is a value or an
-/// element that isn't in use.
-pub(crate) fn owner_of<R: Reads>(space: &mut R, item: &Item) -> Result<Option<Owner>, Fault>
+/// element that isn't in use. The element is read once.
+pub(crate) fn owner_of<R: Reads>(space: &mut R, item: &Item) -> Result<Option<Owned>, Fault>
     ensures found { R.tells
-        → IfOk result (λ owner. IsOwnerOf (R.state space.old) item.now owner) }
+        → IfOk result (λ owned. IsOwnerOf (R.state space.old) item.now owned) }
     ensures sound { R.tells
         → IsWellFormed (R.state space.old).records (R.state space.old).shape → NotDamaged result }
     ensures damaged { R.tells → IfErr result
         (BlamesBroken (R.state space.old).records (R.state space.old).shape) }
-    ensures owner { IfOk result (λ owner. IfSome owner IsOwner) }
+    ensures owner { IfOk result (λ owned. IfSome owned (λ found. IsOwner found.owner)) }
     ensures read { IsRead R.Reads space.old space.new }
     ensures cause { HasFaultCause (R.faults space.old) (R.faults space.new) result }
 {
     match item {
         Item::Vertex(id) => match node_store::load(space, *id)? {
-            Some(_) => Ok(Some(Owner {
-                key: Key {
-                    file: NODES,
-                    id: *id,
+            Some(row) => Ok(Some(Owned {
+                owner: Owner {
+                    key: Key {
+                        file: NODES,
+                        id: *id,
+                    },
+                    field: NODE_FIRST_PROPERTY,
                 },
-                field: NODE_FIRST_PROPERTY,
+                first: row.props,
             })),
             None => Ok(None),
         },
         Item::Edge { id, .. } => match rel_store::load(space, *id)? {
-            Some(_) => Ok(Some(Owner {
-                key: Key {
-                    file: RELATIONSHIPS,
-                    id: *id,
+            Some(row) => Ok(Some(Owned {
+                owner: Owner {
+                    key: Key {
+                        file: RELATIONSHIPS,
+                        id: *id,
+                    },
+                    field: RELATIONSHIP_FIRST_PROPERTY,
                 },
-                field: RELATIONSHIP_FIRST_PROPERTY,
+                first: row.property,
             })),
             None => Ok(None),
         },
@@ -133,9 +146,9 @@ pub(crate) fn value_of<R: Reads>(
     let Some(number) = number_of(space, names, key) else {
         return Ok(None);
     };
-    let Some(owner) = owner_of(space, item)? else {
+    let Some(owned) = owner_of(space, item)? else {
         return Ok(None);
     };
-    let value = read_key(alloc, space, owner, number)?;
+    let value = read_key_from(alloc, space, owned.owner, owned.first, number)?;
     Ok(value)
 }

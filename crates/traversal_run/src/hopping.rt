@@ -2,18 +2,20 @@ ghost use Rattle.std.specs.Prelude.{◌≡◌, ◌++◌, ◌∷◌, [], IfErr, I
 ghost use Rattle.expand.specs.Expanding.{AreRowsOf};
 ghost use Rattle.plain_graph.specs.Meaning.{edges_at, incident, neighbours};
 ghost use Rattle.store_rules.specs.Graph.{graph_of};
+ghost use Rattle.store_rules.specs.Rules.{IsWellFormed};
 ghost use Rattle.rec_bytes.specs.Fault.{HasFaultCause, NotDamaged};
 ghost use Rattle.prop_store.specs.Fault.{BlamesBroken};
 ghost use Rattle.traversal_run.specs.EdgeItems.{AreTyped, IsTyped, row_item};
+ghost use Rattle.traversal_run.specs.Hopping.{AreTypeNumbers};
 ghost use Rattle.traversal_run.specs.Reading.{IsNamedStore, IsRead};
 
 use crate::edge_items::{edge_item, end_items};
 use crate::finding::edge_at;
-use crate::naming::{name_mark, numbers_of, text_of};
+use crate::naming::{name_mark, number_of, numbers_of, text_of};
 use crate::waiting::Waiting;
 use expand::{ExpandFault, expand};
 use name_store::Names;
-use plain_graph::{Hop, Item};
+use plain_graph::{Hop, Item, Text};
 use rec_bytes::{Fault, Reads};
 use rel_store::EdgeRow;
 use std::alloc::Global;
@@ -153,13 +155,90 @@ fn rows_of<R: Reads>(
     ensures read { IsRead R.Reads space.old space.new }
     ensures cause { HasFaultCause (R.faults space.old) (R.faults space.new) result }
 {
-    let texts = hop.labels.as_slice();
-    let labels = numbers_of(alloc, space, names, texts)?;
+    match hop.labels.as_slice() {
+        [label] => rows_of_type(alloc, space, names, hop, label, id),
+        labels => rows_of_types(alloc, space, names, hop, labels, id),
+    }
+}
+
+/// The same of a hop of one type. No list of numbers is made.
+fn rows_of_type<R: Reads>(
+    alloc: Global,
+    space: &mut R,
+    names: &Names,
+    hop: &Hop,
+    label: &Text,
+    id: u32,
+) -> Result<Vec<EdgeRow>, Fault>
+    requires { hop.now.labels ≡ label.now ∷ [] }
+    ensures found { R.tells
+        → IsNamedStore (R.state space.old).records (R.state space.old).shape names.now.names
+        → IfOk result (λ rows. AreRowsOf (R.state space.old).records rows.items
+        (edges_at (graph_of (R.state space.old).records) hop.now.direction hop.now.labels id)) }
+    ensures sound { R.tells
+        → IsNamedStore (R.state space.old).records (R.state space.old).shape names.now.names
+        → NotDamaged result }
+    ensures damaged { R.tells → IfErr result
+        (BlamesBroken (R.state space.old).records (R.state space.old).shape) }
+    ensures read { IsRead R.Reads space.old space.new }
+    ensures cause { HasFaultCause (R.faults space.old) (R.faults space.new) result }
+{
+    match number_of(space, names, label.as_bytes()) {
+        Some(number) => rows_by(alloc, space, hop, id, &[number]),
+        None => Ok(Vec::new(alloc)),
+    }
+}
+
+/// The same of a hop of any types.
+fn rows_of_types<R: Reads>(
+    alloc: Global,
+    space: &mut R,
+    names: &Names,
+    hop: &Hop,
+    labels: &[Text],
+    id: u32,
+) -> Result<Vec<EdgeRow>, Fault>
+    requires { hop.now.labels ≡ labels.now }
+    ensures found { R.tells
+        → IsNamedStore (R.state space.old).records (R.state space.old).shape names.now.names
+        → IfOk result (λ rows. AreRowsOf (R.state space.old).records rows.items
+        (edges_at (graph_of (R.state space.old).records) hop.now.direction hop.now.labels id)) }
+    ensures sound { R.tells
+        → IsNamedStore (R.state space.old).records (R.state space.old).shape names.now.names
+        → NotDamaged result }
+    ensures damaged { R.tells → IfErr result
+        (BlamesBroken (R.state space.old).records (R.state space.old).shape) }
+    ensures read { IsRead R.Reads space.old space.new }
+    ensures cause { HasFaultCause (R.faults space.old) (R.faults space.new) result }
+{
+    let numbers = numbers_of(alloc, space, names, labels)?;
     // No number stands for all types.
-    if labels.is_empty() && !texts.is_empty() {
+    if numbers.is_empty() && !labels.is_empty() {
         return Ok(Vec::new(alloc));
     }
-    match expand(alloc, space, id, hop.direction, &labels) {
+    rows_by(alloc, space, hop, id, &numbers)
+}
+
+/// The rows of the edges that a hop takes at a vertex, where these are the numbers of its types.
+fn rows_by<R: Reads>(
+    alloc: Global,
+    space: &mut R,
+    hop: &Hop,
+    id: u32,
+    numbers: &[u32],
+) -> Result<Vec<EdgeRow>, Fault>
+    ensures found { R.tells → IsWellFormed (R.state space.old).records (R.state space.old).shape
+        → AreTypeNumbers (R.state space.old).records numbers.now hop.now.labels
+        → IfOk result (λ rows. AreRowsOf (R.state space.old).records rows.items
+        (edges_at (graph_of (R.state space.old).records) hop.now.direction hop.now.labels id)) }
+    ensures sound { R.tells → IsWellFormed (R.state space.old).records (R.state space.old).shape
+        → NotDamaged result }
+    ensures damaged { R.tells → IfErr result
+        (BlamesBroken (R.state space.old).records (R.state space.old).shape) }
+    ensures read { IsRead R.Reads space.old space.new }
+    ensures cause { HasFaultCause (R.faults space.old) (R.faults space.new) result }
+{
+    match expand(alloc, space, id, hop.direction, numbers) {
         Ok(rows) => Ok(rows),
         Err(ExpandFault::NoNode { .. }) => Ok(Vec::new(alloc)),
         Err(ExpandFault::Memory) => Err(Fault::Memory),

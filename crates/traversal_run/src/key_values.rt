@@ -26,7 +26,7 @@ use crate::shown::Shown;
 use crate::waiting::Waiting;
 use name_store::Names;
 use plain_graph::{Item, Text, Value};
-use prop_store::{Prop, read_all};
+use prop_store::{Prop, read_all_from};
 use rec_bytes::{Fault, Reads};
 use std::alloc::{AllocError, Global};
 
@@ -107,12 +107,12 @@ fn read_properties<R: Reads>(
     ensures cause { HasFaultCause (R.faults space.old) (R.faults space.new) result }
 {
     let mark = name_mark(space);
-    let Some(owner) = owner_of(space, item)? else {
+    let Some(owned) = owner_of(space, item)? else {
         return Ok(Vec::new(alloc));
     };
-    let props = read_all(alloc, space, owner)?;
+    let props = read_all_from(alloc, space, owned.owner, owned.first)?;
     if !have_keys_below(mark, &props) {
-        return Err(unnamed(owner.key.file, owner.key.id));
+        return Err(unnamed(owned.owner.key.file, owned.owner.key.id));
     }
     Ok(props)
 }

@@ -1,6 +1,6 @@
 ghost use Rattle.std.specs.Prelude.{◌≡◌, [], ◌+◌, ◌<◌, ◌≤◌, List, length, take, drop, IfErr};
 ghost use Rattle.std.specs.Prelude.{IfNone, IfOk, IfSome, not};
-ghost use Rattle.std.specs.Prelude.{◌-◌, ◌∷◌, ℕ, get_or, set, true};
+ghost use Rattle.std.specs.Prelude.{◌-◌, ◌∷◌, ℕ, cond, false, get_or, set, true};
 ghost use Rattle.std.specs.List.{list_all};
 ghost use Rattle.plain_graph.specs.Graph.{Graph};
 ghost use Rattle.plain_graph.specs.declared.item.Item.{Item};
@@ -21,6 +21,7 @@ ghost use Rattle.traversal_run.specs.Scan.{limit_row};
 ghost use Rattle.traversal_run.specs.Stage.{is_count, is_open, limit_left, with_more};
 ghost use Rattle.traversal_run.specs.Stop.{HasStopCause, MayStop, StopsAtBroken};
 
+use crate::counter::Counter;
 use crate::stage::Stage;
 use crate::stop::Stop;
 use crate::waiting::Waiting;
@@ -36,7 +37,7 @@ pub(crate) struct Row {
 }
 
 impl Row {
-    /// What the step gives for the first of the items that wait.
+    /// What the step gives for the first of the items that wait, or a count for all of them.
     pub(crate) fn advance<R: Reads>(
         &mut self,
         alloc: Global,
@@ -57,7 +58,9 @@ impl Row {
         ensures counts { is_count self.new.stage ≡ is_count self.old.stage }
         ensures hops { is_hop self.new.stage ≡ is_hop self.old.stage }
         ensures plain { is_plain self.new.stage ≡ is_plain self.old.stage }
-        ensures rest { self.new.waiting ≡ drop 1 self.old.waiting }
+        // A count takes all that wait, each other step the first.
+        ensures rest { self.new.waiting
+            ≡ cond (is_count self.old.stage) [] (drop 1 self.old.waiting) }
         ensures idle { self.old.waiting ≡ [] → IfOk result (λ outs. outs ≡ []) }
         ensures few { R.tells
             → IsNamedStore (R.state space.old).records (R.state space.old).shape names.now.names
@@ -70,11 +73,34 @@ impl Row {
         ensures read { IsRead R.Reads space.old space.new }
         ensures cause { HasStopCause (R.faults space.old) (R.faults space.new) result }
     {
+        if let Stage::Count { so_far, told } = &mut self.stage {
+            return if count_all(alloc, so_far, *told, &mut self.waiting) {
+                Ok(Waiting::new(alloc))
+            } else {
+                Err(Stop::PastCount)
+            };
+        }
         match self.waiting.take_first() {
-            Some(item) => self.stage.take(alloc, space, names, item),
+            Some(item) => {
+                let outs = self.stage.take(alloc, space, names, item)?;
+                Ok(outs)
+            }
             None => Ok(Waiting::new(alloc)),
         }
     }
+}
+
+/// Counts all that wait, unless the count was given. It tells whether a value can say the count.
+fn count_all(alloc: Global, so_far: &mut Counter, told: bool, waiting: &mut Waiting) -> bool
+    ensures counted { result ≡ true → told ≡ false
+        → so_far.new ≡ so_far.old + length waiting.old }
+    ensures past { result ≡ false → (told ≡ false)
+        × (9223372036854775807 < so_far.old + length waiting.old) }
+    ensures none { waiting.new ≡ [] }
+{
+    let fits = told || so_far.add(waiting.len());
+    *waiting = Waiting::new(alloc);
+    fits
 }
 
 /// The last row with items that wait.

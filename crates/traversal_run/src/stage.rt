@@ -1,4 +1,4 @@
-ghost use Rattle.std.specs.Prelude.{◌≡◌, [], ◌++◌, IfErr, IfOk, OnOk, length};
+ghost use Rattle.std.specs.Prelude.{◌≡◌, [], ◌++◌, IfErr, IfOk, OnOk, false, length};
 ghost use Rattle.std.specs.Prelude.{◌+◌, ◌-◌, ◌∷◌, ℕ, List, take};
 ghost use Rattle.plain_graph.specs.Graph.{Graph};
 ghost use Rattle.plain_graph.specs.Meaning.{ranked, unseen};
@@ -11,7 +11,6 @@ ghost use Rattle.traversal_run.specs.Held.{is_hop, is_plain};
 ghost use Rattle.traversal_run.specs.Reading.{IsNamedStore, IsRead};
 ghost use Rattle.traversal_run.specs.Stage.{
   Finishes,
-  PassesWith,
   Takes,
   is_count,
   is_open,
@@ -19,7 +18,6 @@ ghost use Rattle.traversal_run.specs.Stage.{
   limit_left,
   with_more,
 };
-ghost use Rattle.traversal_run.specs.Stop.{HasStopCause, MayStop, StopsAtBroken};
 
 use crate::counter::Counter;
 use crate::kept::{Kept, Ranked};
@@ -27,7 +25,6 @@ use crate::lookups::rank;
 use crate::mapping::{Mapping, mapped};
 use crate::seen::Seen;
 use crate::shown::Shown;
-use crate::stop::Stop;
 use crate::waiting::Waiting;
 use name_store::Names;
 use plain_graph::Text;
@@ -60,23 +57,24 @@ pub(crate) enum Stage {
 }
 
 impl Stage {
-    /// What the step gives for one more item.
+    /// What the step gives for one more item. A count takes all that wait at once.
     pub(crate) fn take<R: Reads>(
         &mut self,
         alloc: Global,
         space: &mut R,
         names: &Names,
         item: Shown,
-    ) -> Result<Waiting, Stop>
+    ) -> Result<Waiting, Fault>
+        requires { is_count self.old ≡ false }
         ensures takes { R.tells
             → IsNamedStore (R.state space.old).records (R.state space.old).shape names.now.names
             → IfOk result
             (λ outs. Takes (graph_of (R.state space.old).records) self.old item outs self.new) }
-        ensures stops { R.tells
+        ensures sound { R.tells
             → IsNamedStore (R.state space.old).records (R.state space.old).shape names.now.names
-            → IfErr result (MayStop ⊥ (PassesWith self.old item)) }
+            → NotDamaged result }
         ensures damaged { R.tells → IfErr result
-            (StopsAtBroken (R.state space.old).records (R.state space.old).shape) }
+            (BlamesBroken (R.state space.old).records (R.state space.old).shape) }
         ensures limits { IfOk result (λ outs.
             with_more (limit_left self.new) (length outs) ≡ limit_left self.old) }
         ensures counts { is_count self.new ≡ is_count self.old }
@@ -87,24 +85,15 @@ impl Stage {
             (outs ≡ take most (item ∷ [])) × (self.new ≡ Stage.Limit (most - 1))
             × (space.new ≡ space.old)) }
         ensures read { IsRead R.Reads space.old space.new }
-        ensures cause { HasStopCause (R.faults space.old) (R.faults space.new) result }
+        ensures cause { HasFaultCause (R.faults space.old) (R.faults space.new) result }
     {
         match self {
-            Stage::Mapped(mapping) => {
-                let outs = mapped(alloc, space, names, mapping, item)?;
-                Ok(outs)
-            }
+            Stage::Mapped(mapping) => mapped(alloc, space, names, mapping, item),
             Stage::Dedup { seen } => {
                 let outs = unseen(alloc, seen, item)?;
                 Ok(outs)
             }
-            Stage::Count { so_far, told } => {
-                if *told || so_far.add_one() {
-                    Ok(Waiting::new(alloc))
-                } else {
-                    Err(Stop::PastCount)
-                }
-            }
+            Stage::Count { .. } => unreachable!(),
             Stage::Limit { left } => Ok(let_through(alloc, left, item)),
             Stage::Order { key, kept, .. } => {
                 keep(alloc, space, names, key, kept, item)?;

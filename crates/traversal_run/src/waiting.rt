@@ -1,4 +1,4 @@
-ghost use Rattle.std.specs.Prelude.{◌≡◌, ◌++◌, [], ◌∷◌, true, IfNone, IfSome, OnOk};
+ghost use Rattle.std.specs.Prelude.{◌≡◌, ◌++◌, [], ◌∷◌, true, IfNone, IfOk, IfSome, OnOk, length};
 ghost use Rattle.traversal_run.specs.Held.{elements_in};
 
 use crate::shown::Shown;
@@ -36,6 +36,14 @@ impl Waiting {
         }
     }
 
+    /// No items, with room for so many, of which the first needs none.
+    pub(crate) fn with_room(alloc: Global, count: usize) -> Result<Waiting, AllocError>
+        ensures { IfOk result (λ waiting. waiting ≡ []) }
+    {
+        let later = VecDeque::with_capacity(alloc, count.saturating_sub(1))?;
+        Ok(Waiting { first: None, later })
+    }
+
     /// This one item. It takes no memory.
     pub(crate) fn one(alloc: Global, item: Shown) -> Waiting
         ensures { result ≡ item ∷ [] }
@@ -67,6 +75,13 @@ impl Waiting {
             self.later.push_back(item)?;
         }
         Ok(())
+    }
+
+    /// How many they are.
+    pub(crate) fn len(&self) -> usize
+        ensures { result ≡ length self.now }
+    {
+        self.later.len() + usize::from(self.first.is_some())
     }
 
     /// How many of them are vertices or edges.

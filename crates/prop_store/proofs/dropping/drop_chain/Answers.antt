@@ -28,13 +28,13 @@ loop-at-init g c = record {
   later = omega arith;
 }
 
-pub returns-in_err-row-clause-sound : goal.returns-in_err-row-clause-sound
-returns-in_err-row-clause-sound g c tells es held =
+pub returns-in_err-property_at-clause-sound : goal.returns-in_err-property_at-clause-sound
+returns-in_err-property_at-clause-sound g c tells es held =
     let p = err_from_is_err_and c.from_residual.result c.from_residual.ensures.1 in
     let old = g.S.Reads.state c.args.space.now in
     let now = g.S.Reads.state c.loop-at.space in
     let at = here old now es c.loop-at.at c.loop-at.properties c.loop-at.blocks c.loop-at-test.true (c.loop-at.invariant.told tells es held) in
-    rw (p.1, p.2) (c.in_err-row.ensures.sound tells (given_out old now es c.loop-at.at c.loop-at.properties c.loop-at.blocks at) (has_content old now es c.loop-at.at c.loop-at.properties c.loop-at.blocks at))
+    rw (p.1, p.2) (c.in_err-property_at.ensures.sound tells (given_out old now es c.loop-at.at c.loop-at.properties c.loop-at.blocks at) (has_content old now es c.loop-at.at c.loop-at.properties c.loop-at.blocks at))
 
 pub returns-in_err-released-clause-sound : goal.returns-in_err-released-clause-sound
 returns-in_err-released-clause-sound g c tells es held =
@@ -43,10 +43,10 @@ returns-in_err-released-clause-sound g c tells es held =
     let now = g.S.Reads.state c.loop-at.space in
     let read = g.S.Reads.state c.property_at.new.space in
     let told : Left old read es c.loop-at.at c.loop-at.properties c.loop-at.blocks
-    = subst (λ (z : State). Left old z es c.loop-at.at c.loop-at.properties c.loop-at.blocks) (sym c.in_ok-row.ensures.state) (left_read old now es c.loop-at.at c.loop-at.properties c.loop-at.blocks (c.loop-at.invariant.told tells es held)) in
+    = subst (λ (z : State). Left old z es c.loop-at.at c.loop-at.properties c.loop-at.blocks) (sym c.in_ok-property_at.ensures.state) (left_read old now es c.loop-at.at c.loop-at.properties c.loop-at.blocks (c.loop-at.invariant.told tells es held)) in
     let at = here old read es c.loop-at.at c.loop-at.properties c.loop-at.blocks c.loop-at-test.true told in
-    let got = c.in_ok-row.ensures.got tells ∙ ap (λ (z : State). rec_at z.records properties_file c.loop-at.at) (sym c.in_ok-row.ensures.state) in
-    rw (p.1, p.2) (c.in_err-released.ensures.sound tells at.property (held_here old read es c.loop-at.at c.loop-at.properties c.loop-at.blocks at c.in_ok-row.row c.in_ok-row.ensures.row.id_is got))
+    let got = c.in_ok-property_at.ensures.got tells ∙ ap (λ (z : State). rec_at z.records properties_file c.loop-at.at) (sym c.in_ok-property_at.ensures.state) in
+    rw (p.1, p.2) (c.in_err-released.ensures.sound tells at.property (held_here old read es c.loop-at.at c.loop-at.properties c.loop-at.blocks at c.property_at.new.row c.in_ok-property_at.ensures.row.id_is got))
 
 pub loop-at-preserved : goal.loop-at-preserved
 loop-at-preserved g c =
@@ -58,22 +58,22 @@ loop-at-preserved g c =
     record {
       told = λ tells es held.
           let told : Left old read es c.loop-at.at c.loop-at.properties c.loop-at.blocks
-          = subst (λ (z : State). Left old z es c.loop-at.at c.loop-at.properties c.loop-at.blocks) (sym c.in_ok-row.ensures.state) (left_read old now es c.loop-at.at c.loop-at.properties c.loop-at.blocks (i.told tells es held)) in
+          = subst (λ (z : State). Left old z es c.loop-at.at c.loop-at.properties c.loop-at.blocks) (sym c.in_ok-property_at.ensures.state) (left_read old now es c.loop-at.at c.loop-at.properties c.loop-at.blocks (i.told tells es held)) in
           let at = here old read es c.loop-at.at c.loop-at.properties c.loop-at.blocks c.loop-at-test.true told in
-          let got = c.in_ok-row.ensures.got tells ∙ ap (λ (z : State). rec_at z.records properties_file c.loop-at.at) (sym c.in_ok-row.ensures.state) in
+          let got = c.in_ok-property_at.ensures.got tells ∙ ap (λ (z : State). rec_at z.records properties_file c.loop-at.at) (sym c.in_ok-property_at.ensures.state) in
           one_less old read es c.loop-at.at c.loop-at.properties c.loop-at.blocks at then c.in_ok-released.released c.number-at.result _ _ (g.met.S.Reads.onward_shape _ _ c.drop_property.ensures.onward)
-          (c.in_ok-released.ensures.dropped tells at.property (held_here old read es c.loop-at.at c.loop-at.properties c.loop-at.blocks at c.in_ok-row.row c.in_ok-row.ensures.row.id_is got))
+          (c.in_ok-released.ensures.dropped tells at.property (held_here old read es c.loop-at.at c.loop-at.properties c.loop-at.blocks at c.property_at.new.row c.in_ok-property_at.ensures.row.id_is got))
           (c.number-at.ensures ∙ ap (λ r. field 4 r property_next) got) refl refl;
       walk = λ tells is.
           let w = i.walk tells is in
           let at = c.loop-at.at in
           let same : read.records ≡ now.records = reads_records 1 now read c.property_at.ensures.at_most in
-          let its : IsReadRow now.records c.in_ok-row.row = c.in_ok-row.ensures.read tells in
-          let there : kind_at now.records properties_file at ≢ free_kind = subst (λ (z : ℕ). kind_at now.records properties_file z ≢ free_kind) c.in_ok-row.ensures.row.id_is its.used in
+          let its : IsReadRow now.records c.property_at.new.row = c.in_ok-property_at.ensures.read tells in
+          let there : kind_at now.records properties_file at ≢ free_kind = subst (λ (z : ℕ). kind_at now.records properties_file z ≢ free_kind) c.in_ok-property_at.ensures.row.id_is its.used in
           cleared_next old.records now.records then.records c.args.owner c.loop-at.from _ at c.loop-at.properties c.number-at.result w.reached w.cleared c.loop-at-test.true there
-          (c.number-at.ensures ∙ ap (λ r. field 4 r property_next) (c.in_ok-row.ensures.got tells)) refl
-          (subst (λ (z : ℕ). HasCleared now.records then.records z) c.in_ok-row.ensures.row.id_is (subst (λ (r : Records). HasCleared r then.records c.in_ok-row.row.id) same
-          (c.in_ok-released.ensures.cleared tells (subst (λ (r : Records). IsReadRow r c.in_ok-row.row) (sym same) its))));
+          (c.number-at.ensures ∙ ap (λ r. field 4 r property_next) (c.in_ok-property_at.ensures.got tells)) refl
+          (subst (λ (z : ℕ). HasCleared now.records then.records z) c.in_ok-property_at.ensures.row.id_is (subst (λ (r : Records). HasCleared r then.records c.property_at.new.row.id) same
+          (c.in_ok-released.ensures.cleared tells (subst (λ (r : Records). IsReadRow r c.property_at.new.row) (sym same) its))));
       few = let f = i.few in let ne = c.if-properties-eq-MOST_PROPERTIES.false in omega arith;
       small = let s = i.small in let r = c.in_ok-released.ensures.few in omega arith;
       touches = touches_then [] c.loop-at.properties c.loop-at.blocks 1 c.in_ok-released.released _ _ old now then (omega arith) (omega arith) i.touches
@@ -95,8 +95,8 @@ returns-clause-few_blocks g c = let few = c.loop-at.invariant.few in let small =
 pub returns-then-properties-eq-MOST_PROPERTIES-clause-at_most : goal.returns-then-properties-eq-MOST_PROPERTIES-clause-at_most
 returns-then-properties-eq-MOST_PROPERTIES-clause-at_most g c = let few = c.loop-at.invariant.few in let small = c.loop-at.invariant.small in touches_more [] _ _ 32 704 _ _ (omega arith) (omega arith) c.loop-at.invariant.touches
 
-pub returns-in_err-row-clause-at_most : goal.returns-in_err-row-clause-at_most
-returns-in_err-row-clause-at_most g c =
+pub returns-in_err-property_at-clause-at_most : goal.returns-in_err-property_at-clause-at_most
+returns-in_err-property_at-clause-at_most g c =
     let few = c.loop-at.invariant.few in
     let small = c.loop-at.invariant.small in
     touches_then [] c.loop-at.properties c.loop-at.blocks 0 0 32 704 _ _ _ (omega arith) (omega arith) c.loop-at.invariant.touches (touches_reads [] 0 0 _ _ (reads_same 1 _ _ c.property_at.ensures.at_most))
@@ -120,14 +120,14 @@ returns-then-properties-eq-MOST_PROPERTIES-clause-damaged g c tells used is =
     subst (BlamesDropped old.records old.shape) (sym c.damaged.ensures)
     (inl (too_many old c.args.owner c.requires used c.loop-at.from c.loop-at.at c.loop-at.properties w.reached c.loop-at-test.true (omega (arith, c.if-properties-eq-MOST_PROPERTIES.true))))
 
-pub returns-in_err-row-clause-damaged : goal.returns-in_err-row-clause-damaged
-returns-in_err-row-clause-damaged g c tells used is =
+pub returns-in_err-property_at-clause-damaged : goal.returns-in_err-property_at-clause-damaged
+returns-in_err-property_at-clause-damaged g c tells used is =
     let old = g.S.Reads.state c.args.space.now in
     let now = g.S.Reads.state c.loop-at.space in
     let w = c.loop-at.invariant.walk tells is in
-    same_has (BlamesDropped old.records old.shape) c.from_residual.result c.in_err-row.field-0.0 c.from_residual.ensures.1
+    same_has (BlamesDropped old.records old.shape) c.from_residual.result c.in_err-property_at.field-0.0 c.from_residual.ensures.1
     (row_blames_before old now c.args.owner c.requires used (g.met.S.Reads.onward_shape _ _ c.loop-at.invariant.onward) c.loop-at.from c.loop-at.at c.loop-at.properties w.reached w.cleared c.loop-at-test.true
-    c.in_err-row.field-0.0 (c.in_err-row.ensures.damaged tells))
+    c.in_err-property_at.field-0.0 (c.in_err-property_at.ensures.damaged tells))
 
 pub returns-in_err-released-clause-damaged : goal.returns-in_err-released-clause-damaged
 returns-in_err-released-clause-damaged g c tells used is =
@@ -135,21 +135,21 @@ returns-in_err-released-clause-damaged g c tells used is =
     let now = g.S.Reads.state c.loop-at.space in
     let read = g.S.Reads.state c.property_at.new.space in
     let w = c.loop-at.invariant.walk tells is in
-    let reads = c.in_ok-row.ensures.at_most in
+    let reads = c.in_ok-property_at.ensures.at_most in
     let same = reads_records 1 now read reads in
-    let its = subst (λ (r : Records). IsReadRow r c.in_ok-row.row) (sym same) (c.in_ok-row.ensures.read tells) in
+    let its = subst (λ (r : Records). IsReadRow r c.property_at.new.row) (sym same) (c.in_ok-property_at.ensures.read tells) in
     let fault = c.in_err-released.field-0.0 in
     same_has (BlamesDropped old.records old.shape) c.from_residual-in_err-released.result fault c.from_residual-in_err-released.ensures.1
     (text_blames_before old now c.args.owner c.requires used (g.met.S.Reads.onward_shape _ _ c.loop-at.invariant.onward) c.loop-at.from c.loop-at.at c.loop-at.properties w.reached w.cleared c.loop-at-test.true fault
-    (subst (λ (z : ℕ). IsTextFault now z fault) c.in_ok-row.ensures.row.id_is
-    (text_fault_same now read same (ap (λ (z : State). z.shape) (reads_same 1 now read reads)) c.in_ok-row.row.id fault (c.in_err-released.ensures.damaged tells its))))
+    (subst (λ (z : ℕ). IsTextFault now z fault) c.in_ok-property_at.ensures.row.id_is
+    (text_fault_same now read same (ap (λ (z : State). z.shape) (reads_same 1 now read reads)) c.property_at.new.row.id fault (c.in_err-released.ensures.damaged tells its))))
 
-pub returns-in_err-row-clause-cause : goal.returns-in_err-row-clause-cause
-returns-in_err-row-clause-cause g c =
-    cause_passed _ _ _ c.from_residual.result c.in_err-row.field-0.0 c.loop-at.invariant.later c.in_err-row.ensures.cause c.from_residual.ensures.1
+pub returns-in_err-property_at-clause-cause : goal.returns-in_err-property_at-clause-cause
+returns-in_err-property_at-clause-cause g c =
+    cause_passed _ _ _ c.from_residual.result c.in_err-property_at.field-0.0 c.loop-at.invariant.later c.in_err-property_at.ensures.cause c.from_residual.ensures.1
 
 pub returns-in_err-released-clause-cause : goal.returns-in_err-released-clause-cause
 returns-in_err-released-clause-cause g c =
     let later0 = c.loop-at.invariant.later in
-    let later1 = c.in_ok-row.ensures.cause.later in
+    let later1 = c.in_ok-property_at.ensures.cause.later in
     cause_passed _ _ _ c.from_residual-in_err-released.result c.in_err-released.field-0.0 (omega (arith, later0, later1)) c.in_err-released.ensures.cause c.from_residual-in_err-released.ensures.1

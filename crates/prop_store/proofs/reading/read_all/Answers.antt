@@ -1,173 +1,44 @@
-use Rattle.std.specs.Prelude.{All}
-use Rattle.std.proofs.Common.{arith, rules, ap, sym, subst, ◌∙◌, ◌≡◌, ◌≢◌, ◌+◌, ◌++◌, ℕ, List, inl, inr, length, map, refl}
-use Rattle.std.proofs.lemmas.List.{length_push}
-use Rattle.std.proofs.lemmas.List.Elements.{All-push}
-use Rattle.std.proofs.lemmas.Result.{err_from_is_err_and}
-use Rattle.plain_graph.specs.Forms.{IsKept}
-use Rattle.plain_graph.specs.Properties.{blocks_of}
-use Rattle.rec_bytes.specs.Format.{free_kind, properties_file, property_next, strings_file}
-use Rattle.rec_bytes.specs.Record.{field}
-use Rattle.rec_bytes.specs.Space.{State}
-use Rattle.store_rules.specs.Properties.{content_of, first_property, property_records, value_from}
-use Rattle.store_rules.specs.Views.{Records, kind_at, rec_at}
-use Rattle.store_rules.proofs.PropertyLists.{properties_read}
-use Rattle.prop_store.specs.Fault.{BlamesBroken}
-use Rattle.prop_store.specs.PropertyRow.{IsReadRow}
-use Rattle.prop_store.specs.Reading.{block_total, prop_of}
+use Rattle.std.specs.Prelude.{Vec}
+use Rattle.std.specs.declared.alloc.Global.{Global}
+use Rattle.std.proofs.Common.{◌+◌, length, arith}
+use Rattle.prop_store.specs.Reading.{block_total}
 use Rattle.prop_store.specs.declared.prop.Prop.{Prop}
-use Rattle.prop_store.proofs.Ahead.{ahead, all_answered, answered_one}
-use Rattle.prop_store.proofs.Answered.{block_total-one, few_blocks}
-use Rattle.prop_store.proofs.Breaches.{reached_first, reached_next, row_blames, row_fault_same, text_blames, text_fault_same, too_many}
-use Rattle.prop_store.proofs.Exits.{same_has}
-use Rattle.prop_store.proofs.ReadCounts.{reads_one, reads_records, reads_same, reads_then}
-use Rattle.prop_store.proofs.WalkSteps.{blocks_given, has_value, right_property, walk_after, walk_begins, walk_here}
-use Rattle.prop_store.proofs.Causes.{cause_passed, memory_cause}
+use Rattle.prop_store.proofs.Causes.{cause_after, space_cause_passed}
+use Rattle.prop_store.proofs.ReadCounts.{costs_after, reads_after, reads_one}
 use Rattle.prop_store.proofs.reading.read_all.Goals as goal
 
-pub returns-in_err-at-clause-at_most : goal.returns-in_err-at-clause-at_most
-returns-in_err-at-clause-at_most g c = reads_one 737 _ _ (omega arith) c.in_err-at.ensures.state
+pub returns-in_err-first-clause-at_most : goal.returns-in_err-first-clause-at_most
+returns-in_err-first-clause-at_most g c = reads_one 737 _ _ (omega arith) c.in_err-first.ensures.state
 
-pub loop-init : goal.loop-init
-loop-init g c =
-    let none = c.new-props.ensures.items in
-    let no_length : length c.new-props.result.items ≡ 0 = ap (λ (z : List Prop). length z) none in
-    let no_blocks : block_total c.new-props.result.items ≡ 0 = ap block_total none in
-    record {
-      told = λ tells es are. walk_begins _ _ _ es _ (c.in_ok-at.ensures.got tells) are tt;
-      met = λ tells.
-          let old = g.R.Reads.state c.args.space.now in
-          ap (λ (z : List Prop). z ++ map prop_of (ahead old.records c.in_ok-at.at 0)) none ∙ ap (λ z. map prop_of (ahead old.records z 0)) (c.in_ok-at.ensures.got tells);
-      reached = λ tells. reached_first (g.R.Reads.state c.args.space.now).records c.args.owner c.args.owner.key c.in_ok-at.at refl (c.in_ok-at.ensures.got tells);
-      count = no_length;
-      few = omega arith;
-      kept = subst (All (λ (p : Prop). IsKept p.value)) (sym none) (λ k d lt. absurd (omega (arith, lt)));
-      reads = reads_one _ _ _ (omega arith) c.in_ok-at.ensures.state;
-      onward = search rules;
-      later = omega (arith, c.in_ok-at.ensures.cause.later);
-    }
+pub returns-in_err-first-clause-cause : goal.returns-in_err-first-clause-cause
+returns-in_err-first-clause-cause g c =
+    space_cause_passed _ _ _ c.from_residual.result c.in_err-first.field-0.0 (omega arith) c.in_err-first.ensures.cause c.from_residual.ensures.1
 
-pub returns-in_err-row-clause-sound : goal.returns-in_err-row-clause-sound
-returns-in_err-row-clause-sound g c tells es has =
-    let old = g.R.Reads.state c.args.space.now in
-    let now = g.R.Reads.state c.loop.space in
-    let p = err_from_is_err_and c.from_residual-in_err-row.result c.from_residual-in_err-row.ensures.1 in
-    let here = walk_here _ es _ _ _ c.if-at.false (c.loop.invariant.told tells es has.are) in
-    let right = right_property old.records now.records c.args.owner es c.loop.at c.loop.counter _ (reads_records _ old now c.loop.invariant.reads) has here in
-    rw (p.1, p.2) (c.in_err-row.ensures.sound tells right.0 right.1)
-
-pub returns-in_err-row-clause-at_most : goal.returns-in_err-row-clause-at_most
-returns-in_err-row-clause-at_most g c = reads_then _ 1 737 _ _ _ (omega (arith, c.loop.invariant.few, c.loop.invariant.count)) c.loop.invariant.reads c.in_err-row.ensures.at_most
-
-pub returns-in_err-value-clause-sound : goal.returns-in_err-value-clause-sound
-returns-in_err-value-clause-sound g c tells es has =
-    let old = g.R.Reads.state c.args.space.now in
-    let now = g.R.Reads.state c.loop.space in
-    let then = g.R.Reads.state c.property_at.new.space in
-    let p = err_from_is_err_and c.from_residual-in_err-value.result c.from_residual-in_err-value.ensures.1 in
-    let here = walk_here _ es _ _ _ c.if-at.false (c.loop.invariant.told tells es has.are) in
-    let same = reads_records _ old now c.loop.invariant.reads in
-    let same_then = reads_records 1 now then c.in_ok-row.ensures.at_most ∙ same in
-    let rec_is = c.in_ok-row.ensures.got tells ∙ ap (λ r. rec_at r properties_file c.loop.at) same ∙ ap (rec_at old.records properties_file) here.at_is in
-    let value = has_value old.records then.records here.property (first_property here.later) c.in_ok-row.row.rec same_then here.is rec_is in
-    rw (p.1, p.2) (c.in_err-value.ensures.sound tells here.property.value here.property.blocks value (blocks_given old.records then.records c.args.owner es here.passed here.property here.later same_then has here.all here.is.blocks))
-
-pub returns-in_err-value-clause-at_most : goal.returns-in_err-value-clause-at_most
-returns-in_err-value-clause-at_most g c =
-    reads_then (2 + length c.loop.props.items + block_total c.loop.props.items) 22 737 _ _ _ (omega (arith, c.loop.invariant.few, c.loop.invariant.count)) (reads_then _ 1 (2 + length c.loop.props.items + block_total c.loop.props.items) _ _ _ (omega arith) c.loop.invariant.reads c.in_ok-row.ensures.at_most) c.in_err-value.ensures.at_most
-
-pub returns-in_err-push-clause-at_most : goal.returns-in_err-push-clause-at_most
-returns-in_err-push-clause-at_most g c =
-    reads_then (2 + length c.loop.props.items + block_total c.loop.props.items) 22 737 _ _ _ (omega (arith, c.loop.invariant.few, c.loop.invariant.count)) (reads_then _ 1 (2 + length c.loop.props.items + block_total c.loop.props.items) _ _ _ (omega arith) c.loop.invariant.reads c.in_ok-row.ensures.at_most) c.in_ok-value.ensures.at_most
-
-pub loop-preserved : goal.loop-preserved
-loop-preserved g c =
-    let old = g.R.Reads.state c.args.space.now in
-    let now = g.R.Reads.state c.loop.space in
-    let then = g.R.Reads.state c.property_at.new.space in
-    let props = c.loop.props.items in
-    let prop : Prop = record { key = c.number-key.result; value = c.in_ok-value.value } in
-    let pushed = c.in_ok-push.ensures.items in
-    let more : length c.push.new.self.items ≡ length props + 1 = ap (λ (z : List Prop). length z) pushed ∙ length_push props prop in
-    let total = block_total-one props c.push.new.self.items prop pushed in
-    let few = few_blocks c.in_ok-value.value c.in_ok-value.ensures.kept in
-    let same = reads_records _ old now c.loop.invariant.reads in
-    record {
-      told = λ tells es are.
-          let here = walk_here _ es _ _ _ c.if-at.false (c.loop.invariant.told tells es are) in
-          let got = c.in_ok-row.ensures.got tells ∙ ap (λ r. rec_at r properties_file c.loop.at) same in
-          walk_after (property_records old.records) es c.loop.at c.loop.counter _ _ here c.in_ok-row.row.rec c.number-at.result got c.number-at.ensures tt;
-      met = λ tells.
-          answered_one old.records props c.push.new.self.items _ c.loop.at c.loop.counter c.number-at.result c.number-key.result c.in_ok-row.row.rec c.in_ok-value.value pushed c.if-at.false (omega arith)
-          (c.in_ok-row.ensures.got tells ∙ ap (λ r. rec_at r properties_file c.loop.at) same) c.number-at.ensures c.number-key.ensures
-          (c.in_ok-value.ensures.met tells ∙ ap (λ r. value_from (rec_at r strings_file) (content_of c.in_ok-row.row.rec)) (reads_records 1 now then c.in_ok-row.ensures.at_most ∙ same)) (c.loop.invariant.met tells);
-      reached = λ tells.
-          let got = c.in_ok-row.ensures.got tells ∙ ap (λ r. rec_at r properties_file c.loop.at) same in
-          reached_next old.records c.args.owner c.loop.from _ c.loop.at c.loop.counter c.number-at.result (c.loop.invariant.reached tells) c.if-at.false
-          (subst (λ (z : ℕ). kind_at old.records properties_file z ≢ free_kind) c.in_ok-row.ensures.row.id_is (subst (λ (r : Records). kind_at r properties_file c.in_ok-row.row.id ≢ free_kind) same (c.in_ok-row.ensures.read tells).used))
-          (c.number-at.ensures ∙ ap (λ r. field 4 r property_next) got) refl;
-      count = omega (arith, more, c.loop.invariant.count);
-      few = omega (arith, total, few, c.loop.invariant.few);
-      kept = subst (All (λ (p : Prop). IsKept p.value)) (sym pushed) (All-push (λ (p : Prop). IsKept p.value) props prop c.loop.invariant.kept c.in_ok-value.ensures.kept);
-      reads = reads_then (2 + length props + block_total props) (blocks_of c.in_ok-value.value) _ _ _ _ (omega (arith, more, total)) (reads_then _ 1 (2 + length c.loop.props.items + block_total c.loop.props.items) _ _ _ (omega arith) c.loop.invariant.reads c.in_ok-row.ensures.at_most) c.in_ok-value.ensures.reads;
-      onward = g.met.R.Reads.further_onward _ _ _ (g.met.R.Reads.further_onward _ _ _ c.loop.invariant.onward c.in_ok-row.ensures.onward) c.in_ok-value.ensures.onward;
-      later = omega (arith, c.loop.invariant.later, c.in_ok-row.ensures.cause.later, c.in_ok-value.ensures.cause.later);
-    }
-
-pub returns-then-at-clause-met : goal.returns-then-at-clause-met
-returns-then-at-clause-met g c tells = all_answered (g.R.Reads.state c.args.space.now).records c.loop.props.items _ c.loop.at c.loop.counter (inl c.if-at.true) (c.loop.invariant.met tells)
-
-pub returns-then-at-clause-read : goal.returns-then-at-clause-read
-returns-then-at-clause-read g c tells es are =
-    returns-then-at-clause-met g c tells ∙ ap (map prop_of) (properties_read (property_records (g.R.Reads.state c.args.space.now).records) _ es are)
-
-pub returns-clause-met : goal.returns-clause-met
-returns-clause-met g c tells = all_answered (g.R.Reads.state c.args.space.now).records c.loop.props.items _ c.loop.at c.loop.counter (inr (omega arith)) (c.loop.invariant.met tells)
+pub read_all_from-requires-clause-first : goal.read_all_from-requires-clause-first
+read_all_from-requires-clause-first g c = λ tells. rw c.in_ok-first.ensures.state (c.in_ok-first.ensures.got tells)
 
 pub returns-clause-read : goal.returns-clause-read
-returns-clause-read g c tells es are =
-    returns-clause-met g c tells ∙ ap (map prop_of) (properties_read (property_records (g.R.Reads.state c.args.space.now).records) _ es are)
+returns-clause-read g c = rw c.in_ok-first.ensures.state at c.read_all_from.ensures.read
 
--- ---- which record is blamed
+pub returns-clause-met : goal.returns-clause-met
+returns-clause-met g c = rw c.in_ok-first.ensures.state at c.read_all_from.ensures.met
 
-pub returns-in_err-row-clause-damaged : goal.returns-in_err-row-clause-damaged
-returns-in_err-row-clause-damaged g c tells used =
-    let old = g.R.Reads.state c.args.space.now in
-    let now = g.R.Reads.state c.loop.space in
-    let reads = c.loop.invariant.reads in
-    same_has (BlamesBroken old.records old.shape) c.from_residual-in_err-row.result c.in_err-row.field-0.0 c.from_residual-in_err-row.ensures.1
-    (row_blames old c.args.owner c.requires used c.loop.from c.loop.at c.loop.counter (c.loop.invariant.reached tells) c.if-at.false c.in_err-row.field-0.0
-    (row_fault_same old now (reads_records _ old now reads) (ap (λ (z : State). z.shape) (reads_same _ old now reads)) c.args.owner.key c.loop.from c.loop.at c.in_err-row.field-0.0 (c.in_err-row.ensures.damaged tells)))
+pub returns-clause-sound : goal.returns-clause-sound
+returns-clause-sound g c = rw c.in_ok-first.ensures.state at c.read_all_from.ensures.sound
 
-pub returns-in_err-value-clause-damaged : goal.returns-in_err-value-clause-damaged
-returns-in_err-value-clause-damaged g c tells used =
-    let old = g.R.Reads.state c.args.space.now in
-    let now = g.R.Reads.state c.loop.space in
-    let then = g.R.Reads.state c.property_at.new.space in
-    let reads = reads_then _ 1 (2 + length c.loop.props.items + block_total c.loop.props.items) old now then (omega arith) c.loop.invariant.reads c.in_ok-row.ensures.at_most in
-    let read = subst (λ (r : Records). IsReadRow r c.in_ok-row.row) (sym (reads_records 1 now then c.in_ok-row.ensures.at_most)) (c.in_ok-row.ensures.read tells) in
-    same_has (BlamesBroken old.records old.shape) c.from_residual-in_err-value.result c.in_err-value.field-0.0 c.from_residual-in_err-value.ensures.1
-    (text_blames old c.in_ok-row.row.id c.in_err-value.field-0.0
-    (text_fault_same old then (reads_records _ old then reads) (ap (λ (z : State). z.shape) (reads_same _ old then reads)) c.in_ok-row.row.id c.in_err-value.field-0.0 (c.in_err-value.ensures.damaged tells read)))
+pub returns-clause-damaged : goal.returns-clause-damaged
+returns-clause-damaged g c = rw c.in_ok-first.ensures.state at c.read_all_from.ensures.damaged
 
-pub returns-then-at-2-clause-damaged : goal.returns-then-at-2-clause-damaged
-returns-then-at-2-clause-damaged g c tells used =
-    let old = g.R.Reads.state c.args.space.now in
-    subst (BlamesBroken old.records old.shape) (sym c.damaged.ensures)
-    (too_many old c.args.owner c.requires used c.loop.from c.loop.at c.loop.counter (c.loop.invariant.reached tells) c.if-at-2.true (omega arith))
+pub returns-clause-reads : goal.returns-clause-reads
+returns-clause-reads g c =
+    costs_after (λ (props : Vec Prop Global). length props.items + block_total props.items) (λ (props : Vec Prop Global). 1 + length props.items + block_total props.items) _ _ _ c.read_all_from.result
+    (λ (props : Vec Prop Global). omega arith) c.in_ok-first.ensures.state c.read_all_from.ensures.reads
 
-pub returns-in_err-row-clause-cause : goal.returns-in_err-row-clause-cause
-returns-in_err-row-clause-cause g c =
-    cause_passed _ _ _ c.from_residual-in_err-row.result c.in_err-row.field-0.0 c.loop.invariant.later c.in_err-row.ensures.cause c.from_residual-in_err-row.ensures.1
+pub returns-clause-at_most : goal.returns-clause-at_most
+returns-clause-at_most g c = reads_after 736 737 _ _ _ (omega arith) c.in_ok-first.ensures.state c.read_all_from.ensures.at_most
 
-pub returns-in_err-value-clause-cause : goal.returns-in_err-value-clause-cause
-returns-in_err-value-clause-cause g c =
-    let later0 = c.loop.invariant.later in
-    let later1 = c.in_ok-row.ensures.cause.later in
-    cause_passed _ _ _ c.from_residual-in_err-value.result c.in_err-value.field-0.0 (omega (arith, later0, later1)) c.in_err-value.ensures.cause c.from_residual-in_err-value.ensures.1
+pub returns-clause-onward : goal.returns-clause-onward
+returns-clause-onward g c = g.met.R.Reads.further_onward _ _ _ c.in_ok-first.ensures.onward c.read_all_from.ensures.onward
 
-pub returns-in_err-push-clause-cause : goal.returns-in_err-push-clause-cause
-returns-in_err-push-clause-cause g c =
-    let later0 = c.loop.invariant.later in
-    let later1 = c.in_ok-row.ensures.cause.later in
-    let later2 = c.in_ok-value.ensures.cause.later in
-    memory_cause _ _ c.from_residual-in_err-push.result (omega (arith, later0, later1, later2)) c.from_residual-in_err-push.ensures.1
+pub returns-clause-cause : goal.returns-clause-cause
+returns-clause-cause g c = cause_after _ _ _ c.read_all_from.result c.in_ok-first.ensures.cause.later c.read_all_from.ensures.cause

@@ -1,70 +1,48 @@
-use Rattle.std.proofs.Common.{arith, ap, sym, ◌∙◌, subst}
-use Rattle.std.proofs.lemmas.Result.{err_from_is_err_and}
+use Rattle.std.proofs.Common.{◌+◌, length, sym, subst, arith}
+use Rattle.plain_graph.specs.Properties.{blocks_if}
 use Rattle.rec_bytes.specs.Space.{State}
-use Rattle.store_rules.specs.Properties.{first_property}
-use Rattle.store_rules.specs.Properties.{property_records}
-use Rattle.store_rules.proofs.PropertyLists.{properties_read}
-use Rattle.store_rules.specs.Views.{Records}
-use Rattle.prop_store.specs.Fault.{BlamesBroken}
-use Rattle.prop_store.specs.Finding.{IsMet, IsReadAt, IsSought, value_of}
-use Rattle.prop_store.specs.PropertyRow.{IsReadRow}
-use Rattle.prop_store.proofs.Ahead.{value_found}
-use Rattle.prop_store.proofs.Breaches.{text_blames, text_fault_same}
-use Rattle.prop_store.proofs.Exits.{same_has}
-use Rattle.prop_store.proofs.ReadCounts.{reads_records, reads_same, reads_then}
-use Rattle.prop_store.proofs.WalkSteps.{blocks_given, has_value}
-use Rattle.prop_store.proofs.Causes.{cause_passed}
+use Rattle.store_rules.specs.Properties.{AreProperties, property_records}
+use Rattle.prop_store.specs.Owner.{first_of}
+use Rattle.prop_store.proofs.Causes.{cause_after, space_cause_passed}
+use Rattle.prop_store.proofs.ReadCounts.{costs_after, reads_after, reads_one}
 use Rattle.prop_store.proofs.reading.read_key.Goals as goal
 
-pub returns-in_err-value-in-Found-clause-sound : goal.returns-in_err-value-in-Found-clause-sound
-returns-in_err-value-in-Found-clause-sound g c tells es has =
-    let old = g.R.Reads.state c.args.space.now in
-    let now = g.R.Reads.state c.find.new.space in
-    let p = err_from_is_err_and c.from_residual-in_err-value-in-Found.result c.from_residual-in_err-value-in-Found.ensures.1 in
-    let f = subst (IsSought old.records c.args.owner es c.args.key) c.in-Found.is (c.in_ok-find.ensures.found tells es has.are) in
-    let same = reads_records 33 old now c.in_ok-find.ensures.at_most in
-    let value = has_value old.records now.records f.property (first_property f.after) c.in-Found.spot.row.rec same f.is f.rec_is in
-    rw (p.1, p.2) (c.in_err-value-in-Found.ensures.sound tells f.property.value f.property.blocks value (blocks_given old.records now.records c.args.owner es f.before f.property f.after same has f.all f.is.blocks))
+pub returns-in_err-first-clause-at_most : goal.returns-in_err-first-clause-at_most
+returns-in_err-first-clause-at_most g c = reads_one 55 _ _ (omega arith) c.in_err-first.ensures.state
 
-pub returns-in_err-value-in-Found-clause-at_most : goal.returns-in_err-value-in-Found-clause-at_most
-returns-in_err-value-in-Found-clause-at_most g c = reads_then 33 22 55 _ _ _ (omega arith) c.in_ok-find.ensures.at_most c.in_err-value-in-Found.ensures.at_most
+pub returns-in_err-first-clause-cause : goal.returns-in_err-first-clause-cause
+returns-in_err-first-clause-cause g c =
+    space_cause_passed _ _ _ c.from_residual.result c.in_err-first.field-0.0 (omega arith) c.in_err-first.ensures.cause c.from_residual.ensures.1
 
-pub returns-in_ok-value-in-Found-clause-met : goal.returns-in_ok-value-in-Found-clause-met
-returns-in_ok-value-in-Found-clause-met g c tells =
-    let old = g.R.Reads.state c.args.space.now in
-    value_found old.records (g.R.Reads.state c.find.new.space).records c.args.owner c.args.key c.in-Found.spot c.in_ok-value-in-Found.value (reads_records 33 old _ c.in_ok-find.ensures.at_most)
-    (subst (IsMet old.records c.args.owner c.args.key) c.in-Found.is (c.in_ok-find.ensures.met tells)) (c.in_ok-value-in-Found.ensures.met tells)
+pub read_key_from-requires-clause-first : goal.read_key_from-requires-clause-first
+read_key_from-requires-clause-first g c = λ tells. rw c.in_ok-first.ensures.state (c.in_ok-first.ensures.got tells)
 
-pub returns-in_ok-value-in-Found-clause-read : goal.returns-in_ok-value-in-Found-clause-read
-returns-in_ok-value-in-Found-clause-read g c tells es are =
-    returns-in_ok-value-in-Found-clause-met g c tells ∙ ap (λ z. value_of z c.args.key) (properties_read (property_records (g.R.Reads.state c.args.space.now).records) _ es are)
+pub returns-clause-read : goal.returns-clause-read
+returns-clause-read g c = rw c.in_ok-first.ensures.state at c.read_key_from.ensures.read
 
-pub returns-in_ok-value-in-Found-clause-cost : goal.returns-in_ok-value-in-Found-clause-cost
-returns-in_ok-value-in-Found-clause-cost g c tells es are = reads_then _ _ _ _ _ _ (omega arith) (c.in_ok-find.ensures.cost tells es are) c.in_ok-value-in-Found.ensures.reads
+pub returns-clause-met : goal.returns-clause-met
+returns-clause-met g c = rw c.in_ok-first.ensures.state at c.read_key_from.ensures.met
 
-pub returns-in_ok-value-in-Found-clause-reads : goal.returns-in_ok-value-in-Found-clause-reads
-returns-in_ok-value-in-Found-clause-reads g c = reads_then 33 _ _ _ _ _ (omega arith) c.in_ok-find.ensures.at_most c.in_ok-value-in-Found.ensures.reads
+pub returns-clause-sound : goal.returns-clause-sound
+returns-clause-sound g c = rw c.in_ok-first.ensures.state at c.read_key_from.ensures.sound
 
-pub returns-in_ok-value-in-Found-clause-at_most : goal.returns-in_ok-value-in-Found-clause-at_most
-returns-in_ok-value-in-Found-clause-at_most g c = reads_then 33 22 55 _ _ _ (omega arith) c.in_ok-find.ensures.at_most c.in_ok-value-in-Found.ensures.at_most
+pub returns-clause-damaged : goal.returns-clause-damaged
+returns-clause-damaged g c = rw c.in_ok-first.ensures.state at c.read_key_from.ensures.damaged
 
--- ---- which record is blamed
+pub returns-clause-cost : goal.returns-clause-cost
+returns-clause-cost g c = λ tells es are.
+    costs_after (λ value. length es + blocks_if value) (λ value. 1 + length es + blocks_if value) _ _ _ c.read_key_from.result (λ value. omega arith) c.in_ok-first.ensures.state
+    (c.read_key_from.ensures.cost tells es (subst (λ (s : State). AreProperties (property_records s.records) (first_of s.records c.args.owner) es) (sym c.in_ok-first.ensures.state) are))
 
-pub returns-in_err-find-clause-damaged : goal.returns-in_err-find-clause-damaged
-returns-in_err-find-clause-damaged g c tells used =
-    let old = g.R.Reads.state c.args.space.now in
-    same_has (BlamesBroken old.records old.shape) c.from_residual.result c.in_err-find.field-0.0 c.from_residual.ensures.1 (c.in_err-find.ensures.damaged tells used)
+pub returns-clause-reads : goal.returns-clause-reads
+returns-clause-reads g c =
+    costs_after (λ value. 32 + blocks_if value) (λ value. 33 + blocks_if value) _ _ _ c.read_key_from.result (λ value. omega arith) c.in_ok-first.ensures.state c.read_key_from.ensures.reads
 
-pub returns-in_err-value-in-Found-clause-damaged : goal.returns-in_err-value-in-Found-clause-damaged
-returns-in_err-value-in-Found-clause-damaged g c tells used =
-    let old = g.R.Reads.state c.args.space.now in
-    let now = g.R.Reads.state c.find.new.space in
-    let reads = c.in_ok-find.ensures.at_most in
-    let read = subst (λ (r : Records). IsReadRow r c.in-Found.spot.row) (sym (reads_records 33 old now reads)) (subst (IsReadAt old.records) c.in-Found.is (c.in_ok-find.ensures.read tells)) in
-    same_has (BlamesBroken old.records old.shape) c.from_residual-in_err-value-in-Found.result c.in_err-value-in-Found.field-0.0 c.from_residual-in_err-value-in-Found.ensures.1
-    (text_blames old c.in-Found.spot.row.id c.in_err-value-in-Found.field-0.0
-    (text_fault_same old now (reads_records 33 old now reads) (ap (λ (z : State). z.shape) (reads_same 33 old now reads)) c.in-Found.spot.row.id c.in_err-value-in-Found.field-0.0 (c.in_err-value-in-Found.ensures.damaged tells read)))
+pub returns-clause-at_most : goal.returns-clause-at_most
+returns-clause-at_most g c = reads_after 54 55 _ _ _ (omega arith) c.in_ok-first.ensures.state c.read_key_from.ensures.at_most
 
-pub returns-in_err-value-in-Found-clause-cause : goal.returns-in_err-value-in-Found-clause-cause
-returns-in_err-value-in-Found-clause-cause g c =
-    cause_passed _ _ _ c.from_residual-in_err-value-in-Found.result c.in_err-value-in-Found.field-0.0 c.in_ok-find.ensures.cause.later c.in_err-value-in-Found.ensures.cause c.from_residual-in_err-value-in-Found.ensures.1
+pub returns-clause-onward : goal.returns-clause-onward
+returns-clause-onward g c = g.met.R.Reads.further_onward _ _ _ c.in_ok-first.ensures.onward c.read_key_from.ensures.onward
+
+pub returns-clause-cause : goal.returns-clause-cause
+returns-clause-cause g c = cause_after _ _ _ c.read_key_from.result c.in_ok-first.ensures.cause.later c.read_key_from.ensures.cause

@@ -1,10 +1,11 @@
-use Rattle.std.proofs.Common.{◌≡◌, List, true, take, get_or, refl, subst}
+use Rattle.std.proofs.Common.{◌≡◌, List, [], true, cond, drop, take, get_or, refl, ap, ◌∙◌, subst}
 use Rattle.std.proofs.lemmas.Result.{err_from_is_err_and}
 use Rattle.plain_graph.specs.declared.item.Item.{Item}
 use Rattle.store_rules.specs.Graph.{graph_of}
-use Rattle.traversal_run.specs.Held.{IsNear}
+use Rattle.traversal_run.specs.Held.{IsNear, is_plain}
 use Rattle.traversal_run.specs.Row.{PassesAt, Stream, through}
 use Rattle.traversal_run.proofs.HeldRows.{near-advanced, plain_at}
+use Rattle.traversal_run.proofs.HeldSteps.{plain_uncounted}
 use Rattle.traversal_run.proofs.Limits.{allowed-row}
 use Rattle.traversal_run.proofs.Rows.{advanced, passes_through}
 use Rattle.traversal_run.proofs.Scans.{limit_advanced}
@@ -38,8 +39,9 @@ returns-clause-near g c = λ tells store d most degrees near.
     let any = c.index-rows-at.result in
     let out = c.in_ok-outs.ensures in
     let row = get_or rows c.args.at any in
-    near-advanced d most rows c.put.new.rows c.args.at row c.advance.new.self any c.in_ok-outs.outs c.put.new.ready c.requires.within refl out.hops out.plain out.rest out.idle
-    (out.few tells store d degrees (plain_at rows c.args.at any c.requires.within near.plain)) c.requires.idle c.put.ensures.passed c.put.ensures.given c.put.ensures.rows
+    let plain : is_plain row.stage ≡ true = plain_at rows c.args.at any c.requires.within near.plain in
+    near-advanced d most rows c.put.new.rows c.args.at row c.advance.new.self any c.in_ok-outs.outs c.put.new.ready c.requires.within refl out.hops out.plain (out.rest ∙ ap (λ b. cond b [] (drop 1 row.waiting)) (plain_uncounted row.stage plain)) out.idle
+    (out.few tells store d degrees plain) c.requires.idle c.put.ensures.passed c.put.ensures.given c.put.ensures.rows
     (subst (λ (ready : List Item). IsNear d most rows ready) c.requires.none near)
 
 pub returns-clause-limit : goal.returns-clause-limit

@@ -1,4 +1,4 @@
-use Rattle.std.proofs.Common.{◌≡◌, ◌≤◌, ◌+◌, List}
+use Rattle.std.proofs.Common.{◌≡◌, ◌≤◌, List}
 use Rattle.store_rules.specs.Chains.{In}
 use Rattle.store_rules.specs.Properties.{AreProperties, Property, keys_of, property_records}
 use Rattle.prop_store.specs.Link.{IsLink, IsLinkOf, link_after, link_of}
@@ -8,7 +8,7 @@ use Rattle.prop_store.specs.Reading.{ReadsAtMost, properties_met}
 use Rattle.prop_store.proofs.Ahead.{ahead}
 use Rattle.prop_store.proofs.Breaches.{Reached}
 use Rattle.prop_store.proofs.WalkSteps.{Walked}
-use Rattle.prop_store.proofs.finding.find.Given as goal
+use Rattle.prop_store.proofs.finding.find_from.Given as goal
 
 -- the key is none of those passed
 abbrev pub invariant-loop-count : goal.invariant-loop-count
@@ -21,7 +21,7 @@ invariant-loop-count g l =
       reached : g.R.Reads.tells → Reached old.records l.fn.owner l.link.key l.at l.count;
       link : IsLink l.link;
       from : IsLinkOf l.fn.owner l.link;
-      reads : ReadsAtMost (1 + l.count) old (g.R.Reads.state l.space);
+      reads : ReadsAtMost l.count old (g.R.Reads.state l.space);
       onward : g.R.Reads.onward l.fn.space l.space;
       later : g.R.Reads.faults l.fn.space ≤ g.R.Reads.faults l.space;
     }

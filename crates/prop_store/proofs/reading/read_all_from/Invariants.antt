@@ -8,7 +8,7 @@ use Rattle.prop_store.specs.declared.prop.Prop.{Prop}
 use Rattle.prop_store.proofs.Ahead.{ahead}
 use Rattle.prop_store.proofs.Breaches.{Reached}
 use Rattle.prop_store.proofs.WalkSteps.{Walked}
-use Rattle.prop_store.proofs.reading.read_all.Given as goal
+use Rattle.prop_store.proofs.reading.read_all_from.Given as goal
 
 -- those passed are answered
 abbrev pub invariant-loop : goal.invariant-loop
@@ -22,7 +22,7 @@ invariant-loop g l =
       count : length l.props.items ≡ l.counter;
       few : block_total l.props.items ≤ 22 * l.counter;
       kept : All (λ (p : Prop). IsKept p.value) l.props.items;
-      reads : ReadsAtMost (1 + length l.props.items + block_total l.props.items) old (g.R.Reads.state l.space);
+      reads : ReadsAtMost (length l.props.items + block_total l.props.items) old (g.R.Reads.state l.space);
       onward : g.R.Reads.onward l.fn.space l.space;
       later : g.R.Reads.faults l.fn.space ≤ g.R.Reads.faults l.space;
     }

@@ -1,0 +1,42 @@
+use Rattle.std.proofs.Common.{◌≡◌, [], List, ℕ, nat_eq, length, ap, sym, ◌∙◌, subst, arith}
+use Rattle.plain_graph.specs.Meaning.{edges_at}
+use Rattle.store_rules.specs.Graph.{graph_of}
+use Rattle.traversal_run.specs.Hopping.{AreTypeNumbers}
+use Rattle.traversal_run.specs.Naming.{FindsNames}
+use Rattle.traversal_run.proofs.HopEdges.{are_none, edges_at-untyped, no_length, some_length}
+use Rattle.traversal_run.proofs.Causes.{memory_cause}
+use Rattle.traversal_run.proofs.hopping.rows_of_types.Goals as goal
+use Rattle.traversal_run.proofs.hopping.rows_of_types.Goals.{else-is_empty-via-else-is_empty, else-is_empty-via-then-is_empty+else-not-is_empty}
+
+pub returns-in_err-numbers-clause-cause : goal.returns-in_err-numbers-clause-cause
+returns-in_err-numbers-clause-cause g c = memory_cause _ _ c.from_residual.result (omega arith) c.from_residual.ensures.1
+
+pub returns-then-not-is_empty-clause-found : goal.returns-then-not-is_empty-clause-found
+returns-then-not-is_empty-clause-found g c = λ tells store.
+    let s = g.R.Reads.state c.args.space.now in
+    let hop = c.args.hop.now in
+    let numbers = c.in_ok-numbers.numbers in
+    let none = no_length numbers.items (ap (λ n. nat_eq n 0) (sym numbers.ok.0) ∙ sym c.is_empty.ensures ∙ c.if-is_empty.true) in
+    let some = some_length hop.labels (ap (λ (texts : List (List ℕ)). nat_eq (length texts) 0) c.requires ∙ sym c.is_empty-then-is_empty.ensures ∙ c.if-not-is_empty.true) in
+    let finds : FindsNames s.records [] hop.labels = subst (λ (texts : List (List ℕ)). FindsNames s.records [] texts) (sym c.requires)
+    (subst (λ (list : List ℕ). FindsNames s.records list c.args.labels.now) none (c.in_ok-numbers.ensures.finds store)) in
+    are_none s.records c.new.result.items (edges_at (graph_of s.records) hop.direction hop.labels c.args.id) c.new.ensures.items
+    (edges_at-untyped s.records s.shape store.store hop.labels c.args.id hop.direction finds some)
+
+pub returns-clause-found : goal.returns-clause-found
+returns-clause-found g c = λ tells store.
+    let s = g.R.Reads.state c.args.space.now in
+    let hop = c.args.hop.now in
+    let numbers = c.in_ok-numbers.numbers in
+    let none : numbers.items ≡ [] → hop.labels ≡ [] = elim c.else-is_empty.branch [
+      | else-is_empty-via-then-is_empty+else-not-is_empty w ↦
+          λ empty. no_length hop.labels (ap (λ (texts : List (List ℕ)). nat_eq (length texts) 0) c.requires ∙ sym w.is_empty-then-is_empty.ensures ∙ w.if-not-is_empty.false)
+      | else-is_empty-via-else-is_empty w ↦
+          λ empty. absurd (some_length numbers.items (ap (λ n. nat_eq n 0) (sym numbers.ok.0) ∙ sym c.is_empty.ensures ∙ w.if-is_empty.false) empty)
+    ] in
+    let types : AreTypeNumbers s.records numbers.items hop.labels = record {
+      finds = subst (λ (texts : List (List ℕ)). FindsNames s.records numbers.items texts) (sym c.requires) (c.in_ok-numbers.ensures.finds store);
+      below = c.in_ok-numbers.ensures.below;
+      none = none;
+    } in
+    c.rows_by.ensures.found tells store.store (subst (λ (list : List ℕ). AreTypeNumbers s.records list hop.labels) (sym c.deref.ensures.value) types)
