@@ -1,7 +1,7 @@
 //! What a commit does first: the old records of all that it changes are kept for the youngest
 //! snapshot.
 
-ghost use Rattle.std.specs.Prelude.{◌≡◌, ◌≤◌, ◌+◌, OnOk, is_some, length, true, ℕ};
+ghost use Rattle.std.specs.Prelude.{◌≡◌, ◌≤◌, ◌+◌, IsOk, OnOk, is_some, length, true, ℕ};
 ghost use Rattle.fault_count.specs.Cause.{HasCause};
 ghost use Rattle.rec_bytes.specs.declared.key.Key.{Key as AKey};
 ghost use Rattle.rec_bytes.specs.Key.{IsKey};
@@ -79,6 +79,7 @@ fn keep_all<P: Pending>(snaps: &mut Snaps, space: &mut P) -> Result<(), DiskFaul
         → AreCovered sums snaps.old.open_ones → AreCovered (risen weight sums) snaps.new.open_ones }
     ensures readers { SameReaders snaps.old snaps.new }
     ensures space { OnlyOlds P.Pending space.old space.new }
+    ensures idle { length (P.pending space.old) ≡ 0 → IsOk result × (space.new ≡ space.old) }
     ensures cause { HasCause (P.faults space.old) (P.faults space.new) result }
 {
     for i in 0..space.pending_len() {
@@ -113,6 +114,9 @@ pub fn keep_old<P: Pending>(snaps: &mut Snaps, space: &mut P) -> Result<(), Disk
     ensures covered { (sums : ℕ → ℕ) (weight : ℕ) → length (P.pending space.old) ≤ weight
         → AreCovered sums snaps.old.open_ones → AreCovered (risen weight sums) snaps.new.open_ones }
     ensures space { OnlyOlds P.Pending space.old space.new }
+
+    // Where nothing is to be written, no record is read.
+    ensures idle { length (P.pending space.old) ≡ 0 → IsOk result × (space.new ≡ space.old) }
     ensures cause { HasCause (P.faults space.old) (P.faults space.new) result }
 {
     snaps.make_room(count_lacked(snaps, space));
