@@ -1,3 +1,4 @@
+pub mod Causes
 pub mod CreationPairs
 pub mod Footprints
 pub mod Format
