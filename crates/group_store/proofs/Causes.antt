@@ -1,9 +1,8 @@
 -- A fault that is passed on has its cause.
 use Rattle.std.specs.Prelude.{Result, Err}
 use Rattle.std.specs.Result.{IsErrAnd}
-use Rattle.std.proofs.Common.{◌≡◌, ◌≤◌, ℕ, ap, sym, subst, refl, arith}
+use Rattle.std.proofs.Common.{◌≡◌, ◌≤◌, ℕ, sym, subst, refl, arith}
 use Rattle.std.proofs.lemmas.Result.{err_from_is_err_and}
-use Rattle.rec_bytes.specs.Cause.{HasDiskCause}
 use Rattle.rec_bytes.specs.Fault.{HasFaultCause, of_row, of_space}
 use Rattle.rec_bytes.specs.RowFault.{HasRowCause}
 use Rattle.rec_bytes.specs.Space.{HasCause}
@@ -14,23 +13,11 @@ use Rattle.rec_bytes.specs.declared.row_fault.RowFault.{RowFault}
 use Rattle.rec_bytes.specs.declared.row_fault.RowFault.TheVariants as rows
 use Rattle.rec_bytes.specs.declared.space.SpaceFault.{SpaceFault}
 use Rattle.rec_bytes.specs.declared.space.SpaceFault.TheVariants as spaces
+use Rattle.rec_bytes.proofs.Causes.{passed}
 
 -- one call after another
 pub later_on : {before mid now : ℕ} → before ≤ mid → mid ≤ now → before ≤ now
 later_on one other = omega (arith, one, other)
-
--- of a call that came after others, where no fault was blamed before
-passed : {T U E F : Type 0} (into : E → F) (one : E) (other : F) (before mid now : ℕ) (r : Result T F) (fault : E) → (into fault ≡ other → fault ≡ one) → before ≤ mid → HasDiskCause {T = U} one mid now (Err fault) → IsErrAnd r (λ f. f ≡ into fault) → HasDiskCause other before now r
-passed {T} {U} {E} {F} into one other before mid now r fault blames early cause is =
-    let p = err_from_is_err_and r is in
-    let here : HasDiskCause {T = T} other before now (Err (into fault)) = record {
-      later = let later = cause.later in omega (arith, early, later);
-      disk = λ blamed.
-          let same : into fault ≡ other = cc in
-          let rose = cause.disk (ap Err (blames same)) in
-          omega (arith, early, rose);
-    } in
-    subst (HasDiskCause other before now) (sym p.1) (subst (λ f. HasDiskCause {T = T} other before now (Err f)) (sym p.2) here)
 
 pub cause_passed : {T U : Type 0} (before mid now : ℕ) (r : Result T Fault) (fault : Fault) → before ≤ mid → HasFaultCause {T = U} mid now (Err fault) → IsErrAnd r (λ f. f ≡ fault) → HasFaultCause before now r
 cause_passed before mid now r fault early cause is = passed (λ f. f) faults.Disk faults.Disk before mid now r fault (λ e. e) early cause is

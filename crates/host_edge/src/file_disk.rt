@@ -4,9 +4,10 @@ ghost use Rattle.host_edge.specs.Counting.{CountsFailure};
 ghost use Rattle.disk_model.specs.Contents.{IsFile};
 
 use crate::counting::counted;
-use crate::named_file::NamedFile;
+use crate::named_file::{NamedFile, sync_folder};
 use disk_model::Disk;
 use fault_count::{Count, Failed};
+use std::io;
 use std::marker::Model;
 
 /// The names of the files, each at its number.
@@ -16,13 +17,15 @@ const FILES: [&str; 9] = [
 ];
 
 /// The files `graph.0` to `graph.8` of the current folder. A file is opened at the first call on
-/// it, and made where it is missing; one that can't be opened or made is a fault of that call. A
-/// read or write that the system cuts short or a signal interrupts goes on. Contracts see the count
-/// of faults, and nothing of what the files hold.
+/// it, or at the first sync of any file, and made where it is missing. One that can't be opened or
+/// made is a fault of that call. A read or write that the system cuts short or a signal interrupts
+/// goes on. Contracts see the count of faults, and nothing of what the files hold.
 #[derive(Drop)]
 pub struct FileDisk {
     rt: HostRuntime,
     files: [NamedFile; 9],
+    // All files were open then, so the folder keeps an entry of each.
+    has_synced_folder: bool,
     faults: Count,
 }
 
@@ -42,9 +45,34 @@ impl FileDisk {
         FileDisk {
             rt,
             files: FILES.map(NamedFile::new),
+            has_synced_folder: false,
             faults: Count::new(),
         }
     }
+
+    // Makes a file's bytes durable, and its entry in the folder.
+    fn sync_file(&mut self, file: u8) -> io::Result<()>
+        requires { IsFile file }
+        ensures { self.new ≡ self.old }
+    {
+        let rt = self.rt;
+        self.files[file as usize].sync(&rt)?;
+        if !self.has_synced_folder {
+            sync_entries(&rt, &mut self.files)?;
+            self.has_synced_folder = true;
+        }
+        Ok(())
+    }
+}
+
+// Makes the entries of all files in the folder durable by one sync of it. Each file is there before
+// that sync, and none is made after it. Files that were there count too, since the run that made
+// them may have ended before it synced the folder.
+fn sync_entries(rt: &HostRuntime, files: &mut [NamedFile; 9]) -> io::Result<()> {
+    for file in files.iter_mut() {
+        file.open(rt)?;
+    }
+    sync_folder(rt)
 }
 
 impl Disk for FileDisk {
@@ -84,13 +112,15 @@ impl Disk for FileDisk {
         counted(&mut self.faults, answer)
     }
 
+    /// After a sync of a file that succeeds, a loss of power takes neither its bytes, its length nor
+    /// its entry in the folder. The first sync of a run makes the entries of all files durable; if
+    /// that fails, it is a fault of the call, and the next sync tries again.
     fn sync(&mut self, file: u8) -> Result<(), Failed>
         requires file { IsFile file }
         ensures count { CountsFailure self.old self.new result }
         ensures cause { HasCause self.old self.new result }
     {
-        let rt = self.rt;
-        let answer = self.files[file as usize].sync(&rt);
+        let answer = self.sync_file(file);
         counted(&mut self.faults, answer)
     }
 

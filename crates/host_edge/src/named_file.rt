@@ -13,17 +13,12 @@ const LAST_STREAM: RawFd = 2;
 pub(crate) struct NamedFile {
     name: &'static str,
     file: Option<File>,
-    has_synced_folder: bool,
 }
 
 impl NamedFile {
     /// Reaches no file yet.
     pub(crate) fn new(name: &'static str) -> NamedFile {
-        NamedFile {
-            name,
-            file: None,
-            has_synced_folder: false,
-        }
+        NamedFile { name, file: None }
     }
 
     /// Fills `out` with the bytes from `at` on, zeros past the end.
@@ -53,17 +48,15 @@ impl NamedFile {
         self.opened(rt)?.write_all_at(bytes, at)
     }
 
-    /// Makes the file's bytes and its length durable, and its entry in the folder too, where the
-    /// system syncs folders at all. The entry is synced once in each run, also where the file was
-    /// there: the run that made it may have ended before it synced. A sync of the folder that fails
-    /// is tried again.
+    /// Makes the file's bytes and its length durable, and not its entry in the folder.
     pub(crate) fn sync(&mut self, rt: &HostRuntime) -> io::Result<()> {
         // A sync of the data includes a length that grew.
-        self.opened(rt)?.sync_data()?;
-        if !self.has_synced_folder {
-            sync_folder(rt)?;
-            self.has_synced_folder = true;
-        }
+        self.opened(rt)?.sync_data()
+    }
+
+    /// Opens the file, if no call on it has done so, and makes it where it is missing.
+    pub(crate) fn open(&mut self, rt: &HostRuntime) -> io::Result<()> {
+        self.opened(rt)?;
         Ok(())
     }
 
@@ -94,8 +87,8 @@ fn above_streams(file: File) -> io::Result<File> {
     file.try_clone()
 }
 
-/// Syncs the current folder. Some file systems sync no folder, and say so.
-fn sync_folder(rt: &HostRuntime) -> io::Result<()> {
+/// Makes the entries of the current folder durable. Some file systems sync no folder, and say so.
+pub(crate) fn sync_folder(rt: &HostRuntime) -> io::Result<()> {
     match File::open(rt, ".")?.sync_all() {
         Err(error) if error.kind() == ErrorKind::InvalidInput => Ok(()),
         answer => answer,

@@ -5,10 +5,10 @@ use Rattle.std.proofs.Common.{◌≡◌, ◌≤◌, ℕ, refl}
 use Rattle.rec_bytes.specs.Space.{HasCause}
 use Rattle.rec_bytes.specs.declared.space.SpaceFault.{SpaceFault}
 use Rattle.rec_bytes.specs.declared.space.SpaceFault.TheVariants as spaces
+use Rattle.rec_bytes.proofs.Causes.{passed}
 use Rattle.prop_store.specs.SetFault.{HasSetCause, of_space}
 use Rattle.prop_store.specs.declared.set_fault.SetFault.{SetFault}
 use Rattle.prop_store.specs.declared.set_fault.SetFault.TheVariants as sets
-use Rattle.prop_store.proofs.Causes.{passed}
 
 pub set_cause_passed : {T U : Type 0} (before mid now : ℕ) (r : Result T SetFault) (fault : SetFault) → before ≤ mid → HasSetCause {T = U} mid now (Err fault) → IsErrAnd r (λ f. f ≡ fault) → HasSetCause before now r
 set_cause_passed before mid now r fault early cause is = passed (λ f. f) sets.Disk sets.Disk before mid now r fault (λ e. e) early cause is

@@ -1,7 +1,9 @@
+pub mod Causes
 pub mod CreationPairs
 pub mod Footprints
 pub mod Format
 pub mod HintLaws
+pub mod HoleLaws
 pub mod KeyLaws
 pub mod MetaBytes
 pub mod Metas

@@ -136,7 +136,7 @@ gap_for (pair ∷ rest) key (suc i) d le small great = (
 )
 
 -- the keys rise from place to place
-rises : (ps : Pairs) (i j : ℕ) (d : Key × Rec) → IsOrdered ps → i < j → j < length ps → key_cmp (get_or ps i d).0 (get_or ps j d).0 ≡ Less
+pub rises : (ps : Pairs) (i j : ℕ) (d : Key × Rec) → IsOrdered ps → i < j → j < length ps → key_cmp (get_or ps i d).0 (get_or ps j d).0 ≡ Less
 rises [] i j d h lt within = absurd (omega arith)
 rises (pair ∷ rest) i zero d h lt within = absurd (omega arith)
 rises (pair ∷ rest) zero (suc j) d h lt within = below_at pair.0 rest j d h.0 (omega arith)
@@ -149,11 +149,12 @@ pub record IsSearching (ps : Pairs) (key : Key) (d : Key × Rec) (low high : ℕ
   pub below : (k : ℕ) → k < low → key_cmp (get_or ps k d).0 key ≡ Less
   pub above : (k : ℕ) → high ≤ k → k < length ps → key_cmp (get_or ps k d).0 key ≡ Greater
 
-pub search_start : (ps : Pairs) (key : Key) (d : Key × Rec) (n : ℕ) → n ≡ length ps → IsSearching ps key d 0 n
-search_start ps key d n all = record {
-  meets = omega arith;
+pub search_from : (ps : Pairs) (key : Key) (d : Key × Rec) (low high : ℕ) → low ≤ high → high ≡ length ps → ((k : ℕ) → k < low → key_cmp (get_or ps k d).0 key ≡ Less)
+    → IsSearching ps key d low high
+search_from ps key d low high meets all below = record {
+  meets = meets;
   within = omega arith;
-  below = λ k lt. absurd (omega arith);
+  below = below;
   above = λ k ge lt. absurd (omega arith);
 }
 

@@ -9,6 +9,7 @@ pub mod Lending
 pub mod MapSpace
 pub mod Meta
 pub mod MetaForm
+pub mod OrderHole
 pub mod PairLending
 pub mod PairOrder
 pub mod Pairs

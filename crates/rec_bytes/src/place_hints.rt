@@ -13,11 +13,13 @@ ghost use Rattle.std.specs.Prelude.{
   set,
   slice_index_or,
 };
+ghost use Rattle.rec_bytes.specs.OrderHole.{around, in_order_around, AreBelow, IsOpen};
 ghost use Rattle.rec_bytes.specs.PairOrder.{in_order, no_pair, IsInOrder};
 ghost use Rattle.rec_bytes.specs.Pairs.{find_pair, most_pairs, IsGapFor, IsPlaceOf};
 ghost use Rattle.rec_bytes.specs.PlaceHints.{slot_of, AreMarked, IsHinted, IsPairOf};
 
 use crate::key::Key;
+use crate::order_hole::Hole;
 use crate::record::Rec;
 use std::cmp::Ordering;
 
@@ -49,7 +51,7 @@ pub(crate) fn place_of(
     if is_at(pairs, place, key) {
         return Some(place);
     }
-    match search(pairs, order, key) {
+    match search(pairs, order, Hole { start: 0, size: 0 }, key) {
         Ok(i) => Some(order[i] as usize),
         Err(_) => None,
     }
@@ -61,7 +63,7 @@ pub(crate) fn gap_of(pairs: &Vec<(Key, Rec)>, order: &Vec<u16>, key: Key) -> usi
     requires absent { find_pair (in_order pairs.now.items order.now.items) key ≡ None }
     ensures { IsGapFor (in_order pairs.now.items order.now.items) key result }
 {
-    match search(pairs, order, key) {
+    match search(pairs, order, Hole { start: 0, size: 0 }, key) {
         Ok(_) => unreachable!(),
         Err(i) => i,
     }
@@ -135,17 +137,61 @@ fn is_at(pairs: &Vec<(Key, Rec)>, place: usize, key: Key) -> bool
     place < pairs.len() && pairs[place].0 == key
 }
 
-// Where in the order the key is, or where it would go.
-fn search(pairs: &Vec<(Key, Rec)>, order: &Vec<u16>, key: Key) -> Result<usize, usize>
-    requires { IsInOrder pairs.now.items order.now.items }
-    ensures found { IfOk result (IsPlaceOf (in_order pairs.now.items order.now.items) key) }
-    ensures absent { IfErr result (IsGapFor (in_order pairs.now.items order.now.items) key) }
+// The place of the pair with a key that isn't before the hole, or where around the hole it would go.
+pub(crate) fn look_behind(
+    pairs: &Vec<(Key, Rec)>,
+    order: &Vec<u16>,
+    hints: &Vec<u16>,
+    hole: Hole,
+    key: Key,
+) -> Result<usize, usize>
+    requires state { IsOpen pairs.now.items order.now.items hints.now.items hole }
+    requires below { AreBelow (in_order_around pairs.now.items order.now.items hole)
+        hole.start key }
+    ensures found { IfOk result (IsPairOf pairs.now.items (around order.now.items hole) key) }
+    ensures absent { IfErr result
+        (IsGapFor (in_order_around pairs.now.items order.now.items hole) key) }
+    ensures behind { IfErr result (λ i. hole.start ≤ i) }
 {
-    let mut low = 0;
-    let mut high = order.len();
+    if let Some(place) = hinted_place(pairs, hints, key) {
+        return Ok(place);
+    }
+    match search(pairs, order, hole, key) {
+        Ok(i) => Ok(order[i + hole.size] as usize),
+        Err(i) => Err(i),
+    }
+}
+
+// The place that the slot of a key names, if the pair there has the key.
+fn hinted_place(pairs: &Vec<(Key, Rec)>, hints: &Vec<u16>, key: Key) -> Option<usize>
+    ensures within { IfSome result (λ place. place < length pairs.now.items) }
+    ensures key { IfSome result (λ place. (slice_index_or pairs.now.items place no_pair).0 ≡ key) }
+{
+    let hint = hint_of(hints, key) as usize;
+    if hint > 0 && is_at(pairs, hint - 1, key) {
+        Some(hint - 1)
+    } else {
+        None
+    }
+}
+
+// Where around the hole the key is, or where it would go. It isn't before the hole.
+fn search(pairs: &Vec<(Key, Rec)>, order: &Vec<u16>, hole: Hole, key: Key) -> Result<usize, usize>
+    requires ordered { IsInOrder pairs.now.items (around order.now.items hole) }
+    requires within { hole.start + hole.size ≤ length order.now.items }
+    requires below { AreBelow (in_order_around pairs.now.items order.now.items hole)
+        hole.start key }
+    ensures found { IfOk result
+        (IsPlaceOf (in_order_around pairs.now.items order.now.items hole) key) }
+    ensures absent { IfErr result
+        (IsGapFor (in_order_around pairs.now.items order.now.items hole) key) }
+    ensures behind { IfErr result (λ i. hole.start ≤ i) }
+{
+    let mut low = hole.start;
+    let mut high = order.len() - hole.size;
     while low < high {
         let middle = low + (high - low) / 2;
-        let place = order[middle] as usize;
+        let place = order[middle + hole.size] as usize;
         match pairs[place].0.cmp(&key) {
             Ordering::Less => low = middle + 1,
             Ordering::Equal => return Ok(middle),

@@ -10,6 +10,7 @@ ghost use Rattle.std.specs.Prelude.{
   is_some,
   length,
   slice_index_or,
+  vec_capacity,
   IfOk,
   OnOk,
   OnErr,
@@ -18,8 +19,11 @@ ghost use Rattle.std.specs.Prelude.{
 };
 ghost use Rattle.std.specs.Borrow.{sem};
 ghost use Rattle.std.specs.List.{slice_get, AllByRecursion};
-ghost use Rattle.rec_bytes.specs.Key.{IsKey};
-ghost use Rattle.rec_bytes.specs.PairOrder.{SetsAlike, no_pair};
+ghost use Rattle.std.specs.declared.cmp.Ordering.TheVariants.{Less};
+ghost use Rattle.rec_bytes.specs.Key.{key_cmp, IsKey};
+ghost use Rattle.rec_bytes.specs.OrderHole.{in_order_around, AreBelow, IsOpen};
+ghost use Rattle.rec_bytes.specs.PairOrder.{SetsAlike, in_order, no_pair};
+ghost use Rattle.rec_bytes.specs.PlaceHints.{IsHinted};
 ghost use Rattle.rec_bytes.specs.Pairs.{
   find_pair,
   growth,
@@ -34,13 +38,17 @@ ghost use Rattle.rec_bytes.specs.Pairs.{
 };
 
 use crate::key::Key;
-use crate::place_hints::{are_few, forget, gap_of, place_of, renew, write_hint};
+use crate::order_hole::{Hole, fill_hole, open_hole};
+use crate::place_hints::{are_few, forget, gap_of, look_behind, place_of, renew, write_hint};
 use crate::record::Rec;
 use std::alloc::{AllocError, Global};
 use std::marker::Model;
 
 /// A set has at most so many records, since a place among them has 16 bits.
 const MOST_PAIRS: usize = 65_535;
+
+// So many new keys are merged in one pass. Fewer cost less one by one.
+const MANY_NEW: usize = 8;
 
 /// Written records, at most one for a key and 65,535 in all. Contracts see the pairs by ascending
 /// key, and how many more records need no memory.
@@ -230,9 +238,11 @@ impl WriteSet {
         ensures room { length self.old.pairs + self.old.room
             ≤ length self.new.pairs + self.new.room }
     {
-        for i in 0..other.len() {
-            let (key, rec) = other.at(i);
-            self.put_in_room(key, rec);
+        let fresh = self.growth_by(other);
+        if fresh < MANY_NEW {
+            self.merge_each(other);
+        } else {
+            self.merge_many(other, fresh);
         }
     }
 
@@ -244,6 +254,40 @@ impl WriteSet {
         forget(&mut self.hints, &self.pairs);
         self.pairs.clear();
         self.order.clear();
+    }
+
+    // Puts each record of another set by itself. Each new key moves the places of greater ones.
+    fn merge_each(&mut self, other: &WriteSet)
+        requires { growth_by self.old.pairs other.now.pairs ≤ self.old.room }
+        ensures pairs { self.new.pairs ≡ merged self.old.pairs other.now.pairs }
+        ensures finds { FindsMerged self.old.pairs other.now.pairs self.new.pairs }
+        ensures room { length self.old.pairs + self.old.room
+            ≤ length self.new.pairs + self.new.room }
+    {
+        for i in 0..other.len() {
+            let (key, rec) = other.at(i);
+            self.put_in_room(key, rec);
+        }
+    }
+
+    // Puts the records of another set in one pass, given how many have new keys. Each place moves
+    // twice at most, however many these are.
+    fn merge_many(&mut self, other: &WriteSet, fresh: usize)
+        requires fresh { growth_by self.old.pairs other.now.pairs ≡ fresh }
+        requires some { 0 < fresh }
+        requires room { fresh ≤ self.old.room }
+        ensures pairs { self.new.pairs ≡ merged self.old.pairs other.now.pairs }
+        ensures finds { FindsMerged self.old.pairs other.now.pairs self.new.pairs }
+        ensures room { length self.old.pairs + self.old.room
+            ≤ length self.new.pairs + self.new.room }
+    {
+        merge_pass(
+            &mut self.pairs,
+            &mut self.order,
+            &mut self.hints,
+            other,
+            fresh,
+        );
     }
 
     // Makes more slots, if they are few for so many pairs.
@@ -343,4 +387,74 @@ fn copy_record(pairs: &[(Key, Rec)], place: usize, rec: &mut Rec)
     ensures { rec.new ≡ (slice_index_or pairs.now place no_pair).1 }
 {
     *rec = pairs[place].1;
+}
+
+// Puts the records of a set by ascending key. So the hole goes once through the order, and leaves a
+// place of its own at each new key.
+fn merge_pass(
+    pairs: &mut Vec<(Key, Rec)>,
+    order: &mut Vec<u16>,
+    hints: &mut Vec<u16>,
+    other: &WriteSet,
+    fresh: usize,
+)
+    requires hinted { IsHinted pairs.old.items order.old.items hints.old.items }
+    requires fresh { growth_by (in_order pairs.old.items order.old.items) other.now.pairs ≡ fresh }
+    requires most { length pairs.old.items + fresh ≤ most_pairs }
+    requires pairs_room { length pairs.old.items + fresh ≤ vec_capacity pairs.old }
+    requires order_room { length order.old.items + fresh ≤ vec_capacity order.old }
+    ensures hinted { IsHinted pairs.new.items order.new.items hints.new.items }
+    ensures pairs { in_order pairs.new.items order.new.items
+        ≡ merged (in_order pairs.old.items order.old.items) other.now.pairs }
+    ensures finds { FindsMerged (in_order pairs.old.items order.old.items) other.now.pairs
+        (in_order pairs.new.items order.new.items) }
+    ensures pairs_capacity { vec_capacity pairs.old ≤ vec_capacity pairs.new }
+    ensures order_capacity { vec_capacity order.old ≤ vec_capacity order.new }
+{
+    let mut hole = open_hole(order, fresh);
+    for i in 0..other.len() {
+        let (key, record) = other.at(i);
+        hole = put_behind(pairs, order, hints, hole, key, record);
+    }
+}
+
+// Sets the record at a key that isn't before the hole. A new one is put where the hole goes.
+fn put_behind(
+    pairs: &mut Vec<(Key, Rec)>,
+    order: &mut Vec<u16>,
+    hints: &mut Vec<u16>,
+    hole: Hole,
+    key: Key,
+    rec: Rec,
+) -> Hole
+    requires state { IsOpen pairs.old.items order.old.items hints.old.items hole }
+    requires below { AreBelow (in_order_around pairs.old.items order.old.items hole)
+        hole.start key }
+    requires key { IsKey key }
+    requires size { growth (in_order_around pairs.old.items order.old.items hole) key
+        ≤ hole.size }
+    requires room { length pairs.old.items + hole.size ≤ vec_capacity pairs.old }
+    ensures state { IsOpen pairs.new.items order.new.items hints.new.items result }
+    ensures pairs { in_order_around pairs.new.items order.new.items result
+        ≡ with_pair (in_order_around pairs.old.items order.old.items hole) key rec }
+    ensures below { (next : Key) → key_cmp key next ≡ Less
+        → AreBelow (in_order_around pairs.new.items order.new.items result) result.start next }
+    ensures size { hole.size
+        ≡ result.size + growth (in_order_around pairs.old.items order.old.items hole) key }
+    ensures count { length pairs.new.items + result.size ≡ length pairs.old.items + hole.size }
+    ensures pairs_capacity { vec_capacity pairs.new ≡ vec_capacity pairs.old }
+    ensures order_capacity { vec_capacity order.new ≡ vec_capacity order.old }
+{
+    match look_behind(pairs, order, hints, hole, key) {
+        Ok(place) => {
+            pairs[place] = (key, rec);
+            hole
+        }
+        Err(i) => {
+            let place = pairs.len() as u16;
+            pairs.push_reserved((key, rec));
+            write_hint(hints, key, place + 1);
+            fill_hole(order, hole, i, place)
+        }
+    }
 }

@@ -1,4 +1,4 @@
-use Rattle.std.proofs.Common.{refl}
+use Rattle.std.proofs.Common.{refl, arith}
 use Rattle.rec_bytes.proofs.PairLaws.{find_gap, place_in_range}
 use Rattle.rec_bytes.proofs.OrderLaws.{place_within, place_read}
 use Rattle.rec_bytes.proofs.HintLaws.{pair_at_place, pair_searched}
@@ -7,6 +7,9 @@ use Rattle.rec_bytes.proofs.place_hints.place_of.Goals as goal
 pub returns-then-is_at-clause-found : goal.returns-then-is_at-clause-found
 returns-then-is_at-clause-found c =
     pair_at_place c.args.pairs.now.items c.args.order.now.items c.args.hints.now.items c.args.key _ c.requires (c.if-is_at.ensures.within refl) (c.if-is_at.ensures.key refl)
+
+pub search-requires-clause-below : goal.search-requires-clause-below
+search-requires-clause-below c k none = absurd (omega (arith, none))
 
 pub index-requires : goal.index-requires
 index-requires c =

@@ -2,7 +2,7 @@ use Rattle.std.proofs.Common.{◌+◌, ◌<◌, ap, sym, ◌∙◌, arith, drop,
 use Rattle.std.proofs.lemmas.List.{drop_all}
 use Rattle.rec_bytes.specs.Pairs.{Pairs, find_pair, merged, growth_by}
 use Rattle.rec_bytes.proofs.PairLaws.{next_pair, find_merged}
-use Rattle.rec_bytes.proofs.write_set.WriteSet.merge.Goals as goal
+use Rattle.rec_bytes.proofs.write_set.WriteSet.merge_each.Goals as goal
 
 pub put_in_room-requires-clause-room : goal.put_in_room-requires-clause-room
 put_in_room-requires-clause-room c =
