@@ -123,8 +123,8 @@ pub record TakesEdge (s t : State) (names : List (List ℕ)) (id : ℕ) : Type 0
 abbrev pub HasHead : Records → EdgeEnd → Type 0
 HasHead records end = IsHeadOf records (head_of end.head) end.node
 
--- The node has no chain for a relationship of the type: it isn't in use, or it is dense and no group
--- on its chain has the type.
+-- The node has no chain for a relationship of the type: it isn't in use, or it is dense and no
+-- group on its chain has the type.
 abbrev pub LacksChain : State → ℕ → ℕ → Type 0
 LacksChain s node label =
     (kind_at s.records format.nodes_file node ≡ format.free_kind)
@@ -137,9 +137,10 @@ BlamesEnd s id node label fault =
     IfBlames (λ damage. IsBroken s damage
     ⊎ ((damage ≡ end_damage id) × LacksChain s node label)) fault
 
--- A record that is blamed where an edge that had this row is taken out of its chains: it breaks the
--- rule. Or it is the edge's, and breaks the rule if it is in use. Or it is the edge, for which an end
--- has no chain: by the third rule it is in one, and by the fourth each group is on its owner's chain.
+-- A record that is blamed where an edge that had this row is taken out of its chains breaks the
+-- rule. Or it is the edge's, and breaks the rule if it is in use. Or it is the edge, for which an
+-- end has no chain: by the third rule it is in one, and by the fourth each group is on its owner's
+-- chain.
 pub data IsTakenDamage (s : State) (id : ℕ) (rel : RelRow) : Damage → Type 0 where
   Broken : (damage : Damage) → IsBroken s damage → IsTakenDamage s id rel damage
   BadLink : (kind_at s.records format.relationships_file id ≢ format.free_kind
@@ -147,9 +148,9 @@ pub data IsTakenDamage (s : State) (id : ℕ) (rel : RelRow) : Damage → Type 0
   NoChain : (node : ℕ) → (node ≡ rel.from) ⊎ (node ≡ rel.to) → LacksChain s node rel.label
       → IsTakenDamage s id rel (end_damage id)
 
--- A record that is blamed where an edge is deleted breaks the rule in the space as it was, or it is a
--- property that shares a block there. Or it is so of the edge, by the space as it is when that is
--- found, and nothing is written then.
+-- A record that is blamed where an edge is deleted breaks the rule in the space as it was, or it is
+-- a property that shares a block there. Or it is told where the edge is taken out of its chains, by
+-- the space as it is left.
 abbrev pub BlamesDeleting : State → State → ℕ → ChangeFault → Type 0
 BlamesDeleting s t id fault =
     IfBlames (λ damage. (IsBroken s damage ⊎ SharesBlock s.records damage)
