@@ -81,6 +81,10 @@ fault_outside T faults.Memory right = tt
 fault_outside T faults.Disk right = tt
 fault_outside T (faults.Damaged damage) right = absurd right
 
+pub space_outside : (fault : SpaceFault) → IsOutside (of_space fault)
+space_outside spaces.Memory = tt
+space_outside spaces.Disk = tt
+
 -- ---- faults of the crates below that are failures
 pub space_fails : (fault : SpaceFault) → IsFailure (of_space fault)
 space_fails spaces.Memory = tt

@@ -6,6 +6,7 @@ pub mod Counted
 pub mod Deleting
 pub mod DiskCauses
 pub mod EdgeAdded
+pub mod EdgeBlames
 pub mod EdgeClosed
 pub mod EdgeJoined
 pub mod EdgeLists
@@ -23,6 +24,7 @@ pub mod EndsFound
 pub mod Exits
 pub mod Interned
 pub mod JoinWrites
+pub mod JoinBlames
 pub mod KeptLinks
 pub mod LastPairs
 pub mod LineNames

@@ -1,7 +1,18 @@
 -- An edge that is added.
-use Rattle.std.specs.Prelude.{◌≡◌, ℕ, ◌+◌, ◌*◌, nat_eq, if◌then◌else◌, length}
-use Rattle.rec_bytes.specs.Space.{State}
+use Rattle.std.specs.Prelude.{◌≡◌, ◌⊎◌, ℕ, ◌+◌, ◌*◌, nat_eq, if◌then◌else◌, length}
+use Rattle.rec_bytes.specs.declared.damage.Damage.{Damage}
+use Rattle.rec_bytes.specs.declared.fault.Fault.TheVariants as faults
+use Rattle.rec_bytes.specs.Format as format
+use Rattle.rec_bytes.specs.Space.{State, meta_of}
+use Rattle.id_freelist.specs.Taking.{room}
+use Rattle.store_rules.specs.Views.{key_in}
+use Rattle.chain_edit.specs.Heads.{head_of}
+use Rattle.chain_edit.specs.Pushing.{IsPushFault}
+use Rattle.group_store.specs.Densing.{IsEndDamage}
+use Rattle.graph_ops.specs.Damage.{BreaksAdding, IfBlames, IsBroken}
 use Rattle.graph_ops.specs.Store.{graph_in}
+use Rattle.graph_ops.specs.declared.change_fault.ChangeFault.{ChangeFault}
+use Rattle.graph_ops.specs.declared.edge_end.EdgeEnd.{EdgeEnd}
 
 -- as many edges as the store has room for
 abbrev pub IsFullOfEdges : State → Type 0
@@ -15,3 +26,40 @@ abbrev pub degrees_weight : ℕ → ℕ → ℕ → ℕ → ℕ → ℕ
 degrees_weight threshold from from_degree to to_degree =
     degree_weight threshold from_degree
     + (if nat_eq from to then 0 else degree_weight threshold to_degree)
+
+-- ---- which record is blamed
+
+-- the meta record of the relationships, where none is free though there was room for one
+abbrev pub full_edges : Damage
+full_edges = record { file = format.meta_file; id = format.relationships_file; rule = 2 }
+
+-- the head is in the node's record or in a group's
+abbrev pub IsHeadAt : EdgeEnd → Type 0
+IsHeadAt end =
+    (end.head.key ≡ key_in format.nodes_file end.node) ⊎ (end.head.key.file ≡ format.groups_file)
+
+-- the head of the end is said to be damaged, and leads nowhere
+abbrev pub BlamesHead : State → EdgeEnd → ChangeFault → Type 0
+BlamesHead s end fault =
+    IfBlames (λ damage. IsPushFault s (head_of end.head) (faults.Damaged damage)) fault
+
+-- A record that is blamed where an edge joins the chains of two nodes is told of an end, for which
+-- no head is found or made. Or it has the head of an end, which leads nowhere. Or the file of
+-- relationships is damaged or full.
+pub data IsJoinDamage (s : State) (from to : ℕ) : Damage → Type 0 where
+  NoHead : (damage : Damage) (node : ℕ) → (node ≡ from) ⊎ (node ≡ to) → IsEndDamage s node damage
+      → IsJoinDamage s from to damage
+  BadHead : (damage : Damage) (end : EdgeEnd) → (end.node ≡ from) ⊎ (end.node ≡ to)
+      → IsHeadAt end → IsPushFault s (head_of end.head) (faults.Damaged damage)
+      → IsJoinDamage s from to damage
+  NotTaken : (damage : Damage) → IsBroken s damage → IsJoinDamage s from to damage
+  FullFile : (meta_of s format.relationships_file).live ≡ room s format.relationships_file
+      → IsJoinDamage s from to full_edges
+
+-- A record that is blamed where an edge is added breaks the rule in the space as it was, or is told
+-- of the edge's ends by the space as it is left. Or it breaks the rule in a space that differs from
+-- this in no more than names, properties and blocks, and the edge's own record.
+abbrev pub BlamesLinking : State → State → ℕ → ℕ → ChangeFault → Type 0
+BlamesLinking s t from to fault =
+    IfBlames (λ damage. IsBroken s damage ⊎ (IsJoinDamage t from to damage
+    ⊎ ((id : ℕ) × BreaksAdding (key_in format.relationships_file id) t damage))) fault

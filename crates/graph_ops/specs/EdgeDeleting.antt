@@ -1,20 +1,27 @@
 -- An edge that is deleted.
 use Rattle.std.specs.Prelude.{◌≡◌, ◌≢◌, ◌⊎◌, ℕ, ◌+◌, ◌≤◌, ◌∷◌, ◌++◌, List, Some, length}
 use Rattle.plain_graph.specs.Graph.{RemovesEdge}
+use Rattle.prop_store.specs.Fault.{SharesBlock}
+use Rattle.rec_bytes.specs.declared.damage.Damage.{Damage}
 use Rattle.rec_bytes.specs.declared.key.Key.{Key}
 use Rattle.rec_bytes.specs.Format as format
 use Rattle.rec_bytes.specs.Space.{State, WritesOnly, meta_of}
-use Rattle.rel_store.specs.RelRecord.{rel_key}
+use Rattle.rel_store.specs.Loading.{row_at}
+use Rattle.rel_store.specs.RelRecord.{range_damage, rel_key}
 use Rattle.rel_store.specs.declared.rel_row.RelRow.{RelRow}
+use Rattle.store_rules.specs.Breaking.{IsHeadOf}
 use Rattle.store_rules.specs.Ends.{Regroups}
 use Rattle.store_rules.specs.Graph.{names_of}
 use Rattle.store_rules.specs.Rules.{KeepsRules, Owns, StandsAt}
 use Rattle.store_rules.specs.Views.{Records, degree, group_at, kind_at, node_at, rel_at}
 use Rattle.store_rules.specs.Writes.{AreOwn, meta_keys}
 use Rattle.chain_edit.specs.Heads.{head_of}
+use Rattle.group_store.specs.Opening.{LacksGroupOn, end_damage}
+use Rattle.graph_ops.specs.Damage.{IfBlames, IsBroken}
 use Rattle.graph_ops.specs.EdgeEnds.{end_groups, end_keys}
 use Rattle.graph_ops.specs.NodeDeleting.{HasDegree}
 use Rattle.graph_ops.specs.Store.{IsStore, graph_in}
+use Rattle.graph_ops.specs.declared.change_fault.ChangeFault.{ChangeFault}
 use Rattle.graph_ops.specs.declared.edge_end.EdgeEnd.{EdgeEnd}
 
 -- The relationship stands at the head, which the node owns, and the node has so many relationships.
@@ -109,3 +116,42 @@ pub record TakesEdge (s t : State) (names : List (List ℕ)) (id : ℕ) : Type 0
   pub store : IsStore t names
   pub removes : RemovesEdge (graph_in s) id (graph_in t)
   pub kinds : KeepsKinds s t
+
+-- ---- which record is blamed
+
+-- the node of an end has its head
+abbrev pub HasHead : Records → EdgeEnd → Type 0
+HasHead records end = IsHeadOf records (head_of end.head) end.node
+
+-- The node has no chain for a relationship of the type: it isn't in use, or it is dense and no
+-- group on its chain has the type.
+abbrev pub LacksChain : State → ℕ → ℕ → Type 0
+LacksChain s node label =
+    (kind_at s.records format.nodes_file node ≡ format.free_kind)
+    ⊎ LacksGroupOn s.records node label
+
+-- A record that is blamed where an end of a relationship of the type is looked for breaks the rule,
+-- or it is the relationship, for which the node has no chain.
+abbrev pub BlamesEnd : State → ℕ → ℕ → ℕ → ChangeFault → Type 0
+BlamesEnd s id node label fault =
+    IfBlames (λ damage. IsBroken s damage
+    ⊎ ((damage ≡ end_damage id) × LacksChain s node label)) fault
+
+-- A record that is blamed where an edge that had this row is taken out of its chains breaks the
+-- rule. Or it is the edge's, and breaks the rule if it is in use. Or it is the edge, for which an
+-- end has no chain: by the third rule it is in one, and by the fourth each group is on its owner's
+-- chain.
+pub data IsTakenDamage (s : State) (id : ℕ) (rel : RelRow) : Damage → Type 0 where
+  Broken : (damage : Damage) → IsBroken s damage → IsTakenDamage s id rel damage
+  BadLink : (kind_at s.records format.relationships_file id ≢ format.free_kind
+      → IsBroken s (range_damage id)) → IsTakenDamage s id rel (range_damage id)
+  NoChain : (node : ℕ) → (node ≡ rel.from) ⊎ (node ≡ rel.to) → LacksChain s node rel.label
+      → IsTakenDamage s id rel (end_damage id)
+
+-- A record that is blamed where an edge is deleted breaks the rule in the space as it was, or it is
+-- a property that shares a block there. Or it is told where the edge is taken out of its chains, by
+-- the space as it is left.
+abbrev pub BlamesDeleting : State → State → ℕ → ChangeFault → Type 0
+BlamesDeleting s t id fault =
+    IfBlames (λ damage. (IsBroken s damage ⊎ SharesBlock s.records damage)
+    ⊎ ((rel : RelRow) × (row_at s.records id ≡ Some rel) × IsTakenDamage t id rel damage)) fault

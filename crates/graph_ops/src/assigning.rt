@@ -33,7 +33,7 @@ ghost use Rattle.graph_ops.specs.Assigning.{
 };
 ghost use Rattle.store_rules.specs.Writes.{WritesAtMost, WritesBeside};
 ghost use Rattle.graph_ops.specs.ChangeFault.{HasChangeCause, IsOutside, MayComeLate};
-ghost use Rattle.graph_ops.specs.Damage.{BreaksAdding, IfBlames, KeepsBeyond};
+ghost use Rattle.graph_ops.specs.Damage.{AddsElement, BreaksAdding, IfBlames, KeepsBeyond};
 ghost use Rattle.graph_ops.specs.Owners.{owner_of};
 ghost use Rattle.graph_ops.specs.Rooms.{KeepsElementMetas};
 ghost use Rattle.graph_ops.specs.Store.{IsStore, KeepsElements};
@@ -220,6 +220,8 @@ pub(crate) fn put_properties<S: Space>(
     ensures caused { S.tells → IfErr result (IsPutCause (S.state space.old).shape) }
     ensures damaged { S.tells → IfErr result
         (IfBlames (BreaksAdding owner.key (S.state space.old))) }
+    ensures adds { S.tells
+        → AddsElement owner.key (S.state space.old) (S.state space.new) }
     ensures late { S.tells → IfErr result MayComeLate }
     ensures onward { S.onward space.old space.new }
     ensures cause { HasChangeCause (S.faults space.old) (S.faults space.new) result }

@@ -11,7 +11,8 @@ ghost use Rattle.store_rules.specs.Writes.{WritesAtMost};
 ghost use Rattle.graph_ops.specs.Causes.{IsCaused};
 ghost use Rattle.graph_ops.specs.Change.{IsCounted, IsRefusal, MakesChange};
 ghost use Rattle.graph_ops.specs.ChangeFault.{HasChangeCause, LeavesSpace};
-ghost use Rattle.graph_ops.specs.EdgeAdding.{IsFullOfEdges, degree_weight, degrees_weight};
+ghost use Rattle.graph_ops.specs.EdgeAdding.{BlamesLinking, IsFullOfEdges};
+ghost use Rattle.graph_ops.specs.EdgeAdding.{degree_weight, degrees_weight};
 ghost use Rattle.graph_ops.specs.EdgePlacing.{IsFirst};
 ghost use Rattle.graph_ops.specs.NodeDeleting.{HasDegree};
 ghost use Rattle.graph_ops.specs.Store.{IsStore, graph_in};
@@ -45,6 +46,8 @@ pub fn add_edge<S: Space>(
         (commands.Edge from label.now to pairs.now)) }
     ensures caused { S.tells → IfErr result (IsCaused
         (commands.Edge from label.now to pairs.now) (S.state space.old) names.old.names) }
+    ensures damaged { S.tells → IfErr result
+        (BlamesLinking (S.state space.old) (S.state space.new) from to) }
     ensures counts { S.tells → IsStore (S.state space.old) names.old.names
         → IfErr result (IsCounted (S.state space.old)) }
     ensures full { IsStore (S.state space.old) names.old.names

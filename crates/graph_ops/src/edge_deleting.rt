@@ -10,12 +10,18 @@ ghost use Rattle.store_rules.specs.Views.{key_in};
 ghost use Rattle.rec_bytes.specs.Space.{SameButReads, WritesOnly};
 ghost use Rattle.node_store.specs.Loading.{IsReadable, row_at};
 ghost use Rattle.rel_store.specs.RelRecord.{rel_key};
+ghost use Rattle.rel_store.specs.declared.rel_row.RelRow.{RelRow};
+ghost use Rattle.group_store.specs.Densing.{IsSparse};
+ghost use Rattle.group_store.specs.GroupChain.{IsDense};
 ghost use Rattle.group_store.specs.GroupRecord.{group_key};
+ghost use Rattle.group_store.specs.Leaving.{KeepsHeads};
 ghost use Rattle.store_rules.specs.Writes.{WritesAtMost, WritesBeside};
 ghost use Rattle.graph_ops.specs.Causes.{IsCaused};
 ghost use Rattle.graph_ops.specs.Change.{IsRefusal, MakesChange};
 ghost use Rattle.graph_ops.specs.ChangeFault.{HasChangeCause, IsFailure, IsOutside, LeavesSpace};
-ghost use Rattle.graph_ops.specs.EdgeDeleting.{FindsEnd, FindsEnds, HasBareRow, IsBareEdge};
+ghost use Rattle.graph_ops.specs.Damage.{IfBlames};
+ghost use Rattle.graph_ops.specs.EdgeDeleting.{BlamesDeleting, BlamesEnd, FindsEnd, FindsEnds};
+ghost use Rattle.graph_ops.specs.EdgeDeleting.{HasBareRow, HasHead, IsBareEdge, IsTakenDamage};
 ghost use Rattle.graph_ops.specs.EdgeDeleting.{KeepsKinds, TakesEdge, WritesTaken};
 ghost use Rattle.graph_ops.specs.EdgeEnds.{IsEdgeEnd};
 ghost use Rattle.graph_ops.specs.NodeDeleting.{HasDegree};
@@ -42,6 +48,8 @@ pub fn delete_edge<S: Space>(space: &mut S, names: &Names, id: u32) -> Result<u3
         (commands.Delete (targets.Edge id))) }
     ensures caused { S.tells → IfErr result (IsCaused (commands.Delete (targets.Edge id))
         (S.state space.old) names.now.names) }
+    ensures damaged { S.tells → IfErr result
+        (BlamesDeleting (S.state space.old) (S.state space.new) id) }
     // a dense node stays so, however few relationships it has
     ensures kinds { S.tells → IfOk result (λ _. IsStore (S.state space.old) names.now.names
         → KeepsKinds (S.state space.old) (S.state space.new)) }
@@ -72,6 +80,7 @@ fn take_edge<S: Space>(space: &mut S, id: u32, rel: RelRow) -> Result<(), Change
         → TakesEdge (S.state space.old) (S.state space.new) names id) }
     ensures sound { S.tells → (names : List (List ℕ)) → IsStore (S.state space.old) names
         → HasBareRow (S.state space.old).records id rel → IfErr result IsOutside }
+    ensures damaged { S.tells → IfErr result (IfBlames (IsTakenDamage (S.state space.new) id rel)) }
     ensures writes { WritesBeside (rel_key id) 12 (S.state space.old) (S.state space.new) }
     ensures failure { IfErr result IsFailure }
     ensures onward { S.onward space.old space.new }
@@ -89,6 +98,9 @@ fn edge_ends<S: Space>(space: &mut S, id: u32, rel: RelRow) -> Result<BothEnds, 
         → FindsEnds (S.state space.old) (S.state space.new) names id ends.source ends.target) }
     ensures sound { S.tells → (names : List (List ℕ)) → IsStore (S.state space.old) names
         → HasBareRow (S.state space.old).records id rel → IfErr result IsOutside }
+    ensures damaged { S.tells → IfErr result (IfBlames (IsTakenDamage (S.state space.new) id rel)) }
+    ensures heads { S.tells → IfOk result (λ ends. HasHead (S.state space.new).records ends.source
+        × HasHead (S.state space.new).records ends.target) }
     ensures ends { IfOk result (λ ends. IsEdgeEnd ends.source × IsEdgeEnd ends.target) }
     ensures wrote { IfOk result (λ ends. WritesOnly (S.state space.old) (S.state space.new)
         (ends.source.head.key ∷ ends.target.head.key ∷ [])) }
@@ -123,6 +135,10 @@ fn edge_end<S: Space>(
     ensures sound { S.tells → (names : List (List ℕ)) → IsStore (S.state space.old) names
         → HasBareRow (S.state space.old).records id rel
         → (node ≡ rel.from) ⊎ (node ≡ rel.to) → IfErr result IsOutside }
+    ensures damaged { S.tells → IfErr result
+        (BlamesEnd (S.state space.new) id node rel.label) }
+    ensures has { S.tells → IfOk result (HasHead (S.state space.new).records) }
+    ensures heads { S.tells → OnOk result (KeepsHeads (S.state space.old) (S.state space.new)) }
     ensures node { IfOk result (λ end. end.node ≡ node) }
     ensures end { IfOk result IsEdgeEnd }
     ensures wrote { IfOk result (λ end.
@@ -146,6 +162,10 @@ fn end_degree<R: Reads>(space: &mut R, rel: u32, node: u32) -> Result<u32, Chang
         → IfOk result (λ degree. HasDegree (R.state space.old).records node degree) }
     ensures sound { R.tells → IsReadable (R.state space.old) node
         → (row_at (R.state space.old).records node ≢ None) → IfErr result IsOutside }
+    ensures damaged { R.tells → (label : ℕ)
+        → IfErr result (BlamesEnd (R.state space.old) rel node label) }
+    ensures kind { R.tells → OnOk result (IsDense (R.state space.old).records node
+        ⊎ IsSparse (R.state space.old).records node) }
     ensures key { IfOk result (λ degree. IsKey (key_in nodes_file node)) }
     ensures failure { IfErr result IsFailure }
     ensures state { SameButReads (R.state space.old) (R.state space.new) }
@@ -178,6 +198,9 @@ fn unlink_edge<S: Space>(
         → TakesEdge (S.state space.old) (S.state space.new) names id) }
     ensures sound { S.tells → (names : List (List ℕ)) → IsStore (S.state space.old) names
         → IsBareEdge (S.state space.old) id source target → IfErr result IsOutside }
+    ensures damaged { S.tells → HasHead (S.state space.old).records source
+        → HasHead (S.state space.old).records target → (rel : RelRow)
+        → IfErr result (IfBlames (IsTakenDamage (S.state space.new) id rel)) }
     ensures writes { WritesTaken (S.state space.old) (S.state space.new) id source target }
     ensures failure { IfErr result IsFailure }
     ensures onward { S.onward space.old space.new }

@@ -15,6 +15,8 @@ ghost use Rattle.store_rules.specs.Writes.{meta_keys};
 ghost use Rattle.chain_edit.specs.Heads.{head_of};
 ghost use Rattle.chain_edit.specs.Links.{IsRightLink};
 ghost use Rattle.graph_ops.specs.ChangeFault.{HasChangeCause, IsFailure, IsOutside};
+ghost use Rattle.graph_ops.specs.Damage.{IfBlames};
+ghost use Rattle.graph_ops.specs.EdgeAdding.{BlamesHead, IsHeadAt, IsJoinDamage};
 ghost use Rattle.graph_ops.specs.EdgeEnds.{IsEdgeEnd, both_joined, joined};
 ghost use Rattle.graph_ops.specs.EdgeJoining.{CanJoin, HasPlaced, WritesJoined, joined_keys};
 ghost use Rattle.graph_ops.specs.EdgeJoining.{new_row, one_more};
@@ -49,6 +51,8 @@ pub(crate) fn join_edge<S: Space>(
         → CanJoin (S.state space.old) names label source target
         → slice_get names label ≡ Some text
         → HasRoom (S.state space.old) relationships_file 1 → IfErr result IsOutside }
+    ensures damaged { S.tells → IsHeadAt source → IsHeadAt target → IfErr result
+        (IfBlames (IsJoinDamage (S.state space.new) source.node target.node)) }
     ensures key { IfOk result (λ id. IsKey (key_in relationships_file id)) }
     ensures writes { IfOk result (λ id.
         WritesJoined (S.state space.old) (S.state space.new) id source target) }
@@ -70,6 +74,8 @@ fn place<S: Space>(space: &mut S, label: u32, from: u32, to: u32) -> Result<u32,
     ensures sound { S.tells → (most : ℕ) (empty : List ℕ)
         → KeepsRules (S.state space.old).records (S.state space.old).shape most empty
         → HasRoom (S.state space.old) relationships_file 1 → IfErr result IsOutside }
+    ensures damaged { S.tells
+        → IfErr result (IfBlames (IsJoinDamage (S.state space.new) from to)) }
     ensures key { IfOk result (λ id. IsKey (key_in relationships_file id)) }
     ensures writes { IfOk result (λ id.
         WritesOnly (S.state space.old) (S.state space.new) (rel_key id ∷ meta_keys)) }
@@ -94,6 +100,8 @@ fn take_id<S: Space>(space: &mut S) -> Result<u32, ChangeFault>
     ensures sound { S.tells → (most : ℕ) (empty : List ℕ)
         → KeepsRules (S.state space.old).records (S.state space.old).shape most empty
         → HasRoom (S.state space.old) relationships_file 1 → IfErr result IsOutside }
+    ensures damaged { S.tells → (from to : ℕ)
+        → IfErr result (IfBlames (IsJoinDamage (S.state space.new) from to)) }
     ensures ok { S.tells
         → OnOk result (S.state space.new ≡ taken (S.state space.old) relationships_file) }
     ensures err { OnErr result (SameButReads (S.state space.old) (S.state space.new)) }
@@ -158,6 +166,8 @@ fn join_ends<S: Space>(
         (first_of (joined (S.state space.old) (head_of source.head) source.node rel
         (one_more source.degree)).records (head_of target.head)))
         → IfErr result IsOutside }
+    ensures damaged { S.tells → IsHeadAt source → IsHeadAt target → IfErr result
+        (IfBlames (IsJoinDamage (S.state space.new) source.node target.node)) }
     ensures writes { WritesJoined (S.state space.old) (S.state space.new) rel source target }
     ensures failure { IfErr result IsFailure }
     ensures onward { S.onward space.old space.new }
@@ -180,6 +190,7 @@ fn join_end<S: Space>(space: &mut S, rel: u32, end: EdgeEnd) -> Result<(), Chang
     ensures sound { S.tells
         → IsRightLink (S.state space.old) (first_of (S.state space.old).records (head_of end.head))
         → IfErr result IsOutside }
+    ensures damaged { S.tells → IfErr result (BlamesHead (S.state space.new) end) }
     ensures writes { (first : ℕ) × WritesOnly (S.state space.old) (S.state space.new)
         (rel_key rel ∷ joined_keys first end) }
     ensures failure { IfErr result IsFailure }

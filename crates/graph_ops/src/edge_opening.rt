@@ -2,9 +2,12 @@
 
 ghost use Rattle.std.specs.Prelude.{◌≡◌, ◌≤◌, ◌+◌, ℕ, List, IfErr, IfOk};
 ghost use Rattle.chain_edit.specs.Heads.{head_of};
+ghost use Rattle.group_store.specs.Densing.{IsEndDamage};
 ghost use Rattle.group_store.specs.Opening.{CanOpen, HasGroupRoom, OpensChain, WritesOpened};
 ghost use Rattle.group_store.specs.Opening.{moved_writes};
 ghost use Rattle.graph_ops.specs.ChangeFault.{HasChangeCause, IsFailure, IsOutside};
+ghost use Rattle.graph_ops.specs.Damage.{IfBlames};
+ghost use Rattle.graph_ops.specs.EdgeAdding.{IsHeadAt, IsJoinDamage};
 ghost use Rattle.graph_ops.specs.EdgeEnds.{IsEdgeEnd};
 ghost use Rattle.graph_ops.specs.EdgeOpening.{CanLink, OpensEnds, WritesEndsOpened};
 ghost use Rattle.graph_ops.specs.EdgeOpening.{ends_moved};
@@ -40,6 +43,9 @@ pub(crate) fn open_ends<S: Space>(
     ensures sound { S.tells → (names : List (List ℕ))
         → CanLink (S.state space.old) names threshold label from from_degree to to_degree
         → HasRoom (S.state space.old) relationships_file 1 → IfErr result IsOutside }
+    ensures damaged { S.tells → (S.state space.old).shape.threshold ≤ threshold
+        → IfErr result (IfBlames (IsJoinDamage (S.state space.new) from to)) }
+    ensures at { IfOk result (λ ends. IsHeadAt ends.source × IsHeadAt ends.target) }
     ensures nodes { IfOk result
         (λ ends. (ends.source.node ≡ from) × (ends.target.node ≡ to)) }
     ensures ends { IfOk result (λ ends. IsEdgeEnd ends.source × IsEdgeEnd ends.target) }
@@ -94,6 +100,9 @@ fn open_end<S: Space>(
     ensures sound { S.tells → (row : RelRow) (empty : List ℕ)
         → CanOpen (S.state space.old) node degree threshold label side row empty
         → HasGroupRoom (S.state space.old) empty → IfErr result IsOutside }
+    ensures damaged { S.tells → (S.state space.old).shape.threshold ≤ threshold
+        → IfErr result (IfBlames (IsEndDamage (S.state space.new) node)) }
+    ensures at { IfOk result IsHeadAt }
     ensures is { IfOk result
         (λ end. end ≡ record { node = node; head = end.head; degree = degree }) }
     ensures end { IfOk result IsEdgeEnd }

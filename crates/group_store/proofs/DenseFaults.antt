@@ -22,10 +22,12 @@ use Rattle.chain_edit.specs.Links.{IsLinkDamage}
 use Rattle.chain_edit.specs.Links.IsLinkDamage.{LeadsNowhere, HighMark}
 use Rattle.chain_edit.specs.Pushing.{IsPushFault, first_damage}
 use Rattle.store_rules.specs.Rules.{first_of}
-use Rattle.group_store.specs.Densing.{CanBecomeDense, IsDenseFault, IsMoveFault}
+use Rattle.group_store.specs.Densing.{CanBecomeDense, IsDenseFault, IsEndFault, IsMoveFault, IsSparse}
 use Rattle.group_store.specs.Opening.{IsOpenFault}
 use Rattle.group_store.specs.SparseChain.{IsSparseFault, IsStepFault}
 use Rattle.group_store.specs.SparseChain.IsStepDamage.{BadRow}
+use Rattle.group_store.specs.GroupChain.{IsDense}
+use Rattle.group_store.proofs.KeptHeads.{node_known}
 use Rattle.group_store.proofs.GroupWalks.{IsUndamaged}
 use Rattle.group_store.proofs.SparseChains.{no_sparse_damage, rel_breaks}
 use Rattle.group_store.proofs.Spreads.{HasLeft}
@@ -108,3 +110,25 @@ not_opened s z t node (Ok x) told same = tt
 not_opened s z t node (Err Memory) told same = tt
 not_opened s z t node (Err Disk) told same = tt
 not_opened s z t node (Err (Damaged damage)) told same = inr (inl (inl (subst (λ (q : State). IsOpenFault q (Damaged damage)) (sym same) told)))
+
+-- ---- what is told of an end, by the space as it is then
+
+pub end_broken : (s t : State) (node : ℕ) (fault : Fault) → SameButReads s t → IsBreakFault s fault → IsEndFault t node fault
+end_broken s t node Memory same told = tt
+end_broken s t node Disk same told = tt
+end_broken s t node (Damaged damage) same told = inl (inl (inl (subst (λ (q : State). Breaks q.records q.shape damage) (sym same) told)))
+
+pub end_moved : (now t : State) (node rel : ℕ) (fault : Fault) → IsMoveFault now t node rel fault → IsEndFault t node fault
+end_moved now t node rel Memory told = tt
+end_moved now t node rel Disk told = tt
+end_moved now t node rel (Damaged damage) told = ⊎_elim (λ late. inl late) (λ k. inr (inl k.0)) told
+
+pub end_opened : {T : Type 0} (z t : State) (node : ℕ) (r : Result T Fault) → IfErr r (IsOpenFault z) → OnDamage r (SameButReads z t) → IfErr r (IsEndFault t node)
+end_opened z t node (Ok x) told same = tt
+end_opened z t node (Err Memory) told same = tt
+end_opened z t node (Err Disk) told same = tt
+end_opened z t node (Err (Damaged damage)) told same = inl (inl (subst (λ (q : State). IsOpenFault q (Damaged damage)) (sym same) told))
+
+-- a node in use that was read and isn't dense is sparse
+pub sparse_known : (s : State) (id : ℕ) → nodes.IsKnown s id → kind_at s.records format.nodes_file id ≢ 0 → (¬ IsDense s.records id) → IsSparse s.records id
+sparse_known s id known used thin = ⊎_elim (λ d. absurd (thin d)) (λ k. k) (node_known s id known used)

@@ -21,6 +21,7 @@ pub mod GroupWalks
 pub mod GroupWrites
 pub mod HeadCounts
 pub mod Heads
+pub mod KeptHeads
 pub mod Leaves
 pub mod MadeRules
 pub mod MakeSteps

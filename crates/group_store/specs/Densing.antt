@@ -14,6 +14,7 @@ use Rattle.chain_edit.specs.Pushing.{IsPushFault}
 use Rattle.group_store.specs.Leaving.{LeavesOthers}
 use Rattle.group_store.specs.Opening.{IsOpenFault}
 use Rattle.group_store.specs.Spreading.{HasCountedGroups, rels_damage}
+use Rattle.group_store.specs.Walking.{chain_damage}
 
 -- The node is sparse, in a store that keeps the rules, but that these groups may be empty.
 pub record CanBecomeDense (s : State) (node most : ℕ) (empty : List ℕ) : Type 0 where
@@ -66,3 +67,16 @@ IsDenseFault s t node (Damaged damage) =
     Breaks s.records s.shape damage ⊎ (IsLateDamage t damage
     ⊎ ((damage ≡ rels_damage node)
     × ((most : ℕ) (empty : List ℕ) → ¬ CanBecomeDense s node most empty)))
+
+-- What is told where no head is found or made for an end, by the space as it is then. It is so, or
+-- the node's relationships aren't those that were read. Or the node isn't in use.
+abbrev pub IsEndDamage : State → ℕ → Damage → Type 0
+IsEndDamage t node damage =
+    IsLateDamage t damage ⊎ ((damage ≡ rels_damage node)
+    ⊎ ((damage ≡ chain_damage node)
+    × (kind_at t.records format.nodes_file node ≡ format.free_kind)))
+
+abbrev pub IsEndFault : State → ℕ → Fault → Type 0
+IsEndFault t node Memory = Unit {0}
+IsEndFault t node Disk = Unit {0}
+IsEndFault t node (Damaged damage) = IsEndDamage t node damage

@@ -6,7 +6,9 @@ use Rattle.rec_bytes.specs.Format as format
 use Rattle.rec_bytes.specs.Record.{field}
 use Rattle.rec_bytes.specs.RecordFiles.{meta_key_of}
 use Rattle.rec_bytes.specs.Space.{State}
+use Rattle.store_rules.specs.Breaking.{IsHeadOf}
 use Rattle.store_rules.specs.Chains.{place_of}
+use Rattle.store_rules.specs.Rules.{Head}
 use Rattle.store_rules.specs.Views.{GroupRow, group_at, rec_at}
 
 -- the record names the node as its source or its target
@@ -41,3 +43,12 @@ pub record LeavesOthers (s t : State) (node : ℕ) : Type 0 where
       → group.owner ≢ node → (n at : ℕ) → at + n ≤ format.record_bytes
       → field n (rec_at t.records format.groups_file g) at
       ≡ field n (rec_at s.records format.groups_file g) at
+
+-- Each node has the heads that it had.
+abbrev pub KeepsHeads : State → State → Type 0
+KeepsHeads s t = (h : Head) (n : ℕ) → IsHeadOf s.records h n → IsHeadOf t.records h n
+
+-- So has each node but this one.
+abbrev pub KeepsOtherHeads : State → State → ℕ → Type 0
+KeepsOtherHeads s t node =
+    (h : Head) (n : ℕ) → n ≢ node → IsHeadOf s.records h n → IsHeadOf t.records h n

@@ -2,14 +2,15 @@ ghost use Rattle.std.specs.Prelude.{ℕ, List, [], ◌∷◌, IfErr, OnOk, ◌�
 ghost use Rattle.rec_bytes.specs.Format.{groups_file};
 ghost use Rattle.rec_bytes.specs.Key.{IsKey};
 ghost use Rattle.rec_bytes.specs.RecordFiles.{meta_key_of};
-ghost use Rattle.rec_bytes.specs.Space.{WritesOnly};
+ghost use Rattle.rec_bytes.specs.Space.{SameButReads, WritesOnly};
 ghost use Rattle.node_store.specs.NodeRecord.{node_key};
 ghost use Rattle.store_rules.specs.Breaking.{IsHeadOf};
 ghost use Rattle.chain_edit.specs.Breaks.{IsBreakFault};
 ghost use Rattle.chain_edit.specs.Heads.{head_of};
 ghost use Rattle.group_store.specs.Closing.{CanClose, HasClosed};
 ghost use Rattle.group_store.specs.Dropping.{lead_key};
-ghost use Rattle.rec_bytes.specs.Fault.{HasFaultCause, NotDamaged};
+ghost use Rattle.group_store.specs.Leaving.{KeepsOtherHeads};
+ghost use Rattle.rec_bytes.specs.Fault.{HasFaultCause, NotDamaged, OnDamage};
 ghost use Rattle.group_store.specs.GroupRecord.{group_key};
 
 use crate::dropping::drop_if_empty;
@@ -26,6 +27,9 @@ pub fn close_chain<S: Space>(space: &mut S, node: u32, head: Head) -> Result<(),
         → CanClose (S.state space.old) (head_of head) node most empty → NotDamaged result }
     ensures breaks { S.tells → IsHeadOf (S.state space.old).records (head_of head) node
         → IfErr result (IsBreakFault (S.state space.old)) }
+    ensures unwritten { OnDamage result (SameButReads (S.state space.old) (S.state space.new)) }
+    ensures heads { S.tells → IsHeadOf (S.state space.old).records (head_of head) node → OnOk result
+        (KeepsOtherHeads (S.state space.old) (S.state space.new) node) }
     ensures writes { (before after : ℕ) × WritesOnly (S.state space.old) (S.state space.new)
         (group_key after ∷ lead_key node before ∷ head.key ∷ meta_key_of groups_file ∷ []) }
     ensures onward { S.onward space.old space.new }

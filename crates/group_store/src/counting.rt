@@ -13,7 +13,7 @@ ghost use Rattle.chain_edit.specs.Chains.{next_of, prev_of};
 ghost use Rattle.chain_edit.specs.Heads.{head_of, IsHead};
 ghost use Rattle.chain_edit.specs.Links.{IsRightLink};
 ghost use Rattle.chain_edit.specs.Pushing.{IsPushFault, pushed};
-ghost use Rattle.chain_edit.specs.Unlinking.{unlinked};
+ghost use Rattle.chain_edit.specs.Unlinking.{IsUnlinkFault, unlinked};
 ghost use Rattle.group_store.specs.Counting.{
   count_place,
   one_less,
@@ -66,6 +66,8 @@ pub fn unlink_counted<S: Space>(space: &mut S, head: Head, node: u32, rel: u32) 
     requires rel { IsKey (rel_key rel) }
     ensures ok { S.tells → OnOk result (S.state space.new
         ≡ tallied one_less (unlinked (S.state space.old) (head_of head) node rel) (head_of head)) }
+    ensures damaged { S.tells → IfErr result (IsUnlinkFault (S.state space.old) node rel) }
+    ensures unwritten { OnDamage result (S.state space.new ≡ after_get (S.state space.old)) }
     ensures breaks { S.tells → (row : RelRow) → rel_at (S.state space.old).records rel ≡ Some row
         → IfErr result (IsBreakFault (S.state space.old)) }
     ensures sound { S.tells

@@ -12,7 +12,7 @@ ghost use Rattle.store_rules.specs.Writes.{WritesBeside};
 ghost use Rattle.group_store.specs.Touching.{TouchesGroups};
 ghost use Rattle.chain_edit.specs.Links.{prev_set};
 ghost use Rattle.group_store.specs.Densing.{BecomesDense, CanBecomeDense, HasDenseRoom};
-ghost use Rattle.group_store.specs.Densing.{IsDenseFault, IsMoveFault, IsSparse};
+ghost use Rattle.group_store.specs.Densing.{IsDenseFault, IsEndFault, IsMoveFault, IsSparse};
 ghost use Rattle.group_store.specs.GroupChain.{IsDense};
 ghost use Rattle.rec_bytes.specs.Fault.{HasFaultCause, NotDamaged, OnDamage};
 ghost use Rattle.group_store.specs.GroupRecord.{group_key};
@@ -54,6 +54,9 @@ pub fn make_dense<S: Space>(space: &mut S, node: u32, threshold: u32) -> Result<
     ensures damaged { S.tells → IsSparse (S.state space.old).records node
         → (S.state space.old).shape.threshold ≤ threshold
         → IfErr result (IsDenseFault (S.state space.old) (S.state space.new) node) }
+    ensures told { S.tells → (¬ IsDense (S.state space.old).records node)
+        → (S.state space.old).shape.threshold ≤ threshold
+        → IfErr result (IsEndFault (S.state space.new) node) }
     ensures dense { S.tells → OnOk result (IsDense (S.state space.new).records node) }
     ensures wrote { OnOk result (WritesBeside (node_key node) (2 * (threshold + 1))
         (S.state space.old) (S.state space.new)) }

@@ -1,21 +1,24 @@
 //! The head of the chain that an end of a relationship stands in.
 
-ghost use Rattle.std.specs.Prelude.{◌≡◌, ◌≢◌, ◌⊎◌, ◌≤◌, ◌+◌, ◌∷◌, [], true, ℕ, List, Some, IfErr, IfOk};
+ghost use Rattle.std.specs.Prelude.{◌≡◌, ◌≢◌, ◌⊎◌, ◌≤◌, ◌+◌, ◌∷◌, [], true, ℕ, List, Some};
+ghost use Rattle.std.specs.Prelude.{IfErr, IfOk, OnOk};
 ghost use Rattle.std.specs.Bool.{Decides};
+ghost use Rattle.rec_bytes.specs.Format.{groups_file};
 ghost use Rattle.rec_bytes.specs.Key.{IsKey};
 ghost use Rattle.rec_bytes.specs.RecordFiles.{is_meta_file};
 ghost use Rattle.rec_bytes.specs.Space.{SameButReads, WritesOnly};
-ghost use Rattle.store_rules.specs.Breaking.{MemberKeeps};
+ghost use Rattle.store_rules.specs.Breaking.{IsHeadOf, MemberKeeps};
 ghost use Rattle.store_rules.specs.Views.{RelRow, rel_at};
 ghost use Rattle.store_rules.specs.Writes.{WritesBeside};
 ghost use Rattle.node_store.specs.Loading.{IsReadable};
 ghost use Rattle.node_store.specs.NodeRecord.{node_key};
 ghost use Rattle.chain_edit.specs.Breaks.{IsBreakFault};
 ghost use Rattle.chain_edit.specs.Heads.{head_of, IsHead};
-ghost use Rattle.group_store.specs.Densing.{IsDenseFault, IsSparse};
+ghost use Rattle.group_store.specs.Densing.{IsDenseFault, IsEndFault, IsSparse};
 ghost use Rattle.group_store.specs.FirstGroup.{IsNodeFault};
 ghost use Rattle.group_store.specs.GroupChain.{IsDense};
 ghost use Rattle.group_store.specs.GroupRecord.{group_key};
+ghost use Rattle.group_store.specs.Leaving.{KeepsHeads};
 ghost use Rattle.rec_bytes.specs.Fault.{HasFaultCause, NotDamaged, OnDamage};
 ghost use Rattle.group_store.specs.Opening.{
   CanOpen,
@@ -77,6 +80,11 @@ pub fn open_head<S: Space>(
         → IsAt node label side row → ((g : ℕ) → MemberKeeps (S.state space.old).records g)
         → IfErr result (IsBreakFault (S.state space.old)) }
     ensures unwritten { OnDamage result (SameButReads (S.state space.old) (S.state space.new)) }
+    ensures owns { S.tells → IsDense (S.state space.old).records node
+        ⊎ IsSparse (S.state space.old).records node
+        → IfOk result (λ head. IsHeadOf (S.state space.new).records (head_of head) node) }
+    ensures heads { S.tells
+        → OnOk result (KeepsHeads (S.state space.old) (S.state space.new)) }
     ensures head { IfOk result (λ head. IsHead (head_of head)) }
     ensures own { IfOk result (λ head. is_meta_file head.key.file ≡ true) }
     ensures wrote { IfOk result (λ head.
@@ -121,6 +129,7 @@ fn open_group<S: Space>(space: &mut S, node: u32, label: u32, side: Side) -> Res
         → IfErr result (IsOpenFault (S.state space.old)) }
     ensures unwritten { S.tells → IsDense (S.state space.old).records node
         → OnDamage result (SameButReads (S.state space.old) (S.state space.new)) }
+    ensures at { IfOk result (λ head. head.key.file ≡ groups_file) }
     ensures head { IfOk result (λ head. IsHead (head_of head)) }
     ensures own { IfOk result (λ head. is_meta_file head.key.file ≡ true) }
     ensures wrote { IfOk result (λ head.
@@ -161,6 +170,10 @@ pub fn open_chain<S: Space>(
         ⊎ IsSparse (S.state space.old).records node
         → (S.state space.old).shape.threshold ≤ threshold
         → IfErr result (IsDenseFault (S.state space.old) (S.state space.new) node) }
+    ensures told { S.tells → (S.state space.old).shape.threshold ≤ threshold
+        → IfErr result (IsEndFault (S.state space.new) node) }
+    ensures at { IfOk result
+        (λ head. (head.key ≡ node_key node) ⊎ (head.key.file ≡ groups_file)) }
     ensures head { IfOk result (λ head. IsHead (head_of head)) }
     ensures own { IfOk result (λ head. is_meta_file head.key.file ≡ true) }
     ensures wrote { IfOk result (λ head. WritesOpened (S.state space.old) (S.state space.new)

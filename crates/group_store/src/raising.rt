@@ -11,6 +11,7 @@ ghost use Rattle.store_rules.specs.Views.{degree};
 ghost use Rattle.chain_edit.specs.Breaks.{IsBreakFault};
 ghost use Rattle.chain_edit.specs.Length.{HasCounted, IsMemberChain};
 ghost use Rattle.group_store.specs.GroupRecord.{group_key};
+ghost use Rattle.group_store.specs.Leaving.{KeepsHeads};
 ghost use Rattle.group_store.specs.Raising.{
   AreLengths,
   CanRaise,
@@ -53,6 +54,8 @@ pub(crate) fn count_group<S: Space>(space: &mut S, node: u32, row: &GroupRow) ->
         → IfErr result (IsBreakFault (S.state space.old)) }
     ensures counted { row.now.counted ≡ true → IsOk result }
     ensures unwritten { OnDamage result (SameButReads (S.state space.old) (S.state space.new)) }
+    ensures heads { S.tells
+        → OnOk result (KeepsHeads (S.state space.old) (S.state space.new)) }
     ensures writes { WritesOnly (S.state space.old) (S.state space.new)
         (group_key row.now.id ∷ []) }
     ensures onward { S.onward space.old space.new }

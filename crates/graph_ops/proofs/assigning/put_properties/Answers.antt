@@ -136,3 +136,13 @@ returns-in_err-add-clause-damaged g c tells =
 pub returns-in_err-add-clause-cause : goal.returns-in_err-add-clause-cause
 returns-in_err-add-clause-cause g c =
     set_cause_passed _ _ _ c.from_residual.result c.in_err-add.field-0.0 c.loop-assignment.invariant.later c.in_err-add.ensures.cause c.from_residual.ensures.1
+
+pub returns-in_err-add-clause-adds : goal.returns-in_err-add-clause-adds
+returns-in_err-add-clause-adds g c tells =
+    let s = g.S.Reads.state c.args.space.now in
+    let t = g.S.Reads.state c.loop-assignment.space in
+    let u = g.S.Reads.state c.add.new.space in
+    adds_then c.args.owner.key s t u (c.loop-assignment.invariant.adds tells) (adds_value g.S.Reads.tells c.args.owner.key _ _ t u tells (g.met.S.Reads.onward_shape _ _ c.add.ensures.onward) c.add.ensures.touches)
+
+pub returns-clause-adds : goal.returns-clause-adds
+returns-clause-adds g c tells = c.loop-assignment.invariant.adds tells

@@ -13,7 +13,7 @@ use Rattle.prop_store.specs.declared.owner.Owner.{Owner}
 use Rattle.graph_ops.specs.Assigning.{CanPut, HasPropertyRoom, PutsPairs, assigned_blocks, pairs_of}
 use Rattle.graph_ops.specs.Change.{IsCounted, IsRefusal, MakesChange}
 use Rattle.graph_ops.specs.ChangeFault.{IsOutside, LeavesSpace}
-use Rattle.graph_ops.specs.EdgeAdding.{IsFullOfEdges, degrees_weight}
+use Rattle.graph_ops.specs.EdgeAdding.{BlamesLinking, IsFullOfEdges, degrees_weight}
 use Rattle.graph_ops.specs.EdgePlacing.{PutsEdge}
 use Rattle.graph_ops.specs.NodeDeleting.{HasDegree}
 use Rattle.graph_ops.specs.Preparing.{IsPrepared}
@@ -31,6 +31,11 @@ use Rattle.graph_ops.proofs.Writes.{on_any_err}
 use Rattle.graph_ops.specs.Causes.{IsCaused}
 use Rattle.graph_ops.proofs.Causes.{absent_caused, caused_read, failure_caused, line_edge, no_edge, node_of, put_caused, room_caused}
 use Rattle.graph_ops.proofs.DiskCauses.{change_cause_passed, later_on, room_refusal_cause}
+use Rattle.store_rules.specs.Views.{key_in}
+use Rattle.graph_ops.specs.Damage.{AddsElement, BreaksAdding, IfBlames, IsBroken}
+use Rattle.graph_ops.proofs.Adding.{breaks_then, line_blamed, room_blamed}
+use Rattle.graph_ops.proofs.Broken.{blames_more}
+use Rattle.graph_ops.proofs.JoinBlames.{absent_blamed, adds_back}
 use Rattle.graph_ops.proofs.edge_adding.add_edge.Goals as goal
 use Rattle.graph_ops.proofs.edge_adding.add_edge.Goals.{After-prepare, After-put_properties, In_err-id, In_err-put_properties, In_ok-id, In_ok-prepared, In_ok-put_properties, In_ok-target, In_ok-test_room}
 use Rattle.graph_ops.proofs.edge_adding.add_edge.Given.{Over}
@@ -402,3 +407,56 @@ returns-in_err-id-clause-cause g c =
 pub returns-in_err-put_properties-clause-cause : goal.returns-in_err-put_properties-clause-cause
 returns-in_err-put_properties-clause-cause g c =
     change_cause_passed _ _ _ c.from_residual-in_err-put_properties.result c.in_err-put_properties.field-0.0 (later_on (later_on (later_on c.in_ok-source.ensures.cause.later c.in_ok-target.ensures.cause.later) c.in_ok-prepared.ensures.cause.later) c.in_ok-id.ensures.cause.later) c.in_err-put_properties.ensures.cause c.from_residual-in_err-put_properties.ensures.1
+
+-- ---- which record is blamed
+pub returns-in_err-source-clause-damaged : goal.returns-in_err-source-clause-damaged
+returns-in_err-source-clause-damaged g c tells =
+    let s = g.S.Reads.state c.args.space.now in
+    let m = g.S.Reads.state c.node_degree.new.space in
+    fault_exit (λ f. f) (BlamesLinking s m c.args.from c.args.to) c.in_err-source.field-0.0 c.from_residual.result c.from_residual.ensures.1
+    (blames_more _ _ (λ damage told. inl told) c.in_err-source.field-0.0 (absent_blamed s (targets.Node c.args.from) c.in_err-source.field-0.0 (c.in_err-source.ensures.absent tells)))
+
+pub returns-in_err-target-clause-damaged : goal.returns-in_err-target-clause-damaged
+returns-in_err-target-clause-damaged g c tells =
+    let s = g.S.Reads.state c.args.space.now in
+    let m = g.S.Reads.state c.node_degree.new.space in
+    let n = g.S.Reads.state c.node_degree-2.new.space in
+    let fault = c.in_err-target.field-0.0 in
+    fault_exit (λ f. f) (BlamesLinking s n c.args.from c.args.to) fault c.from_residual-in_err-target.result c.from_residual-in_err-target.ensures.1
+    (blames_more _ _ (λ damage told. inl told) fault (subst (λ (z : State). IfBlames (IsBroken z) fault) c.node_degree.ensures.state (absent_blamed m (targets.Node c.args.to) fault (c.in_err-target.ensures.absent tells))))
+
+pub returns-in_err-test_room-clause-damaged : goal.returns-in_err-test_room-clause-damaged
+returns-in_err-test_room-clause-damaged g c tells =
+    let s = g.S.Reads.state c.args.space.now in
+    let n = g.S.Reads.state c.node_degree-2.new.space in
+    fault_exit (λ f. f) (BlamesLinking s n c.args.from c.args.to) c.in_err-test_room.field-0.0 c.from_residual-in_err-test_room.result c.from_residual-in_err-test_room.ensures.1
+    (room_blamed _ n format.relationships_file 1 c.in_err-test_room.field-0.0 c.in_err-test_room.ensures.full)
+
+pub returns-in_err-prepared-clause-damaged : goal.returns-in_err-prepared-clause-damaged
+returns-in_err-prepared-clause-damaged g c tells =
+    let s = g.S.Reads.state c.args.space.now in
+    let n = g.S.Reads.state c.node_degree-2.new.space in
+    let u = g.S.Reads.state c.prepare.new.space in
+    fault_exit (λ f. f) (BlamesLinking s u c.args.from c.args.to) c.in_err-prepared.field-0.0 c.from_residual-in_err-prepared.result c.from_residual-in_err-prepared.ensures.1
+    (line_blamed _ n c.args.names.now.names c.args.label.now c.as_slice-pairs.result.now c.in_err-prepared.field-0.0 (c.in_err-prepared.ensures.caused tells))
+
+pub returns-in_err-id-clause-damaged : goal.returns-in_err-id-clause-damaged
+returns-in_err-id-clause-damaged g c tells =
+    let s = g.S.Reads.state c.args.space.now in
+    let v = g.S.Reads.state c.put_edge.new.space in
+    let limit = ap (λ (h : Shape). h.threshold) (c.shape-threshold.ensures.is ∙ sym (g.met.S.Reads.onward_shape _ _ c.prepare.ensures.onward)) in
+    fault_exit (λ f. f) (BlamesLinking s v c.args.from c.args.to) c.in_err-id.field-0.0 c.from_residual-in_err-id.result c.from_residual-in_err-id.ensures.1
+    (blames_more _ _ (λ damage told. inr (inl told)) c.in_err-id.field-0.0 (c.in_err-id.ensures.damaged tells (omega arith)))
+
+pub returns-in_err-put_properties-clause-damaged : goal.returns-in_err-put_properties-clause-damaged
+returns-in_err-put_properties-clause-damaged g c tells =
+    let s = g.S.Reads.state c.args.space.now in
+    let v = g.S.Reads.state c.put_edge.new.space in
+    let w = g.S.Reads.state c.put_properties.new.space in
+    let id = c.in_ok-id.id in
+    let key = key_in format.relationships_file id in
+    let fault = c.in_err-put_properties.field-0.0 in
+    let told = subst (λ (o : Owner). IfBlames (BreaksAdding o.key v) fault) c.edge_owner.ensures (c.in_err-put_properties.ensures.damaged tells) in
+    let adds = subst (λ (o : Owner). AddsElement o.key v w) c.edge_owner.ensures (c.put_properties.ensures.adds tells) in
+    fault_exit (λ f. f) (BlamesLinking s w c.args.from c.args.to) fault c.from_residual-in_err-put_properties.result c.from_residual-in_err-put_properties.ensures.1
+    (blames_more _ _ (λ damage breaks. inr (inr (id, breaks_then key w v (adds_back key v w adds) damage breaks))) fault told)

@@ -1,4 +1,4 @@
-use Rattle.std.proofs.Common.{◌≡◌, ◌∙◌, ◌+◌, ℕ, Some, List, [], ◌∷◌, sym, ap, subst, arith, refl}
+use Rattle.std.proofs.Common.{◌≡◌, ◌∙◌, ◌+◌, ℕ, Some, List, [], ◌∷◌, sym, ap, subst, inl, inr, arith, refl}
 use Rattle.plain_graph.specs.Refusals.{change_reasons}
 use Rattle.plain_graph.specs.declared.command.Command.TheVariants as commands
 use Rattle.plain_graph.specs.declared.command.Target.TheVariants as targets
@@ -13,7 +13,7 @@ use Rattle.rel_store.specs.RelRecord.{rel_key}
 use Rattle.store_rules.specs.Writes.{WritesAtMost, WritesBeside}
 use Rattle.graph_ops.specs.Change.{IsRefusal}
 use Rattle.graph_ops.specs.ChangeFault.{LeavesSpace, of_fault, of_row}
-use Rattle.graph_ops.specs.EdgeDeleting.{HasBareRow}
+use Rattle.graph_ops.specs.EdgeDeleting.{BlamesDeleting, HasBareRow}
 use Rattle.graph_ops.specs.Store.{IsStore, graph_in}
 use Rattle.graph_ops.proofs.Deleting.{edge_element, edge_lacked, edge_made, left_bare, left_store}
 use Rattle.graph_ops.proofs.Elements.{edge_missing, same_rel}
@@ -26,6 +26,10 @@ use Rattle.graph_ops.proofs.Reasons.{outside_refused}
 use Rattle.store_rules.proofs.WriteLaws.{beside_then, beside_written, more_written, none_written, then_written}
 use Rattle.graph_ops.proofs.Writes.{on_any_err, touched_written}
 use Rattle.graph_ops.proofs.DiskCauses.{change_cause_passed, fault_cause_passed, later_on}
+use Rattle.prop_store.specs.Owner.{IsInUse}
+use Rattle.graph_ops.specs.Owners.{owner_of}
+use Rattle.graph_ops.proofs.Broken.{blames_more, rel_broken, rel_in_use}
+use Rattle.graph_ops.proofs.EdgeBlames.{drop_blamed}
 use Rattle.graph_ops.proofs.edge_deleting.delete_edge.Goals as goal
 use Rattle.graph_ops.proofs.edge_deleting.delete_edge.Goals.{After-drop_all, After-load, After-take_edge}
 use Rattle.graph_ops.proofs.edge_deleting.delete_edge.Given.{Over}
@@ -188,3 +192,31 @@ returns-in_err-dropped-clause-cause g c =
 pub returns-in_err-take_edge-clause-cause : goal.returns-in_err-take_edge-clause-cause
 returns-in_err-take_edge-clause-cause g c =
     change_cause_passed _ _ _ c.from_residual-in_err-take_edge.result c.in_err-take_edge.field-0.0 (later_on c.in_ok-rel.ensures.cause.later c.in_ok-dropped.ensures.cause.later) c.in_err-take_edge.ensures.cause c.from_residual-in_err-take_edge.ensures.1
+
+-- ---- which record is blamed
+pub returns-in_err-rel-clause-damaged : goal.returns-in_err-rel-clause-damaged
+returns-in_err-rel-clause-damaged g c tells =
+    let s = g.S.Reads.state c.args.space.now in
+    let v = g.S.Reads.state c.load.new.space in
+    fault_exit of_row (BlamesDeleting s v c.args.id) c.in_err-rel.field-0.0 c.from_residual.result c.from_residual.ensures.1
+    (blames_more _ _ (λ damage told. inl (inl told)) (of_row c.in_err-rel.field-0.0) (rel_broken s c.args.id c.in_err-rel.field-0.0 (c.in_err-rel.ensures.damaged tells)))
+
+pub returns-in_err-dropped-clause-damaged : goal.returns-in_err-dropped-clause-damaged
+returns-in_err-dropped-clause-damaged g c tells =
+    let s = g.S.Reads.state c.args.space.now in
+    let v = g.S.Reads.state c.load.new.space in
+    let u = g.S.Reads.state c.drop_all.new.space in
+    let at = (goal.at.returns-in_err-dropped-clause-damaged g c).After-drop_all in
+    let same = was_read g at in
+    let used = rel_in_use s (targets.Edge c.args.id) c.args.id c.in-Some.rel refl (found g at tells) in
+    fault_exit of_fault (BlamesDeleting s u c.args.id) c.in_err-dropped.field-0.0 c.from_residual-in_err-dropped.result c.from_residual-in_err-dropped.ensures.1
+    (drop_blamed s v u c.args.id same c.in_err-dropped.field-0.0
+    (c.in_err-dropped.ensures.damaged tells (subst (IsInUse v.records) (sym c.edge_owner.ensures) (subst (λ (z : State). IsInUse z.records (owner_of (targets.Edge c.args.id))) (sym same) used))))
+
+pub returns-in_err-take_edge-clause-damaged : goal.returns-in_err-take_edge-clause-damaged
+returns-in_err-take_edge-clause-damaged g c tells =
+    let s = g.S.Reads.state c.args.space.now in
+    let t = g.S.Reads.state c.take_edge.new.space in
+    let at = (goal.at.returns-in_err-take_edge-clause-damaged g c).After-take_edge in
+    fault_exit (λ f. f) (BlamesDeleting s t c.args.id) c.in_err-take_edge.field-0.0 c.from_residual-in_err-take_edge.result c.from_residual-in_err-take_edge.ensures.1
+    (blames_more _ _ (λ damage told. inr (c.in-Some.rel, sym (found g (goal.at.After-take_edge g at).After-drop_all tells), told)) c.in_err-take_edge.field-0.0 (c.in_err-take_edge.ensures.damaged tells))

@@ -1,4 +1,4 @@
-use Rattle.std.proofs.Common.{[], ap}
+use Rattle.std.proofs.Common.{◌⊎◌, [], ap, subst, sym}
 use Rattle.rec_bytes.specs.Space.{State}
 use Rattle.rec_bytes.proofs.Spaces.{writes_none}
 use Rattle.chain_edit.specs.declared.head.Head.{Head}
@@ -7,6 +7,11 @@ use Rattle.graph_ops.proofs.EndsFound.{end_found, end_of, end_readable}
 use Rattle.graph_ops.proofs.EndWrites.{read_then}
 use Rattle.graph_ops.proofs.Exits.{fault_exit, fault_fails, fault_outside}
 use Rattle.graph_ops.proofs.DiskCauses.{fault_cause_passed}
+use Rattle.group_store.specs.Densing.{IsSparse}
+use Rattle.group_store.specs.GroupChain.{IsDense}
+use Rattle.group_store.proofs.KeptHeads.{heads_same, heads_then}
+use Rattle.graph_ops.specs.EdgeDeleting.{BlamesEnd}
+use Rattle.graph_ops.proofs.EdgeBlames.{end_read, head_blamed}
 use Rattle.graph_ops.proofs.edge_deleting.edge_end.Goals as goal
 
 -- ---- why it fails
@@ -53,3 +58,29 @@ returns-clause-wrote g c = read_then _ _ _ _ c.end_degree.ensures.state c.in_ok-
 pub returns-in_err-head-clause-cause : goal.returns-in_err-head-clause-cause
 returns-in_err-head-clause-cause g c =
     fault_cause_passed _ _ _ c.from_residual-in_err-head.result c.in_err-head.field-0.0 c.in_ok-degree.ensures.cause.later c.in_err-head.ensures.cause c.from_residual-in_err-head.ensures.1
+
+-- ---- which record is blamed, and whose the head is
+pub returns-in_err-degree-clause-damaged : goal.returns-in_err-degree-clause-damaged
+returns-in_err-degree-clause-damaged g c tells =
+    let s = g.S.Reads.state c.args.space.now in
+    let m = g.S.Reads.state c.end_degree.new.space in
+    fault_exit (λ f. f) (BlamesEnd m c.args.id c.args.node c.args.rel.label) c.in_err-degree.field-0.0 c.from_residual.result c.from_residual.ensures.1
+    (end_read s m c.args.id c.args.node c.args.rel.label c.end_degree.ensures.state c.in_err-degree.field-0.0 (c.in_err-degree.ensures.damaged tells c.args.rel.label))
+
+pub returns-in_err-head-clause-damaged : goal.returns-in_err-head-clause-damaged
+returns-in_err-head-clause-damaged g c tells =
+    let m = g.S.Reads.state c.end_degree.new.space in
+    let t = g.S.Reads.state c.open_head.new.space in
+    fault_exit of_fault (BlamesEnd t c.args.id c.args.node c.args.rel.label) c.in_err-head.field-0.0 c.from_residual-in_err-head.result c.from_residual-in_err-head.ensures.1
+    (head_blamed m t c.args.id c.args.node c.args.rel.label c.in_err-head.field-0.0 (c.in_err-head.ensures.damaged tells) c.in_err-head.ensures.unwritten)
+
+pub returns-clause-has : goal.returns-clause-has
+returns-clause-has g c tells =
+    c.in_ok-head.ensures.owns tells (subst (λ (z : State). IsDense z.records c.args.node ⊎ IsSparse z.records c.args.node) (sym c.end_degree.ensures.state) (c.in_ok-degree.ensures.kind tells))
+
+pub returns-clause-heads : goal.returns-clause-heads
+returns-clause-heads g c tells =
+    let s = g.S.Reads.state c.args.space.now in
+    let m = g.S.Reads.state c.end_degree.new.space in
+    let t = g.S.Reads.state c.open_head.new.space in
+    heads_then s m t (heads_same s m c.end_degree.ensures.state) (c.in_ok-head.ensures.heads tells)

@@ -5,6 +5,11 @@ use Rattle.graph_ops.proofs.EndsFound.{both_found, loop_found, there_then}
 use Rattle.graph_ops.proofs.EndWrites.{one_group, one_head}
 use Rattle.graph_ops.proofs.Exits.{fault_exit}
 use Rattle.graph_ops.proofs.DiskCauses.{change_cause_passed}
+use Rattle.chain_edit.specs.Heads.{head_of}
+use Rattle.graph_ops.specs.Damage.{IfBlames}
+use Rattle.graph_ops.specs.EdgeDeleting.{IsTakenDamage}
+use Rattle.graph_ops.proofs.Broken.{blames_more}
+use Rattle.graph_ops.proofs.EdgeBlames.{end_taken}
 use Rattle.graph_ops.proofs.edge_deleting.edge_ends.Goals as goal
 
 -- ---- why it fails
@@ -58,3 +63,23 @@ returns-clause-wrote g c = writes_then _ _ _ _ _ c.in_ok-source.ensures.wrote c.
 pub returns-in_err-target-clause-cause : goal.returns-in_err-target-clause-cause
 returns-in_err-target-clause-cause g c =
     change_cause_passed _ _ _ c.from_residual-in_err-target.result c.in_err-target.field-0.0 c.in_ok-source.ensures.cause.later c.in_err-target.ensures.cause c.from_residual-in_err-target.ensures.1
+
+-- ---- which record is blamed, and whose the heads are
+pub returns-in_err-source-clause-damaged : goal.returns-in_err-source-clause-damaged
+returns-in_err-source-clause-damaged g c tells =
+    let t = g.S.Reads.state c.edge_end.new.space in
+    fault_exit (λ f. f) (IfBlames (IsTakenDamage t c.args.id c.args.rel)) c.in_err-source.field-0.0 c.from_residual.result c.from_residual.ensures.1
+    (blames_more _ _ (end_taken t c.args.id c.args.rel c.args.rel.from (inl refl)) c.in_err-source.field-0.0 (c.in_err-source.ensures.damaged tells))
+
+pub returns-in_err-target-clause-damaged : goal.returns-in_err-target-clause-damaged
+returns-in_err-target-clause-damaged g c tells =
+    let u = g.S.Reads.state c.edge_end-2.new.space in
+    fault_exit (λ f. f) (IfBlames (IsTakenDamage u c.args.id c.args.rel)) c.in_err-target.field-0.0 c.from_residual-in_err-target.result c.from_residual-in_err-target.ensures.1
+    (blames_more _ _ (end_taken u c.args.id c.args.rel c.args.rel.to (inr refl)) c.in_err-target.field-0.0 (c.in_err-target.ensures.damaged tells))
+
+pub returns-then-rel-clause-heads : goal.returns-then-rel-clause-heads
+returns-then-rel-clause-heads g c tells = (c.in_ok-source.ensures.has tells, c.in_ok-source.ensures.has tells)
+
+pub returns-clause-heads : goal.returns-clause-heads
+returns-clause-heads g c tells =
+    (c.in_ok-target.ensures.heads tells (head_of c.in_ok-source.source.head) c.in_ok-source.source.node (c.in_ok-source.ensures.has tells), c.in_ok-target.ensures.has tells)

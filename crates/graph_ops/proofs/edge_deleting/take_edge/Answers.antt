@@ -2,6 +2,8 @@ use Rattle.graph_ops.specs.ChangeFault.{IsOutside}
 use Rattle.graph_ops.proofs.EndsFound.{taken_then}
 use Rattle.graph_ops.proofs.EndWrites.{groups_beside, taken_after, taken_beside}
 use Rattle.graph_ops.proofs.Exits.{fault_exit, on_ok}
+use Rattle.graph_ops.specs.Damage.{IfBlames}
+use Rattle.graph_ops.specs.EdgeDeleting.{IsTakenDamage}
 use Rattle.graph_ops.proofs.edge_deleting.take_edge.Goals as goal
 
 -- ---- why it fails
@@ -33,3 +35,13 @@ returns-clause-writes g c =
     let ends = c.in_ok-ends.ends in
     let is = c.in_ok-ends.ensures.ends in
     taken_beside _ _ c.args.id ends.source ends.target is.0 is.1 (taken_after _ _ _ c.args.id ends.source ends.target c.in_ok-ends.ensures.wrote c.unlink_edge.ensures.writes)
+
+-- ---- which record is blamed
+pub returns-in_err-ends-clause-damaged : goal.returns-in_err-ends-clause-damaged
+returns-in_err-ends-clause-damaged g c tells =
+    fault_exit (λ f. f) (IfBlames (IsTakenDamage (g.S.Reads.state c.edge_ends.new.space) c.args.id c.args.rel)) c.in_err-ends.field-0.0 c.from_residual.result c.from_residual.ensures.1 (c.in_err-ends.ensures.damaged tells)
+
+pub returns-clause-damaged : goal.returns-clause-damaged
+returns-clause-damaged g c tells =
+    let has = c.in_ok-ends.ensures.heads tells in
+    c.unlink_edge.ensures.damaged tells has.0 has.1 c.args.rel

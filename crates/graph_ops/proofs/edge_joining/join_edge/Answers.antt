@@ -6,6 +6,8 @@ use Rattle.graph_ops.proofs.Exits.{fault_exit}
 use Rattle.graph_ops.proofs.JoinWrites.{placed_joined, placed_written}
 use Rattle.graph_ops.proofs.Writes.{on_any_err}
 use Rattle.graph_ops.proofs.DiskCauses.{change_cause_passed}
+use Rattle.graph_ops.specs.Damage.{IfBlames}
+use Rattle.graph_ops.specs.EdgeAdding.{IsJoinDamage}
 use Rattle.graph_ops.proofs.edge_joining.join_edge.Goals as goal
 
 pub returns-in_err-id-clause-sound : goal.returns-in_err-id-clause-sound
@@ -45,3 +47,13 @@ returns-in_err-join_ends-clause-err_writes g c =
 pub returns-in_err-join_ends-clause-cause : goal.returns-in_err-join_ends-clause-cause
 returns-in_err-join_ends-clause-cause g c =
     change_cause_passed _ _ _ c.from_residual-in_err-join_ends.result c.in_err-join_ends.field-0.0 c.in_ok-id.ensures.cause.later c.in_err-join_ends.ensures.cause c.from_residual-in_err-join_ends.ensures.1
+
+-- ---- which record is blamed
+pub returns-in_err-id-clause-damaged : goal.returns-in_err-id-clause-damaged
+returns-in_err-id-clause-damaged g c tells source target =
+    fault_exit (λ f. f) (IfBlames (IsJoinDamage (g.S.Reads.state c.place.new.space) c.args.source.node c.args.target.node)) c.in_err-id.field-0.0 c.from_residual.result c.from_residual.ensures.1 (c.in_err-id.ensures.damaged tells)
+
+pub returns-in_err-join_ends-clause-damaged : goal.returns-in_err-join_ends-clause-damaged
+returns-in_err-join_ends-clause-damaged g c tells source target =
+    fault_exit (λ f. f) (IfBlames (IsJoinDamage (g.S.Reads.state c.join_ends.new.space) c.args.source.node c.args.target.node)) c.in_err-join_ends.field-0.0 c.from_residual-in_err-join_ends.result c.from_residual-in_err-join_ends.ensures.1
+    (c.in_err-join_ends.ensures.damaged tells source target)

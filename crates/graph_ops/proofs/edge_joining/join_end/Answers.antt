@@ -2,6 +2,9 @@ use Rattle.graph_ops.specs.ChangeFault.{IsFailure, of_fault, of_space}
 use Rattle.graph_ops.proofs.Exits.{fault_fails, fault_exit, space_fails}
 use Rattle.graph_ops.proofs.JoinWrites.{end_written, head_written}
 use Rattle.graph_ops.proofs.DiskCauses.{space_cause_passed}
+use Rattle.graph_ops.specs.EdgeAdding.{BlamesHead}
+use Rattle.graph_ops.proofs.Adding.{space_blamed}
+use Rattle.graph_ops.proofs.JoinBlames.{push_blamed}
 use Rattle.graph_ops.proofs.edge_joining.join_end.Goals as goal
 
 pub returns-clause-writes : goal.returns-clause-writes
@@ -22,3 +25,15 @@ returns-in_err-set_number-clause-failure g c = fault_exit of_space IsFailure c.i
 pub returns-in_err-set_number-clause-cause : goal.returns-in_err-set_number-clause-cause
 returns-in_err-set_number-clause-cause g c =
     space_cause_passed _ _ _ c.from_residual-in_err-set_number.result c.in_err-set_number.field-0.0 c.in_ok-push_counted.ensures.cause.later c.in_err-set_number.ensures.cause c.from_residual-in_err-set_number.ensures.1
+
+-- ---- which record is blamed
+pub returns-in_err-push_counted-clause-damaged : goal.returns-in_err-push_counted-clause-damaged
+returns-in_err-push_counted-clause-damaged g c tells =
+    let s = g.S.Reads.state c.args.space.now in
+    let t = g.S.Reads.state c.push_counted.new.space in
+    fault_exit of_fault (BlamesHead t c.args.end) c.in_err-push_counted.field-0.0 c.from_residual.result c.from_residual.ensures.1
+    (push_blamed s t c.args.end c.in_err-push_counted.field-0.0 (c.in_err-push_counted.ensures.damaged tells) c.in_err-push_counted.ensures.unwritten)
+
+pub returns-in_err-set_number-clause-damaged : goal.returns-in_err-set_number-clause-damaged
+returns-in_err-set_number-clause-damaged g c tells =
+    fault_exit of_space (BlamesHead (g.S.Reads.state c.set_number.new.space) c.args.end) c.in_err-set_number.field-0.0 c.from_residual-in_err-set_number.result c.from_residual-in_err-set_number.ensures.1 (space_blamed _ c.in_err-set_number.field-0.0)

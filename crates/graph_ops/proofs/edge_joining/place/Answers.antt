@@ -12,6 +12,9 @@ use Rattle.graph_ops.proofs.Takes.{taken-shape}
 use Rattle.store_rules.proofs.WriteLaws.{among_metas}
 use Rattle.graph_ops.proofs.Writes.{on_any_err, only_read}
 use Rattle.graph_ops.proofs.DiskCauses.{space_cause_passed}
+use Rattle.graph_ops.specs.Damage.{IfBlames}
+use Rattle.graph_ops.specs.EdgeAdding.{IsJoinDamage}
+use Rattle.graph_ops.proofs.Adding.{space_blamed}
 use Rattle.graph_ops.proofs.edge_joining.place.Goals as goal
 use Rattle.graph_ops.proofs.edge_joining.place.Goals.{After-save, In_ok-id}
 use Rattle.graph_ops.proofs.edge_joining.place.Given.{Over}
@@ -63,3 +66,12 @@ returns-in_err-save-clause-failure g c = fault_exit of_space IsFailure c.in_err-
 pub returns-in_err-save-clause-cause : goal.returns-in_err-save-clause-cause
 returns-in_err-save-clause-cause g c =
     space_cause_passed _ _ _ c.from_residual-in_err-save.result c.in_err-save.field-0.0 c.in_ok-id.ensures.cause.later c.in_err-save.ensures.cause c.from_residual-in_err-save.ensures.1
+
+-- ---- which record is blamed
+pub returns-in_err-id-clause-damaged : goal.returns-in_err-id-clause-damaged
+returns-in_err-id-clause-damaged g c tells =
+    fault_exit (λ f. f) (IfBlames (IsJoinDamage (g.S.Reads.state c.take_id.new.space) c.args.from c.args.to)) c.in_err-id.field-0.0 c.from_residual.result c.from_residual.ensures.1 (c.in_err-id.ensures.damaged tells c.args.from c.args.to)
+
+pub returns-in_err-save-clause-damaged : goal.returns-in_err-save-clause-damaged
+returns-in_err-save-clause-damaged g c tells =
+    fault_exit of_space (IfBlames (IsJoinDamage (g.S.Reads.state c.save.new.space) c.args.from c.args.to)) c.in_err-save.field-0.0 c.from_residual-in_err-save.result c.from_residual-in_err-save.ensures.1 (space_blamed _ c.in_err-save.field-0.0)

@@ -1,4 +1,4 @@
-use Rattle.std.proofs.Common.{◌+◌, ℕ, List, [], sym, subst, arith, refl}
+use Rattle.std.proofs.Common.{◌+◌, ◌≤◌, ℕ, List, [], sym, subst, inl, inr, arith, refl}
 use Rattle.chain_edit.specs.Heads.{head_of}
 use Rattle.group_store.specs.Opening.{OpensChain}
 use Rattle.graph_ops.specs.declared.edge_end.EdgeEnd.{EdgeEnd}
@@ -10,6 +10,11 @@ use Rattle.graph_ops.proofs.Exits.{fault_exit}
 use Rattle.graph_ops.proofs.OpenWrites.{both_wrote, loop_moved, loop_wrote, pair_moved}
 use Rattle.store_rules.proofs.WriteLaws.{beside_written, more_written, then_written}
 use Rattle.graph_ops.proofs.DiskCauses.{change_cause_passed}
+use Rattle.rec_bytes.specs.declared.shape.Shape.{Shape}
+use Rattle.graph_ops.specs.Damage.{IfBlames}
+use Rattle.graph_ops.specs.EdgeAdding.{IsJoinDamage}
+use Rattle.graph_ops.specs.EdgeAdding.IsJoinDamage.{NoHead}
+use Rattle.graph_ops.proofs.Broken.{blames_more}
 use Rattle.graph_ops.proofs.edge_opening.open_ends.Goals as goal
 use Rattle.graph_ops.proofs.edge_opening.open_ends.Goals.{In_ok-source}
 use Rattle.graph_ops.proofs.edge_opening.open_ends.Given.{Over}
@@ -99,3 +104,21 @@ returns-clause-wrote g c =
 pub returns-in_err-target-clause-cause : goal.returns-in_err-target-clause-cause
 returns-in_err-target-clause-cause g c =
     change_cause_passed _ _ _ c.from_residual-in_err-target.result c.in_err-target.field-0.0 c.in_ok-source.ensures.cause.later c.in_err-target.ensures.cause c.from_residual-in_err-target.ensures.1
+
+-- ---- which record is blamed, and where the heads are
+pub returns-in_err-source-clause-damaged : goal.returns-in_err-source-clause-damaged
+returns-in_err-source-clause-damaged g c tells le =
+    fault_exit (λ f. f) (IfBlames (IsJoinDamage (g.S.Reads.state c.open_end.new.space) c.args.from c.args.to)) c.in_err-source.field-0.0 c.from_residual.result c.from_residual.ensures.1
+    (blames_more _ _ (λ damage told. NoHead damage c.args.from (inl refl) told) c.in_err-source.field-0.0 (c.in_err-source.ensures.damaged tells le))
+
+pub returns-in_err-target-clause-damaged : goal.returns-in_err-target-clause-damaged
+returns-in_err-target-clause-damaged g c tells le =
+    let now = subst (λ (h : Shape). h.threshold ≤ c.args.threshold) (sym (g.met.S.Reads.onward_shape _ _ c.open_end.ensures.onward)) le in
+    fault_exit (λ f. f) (IfBlames (IsJoinDamage (g.S.Reads.state c.open_end-2.new.space) c.args.from c.args.to)) c.in_err-target.field-0.0 c.from_residual-in_err-target.result c.from_residual-in_err-target.ensures.1
+    (blames_more _ _ (λ damage told. NoHead damage c.args.to (inr refl) told) c.in_err-target.field-0.0 (c.in_err-target.ensures.damaged tells now))
+
+pub returns-then-from-to-clause-at : goal.returns-then-from-to-clause-at
+returns-then-from-to-clause-at g c = (c.in_ok-source.ensures.at, c.in_ok-source.ensures.at)
+
+pub returns-clause-at : goal.returns-clause-at
+returns-clause-at g c = (c.in_ok-source.ensures.at, c.in_ok-target.ensures.at)

@@ -1,9 +1,14 @@
 use Rattle.std.proofs.Common.{◌∙◌}
-use Rattle.graph_ops.specs.ChangeFault.{IsOutside}
+use Rattle.graph_ops.specs.ChangeFault.{IsOutside, of_space}
 use Rattle.graph_ops.proofs.EdgeTaken.{parts_edge, right_from_next, right_from_prev, right_to_next, right_to_prev}
 use Rattle.graph_ops.proofs.EndWrites.{ends_given}
-use Rattle.graph_ops.proofs.Exits.{fault_exit}
+use Rattle.graph_ops.proofs.Exits.{fault_exit, space_outside}
 use Rattle.graph_ops.proofs.DiskCauses.{space_cause_passed}
+use Rattle.graph_ops.specs.Damage.{IfBlames}
+use Rattle.graph_ops.specs.EdgeDeleting.{IsTakenDamage}
+use Rattle.group_store.proofs.KeptHeads.{heads_then}
+use Rattle.graph_ops.proofs.Adding.{space_blamed}
+use Rattle.graph_ops.proofs.EdgeBlames.{heads_given}
 use Rattle.graph_ops.proofs.edge_parting.part_edge.Goals as goal
 
 pub returns-in_err-part_ends-clause-sound : goal.returns-in_err-part_ends-clause-sound
@@ -15,6 +20,10 @@ returns-in_err-part_ends-clause-sound g c tells names store bare =
     (right_from_next s names c.args.id c.args.source c.args.target store bare)
     (λ _. right_to_prev s names c.args.id c.args.source c.args.target store bare)
     (λ _. right_to_next s names c.args.id c.args.source c.args.target store bare))
+
+pub returns-in_err-give-clause-sound : goal.returns-in_err-give-clause-sound
+returns-in_err-give-clause-sound g c tells names store bare =
+    fault_exit of_space IsOutside c.in_err-give.field-0.0 c.from_residual-in_err-give.result c.from_residual-in_err-give.ensures.1 (space_outside c.in_err-give.field-0.0)
 
 pub returns-clause-parted : goal.returns-clause-parted
 returns-clause-parted g c tells names store bare =
@@ -30,3 +39,19 @@ returns-in_err-give-clause-writes g c = ends_given _ _ _ c.args.source c.args.ta
 pub returns-in_err-give-clause-cause : goal.returns-in_err-give-clause-cause
 returns-in_err-give-clause-cause g c =
     space_cause_passed _ _ _ c.from_residual-in_err-give.result c.in_err-give.field-0.0 c.in_ok-part_ends.ensures.cause.later c.in_err-give.ensures.cause c.from_residual-in_err-give.ensures.1
+
+-- ---- which record is blamed, and heads that stay
+pub returns-in_err-part_ends-clause-damaged : goal.returns-in_err-part_ends-clause-damaged
+returns-in_err-part_ends-clause-damaged g c tells row =
+    fault_exit (λ f. f) (IfBlames (IsTakenDamage (g.S.Reads.state c.part_ends.new.space) c.args.id row)) c.in_err-part_ends.field-0.0 c.from_residual.result c.from_residual.ensures.1 (c.in_err-part_ends.ensures.damaged tells row)
+
+pub returns-in_err-give-clause-damaged : goal.returns-in_err-give-clause-damaged
+returns-in_err-give-clause-damaged g c tells row =
+    fault_exit of_space (IfBlames (IsTakenDamage (g.S.Reads.state c.give.new.space) c.args.id row)) c.in_err-give.field-0.0 c.from_residual-in_err-give.result c.from_residual-in_err-give.ensures.1 (space_blamed _ c.in_err-give.field-0.0)
+
+pub returns-clause-heads : goal.returns-clause-heads
+returns-clause-heads g c tells source target =
+    let s = g.S.Reads.state c.args.space.now in
+    let u = g.S.Reads.state c.part_ends.new.space in
+    let t = g.S.Reads.state c.give.new.space in
+    heads_then s u t (c.in_ok-part_ends.ensures.heads tells source target) (heads_given u t c.args.id (c.give.ensures.stays tells))

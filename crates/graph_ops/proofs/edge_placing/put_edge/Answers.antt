@@ -1,4 +1,4 @@
-use Rattle.std.specs.Prelude.{slice_get}
+use Rattle.std.specs.Prelude.{IfErr, slice_get}
 use Rattle.std.proofs.Common.{◌≡◌, ◌+◌, ℕ, List, Some, ap, subst, arith}
 use Rattle.rec_bytes.specs.declared.meta.Meta.{Meta}
 use Rattle.rec_bytes.specs.Format as format
@@ -17,6 +17,8 @@ use Rattle.graph_ops.proofs.NodePut.{number_in}
 use Rattle.graph_ops.proofs.OpenWrites.{err_more, put_beside, put_failed}
 use Rattle.store_rules.proofs.WriteLaws.{beside_more, more_written}
 use Rattle.graph_ops.proofs.Writes.{on_any_err}
+use Rattle.graph_ops.specs.Damage.{IfBlames}
+use Rattle.graph_ops.specs.EdgeAdding.{IsJoinDamage}
 use Rattle.graph_ops.proofs.edge_placing.put_edge.Goals as goal
 
 pub returns-in_err-ends-clause-sound : goal.returns-in_err-ends-clause-sound
@@ -69,3 +71,16 @@ returns-clause-err_writes g c =
     let most = ends_moved c.args.threshold c.args.from c.args.from_degree c.args.to c.args.to_degree in
     err_more ((6 + most) + 7) (13 + most) s u (omega arith) c.join_edge.result
     (put_failed s (g.S.Reads.state c.open_ends.new.space) u c.in_ok-ends.ends ends.0 ends.1 c.in_ok-ends.ensures.writes c.join_edge.result c.join_edge.ensures.err_writes)
+
+-- ---- which record is blamed
+pub returns-in_err-ends-clause-damaged : goal.returns-in_err-ends-clause-damaged
+returns-in_err-ends-clause-damaged g c tells le =
+    fault_exit (λ f. f) (IfBlames (IsJoinDamage (g.S.Reads.state c.open_ends.new.space) c.args.from c.args.to)) c.in_err-ends.field-0.0 c.from_residual.result c.from_residual.ensures.1 (c.in_err-ends.ensures.damaged tells le)
+
+pub returns-clause-damaged : goal.returns-clause-damaged
+returns-clause-damaged g c tells le =
+    let u = g.S.Reads.state c.join_edge.new.space in
+    let nodes = c.in_ok-ends.ensures.nodes in
+    let at = c.in_ok-ends.ensures.at in
+    subst (λ n. IfErr c.join_edge.result (IfBlames (IsJoinDamage u n c.args.to))) nodes.0
+    (subst (λ n. IfErr c.join_edge.result (IfBlames (IsJoinDamage u c.in_ok-ends.ends.source.node n))) nodes.1 (c.join_edge.ensures.damaged tells at.0 at.1))

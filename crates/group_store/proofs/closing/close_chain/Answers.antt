@@ -9,6 +9,7 @@ use Rattle.group_store.specs.GroupRecord.{group_key}
 use Rattle.chain_edit.specs.Heads.{head_of}
 use Rattle.group_store.proofs.BrokenGroups.{close_breaks}
 use Rattle.group_store.proofs.Closings.{closable, closed_by}
+use Rattle.group_store.proofs.KeptHeads.{heads_closed}
 use Rattle.group_store.proofs.Openings.{handed}
 use Rattle.group_store.proofs.Causes.{cause_passed}
 use Rattle.group_store.proofs.closing.close_chain.Goals as goal
@@ -48,3 +49,14 @@ returns-in_err-drop_if_empty-clause-breaks g c = λ tells owns.
 pub returns-in_err-drop_if_empty-clause-cause : goal.returns-in_err-drop_if_empty-clause-cause
 returns-in_err-drop_if_empty-clause-cause g c =
     cause_passed _ _ _ c.from_residual.result c.in_err-drop_if_empty.field-0.0 (omega arith) c.in_err-drop_if_empty.ensures.cause c.from_residual.ensures.1
+
+-- ---- damage, and heads of other nodes
+pub returns-in_err-drop_if_empty-clause-unwritten : goal.returns-in_err-drop_if_empty-clause-unwritten
+returns-in_err-drop_if_empty-clause-unwritten g c =
+    let p = err_from_is_err_and c.from_residual.result c.from_residual.ensures.1 in
+    rw (p.1, p.2) c.in_err-drop_if_empty.ensures.unwritten
+
+pub returns-in_ok-drop_if_empty-clause-heads : goal.returns-in_ok-drop_if_empty-clause-heads
+returns-in_ok-drop_if_empty-clause-heads g c = λ tells owns.
+    heads_closed (g.S.Reads.state c.args.space.now) (g.S.Reads.state c.drop_if_empty.new.space) (head_of c.args.head) c.args.node c.if-head-eq-GROUPS.true owns
+    c.in_ok-drop_if_empty.field-0 c.in_ok-drop_if_empty.ensures.kept (c.in_ok-drop_if_empty.ensures.ok tells)

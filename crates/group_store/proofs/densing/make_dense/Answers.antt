@@ -3,13 +3,13 @@ use Rattle.rec_bytes.specs.declared.damage.Damage.{Damage}
 use Rattle.rec_bytes.specs.Fault.{of_row}
 use Rattle.rec_bytes.specs.Format.{nodes_file, sparse as sparse_kind}
 use Rattle.rec_bytes.specs.Space.{State}
-use Rattle.node_store.proofs.Rows.{kind-row_at-Some as node_row}
+use Rattle.node_store.proofs.Rows.{kind-row_at-None as no_node_row, kind-row_at-Some as node_row}
 use Rattle.store_rules.specs.Breaking.{Breaks}
 use Rattle.group_store.specs.Densing.{CanBecomeDense}
 use Rattle.group_store.specs.GroupChain.{IsDense}
 use Rattle.group_store.proofs.BrokenGroups.{node_fault_breaks}
 use Rattle.group_store.proofs.ChainHeads.{same_twice}
-use Rattle.group_store.proofs.DenseFaults.{broken_then, can_of, left_there, none_unused, sparse_undamaged, unmoved}
+use Rattle.group_store.proofs.DenseFaults.{broken_then, can_of, end_broken, end_moved, left_there, none_unused, sparse_known, sparse_undamaged, unmoved}
 use Rattle.group_store.proofs.DenseStays.{dense_cleared}
 use Rattle.group_store.proofs.GroupWalks.{not_damaged}
 use Rattle.group_store.proofs.Raises.{breaks_read}
@@ -352,3 +352,60 @@ returns-in_err-clear-clause-cause g c =
 pub returns-in_err-turn-clause-cause : goal.returns-in_err-turn-clause-cause
 returns-in_err-turn-clause-cause g c =
     cause_passed _ _ _ c.from_residual-in_err-turn.result c.in_err-turn.field-0.0 c.loop.invariant.later c.in_err-turn.ensures.cause c.from_residual-in_err-turn.ensures.1
+
+-- ---- what is told by the space as it is then
+
+pub returns-in_err-row-clause-told : goal.returns-in_err-row-clause-told
+returns-in_err-row-clause-told g c = λ tells thin le.
+    let s = g.S.Reads.state c.args.space.now in
+    let l = g.S.Reads.state c.load.new.space in
+    let fault = of_row c.in_err-row.field-0.0 in
+    let p = err_from_is_err_and c.from_residual.result c.from_residual.ensures.1 in
+    rw (p.1, p.2) (end_broken s l c.args.node fault (only_loads_node s l c.args.node c.load.ensures.state) (node_fault_breaks s c.args.node fault (node_fault s c.args.node c.in_err-row.field-0.0 (c.in_err-row.ensures.damaged tells))))
+
+pub returns-in_default-clause-told : goal.returns-in_default-clause-told
+returns-in_default-clause-told g c = λ tells thin le.
+    let s = g.S.Reads.state c.args.space.now in
+    let l = g.S.Reads.state c.load.new.space in
+    let same = only_loads_node s l c.args.node c.load.ensures.state in
+    let none = no_node_row s.records c.args.node (sym (sym c.in_default.is ∙ c.in_ok-row.ensures.found tells)) in
+    inr (inr (c.chain_damage.ensures, subst (λ (q : State). kind_at q.records nodes_file c.args.node ≡ 0) (sym same) none))
+
+pub returns-then-row-clause-told : goal.returns-then-row-clause-told
+returns-then-row-clause-told g c = λ tells thin le.
+    absurd (thin (dense_is (g.S.Reads.state c.args.space.now).records c.args.node c.in-Some.row (sym c.in-Some.is ∙ c.in_ok-row.ensures.found tells) c.if-row.true))
+
+pub returns-then-row-threshold-clause-told : goal.returns-then-row-threshold-clause-told
+returns-then-row-threshold-clause-told g c = λ tells thin le.
+    let s = g.S.Reads.state c.args.space.now in
+    let l = g.S.Reads.state c.load.new.space in
+    let same = only_loads_node s l c.args.node c.load.ensures.state in
+    let e = row_degree s c.args.node c.in-Some.row (sym c.in-Some.is ∙ c.in_ok-row.ensures.found tells) in
+    let sparse = sparse_known s c.args.node (c.in_ok-row.ensures.known tells) (node_row s.records c.args.node c.in-Some.row (sym (sym c.in-Some.is ∙ c.in_ok-row.ensures.found tells))).0 thin in
+    inl (inl (inl (subst (λ (q : State). Breaks q.records q.shape c.degree_damage.result) (sym same)
+    (subst (λ (d : Damage). Breaks s.records s.shape d) (sym c.degree_damage.ensures) (many_break s c.args.node sparse c.args.threshold le (omega (arith, c.if-row-threshold.true, e)))))))
+
+pub returns-in_err-test_chain-clause-told : goal.returns-in_err-test_chain-clause-told
+returns-in_err-test_chain-clause-told g c = λ tells thin le.
+    let s = g.S.Reads.state c.args.space.now in
+    let l = g.S.Reads.state c.load.new.space in
+    let v = g.S.Reads.state c.test_chain.new.space in
+    let same = only_loads_node s l c.args.node c.load.ensures.state in
+    let found = sym c.in-Some.is ∙ c.in_ok-row.ensures.found tells in
+    let fault = c.in_err-test_chain.field-0.0 in
+    let sparse = sparse_known s c.args.node (c.in_ok-row.ensures.known tells) (node_row s.records c.args.node c.in-Some.row (sym (sym c.in-Some.is ∙ c.in_ok-row.ensures.found tells))).0 thin in
+    let p = err_from_is_err_and c.from_residual-in_err-test_chain.result c.from_residual-in_err-test_chain.ensures.1 in
+    rw (p.1, p.2) (end_broken s v c.args.node fault (same_twice s l v same c.test_chain.ensures.state) (breaks_read s l same fault (sparse_breaks l c.args.node (subst (λ (q : State). kind_at q.records nodes_file c.args.node ≡ sparse_kind) (sym same) sparse) c.in-Some.row.degree
+    (subst (λ (q : State). c.in-Some.row.degree ≡ degree q.records c.args.node) (sym same) (row_degree s c.args.node c.in-Some.row found)) fault
+    (c.in_err-test_chain.ensures.damaged tells (subst (λ (q : State). c.in-Some.row.first ≡ first_link q.records c.args.node) (sym same) (first_is s.records c.args.node c.in-Some.row found))))))
+
+pub returns-in_err-turn-clause-told : goal.returns-in_err-turn-clause-told
+returns-in_err-turn-clause-told g c = λ tells thin le.
+    let p = err_from_is_err_and c.from_residual-in_err-turn.result c.from_residual-in_err-turn.ensures.1 in
+    rw (p.1, p.2) (end_moved (g.S.Reads.state c.loop.space) (g.S.Reads.state c.move_one.new.space) c.args.node c.loop.at c.in_err-turn.field-0.0 (c.in_err-turn.ensures.damaged tells (c.loop.invariant.dense tells)))
+
+pub returns-then-not-note-clause-told : goal.returns-then-not-note-clause-told
+returns-then-not-note-clause-told g c = λ tells thin le. inr (inl c.rels_damage.ensures)
+
+pub returns-then-at-2-clause-told : goal.returns-then-at-2-clause-told
+returns-then-at-2-clause-told g c = λ tells thin le. inr (inl c.rels_damage-then-at-2.ensures)

@@ -1,4 +1,4 @@
-use Rattle.std.proofs.Common.{◌≤◌, ◌+◌, ℕ, List, sym, ◌∙◌, subst, ⊎_elim, arith}
+use Rattle.std.proofs.Common.{◌≡◌, ◌⊎◌, ◌≤◌, ◌+◌, ℕ, List, ap, sym, ◌∙◌, subst, inl, inr, ⊎_elim, arith}
 use Rattle.std.proofs.lemmas.Bool.{false≢true}
 use Rattle.std.proofs.lemmas.Result.{err_from_is_err_and}
 use Rattle.store_rules.specs.Rules.{Head}
@@ -6,7 +6,9 @@ use Rattle.store_rules.specs.Views.{RelRow}
 use Rattle.chain_edit.specs.declared.head.Head.{Head as ChainHead}
 use Rattle.chain_edit.specs.Heads.{head_of}
 use Rattle.group_store.specs.GroupChain.{IsDense}
+use Rattle.rec_bytes.specs.Format.{groups_file}
 use Rattle.rec_bytes.specs.Space.{State}
+use Rattle.node_store.specs.NodeRecord.{node_key}
 use Rattle.group_store.specs.Opening.{CanOpen, IsOpenFault, OpensChain, WritesOpened, moved_writes}
 use Rattle.group_store.proofs.BrokenGroups.{if_err, node_fault_breaks, only_breaks, open_read}
 use Rattle.group_store.proofs.Openings.{handed}
@@ -14,7 +16,7 @@ use Rattle.group_store.proofs.OwnGroups.{if_ok}
 use Rattle.group_store.proofs.GroupWrites.{opened_more, opened_none}
 use Rattle.group_store.proofs.Opens.{dense_beside, dense_can, dense_group_can, dense_group_room, dense_opened, dense_opens, dense_room, failed_beside, group_can, group_opened, opens_node, room_same, then_opens}
 use Rattle.group_store.specs.Densing.{IsSparse}
-use Rattle.group_store.proofs.DenseFaults.{broken_then, dense_read, not_opened}
+use Rattle.group_store.proofs.DenseFaults.{broken_then, dense_read, end_broken, end_opened, not_opened}
 use Rattle.group_store.proofs.Causes.{cause_passed}
 use Rattle.group_store.proofs.opening.open_chain.Goals as goal
 
@@ -183,3 +185,41 @@ returns-in_err-is_dense-clause-cause g c =
 pub returns-in_err-make_dense-clause-cause : goal.returns-in_err-make_dense-clause-cause
 returns-in_err-make_dense-clause-cause g c =
     cause_passed _ _ _ c.from_residual-in_err-make_dense.result c.in_err-make_dense.field-0.0 c.in_ok-is_dense.ensures.cause.later c.in_err-make_dense.ensures.cause c.from_residual-in_err-make_dense.ensures.1
+
+-- ---- what is told by the space as it is then, and where the head is
+
+pub returns-in_err-is_dense-clause-told : goal.returns-in_err-is_dense-clause-told
+returns-in_err-is_dense-clause-told g c = λ tells le.
+    let s = g.S.Reads.state c.args.space.now in
+    let z = g.S.Reads.state c.is_dense.new.space in
+    let fault = c.in_err-is_dense.field-0.0 in
+    let p = err_from_is_err_and c.from_residual.result c.from_residual.ensures.1 in
+    rw (p.1, p.2) (end_broken s z c.args.node fault c.is_dense.ensures.state (node_fault_breaks s c.args.node fault (c.in_err-is_dense.ensures.damaged tells)))
+
+pub returns-then-branch-clause-told : goal.returns-then-branch-clause-told
+returns-then-branch-clause-told g c = λ tells le.
+    let z = g.S.Reads.state c.is_dense.new.space in
+    let dense = subst (λ (q : State). IsDense q.records c.args.node) (sym c.in_ok-is_dense.ensures.state) ((c.in_ok-is_dense.ensures.is tells).0 c.if-branch.true) in
+    end_opened z (g.S.Reads.state c.open_group.new.space) c.args.node c.open_group.result (c.open_group.ensures.damaged tells dense) (c.open_group.ensures.unwritten tells dense)
+
+pub returns-in_err-make_dense-clause-told : goal.returns-in_err-make_dense-clause-told
+returns-in_err-make_dense-clause-told g c = λ tells le.
+    let same = c.in_ok-is_dense.ensures.state in
+    let p = err_from_is_err_and c.from_residual-in_err-make_dense.result c.from_residual-in_err-make_dense.ensures.1 in
+    rw (p.1, p.2) (c.in_err-make_dense.ensures.told tells
+    (λ d. false≢true (sym c.if-branch.false ∙ (c.in_ok-is_dense.ensures.is tells).1 (subst (λ (q : State). IsDense q.records c.args.node) same d)))
+    (subst (λ (q : State). q.shape.threshold ≤ c.args.threshold) (sym same) le))
+
+pub returns-clause-told : goal.returns-clause-told
+returns-clause-told g c = λ tells le.
+    let dense = c.in_ok-make_dense.ensures.dense tells in
+    end_opened (g.S.Reads.state c.make_dense.new.space) (g.S.Reads.state c.open_group-2.new.space) c.args.node c.open_group-2.result (c.open_group-2.ensures.damaged tells dense) (c.open_group-2.ensures.unwritten tells dense)
+
+pub returns-then-branch-clause-at : goal.returns-then-branch-clause-at
+returns-then-branch-clause-at g c = if_ok c.open_group.result _ (λ (head : ChainHead). (head.key ≡ node_key c.args.node) ⊎ (head.key.file ≡ groups_file)) (λ head is. inr is) c.open_group.ensures.at
+
+pub returns-then-degree-threshold-clause-at : goal.returns-then-degree-threshold-clause-at
+returns-then-degree-threshold-clause-at g c = inl (ap (λ (h : Head). h.key) c.node_head.ensures.is)
+
+pub returns-clause-at : goal.returns-clause-at
+returns-clause-at g c = if_ok c.open_group-2.result _ (λ (head : ChainHead). (head.key ≡ node_key c.args.node) ⊎ (head.key.file ≡ groups_file)) (λ head is. inr is) c.open_group-2.ensures.at

@@ -111,3 +111,6 @@ returns-in_err-own-clause-cause g c =
 pub returns-in_err-count_group-clause-cause : goal.returns-in_err-count_group-clause-cause
 returns-in_err-count_group-clause-cause g c =
     cause_passed _ _ _ c.from_residual-in_err-count_group.result c.in_err-count_group.field-0.0 c.in_ok-own.ensures.cause.later c.in_err-count_group.ensures.cause c.from_residual-in_err-count_group.ensures.1
+
+pub returns-clause-at : goal.returns-clause-at
+returns-clause-at g c = ap (λ (h : Head). h.key.file) c.group_head.ensures.is

@@ -1,14 +1,15 @@
-use Rattle.std.proofs.Common.{arith, Option, [], ◌∷◌, ◌+◌, sym, ap, ◌∙◌, subst}
+use Rattle.std.proofs.Common.{arith, Option, [], ◌∷◌, ◌+◌, sym, ap, ◌∙◌, subst, inl, ⊎_elim, refl}
 use Rattle.std.proofs.lemmas.Bool.{false≢true}
 use Rattle.std.proofs.lemmas.Result.{err_from_is_err_and}
 use Rattle.rec_bytes.specs.declared.damage.Damage.{Damage}
 use Rattle.rec_bytes.specs.declared.key.Key.{Key}
-use Rattle.store_rules.specs.Breaking.{Breaks}
+use Rattle.store_rules.specs.Breaking.{Breaks, IsHeadOf}
 use Rattle.rec_bytes.specs.Space.{State, WritesOnly}
 use Rattle.store_rules.specs.Rules.{Head}
 use Rattle.store_rules.specs.Views.{Records, rel_at}
 use Rattle.group_store.specs.declared.group_row.GroupRow.{GroupRow}
 use Rattle.chain_edit.specs.declared.head.Head.{Head as ChainHead}
+use Rattle.group_store.specs.Densing.{IsSparse}
 use Rattle.group_store.specs.Finding.{IsFound}
 use Rattle.group_store.specs.GroupChain.{IsDense}
 use Rattle.group_store.specs.GroupRecord.{group_key}
@@ -18,6 +19,7 @@ use Rattle.group_store.proofs.BrokenGroups.{find_breaks, head_only, no_group_bre
 use Rattle.group_store.proofs.Raises.{breaks_read}
 use Rattle.group_store.proofs.ChainHeads.{chain_of, has_group, is_chain, node_readable, only_read, same_records, same_twice, walkable}
 use Rattle.group_store.proofs.Heads.{finds_group, finds_node, found_at, found_raise, then_unwritten}
+use Rattle.group_store.proofs.KeptHeads.{heads_same, heads_then, own_head}
 use Rattle.group_store.proofs.MakeSteps.{on_damage, same_writes}
 use Rattle.group_store.proofs.Openings.{handed, keeps_read}
 use Rattle.group_store.proofs.OwnGroups.{writes_after}
@@ -217,3 +219,38 @@ returns-in_err-group-clause-cause g c =
 pub returns-in_err-count_group-clause-cause : goal.returns-in_err-count_group-clause-cause
 returns-in_err-count_group-clause-cause g c =
     cause_passed _ _ _ c.from_residual-in_err-count_group.result c.in_err-count_group.field-0.0 (later_on c.in_ok-is_dense.ensures.cause.later c.in_ok-group.ensures.cause.later) c.in_err-count_group.ensures.cause c.from_residual-in_err-count_group.ensures.1
+
+-- ---- heads
+
+pub returns-then-not-branch-clause-heads : goal.returns-then-not-branch-clause-heads
+returns-then-not-branch-clause-heads g c = λ tells. heads_same (g.S.Reads.state c.args.space.now) (g.S.Reads.state c.is_dense.new.space) c.in_ok-is_dense.ensures.state
+
+pub returns-then-not-branch-clause-owns : goal.returns-then-not-branch-clause-owns
+returns-then-not-branch-clause-owns g c = λ tells which.
+    let s = g.S.Reads.state c.args.space.now in
+    let z = g.S.Reads.state c.is_dense.new.space in
+    let thin : ¬ IsDense s.records c.args.node = λ d. false≢true (sym c.if-not-branch.true ∙ (c.in_ok-is_dense.ensures.is tells).1 d) in
+    let sparse : IsSparse s.records c.args.node = ⊎_elim (λ d. absurd (thin d)) (λ k. k) which in
+    subst (λ (h : Head). IsHeadOf z.records h c.args.node) (sym c.node_head.ensures.is)
+    (inl (record { sparse = subst (λ (r : Records). IsSparse r c.args.node) (sym (same_records s z c.in_ok-is_dense.ensures.state)) sparse; is = refl }))
+
+pub returns-clause-heads : goal.returns-clause-heads
+returns-clause-heads g c = λ tells.
+    let s = g.S.Reads.state c.args.space.now in
+    let z = g.S.Reads.state c.is_dense.new.space in
+    let y = g.S.Reads.state c.find_group.new.space in
+    let t = g.S.Reads.state c.count_group.new.space in
+    let same = same_twice s z y c.in_ok-is_dense.ensures.state (only_read z y (1 + group_mark z) c.in_ok-group.ensures.at_most) in
+    heads_then s y t (heads_same s y same) (c.in_ok-count_group.ensures.heads tells)
+
+pub returns-clause-owns : goal.returns-clause-owns
+returns-clause-owns g c = λ tells which.
+    let s = g.S.Reads.state c.args.space.now in
+    let z = g.S.Reads.state c.is_dense.new.space in
+    let y = g.S.Reads.state c.find_group.new.space in
+    let t = g.S.Reads.state c.count_group.new.space in
+    let found = subst (IsFound z.records c.args.node c.args.label) c.in-Some.is (c.in_ok-group.ensures.found tells) in
+    let same = only_read z y (1 + group_mark z) c.in_ok-group.ensures.at_most in
+    let at = found_at s z y c.in_ok-is_dense.ensures.state same c.args.node c.args.label c.in-Some.group found in
+    subst (λ (h : Head). IsHeadOf t.records h c.args.node) (sym c.group_head.ensures.is)
+    (c.in_ok-count_group.ensures.heads tells _ c.args.node (own_head y c.args.node c.in-Some.group c.args.side at))

@@ -3,6 +3,7 @@ use Rattle.rec_bytes.specs.Space.{State}
 use Rattle.group_store.specs.Raising.{HasRaised}
 use Rattle.group_store.proofs.ChainHeads.{same_twice}
 use Rattle.group_store.proofs.Raises.{can_read, got_same, lengths_read, raises, raises_after, raises_none}
+use Rattle.group_store.proofs.KeptHeads.{heads_raised}
 use Rattle.group_store.proofs.Causes.{cause_passed, later_on, space_cause_passed}
 use Rattle.group_store.proofs.raising.count_group.Goals as goal
 
@@ -33,3 +34,15 @@ returns-in_err-counts-clause-cause g c =
 pub returns-in_err-set_counts-clause-cause : goal.returns-in_err-set_counts-clause-cause
 returns-in_err-set_counts-clause-cause g c =
     space_cause_passed _ _ _ c.from_residual-in_err-set_counts.result c.in_err-set_counts.field-0.0 (later_on c.in_ok-rec.ensures.cause.later c.in_ok-counts.ensures.cause.later) c.in_err-set_counts.ensures.cause c.from_residual-in_err-set_counts.ensures.1
+
+-- ---- heads
+pub returns-then-row-clause-heads : goal.returns-then-row-clause-heads
+returns-then-row-clause-heads g c = λ tells h n o. o
+
+pub returns-clause-heads : goal.returns-clause-heads
+returns-clause-heads g c = λ tells.
+    let s = g.S.Reads.state c.args.space.now in
+    let y = g.S.Reads.state c.get.new.self in
+    let z = g.S.Reads.state c.count_chains.new.space in
+    let t = g.S.Reads.state c.set_counts.new.space in
+    heads_raised s z t c.args.row.now.id c.in_ok-counts.counts (same_twice s y z (got_same s y c.in_ok-rec.ensures.state) c.in_ok-counts.ensures.state) (c.in_ok-set_counts.ensures.ok tells)
