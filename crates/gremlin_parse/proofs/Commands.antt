@@ -217,6 +217,8 @@ sentence_of commands.Checkpoint is = inr (one_word words.Checkpoint)
 sentence_of commands.Check is = inr (one_word words.Check)
 sentence_of commands.Stats is = inr (one_word words.Stats)
 sentence_of commands.Reopen is = inr (one_word words.Reopen)
+sentence_of commands.Snapshot is = inr (one_word words.Snapshot)
+sentence_of commands.Release is = inr (one_word words.Release)
 sentence_of commands.Quit is = inr (one_word words.Quit)
 sentence_of (commands.Node label pairs) is = inr (record { head = heads.Node; plain = refl; contents = (tt, (label, tt)); allowed = (tt, (tt, tt)); last = pairs; is = refl })
 sentence_of (commands.Edge from label to pairs) is = inr (record {

@@ -8,6 +8,7 @@ use Rattle.gremlin_parse.specs.Symbols.{Contents, ReadsAll, LeavesOne}
 use Rattle.gremlin_parse.specs.Stopping.{Bads, IsStop, StopsWith}
 use Rattle.gremlin_parse.specs.Commands.{StopsAfter, word_of, head_words, arguments_of, last_part, production, IsLast, BadLast, IsAfter, BadAfter, IsSomeTail, BadTail}
 use Rattle.gremlin_parse.specs.Lasts.{is_query}
+use Rattle.gremlin_parse.specs.Tags.{is_at}
 use Rattle.gremlin_parse.specs.declared.bad_token.BadToken.{BadToken}
 use Rattle.gremlin_parse.specs.declared.head.Head.{Head}
 use Rattle.gremlin_parse.specs.declared.head.Head.TheVariants as heads
@@ -35,13 +36,22 @@ entry_word = entry_named word_of head_words (are_named word_of head_words refl)
 pub head_table : IsWordTable head_words
 head_table = word_table head_words refl
 
--- Each word begins with a byte that is no blank.
+-- Each word begins with a byte that is no blank, and not the sign before a session.
 word_starts : (entry : Entry Head) → InTable entry head_words → first_fails is_blank entry.0 ≡ true
 word_starts = passes_in (λ (e : Entry Head). first_fails is_blank e.0) head_words refl
 
+word_plain : (entry : Entry Head) → InTable entry head_words → first_fails is_at entry.0 ≡ true
+word_plain = passes_in (λ (e : Entry Head). first_fails is_at e.0) head_words refl
+
+starts_halts : (p : ℕ → Bool) → ((entry : Entry Head) → InTable entry head_words → first_fails p entry.0 ≡ true) → (After : Head → List ℕ → Type 0) → Halts p (ThenWord head_words After)
+starts_halts p starts After = λ bytes (entry, within, (prefix, rest, whole, word_is, after)).
+    subst (EndsRun p) (sym (whole ∙ ap (λ w. w ++ rest) word_is)) (first_ends p entry.0 rest (starts entry within))
+
 pub word_halts : (After : Head → List ℕ → Type 0) → Halts is_blank (ThenWord head_words After)
-word_halts After = λ bytes (entry, within, (prefix, rest, whole, word_is, after)).
-    subst (EndsRun is_blank) (sym (whole ∙ ap (λ w. w ++ rest) word_is)) (first_ends is_blank entry.0 rest (word_starts entry within))
+word_halts After = starts_halts is_blank word_starts After
+
+pub word_untagged : (After : Head → List ℕ → Type 0) → Halts is_at (ThenWord head_words After)
+word_untagged After = starts_halts is_at word_plain After
 
 -- ---- what stands after each word
 

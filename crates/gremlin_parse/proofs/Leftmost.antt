@@ -1,10 +1,13 @@
 -- What a reader's stop says of the line: its leftmost fault, and that it spells no command.
-use Rattle.std.proofs.Common.{◌≡◌, ◌≢◌, ◌≤◌, ◌<◌, ◌+◌, ◌-◌, ℕ, List, ◌++◌, length, take, refl, sym, ap, ◌∙◌, subst, ⊎_elim, add-zero, length-append, arith}
+use Rattle.std.proofs.Common.{◌≡◌, ◌≢◌, ◌≤◌, ◌<◌, ◌+◌, ◌-◌, ℕ, List, ◌++◌, length, take, drop, refl, sym, ap, ◌∙◌, subst, ⊎_elim, add-zero, length-append, arith}
 use Rattle.std.proofs.lemmas.List.{append-nil}
+use Rattle.std.specs.List.{prefix_len}
 use Rattle.std.proofs.lemmas.Bool.{cases_lt}
 use Rattle.plain_graph.specs.declared.command.Command.{Command}
-use Rattle.gremlin_parse.specs.Commands.{BadTail, IsSomeTail, IsTail, KeepsTail, LacksMemory, NeedsNoMemory}
-use Rattle.gremlin_parse.specs.Lines.{Spells, IsLine, HasBad, HasFault, IsLeftmostFault, place_of}
+use Rattle.gremlin_parse.specs.Commands.{IsTail, KeepsTail, NeedsNoMemory}
+use Rattle.gremlin_parse.specs.Grammar.{is_blank}
+use Rattle.gremlin_parse.specs.Lines.{AfterFront, BadLine, IsKeptTail, IsLooseTail, NeedsMemory, Spells, IsLine, HasBad, HasFault, IsLeftmostFault, place_of}
+use Rattle.gremlin_parse.specs.Tags.{after_tag}
 use Rattle.gremlin_parse.specs.Faults.{IsViable, StopsAt}
 use Rattle.gremlin_parse.specs.Reading.{StopsBefore}
 use Rattle.gremlin_parse.specs.Symbols.{AnyBlanks, Takes}
@@ -17,7 +20,8 @@ use Rattle.gremlin_parse.specs.declared.stop.Stop.{Stop}
 use Rattle.gremlin_parse.specs.declared.stop.Stop.TheVariants as stops
 use Rattle.gremlin_parse.proofs.Stops.{StopsBefore-refuses, StopsBefore-StopsAt, take-append-add}
 use Rattle.gremlin_parse.proofs.Commands.{commands_agree}
-use Rattle.gremlin_parse.proofs.Lines.{BadLine, tail_after, spelled_after, bad_tail_after, no_bad_tail, spelled_loosely, spelled_keeps}
+use Rattle.gremlin_parse.proofs.Runs.{cut_run}
+use Rattle.gremlin_parse.proofs.Lines.{tail_after, spelled_after, bad_tail_after, no_bad_tail, spelled_loosely, spelled_keeps}
 
 -- ---- places
 
@@ -108,39 +112,50 @@ stop_within Lack line (stops.Bad kind left) at =
 
 -- ---- commands
 
-pub no_fault_of : (line bytes : List ℕ) (command : Command) → Takes AnyBlanks tt line bytes → IsTail command bytes → KeepsTail command bytes → (fault : LineFault) → ¬ HasFault line fault
-no_fault_of line bytes command takes tail keeps faults.Memory = λ has. has
-no_fault_of line bytes command takes tail keeps (faults.Syntax place) = λ has. has.0 (command, spelled_after command line bytes takes tail)
-no_fault_of line bytes command takes tail keeps (faults.NameLength place) = λ has.
-    no_bad_tail command bytes tail keeps LongName (length line - place) (bad_tail_after LongName (length line - place) line bytes takes (bad_line_at LongName line place has))
-no_fault_of line bytes command takes tail keeps (faults.TextLength place) = λ has.
-    no_bad_tail command bytes tail keeps LongText (length line - place) (bad_tail_after LongText (length line - place) line bytes takes (bad_line_at LongText line place has))
-no_fault_of line bytes command takes tail keeps (faults.NumberRange place) = λ has.
-    no_bad_tail command bytes tail keeps WideNumber (length line - place) (bad_tail_after WideNumber (length line - place) line bytes takes (bad_line_at WideNumber line place has))
-no_fault_of line bytes command takes tail keeps (faults.TimesRange place) = λ has.
-    no_bad_tail command bytes tail keeps WrongTimes (length line - place) (bad_tail_after WrongTimes (length line - place) line bytes takes (bad_line_at WrongTimes line place has))
-no_fault_of line bytes command takes tail keeps (faults.StepKind place) = λ has.
-    no_bad_tail command bytes tail keeps UnfitStep (length line - place) (bad_tail_after UnfitStep (length line - place) line bytes takes (bad_line_at UnfitStep line place has))
-no_fault_of line bytes command takes tail keeps (faults.TooManySteps place) = λ has.
-    no_bad_tail command bytes tail keeps LateStep (length line - place) (bad_tail_after LateStep (length line - place) line bytes takes (bad_line_at LateStep line place has))
+-- A command within its bounds leaves no bad token.
+no_bad_of : (line rest bytes : List ℕ) (command : Command) → rest ≡ after_tag line → Takes AnyBlanks tt rest bytes → IsTail command bytes → KeepsTail command bytes → (kind : BadToken) (place : ℕ) → ¬ HasBad kind line place
+no_bad_of line rest bytes command rest_is takes tail keeps kind place = λ has.
+    no_bad_tail command bytes tail keeps kind (length line - place) (bad_tail_after kind (length line - place) line rest bytes rest_is takes (bad_line_at kind line place has))
 
-pub only_command : (line bytes : List ℕ) (command : Command) → Takes AnyBlanks tt line bytes → IsTail command bytes → (other : Command) → Spells line other → other ≡ command
-only_command line bytes command takes tail other spelled = commands_agree command other bytes tail (tail_after other line bytes takes (spelled_loosely line other spelled))
+pub no_fault_of : (line rest bytes : List ℕ) (command : Command) → rest ≡ after_tag line → Takes AnyBlanks tt rest bytes → IsTail command bytes → KeepsTail command bytes → (fault : LineFault) → ¬ HasFault line fault
+no_fault_of line rest bytes command rest_is takes tail keeps faults.Memory = λ has. has
+no_fault_of line rest bytes command rest_is takes tail keeps (faults.Syntax place) = λ has. has.0 (command, subst (AfterFront (IsLooseTail command)) rest_is (spelled_after command rest bytes takes tail))
+no_fault_of line rest bytes command rest_is takes tail keeps (faults.NameLength place) = no_bad_of line rest bytes command rest_is takes tail keeps LongName place
+no_fault_of line rest bytes command rest_is takes tail keeps (faults.TextLength place) = no_bad_of line rest bytes command rest_is takes tail keeps LongText place
+no_fault_of line rest bytes command rest_is takes tail keeps (faults.NumberRange place) = no_bad_of line rest bytes command rest_is takes tail keeps WideNumber place
+no_fault_of line rest bytes command rest_is takes tail keeps (faults.TimesRange place) = no_bad_of line rest bytes command rest_is takes tail keeps WrongTimes place
+no_fault_of line rest bytes command rest_is takes tail keeps (faults.StepKind place) = no_bad_of line rest bytes command rest_is takes tail keeps UnfitStep place
+no_fault_of line rest bytes command rest_is takes tail keeps (faults.TooManySteps place) = no_bad_of line rest bytes command rest_is takes tail keeps LateStep place
 
-no_command_at_bad : (kind : BadToken) (line bytes : List ℕ) (left : ℕ) → Takes AnyBlanks tt line bytes → BadLine kind left line → (command : Command) → ¬ Spells line command
-no_command_at_bad kind line bytes left takes bad command = λ spelled. no_bad_tail command bytes (tail_after command line bytes takes (spelled_loosely line command spelled)) (spelled_keeps line bytes command takes spelled) kind left (bad_tail_after kind left line bytes takes bad)
+-- the tail of a line that spells a command
+tail_of : (line rest bytes : List ℕ) (command : Command) → rest ≡ after_tag line → Takes AnyBlanks tt rest bytes → Spells line command → IsTail command bytes
+tail_of line rest bytes command rest_is takes spelled = tail_after command rest bytes takes (subst (AfterFront (IsLooseTail command)) (sym rest_is) (spelled_loosely line command spelled))
 
-pub no_command_at : (Lack : Type 0) (line bytes : List ℕ) (stop : Stop) → Takes AnyBlanks tt line bytes → IsStop IsLine BadLine Lack line stop → fault_of stop (length line) ≢ faults.Memory → (command : Command) → ¬ Spells line command
-no_command_at Lack line bytes stops.Memory takes at some = absurd (some refl)
-no_command_at Lack line bytes (stops.Syntax left) takes at some = λ command spelled. StopsBefore-refuses IsLine line left at.0 (command, spelled_loosely line command spelled)
-no_command_at Lack line bytes (stops.Bad kind left) takes at some = no_command_at_bad kind line bytes left takes at.has
+pub only_command : (line rest bytes : List ℕ) (command : Command) → rest ≡ after_tag line → Takes AnyBlanks tt rest bytes → IsTail command bytes → (other : Command) → Spells line other → other ≡ command
+only_command line rest bytes command rest_is takes tail other spelled = commands_agree command other bytes tail (tail_of line rest bytes other rest_is takes spelled)
 
-pub no_such_command : (line bytes : List ℕ) (stop : Stop) → Takes AnyBlanks tt line bytes → IsStop IsSomeTail BadTail (LacksMemory bytes) bytes stop → fault_of stop (length line) ≡ faults.Memory → (command : Command) → NeedsNoMemory command → ¬ Spells line command
-no_such_command line bytes stops.Memory takes lacks same = λ command none spelled. lacks command none (tail_after command line bytes takes (spelled_loosely line command spelled))
-no_such_command line bytes (stops.Syntax left) takes at same = cc
-no_such_command line bytes (stops.Bad LongName left) takes at same = cc
-no_such_command line bytes (stops.Bad LongText left) takes at same = cc
-no_such_command line bytes (stops.Bad WideNumber left) takes at same = cc
-no_such_command line bytes (stops.Bad WrongTimes left) takes at same = cc
-no_such_command line bytes (stops.Bad UnfitStep left) takes at same = cc
-no_such_command line bytes (stops.Bad LateStep left) takes at same = cc
+-- the blanks at the head
+takes_blanks : (rest : List ℕ) → Takes AnyBlanks tt rest (drop (prefix_len is_blank rest) rest)
+takes_blanks rest = let cut = cut_run is_blank rest in record { prefix = take (prefix_len is_blank rest) rest; bytes_are = cut.bytes_are; is = cut.passes; ends = cut.ends }
+
+no_command_at_bad : (kind : BadToken) (line : List ℕ) (left : ℕ) → BadLine kind left line → (command : Command) → ¬ Spells line command
+no_command_at_bad kind line left bad command = λ spelled.
+    let rest : List ℕ = after_tag line in
+    let takes = takes_blanks rest in
+    let bytes : List ℕ = drop (prefix_len is_blank rest) rest in
+    no_bad_tail command bytes (tail_of line rest bytes command refl takes spelled) (spelled_keeps rest bytes command takes spelled) kind left (bad_tail_after kind left line rest bytes refl takes bad)
+
+pub no_command_at : (Lack : Type 0) (line : List ℕ) (stop : Stop) → IsStop IsLine BadLine Lack line stop → fault_of stop (length line) ≢ faults.Memory → (command : Command) → ¬ Spells line command
+no_command_at Lack line stops.Memory at some = absurd (some refl)
+no_command_at Lack line (stops.Syntax left) at some = λ command spelled. StopsBefore-refuses IsLine line left at.0 (command, spelled_loosely line command spelled)
+no_command_at Lack line (stops.Bad kind left) at some = no_command_at_bad kind line left at.has
+
+pub no_such_command : (line : List ℕ) (stop : Stop) → IsStop IsLine BadLine (NeedsMemory line) line stop → fault_of stop (length line) ≡ faults.Memory → (command : Command) → NeedsNoMemory command → ¬ Spells line command
+no_such_command line stops.Memory lacks same = lacks
+no_such_command line (stops.Syntax left) at same = cc
+no_such_command line (stops.Bad LongName left) at same = cc
+no_such_command line (stops.Bad LongText left) at same = cc
+no_such_command line (stops.Bad WideNumber left) at same = cc
+no_such_command line (stops.Bad WrongTimes left) at same = cc
+no_such_command line (stops.Bad UnfitStep left) at same = cc
+no_such_command line (stops.Bad LateStep left) at same = cc

@@ -31,6 +31,8 @@ pub mod Words
 pub mod Arguments
 pub mod Lasts
 pub mod Heads
+pub mod Tags
 pub mod Commands
 pub mod Lines
 pub mod Leftmost
+pub mod Worked

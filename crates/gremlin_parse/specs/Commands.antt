@@ -42,6 +42,8 @@ parts_of commands.Checkpoint = alone (codes "checkpoint")
 parts_of commands.Check = alone (codes "check")
 parts_of commands.Stats = alone (codes "stats")
 parts_of commands.Reopen = alone (codes "reopen")
+parts_of commands.Snapshot = alone (codes "snapshot")
+parts_of commands.Release = alone (codes "release")
 parts_of commands.Quit = alone (codes "quit")
 parts_of (commands.Node label pairs) =
     Exactly (codes "node") ∷ Gap ∷ Name label ∷ pairs_to_end pairs
@@ -101,6 +103,8 @@ word_of (heads.Alone words.Checkpoint) = codes "checkpoint"
 word_of (heads.Alone words.Check) = codes "check"
 word_of (heads.Alone words.Stats) = codes "stats"
 word_of (heads.Alone words.Reopen) = codes "reopen"
+word_of (heads.Alone words.Snapshot) = codes "snapshot"
+word_of (heads.Alone words.Release) = codes "release"
 word_of (heads.Alone words.Quit) = codes "quit"
 word_of heads.Node = codes "node"
 word_of heads.Edge = codes "edge"
@@ -117,9 +121,9 @@ abbrev pub all_heads : List Head
 all_heads =
     heads.Alone words.Begin ∷ heads.Alone words.Commit ∷ heads.Alone words.Rollback
     ∷ heads.Alone words.Checkpoint ∷ heads.Alone words.Check ∷ heads.Alone words.Stats
-    ∷ heads.Alone words.Reopen ∷ heads.Alone words.Quit ∷ heads.Node ∷ heads.Edge ∷ heads.Set
-    ∷ heads.Unset ∷ heads.Delete ∷ heads.Expand ∷ heads.Degree ∷ heads.Path ∷ heads.Levels
-    ∷ heads.Query ∷ []
+    ∷ heads.Alone words.Reopen ∷ heads.Alone words.Snapshot ∷ heads.Alone words.Release
+    ∷ heads.Alone words.Quit ∷ heads.Node ∷ heads.Edge ∷ heads.Set ∷ heads.Unset ∷ heads.Delete
+    ∷ heads.Expand ∷ heads.Degree ∷ heads.Path ∷ heads.Levels ∷ heads.Query ∷ []
 
 -- the words with which a command or a query begins
 abbrev pub head_words : List (Entry Head)
@@ -172,6 +176,8 @@ plain_command words.Checkpoint = commands.Checkpoint
 plain_command words.Check = commands.Check
 plain_command words.Stats = commands.Stats
 plain_command words.Reopen = commands.Reopen
+plain_command words.Snapshot = commands.Snapshot
+plain_command words.Release = commands.Release
 plain_command words.Quit = commands.Quit
 
 -- the command of a first word and the contents after it

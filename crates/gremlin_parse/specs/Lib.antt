@@ -17,4 +17,5 @@ pub mod Orders
 pub mod Arguments
 pub mod Lasts
 pub mod Commands
+pub mod Tags
 pub mod Lines

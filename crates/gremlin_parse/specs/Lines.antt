@@ -2,11 +2,13 @@
 use Rattle.std.specs.Prelude.{◌≡◌, ◌⊎◌, ℕ, ◌+◌, ◌≤◌, List, length, codes}
 use Rattle.plain_graph.specs.declared.command.Command.{Command}
 use Rattle.plain_graph.specs.declared.command.Command.TheVariants as commands
-use Rattle.gremlin_parse.specs.Commands.{IsCommand, KeepsBounds, parts_of}
+use Rattle.gremlin_parse.specs.Commands.{IsCommand, KeepsBounds, NeedsNoMemory, parts_of}
 use Rattle.gremlin_parse.specs.Grammar.{Blanks, Exactly, IsMadeOf}
 use Rattle.gremlin_parse.specs.Faults.{StopsAt}
 use Rattle.gremlin_parse.specs.Reading.{Then, BadParts}
 use Rattle.gremlin_parse.specs.Queries.{QueryTo, IsKeptQuery, BadQuery}
+use Rattle.gremlin_parse.specs.Stopping.{Bads}
+use Rattle.gremlin_parse.specs.Tags.{after_tag}
 use Rattle.gremlin_parse.specs.declared.bad_token.BadToken.{BadToken}
 use Rattle.gremlin_parse.specs.declared.bad_token.BadToken.TheVariants.{LongName, LongText}
 use Rattle.gremlin_parse.specs.declared.bad_token.BadToken.TheVariants.{WideNumber, UnfitStep}
@@ -41,13 +43,13 @@ IsFaultyTail kind left bytes =
     ((command : Command) × IsCommand command × BadParts (parts_of command) kind left bytes)
     ⊎ AfterG (BadQuery kind left) bytes
 
--- the line spells the command but for the bounds
+-- the line spells the command but for the bounds, after what names its session
 abbrev pub SpellsLoosely : List ℕ → Command → Type 0
-SpellsLoosely line command = AfterFront (IsLooseTail command) line
+SpellsLoosely line command = AfterFront (IsLooseTail command) (after_tag line)
 
--- the line spells the command
+-- the line spells the command, after what names its session
 abbrev pub Spells : List ℕ → Command → Type 0
-Spells line command = AfterFront (IsKeptTail command) line
+Spells line command = AfterFront (IsKeptTail command) (after_tag line)
 
 -- a line of the loose grammar
 abbrev pub IsLine : List ℕ → Type 0
@@ -56,7 +58,11 @@ IsLine line = (command : Command) × SpellsLoosely line command
 -- A token with such a fault stands whole in the line at this place, where the grammar has it.
 abbrev pub HasBad : BadToken → List ℕ → ℕ → Type 0
 HasBad kind line at =
-    (left : ℕ) × (at + left ≡ length line) × AfterFront (IsFaultyTail kind left) line
+    (left : ℕ) × (at + left ≡ length line) × AfterFront (IsFaultyTail kind left) (after_tag line)
+
+-- the same, so many bytes from the line's end
+abbrev pub BadLine : Bads
+BadLine kind left line = (at : ℕ) × (at + left ≡ length line) × HasBad kind line at
 
 -- The line has the fault at its place.
 abbrev pub HasFault : List ℕ → LineFault → Type 0
@@ -68,6 +74,10 @@ HasFault line (TimesRange at) = HasBad WrongTimes line at
 HasFault line (StepKind at) = HasBad UnfitStep line at
 HasFault line (TooManySteps at) = HasBad LateStep line at
 HasFault line Memory = ⊥
+
+-- The line spells no command that is read without asking for memory.
+abbrev pub NeedsMemory : List ℕ → Type 0
+NeedsMemory line = (command : Command) → NeedsNoMemory command → ¬ Spells line command
 
 -- the place of a fault
 abbrev pub place_of : LineFault → ℕ

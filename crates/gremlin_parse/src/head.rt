@@ -32,7 +32,7 @@ pub(crate) enum Head {
     Query,
 }
 
-const HEADS: [(&[u8], Head); 18] = [
+const HEADS: [(&[u8], Head); 20] = [
     (b"begin", Head::Alone(Word::Begin)),
     (b"commit", Head::Alone(Word::Commit)),
     (b"rollback", Head::Alone(Word::Rollback)),
@@ -40,6 +40,8 @@ const HEADS: [(&[u8], Head); 18] = [
     (b"check", Head::Alone(Word::Check)),
     (b"stats", Head::Alone(Word::Stats)),
     (b"reopen", Head::Alone(Word::Reopen)),
+    (b"snapshot", Head::Alone(Word::Snapshot)),
+    (b"release", Head::Alone(Word::Release)),
     (b"quit", Head::Alone(Word::Quit)),
     (b"node", Head::Node),
     (b"edge", Head::Edge),

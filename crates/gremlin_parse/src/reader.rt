@@ -2,29 +2,33 @@ ghost use Rattle.std.specs.Prelude.{◌≡◌, ◌≢◌, ◌≤◌, length, IfO
 ghost use Rattle.plain_graph.specs.Lines.{HasForm};
 ghost use Rattle.plain_graph.specs.declared.command.Command.{Command};
 ghost use Rattle.gremlin_parse.specs.Commands.{NeedsNoMemory};
-ghost use Rattle.gremlin_parse.specs.Lines.{Spells, HasFault, IsLeftmostFault};
-ghost use Rattle.gremlin_parse.specs.Stopping.{left_of, fault_of};
+ghost use Rattle.gremlin_parse.specs.Lines.{BadLine, HasFault, IsLeftmostFault, IsLine};
+ghost use Rattle.gremlin_parse.specs.Lines.{NeedsMemory, Spells};
+ghost use Rattle.gremlin_parse.specs.Stopping.{IsStop, left_of, fault_of};
+ghost use Rattle.gremlin_parse.specs.Tags.{session_of};
 ghost use Rattle.gremlin_parse.specs.declared.line_fault.LineFault.{LineFault};
 
-use crate::LineFault;
 use crate::bad_token::BadToken;
 use crate::command::parse_tail;
 use crate::parts::skip_blanks;
 use crate::stop::Stop;
-use plain_graph::Command;
+use crate::tag::read_tag;
+use crate::{LineFault, Parsed};
 use std::alloc::Global;
 
-/// The command that the line spells, or its leftmost fault. Memory is asked for by names, by texts,
-/// by pairs and by the steps of a query alone.
-pub fn parse_line(alloc: Global, line: &[u8]) -> Result<Command, LineFault>
+/// The session of the line and the command that it spells, or its leftmost fault. Memory is asked
+/// for by names, by texts, by pairs and by the steps of a query alone.
+pub fn parse_line(alloc: Global, line: &[u8]) -> Result<Parsed, LineFault>
     // The line spells this command and no other, and has no fault.
-    ensures spelled { IfOk result (λ command. Spells line.now command) }
-    ensures only { IfOk result (λ command.
-        (other : Command) → Spells line.now other → other ≡ command) }
-    ensures no_fault { IfOk result (λ command. (fault : LineFault) → ¬ HasFault line.now fault) }
+    ensures spelled { IfOk result (λ parsed. Spells line.now parsed.command) }
+    ensures only { IfOk result (λ parsed.
+        (other : Command) → Spells line.now other → other ≡ parsed.command) }
+    ensures no_fault { IfOk result (λ parsed. (fault : LineFault) → ¬ HasFault line.now fault) }
     // Its labels and keys are names of at most 48 bytes, and its values are ones that a store
     // keeps.
-    ensures form { IfOk result HasForm }
+    ensures form { IfOk result (λ parsed. HasForm parsed.command) }
+    // It is of the session that it names, or of the first one.
+    ensures session { IfOk result (λ parsed. parsed.session ≡ session_of line.now) }
 
     // The line spells no command, and this is its leftmost fault.
     ensures fault { IfErr result (λ fault.
@@ -35,11 +39,27 @@ pub fn parse_line(alloc: Global, line: &[u8]) -> Result<Command, LineFault>
     ensures memory { result ≡ Err LineFault.Memory →
         (command : Command) → NeedsNoMemory command → ¬ Spells line.now command }
 {
-    let bytes = skip_blanks(line);
-    match parse_tail(alloc, bytes) {
-        Ok(command) => Ok(command),
+    match read_line(alloc, line) {
+        Ok(parsed) => Ok(parsed),
         Err(stop) => Err(fault_of(stop, line.len())),
     }
+}
+
+/// The same, with how many bytes are left from the fault on.
+fn read_line(alloc: Global, line: &[u8]) -> Result<Parsed, Stop>
+    ensures spelled { IfOk result (λ parsed. Spells line.now parsed.command) }
+    ensures only { IfOk result (λ parsed.
+        (other : Command) → Spells line.now other → other ≡ parsed.command) }
+    ensures no_fault { IfOk result (λ parsed. (fault : LineFault) → ¬ HasFault line.now fault) }
+    ensures session { IfOk result (λ parsed. parsed.session ≡ session_of line.now) }
+    ensures err { IfErr result (IsStop IsLine BadLine (NeedsMemory line.now) line.now) }
+{
+    let (session, rest) = read_tag(line)?;
+    let command = parse_tail(alloc, skip_blanks(rest))?;
+    Ok(Parsed {
+        session: session.unwrap_or(0),
+        command,
+    })
 }
 
 /// The fault of a line of so many bytes, with its place.

@@ -13,6 +13,8 @@ pub(crate) enum Word {
     Check,
     Stats,
     Reopen,
+    Snapshot,
+    Release,
     Quit,
 }
 
@@ -28,6 +30,8 @@ pub(crate) fn plain_command(word: Word) -> Command
         Word::Check => Command::Check,
         Word::Stats => Command::Stats,
         Word::Reopen => Command::Reopen,
+        Word::Snapshot => Command::Snapshot,
+        Word::Release => Command::Release,
         Word::Quit => Command::Quit,
     }
 }

@@ -14,6 +14,8 @@ pub(crate) fn put_command(out: &mut Vec<u8>, command: &Command) -> Result<(), Al
         Command::Check => put(out, &[b"check"]),
         Command::Stats => put(out, &[b"stats"]),
         Command::Reopen => put(out, &[b"reopen"]),
+        Command::Snapshot => put(out, &[b"snapshot"]),
+        Command::Release => put(out, &[b"release"]),
         Command::Quit => put(out, &[b"quit"]),
         Command::Node { label, pairs } => {
             put(out, &[b"node ", label.as_bytes()])?;

@@ -1,6 +1,6 @@
 //! Rows of the two parsers, as data. For each line of standard input the program writes a line:
 //! - for a line of the console the command as a line spells it, `blank`, or the leftmost fault with
-//!   its place;
+//!   its place, each after the session that the line names;
 //! - for `$` and words, each after a blank, what they ask for, or `usage`;
 //! - a title, which begins with `#`, as it is.
 #![tactic(auto)]
@@ -15,7 +15,8 @@ use crate::command::put_command;
 use crate::fault::put_fault;
 use crate::text::put;
 use crate::words::put_asked;
-use gremlin_parse::parse_line;
+use gremlin_parse::{named_session, parse_line};
+use plain_graph::mark_of;
 use std::alloc::{AllocError, Global};
 use std::io::{self, Read, Write};
 
@@ -38,8 +39,9 @@ fn put_answer(alloc: Global, answers: &mut Vec<u8>, line: &[u8]) -> Result<(), A
     } else if line.starts_with(b"$") {
         put_asked(alloc, answers, line)?;
     } else {
+        put(answers, &[mark_of(named_session(line)).as_bytes()])?;
         match parse_line(alloc, line) {
-            Ok(command) => put_command(answers, &command)?,
+            Ok(parsed) => put_command(answers, &parsed.command)?,
             Err(fault) => put_fault(answers, fault)?,
         }
     }

@@ -1,1 +1,2 @@
 pub mod PropertyLaws
+pub mod Unmarked

@@ -7,7 +7,7 @@ use Rattle.plain_graph.specs.Counts.{counts_of}
 use Rattle.plain_graph.specs.Forms.{ArePairs, IsKept, IsMaybeName}
 use Rattle.plain_graph.specs.Graph.{Graph}
 use Rattle.plain_graph.specs.Kinds.{AreQuestions, Blanks, Bound, Change, Ending, Kind, Question}
-use Rattle.plain_graph.specs.Kinds.{Upkeep}
+use Rattle.plain_graph.specs.Kinds.{Sight, Upkeep}
 use Rattle.plain_graph.specs.Meaning.{edge_item, edges_at, has_past_count, meaning}
 use Rattle.plain_graph.specs.Names.{IsShortName}
 use Rattle.plain_graph.specs.Reached.{IsAnswer, IsLeastOrNone}
@@ -116,6 +116,8 @@ kind_of commands.Commit = Bound
 kind_of commands.Rollback = Bound
 kind_of commands.Checkpoint = Upkeep
 kind_of commands.Reopen = Upkeep
+kind_of commands.Snapshot = Sight
+kind_of commands.Release = Sight
 kind_of (commands.Node label pairs) = Change
 kind_of (commands.Edge from label to pairs) = Change
 kind_of (commands.Set target key value) = Change

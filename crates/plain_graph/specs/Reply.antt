@@ -1,6 +1,6 @@
 -- The replies of the console, and their bytes.
 use Rattle.std.specs.Prelude.{ℕ, nat_eq, if◌then◌else◌, List, [], ◌∷◌, ◌++◌, codes, decimal}
-use Rattle.std.specs.Prelude.{flat_map, slice_index_or}
+use Rattle.std.specs.Prelude.{Option, Some, None, flat_map, slice_index_or}
 use Rattle.std.specs.Fmt.{signed_decimal}
 use Rattle.plain_graph.specs.declared.item.Item.{Item}
 use Rattle.plain_graph.specs.declared.item.Item.TheVariants as items
@@ -78,7 +78,12 @@ refusal_text (refusals.TimesRange at) = codes "error times range " ++ decimal at
 refusal_text (refusals.StepKind at) = codes "error step kind " ++ decimal at
 refusal_text (refusals.TooManySteps at) = codes "error too many steps " ++ decimal at
 refusal_text (refusals.TextLength at) = codes "error text length " ++ decimal at
+refusal_text refusals.ReadOnly = codes "error read only"
+refusal_text refusals.Writer = codes "error writer"
 refusal_text refusals.Failed = codes "error failed"
+refusal_text refusals.SnapshotOpen = codes "error snapshot open"
+refusal_text refusals.NoSnapshot = codes "error no snapshot"
+refusal_text refusals.SnapshotEnded = codes "error snapshot ended"
 refusal_text refusals.FullNodes = codes "error full nodes"
 refusal_text refusals.FullNames = codes "error names full"
 refusal_text refusals.TooManyProperties = codes "error properties full"
@@ -113,15 +118,29 @@ fault_line NoMemory = text_line (codes "error memory")
 fault_line DiskFailed = text_line (codes "fault disk")
 fault_line (DamagedRecord file id) = text_line (damaged_text file id)
 
--- the bytes of a reply
+-- what each line of a reply begins with: where the line named its session, that
+abbrev pub mark_text : Option ℕ → List ℕ
+mark_text None = []
+mark_text (Some session) = codes "@" ++ decimal session ++ codes " "
+
+-- the text after the mark, with a newline behind it
+abbrev pub marked_line : List ℕ → List ℕ → List ℕ
+marked_line mark = λ text. mark ++ text_line text
+
+-- the bytes of a reply, each of whose lines begins with the mark
+abbrev pub marked_text : List ℕ → Reply → List ℕ
+marked_text mark Silent = []
+marked_text mark Done = marked_line mark (codes "ok")
+marked_text mark (NodeMade id) = marked_line mark (codes "node " ++ decimal id)
+marked_text mark (EdgeMade id) = marked_line mark (codes "edge " ++ decimal id)
+marked_text mark (Told lines last) = flat_map (marked_line mark) lines ++ marked_line mark last
+marked_text mark (Faulted lines fault) =
+    flat_map (marked_line mark) lines ++ (mark ++ fault_line fault)
+marked_text mark (Refused why) = marked_line mark (refusal_text why)
+
+-- the bytes of a reply without a mark
 abbrev pub reply_text : Reply → List ℕ
-reply_text Silent = []
-reply_text Done = text_line (codes "ok")
-reply_text (NodeMade id) = text_line (codes "node " ++ decimal id)
-reply_text (EdgeMade id) = text_line (codes "edge " ++ decimal id)
-reply_text (Told lines last) = flat_map text_line lines ++ text_line last
-reply_text (Faulted lines fault) = flat_map text_line lines ++ fault_line fault
-reply_text (Refused why) = text_line (refusal_text why)
+reply_text reply = marked_text [] reply
 
 -- the threshold and the limit of the store
 abbrev pub configuration_text : ℕ → ℕ → List ℕ

@@ -28,6 +28,10 @@ pub enum Command {
     Stats,
     /// The store anew, as the disk holds it.
     Reopen,
+    /// The graph that is committed, for the session's later lines.
+    Snapshot,
+    /// No snapshot any more.
+    Release,
     /// The end of the run.
     Quit,
     /// A new node with this label and these properties.

@@ -33,9 +33,9 @@ pub use pairs::{Pair, Pairs};
 pub use query::{Body, BodyStep, Hop, Ids, Query, Step, StepList};
 pub use refusal::Refusal;
 pub use reply::{
-    ResultLine, ShortText, broken, configuration, counted, damaged, degree, disk_fault, done,
-    edge_made, end_of_results, level_line, no_memory, no_path, node_made, not_a_store, past_count,
-    path, refused, result_line, sound,
+    Mark, ResultLine, ShortText, broken, configuration, counted, damaged, degree, disk_fault, done,
+    edge_made, end_of_results, level_line, mark_of, no_memory, no_path, node_made, not_a_store,
+    past_count, path, refused, result_line, sound,
 };
 pub use text::Text;
 pub use texts::Texts;

@@ -17,8 +17,18 @@ pub enum Refusal {
     StepKind { at: usize },
     /// The step whose name is at the byte place `at` is the 33rd.
     TooManySteps { at: usize },
+    /// The session reads, and the line asks for more than that.
+    ReadOnly,
+    /// The session writes, and the line asks for what only one that reads has.
+    Writer,
     /// The disk failed the session, which can't say what is stored.
     Failed,
+    /// The session has a snapshot, and the line asks for one.
+    SnapshotOpen,
+    /// The session has no snapshot, and the line needs one.
+    NoSnapshot,
+    /// The session's snapshot ended, since more old records would have been kept than may be.
+    SnapshotEnded,
     /// A transaction is open, and the line needs that none is.
     TransactionOpen,
     /// No transaction is open, and the line needs one.

@@ -6,7 +6,7 @@ ghost use Rattle.plain_graph.specs.Reply.{DamagedRecord, DiskFailed, Done, EdgeM
 ghost use Rattle.plain_graph.specs.Reply.{NodeMade, PastCount, Refused};
 ghost use Rattle.plain_graph.specs.Reply.{configuration_text, damaged_text};
 ghost use Rattle.plain_graph.specs.Reply.{edge_text, end_text, escaped, fault_line};
-ghost use Rattle.plain_graph.specs.Reply.{file_name};
+ghost use Rattle.plain_graph.specs.Reply.{file_name, mark_text};
 ghost use Rattle.plain_graph.specs.Reply.{reply_text, result_text, text_line};
 ghost use Rattle.plain_graph.specs.Reply.{value_text};
 
@@ -19,6 +19,23 @@ pub type ShortText = ByteBuffer<128>;
 /// The line of a result, which takes no memory. The longest one has a text of 1,024 bytes between
 /// quotes, each of them escaped.
 pub type ResultLine = ByteBuffer<2_112>;
+
+/// What each line of a reply begins with, which takes no memory.
+pub type Mark = ByteBuffer<8>;
+
+/// What each line of a reply begins with: where the line named its session, `@SESSION` and a blank.
+pub fn mark_of(session: Option<u8>) -> Mark
+    ensures { result ≡ mark_text session }
+{
+    let mut text = Mark::new();
+    if let Some(session) = session {
+        let mut digits = Buffer::new();
+        text.push(b"@");
+        text.push(digits.format(session).as_bytes());
+        text.push(b" ");
+    }
+    text
+}
 
 /// The reply to a line that made a node: `node ID`.
 pub fn node_made(id: u32) -> ShortText
@@ -152,7 +169,12 @@ pub fn refused(why: Refusal) -> ShortText
     let mut digits = Buffer::new();
     match why {
         Refusal::LongLine => text.push(b"error line"),
+        Refusal::ReadOnly => text.push(b"error read only"),
+        Refusal::Writer => text.push(b"error writer"),
         Refusal::Failed => text.push(b"error failed"),
+        Refusal::SnapshotOpen => text.push(b"error snapshot open"),
+        Refusal::NoSnapshot => text.push(b"error no snapshot"),
+        Refusal::SnapshotEnded => text.push(b"error snapshot ended"),
         Refusal::FullNodes => text.push(b"error full nodes"),
         Refusal::FullEdges => text.push(b"error full edges"),
         Refusal::FullNames => text.push(b"error names full"),
