@@ -75,7 +75,7 @@ fn seen(snaps: &Snaps, space: &mut MapSpace, reader: u8) -> Option<(u8, u8)> {
 
 #[test]
 fn a_snapshot_is_released_and_the_oldest_ends(rt: HostRuntime) -> Result<(), Fail> {
-    let mut snaps = Snaps::new(rt.alloc())?;
+    let mut snaps = Snaps::new(rt.alloc());
     let mut space = MapSpace::new(rt.alloc(), SHAPE)?;
     let commits = [(1, ONE, 1), (2, OTHER, 2), (3, ONE, 3)];
     for (reader, key, byte) in commits {

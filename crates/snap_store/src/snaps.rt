@@ -3,9 +3,6 @@ ghost use Rattle.std.specs.Prelude.{
   ◌≤◌,
   ◌<◌,
   ◌&&◌,
-  IfNone,
-  IfOk,
-  IfSome,
   OnErr,
   OnOk,
   false,
@@ -48,7 +45,7 @@ use std::marker::Model;
 const SESSIONS: usize = 8;
 
 /// The snapshots of the readers 1 to 7. Contracts see the layers of the open ones, the oldest
-/// first, and of each session whether its snapshot has ended. Only `new` and `take` need memory.
+/// first, and of each session whether its snapshot has ended. Only `take` needs memory.
 #[derive(Drop)]
 pub struct Snaps {
     layers: Vec<Layer>,
@@ -79,14 +76,14 @@ impl Snaps {
     };
 
     /// No snapshots.
-    pub fn new(alloc: Global) -> Result<Snaps, AllocError>
-        ensures { IfOk result (λ snaps. snaps ≡ no_snapshots) }
+    pub fn new(alloc: Global) -> Snaps
+        ensures { result ≡ no_snapshots }
     {
-        Ok(Snaps {
-            layers: Vec::with_capacity(alloc, SESSIONS)?,
+        Snaps {
+            layers: Vec::new(alloc),
             ended: [false; SESSIONS],
             alloc,
-        })
+        }
     }
 
     /// Whether a reader has a snapshot.

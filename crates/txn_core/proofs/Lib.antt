@@ -1,4 +1,5 @@
 pub mod Finding
+pub mod KeptCommits
 pub mod Kept
 pub mod Making
 pub mod Raising

@@ -6,5 +6,6 @@ pub mod Kept
 pub mod OnlyReading
 pub mod Opening
 pub mod Outcomes
+pub mod Sights
 pub mod Store
 pub mod Unique

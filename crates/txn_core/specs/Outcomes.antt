@@ -1,6 +1,6 @@
 -- What the calls that write the disk leave of a store.
 use Rattle.std.specs.Prelude.{◌≡◌, ◌⊎◌, [], IsTrue, false}
-use Rattle.disk_model.specs.Spans.{IsAllSettled}
+use Rattle.disk_model.specs.Spans.{IsAllSettled, OnlyReads}
 use Rattle.disk_model.specs.declared.disk.Disk.{Ghosts}
 use Rattle.redo_log.specs.Entries.{HasEntries}
 use Rattle.record_file.specs.Redone.{Redoes}
@@ -36,3 +36,13 @@ module _ {D : Type 0} {g : Ghosts D} where
     pub failed : new.live ≡ false
     pub stored : IsOnDisk g new.disk.now
         (λ left. Redoes left (committed old) ⊎ Redoes left (working old))
+
+  -- An old record could not be read, and the transaction was dropped: the disk was only read, and
+  -- has what was committed, alone.
+  pub record IsDropped (old new : Base D g) : Type 0 where
+    pub reads : OnlyReads g old.disk.now new.disk.now
+    pub stored : IsOnDisk g new.disk.now (λ left. Redoes left (committed old))
+
+  -- a commit that keeps old records failed, before anything of it was written or as it was
+  abbrev pub HasFailedCommit : Base D g → Base D g → Type 0
+  HasFailedCommit old new = IsDropped old new ⊎ IsInDoubt old new

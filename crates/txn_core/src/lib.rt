@@ -11,6 +11,7 @@ mod committing;
 mod config;
 mod fetching;
 mod health;
+mod keeping;
 mod not_opened;
 mod old_records;
 mod open_fault;
