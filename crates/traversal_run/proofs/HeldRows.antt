@@ -166,3 +166,37 @@ near-sourced d most rows later item outs ready one idle passed given put near =
       hops = omega arith;
       near = subst (λ (list : List Row). AreNear d false list ready) (sym (put any)) (near-first d rows any outs ready idle (omega arith) passed given);
     }
+
+-- items come to the first row, or are ready where there is none
+near_put : (d : ℕ) (behind : Bool) (rows : List Row) (any : Row) (outs ready : List Item) → AreIdle rows → IsBatch d behind outs → (0 < length rows → ready ≡ []) → (length rows ≤ 0 → ready ≡ outs)
+    → AreNear d behind (set rows 0 (record (get_or rows 0 any) { waiting = outs })) ready
+near_put d behind [] any outs ready idle batch passed given = subst (IsBatch d behind) (sym (given (omega arith))) batch
+near_put d behind (row ∷ rows) any outs ready idle batch passed given =
+    subst (AreNear d behind (record row { waiting = outs } ∷ rows)) (sym (passed (omega arith))) (near_given d behind row rows outs idle.1 batch)
+
+near_first_gives : (d : ℕ) (rows : List Row) (row new any : Row) (outs ready : List Item) → 0 < length rows → row ≡ get_or rows 0 any → new.waiting ≡ row.waiting → IsBatch d (is_hop new.stage) outs → AreIdle rows
+    → (1 < length rows → ready ≡ []) → (length rows ≤ 1 → ready ≡ outs) → AreNear d false (set (set rows 0 new) 1 (record (get_or (set rows 0 new) 1 any) { waiting = outs })) ready
+near_first_gives d [] row new any outs ready lt is same batch idle passed given = absurd (omega arith)
+near_first_gives d (first ∷ rows) row new any outs ready lt is same batch idle passed given =
+    let none = nothing_left new.waiting (same ∙ ap (λ (r : Row). r.waiting) is ∙ idle.0) in
+    inl (none, near_put d (is_hop new.stage) rows any outs ready idle.1 batch (λ l. passed (omega arith)) (λ l. given (omega arith)))
+
+-- the first row gives items of the source, with none that waits
+pub near-fed : (d most : ℕ) (rows later : List Row) (row new any : Row) (outs ready : List Item) → 0 < length rows → row ≡ get_or rows 0 any → new.waiting ≡ row.waiting
+    → is_hop new.stage ≡ is_hop row.stage → is_plain new.stage ≡ is_plain row.stage → IsBatch d (is_hop row.stage) outs → AreIdle rows
+    → (1 < length (set rows 0 new) → ready ≡ []) → (length (set rows 0 new) ≤ 1 → ready ≡ outs)
+    → ((next : Row) → later ≡ set (set rows 0 new) 1 (record (get_or (set rows 0 new) 1 next) { waiting = outs }))
+    → IsNear d most rows [] → IsNear d most later ready
+near-fed d most rows later row new any outs ready lt is same hops plain batch idle passed given put near =
+    let long = length-set rows 0 new in
+    let stage_of : is_plain new.stage ≡ is_plain (get_or rows 0 any).stage = plain ∙ ap (λ (r : Row). is_plain r.stage) is in
+    let hop_of : is_hop new.stage ≡ is_hop (get_or rows 0 any).stage = hops ∙ ap (λ (r : Row). is_hop r.stage) is in
+    let behind : Row = record (get_or (set rows 0 new) 1 any) { waiting = outs } in
+    let count : hops_in later ≡ hops_in rows = ap hops_in (put any) ∙ hops-set (set rows 0 new) 1 behind any refl ∙ hops-set rows 0 new any hop_of in
+    let most_of = near.hops in
+    record {
+      plain = subst ArePlain (sym (put any)) (plain-set (set rows 0 new) 1 behind any refl (plain-set rows 0 new any stage_of near.plain));
+      hops = omega arith;
+      near = subst (λ (list : List Row). AreNear d false list ready) (sym (put any))
+          (near_first_gives d rows row new any outs ready lt is same (subst (λ b. IsBatch d b outs) (sym hops) batch) idle (λ l. passed (omega arith)) (λ l. given (omega arith)));
+    }

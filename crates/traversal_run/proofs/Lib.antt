@@ -7,6 +7,7 @@ pub mod Broken
 pub mod Causes
 pub mod Codes
 pub mod Counting
+pub mod Fed
 pub mod HopEdges
 pub mod LeftRows
 pub mod Limits

@@ -129,7 +129,7 @@ allowed_one : (over : Bool) (step : Stage) (ready : ℕ) → is_spent step ≡ t
 allowed_one over step ready spent =
     (λ i. cond (not (spent_no_count step spent i) && true) (with_more (spent_limit step spent i) ready) None) ∙ ap (λ n. Some n) (zero-add ready)
 
-allowed_any : (steps : List Stage) (ready : ℕ) (over other : Bool) → 0 < length steps → allowed_by over steps ready ≡ allowed_by other steps ready
+pub allowed_any : (steps : List Stage) (ready : ℕ) (over other : Bool) → 0 < length steps → allowed_by over steps ready ≡ allowed_by other steps ready
 allowed_any [] ready over other some = absurd (omega arith)
 allowed_any (step ∷ steps) ready over other some = refl
 

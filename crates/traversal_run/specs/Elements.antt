@@ -3,12 +3,17 @@ use Rattle.std.specs.Prelude.{◌≡◌, ◌≢◌, Option, None, Some}
 use Rattle.plain_graph.specs.Meaning as meaning
 use Rattle.plain_graph.specs.Properties.{no_properties}
 use Rattle.plain_graph.specs.declared.item.Item.{Item}
+use Rattle.plain_graph.specs.declared.item.Item.TheVariants as items
+use Rattle.node_store.specs.Loading.{row_at}
+use Rattle.node_store.specs.NodeRecord.{node_key}
+use Rattle.node_store.specs.declared.node_row.NodeRow.{NodeRow}
 use Rattle.prop_store.specs.Changing.{properties_of}
 use Rattle.prop_store.specs.Owner.{first_of}
 use Rattle.rec_bytes.specs.Format.{free_kind}
+use Rattle.rec_bytes.specs.Key.{IsKey}
 use Rattle.rec_bytes.specs.Space.{State}
 use Rattle.store_rules.specs.Graph.{graph_of}
-use Rattle.store_rules.specs.Views.{kind_at}
+use Rattle.store_rules.specs.Views.{Records, kind_at}
 use Rattle.traversal_run.specs.declared.elements.Owned.{Owned}
 
 -- The owner is an element in use, and its properties are those of the item, from this first one on.
@@ -21,3 +26,11 @@ pub record Owns (s : State) (item : Item) (owned : Owned) : Type 0 where
 abbrev pub IsOwnerOf : State → Item → Option Owned → Type 0
 IsOwnerOf s item None = meaning.properties_of (graph_of s.records) item ≡ no_properties
 IsOwnerOf s item (Some owned) = Owns s item owned
+
+-- The item is the vertex of this row, where one is known; of what the space is only where it tells.
+abbrev pub IsRowOf : Type 0 → Records → Item → Option NodeRow → Type 0
+IsRowOf tells records item None = Unit {0}
+IsRowOf tells records (items.Vertex id) (Some row) =
+    IsKey (node_key id) × (tells → row_at records id ≡ Some row)
+IsRowOf tells records (items.Edge id label from to) (Some row) = ⊥
+IsRowOf tells records (items.Value value) (Some row) = ⊥

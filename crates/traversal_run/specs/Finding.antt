@@ -1,8 +1,10 @@
 -- Elements of a store by their identifiers.
-use Rattle.std.specs.Prelude.{ℕ, Bool, true, false, Option}
+use Rattle.std.specs.Prelude.{ℕ, Bool, true, false, Option, None, Some}
 use Rattle.std.specs.Option.{option_map}
 use Rattle.plain_graph.specs.Meaning.{edge_item, vertex_of}
+use Rattle.node_store.specs.declared.node_row.NodeRow.{NodeRow}
 use Rattle.plain_graph.specs.declared.item.Item.{Item}
+use Rattle.plain_graph.specs.declared.item.Item.TheVariants as items
 use Rattle.rec_bytes.specs.Format.{nodes_file, relationships_file}
 use Rattle.store_rules.specs.Graph.{edge_of, node_of}
 use Rattle.store_rules.specs.Views.{Records, high}
@@ -16,3 +18,8 @@ element_at records true id = option_map edge_item (edge_of records id)
 abbrev pub element_mark : Records → Bool → ℕ
 element_mark records false = high records nodes_file
 element_mark records true = high records relationships_file
+
+-- the vertex of an identifier, where it has a row
+abbrev pub vertex_if : ℕ → Option NodeRow → Option Item
+vertex_if id None = None
+vertex_if id (Some row) = Some (items.Vertex id)

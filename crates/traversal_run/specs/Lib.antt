@@ -1,6 +1,7 @@
 pub mod AskedIds
 pub mod EdgeItems
 pub mod Elements
+pub mod Feeding
 pub mod Finding
 pub mod Held
 pub mod Hopping

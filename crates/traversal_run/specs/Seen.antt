@@ -1,5 +1,5 @@
 -- Items that were seen: elements by their identifiers, values each by a code of bytes.
-use Rattle.std.specs.Prelude.{◌≡◌, ℕ, ◌^◌, nat_eq, Bool, false, cond, if◌then◌else◌, List, []}
+use Rattle.std.specs.Prelude.{◌≡◌, ℕ, nat_eq, Bool, false, cond, if◌then◌else◌, List, []}
 use Rattle.std.specs.Prelude.{◌∷◌, ◌++◌, map}
 use Rattle.std.specs.Int.{cast_signed, cast_unsigned, from_le_bytes, to_le_bytes}
 use Rattle.std.specs.Int.RustNames.{FitsSigned}

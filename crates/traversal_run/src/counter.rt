@@ -42,6 +42,13 @@ impl Counter {
         true
     }
 
+    /// The same count once more.
+    pub(crate) fn copy(&self) -> Counter
+        ensures { result ≡ self.now }
+    {
+        Counter { count: self.count }
+    }
+
     /// The count as a number of a value.
     pub(crate) fn number(&self) -> i64
         ensures { result ≡ pos self.now }

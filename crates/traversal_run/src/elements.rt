@@ -6,17 +6,24 @@ ghost use Rattle.prop_store.specs.Owner.{IsOwner};
 ghost use Rattle.store_rules.specs.Graph.{graph_of};
 ghost use Rattle.store_rules.specs.Rules.{IsWellFormed};
 ghost use Rattle.plain_graph.specs.declared.item.Item.TheVariants as items;
-ghost use Rattle.traversal_run.specs.Elements.{IsOwnerOf};
+ghost use Rattle.rec_bytes.specs.Key.{IsKey};
+ghost use Rattle.node_store.specs.NodeRecord.{node_key};
+ghost use Rattle.node_store.specs.Loading.{IsNodeFault, IsReadable, row_at};
+ghost use Rattle.rec_bytes.specs.RowFault.{HasRowCause, NotDamaged as NotDamagedRow};
+ghost use Rattle.traversal_run.specs.Elements.{IsOwnerOf, IsRowOf};
 ghost use Rattle.rec_bytes.specs.Fault.{HasFaultCause, NotDamaged};
 ghost use Rattle.prop_store.specs.Fault.{BlamesBroken};
 ghost use Rattle.traversal_run.specs.Reading.{IsNamedStore, IsRead};
 
 use crate::naming::{name_mark, number_of, text_of, unnamed};
+use crate::sought::Guess;
 use name_store::Names;
+use node_store::NodeRow;
 use plain_graph::{Item, Value};
 use prop_store::{Owner, read_key_from};
 use rec_bytes::{
     Fault, Key, NODE_FIRST_PROPERTY, NODES, RELATIONSHIP_FIRST_PROPERTY, RELATIONSHIPS, Reads,
+    RowFault,
 };
 use std::alloc::Global;
 
@@ -27,9 +34,36 @@ pub(crate) struct Owned {
     pub(crate) first: u32,
 }
 
+/// The row of a vertex, which is read where it is not known.
+#[inline(always)]
+fn row_of<R: Reads>(
+    space: &mut R,
+    id: u32,
+    row: &Option<NodeRow>,
+) -> Result<Option<NodeRow>, RowFault>
+    requires row { IsRowOf R.tells (R.state space.old).records (items.Vertex id) row.now }
+    ensures found { R.tells → IfOk result (λ row. row ≡ row_at (R.state space.old).records id) }
+    ensures damaged { R.tells → IfErr result (IsNodeFault (R.state space.old) id) }
+    ensures sound { R.tells → IsReadable (R.state space.old) id → NotDamagedRow result }
+    ensures key { IfOk result (λ row. IfSome row (λ _. IsKey (node_key id))) }
+    ensures read { IsRead R.Reads space.old space.new }
+    ensures cause { HasRowCause (R.faults space.old) (R.faults space.new) result }
+{
+    match row {
+        Some(row) => Ok(Some(*row)),
+        None => node_store::load(space, id),
+    }
+}
+
 /// The owner of an item's properties; none where it has no properties, as it is a value or an
 /// element that isn't in use. The element is read once.
-pub(crate) fn owner_of<R: Reads>(space: &mut R, item: &Item) -> Result<Option<Owned>, Fault>
+#[inline(always)]
+pub(crate) fn owner_of<R: Reads>(
+    space: &mut R,
+    item: &Item,
+    row: &Option<NodeRow>,
+) -> Result<Option<Owned>, Fault>
+    requires row { IsRowOf R.tells (R.state space.old).records item.now row.now }
     ensures found { R.tells
         → IfOk result (λ owned. IsOwnerOf (R.state space.old) item.now owned) }
     ensures sound { R.tells
@@ -41,7 +75,7 @@ pub(crate) fn owner_of<R: Reads>(space: &mut R, item: &Item) -> Result<Option<Ow
     ensures cause { HasFaultCause (R.faults space.old) (R.faults space.new) result }
 {
     match item {
-        Item::Vertex(id) => match node_store::load(space, *id)? {
+        Item::Vertex(id) => match row_of(space, *id, row)? {
             Some(row) => Ok(Some(Owned {
                 owner: Owner {
                     key: Key {
@@ -76,7 +110,9 @@ pub(crate) fn label_of<'a, R: Reads>(
     space: &mut R,
     names: &'a Names,
     item: &'a Item,
+    row: &Option<NodeRow>,
 ) -> Result<&'a [u8], Fault>
+    requires row { IsRowOf R.tells (R.state space.old).records item.now row.now }
     ensures found { R.tells
         → IsNamedStore (R.state space.old).records (R.state space.old).shape names.now.names
         → IfOk result (λ label. label.now
@@ -91,14 +127,20 @@ pub(crate) fn label_of<'a, R: Reads>(
     ensures cause { HasFaultCause (R.faults space.old) (R.faults space.new) result }
 {
     match item {
-        Item::Vertex(id) => vertex_label(space, names, *id),
+        Item::Vertex(id) => vertex_label(space, names, *id, row),
         Item::Edge { label, .. } => Ok(label.as_bytes()),
         Item::Value(_) => Ok(&[]),
     }
 }
 
 /// The label of a vertex; an empty one where it isn't in use.
-fn vertex_label<'a, R: Reads>(space: &mut R, names: &'a Names, id: u32) -> Result<&'a [u8], Fault>
+fn vertex_label<'a, R: Reads>(
+    space: &mut R,
+    names: &'a Names,
+    id: u32,
+    row: &Option<NodeRow>,
+) -> Result<&'a [u8], Fault>
+    requires row { IsRowOf R.tells (R.state space.old).records (items.Vertex id) row.now }
     ensures found { R.tells
         → IsNamedStore (R.state space.old).records (R.state space.old).shape names.now.names
         → IfOk result (λ label. label.now
@@ -113,7 +155,7 @@ fn vertex_label<'a, R: Reads>(space: &mut R, names: &'a Names, id: u32) -> Resul
     ensures cause { HasFaultCause (R.faults space.old) (R.faults space.new) result }
 {
     let mark = name_mark(space);
-    let Some(row) = node_store::load(space, id)? else {
+    let Some(row) = row_of(space, id, row)? else {
         return Ok(&[]);
     };
     if row.label >= mark {
@@ -127,9 +169,12 @@ pub(crate) fn value_of<R: Reads>(
     alloc: Global,
     space: &mut R,
     names: &Names,
+    guess: &Guess,
     key: &[u8],
     item: &Item,
+    row: &Option<NodeRow>,
 ) -> Result<Option<Value>, Fault>
+    requires row { IsRowOf R.tells (R.state space.old).records item.now row.now }
     ensures found { R.tells
         → IsNamedStore (R.state space.old).records (R.state space.old).shape names.now.names
         → IfOk result (λ value. value
@@ -143,10 +188,10 @@ pub(crate) fn value_of<R: Reads>(
     ensures read { IsRead R.Reads space.old space.new }
     ensures cause { HasFaultCause (R.faults space.old) (R.faults space.new) result }
 {
-    let Some(number) = number_of(space, names, key) else {
+    let Some(number) = number_of(space, names, guess, key) else {
         return Ok(None);
     };
-    let Some(owned) = owner_of(space, item)? else {
+    let Some(owned) = owner_of(space, item, row)? else {
         return Ok(None);
     };
     let value = read_key_from(alloc, space, owned.owner, owned.first, number)?;

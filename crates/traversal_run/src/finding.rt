@@ -1,9 +1,10 @@
 //! Elements that are read by their identifiers.
 
-ghost use Rattle.std.specs.Prelude.{◌≡◌, ◌≤◌, ◌+◌, IfErr, IfOk, IfSome, false, true};
+ghost use Rattle.std.specs.Prelude.{◌≡◌, ◌≤◌, ◌+◌, IfErr, IfOk, IfSome, false, is_some, true};
 ghost use Rattle.plain_graph.specs.declared.item.Item.TheVariants as items;
 ghost use Rattle.store_rules.specs.Rules.{IsWellFormed};
-ghost use Rattle.traversal_run.specs.Finding.{element_at, element_mark};
+ghost use Rattle.traversal_run.specs.Finding.{element_at, element_mark, vertex_if};
+ghost use Rattle.traversal_run.specs.Elements.{IsRowOf};
 ghost use Rattle.rec_bytes.specs.Fault.{HasFaultCause, NotDamaged};
 ghost use Rattle.prop_store.specs.Fault.{BlamesBroken};
 ghost use Rattle.traversal_run.specs.Reading.{IsNamedStore, IsRead};
@@ -12,6 +13,7 @@ use crate::edge_items::edge_item;
 use crate::naming::{name_mark, text_of, unnamed};
 use crate::shown::Shown;
 use name_store::Names;
+use node_store::NodeRow;
 use rec_bytes::{Fault, NODES, RELATIONSHIPS, Reads};
 use rel_store::EdgeRow;
 use std::alloc::Global;
@@ -56,6 +58,27 @@ pub(crate) fn element_at<R: Reads>(
     }
 }
 
+/// Whether the vertex or the edge of an identifier is in use. No name is looked up. It costs a
+/// read.
+pub(crate) fn is_in_use<R: Reads>(space: &mut R, edges: bool, id: u32) -> Result<bool, Fault>
+    ensures is { R.tells → IfOk result (λ used. used
+        ≡ is_some (element_at (R.state space.old).records edges id)) }
+    ensures sound { R.tells → IsWellFormed (R.state space.old).records (R.state space.old).shape
+        → NotDamaged result }
+    ensures damaged { R.tells → IfErr result
+        (BlamesBroken (R.state space.old).records (R.state space.old).shape) }
+    ensures read { IsRead R.Reads space.old space.new }
+    ensures cause { HasFaultCause (R.faults space.old) (R.faults space.new) result }
+{
+    if edges {
+        let row = rel_store::load(space, id)?;
+        Ok(row.is_some())
+    } else {
+        let row = vertex_row(space, id)?;
+        Ok(row.is_some())
+    }
+}
+
 fn vertex_at<R: Reads>(space: &mut R, id: u32) -> Result<Option<Shown>, Fault>
     ensures is { R.tells
         → IfOk result (λ item. item ≡ element_at (R.state space.old).records false id) }
@@ -68,10 +91,29 @@ fn vertex_at<R: Reads>(space: &mut R, id: u32) -> Result<Option<Shown>, Fault>
     ensures read { IsRead R.Reads space.old space.new }
     ensures cause { HasFaultCause (R.faults space.old) (R.faults space.new) result }
 {
-    match node_store::load(space, id)? {
+    match vertex_row(space, id)? {
         Some(_) => Ok(Some(Shown::vertex(id))),
         None => Ok(None),
     }
+}
+
+/// The row of a vertex, where it is in use. It costs a read.
+#[inline(always)]
+pub(crate) fn vertex_row<R: Reads>(space: &mut R, id: u32) -> Result<Option<NodeRow>, Fault>
+    ensures is { R.tells → IfOk result (λ row.
+        element_at (R.state space.old).records false id ≡ vertex_if id row) }
+    ensures row { IfOk result (λ row.
+        IsRowOf R.tells (R.state space.new).records (items.Vertex id) row) }
+    ensures reads { (R.state space.new).reads ≤ (R.state space.old).reads + 1 }
+    ensures sound { R.tells → IsWellFormed (R.state space.old).records (R.state space.old).shape
+        → NotDamaged result }
+    ensures damaged { R.tells → IfErr result
+        (BlamesBroken (R.state space.old).records (R.state space.old).shape) }
+    ensures read { IsRead R.Reads space.old space.new }
+    ensures cause { HasFaultCause (R.faults space.old) (R.faults space.new) result }
+{
+    let row = node_store::load(space, id)?;
+    Ok(row)
 }
 
 pub(crate) fn edge_at<R: Reads>(

@@ -12,6 +12,7 @@ ghost use Rattle.traversal_run.specs.Reading.{IsNamedStore, IsRead};
 use crate::edge_items::{edge_item, end_items};
 use crate::finding::edge_at;
 use crate::naming::{name_mark, number_of, numbers_of, text_of};
+use crate::sought::{Guess, Sought};
 use crate::waiting::Waiting;
 use expand::{ExpandFault, expand};
 use name_store::Names;
@@ -25,7 +26,7 @@ pub(crate) fn neighbours<R: Reads>(
     alloc: Global,
     space: &mut R,
     names: &Names,
-    hop: &Hop,
+    hop: &Sought<Hop>,
     item: &Item,
 ) -> Result<Waiting, Fault>
     ensures found { R.tells
@@ -53,7 +54,7 @@ pub(crate) fn incident<R: Reads>(
     alloc: Global,
     space: &mut R,
     names: &Names,
-    hop: &Hop,
+    hop: &Sought<Hop>,
     item: &Item,
 ) -> Result<Waiting, Fault>
     ensures found { R.tells
@@ -140,7 +141,7 @@ fn rows_of<R: Reads>(
     alloc: Global,
     space: &mut R,
     names: &Names,
-    hop: &Hop,
+    hop: &Sought<Hop>,
     id: u32,
 ) -> Result<Vec<EdgeRow>, Fault>
     ensures found { R.tells
@@ -155,9 +156,9 @@ fn rows_of<R: Reads>(
     ensures read { IsRead R.Reads space.old space.new }
     ensures cause { HasFaultCause (R.faults space.old) (R.faults space.new) result }
 {
-    match hop.labels.as_slice() {
-        [label] => rows_of_type(alloc, space, names, hop, label, id),
-        labels => rows_of_types(alloc, space, names, hop, labels, id),
+    match hop.what.labels.as_slice() {
+        [label] => rows_of_type(alloc, space, names, &hop.what, &hop.guess, label, id),
+        labels => rows_of_types(alloc, space, names, &hop.what, labels, id),
     }
 }
 
@@ -167,6 +168,7 @@ fn rows_of_type<R: Reads>(
     space: &mut R,
     names: &Names,
     hop: &Hop,
+    guess: &Guess,
     label: &Text,
     id: u32,
 ) -> Result<Vec<EdgeRow>, Fault>
@@ -183,7 +185,7 @@ fn rows_of_type<R: Reads>(
     ensures read { IsRead R.Reads space.old space.new }
     ensures cause { HasFaultCause (R.faults space.old) (R.faults space.new) result }
 {
-    match number_of(space, names, label.as_bytes()) {
+    match number_of(space, names, guess, label.as_bytes()) {
         Some(number) => rows_by(alloc, space, hop, id, &[number]),
         None => Ok(Vec::new(alloc)),
     }

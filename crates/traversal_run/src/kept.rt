@@ -84,7 +84,7 @@ fn items_of(alloc: Global, ordered: Vec<Ranked>) -> Result<Waiting, AllocError>
     ensures { IfOk result (λ items. items
         ≡ map (λ (r : Place). r.item) (map place_of ordered.items)) }
 {
-    let mut items = Waiting::new(alloc);
+    let mut items = Waiting::with_room(alloc, ordered.len())?;
     for ranked in ordered {
         items.push(ranked.item)?;
     }

@@ -15,6 +15,7 @@ ghost use Rattle.store_rules.specs.Graph.{graph_of};
 ghost use Rattle.store_rules.specs.Views.{Records};
 ghost use Rattle.rec_bytes.specs.Fault.{HasFaultCause, NotDamaged};
 ghost use Rattle.prop_store.specs.Fault.{BlamesBroken};
+ghost use Rattle.traversal_run.specs.Elements.{IsRowOf};
 ghost use Rattle.traversal_run.specs.KeyValues.{AreRead, entry_below, entry_of, named_entry};
 ghost use Rattle.traversal_run.specs.KeyValues.{row_below};
 ghost use Rattle.traversal_run.specs.Naming.{name_count};
@@ -23,8 +24,10 @@ ghost use Rattle.traversal_run.specs.Reading.{IsNamedStore, IsRead};
 use crate::elements::owner_of;
 use crate::naming::{name_mark, number_of, text_of, unnamed};
 use crate::shown::Shown;
+use crate::sought::Guess;
 use crate::waiting::Waiting;
 use name_store::Names;
+use node_store::NodeRow;
 use plain_graph::{Item, Text, Value};
 use prop_store::{Prop, read_all_from};
 use rec_bytes::{Fault, Reads};
@@ -43,7 +46,9 @@ pub(crate) fn all_values<R: Reads>(
     space: &mut R,
     names: &Names,
     item: &Item,
+    row: &Option<NodeRow>,
 ) -> Result<Waiting, Fault>
+    requires row { IsRowOf R.tells (R.state space.old).records item.now row.now }
     ensures found { R.tells
         → IsNamedStore (R.state space.old).records (R.state space.old).shape names.now.names
         → IfOk result (λ values. values ≡ map items.Value
@@ -56,7 +61,7 @@ pub(crate) fn all_values<R: Reads>(
     ensures read { IsRead R.Reads space.old space.new }
     ensures cause { HasFaultCause (R.faults space.old) (R.faults space.new) result }
 {
-    let props = read_properties(alloc, space, names, item)?;
+    let props = read_properties(alloc, space, names, item, row)?;
     let values = ordered_values(alloc, names, props)?;
     Ok(values)
 }
@@ -68,7 +73,9 @@ pub(crate) fn several_values<R: Reads>(
     names: &Names,
     keys: &[Text],
     item: &Item,
+    row: &Option<NodeRow>,
 ) -> Result<Waiting, Fault>
+    requires row { IsRowOf R.tells (R.state space.old).records item.now row.now }
     ensures found { R.tells
         → IsNamedStore (R.state space.old).records (R.state space.old).shape names.now.names
         → IfOk result (λ values. values ≡ map items.Value (filter_map
@@ -81,7 +88,7 @@ pub(crate) fn several_values<R: Reads>(
     ensures read { IsRead R.Reads space.old space.new }
     ensures cause { HasFaultCause (R.faults space.old) (R.faults space.new) result }
 {
-    let props = read_properties(alloc, space, names, item)?;
+    let props = read_properties(alloc, space, names, item, row)?;
     let values = values_among(alloc, space, names, keys, &props)?;
     Ok(values)
 }
@@ -92,7 +99,9 @@ fn read_properties<R: Reads>(
     space: &mut R,
     names: &Names,
     item: &Item,
+    row: &Option<NodeRow>,
 ) -> Result<Vec<Prop>, Fault>
+    requires row { IsRowOf R.tells (R.state space.old).records item.now row.now }
     ensures found { R.tells
         → IsNamedStore (R.state space.old).records (R.state space.old).shape names.now.names
         → IfOk result (λ props. AreRead (R.state space.old).records props.items
@@ -107,7 +116,7 @@ fn read_properties<R: Reads>(
     ensures cause { HasFaultCause (R.faults space.old) (R.faults space.new) result }
 {
     let mark = name_mark(space);
-    let Some(owned) = owner_of(space, item)? else {
+    let Some(owned) = owner_of(space, item, row)? else {
         return Ok(Vec::new(alloc));
     };
     let props = read_all_from(alloc, space, owned.owner, owned.first)?;
@@ -219,7 +228,7 @@ fn value_among<R: Reads>(
         → IfOk result (λ value. value ≡ maps.get properties key.now) }
     ensures kept { IfOk result (λ value. IfSome value IsKept) }
 {
-    let Some(number) = number_of(space, names, key) else {
+    let Some(number) = number_of(space, names, &Guess::new(), key) else {
         return Ok(None);
     };
     numbered_value(alloc, props, number)

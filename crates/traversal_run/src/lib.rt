@@ -1,5 +1,6 @@
 //! The run of a query: its results come one by one. Each step keeps the items that wait for it, and
 //! the next one is made from the last step that has some, so nothing makes the whole list first.
+//! The first step takes those of the source with none that waits, unless it is a limit.
 //! Only an order and the texts of a dedup grow with what comes to them.
 #![tactic(auto)]
 
@@ -8,6 +9,7 @@ mod comparing;
 mod counter;
 mod edge_items;
 mod elements;
+mod feeding;
 mod finding;
 mod hopping;
 mod id_set;
@@ -20,6 +22,7 @@ mod row;
 mod run;
 mod seen;
 mod shown;
+mod sought;
 mod source;
 mod stage;
 mod starting;

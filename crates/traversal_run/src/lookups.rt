@@ -5,6 +5,7 @@ ghost use Rattle.plain_graph.specs.Values.{is_text};
 ghost use Rattle.store_rules.specs.Graph.{graph_of};
 ghost use Rattle.rec_bytes.specs.Fault.{HasFaultCause, NotDamaged};
 ghost use Rattle.prop_store.specs.Fault.{BlamesBroken};
+ghost use Rattle.traversal_run.specs.Elements.{IsRowOf};
 ghost use Rattle.traversal_run.specs.Mapping.{distinct_values};
 ghost use Rattle.traversal_run.specs.Reading.{IsNamedStore, IsRead};
 ghost use Rattle.traversal_run.specs.Stage.{rank_in};
@@ -13,8 +14,10 @@ use crate::comparing::{is_related, is_text};
 use crate::elements::{label_of, value_of};
 use crate::key_values::{all_values, several_values};
 use crate::shown::Shown;
+use crate::sought::{Guess, Sought};
 use crate::waiting::Waiting;
 use name_store::Names;
+use node_store::NodeRow;
 use plain_graph::{Filter, Item, Text, Texts, Value};
 use rec_bytes::{Fault, Reads};
 use std::alloc::{AllocError, Global};
@@ -24,9 +27,11 @@ pub(crate) fn passes<R: Reads>(
     alloc: Global,
     space: &mut R,
     names: &Names,
-    filter: &Filter,
+    filter: &Sought<Filter>,
     item: &Item,
+    row: &Option<NodeRow>,
 ) -> Result<bool, Fault>
+    requires row { IsRowOf R.tells (R.state space.old).records item.now row.now }
     ensures found { R.tells
         → IsNamedStore (R.state space.old).records (R.state space.old).shape names.now.names
         → IfOk result (λ value. value
@@ -39,21 +44,37 @@ pub(crate) fn passes<R: Reads>(
     ensures read { IsRead R.Reads space.old space.new }
     ensures cause { HasFaultCause (R.faults space.old) (R.faults space.new) result }
 {
-    match filter {
+    match &filter.what {
         Filter::Has(key) => {
-            let value = value_of(alloc, space, names, key.as_bytes(), item)?;
+            let value = value_of(
+                alloc,
+                space,
+                names,
+                &filter.guess,
+                key.as_bytes(),
+                item,
+                row,
+            )?;
             Ok(value.is_some())
         }
         Filter::HasValue {
             key,
             relation,
             value,
-        } => match value_of(alloc, space, names, key.as_bytes(), item)? {
+        } => match value_of(
+            alloc,
+            space,
+            names,
+            &filter.guess,
+            key.as_bytes(),
+            item,
+            row,
+        )? {
             Some(own) => Ok(is_related(*relation, &own, value)),
             None => Ok(false),
         },
         Filter::HasLabel(labels) => {
-            let label = label_of(space, names, item)?;
+            let label = label_of(space, names, item, row)?;
             Ok(is_among(label, labels.as_slice()))
         }
     }
@@ -71,9 +92,11 @@ pub(crate) fn distinct_values<R: Reads>(
     alloc: Global,
     space: &mut R,
     names: &Names,
-    keys: &Texts,
+    keys: &Sought<Texts>,
     item: &Item,
+    row: &Option<NodeRow>,
 ) -> Result<Waiting, Fault>
+    requires row { IsRowOf R.tells (R.state space.old).records item.now row.now }
     ensures found { R.tells
         → IsNamedStore (R.state space.old).records (R.state space.old).shape names.now.names
         → IfOk result (λ value. value
@@ -86,10 +109,10 @@ pub(crate) fn distinct_values<R: Reads>(
     ensures read { IsRead R.Reads space.old space.new }
     ensures cause { HasFaultCause (R.faults space.old) (R.faults space.new) result }
 {
-    match keys.as_slice() {
-        [] => all_values(alloc, space, names, item),
-        [key] => one_value(alloc, space, names, key, item),
-        several => several_values(alloc, space, names, several, item),
+    match keys.what.as_slice() {
+        [] => all_values(alloc, space, names, item, row),
+        [key] => one_value(alloc, space, names, &keys.guess, key, item, row),
+        several => several_values(alloc, space, names, several, item, row),
     }
 }
 
@@ -98,9 +121,12 @@ fn one_value<R: Reads>(
     alloc: Global,
     space: &mut R,
     names: &Names,
+    guess: &Guess,
     key: &Text,
     item: &Item,
+    row: &Option<NodeRow>,
 ) -> Result<Waiting, Fault>
+    requires row { IsRowOf R.tells (R.state space.old).records item.now row.now }
     ensures found { R.tells
         → IsNamedStore (R.state space.old).records (R.state space.old).shape names.now.names
         → IfOk result (λ value. value
@@ -113,7 +139,7 @@ fn one_value<R: Reads>(
     ensures read { IsRead R.Reads space.old space.new }
     ensures cause { HasFaultCause (R.faults space.old) (R.faults space.new) result }
 {
-    match value_of(alloc, space, names, key.as_bytes(), item)? {
+    match value_of(alloc, space, names, guess, key.as_bytes(), item, row)? {
         Some(value) => { Ok(Waiting::one(alloc, Shown::value(value))) }
         None => Ok(Waiting::new(alloc)),
     }
@@ -125,7 +151,9 @@ pub(crate) fn label_value<R: Reads>(
     space: &mut R,
     names: &Names,
     item: &Shown,
+    row: &Option<NodeRow>,
 ) -> Result<Waiting, Fault>
+    requires row { IsRowOf R.tells (R.state space.old).records item.now row.now }
     ensures found { R.tells
         → IsNamedStore (R.state space.old).records (R.state space.old).shape names.now.names
         → IfOk result (λ outs. outs
@@ -138,7 +166,7 @@ pub(crate) fn label_value<R: Reads>(
     ensures read { IsRead R.Reads space.old space.new }
     ensures cause { HasFaultCause (R.faults space.old) (R.faults space.new) result }
 {
-    let label = label_of(space, names, item.as_item())?;
+    let label = label_of(space, names, item.as_item(), row)?;
     let bytes = Vec::from_slice(alloc, label)?;
     let label = Shown::value(Value::Text(Text::new(bytes)));
     Ok(Waiting::one(alloc, label))
@@ -149,9 +177,11 @@ pub(crate) fn rank<R: Reads>(
     alloc: Global,
     space: &mut R,
     names: &Names,
-    key: &Option<Text>,
+    key: &Sought<Option<Text>>,
     item: &Item,
+    row: &Option<NodeRow>,
 ) -> Result<Option<Value>, Fault>
+    requires row { IsRowOf R.tells (R.state space.old).records item.now row.now }
     ensures found { R.tells
         → IsNamedStore (R.state space.old).records (R.state space.old).shape names.now.names
         → IfOk result (λ value. value
@@ -164,8 +194,8 @@ pub(crate) fn rank<R: Reads>(
     ensures read { IsRead R.Reads space.old space.new }
     ensures cause { HasFaultCause (R.faults space.old) (R.faults space.new) result }
 {
-    match key {
-        Some(key) => value_of(alloc, space, names, key.as_bytes(), item),
+    match &key.what {
+        Some(text) => value_of(alloc, space, names, &key.guess, text.as_bytes(), item, row),
         None => {
             let rank = own_rank(alloc, item)?;
             Ok(Some(rank))

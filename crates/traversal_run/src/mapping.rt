@@ -3,14 +3,17 @@ ghost use Rattle.plain_graph.specs.Meaning.{identifier, in_vertex, out_vertex};
 ghost use Rattle.store_rules.specs.Graph.{graph_of};
 ghost use Rattle.rec_bytes.specs.Fault.{HasFaultCause, NotDamaged};
 ghost use Rattle.prop_store.specs.Fault.{BlamesBroken};
+ghost use Rattle.traversal_run.specs.Elements.{IsRowOf};
 ghost use Rattle.traversal_run.specs.Mapping.{filtered, mapped};
 ghost use Rattle.traversal_run.specs.Reading.{IsNamedStore, IsRead};
 
 use crate::hopping::{incident, neighbours};
 use crate::lookups::{distinct_values, label_value, passes};
 use crate::shown::Shown;
+use crate::sought::Sought;
 use crate::waiting::Waiting;
 use name_store::Names;
+use node_store::NodeRow;
 use plain_graph::{Filter, Hop, Item, Texts};
 use rec_bytes::{Fault, Reads};
 use std::alloc::Global;
@@ -18,13 +21,13 @@ use std::alloc::Global;
 /// A step that makes of each item what that item alone gives, whatever came before it.
 #[derive(Drop)]
 pub(crate) enum Mapping {
-    Neighbours(Hop),
-    Incident(Hop),
+    Neighbours(Sought<Hop>),
+    Incident(Sought<Hop>),
     OutV,
     InV,
-    Filter(Filter),
+    Filter(Sought<Filter>),
     /// Each key once.
-    Values(Texts),
+    Values(Sought<Texts>),
     Id,
     Label,
 }
@@ -36,7 +39,9 @@ pub(crate) fn mapped<R: Reads>(
     names: &Names,
     mapping: &Mapping,
     item: Shown,
+    row: &Option<NodeRow>,
 ) -> Result<Waiting, Fault>
+    requires row { IsRowOf R.tells (R.state space.old).records item row.now }
     ensures found { R.tells
         → IsNamedStore (R.state space.old).records (R.state space.old).shape names.now.names
         → IfOk result (λ outs. outs
@@ -52,9 +57,9 @@ pub(crate) fn mapped<R: Reads>(
     match mapping {
         Mapping::Neighbours(hop) => neighbours(alloc, space, names, hop, item.as_item()),
         Mapping::Incident(hop) => incident(alloc, space, names, hop, item.as_item()),
-        Mapping::Filter(filter) => filtered(alloc, space, names, filter, item),
-        Mapping::Values(keys) => distinct_values(alloc, space, names, keys, item.as_item()),
-        Mapping::Label => label_value(alloc, space, names, &item),
+        Mapping::Filter(filter) => filtered(alloc, space, names, filter, item, row),
+        Mapping::Values(keys) => distinct_values(alloc, space, names, keys, item.as_item(), row),
+        Mapping::Label => label_value(alloc, space, names, &item, row),
         Mapping::Id => Ok(identifier(alloc, item.as_item())),
         Mapping::OutV => Ok(out_vertex(alloc, item.as_item())),
         Mapping::InV => Ok(in_vertex(alloc, item.as_item())),
@@ -66,9 +71,11 @@ fn filtered<R: Reads>(
     alloc: Global,
     space: &mut R,
     names: &Names,
-    filter: &Filter,
+    filter: &Sought<Filter>,
     item: Shown,
+    row: &Option<NodeRow>,
 ) -> Result<Waiting, Fault>
+    requires row { IsRowOf R.tells (R.state space.old).records item row.now }
     ensures found { R.tells
         → IsNamedStore (R.state space.old).records (R.state space.old).shape names.now.names
         → IfOk result (λ outs. outs
@@ -81,7 +88,7 @@ fn filtered<R: Reads>(
     ensures read { IsRead R.Reads space.old space.new }
     ensures cause { HasFaultCause (R.faults space.old) (R.faults space.new) result }
 {
-    if passes(alloc, space, names, filter, item.as_item())? {
+    if passes(alloc, space, names, filter, item.as_item(), row)? {
         Ok(Waiting::one(alloc, item))
     } else {
         Ok(Waiting::new(alloc))

@@ -6,19 +6,26 @@ ghost use Rattle.rec_bytes.specs.declared.fault.Fault.TheVariants as faults;
 ghost use Rattle.traversal_run.specs.Naming.{FindsName, FindsNames, name_at, name_count};
 ghost use Rattle.traversal_run.specs.Reading.{IsNamedStore};
 
+use crate::sought::Guess;
 use name_store::Names;
 use plain_graph::Text;
 use rec_bytes::{Damage, Fault, NAMES, PROPERTY_RULE, Reads};
 use std::alloc::{AllocError, Global};
 
 /// The number of a text among the names of the store.
-pub(crate) fn number_of<R: Reads>(space: &R, names: &Names, text: &[u8]) -> Option<u32>
+#[inline(always)]
+pub(crate) fn number_of<R: Reads>(
+    space: &R,
+    names: &Names,
+    guess: &Guess,
+    text: &[u8],
+) -> Option<u32>
     ensures finds { IsNamedStore (R.state space.now).records (R.state space.now).shape
         names.now.names
         → FindsName (R.state space.now).records result text.now }
     ensures below { IfSome result (λ number. number < name_count (R.state space.now).records) }
 {
-    let number = names.find(text)?;
+    let number = guess.find(names, text)?;
     if number < space.meta(NAMES).high.min(names.count()) {
         Some(number)
     } else {
@@ -42,7 +49,7 @@ pub(crate) fn numbers_of<R: Reads>(
 {
     let mut numbers = Vec::new(alloc);
     for text in texts {
-        if let Some(number) = number_of(space, names, text.as_bytes()) {
+        if let Some(number) = number_of(space, names, &Guess::new(), text.as_bytes()) {
             numbers.push(number)?;
         }
     }

@@ -82,7 +82,7 @@ impl Row {
         }
         match self.waiting.take_first() {
             Some(item) => {
-                let outs = self.stage.take(alloc, space, names, item)?;
+                let outs = self.stage.take(alloc, space, names, item, &None)?;
                 Ok(outs)
             }
             None => Ok(Waiting::new(alloc)),
@@ -134,6 +134,19 @@ pub(crate) fn first_open(rows: &[Row]) -> Option<usize>
         }
     }
     None
+}
+
+/// Whether the first row takes the items of the source with none that waits: it has to be there,
+/// and no limit.
+pub(crate) fn is_fed(rows: &[Row]) -> bool
+    ensures some { result ≡ true → 0 < length rows.now }
+    ensures limit { (most : ℕ) (waiting : List Item)
+        → rows.now ≡ limit_row most waiting ∷ [] → result ≡ false }
+{
+    match rows {
+        [row, ..] => !matches!(row.stage, Stage::Limit { .. }),
+        [] => false,
+    }
 }
 
 /// Whether no step counts.

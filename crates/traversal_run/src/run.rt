@@ -16,8 +16,8 @@ ghost use Rattle.traversal_run.specs.Held.{
   hops_of,
 };
 ghost use Rattle.traversal_run.specs.Reading.{IsNamedStore, IsRead};
-ghost use Rattle.traversal_run.specs.Row.{AreIdle, AreQuiet, Stream, stages_of, stream};
-ghost use Rattle.traversal_run.specs.Row.{through, with_first};
+ghost use Rattle.traversal_run.specs.Row.{AreIdle, AreQuiet, Stream, have_no_count, stages_of};
+ghost use Rattle.traversal_run.specs.Row.{stream, through, with_first};
 ghost use Rattle.rec_bytes.specs.declared.damage.Damage.{Damage};
 ghost use Rattle.fault_count.specs.Cause.{Rose};
 ghost use Rattle.traversal_run.specs.Run.{
@@ -40,14 +40,16 @@ ghost use Rattle.traversal_run.specs.Scan.{
   TakesVertex,
   limit_row,
 };
-ghost use Rattle.traversal_run.specs.Source.{is_over};
+ghost use Rattle.traversal_run.specs.Source.{is_over, left_of};
 ghost use Rattle.traversal_run.specs.Stage.{with_more};
 ghost use Rattle.traversal_run.specs.Starting.{limit_of};
 ghost use Rattle.traversal_run.specs.Stop.{HasStopCause, MayStop, StopsAtBroken};
 ghost use Rattle.store_rules.specs.Breaking.{Breaks};
 
-use crate::row::{Row, first_open, have_no_count, last_waiting, put};
+use crate::feeding::{as_filter, count_of, count_passing, feed};
+use crate::row::{Row, first_open, have_no_count, is_fed, last_waiting, put};
 use crate::source::Source;
+use crate::stage::Stage;
 use crate::starting::rows_of;
 use crate::stop::Stop;
 use crate::waiting::Waiting;
@@ -122,6 +124,139 @@ fn advance_row<R: Reads>(
     let outs = rows[at].advance(alloc, space, names)?;
     put(rows, ready, at + 1, outs);
     Ok(())
+}
+
+/// Gives the first row what the source still has until it gives something, and that to the next
+/// row.
+fn feed_step<R: Reads>(
+    alloc: Global,
+    space: &mut R,
+    names: &Names,
+    source: &mut Source,
+    rows: &mut [Row],
+    ready: &mut Waiting,
+) -> Result<(), Stop>
+    requires some { 0 < length rows.old }
+    requires idle { AreIdle rows.old }
+    requires none { ready.old ≡ [] }
+    ensures same { R.tells
+        → IsNamedStore (R.state space.old).records (R.state space.old).shape names.now.names
+        → OnOk result (with_first ready.new (through (graph_of (R.state space.old).records)
+        rows.new (stream (left_of (graph_of (R.state space.old).records) source.new)))
+        ≡ through (graph_of (R.state space.old).records)
+        rows.old (stream (left_of (graph_of (R.state space.old).records) source.old))) }
+    ensures stops { R.tells
+        → IsNamedStore (R.state space.old).records (R.state space.old).shape names.now.names
+        → IfErr result (MayStop ⊥ ((through (graph_of (R.state space.old).records)
+        rows.old (stream (left_of (graph_of (R.state space.old).records) source.old))).past
+        ≡ true)) }
+    ensures damaged { R.tells → IfErr result
+        (StopsAtBroken (R.state space.old).records (R.state space.old).shape) }
+    ensures near { R.tells
+        → IsNamedStore (R.state space.old).records (R.state space.old).shape names.now.names
+        → (d most : ℕ) → HasDegreesUpTo (graph_of (R.state space.old).records) d
+        → IsNear d most rows.old ready.old → OnOk result (IsNear d most rows.new ready.new) }
+    ensures allowed { OnOk result ((before after : Bool)
+        → allowed_by after (stages_of rows.new) (length ready.new)
+        ≡ allowed_by before (stages_of rows.old) 0) }
+    ensures read { IsRead R.Reads space.old space.new }
+    ensures cause { HasStopCause (R.faults space.old) (R.faults space.new) result }
+{
+    let outs = feed(alloc, space, names, source, &mut rows[0].stage)?;
+    put(rows, ready, 1, outs);
+    Ok(())
+}
+
+/// Gives the first two rows what the source still has, where the first is a filter of vertices and
+/// the second counts. It tells whether they are so.
+fn feed_two<R: Reads>(
+    alloc: Global,
+    space: &mut R,
+    names: &Names,
+    source: &mut Source,
+    rows: &mut [Row],
+) -> Result<bool, Stop>
+    requires idle { AreIdle rows.old }
+    ensures same { R.tells
+        → IsNamedStore (R.state space.old).records (R.state space.old).shape names.now.names
+        → IfOk result (λ fed. fed ≡ true → through (graph_of (R.state space.old).records)
+        rows.new (stream (left_of (graph_of (R.state space.old).records) source.new))
+        ≡ through (graph_of (R.state space.old).records)
+        rows.old (stream (left_of (graph_of (R.state space.old).records) source.old))) }
+    ensures stays { IfOk result (λ fed. fed ≡ false → (rows.new ≡ rows.old)
+        × (source.new ≡ source.old) × (space.new ≡ space.old)) }
+    ensures counts { IfOk result (λ fed. fed ≡ true
+        → (have_no_count (stages_of rows.old) ≡ false)
+        × (have_no_count (stages_of rows.new) ≡ false)) }
+    ensures stops { R.tells
+        → IsNamedStore (R.state space.old).records (R.state space.old).shape names.now.names
+        → IfErr result (MayStop ⊥ ((through (graph_of (R.state space.old).records)
+        rows.old (stream (left_of (graph_of (R.state space.old).records) source.old))).past
+        ≡ true)) }
+    ensures damaged { R.tells → IfErr result
+        (StopsAtBroken (R.state space.old).records (R.state space.old).shape) }
+    ensures read { IsRead R.Reads space.old space.new }
+    ensures cause { HasStopCause (R.faults space.old) (R.faults space.new) result }
+{
+    if source.edges || rows.len() < 2 {
+        return Ok(false);
+    }
+    let shared = &rows[..];
+    let Some(filter) = as_filter(&shared[0].stage) else {
+        return Ok(false);
+    };
+    let Some((mut so_far, told)) = count_of(&shared[1].stage) else {
+        return Ok(false);
+    };
+    let fits = count_passing(alloc, space, names, source, filter, &mut so_far)?;
+    rows[1].stage = Stage::Count { so_far, told };
+    if fits | told {
+        Ok(true)
+    } else {
+        Err(Stop::PastCount)
+    }
+}
+
+/// Gives the first row what the source still has, and what that gives to the next row. A filter
+/// before a count takes all at once.
+fn feed_rows<R: Reads>(
+    alloc: Global,
+    space: &mut R,
+    names: &Names,
+    source: &mut Source,
+    rows: &mut [Row],
+    ready: &mut Waiting,
+) -> Result<(), Stop>
+    requires some { 0 < length rows.old }
+    requires idle { AreIdle rows.old }
+    requires none { ready.old ≡ [] }
+    ensures same { R.tells
+        → IsNamedStore (R.state space.old).records (R.state space.old).shape names.now.names
+        → OnOk result (with_first ready.new (through (graph_of (R.state space.old).records)
+        rows.new (stream (left_of (graph_of (R.state space.old).records) source.new)))
+        ≡ through (graph_of (R.state space.old).records)
+        rows.old (stream (left_of (graph_of (R.state space.old).records) source.old))) }
+    ensures stops { R.tells
+        → IsNamedStore (R.state space.old).records (R.state space.old).shape names.now.names
+        → IfErr result (MayStop ⊥ ((through (graph_of (R.state space.old).records)
+        rows.old (stream (left_of (graph_of (R.state space.old).records) source.old))).past
+        ≡ true)) }
+    ensures damaged { R.tells → IfErr result
+        (StopsAtBroken (R.state space.old).records (R.state space.old).shape) }
+    ensures near { R.tells
+        → IsNamedStore (R.state space.old).records (R.state space.old).shape names.now.names
+        → (d most : ℕ) → HasDegreesUpTo (graph_of (R.state space.old).records) d
+        → IsNear d most rows.old ready.old → OnOk result (IsNear d most rows.new ready.new) }
+    ensures allowed { OnOk result ((before after : Bool)
+        → allowed_by after (stages_of rows.new) (length ready.new)
+        ≡ allowed_by before (stages_of rows.old) 0) }
+    ensures read { IsRead R.Reads space.old space.new }
+    ensures cause { HasStopCause (R.faults space.old) (R.faults space.new) result }
+{
+    if feed_two(alloc, space, names, source, rows)? {
+        return Ok(());
+    }
+    feed_step(alloc, space, names, source, rows, ready)
 }
 
 /// Gives what the first open row has at the end of what comes to it to the next row.
@@ -270,7 +405,19 @@ impl Run {
             self.cut(at);
             return Ok(());
         }
-        if let Some(item) = self.source.next(self.alloc, space, names)? {
+        if !self.source.is_over() && is_fed(&self.rows) {
+            feed_rows(
+                self.alloc,
+                space,
+                names,
+                &mut self.source,
+                &mut self.rows,
+                &mut self.ready,
+            )?;
+            return Ok(());
+        }
+        let mark = self.source.mark(space);
+        if let Some(item) = self.source.next(self.alloc, space, names, mark)? {
             let outs = Waiting::one(self.alloc, item);
             put(&mut self.rows, &mut self.ready, 0, outs);
             return Ok(());

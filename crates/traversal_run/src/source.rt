@@ -7,6 +7,9 @@ ghost use Rattle.rec_bytes.specs.Fault.{HasFaultCause, NotDamaged};
 ghost use Rattle.prop_store.specs.Fault.{BlamesBroken};
 ghost use Rattle.traversal_run.specs.Reading.{IsNamedStore, IsRead};
 ghost use Rattle.traversal_run.specs.Scan.{TakesVertex, vertices_from};
+ghost use Rattle.store_rules.specs.Rules.{IsWellFormed};
+ghost use Rattle.traversal_run.specs.Feeding.{Counts};
+ghost use Rattle.traversal_run.specs.Finding.{element_mark};
 ghost use Rattle.traversal_run.specs.Source.{
   GivesFirst,
   HasNoneBelow,
@@ -17,7 +20,8 @@ ghost use Rattle.traversal_run.specs.Source.{
 };
 
 use crate::asked_ids::AskedIds;
-use crate::finding::{element_at, mark_of};
+use crate::counter::Counter;
+use crate::finding::{element_at, is_in_use, mark_of};
 use crate::shown::Shown;
 use name_store::Names;
 use rec_bytes::{Fault, Reads};
@@ -36,7 +40,7 @@ pub(crate) enum Left {
 
 impl Left {
     /// Takes the first, where one may be below the mark.
-    fn take_first(&mut self, mark: u32) -> Option<u32>
+    pub(crate) fn take_first(&mut self, mark: u32) -> Option<u32>
         ensures some { IfSome result (λ id. TakesId self.old id self.new) }
         ensures none { IfNone result (HasNoneBelow mark self.old × (self.new ≡ self.old)) }
         ensures from { (at : ℕ) → self.old ≡ Left.From at
@@ -85,14 +89,23 @@ impl Source {
         Ok(Source { edges, left })
     }
 
-    /// The first element in use that is still to come. It costs a read for each identifier up to
-    /// that of the element, and no more than one for each that was given out.
+    /// How many of its elements were given out.
+    pub(crate) fn mark<R: Reads>(&self, space: &R) -> u32
+        ensures { result ≡ element_mark (R.state space.now).records self.now.edges }
+    {
+        mark_of(space, self.edges)
+    }
+
+    /// The first element in use that is still to come, where this is the mark. It costs a read for
+    /// each identifier up to that of the element, and no more than one for each that was given out.
     pub(crate) fn next<R: Reads>(
         &mut self,
         alloc: Global,
         space: &mut R,
         names: &Names,
+        mark: u32,
     ) -> Result<Option<Shown>, Fault>
+        requires { mark ≡ element_mark (R.state space.old).records self.old.edges }
         ensures first { R.tells
             → IsNamedStore (R.state space.old).records (R.state space.old).shape names.now.names
             → IfOk result (λ item.
@@ -106,12 +119,12 @@ impl Source {
         ensures vertex { (at : ℕ) → self.old ≡ vertices_from at
             → IfOk result (λ item. IfSome item (λ found. TakesVertex at
             (R.state space.old).reads (R.state space.new).reads found self.new)) }
+        ensures edges { self.new.edges ≡ self.old.edges }
         ensures over { is_over self.new.left ≡ is_over self.old.left }
         ensures none { is_over self.old.left ≡ true → IfOk result (λ item. item ≡ None) }
         ensures read { IsRead R.Reads space.old space.new }
         ensures cause { HasFaultCause (R.faults space.old) (R.faults space.new) result }
     {
-        let mark = mark_of(space, self.edges);
         while let Some(id) = self.left.take_first(mark) {
             let item = element_at(alloc, space, names, self.edges, id)?;
             if item.is_some() {
@@ -119,6 +132,34 @@ impl Source {
             }
         }
         Ok(None)
+    }
+
+    /// Counts the elements in use that are still to come, and leaves nothing to come. It tells
+    /// whether a value can say the count. No name is looked up.
+    pub(crate) fn count<R: Reads>(
+        &mut self,
+        space: &mut R,
+        so_far: &mut Counter,
+    ) -> Result<bool, Fault>
+        ensures counts { R.tells → IfOk result (λ fits. Counts
+            (graph_of (R.state space.old).records) self.old so_far.old fits self.new so_far.new) }
+        ensures sound { R.tells
+            → IsWellFormed (R.state space.old).records (R.state space.old).shape
+            → NotDamaged result }
+        ensures damaged { R.tells → IfErr result
+            (BlamesBroken (R.state space.old).records (R.state space.old).shape) }
+        ensures read { IsRead R.Reads space.old space.new }
+        ensures cause { HasFaultCause (R.faults space.old) (R.faults space.new) result }
+    {
+        let mark = self.mark(space);
+        while let Some(id) = self.left.take_first(mark) {
+            let used = is_in_use(space, self.edges, id)?;
+            if !so_far.add(usize::from(used)) {
+                return Ok(false);
+            }
+        }
+        self.end();
+        Ok(true)
     }
 
     /// Whether nothing is left to come, as is known with no read.

@@ -7,6 +7,7 @@ ghost use Rattle.std.specs.List.{cons_option};
 ghost use Rattle.store_rules.specs.Graph.{graph_of};
 ghost use Rattle.rec_bytes.specs.Fault.{HasFaultCause, NotDamaged};
 ghost use Rattle.prop_store.specs.Fault.{BlamesBroken};
+ghost use Rattle.traversal_run.specs.Elements.{IsRowOf};
 ghost use Rattle.traversal_run.specs.Held.{is_hop, is_plain};
 ghost use Rattle.traversal_run.specs.Reading.{IsNamedStore, IsRead};
 ghost use Rattle.traversal_run.specs.Stage.{
@@ -25,8 +26,10 @@ use crate::lookups::rank;
 use crate::mapping::{Mapping, mapped};
 use crate::seen::Seen;
 use crate::shown::Shown;
+use crate::sought::Sought;
 use crate::waiting::Waiting;
 use name_store::Names;
+use node_store::NodeRow;
 use plain_graph::Text;
 use rec_bytes::{Fault, Reads};
 use std::alloc::{AllocError, Global};
@@ -49,7 +52,7 @@ pub(crate) enum Stage {
     },
     /// The items that came, and whether they were given.
     Order {
-        key: Option<Text>,
+        key: Sought<Option<Text>>,
         descending: bool,
         kept: Kept,
         told: bool,
@@ -64,8 +67,10 @@ impl Stage {
         space: &mut R,
         names: &Names,
         item: Shown,
+        row: &Option<NodeRow>,
     ) -> Result<Waiting, Fault>
-        requires { is_count self.old ≡ false }
+        requires row { IsRowOf R.tells (R.state space.old).records item row.now }
+        requires counts { is_count self.old ≡ false }
         ensures takes { R.tells
             → IsNamedStore (R.state space.old).records (R.state space.old).shape names.now.names
             → IfOk result
@@ -88,7 +93,7 @@ impl Stage {
         ensures cause { HasFaultCause (R.faults space.old) (R.faults space.new) result }
     {
         match self {
-            Stage::Mapped(mapping) => mapped(alloc, space, names, mapping, item),
+            Stage::Mapped(mapping) => mapped(alloc, space, names, mapping, item, row),
             Stage::Dedup { seen } => {
                 let outs = unseen(alloc, seen, item)?;
                 Ok(outs)
@@ -96,7 +101,7 @@ impl Stage {
             Stage::Count { .. } => unreachable!(),
             Stage::Limit { left } => Ok(let_through(alloc, left, item)),
             Stage::Order { key, kept, .. } => {
-                keep(alloc, space, names, key, kept, item)?;
+                keep(alloc, space, names, key, kept, item, row)?;
                 Ok(Waiting::new(alloc))
             }
         }
@@ -135,10 +140,12 @@ fn keep<R: Reads>(
     alloc: Global,
     space: &mut R,
     names: &Names,
-    key: &Option<Text>,
+    key: &Sought<Option<Text>>,
     kept: &mut Kept,
     item: Shown,
+    row: &Option<NodeRow>,
 ) -> Result<(), Fault>
+    requires row { IsRowOf R.tells (R.state space.old).records item row.now }
     ensures kept { R.tells
         → IsNamedStore (R.state space.old).records (R.state space.old).shape names.now.names
         → OnOk result (kept.new ≡ kept.old
@@ -151,7 +158,7 @@ fn keep<R: Reads>(
     ensures read { IsRead R.Reads space.old space.new }
     ensures cause { HasFaultCause (R.faults space.old) (R.faults space.new) result }
 {
-    match rank(alloc, space, names, key, item.as_item())? {
+    match rank(alloc, space, names, key, item.as_item(), row)? {
         Some(rank) => {
             kept.push(Ranked { rank, item })?;
             Ok(())

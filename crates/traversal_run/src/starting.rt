@@ -13,6 +13,7 @@ use crate::kept::Kept;
 use crate::mapping::Mapping;
 use crate::row::Row;
 use crate::seen::Seen;
+use crate::sought::Sought;
 use crate::stage::Stage;
 use crate::text_set::distinct_texts;
 use crate::waiting::Waiting;
@@ -38,19 +39,19 @@ fn push_step(alloc: Global, rows: &mut Vec<Row>, step: &Step) -> Result<(), Allo
         Step::Repeat { body, times } => push_repeat(alloc, rows, body.as_slice(), *times),
         Step::Neighbours(hop) => {
             let hop = copy_hop(alloc, hop)?;
-            push_each(alloc, rows, Mapping::Neighbours(hop))
+            push_each(alloc, rows, Mapping::Neighbours(Sought::new(hop)))
         }
         Step::Incident(hop) => {
             let hop = copy_hop(alloc, hop)?;
-            push_each(alloc, rows, Mapping::Incident(hop))
+            push_each(alloc, rows, Mapping::Incident(Sought::new(hop)))
         }
         Step::Filter(filter) => {
             let filter = filter.copy(alloc)?;
-            push_each(alloc, rows, Mapping::Filter(filter))
+            push_each(alloc, rows, Mapping::Filter(Sought::new(filter)))
         }
         Step::Values(keys) => {
             let keys = distinct_texts(alloc, keys.as_slice())?;
-            push_each(alloc, rows, Mapping::Values(Texts::new(keys)))
+            push_each(alloc, rows, Mapping::Values(Sought::new(Texts::new(keys))))
         }
         Step::OutV => push_each(alloc, rows, Mapping::OutV),
         Step::InV => push_each(alloc, rows, Mapping::InV),
@@ -79,7 +80,7 @@ fn push_step(alloc: Global, rows: &mut Vec<Row>, step: &Step) -> Result<(), Allo
                 alloc,
                 rows,
                 Stage::Order {
-                    key,
+                    key: Sought::new(key),
                     descending: *descending,
                     kept,
                     told: false,
@@ -137,11 +138,11 @@ fn push_body_step(alloc: Global, rows: &mut Vec<Row>, step: &BodyStep) -> Result
     match step {
         BodyStep::Neighbours(hop) => {
             let hop = copy_hop(alloc, hop)?;
-            push_each(alloc, rows, Mapping::Neighbours(hop))
+            push_each(alloc, rows, Mapping::Neighbours(Sought::new(hop)))
         }
         BodyStep::Filter(filter) => {
             let filter = filter.copy(alloc)?;
-            push_each(alloc, rows, Mapping::Filter(filter))
+            push_each(alloc, rows, Mapping::Filter(Sought::new(filter)))
         }
     }
 }

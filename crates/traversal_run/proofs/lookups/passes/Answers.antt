@@ -15,4 +15,4 @@ returns-in_ok-label-in-HasLabel-clause-found g c = λ tells store.
     c.is_among.ensures
     ∙ ap (λ (labels : List (List ℕ)). list_any (λ label. is_text label own) labels) c.as_slice.ensures
     ∙ ap (λ (text : List ℕ). list_any (λ label. is_text label text) c.in-HasLabel.labels) is
-    ∙ ap (λ (filter : Filter). passes graph filter item) (sym c.in-HasLabel.is)
+    ∙ ap (λ (filter : Filter). passes graph filter item) (sym c.in-HasLabel.is ∙ c.filter.view_is)

@@ -7,8 +7,8 @@ use Rattle.traversal_run.proofs.HeldSteps.{few_at, takes_batch}
 use Rattle.traversal_run.proofs.Scans.{limit_taken}
 use Rattle.traversal_run.proofs.row.Row.advance.Goals as goal
 
-pub take-requires : goal.take-requires
-take-requires g c = not_count c.args.self.now.stage c.in_default.not-Count
+pub take-requires-clause-counts : goal.take-requires-clause-counts
+take-requires-clause-counts g c = not_count c.args.self.now.stage c.in_default.not-Count
 
 pub returns-in_ok-outs-in-Some-clause-few : goal.returns-in_ok-outs-in-Some-clause-few
 returns-in_ok-outs-in-Some-clause-few g c = λ tells store d degrees plain.

@@ -99,3 +99,11 @@ returns-in_err-item-clause-cause g c =
 pub returns-in_err-finish_row-clause-cause : goal.returns-in_err-finish_row-clause-cause
 returns-in_err-finish_row-clause-cause g c =
     memory_stop_cause _ _ c.from_residual-in_err-finish_row.result c.in_ok-item.ensures.cause.later c.from_residual-in_err-finish_row.ensures.1
+
+pub returns-then-is_fed-clause-near : goal.returns-then-is_fed-clause-near
+returns-then-is_fed-clause-near g c = λ tells store d most degrees near.
+    let run = c.args.self.now in
+    let rows : c.deref_mut-then-is_fed.result.now ≡ run.rows.items = c.deref_mut-then-is_fed.ensures.value in
+    let back = written_back c.feed_rows.new.rows run.rows.items run.rows.len (omega (arith, c.feed_rows.auto.rows, ap length rows)) run.rows.ok.0 in
+    subst (λ (rs : List Row). IsNear d most rs c.feed_rows.new.ready) (sym back)
+    (c.in_ok-feed_rows.ensures.near tells store d most degrees (subst (λ (rs : List Row). IsNear d most rs run.ready) (sym rows) near))

@@ -61,7 +61,6 @@ loop-id-preserved g c =
           let later = v.1 in
           let before = v.3 in
           (v.0 + 1, omega arith, take.1, omega arith);
-      mark = c.loop-id.invariant.mark;
       read = is_read-on space g.met.R.Reads.further_onward c.args.space.now c.loop-id.space c.element_at.new.space read c.element_at.ensures.read;
     }
 
@@ -69,7 +68,7 @@ pub returns-clause-first : goal.returns-clause-first
 returns-clause-first g c = λ tells store.
     let s = g.R.Reads.state c.args.space.now in
     let now = c.loop-id.self in
-    let mark = c.loop-id.invariant.mark ∙ ap (element_mark s.records) (sym c.loop-id.invariant.edges) in
+    let mark = c.requires ∙ ap (element_mark s.records) (sym c.loop-id.invariant.edges) in
     let none = subst (λ n. HasNoneBelow n now.left) mark c.in_default.ensures.none.0 in
     let nothing = left-none s.records now.edges now.left none in
     (sym (c.loop-id.invariant.same tells store) ∙ nothing, ap (elements_left (graph_of s.records) now.edges) c.in_default.ensures.none.1 ∙ nothing)

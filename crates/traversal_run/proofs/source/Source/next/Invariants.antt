@@ -1,6 +1,5 @@
 use Rattle.std.proofs.Common.{◌≡◌, ◌≤◌, ◌+◌, ◌-◌, ℕ}
 use Rattle.store_rules.specs.Graph.{graph_of}
-use Rattle.traversal_run.specs.Finding.{element_mark}
 use Rattle.traversal_run.specs.Reading.{IsNamedStore, IsRead}
 use Rattle.traversal_run.specs.Scan.{vertices_from}
 use Rattle.traversal_run.specs.Source.{is_over, left_count, left_of}
@@ -15,7 +14,6 @@ invariant-loop-id g l =
       edges : l.self.edges ≡ l.fn.self.edges;
       over : is_over l.self.left ≡ is_over l.fn.self.left;
       vertex : (at : ℕ) → l.fn.self ≡ vertices_from at → (next : ℕ) × (at ≤ next) × (l.self.left ≡ From next) × ((g.R.Reads.state l.space).reads ≤ old.reads + (next - at));
-      mark : l.mark ≡ element_mark old.records l.fn.self.edges;
       read : IsRead g.R.Reads l.fn.space l.space;
     }
 

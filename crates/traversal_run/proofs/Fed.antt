@@ -1,0 +1,277 @@
+-- Steps that take the items of a source.
+use Rattle.std.proofs.Common.{◌≡◌, cond, ◌<◌, ℕ, ◌+◌, Bool, true, false, not, ◌&&◌, ◌||◌, nat_lt, List, [], ◌∷◌, ◌++◌, length, take, drop, get_or, set, Option, Some, None, is_some, refl, sym, ap, ◌∙◌, subst, arith}
+use Rattle.std.proofs.lemmas.Bool.{lt-ltb}
+use Rattle.std.specs.Int.{from_bool}
+use Rattle.std.specs.List.{flat_map}
+use Rattle.plain_graph.specs.Graph.{Graph}
+use Rattle.plain_graph.specs.Meaning.{passes}
+use Rattle.plain_graph.specs.declared.filter.Filter.{Filter}
+use Rattle.node_store.specs.declared.node_row.NodeRow.{NodeRow}
+use Rattle.plain_graph.specs.declared.item.Item.{Item}
+use Rattle.plain_graph.specs.declared.item.Item.TheVariants as items
+use Rattle.store_rules.specs.Rows.{option_list}
+use Rattle.traversal_run.specs.Feeding.{Counts, Feeds, IsCountOf, after_rows, filter_stage, passing}
+use Rattle.store_rules.specs.Graph.{graph_of}
+use Rattle.store_rules.specs.Views.{Records}
+use Rattle.traversal_run.specs.Finding.{element_at, vertex_if}
+use Rattle.traversal_run.specs.Held.{ArePlain}
+use Rattle.traversal_run.specs.Mapping.{filtered}
+use Rattle.traversal_run.specs.Row.{AreIdle, Stream, after_row, have_no_count, stages_of, stream, through, with_first}
+use Rattle.traversal_run.specs.Source.{GivesFirst, TakesId, left_of}
+use Rattle.traversal_run.specs.Stage.{Takes, after_stage, counted, counts_past, is_count, with_more}
+use Rattle.traversal_run.specs.declared.row.Row.{Row}
+use Rattle.traversal_run.specs.declared.source.Left.{Left}
+use Rattle.traversal_run.specs.declared.source.Left.TheVariants.{Nothing}
+use Rattle.traversal_run.specs.declared.source.Source.{Source}
+use Rattle.traversal_run.specs.declared.stage.Stage.{Stage}
+use Rattle.traversal_run.specs.declared.stage.Stage.TheVariants as stages
+use Rattle.traversal_run.proofs.HeldSteps.{plain_uncounted}
+use Rattle.traversal_run.proofs.LeftRows.{left-takes}
+use Rattle.traversal_run.proofs.Rows.{left_of-over, past_through, through_cut}
+
+-- a source that was ended has nothing
+pub ended : (graph : Graph) (old new : Source) → new ≡ record old { left = Nothing } → left_of graph new ≡ []
+ended graph old new is = ap (left_of graph) is ∙ left_of-over graph old.edges
+
+-- ---- a count
+
+-- an element that was taken, and one more where it is in use
+counts_more : (graph : Graph) (source now rest : Source) (found : Option Item) (used : Bool) (before so_far more : ℕ) → so_far + length (left_of graph now) ≡ before + length (left_of graph source)
+    → left_of graph now ≡ option_list found ++ left_of graph rest → used ≡ is_some found → more ≡ from_bool used → so_far + more + length (left_of graph rest) ≡ before + length (left_of graph source)
+counts_more graph source now rest None used before so_far more same takes some one =
+    let long : length (left_of graph now) ≡ length (left_of graph rest) = ap length takes in
+    let none : more ≡ 0 = one ∙ ap from_bool some in
+    omega arith
+counts_more graph source now rest (Some item) used before so_far more same takes some one =
+    let long : length (left_of graph now) ≡ length (item ∷ left_of graph rest) = ap length takes in
+    let is : more ≡ 1 = one ∙ ap from_bool some in
+    omega arith
+
+pub counts_on : (graph : Graph) (source now rest : Source) (found : Option Item) (used : Bool) (before so_far more after : ℕ) → so_far + length (left_of graph now) ≡ before + length (left_of graph source)
+    → left_of graph now ≡ option_list found ++ left_of graph rest → used ≡ is_some found → more ≡ from_bool used → after ≡ so_far + more
+    → after + length (left_of graph rest) ≡ before + length (left_of graph source)
+counts_on graph source now rest found used before so_far more after same takes some one counted =
+    ap (λ n. n + length (left_of graph rest)) counted ∙ counts_more graph source now rest found used before so_far more same takes some one
+
+pub counts_passes : (graph : Graph) (source now rest : Source) (found : Option Item) (used : Bool) (before so_far more : ℕ) → so_far + length (left_of graph now) ≡ before + length (left_of graph source)
+    → left_of graph now ≡ option_list found ++ left_of graph rest → used ≡ is_some found → more ≡ from_bool used → 9223372036854775807 < so_far + more
+    → 9223372036854775807 < before + length (left_of graph source)
+counts_passes graph source now rest found used before so_far more same takes some one past =
+    let all = counts_more graph source now rest found used before so_far more same takes some one in omega arith
+
+pub counts_end : (graph : Graph) (source now rest : Source) (before so_far : ℕ) → so_far + length (left_of graph now) ≡ before + length (left_of graph source)
+    → left_of graph now ≡ [] → rest ≡ record now { left = Nothing } → (so_far ≡ before + length (left_of graph source)) × (left_of graph rest ≡ [])
+counts_end graph source now rest before so_far same none is =
+    let long : length (left_of graph now) ≡ 0 = ap length none in (omega arith, ended graph now rest is)
+
+-- what a count makes of the source
+pub count_feeds : (graph : Graph) (source rest : Source) (before after : ℕ) (told fits : Bool) → Counts graph source before fits rest after → fits || told ≡ true
+    → Feeds graph source (stages.Count before told) [] rest (stages.Count after told)
+count_feeds graph source rest before after true fits counts gives = (refl, refl)
+count_feeds graph source rest before after false true counts gives =
+    let none : length (left_of graph rest) ≡ 0 = ap length counts.1 in
+    let is = counts.0 in
+    let same : before + length (left_of graph source) ≡ after + length (left_of graph rest) = omega arith in
+    (ap (counted false) same, ap (λ n. nat_lt 9223372036854775807 n) same)
+count_feeds graph source rest before after false false counts gives = cc
+
+pub count_past : (graph : Graph) (source rest : Source) (before after : ℕ) (told fits : Bool) → Counts graph source before fits rest after → fits || told ≡ false
+    → counts_past (stages.Count before told) (left_of graph source) ≡ true
+count_past graph source rest before after told true counts none = cc
+count_past graph source rest before after true false counts none = cc
+count_past graph source rest before after false false counts none = lt-ltb 9223372036854775807 (before + length (left_of graph source)) counts
+
+-- ---- another step
+
+-- the step takes one more item
+pub feeds_more : (graph : Graph) (source now rest : Source) (old stage new : Stage) (item : Item) (outs : List Item) → Feeds graph source old [] now stage
+    → left_of graph now ≡ item ∷ left_of graph rest → Takes graph stage item outs new → Feeds graph source old outs rest new
+feeds_more graph source now rest old stage new item outs feeds gives takes =
+    let more = takes (left_of graph rest) in
+    (feeds.0 ∙ ap (after_stage graph stage) gives ∙ more.0, feeds.1 ∙ ap (counts_past stage) gives ∙ more.1)
+
+-- it gave nothing
+pub feeds_on : (graph : Graph) (source now : Source) (old stage : Stage) (outs : List Item) → outs ≡ [] → Feeds graph source old outs now stage → Feeds graph source old [] now stage
+feeds_on graph source now old stage outs none feeds = subst (λ (list : List Item). Feeds graph source old list now stage) none feeds
+
+-- nothing is left
+pub feeds_end : (graph : Graph) (source now rest : Source) (old stage : Stage) (outs : List Item) → outs ≡ [] → Feeds graph source old [] now stage → left_of graph now ≡ [] → left_of graph rest ≡ []
+    → Feeds graph source old outs rest stage
+feeds_end graph source now rest old stage outs nothing feeds none end =
+    let same = none ∙ sym end in
+    subst (λ (list : List Item). Feeds graph source old list rest stage) (sym nothing) (feeds.0 ∙ ap (after_stage graph stage) same, feeds.1 ∙ ap (counts_past stage) same)
+
+-- ---- rows
+
+fed_row : (graph : Graph) (source rest : Source) (row : Row) (outs : List Item) (stage : Stage) → row.waiting ≡ [] → Feeds graph source row.stage outs rest stage
+    → after_row graph row (stream (left_of graph source)) ≡ with_first outs (after_row graph (record row { stage = stage }) (stream (left_of graph rest)))
+fed_row graph source rest row outs stage none feeds =
+    ap (λ waiting. after_row graph (record row { waiting = waiting }) (stream (left_of graph source))) none
+    ∙ (λ i. record { items = feeds.0 i; past = feeds.1 i })
+    ∙ ap (λ waiting. with_first outs (after_row graph (record { stage = stage; waiting = waiting }) (stream (left_of graph rest)))) (sym none)
+
+-- the rows after the first one took of the source, and after its items were put before the next
+pub fed : (graph : Graph) (source rest : Source) (rows later : List Row) (ready : List Item) (row any : Row) (outs : List Item) (stage : Stage) → 0 < length rows → row ≡ get_or rows 0 any → AreIdle rows
+    → Feeds graph source row.stage outs rest stage
+    → take 1 later ≡ take 1 (set rows 0 (record row { stage = stage }))
+    → ((more : Stream) → with_first ready (through graph (drop 1 later) more) ≡ through graph (drop 1 (set rows 0 (record row { stage = stage }))) (with_first outs more))
+    → with_first ready (through graph later (stream (left_of graph rest))) ≡ through graph rows (stream (left_of graph source))
+fed graph source rest [] later ready row any outs stage lt is idle feeds front behind = absurd (omega arith)
+fed graph source rest (first ∷ rows) later ready row any outs stage lt is idle feeds front behind =
+    let new : Row = record row { stage = stage } in
+    let none : row.waiting ≡ [] = ap (λ (r : Row). r.waiting) is ∙ idle.0 in
+    ap (with_first ready) (through_cut graph later 1 (stream (left_of graph rest)))
+    ∙ behind (through graph (take 1 later) (stream (left_of graph rest)))
+    ∙ ap (λ list. through graph rows (with_first outs (through graph list (stream (left_of graph rest))))) front
+    ∙ ap (through graph rows) (sym (fed_row graph source rest row outs stage none feeds))
+    ∙ ap (λ (r : Row). through graph rows (after_row graph r (stream (left_of graph source)))) is
+
+-- where the first row's count passes, it does on the way through the rows
+pub fed_past : (graph : Graph) (source : Source) (rows : List Row) (row any : Row) → 0 < length rows → row ≡ get_or rows 0 any → AreIdle rows → counts_past row.stage (left_of graph source) ≡ true
+    → (through graph rows (stream (left_of graph source))).past ≡ true
+fed_past graph source [] row any lt is idle past = absurd (omega arith)
+fed_past graph source (first ∷ rows) row any lt is idle past =
+    past_through graph rows (after_row graph first (stream (left_of graph source)))
+    (ap (λ waiting. counts_past first.stage (waiting ++ left_of graph source)) idle.0 ∙ ap (λ (r : Row). counts_past r.stage (left_of graph source)) (sym is) ∙ past)
+
+-- what a filter gives for an item
+pub filter_takes : (graph : Graph) (test : Filter) (item : Item) (outs : List Item) (passed : Bool) → passed ≡ passes graph test item → outs ≡ cond passed (item ∷ []) []
+    → Takes graph (filter_stage test) item outs (filter_stage test)
+filter_takes graph test item outs passed is gives = λ coming.
+    (ap (λ list. list ++ flat_map (filtered graph test) coming) (ap (λ b. cond b (item ∷ []) []) (sym is) ∙ sym gives), refl)
+
+-- the source gave nothing
+pub none_left : (graph : Graph) (now next rest : Source) (item : Option Item) → item ≡ None → GivesFirst graph now item next → rest ≡ record next { left = Nothing }
+    → (left_of graph now ≡ []) × (left_of graph rest ≡ [])
+none_left graph now next rest item none gives is =
+    let gave = subst (λ (found : Option Item). GivesFirst graph now found next) none gives in
+    (gave.0, ended graph next rest is)
+
+-- ---- vertices
+
+-- the identifier that was taken is that of a vertex, or of none
+pub gives_vertex : (records : Records) (now : Source) (left : Left) (id : ℕ) (row : Option NodeRow) → now.edges ≡ false → TakesId now.left id left → element_at records false id ≡ vertex_if id row → is_some row ≡ true
+    → left_of (graph_of records) now ≡ items.Vertex id ∷ left_of (graph_of records) (record now { left = left })
+gives_vertex records now left id None no_edges takes is some = absurd cc
+gives_vertex records now left id (Some row) no_edges takes is some =
+    left-takes records now.edges now.left left id takes ∙ ap (λ found. option_list found ++ left_of (graph_of records) (record now { left = left })) (ap (λ e. element_at records e id) no_edges ∙ is)
+
+pub gives_none : (records : Records) (now : Source) (left : Left) (id : ℕ) (row : Option NodeRow) → now.edges ≡ false → TakesId now.left id left → element_at records false id ≡ vertex_if id row → is_some row ≡ false
+    → left_of (graph_of records) now ≡ left_of (graph_of records) (record now { left = left })
+gives_none records now left id (Some row) no_edges takes is none = absurd cc
+gives_none records now left id None no_edges takes is none =
+    left-takes records now.edges now.left left id takes ∙ ap (λ found. option_list found ++ left_of (graph_of records) (record now { left = left })) (ap (λ e. element_at records e id) no_edges ∙ is)
+
+-- so nothing was given
+pub feeds_past : (graph : Graph) (source now rest : Source) (old stage : Stage) → left_of graph now ≡ left_of graph rest → Feeds graph source old [] now stage → Feeds graph source old [] rest stage
+feeds_past graph source now rest old stage same feeds = (feeds.0 ∙ ap (after_stage graph stage) same, feeds.1 ∙ ap (counts_past stage) same)
+
+-- a limit of a step that gave nothing stays
+pub limit_stays : (after before : Option ℕ) (outs : List Item) → outs ≡ [] → with_more after (length outs) ≡ before → after ≡ before
+limit_stays None before outs none same = same
+limit_stays (Some n) before outs none same =
+    let long : length outs ≡ 0 = ap length none in
+    let all : n ≡ n + length outs = omega arith in
+    ap (λ m. Some m) all ∙ same
+
+-- ---- a filter before a count
+
+-- one more vertex was taken
+passing_more : (graph : Graph) (test : Filter) (source now rest : Source) (item : Item) (passed : Bool) (before so_far more : ℕ) → so_far + length (passing graph test now) ≡ before + length (passing graph test source)
+    → left_of graph now ≡ item ∷ left_of graph rest → passed ≡ passes graph test item → more ≡ from_bool passed → so_far + more + length (passing graph test rest) ≡ before + length (passing graph test source)
+passing_more graph test source now rest item passed before so_far more same takes is one = by passed (gave is) one
+  where
+    gave : passed ≡ passes graph test item → length (passing graph test now) ≡ length (cond passed (item ∷ []) [] ++ passing graph test rest)
+    gave e = ap length (ap (flat_map (filtered graph test)) takes ∙ ap (λ b. cond b (item ∷ []) [] ++ passing graph test rest) (sym e))
+
+    by : (b : Bool) → length (passing graph test now) ≡ length (cond b (item ∷ []) [] ++ passing graph test rest) → more ≡ from_bool b → so_far + more + length (passing graph test rest) ≡ before + length (passing graph test source)
+    by true long is_one = let n : more ≡ 1 = is_one in omega arith
+    by false long is_one = let n : more ≡ 0 = is_one in omega arith
+
+pub passing_on : (graph : Graph) (test : Filter) (source now rest : Source) (item : Item) (passed : Bool) (before so_far more after : ℕ) → so_far + length (passing graph test now) ≡ before + length (passing graph test source)
+    → left_of graph now ≡ item ∷ left_of graph rest → passed ≡ passes graph test item → more ≡ from_bool passed → after ≡ so_far + more
+    → after + length (passing graph test rest) ≡ before + length (passing graph test source)
+passing_on graph test source now rest item passed before so_far more after same takes is one counted =
+    ap (λ n. n + length (passing graph test rest)) counted ∙ passing_more graph test source now rest item passed before so_far more same takes is one
+
+pub passing_passes : (graph : Graph) (test : Filter) (source now rest : Source) (item : Item) (passed : Bool) (before so_far more : ℕ) → so_far + length (passing graph test now) ≡ before + length (passing graph test source)
+    → left_of graph now ≡ item ∷ left_of graph rest → passed ≡ passes graph test item → more ≡ from_bool passed → 9223372036854775807 < so_far + more
+    → 9223372036854775807 < before + length (passing graph test source)
+passing_passes graph test source now rest item passed before so_far more same takes is one past =
+    let all = passing_more graph test source now rest item passed before so_far more same takes is one in omega arith
+
+pub passing_past : (graph : Graph) (test : Filter) (source now rest : Source) (before so_far : ℕ) → so_far + length (passing graph test now) ≡ before + length (passing graph test source)
+    → left_of graph now ≡ left_of graph rest → so_far + length (passing graph test rest) ≡ before + length (passing graph test source)
+passing_past graph test source now rest before so_far same past = ap (λ list. so_far + length (flat_map (filtered graph test) list)) (sym past) ∙ same
+
+pub passing_end : (graph : Graph) (test : Filter) (source now : Source) (before so_far : ℕ) → so_far + length (passing graph test now) ≡ before + length (passing graph test source)
+    → left_of graph now ≡ [] → so_far ≡ before + length (passing graph test source)
+passing_end graph test source now before so_far same none =
+    let long : length (passing graph test now) ≡ 0 = ap (λ list. length (flat_map (filtered graph test) list)) none in omega arith
+
+-- what a count gives
+abbrev count_stream : Bool → ℕ → Stream
+count_stream told n = record { items = counted told n; past = not told && nat_lt 9223372036854775807 n }
+
+two_rows : (graph : Graph) (test : Filter) (first second : Row) (n : ℕ) (told : Bool) (list : List Item) → first.stage ≡ filter_stage test → first.waiting ≡ [] → second.stage ≡ stages.Count n told → second.waiting ≡ []
+    → after_row graph second (after_row graph first (stream list)) ≡ count_stream told (n + length (flat_map (filtered graph test) list))
+two_rows graph test first second n told list one idle two empty =
+    λ i. after_row graph (record { stage = two i; waiting = empty i }) (after_row graph (record { stage = one i; waiting = idle i }) (stream list))
+
+counted_same : (told fits : Bool) (n after : ℕ) (list : List Item) → IsCountOf list n fits after → fits || told ≡ true → count_stream told (after + 0) ≡ count_stream told (n + length list)
+counted_same true fits n after list counts gives = refl
+counted_same false true n after list counts gives = let is = counts in ap (count_stream false) (omega arith)
+counted_same false false n after list counts gives = absurd cc
+
+pub fed_two : (graph : Graph) (test : Filter) (first second new : Row) (source rest : Source) (n after : ℕ) (told fits : Bool) → first.stage ≡ filter_stage test → first.waiting ≡ [] → second.stage ≡ stages.Count n told → second.waiting ≡ []
+    → new.stage ≡ stages.Count after told → new.waiting ≡ [] → IsCountOf (passing graph test source) n fits after → fits || told ≡ true → left_of graph rest ≡ []
+    → after_rows graph first new rest ≡ after_rows graph first second source
+fed_two graph test first second new source rest n after told fits one idle two empty now none counts gives over =
+    two_rows graph test first new after told (left_of graph rest) one idle now none
+    ∙ ap (λ list. count_stream told (after + length (flat_map (filtered graph test) list))) over
+    ∙ counted_same told fits n after (passing graph test source) counts gives
+    ∙ sym (two_rows graph test first second n told (left_of graph source) one idle two empty)
+
+pub fed_two_past : (graph : Graph) (test : Filter) (first second : Row) (source : Source) (n after : ℕ) (told fits : Bool) → first.stage ≡ filter_stage test → first.waiting ≡ [] → second.stage ≡ stages.Count n told → second.waiting ≡ []
+    → IsCountOf (passing graph test source) n fits after → fits || told ≡ false → (after_rows graph first second source).past ≡ true
+fed_two_past graph test first second source n after true fits one idle two empty counts gives = absurd (no fits gives)
+  where
+    no : (b : Bool) → b || true ≡ false → ⊥
+    no true e = cc
+    no false e = cc
+fed_two_past graph test first second source n after false true one idle two empty counts gives = absurd cc
+fed_two_past graph test first second source n after false false one idle two empty counts gives =
+    ap (λ (s : Stream). s.past) (two_rows graph test first second n false (left_of graph source) one idle two empty) ∙ lt-ltb 9223372036854775807 (n + length (passing graph test source)) counts
+
+-- so it is of all rows
+pub fed_both : (graph : Graph) (test : Filter) (rows : List Row) (any other last : Row) (source rest : Source) (n after : ℕ) (told fits : Bool) → 1 < length rows → AreIdle rows → (get_or rows 0 any).stage ≡ filter_stage test → (get_or rows 1 other).stage ≡ stages.Count n told
+    → IsCountOf (passing graph test source) n fits after → fits || told ≡ true → left_of graph rest ≡ []
+    → through graph (set rows 1 (record (get_or rows 1 last) { stage = stages.Count after told })) (stream (left_of graph rest)) ≡ through graph rows (stream (left_of graph source))
+fed_both graph test [] any other last source rest n after told fits lt idle one two counts gives over = absurd (omega arith)
+fed_both graph test (first ∷ []) any other last source rest n after told fits lt idle one two counts gives over = absurd (omega arith)
+fed_both graph test (first ∷ second ∷ rows) any other last source rest n after told fits lt idle one two counts gives over =
+    ap (through graph rows) (fed_two graph test first second (record second { stage = stages.Count after told }) source rest n after told fits one idle.0 two idle.1.0 refl idle.1.0 counts gives over)
+
+pub fed_both_past : (graph : Graph) (test : Filter) (rows : List Row) (any other : Row) (source : Source) (n after : ℕ) (told fits : Bool) → 1 < length rows → AreIdle rows → (get_or rows 0 any).stage ≡ filter_stage test → (get_or rows 1 other).stage ≡ stages.Count n told
+    → IsCountOf (passing graph test source) n fits after → fits || told ≡ false → (through graph rows (stream (left_of graph source))).past ≡ true
+fed_both_past graph test [] any other source n after told fits lt idle one two counts gives = absurd (omega arith)
+fed_both_past graph test (first ∷ []) any other source n after told fits lt idle one two counts gives = absurd (omega arith)
+fed_both_past graph test (first ∷ second ∷ rows) any other source n after told fits lt idle one two counts gives =
+    past_through graph rows (after_rows graph first second source) (fed_two_past graph test first second source n after told fits one idle.0 two idle.1.0 counts gives)
+
+-- the second row counts, before and after
+pub both_count : (rows : List Row) (other : Row) (n after : ℕ) (told : Bool) → 1 < length rows → (get_or rows 1 other).stage ≡ stages.Count n told
+    → (have_no_count (stages_of rows) ≡ false) × (have_no_count (stages_of (set rows 1 (record (get_or rows 1 other) { stage = stages.Count after told }))) ≡ false)
+both_count [] other n after told lt two = absurd (omega arith)
+both_count (first ∷ []) other n after told lt two = absurd (omega arith)
+both_count (first ∷ second ∷ rows) other n after told lt two =
+    (ap (λ b. not (is_count first.stage) && (not b && have_no_count (stages_of rows))) (ap is_count two) ∙ none (not (is_count first.stage)), none (not (is_count first.stage)))
+  where
+    none : (b : Bool) → b && false ≡ false
+    none true = refl
+    none false = refl
+
+-- plain steps do not count
+pub plain_no_count : (rows : List Row) → ArePlain rows → have_no_count (stages_of rows) ≡ true
+plain_no_count [] plain = refl
+plain_no_count (row ∷ rows) plain = (λ i. not (plain_uncounted row.stage plain.0 i) && plain_no_count rows plain.1 i)

@@ -1,0 +1,37 @@
+use Rattle.std.proofs.Common.{sym, ap, subst, ◌∙◌}
+use Rattle.rec_bytes.specs.Space.{State}
+use Rattle.store_rules.specs.Graph.{graph_of}
+use Rattle.traversal_run.specs.Finding.{element_mark}
+use Rattle.traversal_run.specs.Source.{GivesFirst}
+use Rattle.traversal_run.specs.Held.{IsBatch}
+use Rattle.traversal_run.specs.Stage.{Takes}
+use Rattle.traversal_run.proofs.Fed.{feeds_end, none_left}
+use Rattle.traversal_run.proofs.HeldSteps.{few_at, takes_batch}
+use Rattle.traversal_run.proofs.OnlyReads.{is_read-on, named-read}
+use Rattle.traversal_run.proofs.feeding.feed_edges.Goals as goal
+
+pub next-requires : goal.next-requires
+next-requires g c =
+    let same = ap (λ (t : State). t.records) c.loop.invariant.read.same in
+    c.mark-mark.ensures ∙ (λ i. element_mark (sym same i) (sym c.loop.invariant.edges i))
+
+pub returns-in_default-clause-feeds : goal.returns-in_default-clause-feeds
+returns-in_default-clause-feeds g c = λ tells store.
+    let space = g.R.Reads in
+    let graph = graph_of (space.state c.args.space.now).records in
+    let inv = c.loop.invariant in
+    let first = subst (λ (t : State). GivesFirst (graph_of t.records) c.loop.source c.in_ok-item.field-0 c.next.new.self) inv.read.same
+    (c.in_ok-item.ensures.first tells (named-read space c.args.space.now c.loop.space c.args.names.now.names inv.read store)) in
+    let none = none_left graph c.loop.source c.next.new.self c.end.new.self c.in_ok-item.field-0 c.in_default.is first c.end.ensures in
+    feeds_end graph c.args.source.now c.loop.source c.end.new.self c.args.stage.now c.loop.stage c.new.result c.new.ensures (inv.feeds tells store) none.0 none.1
+
+pub returns-then-not-is_empty-clause-few : goal.returns-then-not-is_empty-clause-few
+returns-then-not-is_empty-clause-few g c = λ tells store d degrees plain.
+    let space = g.R.Reads in
+    let s = space.state c.args.space.now in
+    let inv = c.loop.invariant in
+    let read = is_read-on space g.met.R.Reads.further_onward c.args.space.now c.loop.space c.next.new.space inv.read c.in_ok-item.ensures.read in
+    let takes = subst (λ (t : State). Takes (graph_of t.records) c.loop.stage c.in-Some.item c.in_ok-outs.outs c.take.new.self) read.same
+    (c.in_ok-outs.ensures.takes tells (named-read space c.args.space.now c.next.new.space c.args.names.now.names read store)) in
+    subst (λ b. IsBatch d b c.in_ok-outs.outs) inv.hops
+    (takes_batch (graph_of s.records) d (few_at s.records s.shape store.store d degrees) c.loop.stage c.take.new.self c.in-Some.item c.in_ok-outs.outs (inv.plain ∙ plain) c.take.ensures.plain takes)

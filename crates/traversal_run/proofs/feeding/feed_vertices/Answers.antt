@@ -1,0 +1,100 @@
+use Rattle.std.proofs.Common.{◌∷◌, false, sym, ap, subst, ◌∙◌}
+use Rattle.plain_graph.specs.declared.item.Item.{Item}
+use Rattle.rec_bytes.specs.Space.{State}
+use Rattle.store_rules.specs.Graph.{graph_of}
+use Rattle.traversal_run.specs.Finding.{element_at, element_mark}
+use Rattle.traversal_run.specs.Held.{IsBatch}
+use Rattle.traversal_run.specs.Source.{HasNoneBelow, left_of}
+use Rattle.traversal_run.specs.Stage.{Takes}
+use Rattle.traversal_run.specs.declared.source.Source.{Source}
+use Rattle.traversal_run.proofs.Fed.{ended, feeds_end, feeds_more, feeds_on, feeds_past, gives_none, gives_vertex, limit_stays}
+use Rattle.traversal_run.proofs.HeldSteps.{few_at, takes_batch}
+use Rattle.traversal_run.proofs.LeftRows.{left-none}
+use Rattle.traversal_run.proofs.OnlyReads.{is_read-on, named-read}
+use Rattle.traversal_run.proofs.feeding.feed_vertices.Goals as goal
+
+pub returns-then-not-is_empty-clause-feeds : goal.returns-then-not-is_empty-clause-feeds
+returns-then-not-is_empty-clause-feeds g c = λ tells store.
+    let space = g.R.Reads in
+    let s = space.state c.args.space.now in
+    let graph = graph_of s.records in
+    let inv = c.loop-id.invariant in
+    let now = c.loop-id.source in
+    let rest : Source = record { edges = now.edges; left = c.take_first.new.self } in
+    let read = is_read-on space g.met.R.Reads.further_onward c.args.space.now c.loop-id.space c.vertex_row.new.space inv.read c.in_ok-row.ensures.read in
+    let takes = subst (λ (t : State). Takes (graph_of t.records) c.loop-id.stage c.vertex.result c.in_ok-outs.outs c.take.new.self) read.same
+    (c.in_ok-outs.ensures.takes tells (named-read space c.args.space.now c.vertex_row.new.space c.args.names.now.names read store)) in
+    let gives = gives_vertex s.records now c.take_first.new.self c.in-Some.id c.in_ok-row.row (inv.edges ∙ c.requires.vertices) c.in-Some.ensures.some (sym (ap (λ (t : State). element_at t.records false c.in-Some.id) inv.read.same) ∙ c.in_ok-row.ensures.is tells) (sym c.is_some.ensures ∙ c.if-is_some.true) in
+    feeds_more graph c.args.source.now now rest c.args.stage.now c.loop-id.stage c.take.new.self c.vertex.result c.in_ok-outs.outs (inv.feeds tells store)
+    (gives ∙ ap (λ (item : Item). item ∷ left_of graph rest) (sym c.vertex.ensures)) takes
+
+pub returns-then-not-is_empty-clause-few : goal.returns-then-not-is_empty-clause-few
+returns-then-not-is_empty-clause-few g c = λ tells store d degrees plain.
+    let space = g.R.Reads in
+    let s = space.state c.args.space.now in
+    let graph = graph_of s.records in
+    let inv = c.loop-id.invariant in
+    let now = c.loop-id.source in
+    let rest : Source = record { edges = now.edges; left = c.take_first.new.self } in
+    let read = is_read-on space g.met.R.Reads.further_onward c.args.space.now c.loop-id.space c.vertex_row.new.space inv.read c.in_ok-row.ensures.read in
+    let takes = subst (λ (t : State). Takes (graph_of t.records) c.loop-id.stage c.vertex.result c.in_ok-outs.outs c.take.new.self) read.same
+    (c.in_ok-outs.ensures.takes tells (named-read space c.args.space.now c.vertex_row.new.space c.args.names.now.names read store)) in
+    subst (λ b. IsBatch d b c.in_ok-outs.outs) inv.hops
+    (takes_batch graph d (few_at s.records s.shape store.store d degrees) c.loop-id.stage c.take.new.self c.vertex.result c.in_ok-outs.outs (inv.plain ∙ plain) c.take.ensures.plain takes)
+
+pub loop-id-preserved-then-is_some : goal.loop-id-preserved-then-is_some
+loop-id-preserved-then-is_some g c =
+    let space = g.R.Reads in
+    let s = space.state c.args.space.now in
+    let graph = graph_of s.records in
+    let inv = c.loop-id.invariant in
+    let now = c.loop-id.source in
+    let rest : Source = record { edges = now.edges; left = c.take_first.new.self } in
+    let read = is_read-on space g.met.R.Reads.further_onward c.args.space.now c.loop-id.space c.vertex_row.new.space inv.read c.in_ok-row.ensures.read in
+    let nothing = c.is_empty.ensures.yes c.if-not-is_empty.false in
+    record {
+      feeds = λ tells store.
+          let takes = subst (λ (t : State). Takes (graph_of t.records) c.loop-id.stage c.vertex.result c.in_ok-outs.outs c.take.new.self) read.same
+          (c.in_ok-outs.ensures.takes tells (named-read space c.args.space.now c.vertex_row.new.space c.args.names.now.names read store)) in
+          let gives = gives_vertex s.records now c.take_first.new.self c.in-Some.id c.in_ok-row.row (inv.edges ∙ c.requires.vertices) c.in-Some.ensures.some (sym (ap (λ (t : State). element_at t.records false c.in-Some.id) inv.read.same) ∙ c.in_ok-row.ensures.is tells) (sym c.is_some.ensures ∙ c.if-is_some.true) in
+          feeds_on graph c.args.source.now rest c.args.stage.now c.take.new.self c.in_ok-outs.outs nothing
+          (feeds_more graph c.args.source.now now rest c.args.stage.now c.loop-id.stage c.take.new.self c.vertex.result c.in_ok-outs.outs (inv.feeds tells store)
+          (gives ∙ ap (λ (item : Item). item ∷ left_of graph rest) (sym c.vertex.ensures)) takes);
+      limits = limit_stays _ _ c.in_ok-outs.outs nothing c.in_ok-outs.ensures.limits ∙ inv.limits;
+      counts = c.take.ensures.counts ∙ inv.counts;
+      hops = c.take.ensures.hops ∙ inv.hops;
+      plain = c.take.ensures.plain ∙ inv.plain;
+      edges = inv.edges;
+      mark = inv.mark;
+      read = is_read-on space g.met.R.Reads.further_onward c.args.space.now c.vertex_row.new.space c.take.new.space read c.in_ok-outs.ensures.read;
+    }
+
+pub loop-id-preserved : goal.loop-id-preserved
+loop-id-preserved g c =
+    let space = g.R.Reads in
+    let s = space.state c.args.space.now in
+    let graph = graph_of s.records in
+    let inv = c.loop-id.invariant in
+    let now = c.loop-id.source in
+    let rest : Source = record { edges = now.edges; left = c.take_first.new.self } in
+    let read = is_read-on space g.met.R.Reads.further_onward c.args.space.now c.loop-id.space c.vertex_row.new.space inv.read c.in_ok-row.ensures.read in
+    record {
+      feeds = λ tells store. feeds_past graph c.args.source.now now rest c.args.stage.now c.loop-id.stage (gives_none s.records now c.take_first.new.self c.in-Some.id c.in_ok-row.row (inv.edges ∙ c.requires.vertices) c.in-Some.ensures.some (sym (ap (λ (t : State). element_at t.records false c.in-Some.id) inv.read.same) ∙ c.in_ok-row.ensures.is tells) (sym c.is_some.ensures ∙ c.if-is_some.false)) (inv.feeds tells store);
+      limits = inv.limits;
+      counts = inv.counts;
+      hops = inv.hops;
+      plain = inv.plain;
+      edges = inv.edges;
+      mark = inv.mark;
+      read = read;
+    }
+
+pub returns-clause-feeds : goal.returns-clause-feeds
+returns-clause-feeds g c = λ tells store.
+    let s = g.R.Reads.state c.args.space.now in
+    let graph = graph_of s.records in
+    let inv = c.loop-id.invariant in
+    let now = c.loop-id.source in
+    let mark = inv.mark ∙ ap (element_mark s.records) (sym inv.edges) in
+    let none = left-none s.records now.edges now.left (subst (λ n. HasNoneBelow n now.left) mark c.in_default.ensures.none.0) in
+    feeds_end graph c.args.source.now now c.end.new.self c.args.stage.now c.loop-id.stage c.new.result c.new.ensures (inv.feeds tells store) none (ended graph now c.end.new.self c.end.ensures)

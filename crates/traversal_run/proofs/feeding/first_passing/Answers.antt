@@ -1,0 +1,82 @@
+use Rattle.std.proofs.Common.{[], ◌∷◌, cond, false, sym, ap, subst, ◌∙◌}
+use Rattle.plain_graph.specs.Meaning.{passes}
+use Rattle.plain_graph.specs.declared.item.Item.{Item}
+use Rattle.plain_graph.specs.declared.item.Item.TheVariants as items
+use Rattle.rec_bytes.specs.Space.{State}
+use Rattle.store_rules.specs.Graph.{graph_of}
+use Rattle.traversal_run.specs.Feeding.{filter_stage}
+use Rattle.traversal_run.specs.Finding.{element_at, element_mark}
+use Rattle.traversal_run.specs.Source.{HasNoneBelow}
+use Rattle.traversal_run.specs.declared.source.Source.{Source}
+use Rattle.traversal_run.proofs.Fed.{ended, feeds_end, feeds_more, feeds_past, filter_takes, gives_none, gives_vertex}
+use Rattle.traversal_run.proofs.LeftRows.{left-none}
+use Rattle.traversal_run.proofs.OnlyReads.{is_read-on, named-read}
+use Rattle.traversal_run.proofs.feeding.first_passing.Goals as goal
+
+pub returns-then-passed-clause-feeds : goal.returns-then-passed-clause-feeds
+returns-then-passed-clause-feeds g c = λ tells store.
+    let space = g.R.Reads in
+    let s = space.state c.args.space.now in
+    let graph = graph_of s.records in
+    let inv = c.loop-id.invariant in
+    let now = c.loop-id.source in
+    let rest : Source = record { edges = now.edges; left = c.take_first.new.self } in
+    let read = is_read-on space g.met.R.Reads.further_onward c.args.space.now c.loop-id.space c.vertex_row.new.space inv.read c.in_ok-row.ensures.read in
+    let f = c.args.filter.now in
+    let item = items.Vertex c.in-Some.id in
+    let is = c.in_ok-passed.ensures.found tells (named-read space c.args.space.now c.vertex_row.new.space c.args.names.now.names read store)
+    ∙ ap (λ (t : State). passes (graph_of t.records) f item) read.same in
+    let gives = gives_vertex s.records now c.take_first.new.self c.in-Some.id c.in_ok-row.row (inv.edges ∙ c.requires) c.in-Some.ensures.some (sym (ap (λ (t : State). element_at t.records false c.in-Some.id) inv.read.same) ∙ c.in_ok-row.ensures.is tells) (sym c.is_some.ensures ∙ c.if-is_some.true) in
+    feeds_more graph c.args.source.now now rest (filter_stage f) (filter_stage f) (filter_stage f) item c.one.result (inv.feeds tells store) gives
+    (filter_takes graph f item c.one.result c.in_ok-passed.passed is (c.one.ensures ∙ ap (λ (i : Item). i ∷ []) c.vertex.ensures ∙ ap (λ b. cond b (item ∷ []) []) (sym c.if-passed.true)))
+
+pub loop-id-preserved-else-passed : goal.loop-id-preserved-else-passed
+loop-id-preserved-else-passed g c =
+    let space = g.R.Reads in
+    let s = space.state c.args.space.now in
+    let graph = graph_of s.records in
+    let inv = c.loop-id.invariant in
+    let now = c.loop-id.source in
+    let rest : Source = record { edges = now.edges; left = c.take_first.new.self } in
+    let read = is_read-on space g.met.R.Reads.further_onward c.args.space.now c.loop-id.space c.vertex_row.new.space inv.read c.in_ok-row.ensures.read in
+    record {
+      feeds = λ tells store.
+          let f = c.args.filter.now in
+          let item = items.Vertex c.in-Some.id in
+          let is = c.in_ok-passed.ensures.found tells (named-read space c.args.space.now c.vertex_row.new.space c.args.names.now.names read store)
+          ∙ ap (λ (t : State). passes (graph_of t.records) f item) read.same in
+          let gives = gives_vertex s.records now c.take_first.new.self c.in-Some.id c.in_ok-row.row (inv.edges ∙ c.requires) c.in-Some.ensures.some (sym (ap (λ (t : State). element_at t.records false c.in-Some.id) inv.read.same) ∙ c.in_ok-row.ensures.is tells) (sym c.is_some.ensures ∙ c.if-is_some.true) in
+          feeds_more graph c.args.source.now now rest (filter_stage f) (filter_stage f) (filter_stage f) item [] (inv.feeds tells store) gives
+          (filter_takes graph f item [] c.in_ok-passed.passed is (ap (λ b. cond b (item ∷ []) []) (sym c.if-passed.false)));
+      edges = inv.edges;
+      mark = inv.mark;
+      read = is_read-on space g.met.R.Reads.further_onward c.args.space.now c.vertex_row.new.space c.passes_at.new.space read c.in_ok-passed.ensures.read;
+    }
+
+pub loop-id-preserved : goal.loop-id-preserved
+loop-id-preserved g c =
+    let space = g.R.Reads in
+    let s = space.state c.args.space.now in
+    let graph = graph_of s.records in
+    let inv = c.loop-id.invariant in
+    let now = c.loop-id.source in
+    let rest : Source = record { edges = now.edges; left = c.take_first.new.self } in
+    let read = is_read-on space g.met.R.Reads.further_onward c.args.space.now c.loop-id.space c.vertex_row.new.space inv.read c.in_ok-row.ensures.read in
+    record {
+      feeds = λ tells store.
+          let f = c.args.filter.now in
+          feeds_past graph c.args.source.now now rest (filter_stage f) (filter_stage f) (gives_none s.records now c.take_first.new.self c.in-Some.id c.in_ok-row.row (inv.edges ∙ c.requires) c.in-Some.ensures.some (sym (ap (λ (t : State). element_at t.records false c.in-Some.id) inv.read.same) ∙ c.in_ok-row.ensures.is tells) (sym c.is_some.ensures ∙ c.if-is_some.false)) (inv.feeds tells store);
+      edges = inv.edges;
+      mark = inv.mark;
+      read = read;
+    }
+
+pub returns-clause-feeds : goal.returns-clause-feeds
+returns-clause-feeds g c = λ tells store.
+    let s = g.R.Reads.state c.args.space.now in
+    let graph = graph_of s.records in
+    let inv = c.loop-id.invariant in
+    let now = c.loop-id.source in
+    let mark = inv.mark ∙ ap (element_mark s.records) (sym inv.edges) in
+    let none = left-none s.records now.edges now.left (subst (λ n. HasNoneBelow n now.left) mark c.in_default.ensures.none.0) in
+    feeds_end graph c.args.source.now now c.end.new.self (filter_stage c.args.filter.now) (filter_stage c.args.filter.now) c.new.result c.new.ensures (inv.feeds tells store) none (ended graph now c.end.new.self c.end.ensures)

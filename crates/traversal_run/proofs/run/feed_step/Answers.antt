@@ -1,0 +1,55 @@
+use Rattle.std.proofs.Common.{◌≡◌, List, true, get_or, refl, ◌∙◌, subst, arith}
+use Rattle.std.proofs.lemmas.Result.{err_from_is_err_and}
+use Rattle.std.proofs.lemmas.List.{length-map}
+use Rattle.plain_graph.specs.declared.item.Item.{Item}
+use Rattle.store_rules.specs.Graph.{graph_of}
+use Rattle.traversal_run.specs.Held.{IsNear}
+use Rattle.traversal_run.specs.Row.{stages_of, stream, through}
+use Rattle.traversal_run.specs.Source.{left_of}
+use Rattle.traversal_run.specs.Stage.{counts_past}
+use Rattle.traversal_run.specs.declared.row.Row.{Row}
+use Rattle.traversal_run.proofs.Fed.{fed, fed_past}
+use Rattle.traversal_run.proofs.HeldRows.{near-fed, plain_at}
+use Rattle.traversal_run.proofs.Limits.{allowed-row, allowed_any}
+use Rattle.traversal_run.proofs.Stops.{may_stop}
+use Rattle.traversal_run.proofs.run.feed_step.Goals as goal
+
+pub returns-clause-same : goal.returns-clause-same
+returns-clause-same g c = λ tells store.
+    let graph = graph_of (g.R.Reads.state c.args.space.now).records in
+    let rows = c.args.rows.now in
+    let any = c.index-rows-0.result in
+    fed graph c.args.source.now c.feed.new.source rows c.put.new.rows c.put.new.ready (get_or rows 0 any) any c.in_ok-outs.outs c.feed.new.stage c.requires.some refl c.requires.idle
+    (c.in_ok-outs.ensures.feeds tells store) c.put.ensures.earlier (λ more. c.put.ensures.later graph more)
+
+pub returns-clause-allowed : goal.returns-clause-allowed
+returns-clause-allowed g c = λ before after.
+    let rows = c.args.rows.now in
+    let any = c.index-rows-0.result in
+    let row = get_or rows 0 any in
+    let new : Row = record row { stage = c.feed.new.stage } in
+    let long = length-map rows (λ (r : Row). r.stage) in
+    let some = c.requires.some in
+    allowed-row rows c.put.new.rows 0 row new any c.in_ok-outs.outs c.put.new.ready c.requires.some refl c.in_ok-outs.ensures.limits c.feed.ensures.counts c.put.ensures.stages c.put.ensures.passed c.put.ensures.given after
+    ∙ allowed_any (stages_of rows) 0 after before (omega arith)
+
+pub returns-clause-near : goal.returns-clause-near
+returns-clause-near g c = λ tells store d most degrees near.
+    let rows = c.args.rows.now in
+    let any = c.index-rows-0.result in
+    let row = get_or rows 0 any in
+    let new : Row = record row { stage = c.feed.new.stage } in
+    near-fed d most rows c.put.new.rows row new any c.in_ok-outs.outs c.put.new.ready c.requires.some refl refl c.feed.ensures.hops c.feed.ensures.plain
+    (c.in_ok-outs.ensures.few tells store d degrees (plain_at rows 0 any c.requires.some near.plain)) c.requires.idle c.put.ensures.passed c.put.ensures.given c.put.ensures.rows
+    (subst (λ (ready : List Item). IsNear d most rows ready) c.requires.none near)
+
+pub returns-in_err-outs-clause-stops : goal.returns-in_err-outs-clause-stops
+returns-in_err-outs-clause-stops g c = λ tells store.
+    let graph = graph_of (g.R.Reads.state c.args.space.now).records in
+    let rows = c.args.rows.now in
+    let any = c.index-rows-0.result in
+    let row = get_or rows 0 any in
+    let left = left_of graph c.args.source.now in
+    let p = err_from_is_err_and c.from_residual.result c.from_residual.ensures.1 in
+    rw (p.1, p.2) (may_stop ⊥ (counts_past row.stage left ≡ true) ⊥ ((through graph rows (stream left)).past ≡ true) c.in_err-outs.field-0.0 (λ none. none)
+    (λ past. fed_past graph c.args.source.now rows row any c.requires.some refl c.requires.idle past) (c.in_err-outs.ensures.stops tells store))

@@ -1,0 +1,296 @@
+//! What the source still has, given to the first step item by item, with none that waits.
+
+ghost use Rattle.std.specs.Prelude.{◌≡◌, ◌≤◌, ℕ, [], IfErr, IfOk, IfSome, OnOk, false};
+ghost use Rattle.std.specs.Prelude.{length, true};
+ghost use Rattle.store_rules.specs.Graph.{graph_of};
+ghost use Rattle.rec_bytes.specs.Fault.{HasFaultCause, NotDamaged};
+ghost use Rattle.prop_store.specs.Fault.{BlamesBroken};
+ghost use Rattle.traversal_run.specs.Feeding.{Feeds, IsCountOf, filter_stage, passing};
+ghost use Rattle.traversal_run.specs.Elements.{IsRowOf};
+ghost use Rattle.plain_graph.specs.Meaning.{passes};
+ghost use Rattle.plain_graph.specs.declared.item.Item.TheVariants as items;
+ghost use Rattle.traversal_run.specs.Held.{HasDegreesUpTo, IsBatch, is_hop, is_plain};
+ghost use Rattle.traversal_run.specs.Reading.{IsNamedStore, IsRead};
+ghost use Rattle.traversal_run.specs.Source.{left_of};
+ghost use Rattle.plain_graph.specs.Graph.{Graph};
+ghost use Rattle.traversal_run.specs.Stage.{counts_past, is_count, limit_left, with_more};
+ghost use Rattle.traversal_run.specs.Stop.{HasStopCause, MayStop, StopsAtBroken};
+
+use crate::counter::Counter;
+use crate::finding::vertex_row;
+use crate::lookups::passes;
+use crate::mapping::Mapping;
+use crate::shown::Shown;
+use crate::sought::Sought;
+use crate::source::Source;
+use crate::stage::Stage;
+use crate::stop::Stop;
+use crate::waiting::Waiting;
+use name_store::Names;
+use node_store::NodeRow;
+use plain_graph::Filter;
+use rec_bytes::{Fault, Reads};
+use std::alloc::Global;
+
+/// What a step gives for the first of the items of the source that it gives something for. Where
+/// there is none, it gives nothing, and the source is over. A count takes all items.
+pub(crate) fn feed<R: Reads>(
+    alloc: Global,
+    space: &mut R,
+    names: &Names,
+    source: &mut Source,
+    stage: &mut Stage,
+) -> Result<Waiting, Stop>
+    ensures feeds { R.tells
+        → IsNamedStore (R.state space.old).records (R.state space.old).shape names.now.names
+        → IfOk result (λ outs. Feeds (graph_of (R.state space.old).records)
+        source.old stage.old outs source.new stage.new) }
+    ensures stops { R.tells
+        → IsNamedStore (R.state space.old).records (R.state space.old).shape names.now.names
+        → IfErr result (MayStop ⊥ (counts_past stage.old
+        (left_of (graph_of (R.state space.old).records) source.old) ≡ true)) }
+    ensures damaged { R.tells → IfErr result
+        (StopsAtBroken (R.state space.old).records (R.state space.old).shape) }
+    ensures limits { IfOk result (λ outs.
+        with_more (limit_left stage.new) (length outs) ≡ limit_left stage.old) }
+    ensures counts { is_count stage.new ≡ is_count stage.old }
+    ensures hops { is_hop stage.new ≡ is_hop stage.old }
+    ensures plain { is_plain stage.new ≡ is_plain stage.old }
+    ensures few { R.tells
+        → IsNamedStore (R.state space.old).records (R.state space.old).shape names.now.names
+        → (d : ℕ) → HasDegreesUpTo (graph_of (R.state space.old).records) d
+        → is_plain stage.old ≡ true → IfOk result (IsBatch d (is_hop stage.old)) }
+    ensures read { IsRead R.Reads space.old space.new }
+    ensures cause { HasStopCause (R.faults space.old) (R.faults space.new) result }
+{
+    if let Stage::Count { so_far, told } = stage {
+        let fits = source.count(space, so_far)?;
+        return if fits || *told {
+            Ok(Waiting::new(alloc))
+        } else {
+            Err(Stop::PastCount)
+        };
+    }
+    if source.edges {
+        let outs = feed_edges(alloc, space, names, source, stage)?;
+        return Ok(outs);
+    }
+    if let Stage::Mapped(Mapping::Filter(filter)) = stage {
+        let outs = first_passing(alloc, space, names, source, filter)?;
+        return Ok(outs);
+    }
+    let outs = feed_vertices(alloc, space, names, source, stage)?;
+    Ok(outs)
+}
+
+/// The first of the vertices of the source that pass a filter.
+fn first_passing<R: Reads>(
+    alloc: Global,
+    space: &mut R,
+    names: &Names,
+    source: &mut Source,
+    filter: &Sought<Filter>,
+) -> Result<Waiting, Fault>
+    requires { source.old.edges ≡ false }
+    ensures feeds { R.tells
+        → IsNamedStore (R.state space.old).records (R.state space.old).shape names.now.names
+        → IfOk result (λ outs. Feeds (graph_of (R.state space.old).records) source.old
+        (filter_stage filter.now) outs source.new (filter_stage filter.now)) }
+    ensures sound { R.tells
+        → IsNamedStore (R.state space.old).records (R.state space.old).shape names.now.names
+        → NotDamaged result }
+    ensures damaged { R.tells → IfErr result
+        (BlamesBroken (R.state space.old).records (R.state space.old).shape) }
+    ensures few { IfOk result (λ outs. length outs ≤ 1) }
+    ensures read { IsRead R.Reads space.old space.new }
+    ensures cause { HasFaultCause (R.faults space.old) (R.faults space.new) result }
+{
+    let mark = source.mark(space);
+    while let Some(id) = source.left.take_first(mark) {
+        let row = vertex_row(space, id)?;
+        if row.is_some() {
+            let passed = passes_at(alloc, space, names, filter, id, &row)?;
+            if passed {
+                return Ok(Waiting::one(alloc, Shown::vertex(id)));
+            }
+        }
+    }
+    source.end();
+    Ok(Waiting::new(alloc))
+}
+
+/// What another step that doesn't count gives for the first of the vertices of the source that it
+/// gives something for. The record of each is read once.
+fn feed_vertices<R: Reads>(
+    alloc: Global,
+    space: &mut R,
+    names: &Names,
+    source: &mut Source,
+    stage: &mut Stage,
+) -> Result<Waiting, Fault>
+    requires vertices { source.old.edges ≡ false }
+    requires counts { is_count stage.old ≡ false }
+    ensures feeds { R.tells
+        → IsNamedStore (R.state space.old).records (R.state space.old).shape names.now.names
+        → IfOk result (λ outs. Feeds (graph_of (R.state space.old).records)
+        source.old stage.old outs source.new stage.new) }
+    ensures sound { R.tells
+        → IsNamedStore (R.state space.old).records (R.state space.old).shape names.now.names
+        → NotDamaged result }
+    ensures damaged { R.tells → IfErr result
+        (BlamesBroken (R.state space.old).records (R.state space.old).shape) }
+    ensures limits { IfOk result (λ outs.
+        with_more (limit_left stage.new) (length outs) ≡ limit_left stage.old) }
+    ensures counts { is_count stage.new ≡ is_count stage.old }
+    ensures hops { is_hop stage.new ≡ is_hop stage.old }
+    ensures plain { is_plain stage.new ≡ is_plain stage.old }
+    ensures few { R.tells
+        → IsNamedStore (R.state space.old).records (R.state space.old).shape names.now.names
+        → (d : ℕ) → HasDegreesUpTo (graph_of (R.state space.old).records) d
+        → is_plain stage.old ≡ true → IfOk result (IsBatch d (is_hop stage.old)) }
+    ensures read { IsRead R.Reads space.old space.new }
+    ensures cause { HasFaultCause (R.faults space.old) (R.faults space.new) result }
+{
+    let mark = source.mark(space);
+    while let Some(id) = source.left.take_first(mark) {
+        let row = vertex_row(space, id)?;
+        if row.is_some() {
+            let outs = stage.take(alloc, space, names, Shown::vertex(id), &row)?;
+            if !outs.is_empty() {
+                return Ok(outs);
+            }
+        }
+    }
+    source.end();
+    Ok(Waiting::new(alloc))
+}
+
+/// The same of edges.
+fn feed_edges<R: Reads>(
+    alloc: Global,
+    space: &mut R,
+    names: &Names,
+    source: &mut Source,
+    stage: &mut Stage,
+) -> Result<Waiting, Fault>
+    requires { is_count stage.old ≡ false }
+    ensures feeds { R.tells
+        → IsNamedStore (R.state space.old).records (R.state space.old).shape names.now.names
+        → IfOk result (λ outs. Feeds (graph_of (R.state space.old).records)
+        source.old stage.old outs source.new stage.new) }
+    ensures sound { R.tells
+        → IsNamedStore (R.state space.old).records (R.state space.old).shape names.now.names
+        → NotDamaged result }
+    ensures damaged { R.tells → IfErr result
+        (BlamesBroken (R.state space.old).records (R.state space.old).shape) }
+    ensures limits { IfOk result (λ outs.
+        with_more (limit_left stage.new) (length outs) ≡ limit_left stage.old) }
+    ensures counts { is_count stage.new ≡ is_count stage.old }
+    ensures hops { is_hop stage.new ≡ is_hop stage.old }
+    ensures plain { is_plain stage.new ≡ is_plain stage.old }
+    ensures few { R.tells
+        → IsNamedStore (R.state space.old).records (R.state space.old).shape names.now.names
+        → (d : ℕ) → HasDegreesUpTo (graph_of (R.state space.old).records) d
+        → is_plain stage.old ≡ true → IfOk result (IsBatch d (is_hop stage.old)) }
+    ensures read { IsRead R.Reads space.old space.new }
+    ensures cause { HasFaultCause (R.faults space.old) (R.faults space.new) result }
+{
+    let mark = source.mark(space);
+    for _ in 0..u64::MAX {
+        let Some(item) = source.next(alloc, space, names, mark)? else {
+            source.end();
+            return Ok(Waiting::new(alloc));
+        };
+        let outs = stage.take(alloc, space, names, item, &None)?;
+        if !outs.is_empty() {
+            return Ok(outs);
+        }
+    }
+    Err(Fault::Memory)
+}
+
+/// Counts the vertices of the source that pass a filter, and leaves nothing to come. It tells
+/// whether a value can say the count.
+pub(crate) fn count_passing<R: Reads>(
+    alloc: Global,
+    space: &mut R,
+    names: &Names,
+    source: &mut Source,
+    filter: &Sought<Filter>,
+    so_far: &mut Counter,
+) -> Result<bool, Fault>
+    requires { source.old.edges ≡ false }
+    ensures counts { R.tells
+        → IsNamedStore (R.state space.old).records (R.state space.old).shape names.now.names
+        → IfOk result (λ fits. IsCountOf
+        (passing (graph_of (R.state space.old).records) filter.now source.old)
+        so_far.old fits so_far.new) }
+    ensures over { OnOk result ((graph : Graph) → left_of graph source.new ≡ []) }
+    ensures sound { R.tells
+        → IsNamedStore (R.state space.old).records (R.state space.old).shape names.now.names
+        → NotDamaged result }
+    ensures damaged { R.tells → IfErr result
+        (BlamesBroken (R.state space.old).records (R.state space.old).shape) }
+    ensures read { IsRead R.Reads space.old space.new }
+    ensures cause { HasFaultCause (R.faults space.old) (R.faults space.new) result }
+{
+    let mark = source.mark(space);
+    while let Some(id) = source.left.take_first(mark) {
+        let row = vertex_row(space, id)?;
+        if row.is_some() {
+            let passed = passes_at(alloc, space, names, filter, id, &row)?;
+            if !so_far.add(usize::from(passed)) {
+                source.end();
+                return Ok(false);
+            }
+        }
+    }
+    source.end();
+    Ok(true)
+}
+
+/// Whether the vertex of an identifier passes a filter.
+fn passes_at<R: Reads>(
+    alloc: Global,
+    space: &mut R,
+    names: &Names,
+    filter: &Sought<Filter>,
+    id: u32,
+    row: &Option<NodeRow>,
+) -> Result<bool, Fault>
+    requires row { IsRowOf R.tells (R.state space.old).records (items.Vertex id) row.now }
+    ensures found { R.tells
+        → IsNamedStore (R.state space.old).records (R.state space.old).shape names.now.names
+        → IfOk result (λ value. value
+        ≡ passes (graph_of (R.state space.old).records) filter.now (items.Vertex id)) }
+    ensures sound { R.tells
+        → IsNamedStore (R.state space.old).records (R.state space.old).shape names.now.names
+        → NotDamaged result }
+    ensures damaged { R.tells → IfErr result
+        (BlamesBroken (R.state space.old).records (R.state space.old).shape) }
+    ensures read { IsRead R.Reads space.old space.new }
+    ensures cause { HasFaultCause (R.faults space.old) (R.faults space.new) result }
+{
+    let vertex = Shown::vertex(id);
+    passes(alloc, space, names, filter, vertex.as_item(), row)
+}
+
+/// The filter that a step is, if it is one.
+pub(crate) fn as_filter(stage: &Stage) -> Option<&Sought<Filter>>
+    ensures { IfSome result (λ filter. stage.now ≡ filter_stage filter.now) }
+{
+    match stage {
+        Stage::Mapped(Mapping::Filter(filter)) => Some(filter),
+        _ => None,
+    }
+}
+
+/// What a step has counted, and whether that was given, if it counts.
+pub(crate) fn count_of(stage: &Stage) -> Option<(Counter, bool)>
+    ensures { IfSome result (λ count. stage.now ≡ Stage.Count count.0 count.1) }
+{
+    match stage {
+        Stage::Count { so_far, told } => Some((so_far.copy(), *told)),
+        _ => None,
+    }
+}
