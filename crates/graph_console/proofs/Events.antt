@@ -3,7 +3,7 @@ use Rattle.std.proofs.Common.{ℕ, List, inl, inr, refl}
 use Rattle.disk_model.specs.declared.disk.Disk.{Ghosts}
 use Rattle.console_words.specs.declared.run_options.RunOptions.{RunOptions}
 use Rattle.graph_session.specs.Exchange.{Exchange}
-use Rattle.graph_session.specs.State.{State}
+use Rattle.graph_session.specs.Snapshots.{SharedState}
 use Rattle.graph_console.specs.Lives.{Leads, Refuses, Runs}
 use Rattle.graph_console.specs.Program.{RunTo, Serves, terms_for}
 use Rattle.graph_console.specs.Unopened.{EndsUnopened}
@@ -11,7 +11,7 @@ use Rattle.graph_console.specs.declared.exit.Exit.{Exit}
 use Rattle.graph_console.specs.declared.exit.Exit.TheVariants as exits
 
 module _ {D : Type 0} (g : Ghosts D) (options : RunOptions) (old new : D) where
-  ran : (P : List Exchange → State → Type 0) → RunTo (terms_for g options old new) P → Leads g old new
+  ran : (P : List Exchange → SharedState → Type 0) → RunTo (terms_for g options old new) P → Leads g old new
   ran P r = λ since. (Runs options r.first r.run r.last new, (r.begins, r.steps, r.arrives), refl)
 
   refused : (exit : Exit) (written : List ℕ) → EndsUnopened (terms_for g options old new).unopened exit written → Leads g old new

@@ -2,7 +2,7 @@
 use Rattle.std.proofs.Common.{◌≡◌, ◌⊎◌, ⊎_elim, inl, inr, ℕ, ◌+◌, ◌-◌, ◌^◌, ◌≤◌, List, [], ◌∷◌, refl, ap, subst, ◌∙◌, arith}
 use Rattle.fault_count.specs.Cause.{Rose}
 use Rattle.disk_model.specs.declared.disk.Disk.{Ghosts}
-use Rattle.plain_graph.specs.Kinds.{Blanks, Bound, Change, Ending, Kind, Question, Upkeep}
+use Rattle.plain_graph.specs.Kinds.{Blanks, Bound, Change, Ending, Kind, Question, Sight, Upkeep}
 use Rattle.plain_graph.specs.Lines.{kind_of}
 use Rattle.plain_graph.specs.Reply as replies
 use Rattle.plain_graph.specs.Reply.{Fault, Reply}
@@ -10,12 +10,15 @@ use Rattle.plain_graph.specs.declared.command.Command.{Command}
 use Rattle.plain_graph.specs.declared.command.Command.TheVariants as commands
 use Rattle.console_words.specs.declared.run_options.RunOptions.{RunOptions}
 use Rattle.graph_session.specs.Exchange.{CarriesKind, CarriesOut, ConsoleStep, Exchange, KeepsStore, MakesChange, MovesBound, Stops, told_fault, told_in}
+use Rattle.graph_session.specs.SharedExchange.{SharedStep}
+use Rattle.graph_session.specs.Snapshots.{SharedState}
 use Rattle.graph_session.specs.State.{Failed, Live, Standing, State, health_of}
 use Rattle.graph_session.specs.declared.health.Health.TheVariants as healths
 use Rattle.graph_console.specs.Program.{Serves, Writes, terms_for}
 use Rattle.graph_console.specs.Run.{Run, told_faults}
 use Rattle.graph_console.specs.declared.exit.Exit.{Exit}
 use Rattle.graph_console.specs.declared.exit.Exit.TheVariants.{StoreFailed}
+use Rattle.graph_console.proofs.SharedSteps.{writes_or_stays}
 
 module _ (old new : State) (live : old.standing ≡ Live) where
   stays_live : new ≡ old → new.standing ≡ Live
@@ -45,6 +48,7 @@ module _ (old new : State) (live : old.standing ≡ Live) where
       by Ending never = absurd never
       by Bound done = bound_live command reply done
       by Upkeep done = kept_live command reply done
+      by Sight never = absurd never
       by Change done = changed_live command reply done
       by Question done = stays_live done.4
 
@@ -64,9 +68,16 @@ module _ (old new : State) (live : old.standing ≡ Live) where
       by (replies.Refused why) s = inr (stays_live s.1)
       by reply s = inr (carried_live s.1 reply s.3)
 
-run_told : (tells : Type 0) → tells → (first : State) (run : List Exchange) (last : State) → Run tells first run last → first.standing ≡ Live → (1 ≤ told_faults run) ⊎ (last.standing ≡ Live)
-run_told tells told first [] last same live = inr (ap (λ (s : State). s.standing) same ∙ live)
-run_told tells told first (x ∷ later) last steps live = elim (step_told first steps.0 live x (steps.1.step told)) [
+-- so does a step of the console of all sessions: a line of a session that reads fails no console
+shared_told : (old new : SharedState) → old.writer.standing ≡ Live → (x : Exchange) → SharedStep old x new → (told_fault x.reply ≡ 1) ⊎ (new.writer.standing ≡ Live)
+shared_told old new live x step = elim (writes_or_stays old x new step) [
+  | inl writes ↦ step_told old.writer new.writer live x writes.1
+  | inr stays ↦ inr (stays_live old.writer new.writer live stays.1)
+]
+
+run_told : (tells : Type 0) → tells → (first : SharedState) (run : List Exchange) (last : SharedState) → Run tells first run last → first.writer.standing ≡ Live → (1 ≤ told_faults run) ⊎ (last.writer.standing ≡ Live)
+run_told tells told first [] last same live = inr (ap (λ (s : SharedState). s.writer.standing) same ∙ live)
+run_told tells told first (x ∷ later) last steps live = elim (shared_told first steps.0 live x (steps.1.step told)) [
   | inl one ↦ inl (omega (arith, one))
   | inr still ↦ ⊎_elim (λ more. inl (omega (arith, more))) (λ ends. inr ends) (run_told tells told steps.0 later last steps.2 still)
 ]
@@ -85,5 +96,5 @@ pub failed_rose : {D : Type 0} (g : Ghosts D) (options : RunOptions) (old new : 
 failed_rose g options old new told exit before after input left serves is =
     let r = (subst (λ (x : Exit). Writes before after (Serves (terms_for g options old new) x input left)) is serves).2 in
     let counted : 1 ≤ told_faults r.run =
-    ⊎_elim (λ one. one) (λ live. absurd (live-not_failed r.last.standing live r.says.0)) (run_told g.tells_reads told r.first r.run r.last r.steps r.begins.live) in
+    ⊎_elim (λ one. one) (λ live. absurd (live-not_failed r.last.writer.standing live r.says.0)) (run_told g.tells_reads told r.first r.run r.last r.steps r.begins.writer.live) in
     count_rose (g.faults old) (g.faults new) (told_faults r.run) counted r.arrives.counts

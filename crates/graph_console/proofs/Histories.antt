@@ -2,6 +2,7 @@
 use Rattle.std.proofs.Common.{◌≡◌, ◌∙◌, List, [], ◌∷◌, ◌++◌, inl, inr, refl, sym, ap}
 use Rattle.plain_graph.specs.Graph.{Graph}
 use Rattle.graph_session.specs.Exchange.{Exchange}
+use Rattle.graph_session.specs.Snapshots.{SharedState}
 use Rattle.graph_session.specs.State.{State}
 use Rattle.graph_console.specs.History.{Adds, Transactions, last_graph}
 use Rattle.graph_console.specs.Run.{Run}
@@ -17,15 +18,15 @@ adds_last old x new graphs (inl adds) = sym (ap (last_graph old.committed) adds.
 adds_last old x new graphs (inr (inl adds)) = sym (ap (last_graph old.committed) adds.2)
 adds_last old x new graphs (inr (inr adds)) = adds.1 ∙ sym (ap (last_graph old.committed) adds.2)
 
-pub transactions_last : (tells : Type 0) (first : State) (run : List Exchange) (last : State) (graphs : List Graph) → Transactions tells first run last graphs → last.committed ≡ last_graph first.committed graphs
-transactions_last tells first [] last graphs made = ap (λ (s : State). s.committed) made.0 ∙ sym (ap (last_graph first.committed) made.1)
+pub transactions_last : (tells : Type 0) (first : SharedState) (run : List Exchange) (last : SharedState) (graphs : List Graph) → Transactions tells first run last graphs → last.writer.committed ≡ last_graph first.writer.committed graphs
+transactions_last tells first [] last graphs made = ap (λ (s : SharedState). s.writer.committed) made.0 ∙ sym (ap (last_graph first.writer.committed) made.1)
 transactions_last tells first (x ∷ later) last graphs made =
-    let next : State = made.0 in
+    let next : SharedState = made.0 in
     transactions_last tells next later last made.3 made.5
-    ∙ ap (λ (graph : Graph). last_graph graph made.3) (adds_last first x next made.2 made.4)
-    ∙ sym (last_more first.committed made.2 made.3)
-    ∙ sym (ap (last_graph first.committed) made.6)
+    ∙ ap (λ (graph : Graph). last_graph graph made.3) (adds_last first.writer x next.writer made.2 made.4)
+    ∙ sym (last_more first.writer.committed made.2 made.3)
+    ∙ sym (ap (last_graph first.writer.committed) made.6)
 
-pub transactions_run : (tells : Type 0) (first : State) (run : List Exchange) (last : State) (graphs : List Graph) → Transactions tells first run last graphs → Run tells first run last
+pub transactions_run : (tells : Type 0) (first : SharedState) (run : List Exchange) (last : SharedState) (graphs : List Graph) → Transactions tells first run last graphs → Run tells first run last
 transactions_run tells first [] last graphs made = made.0
 transactions_run tells first (x ∷ later) last graphs made = (made.0, made.1, transactions_run tells made.0 later last made.3 made.5)

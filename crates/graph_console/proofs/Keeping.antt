@@ -11,13 +11,13 @@ use Rattle.txn_core.specs.Config.{shape_of}
 use Rattle.txn_core.specs.Opening.{IsOldOrRaised, IsStore}
 use Rattle.txn_core.specs.declared.config.Config.{Config}
 use Rattle.console_words.specs.declared.run_options.RunOptions.{RunOptions}
-use Rattle.graph_session.specs.Opening.{LeavesOldOrSame, StartsAs}
+use Rattle.graph_session.specs.Opening.{LeavesOldOrSame}
+use Rattle.graph_session.specs.Snapshots.{SharedState}
 use Rattle.graph_session.specs.Stands.{IsAdmitted, Stands}
-use Rattle.graph_session.specs.State.{State}
 use Rattle.graph_session.proofs.Openings.{redone-made, store-shape}
 use Rattle.graph_session.proofs.Stands.{Stands-only, stands-recoverable}
 use Rattle.graph_console.specs.Lives.{Event, Happen, IsKept, IsLeft, May, MayHave, Refuses, Runs, Stops, Stops_inside, World, after, start_of}
-use Rattle.graph_console.specs.Program.{config_for}
+use Rattle.graph_console.specs.Program.{StartsRun, config_for}
 use Rattle.graph_console.specs.Run.{IsAdmittedInRun}
 
 -- the laws of a disk that tells its reads and its images
@@ -46,24 +46,24 @@ module _ {D : Type 0} (g : Ghosts D) (laws : Laws g) (start : Graph) where
   settled events disk has had = record { now = has; meanwhile = λ image left. had image (laws.only disk image laws.images left) }
 
   -- a run begins with the graph that what is read stands for
-  begun : (events : List (Event D)) (w : World D) → IsKept g start events w → (options : RunOptions) (first : State) → StartsAs g w.disk (config_for options) first → MayHave g false start events first.committed
+  begun : (events : List (Event D)) (w : World D) → IsKept g start events w → (options : RunOptions) (first : SharedState) → StartsRun g w.disk (config_for options) first → MayHave g false start events first.writer.committed
   begun events w kept options first starts =
       let read = kept.now (g.reads w.disk) (laws.read_is_image w.disk) in
-      subst (λ (graph : Graph). MayHave g false start events graph) (sym (starts.same laws.reads read.0 read.1 read.2)) read.3
+      subst (λ (graph : Graph). MayHave g false start events graph) (sym (starts.writer.same laws.reads read.0 read.1 read.2)) read.3
 
   on : (events : List (Event D)) (w : World D) → IsKept g start events w → (event : Event D) → May g event w → IsKept g start (event ∷ events) (after g event w)
   on events w kept (Runs options first run last now) may =
       let began = begun events w kept options first may.0 in
       record {
         now = λ image left.
-            let is : IsAdmitted last image = may.2.durable (laws.reads, laws.images) image left in
-            (last.shape, is.0, is.2, (began, is.1));
+            let is : IsAdmitted last.writer image = may.2.durable (laws.reads, laws.images) image left in
+            (last.writer.shape, is.0, is.2, (began, is.1));
         meanwhile = λ image left. inside image ((may.2.crash (laws.reads, laws.images)).each image left);
       }
     where
       inside : (image : Files) → g.may_leave w.disk image ⊎ IsAdmittedInRun g.tells_reads first run last image → IsLeft g true start (Runs options first run last now ∷ events) image
       inside image (inl old) = let was = kept.now image old in (was.0, was.1, was.2, inl was.3)
-      inside image (inr by) = (by.0.shape, by.2.0, by.2.2, inr (begun events w kept options first may.0, by.0, by.1, by.2.1))
+      inside image (inr by) = (by.0.writer.shape, by.2.0, by.2.2, inr (begun events w kept options first may.0, by.0, by.1, by.2.1))
   on events w kept (Refuses options why now) may = record {
     now = λ image left. back image (at_each_moment_now g w.disk now _ laws.counts laws.images moments image left);
     meanwhile = λ image left. back image (moments.each image left);

@@ -11,5 +11,7 @@ pub mod Restarts
 pub mod Runs
 mod SampleStores
 mod Samples
+pub mod SharedSteps
 mod Stretches
+mod TakenSnapshots
 pub mod Turns

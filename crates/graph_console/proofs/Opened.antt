@@ -15,37 +15,38 @@ use Rattle.console_words.specs.declared.run_options.RunOptions.{RunOptions}
 use Rattle.graph_session.specs.Console.{IsAt, SessionView}
 use Rattle.graph_session.specs.Exchange.{Exchange}
 use Rattle.graph_session.specs.Opening.{IsUnopened, LeavesByOpening, LeavesOldOrSame, StartsAs}
+use Rattle.graph_session.specs.Snapshots.{SharedState}
 use Rattle.graph_session.specs.Stands.{IsAdmitted}
 use Rattle.graph_session.specs.State.{State}
 use Rattle.graph_session.proofs.Openings.{opens_admitted}
 use Rattle.graph_console.specs.Program.{HoldsGraph, Refuses, RunTo, Serves, Terms, Writes, config_for, terms_for, terms_from, usage_line}
 use Rattle.graph_console.specs.Unopened.{EndsUnopened, IsUnopenedExit, exit_of, line_of}
-use Rattle.graph_console.specs.Run.{IsAdmittedInRun, Run}
+use Rattle.graph_console.specs.Run.{IsAdmittedInRun, Run, begins_with}
 use Rattle.graph_console.specs.declared.exit.Exit.{Exit}
 use Rattle.graph_console.specs.declared.exit.Exit.TheVariants as exits
 use Rattle.graph_console.proofs.Runs.{counts_within}
 
 -- a content that the first state admits is admitted in each run that begins with it
-admitted_first : (tells : Type 0) (first : State) (run : List Exchange) (last : State) → Run tells first run last → (content : Files) → IsAdmitted first content → IsAdmittedInRun tells first run last content
+admitted_first : (tells : Type 0) (first : SharedState) (run : List Exchange) (last : SharedState) → Run tells first run last → (content : Files) → IsAdmitted first.writer content → IsAdmittedInRun tells first run last content
 admitted_first tells first run last steps content is = (first, record { before = []; later = run; run_is = refl; leads = refl; goes_on = steps }, is)
 
 -- what opening left, and what the run left after it
-leaves_from : {D : Type 0} (g : Ghosts D) (old opened new : D) (first : State) (run : List Exchange) (last : State) → Run g.tells_reads first run last
-    → AtEachMoment g old opened (λ content. g.may_leave old content ⊎ IsAdmitted first content) → ((content : Files) → g.may_leave opened content → IsAdmitted first content)
+leaves_from : {D : Type 0} (g : Ghosts D) (old opened new : D) (first : SharedState) (run : List Exchange) (last : SharedState) → Run g.tells_reads first run last
+    → AtEachMoment g old opened (λ content. g.may_leave old content ⊎ IsAdmitted first.writer content) → ((content : Files) → g.may_leave opened content → IsAdmitted first.writer content)
     → AtEachMoment g opened new (λ content. g.may_leave opened content ⊎ IsAdmittedInRun g.tells_reads first run last content)
     → AtEachMoment g old new (λ content. g.may_leave old content ⊎ IsAdmittedInRun g.tells_reads first run last content)
 leaves_from g old opened new first run last steps opening opens serving =
     let P : Files → Type 0 = λ content. g.may_leave old content ⊎ IsAdmittedInRun g.tells_reads first run last content in
     at_each_moment_on g old opened new P (λ content. g.may_leave opened content ⊎ IsAdmittedInRun g.tells_reads first run last content)
-    (at_each_moment_weaker g old opened (λ content. g.may_leave old content ⊎ IsAdmitted first content) P opening (λ content h. ⊎_elim (λ o. inl o) (λ a. inr (admitted_first g.tells_reads first run last steps content a)) h))
+    (at_each_moment_weaker g old opened (λ content. g.may_leave old content ⊎ IsAdmitted first.writer content) P opening (λ content h. ⊎_elim (λ o. inl o) (λ a. inr (admitted_first g.tells_reads first run last steps content a)) h))
     serving
     (λ content h. ⊎_elim (λ o. inr (admitted_first g.tells_reads first run last steps content (opens content o))) (λ a. inr a) h)
 
 -- what is served on terms is served on wider ones
-module _ (tells : Type 0) (terms wider : Terms tells) (begins : (state : State) → terms.starts state → wider.starts state)
-    (closes : (first : State) (run : List Exchange) (last : State) → terms.starts first → Run tells first run last → terms.ends first run last → wider.ends first run last)
+module _ (tells : Type 0) (terms wider : Terms tells) (begins : (state : SharedState) → terms.starts state → wider.starts state)
+    (closes : (first : SharedState) (run : List Exchange) (last : SharedState) → terms.starts first → Run tells first run last → terms.ends first run last → wider.ends first run last)
     (refuses : (why : OpenFault) → terms.unopened why → wider.unopened why) where
-  runs_wider : (P : List Exchange → State → Type 0) → RunTo terms P → RunTo wider P
+  runs_wider : (P : List Exchange → SharedState → Type 0) → RunTo terms P → RunTo wider P
   runs_wider P r = record {
     first = r.first;
     begins = begins r.first r.begins;
@@ -75,19 +76,19 @@ module _ (tells : Type 0) (terms wider : Terms tells) (begins : (state : State) 
 -- What a session served is served by the program that opened it.
 pub serves_opened : {D : Type 0} (g : Ghosts D) (options : RunOptions) (old : D) (session : SessionView D) (new : D) → LeavesByOpening g (config_for options) old session.disk → g.faults old ≤ g.faults session.disk → HoldsGraph g old
     → (state : State) → StartsAs g old (config_for options) state → IsAt g session state → (exit : Exit) (old_taken new_taken input left : List ℕ)
-    → Writes old_taken new_taken (Serves (terms_from g state session.disk new) exit input left)
+    → Writes old_taken new_taken (Serves (terms_from g (begins_with state) session.disk new) exit input left)
     → Writes old_taken new_taken (Serves (terms_for g options old new) exit input left)
 serves_opened g options old session new leaves later holds state starts is_at exit old_taken new_taken input left w = (
   w.0,
   w.1,
-  serves_wider g.tells_reads (terms_from g state session.disk new) (terms_for g options old new)
-      (λ first is. subst (λ (s : State). (terms_for g options old new).starts s) (sym is) starts)
+  serves_wider g.tells_reads (terms_from g (begins_with state) session.disk new) (terms_for g options old new)
+      (λ first is. subst (λ (s : SharedState). (terms_for g options old new).starts s) (sym is) (record { writer = starts; readers = refl }))
       (λ first run last is steps ends. record {
         durable = ends.durable;
         crash = λ told.
             leaves_from g old session.disk new first run last steps
-            (subst (λ (s : State). AtEachMoment g old session.disk (λ content. g.may_leave old content ⊎ IsAdmitted s content)) (sym is) (opens_admitted g old (config_for options) state starts session.disk leaves told (holds told.0)))
-            (λ content left. subst (λ (s : State). IsAdmitted s content) (sym is) (is_at.images told content left))
+            (subst (λ (s : SharedState). AtEachMoment g old session.disk (λ content. g.may_leave old content ⊎ IsAdmitted s.writer content)) (sym is) (opens_admitted g old (config_for options) state starts session.disk leaves told (holds told.0)))
+            (λ content left. subst (λ (s : SharedState). IsAdmitted s.writer content) (sym is) (is_at.images told content left))
             (ends.crash told);
         counts = counts_within (g.faults old) (g.faults session.disk) (g.faults new) (g.faults new) run later ends.counts (omega arith);
       })

@@ -4,7 +4,7 @@ use Rattle.std.specs.List.{prefix_len}
 use Rattle.stream_io.specs.Lines.{InputLine, Long, Whole}
 use Rattle.plain_graph.specs.Changes.{IsChange}
 use Rattle.plain_graph.specs.Graph.{Graph}
-use Rattle.plain_graph.specs.Kinds.{AreChanges, Blanks, Bound, Change, Ending, Kind, Question, Upkeep}
+use Rattle.plain_graph.specs.Kinds.{AreChanges, Blanks, Bound, Change, Ending, Kind, Question, Sight, Upkeep}
 use Rattle.plain_graph.specs.Lines.{kind_of}
 use Rattle.plain_graph.specs.Reply as replies
 use Rattle.plain_graph.specs.Reply.{Fault, Reply}
@@ -14,23 +14,28 @@ use Rattle.plain_graph.specs.declared.refusal.Refusal.TheVariants as refusals
 use Rattle.gremlin_parse.specs.Grammar.{is_blank}
 use Rattle.gremlin_parse.specs.Lines.{Spells}
 use Rattle.gremlin_parse.specs.Symbols.{AnyBlanks, Takes}
+use Rattle.gremlin_parse.specs.Tags.{after_tag}
 use Rattle.gremlin_parse.proofs.Leftmost.{only_command}
 use Rattle.gremlin_parse.proofs.Lines.{spelled_loosely, tail_after}
 use Rattle.gremlin_parse.proofs.Runs.{cut_run}
 use Rattle.graph_session.specs.Exchange.{CarriesKind, CarriesOut, ConsoleStep, Exchange, KeepsStore, LeavesBound, LeavesChange, LeavesKind, LeavesOpen, LeavesStore, MakesChange, MovesBound, Stops}
 use Rattle.graph_session.specs.Refusals.{IsAccepted}
+use Rattle.graph_session.specs.SharedExchange.{SharedStep}
+use Rattle.graph_session.specs.Snapshots.{SharedState}
 use Rattle.graph_session.specs.State.{Failed, IsFailed, IsSilent, Live, SpellsLine, Standing, State, graphs_from}
-use Rattle.graph_console.specs.History.{Acknowledges, Adds, FindsSecond, IsSecondOf, TellsDone, Transactions}
+use Rattle.graph_console.specs.History.{Acknowledges, Adds, FindsSecond, IsOfWriter, IsSecondOf, TellsDone, Transactions}
 use Rattle.graph_console.specs.Run.{Run}
+use Rattle.graph_console.proofs.SharedSteps.{writes_or_stays}
 
 -- ---- a line spells one command
 
-spells_agree : (bytes : List ℕ) (one two : Command) → Spells bytes one → Spells bytes two → two ≡ one
-spells_agree bytes one two first second =
-    let count : ℕ = prefix_len is_blank bytes in
-    let cut = cut_run is_blank bytes in
-    let takes : Takes AnyBlanks tt bytes (drop count bytes) = record { prefix = take count bytes; bytes_are = cut.bytes_are; is = cut.passes; ends = cut.ends } in
-    only_command bytes (drop count bytes) one takes (tail_after one bytes (drop count bytes) takes (spelled_loosely bytes one first)) two second
+spells_agree : (line : List ℕ) (one two : Command) → Spells line one → Spells line two → two ≡ one
+spells_agree line one two first second =
+    let rest : List ℕ = after_tag line in
+    let count : ℕ = prefix_len is_blank rest in
+    let cut = cut_run is_blank rest in
+    let takes : Takes AnyBlanks tt rest (drop count rest) = record { prefix = take count rest; bytes_are = cut.bytes_are; is = cut.passes; ends = cut.ends } in
+    only_command line rest (drop count rest) one refl takes (tail_after one rest (drop count rest) takes (spelled_loosely line one first)) two second
 
 line_agrees : (line : InputLine) (one two : Command) → SpellsLine line one → SpellsLine line two → two ≡ one
 line_agrees (Whole bytes) one two first second = spells_agree bytes one two first second
@@ -74,13 +79,13 @@ not_failed (Failed graphs) none = absurd (none tt)
 
 -- ---- what an exchange adds
 
--- what it adds, and that the console holds no more than it may after it
+-- what it adds, and that the console of the session that writes holds no more than it may after it
 record Goes (old : State) (x : Exchange) (new : State) : Type 0 where
   graphs : List Graph
   adds : Adds old x new graphs
   well : IsWell new
 
-module _ (old : State) (well : IsWell old) (line : InputLine) (disk_failed : Bool) (new : State) where
+module _ (old : State) (well : IsWell old) (line : InputLine) (own : IsOfWriter line) (disk_failed : Bool) (new : State) where
   abbrev replied : Reply → Exchange
   replied reply = record { line = line; disk_failed = disk_failed; reply = reply }
 
@@ -97,7 +102,7 @@ module _ (old : State) (well : IsWell old) (line : InputLine) (disk_failed : Boo
 
   -- a reply that doesn't say that a line was carried out
   untold : (reply : Reply) → ¬ TellsDone reply → ¬ Acknowledges old (replied reply)
-  untold reply none = λ acknowledges. none acknowledges.0
+  untold reply none = λ acknowledges. none acknowledges.1
 
   module _ (command : Command) (spelled : SpellsLine line command) where
     -- the line spells no command of another kind
@@ -110,7 +115,7 @@ module _ (old : State) (well : IsWell old) (line : InputLine) (disk_failed : Boo
         (λ (commit : SpellsLine line commands.Commit). no_commit commit)
         (λ (change : (old.open_one ≡ None) × (c : Command) × IsChange c × SpellsLine line c).
         no_change change.0 (subst IsChange (line_agrees line command change.1 spelled change.3) change.2))
-        acknowledges.1
+        acknowledges.2
 
     -- the disk has not failed a console that carries such a line out
     live_at : IsAccepted old line → kind_of command ≢ Blanks → kind_of command ≢ Ending → kind_of command ≢ Upkeep → old.standing ≡ Live
@@ -126,7 +131,7 @@ module _ (old : State) (well : IsWell old) (line : InputLine) (disk_failed : Boo
         quiet reply (other reply (apart commands.Commit (λ e. let clash : Change ≡ Bound = sym is ∙ e in cc)) (λ closed change. let clash : None ≡ Some transaction = sym closed ∙ opened in cc)) same refl well
     change_goes reply is accepted told (inr (closed, graph, changes, same)) =
         let live = live_at accepted (λ e. let clash : Change ≡ Blanks = sym is ∙ e in cc) (λ e. let clash : Change ≡ Ending = sym is ∙ e in cc) (λ e. let clash : Change ≡ Upkeep = sym is ∙ e in cc) in
-        acknowledged reply (told, inr (closed, command, subst AreChanges (sym is) tt, spelled)) same (subst (OpensWith graph) (sym live) tt)
+        acknowledged reply (own, told, inr (closed, command, subst AreChanges (sym is) tt, spelled)) same (subst (OpensWith graph) (sym live) tt)
 
     question_goes : (reply : Reply) → kind_of command ≡ Question → new ≡ old → Goes old (replied reply) new
     question_goes reply is same =
@@ -137,7 +142,7 @@ module _ (old : State) (well : IsWell old) (line : InputLine) (disk_failed : Boo
       quiet reply (other commands.Begin spelled reply (λ commit. let clash : commands.Commit ≡ commands.Begin = line_agrees line commands.Begin commands.Commit spelled commit in cc) (λ closed change. change)) done.1 refl well
   bound_goes commands.Commit reply spelled accepted told done =
       let live = live_at commands.Commit spelled accepted (λ e. cc) (λ e. cc) (λ e. cc) in
-      acknowledged reply (told, inl spelled) done.3 (subst (OpensWith done.1.graph) (sym live) tt)
+      acknowledged reply (own, told, inl spelled) done.3 (subst (OpensWith done.1.graph) (sym live) tt)
   bound_goes commands.Rollback reply spelled accepted told done =
       quiet reply (other commands.Rollback spelled reply (λ commit. let clash : commands.Commit ≡ commands.Rollback = line_agrees line commands.Rollback commands.Commit spelled commit in cc) (λ closed change. change)) done.1 refl well
   bound_goes command reply spelled accepted told never = absurd never
@@ -149,7 +154,7 @@ module _ (old : State) (well : IsWell old) (line : InputLine) (disk_failed : Boo
       ⊎_elim
       (λ (first : graph ≡ old.committed). quiet reply none is first tt)
       (λ (second : IsSecondOf old.standing graph).
-      let finds : FindsSecond old (replied reply) new = (told, spelled, subst (IsSecondOf old.standing) (sym (ap (λ (s : State). s.committed) is)) second) in
+      let finds : FindsSecond old (replied reply) new = (own, told, spelled, subst (IsSecondOf old.standing) (sym (ap (λ (s : State). s.committed) is)) second) in
       let goes : Goes old (replied reply) new = record { graphs = new.committed ∷ []; adds = inr (inl (none, finds, refl)); well = subst IsWell (sym is) tt } in
       goes)
       (first_or_second graph old.committed old.standing well admits)
@@ -168,6 +173,7 @@ module _ (old : State) (well : IsWell old) (line : InputLine) (disk_failed : Boo
       by Ending is never = absurd never
       by Bound is here = bound_goes command reply spelled accepted told here
       by Upkeep is here = upkeep_goes command reply spelled told here
+      by Sight is never = absurd never
       by Change is here = change_goes command spelled reply is accepted told here
       by Question is here = question_goes command spelled reply is here.4
 
@@ -179,7 +185,8 @@ module _ (old : State) (well : IsWell old) (line : InputLine) (disk_failed : Boo
       stays = untold reply none
 
       bound : (c : Command) → LeavesBound old c new → Goes old (replied reply) new
-      bound commands.Commit left = quiet reply stays left.2 refl refl
+      bound commands.Commit (transaction, opened, inl left) = quiet reply stays left refl refl
+      bound commands.Commit (transaction, opened, inr left) = quiet reply stays left refl refl
       bound c never = absurd never
 
       store : (c : Command) → LeavesStore old c new → Goes old (replied reply) new
@@ -197,32 +204,40 @@ module _ (old : State) (well : IsWell old) (line : InputLine) (disk_failed : Boo
       by Ending never = absurd never
       by Bound left = bound command left
       by Upkeep left = store command left
+      by Sight never = absurd never
       by Change left = change left
       by Question same = quiet reply stays same refl well
 
   stops_goes : (lines : List (List ℕ)) (fault : Fault) → Stops old line disk_failed lines fault new → Goes old (replied (replies.Faulted lines fault)) new
-  stops_goes lines replies.PastCount stops = quiet (replies.Faulted lines replies.PastCount) (λ acknowledges. acknowledges.0) stops.4 refl well
-  stops_goes lines replies.NoMemory stops = quiet (replies.Faulted lines replies.NoMemory) (λ acknowledges. acknowledges.0) stops.1 refl well
+  stops_goes lines replies.PastCount stops = quiet (replies.Faulted lines replies.PastCount) (λ acknowledges. acknowledges.1) stops.4 refl well
+  stops_goes lines replies.NoMemory stops = quiet (replies.Faulted lines replies.NoMemory) (λ acknowledges. acknowledges.1) stops.1 refl well
   stops_goes lines replies.DiskFailed stops = leaves_goes stops.2 (replies.Faulted lines replies.DiskFailed) (λ told. told) stops.5
   stops_goes lines (replies.DamagedRecord file id) never = absurd never
 
   -- each step adds what it adds
   step_goes : (reply : Reply) → ConsoleStep old (replied reply) new → Goes old (replied reply) new
-  step_goes replies.Silent step = quiet replies.Silent (λ acknowledges. acknowledges.0) step.1 refl well
+  step_goes replies.Silent step = quiet replies.Silent (λ acknowledges. acknowledges.1) step.1 refl well
   step_goes (replies.Faulted lines fault) step = stops_goes lines fault step
-  step_goes (replies.Refused why) step = quiet (replies.Refused why) (λ acknowledges. acknowledges.0) step.1 refl well
+  step_goes (replies.Refused why) step = quiet (replies.Refused why) (λ acknowledges. acknowledges.1) step.1 refl well
   step_goes replies.Done step = done_goes step.1 replies.Done step.0 step.2 tt step.3
   step_goes (replies.NodeMade id) step = done_goes step.1 (replies.NodeMade id) step.0 step.2 tt step.3
   step_goes (replies.EdgeMade id) step = done_goes step.1 (replies.EdgeMade id) step.0 step.2 tt step.3
   step_goes (replies.Told lines last) step = done_goes step.1 (replies.Told lines last) step.0 step.2 tt step.3
 
-run_recorded : (tells : Type 0) → tells → (first : State) → IsWell first → (run : List Exchange) (last : State) → Run tells first run last → (graphs : List Graph) × Transactions tells first run last graphs
+-- a step of the console of all sessions adds what it adds: a line of a session that reads adds nothing
+shared_goes : (old : SharedState) → IsWell old.writer → (x : Exchange) (new : SharedState) → SharedStep old x new → Goes old.writer x new.writer
+shared_goes old well x new step = elim (writes_or_stays old x new step) [
+  | inl writes ↦ step_goes old.writer well x.line writes.0 x.disk_failed new.writer x.reply writes.1
+  | inr stays ↦ record { graphs = []; adds = inr (inr (stays.0, ap (λ (s : State). s.committed) stays.1, refl)); well = subst IsWell (sym stays.1) well }
+]
+
+run_recorded : (tells : Type 0) → tells → (first : SharedState) → IsWell first.writer → (run : List Exchange) (last : SharedState) → Run tells first run last → (graphs : List Graph) × Transactions tells first run last graphs
 run_recorded tells told first well [] last same = ([], (same, refl))
 run_recorded tells told first well (x ∷ later) last steps =
-    let goes = step_goes first well x.line x.disk_failed steps.0 x.reply (steps.1.step told) in
+    let goes = shared_goes first well x steps.0 (steps.1.step told) in
     let rest = run_recorded tells told steps.0 goes.well later last steps.2 in
     (goes.graphs ++ rest.0, (steps.0, steps.1, goes.graphs, rest.0, goes.adds, rest.1, refl))
 
 -- a run from a console that has not failed
-pub transactions_of : (tells : Type 0) → tells → (first : State) (run : List Exchange) (last : State) → first.standing ≡ Live → Run tells first run last → (graphs : List Graph) × Transactions tells first run last graphs
-transactions_of tells told first run last live steps = run_recorded tells told first (subst (OpensWith first.committed) (sym live) tt) run last steps
+pub transactions_of : (tells : Type 0) → tells → (first : SharedState) (run : List Exchange) (last : SharedState) → first.writer.standing ≡ Live → Run tells first run last → (graphs : List Graph) × Transactions tells first run last graphs
+transactions_of tells told first run last live steps = run_recorded tells told first (subst (OpensWith first.writer.committed) (sym live) tt) run last steps

@@ -9,12 +9,14 @@ use Rattle.stream_io.specs.Answers.{TakesLine}
 use Rattle.stream_io.specs.Reading.{Reading, ahead, IsFresh}
 use Rattle.stream_io.specs.Streams.{TakesFront}
 use Rattle.plain_graph.specs.Reply as replies
-use Rattle.plain_graph.specs.Reply.{Reply, reply_text}
-use Rattle.graph_session.specs.Exchange.{Exchange, TakesStep, told_fault}
-use Rattle.graph_session.specs.State.{State, IsQuit, health_at}
+use Rattle.plain_graph.specs.Reply.{Reply}
+use Rattle.graph_session.specs.Exchange.{Exchange, told_fault}
+use Rattle.graph_session.specs.SharedExchange.{TakesSharedStep}
+use Rattle.graph_session.specs.Snapshots.{SharedState}
+use Rattle.graph_session.specs.State.{IsQuit, health_at}
 use Rattle.graph_session.specs.declared.health.Health.{Health}
 use Rattle.graph_session.specs.declared.health.Health.TheVariants.{Live, Failed}
-use Rattle.graph_console.specs.Run.{CountsRises, Run, run_lines, run_text, told_faults, NoQuit, AreUpToQuit, AreFirstOf, LacksEnd}
+use Rattle.graph_console.specs.Run.{CountsRises, Run, exchange_text, run_lines, run_text, told_faults, NoQuit, AreUpToQuit, AreFirstOf, LacksEnd}
 use Rattle.graph_console.specs.Program.{RunTo, Serves, ServesAll, ServesEnded, Terms, Writes}
 use Rattle.graph_console.specs.Serve.{TurnSays, Exchanges, Ends, Breaks, Progress, bytes_ahead}
 use Rattle.graph_console.specs.declared.exit.Exit.{Exit}
@@ -22,18 +24,18 @@ use Rattle.graph_console.specs.declared.exit.Exit.TheVariants.{Done, StoreFailed
 use Rattle.graph_console.proofs.LineLaws.{piece_first, piece_alone, pieces_joined, lines-piece, lines-last}
 
 -- one step more
-pub run_on : (tells : Type 0) (first middle last : State) (run : List Exchange) (x : Exchange) → Run tells first run middle → TakesStep tells middle x last → Run tells first (run ++ x ∷ []) last
-run_on tells first middle last [] x steps step = (last, subst (λ (s : State). TakesStep tells s x last) steps step, refl)
+pub run_on : (tells : Type 0) (first middle last : SharedState) (run : List Exchange) (x : Exchange) → Run tells first run middle → TakesSharedStep tells middle x last → Run tells first (run ++ x ∷ []) last
+run_on tells first middle last [] x steps step = (last, subst (λ (s : SharedState). TakesSharedStep tells s x last) steps step, refl)
 run_on tells first middle last (y ∷ run) x steps step = (steps.0, steps.1, run_on tells steps.0 middle last run x steps.2 step)
 
 no_quit_on : (lines : List InputLine) (line : InputLine) → NoQuit lines → ¬ IsQuit line → NoQuit (lines ++ line ∷ [])
 no_quit_on [] line none not_quit = (not_quit, tt)
 no_quit_on (l ∷ lines) line none not_quit = (none.0, no_quit_on lines line none.1 not_quit)
 
-pub run_text_on : (run : List Exchange) (x : Exchange) → run_text (run ++ x ∷ []) ≡ run_text run ++ reply_text x.reply
+pub run_text_on : (run : List Exchange) (x : Exchange) → run_text (run ++ x ∷ []) ≡ run_text run ++ exchange_text x
 run_text_on run x =
-    flat_map-append (λ (y : Exchange). reply_text y.reply) run (x ∷ [])
-    ∙ ap (λ (text : List ℕ). run_text run ++ text) (append-nil (reply_text x.reply))
+    flat_map-append (λ (y : Exchange). exchange_text y) run (x ∷ [])
+    ∙ ap (λ (text : List ℕ). run_text run ++ text) (append-nil (exchange_text x))
 
 pub run_lines_on : (run : List Exchange) (x : Exchange) → run_lines (run ++ x ∷ []) ≡ run_lines run ++ x.line ∷ []
 run_lines_on run x = map_push (λ (y : Exchange). y.line) run x
@@ -48,7 +50,7 @@ told_once (replies.Faulted lines fault) = inl refl
 told_once reply = inl refl
 
 -- only a reply to a line in which the disk failed says so
-told_failed : (tells : Type 0) (old : State) (x : Exchange) (new : State) → TakesStep tells old x new → (told_fault x.reply ≡ 0) ⊎ ((told_fault x.reply ≡ 1) × (x.disk_failed ≡ true))
+told_failed : (tells : Type 0) (old : SharedState) (x : Exchange) (new : SharedState) → TakesSharedStep tells old x new → (told_fault x.reply ≡ 0) ⊎ ((told_fault x.reply ≡ 1) × (x.disk_failed ≡ true))
 told_failed tells old x new step = ⊎_elim (λ none. inl none) (λ one. inr (one, step.blames (λ none. cc))) (told_once x.reply)
 
 -- a count rises by one at least where a fault is told
@@ -61,7 +63,7 @@ count_on failed told total before middle after (inr one) (inl counts) counted la
     elim (cases_lt middle after) [ inl below ↦ inl (omega (arith, one.0)) | inr not_below ↦ inr (omega arith) ]
 
 -- a count that kept up with a run keeps up with it and one exchange more
-counts_on : (tells : Type 0) (before middle after : ℕ) (run : List Exchange) (x : Exchange) (old new : State) → TakesStep tells old x new → CountsRises before middle run → (x.disk_failed ≡ true → Rose middle after) → middle ≤ after
+counts_on : (tells : Type 0) (before middle after : ℕ) (run : List Exchange) (x : Exchange) (old new : SharedState) → TakesSharedStep tells old x new → CountsRises before middle run → (x.disk_failed ≡ true → Rose middle after) → middle ≤ after
     → CountsRises before after (run ++ x ∷ [])
 counts_on tells before middle after run x old new step counts counted later =
     subst (λ (n : ℕ). (n + before ≤ after) ⊎ (2 ^ 64 - 1 ≤ after)) (sym (told_faults_on run x))
@@ -91,9 +93,9 @@ pub record Boundary (input ahead_of : List ℕ) (lines : List InputLine) : Type 
   pub lines_are : ended_lines used ≡ lines
 
 -- A run from the first state has come from the start to here, and to a state that the session is at.
-pub record Serving (tells : Type 0) (first : State) (is_at : List Exchange → State → Type 0) (start now : Progress) : Type 0 where
+pub record Serving (tells : Type 0) (first : SharedState) (is_at : List Exchange → SharedState → Type 0) (start now : Progress) : Type 0 where
   pub run : List Exchange
-  pub state : State
+  pub state : SharedState
   pub steps : Run tells first run state
   pub arrives : is_at run state
   pub no_quit : NoQuit (run_lines run)
@@ -106,7 +108,7 @@ pub record Serving (tells : Type 0) (first : State) (is_at : List Exchange → S
 fresh_ahead : (reader : Reading) (left : List ℕ) → reader.ended ≡ false → reader.held ≡ [] → ahead reader left ≡ left
 fresh_ahead reader left goes_on none = ap (λ (b : Bool). cond b reader.held (reader.held ++ left)) goes_on ∙ ap (λ (bs : List ℕ). bs ++ left) none
 
-pub serving_first : (tells : Type 0) (first : State) (is_at : List Exchange → State → Type 0) (start : Progress) → is_at [] first → IsFresh start.reader → Serving tells first is_at start start
+pub serving_first : (tells : Type 0) (first : SharedState) (is_at : List Exchange → SharedState → Type 0) (start : Progress) → is_at [] first → IsFresh start.reader → Serving tells first is_at start start
 serving_first tells first is_at start at_first fresh =
     let same = fresh_ahead start.reader start.left fresh.ended fresh.held in
     record {
@@ -123,17 +125,17 @@ serving_first tells first is_at start at_first fresh =
     }
 
 -- A turn that comes to a state carries on what is said of the run so far: by its line, or without one.
-pub record Carries (tells : Type 0) (run : List Exchange) (state : State) (comes_to : State → Type 0) (is_at : List Exchange → State → Type 0) : Type 0 where
-  pub on : (x : Exchange) (last : State) → TakesStep tells state x last → comes_to last → is_at (run ++ x ∷ []) last
+pub record Carries (tells : Type 0) (run : List Exchange) (state : SharedState) (comes_to : SharedState → Type 0) (is_at : List Exchange → SharedState → Type 0) : Type 0 where
+  pub on : (x : Exchange) (last : SharedState) → TakesSharedStep tells state x last → comes_to last → is_at (run ++ x ∷ []) last
   pub stays : comes_to state → is_at run state
 
 -- What is said of the whole run: its end, by the state that the session is then at and by the disk's count.
-abbrev Closes : (List Exchange → State → Type 0) → (List Exchange → State → Type 0) → ℕ → ℕ → Type 0
-Closes is_at ends before after = (run : List Exchange) (last : State) → is_at run last → CountsRises before after run → ends run last
+abbrev Closes : (List Exchange → SharedState → Type 0) → (List Exchange → SharedState → Type 0) → ℕ → ℕ → Type 0
+Closes is_at ends before after = (run : List Exchange) (last : SharedState) → is_at run last → CountsRises before after run → ends run last
 
 -- What is served when a line's exchange has come to its end.
-module _ (tells : Type 0) (first : State) (old_is_at is_at : List Exchange → State → Type 0) (comes_to : State → Type 0) (start old new : Progress) (s : Serving tells first old_is_at start old) (carries : Carries tells s.run s.state comes_to is_at)
-    (says : State → Exchange → Type 0) (e : Exchanges tells s.state comes_to old new says) where
+module _ (tells : Type 0) (first : SharedState) (old_is_at is_at : List Exchange → SharedState → Type 0) (comes_to : SharedState → Type 0) (start old new : Progress) (s : Serving tells first old_is_at start old) (carries : Carries tells s.run s.state comes_to is_at)
+    (says : SharedState → Exchange → Type 0) (e : Exchanges tells s.state comes_to old new says) where
   abbrev run_after : List Exchange
   run_after = s.run ++ e.exchange ∷ []
 
@@ -153,11 +155,11 @@ module _ (tells : Type 0) (first : State) (old_is_at is_at : List Exchange → S
       ∙ sym (append_assoc (run_lines s.run) (e.exchange.line ∷ []) (lines_of (bytes_ahead new)))
       ∙ ap (λ (ls : List InputLine). ls ++ lines_of (bytes_ahead new)) (sym lines_after)
 
-  text_after : start.taken ++ run_text run_after ≡ old.taken ++ reply_text e.exchange.reply
+  text_after : start.taken ++ run_text run_after ≡ old.taken ++ exchange_text e.exchange
   text_after =
       ap (λ (text : List ℕ). start.taken ++ text) (run_text_on s.run e.exchange)
-      ∙ sym (append_assoc start.taken (run_text s.run) (reply_text e.exchange.reply))
-      ∙ ap (λ (text : List ℕ). text ++ reply_text e.exchange.reply) (sym s.text)
+      ∙ sym (append_assoc start.taken (run_text s.run) (exchange_text e.exchange))
+      ∙ ap (λ (text : List ℕ). text ++ exchange_text e.exchange) (sym s.text)
 
   no_quit_after : ¬ IsQuit e.exchange.line → NoQuit (run_lines run_after)
   no_quit_after not_quit = subst NoQuit (sym lines_after) (no_quit_on (run_lines s.run) e.exchange.line s.no_quit not_quit)
@@ -191,7 +193,7 @@ module _ (tells : Type 0) (first : State) (old_is_at is_at : List Exchange → S
     | inr at_end ↦ absurd (cc (at_end.3, new_goes_on))
   ]
 
-  pub serving_on : ¬ IsQuit e.exchange.line → new.taken ≡ old.taken ++ reply_text e.exchange.reply → old.faults ≤ new.faults → (new.reader.ended ≡ false → old.reader.ended ≡ false)
+  pub serving_on : ¬ IsQuit e.exchange.line → new.taken ≡ old.taken ++ exchange_text e.exchange → old.faults ≤ new.faults → (new.reader.ended ≡ false → old.reader.ended ≡ false)
       → new.reader.taken + length new.left ≡ old.reader.taken + length old.left → Serving tells first is_at start new
   serving_on not_quit text later stays counted = record {
     run = run_after;
@@ -208,7 +210,7 @@ module _ (tells : Type 0) (first : State) (old_is_at is_at : List Exchange → S
 
   module _ (terms : Terms tells) (begins : terms.starts first) (closes : Closes is_at (terms.ends first) start.faults new.faults) (later : old.faults ≤ new.faults) where
     -- the run with this exchange ends so
-    closed : (P : List Exchange → State → Type 0) → P run_after e.after → RunTo terms P
+    closed : (P : List Exchange → SharedState → Type 0) → P run_after e.after → RunTo terms P
     closed P says_so = record {
       first = first;
       begins = begins;
@@ -219,12 +221,12 @@ module _ (tells : Type 0) (first : State) (old_is_at is_at : List Exchange → S
       says = says_so;
     }
 
-    pub serves_quit : (health : Health) → health_at e.after ≡ health → IsQuit e.exchange.line → new.taken ≡ old.taken ++ reply_text e.exchange.reply
+    pub serves_quit : (health : Health) → health_at e.after.writer ≡ health → IsQuit e.exchange.line → new.taken ≡ old.taken ++ exchange_text e.exchange
         → Writes start.taken new.taken (ServesAll terms health start.left)
     serves_quit health ends_so is_quit text = (
       run_text run_after,
       text ∙ sym text_after,
-      closed (λ run last. (health_at last ≡ health) × AreUpToQuit (lines_of start.left) (run_lines run) × (run_text run_after ≡ run_text run)) (
+      closed (λ run last. (health_at last.writer ≡ health) × AreUpToQuit (lines_of start.left) (run_lines run) × (run_text run_after ≡ run_text run)) (
         ends_so,
         inr (record {
           before = run_lines s.run;
@@ -239,10 +241,10 @@ module _ (tells : Type 0) (first : State) (old_is_at is_at : List Exchange → S
       ),
     )
 
-    pub serves_short : ¬ IsQuit e.exchange.line → TakesFront old.taken new.taken (reply_text e.exchange.reply) → Writes start.taken new.taken (Serves terms OutputFault start.left new.left)
-    serves_short not_quit front = let written : List ℕ = run_text s.run ++ take front.0 (reply_text e.exchange.reply) in (
+    pub serves_short : ¬ IsQuit e.exchange.line → TakesFront old.taken new.taken (exchange_text e.exchange) → Writes start.taken new.taken (Serves terms OutputFault start.left new.left)
+    serves_short not_quit front = let written : List ℕ = run_text s.run ++ take front.0 (exchange_text e.exchange) in (
       written,
-      front.2 ∙ ap (λ (text : List ℕ). text ++ take front.0 (reply_text e.exchange.reply)) s.text ∙ append_assoc start.taken (run_text s.run) (take front.0 (reply_text e.exchange.reply)),
+      front.2 ∙ ap (λ (text : List ℕ). text ++ take front.0 (exchange_text e.exchange)) s.text ∙ append_assoc start.taken (run_text s.run) (take front.0 (exchange_text e.exchange)),
       inl (closed (λ run last. AreFirstOf (lines_of start.left) (run_lines run) × NoQuit (run_lines run) × LacksEnd run written) (
         (lines_of (bytes_ahead new), all_lines),
         no_quit_after not_quit,
@@ -251,10 +253,10 @@ module _ (tells : Type 0) (first : State) (old_is_at is_at : List Exchange → S
     )
 
 -- What is served when the run ends without a line, in a state that the session is still at.
-module _ (tells : Type 0) (first : State) (old_is_at is_at : List Exchange → State → Type 0) (comes_to : State → Type 0) (start old new : Progress) (s : Serving tells first old_is_at start old) (carries : Carries tells s.run s.state comes_to is_at) (arrives : comes_to s.state)
+module _ (tells : Type 0) (first : SharedState) (old_is_at is_at : List Exchange → SharedState → Type 0) (comes_to : SharedState → Type 0) (start old new : Progress) (s : Serving tells first old_is_at start old) (carries : Carries tells s.run s.state comes_to is_at) (arrives : comes_to s.state)
     (terms : Terms tells) (begins : terms.starts first) (closes : Closes is_at (terms.ends first) start.faults new.faults) (later : old.faults ≤ new.faults) where
   -- the run so far ends so
-  closed_here : (P : List Exchange → State → Type 0) → P s.run s.state → RunTo terms P
+  closed_here : (P : List Exchange → SharedState → Type 0) → P s.run s.state → RunTo terms P
   closed_here P says_so = record {
     first = first;
     begins = begins;
@@ -265,12 +267,12 @@ module _ (tells : Type 0) (first : State) (old_is_at is_at : List Exchange → S
     says = says_so;
   }
 
-  pub serves_end : (health : Health) → health_at s.state ≡ health → bytes_ahead old ≡ [] → new.taken ≡ old.taken
+  pub serves_end : (health : Health) → health_at s.state.writer ≡ health → bytes_ahead old ≡ [] → new.taken ≡ old.taken
       → Writes start.taken new.taken (ServesAll terms health start.left)
   serves_end health ends_so none same = let all = sym (append-nil (run_lines s.run)) ∙ ap (λ (bs : List ℕ). run_lines s.run ++ lines_of bs) (sym none) ∙ s.lines in (
     run_text s.run,
     same ∙ s.text,
-    closed_here (λ run last. (health_at last ≡ health) × AreUpToQuit (lines_of start.left) (run_lines run) × (run_text s.run ≡ run_text run))
+    closed_here (λ run last. (health_at last.writer ≡ health) × AreUpToQuit (lines_of start.left) (run_lines run) × (run_text s.run ≡ run_text run))
         (ends_so, inl (subst NoQuit all s.no_quit, all), refl),
   )
 
@@ -316,7 +318,7 @@ module _ (tells : Type 0) (first : State) (old_is_at is_at : List Exchange → S
         )
 
 -- What a turn that ends the run has served.
-module _ (tells : Type 0) (first : State) (old_is_at is_at : List Exchange → State → Type 0) (comes_to : State → Type 0) (start old new : Progress) (s : Serving tells first old_is_at start old) (carries : Carries tells s.run s.state comes_to is_at)
+module _ (tells : Type 0) (first : SharedState) (old_is_at is_at : List Exchange → SharedState → Type 0) (comes_to : SharedState → Type 0) (start old new : Progress) (s : Serving tells first old_is_at start old) (carries : Carries tells s.run s.state comes_to is_at)
     (terms : Terms tells) (begins : terms.starts first) (closes : Closes is_at (terms.ends first) start.faults new.faults) (later : old.faults ≤ new.faults)
     (counted : new.reader.taken + length new.left ≡ old.reader.taken + length old.left) where
   serves_all : (health : Health) → Ends tells s.state comes_to old new health

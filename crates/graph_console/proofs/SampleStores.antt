@@ -8,9 +8,14 @@ use Rattle.rec_bytes.specs.declared.shape.Shape.{Shape}
 use Rattle.record_file.specs.Records.{IsUnmade, record_at}
 use Rattle.txn_core.specs.declared.config.Config.{Config}
 use Rattle.console_words.specs.declared.sample_options.SampleOptions.{SampleOptions}
-use Rattle.graph_session.specs.Console.{IsAt, SessionView}
+use Rattle.record_file.specs.Redone.{Redoes}
+use Rattle.snap_store.specs.Snaps.{no_snapshots}
 use Rattle.graph_session.specs.Opening.{Opens}
+use Rattle.graph_session.specs.SharedConsole.{IsSharedAt}
+use Rattle.graph_session.specs.SnapshotEffects.{SharedView}
 use Rattle.graph_session.specs.State.{Live, State}
+use Rattle.graph_session.proofs.SnapshotTaking.{opens-shared}
+use Rattle.graph_console.specs.Run.{begins_with}
 use Rattle.graph_console.specs.Sample.{sample_config, sample_store}
 
 bytes_from-zeros : (file : ℕ → ℕ) → ((place : ℕ) → file place ≡ 0) → (n place : ℕ) → bytes_from file place n ≡ replicate n 0
@@ -30,10 +35,11 @@ state_is : (state : State) (threshold limit : ℕ) (graph : Graph) → state.sha
 state_is state threshold limit graph of_threshold of_limit of_graph closed live = rw (← of_threshold, ← of_limit, ← of_graph, ← closed, ← live)
 
 -- a session over a disk without a store begins with the one that a sample asks for
-pub opens_empty : {D : Type 0} (g : Ghosts D) (options : SampleOptions) (config : Config) (old : D) (new : SessionView D) → config ≡ sample_config options → g.tells_reads → IsUnmade (g.reads old) → Opens g config old new → IsAt g new (sample_store options)
-opens_empty g options config old new asked told unmade opens =
+pub opens_empty : {D : Type 0} (g : Ghosts D) (options : SampleOptions) (config : Config) (old : D) (new : SharedView D) → config ≡ sample_config options → g.tells_reads → IsUnmade (g.reads old) → Opens g config old new.session
+    → (g.tells_reads → Redoes (g.reads new.session.disk) new.session.console.committed) → new.held ≡ no_snapshots → IsSharedAt g new (sample_store options)
+opens_empty g options config old new asked told unmade opens stored none =
     let shape : Shape = record { threshold = 50; limit = options.count + 16 } in
-    let begins = (subst (λ (c : Config). Opens g c old new) asked opens).begins true (λ _. record { shape = shape; graph = empty_graph; stands = inl (unmade, refl) }) in
-    subst (λ (state : State). IsAt g new state)
+    let begins = (subst (λ (c : Config). Opens g c old new.session) asked opens).begins true (λ _. record { shape = shape; graph = empty_graph; stands = inl (unmade, refl) }) in
+    subst (λ (state : State). IsSharedAt g new (begins_with state))
     (state_is begins.0 50 (options.count + 16) empty_graph begins.1.suits.0 begins.1.suits.1 (begins.1.same told shape empty_graph (inl (unmade, refl))) begins.1.closed begins.1.live)
-    begins.2
+    (opens-shared g new begins.0 begins.2 stored begins.1.closed none)

@@ -5,13 +5,14 @@ use Rattle.std.specs.List.{AllByRecursion}
 use Rattle.disk_model.specs.declared.disk.Disk.{Ghosts as DiskGhosts}
 use Rattle.stream_io.specs.Lines.{InputLine, Whole}
 use Rattle.stream_io.specs.Streams.{TakesFront}
-use Rattle.plain_graph.specs.Reply.{NoMemory as WantOfMemory, fault_line, reply_text}
+use Rattle.plain_graph.specs.Reply.{NoMemory as WantOfMemory, fault_line}
 use Rattle.console_words.specs.declared.sample_options.SampleOptions.{SampleOptions}
-use Rattle.graph_session.specs.Console.{IsAt, SessionView}
 use Rattle.graph_session.specs.Exchange.{Exchange}
-use Rattle.graph_session.specs.State.{State}
+use Rattle.graph_session.specs.SharedConsole.{IsSharedAt}
+use Rattle.graph_session.specs.SnapshotEffects.{SharedView}
+use Rattle.graph_session.specs.Snapshots.{SharedState}
 use Rattle.graph_console.specs.Program.{Writes}
-use Rattle.graph_console.specs.Run.{Run, run_text}
+use Rattle.graph_console.specs.Run.{Run, exchange_text, run_text}
 use Rattle.graph_console.specs.Sample.{Adds, EndsSample, LacksMemory, SampleState, Samples, TakesTurn, TakesTurns, last_lines, sample_store, sample_start, tells_failure, turn}
 use Rattle.graph_console.specs.Sampling.{AnswersWell, Asks, SampledTo, TookTurns}
 use Rattle.graph_console.specs.declared.exit.Exit.{Exit}
@@ -24,7 +25,7 @@ turns_on first middle last [] x turns one = (last, subst (λ (s : SampleState). 
 turns_on first middle last (y ∷ run) x turns one = (turns.0, turns.1, turns_on turns.0 middle last run x turns.2 one)
 
 -- no turn was taken
-pub no_turns : {D : Type 0} (disk : DiskGhosts D) (options : SampleOptions) (now : SessionView D) → IsAt disk now (sample_store options) → TookTurns disk options 0 (sample_start options.seed) now
+pub no_turns : {D : Type 0} (disk : DiskGhosts D) (options : SampleOptions) (now : SharedView D) → IsSharedAt disk now (sample_store options) → TookTurns disk options 0 (sample_start options.seed) now
 no_turns disk options now is_at = record {
   run = [];
   last = sample_store options;
@@ -35,8 +36,8 @@ no_turns disk options now is_at = record {
 }
 
 -- a turn was taken, whose line was answered well
-pub turn_more : {D : Type 0} (disk : DiskGhosts D) (options : SampleOptions) (turns : ℕ) (sample next : SampleState) (old new : SessionView D) (text : List ℕ) → TookTurns disk options turns sample old
-    → ((state : State) → IsAt disk old state → AnswersWell disk (turn sample).line text state new) → Adds text (turn sample).after next → TookTurns disk options (turns + 1) next new
+pub turn_more : {D : Type 0} (disk : DiskGhosts D) (options : SampleOptions) (turns : ℕ) (sample next : SampleState) (old new : SharedView D) (text : List ℕ) → TookTurns disk options turns sample old
+    → ((state : SharedState) → IsSharedAt disk old state → AnswersWell disk (turn sample).line text state new) → Adds text (turn sample).after next → TookTurns disk options (turns + 1) next new
 turn_more disk options turns sample next old new text took answers adds =
     let a : AnswersWell disk (turn sample).line text took.last new = answers took.last took.is_at in
     let one : TakesTurn sample a.exchange next = record {
@@ -86,7 +87,7 @@ split_front text bytes n = ap (λ (bs : List ℕ). text ++ bs) (sym (take-append
 
 module _ {D : Type 0} {disk : DiskGhosts D} {options : SampleOptions} where
   -- all turns were taken, and nothing was asked
-  pub sampled_first : (sample : SampleState) (now : SessionView D) → TookTurns disk options options.count sample now → SampledTo disk options [] now []
+  pub sampled_first : (sample : SampleState) (now : SharedView D) → TookTurns disk options options.count sample now → SampledTo disk options [] now []
   sampled_first sample now took = record {
     answered = [];
     last = took.last;
@@ -102,7 +103,7 @@ module _ {D : Type 0} {disk : DiskGhosts D} {options : SampleOptions} where
   }
 
   -- one line more was answered well
-  pub sampled_on : (asked : List (List ℕ)) (line reply text : List ℕ) (old new : SessionView D) (s : SampledTo disk options asked old text) → AnswersWell disk line reply s.last new
+  pub sampled_on : (asked : List (List ℕ)) (line reply text : List ℕ) (old new : SharedView D) (s : SampledTo disk options asked old text) → AnswersWell disk line reply s.last new
       → SampledTo disk options (asked ++ line ∷ []) new (text ++ reply)
   sampled_on asked line reply text old new s a = record {
     answered = s.answered ++ a.exchange ∷ [];
@@ -118,7 +119,7 @@ module _ {D : Type 0} {disk : DiskGhosts D} {options : SampleOptions} where
           ∙ ap (λ (lines : List InputLine). lines ++ a.exchange.line ∷ []) s.run.lines
           ∙ ap (λ (l : InputLine). map Whole asked ++ l ∷ []) a.line_is
           ∙ sym (map_push Whole asked line);
-      well = all_on (λ x. tells_failure (reply_text x.reply) ≡ false) s.answered a.exchange s.run.well (subst (λ (t : List ℕ). tells_failure t ≡ false) (sym a.text_is) a.well);
+      well = all_on (λ x. tells_failure (exchange_text x) ≡ false) s.answered a.exchange s.run.well (subst (λ (t : List ℕ). tells_failure t ≡ false) (sym a.text_is) a.well);
     };
     is_at = a.is_at;
     text_is =
@@ -128,11 +129,11 @@ module _ {D : Type 0} {disk : DiskGhosts D} {options : SampleOptions} where
   }
 
   -- all last lines were asked
-  pub ends_sample : (now : SessionView D) (text : List ℕ) → SampledTo disk options last_lines now text → EndsSample disk.tells_reads options text
+  pub ends_sample : (now : SharedView D) (text : List ℕ) → SampledTo disk options last_lines now text → EndsSample disk.tells_reads options text
   ends_sample now text s = record { answered = s.answered; last = s.last; run = s.run; text = s.text_is }
 
   -- another line is to be asked, and memory lacks
-  lacks_next : (asked : List (List ℕ)) (line : List ℕ) (later : List (List ℕ)) (now : SessionView D) (text : List ℕ) → last_lines ≡ asked ++ line ∷ later → SampledTo disk options asked now text
+  lacks_next : (asked : List (List ℕ)) (line : List ℕ) (later : List (List ℕ)) (now : SharedView D) (text : List ℕ) → last_lines ≡ asked ++ line ∷ later → SampledTo disk options asked now text
       → LacksMemory disk.tells_reads options (text ++ fault_line WantOfMemory)
   lacks_next asked line later now text all s = record {
     turns = options.count;
@@ -145,14 +146,14 @@ module _ {D : Type 0} {disk : DiskGhosts D} {options : SampleOptions} where
   }
 
   -- what was written so far is a prefix of what a sample ends with
-  begins_ending : (asked later : List (List ℕ)) (now : SessionView D) (text : List ℕ) → last_lines ≡ asked ++ later → SampledTo disk options asked now text
+  begins_ending : (asked later : List (List ℕ)) (now : SharedView D) (text : List ℕ) → last_lines ≡ asked ++ later → SampledTo disk options asked now text
       → (whole : List ℕ) × Ending disk.tells_reads options whole × (rest : List ℕ) × (whole ≡ text ++ rest)
   begins_ending asked [] now text all s =
       (text, inl (ends_sample now text (subst (λ (lines : List (List ℕ)). SampledTo disk options lines now text) (sym (all ∙ append-nil asked)) s)), [], sym (append-nil text))
   begins_ending asked (line ∷ later) now text all s = (text ++ fault_line WantOfMemory, inr (lacks_next asked line later now text all s), fault_line WantOfMemory, refl)
 
   -- the sample ends in this line
-  pub ends_in_line : (asked : List (List ℕ)) (line : List ℕ) (later : List (List ℕ)) (old new : SessionView D) (text : List ℕ) (first old_taken new_taken : List ℕ) (exit : Exit) → last_lines ≡ asked ++ line ∷ later
+  pub ends_in_line : (asked : List (List ℕ)) (line : List ℕ) (later : List (List ℕ)) (old new : SharedView D) (text : List ℕ) (first old_taken new_taken : List ℕ) (exit : Exit) → last_lines ≡ asked ++ line ∷ later
       → (s : SampledTo disk options asked old text) → old_taken ≡ first ++ text → Asks disk line s.last new old_taken new_taken (Some exit) → Writes first new_taken (Samples disk.tells_reads options exit)
   ends_in_line asked line later old new text first old_taken new_taken exit all s taken (inl lacks) = let written : List ℕ = text ++ fault_line WantOfMemory in (
     written,

@@ -6,4 +6,5 @@ pub mod Run
 pub mod Sample
 pub mod Sampling
 pub mod Serve
+pub mod TakenSnapshots
 pub mod Unopened

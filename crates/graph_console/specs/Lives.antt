@@ -7,10 +7,11 @@ use Rattle.rec_bytes.specs.declared.shape.Shape.{Shape}
 use Rattle.console_words.specs.declared.run_options.RunOptions.{RunOptions}
 use Rattle.graph_session.specs.Exchange.{Exchange}
 use Rattle.txn_core.specs.declared.open_fault.OpenFault.{OpenFault}
-use Rattle.graph_session.specs.Opening.{IsUnopened, StartsAs}
+use Rattle.graph_session.specs.Opening.{IsUnopened}
+use Rattle.graph_session.specs.Snapshots.{SharedState}
 use Rattle.graph_session.specs.Stands.{Stands}
-use Rattle.graph_session.specs.State.{Admits, State}
-use Rattle.graph_console.specs.Program.{EndsAs, config_for}
+use Rattle.graph_session.specs.State.{Admits}
+use Rattle.graph_console.specs.Program.{EndsAs, StartsRun, config_for}
 use Rattle.graph_console.specs.Run.{ComesBy, Run}
 
 -- a disk, and the moment at which the last run of the program began
@@ -22,8 +23,8 @@ pub record World (D : Type 0) : Type 0 where
 -- ends as the store is not opened; or it is stopped, between two runs or inside the last one, and
 -- another disk has what that left.
 pub data Event (D : Type 0) : Type 0 where
-  Runs : (options : RunOptions) (first : State) (run : List Exchange) (last : State) (now : D)
-      → Event D
+  Runs : (options : RunOptions) (first : SharedState) (run : List Exchange) (last : SharedState)
+      → (now : D) → Event D
   Refuses : (options : RunOptions) (why : OpenFault) (now : D) → Event D
   Stops : (now : D) → Event D
   Stops_inside : (now : D) → Event D
@@ -39,7 +40,7 @@ module _ {D : Type 0} (g : Ghosts D) where
   -- The event may happen then. What a run says is what the program says of it.
   abbrev pub May : Event D → World D → Type 0
   May (Runs options first run last now) w =
-      StartsAs g w.disk (config_for options) first × Run g.tells_reads first run last
+      StartsRun g w.disk (config_for options) first × Run g.tells_reads first run last
       × EndsAs g w.disk now first run last
   May (Refuses options why now) w = IsUnopened g (config_for options) w.disk now why
   May (Stops now) w = (image : Files) → g.may_leave now image → g.may_leave w.disk image
@@ -53,11 +54,12 @@ module _ {D : Type 0} (g : Ghosts D) where
   abbrev pub MayHave : Bool → Graph → List (Event D) → Graph → Type 0
   MayHave inside start [] graph = graph ≡ start
   MayHave false start (Runs options first run last now ∷ earlier) graph =
-      MayHave false start earlier first.committed × Admits last graph
+      MayHave false start earlier first.writer.committed × Admits last.writer graph
   MayHave true start (Runs options first run last now ∷ earlier) graph =
       MayHave false start earlier graph
-      ⊎ (MayHave false start earlier first.committed
-      × (state : State) × ComesBy g.tells_reads first run last state × Admits state graph)
+      ⊎ (MayHave false start earlier first.writer.committed
+      × (state : SharedState) × ComesBy g.tells_reads first run last state
+      × Admits state.writer graph)
   MayHave inside start (Refuses options why now ∷ earlier) graph = MayHave false start earlier graph
   MayHave inside start (Stops now ∷ earlier) graph = MayHave false start earlier graph
   MayHave inside start (Stops_inside now ∷ earlier) graph = MayHave true start earlier graph

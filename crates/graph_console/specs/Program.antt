@@ -18,13 +18,14 @@ use Rattle.txn_core.specs.declared.open_fault.OpenFault.{OpenFault}
 use Rattle.graph_session.specs.Console.{TellsAll}
 use Rattle.graph_session.specs.Exchange.{Exchange}
 use Rattle.graph_session.specs.Opening.{IsUnopened, StandsForOne, StartsAs}
+use Rattle.graph_session.specs.Snapshots.{SharedState}
 use Rattle.graph_session.specs.Stands.{AreAdmitted}
-use Rattle.graph_session.specs.State.{State, health_at}
+use Rattle.graph_session.specs.State.{health_at}
 use Rattle.graph_session.specs.declared.health.Health.{Health}
 use Rattle.graph_session.specs.declared.health.Health.TheVariants.{Live, Failed}
 use Rattle.graph_console.specs.Unopened.{EndsUnopened, FailsUnopened}
 use Rattle.graph_console.specs.Run.{CountsRises, IsAdmittedInRun, Run, run_lines, run_text, NoQuit}
-use Rattle.graph_console.specs.Run.{AreUpToQuit, AreFirstOf, LacksEnd}
+use Rattle.graph_console.specs.Run.{AreUpToQuit, AreFirstOf, LacksEnd, no_readers}
 use Rattle.graph_console.specs.declared.exit.Exit.{Exit}
 use Rattle.graph_console.specs.declared.exit.Exit.TheVariants.{Done, StoreFailed, Usage, InputFault}
 use Rattle.graph_console.specs.declared.exit.Exit.TheVariants.{OutputFault, NoMemory, BadFiles}
@@ -57,20 +58,20 @@ pub record ServesEnded (input left : List ℕ) (run : List Exchange) : Type 0 wh
   pub lines : run_lines run ≡ ended_lines taken
   pub no_quit : NoQuit (run_lines run)
 
--- The terms of a run over a disk that may tell what it reads: the states that it may start with,
--- what holds of it at its end, and the reasons why there is none.
+-- The terms of a run over a disk that may tell what it reads: the states of all sessions that it
+-- may start with, what holds of it at its end, and the reasons why there is none.
 pub record Terms (tells : Type 0) : Type 1 where
-  pub starts : State → Type 0
-  pub ends : State → List Exchange → State → Type 0
+  pub starts : SharedState → Type 0
+  pub ends : SharedState → List Exchange → SharedState → Type 0
   pub unopened : OpenFault → Type 0
 
 -- A run on these terms, with more that holds of it.
 pub record RunTo {tells : Type 0} (terms : Terms tells)
-    (P : List Exchange → State → Type 0) : Type 0 where
-  pub first : State
+    (P : List Exchange → SharedState → Type 0) : Type 0 where
+  pub first : SharedState
   pub begins : terms.starts first
   pub run : List Exchange
-  pub last : State
+  pub last : SharedState
   pub steps : Run tells first run last
   pub arrives : terms.ends first run last
   pub says : P run last
@@ -80,7 +81,7 @@ pub record RunTo {tells : Type 0} (terms : Terms tells)
 abbrev pub ServesAll : {tells : Type 0} → Terms tells → Health → List ℕ → List ℕ → Type 0
 ServesAll terms health input written =
     RunTo terms (λ run last.
-    (health_at last ≡ health) × AreUpToQuit (lines_of input) (run_lines run)
+    (health_at last.writer ≡ health) × AreUpToQuit (lines_of input) (run_lines run)
     × (written ≡ run_text run))
 
 -- What was written by a program that was asked to run, with what it had read: input is what the
@@ -109,8 +110,8 @@ Serves terms Usage input left written = ⊥
 -- before, or one that is admitted before or after a line of the run. Both are said where the disk
 -- tells it. And the faults that were told were counted.
 pub record EndsAs {D : Type 0} (disk : DiskGhosts D) (old new : D)
-    (first : State) (run : List Exchange) (last : State) : Type 0 where
-  pub durable : TellsAll disk → AreAdmitted last (disk.may_leave new)
+    (first : SharedState) (run : List Exchange) (last : SharedState) : Type 0 where
+  pub durable : TellsAll disk → AreAdmitted last.writer (disk.may_leave new)
   pub crash :
       TellsAll disk
       → AtEachMoment disk old new (λ content.
@@ -118,7 +119,8 @@ pub record EndsAs {D : Type 0} (disk : DiskGhosts D) (old new : D)
   pub counts : CountsRises (disk.faults old) (disk.faults new) run
 
 -- the terms of a run from this state, in a store that is open
-abbrev pub terms_from : {D : Type 0} (disk : DiskGhosts D) → State → D → D → Terms disk.tells_reads
+abbrev pub terms_from : {D : Type 0} (disk : DiskGhosts D) → SharedState → D → D
+    → Terms disk.tells_reads
 terms_from disk first old new =
     record {
       starts = λ state. state ≡ first;
@@ -126,11 +128,18 @@ terms_from disk first old new =
       unopened = λ why. ⊥;
     }
 
+-- A run of the program starts as a session over this disk does, and no session that reads has a
+-- snapshot.
+pub record StartsRun {D : Type 0} (disk : DiskGhosts D) (now : D) (config : Config)
+    (state : SharedState) : Type 0 where
+  pub writer : StartsAs disk now config state.writer
+  pub readers : state.readers ≡ no_readers
+
 -- the terms of a run over this disk, for these options
 abbrev pub terms_for : {D : Type 0} (disk : DiskGhosts D) → RunOptions → D → D
     → Terms disk.tells_reads
 terms_for disk options old new = record {
-  starts = StartsAs disk old (config_for options);
+  starts = StartsRun disk old (config_for options);
   ends = EndsAs disk old new;
   unopened = IsUnopened disk (config_for options) old new;
 }

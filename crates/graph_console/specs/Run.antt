@@ -4,22 +4,32 @@ use Rattle.std.specs.Prelude.{length, take}
 use Rattle.std.specs.List.{AllByRecursion}
 use Rattle.disk_model.specs.Contents.{Files}
 use Rattle.stream_io.specs.Lines.{InputLine}
-use Rattle.plain_graph.specs.Reply.{reply_text}
-use Rattle.graph_session.specs.Exchange.{Exchange, TakesStep, told_fault}
+use Rattle.plain_graph.specs.Reply.{marked_text}
+use Rattle.graph_session.specs.Exchange.{Exchange, told_fault}
+use Rattle.graph_session.specs.SharedExchange.{TakesSharedStep}
+use Rattle.graph_session.specs.Snapshots.{Readers, SharedState}
 use Rattle.graph_session.specs.Stands.{IsAdmitted}
-use Rattle.graph_session.specs.State.{State, IsQuit}
+use Rattle.graph_session.specs.State.{State, IsQuit, mark_in}
 
--- one step for each exchange, from the first state to the last; what a step does is said where the
--- disk tells what it reads
-abbrev pub Run : Type 0 → State → List Exchange → State → Type 0
+-- no session that reads has a snapshot, nor one that has ended
+abbrev pub no_readers : Readers
+no_readers = record { open_ones = []; ended = [] }
+
+-- all sessions as a run begins: the one that writes is at this state, and the others have nothing
+abbrev pub begins_with : State → SharedState
+begins_with writer = record { writer = writer; readers = no_readers }
+
+-- one step for each exchange, of whichever session, from the first state of all sessions to the
+-- last; what a step does is said where the disk tells what it reads
+abbrev pub Run : Type 0 → SharedState → List Exchange → SharedState → Type 0
 Run tells first [] last = last ≡ first
 Run tells first (exchange ∷ later) last =
-    (next : State) × TakesStep tells first exchange next × Run tells next later last
+    (next : SharedState) × TakesSharedStep tells first exchange next × Run tells next later last
 
 -- The run comes by this state. Its exchanges up to some place lead to it, and the others lead from
 -- it to the last.
-pub record ComesBy (tells : Type 0) (first : State) (run : List Exchange) (last state : State)
-    : Type 0 where
+pub record ComesBy (tells : Type 0) (first : SharedState) (run : List Exchange)
+    (last state : SharedState) : Type 0 where
   pub before : List Exchange
   pub later : List Exchange
   pub run_is : run ≡ before ++ later
@@ -27,15 +37,20 @@ pub record ComesBy (tells : Type 0) (first : State) (run : List Exchange) (last 
   pub goes_on : Run tells state later last
 
 -- the content stands for a graph that is admitted before or after a line of the run
-abbrev pub IsAdmittedInRun : Type 0 → State → List Exchange → State → Files → Type 0
+abbrev pub IsAdmittedInRun :
+    Type 0 → SharedState → List Exchange → SharedState → Files → Type 0
 IsAdmittedInRun tells first run last content =
-    (state : State) × ComesBy tells first run last state × IsAdmitted state content
+    (state : SharedState) × ComesBy tells first run last state × IsAdmitted state.writer content
 
 abbrev pub run_lines : List Exchange → List InputLine
 run_lines run = map (λ exchange. exchange.line) run
 
+-- the bytes of the reply, each of whose lines begins with the mark of the line's session
+abbrev pub exchange_text : Exchange → List ℕ
+exchange_text exchange = marked_text (mark_in exchange.line) exchange.reply
+
 abbrev pub run_text : List Exchange → List ℕ
-run_text run = flat_map (λ exchange. reply_text exchange.reply) run
+run_text run = flat_map (λ exchange. exchange_text exchange) run
 
 -- how many replies say that the disk failed
 abbrev pub told_faults : List Exchange → ℕ
@@ -74,5 +89,5 @@ pub record LacksEnd (run : List Exchange) (text : List ℕ) : Type 0 where
   pub last : Exchange
   pub length_of_prefix : ℕ
   pub run_is : run ≡ before ++ last ∷ []
-  pub short : length_of_prefix ≤ length (reply_text last.reply)
-  pub text_is : text ≡ run_text before ++ take length_of_prefix (reply_text last.reply)
+  pub short : length_of_prefix ≤ length (exchange_text last)
+  pub text_is : text ≡ run_text before ++ take length_of_prefix (exchange_text last)

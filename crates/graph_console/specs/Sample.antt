@@ -11,8 +11,9 @@ use Rattle.plain_graph.specs.Reply.{NoMemory as WantOfMemory}
 use Rattle.console_words.specs.declared.sample_options.SampleOptions.{SampleOptions}
 use Rattle.txn_core.specs.declared.config.Config.{Config}
 use Rattle.graph_session.specs.Exchange.{Exchange}
-use Rattle.graph_session.specs.State.{Live, State}
-use Rattle.graph_console.specs.Run.{Run, run_lines, run_text}
+use Rattle.graph_session.specs.Snapshots.{SharedState}
+use Rattle.graph_session.specs.State.{Live}
+use Rattle.graph_console.specs.Run.{Run, begins_with, exchange_text, run_lines, run_text}
 use Rattle.graph_console.specs.declared.exit.Exit.{Exit}
 use Rattle.graph_console.specs.declared.exit.Exit.TheVariants as exits
 
@@ -123,8 +124,8 @@ tells_failure text =
 -- A turn of the sample: the exchange has its line, and the reply leads to the next state.
 pub record TakesTurn (old : SampleState) (x : Exchange) (new : SampleState) : Type 0 where
   pub line : x.line ≡ Whole (turn old).line
-  pub well : tells_failure (reply_text x.reply) ≡ false
-  pub adds : Adds (reply_text x.reply) (turn old).after new
+  pub well : tells_failure (exchange_text x) ≡ false
+  pub adds : Adds (exchange_text x) (turn old).after new
 
 -- one turn for each exchange, from the first state to the last
 abbrev pub TakesTurns : SampleState → List Exchange → SampleState → Type 0
@@ -148,29 +149,30 @@ last_lines =
 abbrev pub sample_config : SampleOptions → Config
 sample_config options = record { threshold = Some 50; limit = Some (options.count + 16) }
 
--- the state of a console on that store, which is empty
-abbrev pub sample_store : SampleOptions → State
-sample_store options = record {
-  shape = record { threshold = 50; limit = options.count + 16 };
-  committed = empty_graph;
-  open_one = None;
-  standing = Live;
-}
+-- the state of all sessions of a console on that store, which is empty
+abbrev pub sample_store : SampleOptions → SharedState
+sample_store options =
+    begins_with (record {
+      shape = record { threshold = 50; limit = options.count + 16 };
+      committed = empty_graph;
+      open_one = None;
+      standing = Live;
+    })
 
 -- A run of the console from that store: so many turns, and then these lines, which were answered
 -- so.
 pub record SampleRun (tells : Type 0) (options : SampleOptions) (turns : ℕ)
-    (asked : List (List ℕ)) (answered : List Exchange) (last : State) : Type 0 where
+    (asked : List (List ℕ)) (answered : List Exchange) (last : SharedState) : Type 0 where
   pub made : List Exchange
   pub steps : Run tells (sample_store options) (made ++ answered) last
   pub generated : SampleLines options.seed turns made
   pub lines : run_lines answered ≡ map Whole asked
-  pub well : AllByRecursion (λ x. tells_failure (reply_text x.reply) ≡ false) answered
+  pub well : AllByRecursion (λ x. tells_failure (exchange_text x) ≡ false) answered
 
 -- All turns were taken and all last lines answered, and these are the replies to the latter.
 pub record EndsSample (tells : Type 0) (options : SampleOptions) (written : List ℕ) : Type 0 where
   pub answered : List Exchange
-  pub last : State
+  pub last : SharedState
   pub run : SampleRun tells options options.count last_lines answered last
   pub text : written ≡ run_text answered
 
@@ -188,7 +190,7 @@ pub record LacksMemory (tells : Type 0) (options : SampleOptions) (written : Lis
   pub asked : List (List ℕ)
   pub short : ComesShort options.count turns asked
   pub answered : List Exchange
-  pub last : State
+  pub last : SharedState
   pub run : SampleRun tells options turns asked answered last
   pub text : written ≡ run_text answered ++ fault_line WantOfMemory
 

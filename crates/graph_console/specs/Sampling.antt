@@ -6,10 +6,12 @@ use Rattle.stream_io.specs.Streams.{TakesFront}
 use Rattle.plain_graph.specs.Reply.{EdgeMade, NoMemory as WantOfMemory, NodeMade, fault_line}
 use Rattle.plain_graph.specs.Reply.{reply_text}
 use Rattle.console_words.specs.declared.sample_options.SampleOptions.{SampleOptions}
-use Rattle.graph_session.specs.Console.{IsAt, SessionView}
-use Rattle.graph_session.specs.Exchange.{Exchange, TakesStep}
-use Rattle.graph_session.specs.State.{State}
-use Rattle.graph_console.specs.Run.{Run, run_text}
+use Rattle.graph_session.specs.Exchange.{Exchange}
+use Rattle.graph_session.specs.SharedConsole.{IsSharedAt}
+use Rattle.graph_session.specs.SharedExchange.{TakesSharedStep}
+use Rattle.graph_session.specs.SnapshotEffects.{SharedView}
+use Rattle.graph_session.specs.Snapshots.{SharedState}
+use Rattle.graph_console.specs.Run.{Run, exchange_text, run_text}
 use Rattle.graph_console.specs.Sample.{GivesNone, SampleRun, SampleState, TakesTurns, sample_store}
 use Rattle.graph_console.specs.Sample.{sample_start, tells_failure}
 use Rattle.graph_console.specs.declared.exit.Exit.{Exit}
@@ -25,40 +27,40 @@ Tells text made.Nothing = GivesNone text
 
 -- The line was answered with this text, which tells no failure, and the session is at the state
 -- that it leads to.
-pub record AnswersWell {D : Type 0} (disk : DiskGhosts D) (line text : List ℕ) (before : State)
-    (new : SessionView D) : Type 0 where
+pub record AnswersWell {D : Type 0} (disk : DiskGhosts D) (line text : List ℕ)
+    (before : SharedState) (new : SharedView D) : Type 0 where
   pub exchange : Exchange
-  pub after : State
+  pub after : SharedState
   pub line_is : exchange.line ≡ Whole line
-  pub text_is : reply_text exchange.reply ≡ text
-  pub step : TakesStep disk.tells_reads before exchange after
-  pub is_at : IsAt disk new after
+  pub text_is : exchange_text exchange ≡ text
+  pub step : TakesSharedStep disk.tells_reads before exchange after
+  pub is_at : IsSharedAt disk new after
   pub well : tells_failure text ≡ false
 
 -- the session has come through so many turns from the seed, to this state of the sample
 pub record TookTurns {D : Type 0} (disk : DiskGhosts D) (options : SampleOptions) (turns : ℕ)
-    (sample : SampleState) (now : SessionView D) : Type 0 where
+    (sample : SampleState) (now : SharedView D) : Type 0 where
   pub run : List Exchange
-  pub last : State
+  pub last : SharedState
   pub steps : Run disk.tells_reads (sample_store options) run last
-  pub is_at : IsAt disk now last
+  pub is_at : IsSharedAt disk now last
   pub turned : TakesTurns (sample_start options.seed) run sample
   pub many : length run ≡ turns
 
 -- The session is at the end of a sample that asked these lines after its turns, and whose replies
 -- to them are the text.
 pub record SampledTo {D : Type 0} (disk : DiskGhosts D) (options : SampleOptions)
-    (asked : List (List ℕ)) (now : SessionView D) (text : List ℕ) : Type 0 where
+    (asked : List (List ℕ)) (now : SharedView D) (text : List ℕ) : Type 0 where
   pub answered : List Exchange
-  pub last : State
+  pub last : SharedState
   pub run : SampleRun disk.tells_reads options options.count asked answered last
-  pub is_at : IsAt disk now last
+  pub is_at : IsSharedAt disk now last
   pub text_is : text ≡ run_text answered
 
 -- The line was answered and the reply written; or the sample ends: for want of memory, which a line
 -- told, or since the sink failed in that line or in the reply.
-abbrev pub Asks : {D : Type 0} → DiskGhosts D → List ℕ → State → SessionView D → List ℕ → List ℕ
-    → Option Exit → Type 0
+abbrev pub Asks : {D : Type 0} → DiskGhosts D → List ℕ → SharedState → SharedView D → List ℕ
+    → List ℕ → Option Exit → Type 0
 Asks disk line before new old_taken new_taken None =
     (text : List ℕ) × AnswersWell disk line text before new × (new_taken ≡ old_taken ++ text)
 Asks disk line before new old_taken new_taken (Some exit) =

@@ -7,17 +7,20 @@ use Rattle.stream_io.specs.Reading.{Reading, ahead}
 use Rattle.stream_io.specs.Streams.{TakesFront}
 use Rattle.stream_io.specs.declared.streams.Sink.{Ghosts as SinkGhosts}
 use Rattle.stream_io.specs.declared.streams.Source.{Ghosts as SourceGhosts}
-use Rattle.plain_graph.specs.Reply.{reply_text}
-use Rattle.graph_session.specs.Console.{IsAt, SessionView}
-use Rattle.graph_session.specs.Exchange.{Exchange, TakesStep}
+use Rattle.graph_session.specs.Exchange.{Exchange}
 use Rattle.graph_session.specs.Known.{as_known}
-use Rattle.graph_session.specs.Moments.{ComesTo}
-use Rattle.graph_session.specs.State.{State, IsQuit, health_at}
+use Rattle.graph_session.specs.SharedAnswer.{SharedComesTo}
+use Rattle.graph_session.specs.SharedConsole.{IsSharedAt}
+use Rattle.graph_session.specs.SharedExchange.{TakesSharedStep}
+use Rattle.graph_session.specs.SnapshotEffects.{SharedView}
+use Rattle.graph_session.specs.Snapshots.{SharedState}
+use Rattle.graph_session.specs.State.{IsQuit, health_at}
 use Rattle.graph_session.specs.declared.health.Health.{Health}
 use Rattle.graph_session.specs.declared.health.Health.TheVariants.{Live, Failed}
 use Rattle.graph_session.specs.declared.turn.Turn.{Turn}
 use Rattle.graph_session.specs.declared.turn.Turn.TheVariants.{Go, Quit, SinkFault}
 use Rattle.graph_console.specs.Program.{Streams, streams}
+use Rattle.graph_console.specs.Run.{exchange_text}
 use Rattle.graph_console.specs.Unopened.{IsUnopenedExit}
 use Rattle.graph_console.specs.declared.exit.Exit.{Exit}
 use Rattle.graph_console.specs.declared.exit.Exit.TheVariants.{Done, StoreFailed, Usage, InputFault}
@@ -56,9 +59,9 @@ bytes_ahead now = ahead now.reader now.left
 pub record Loop (S K D : Type 0) : Type 0 where
   pub reader : Reading
   pub streams : Streams S K
-  pub session : SessionView D
+  pub session : SharedView D
 
-abbrev pub loop : {S K D : Type 0} → Reading → S → K → SessionView D → Loop S K D
+abbrev pub loop : {S K D : Type 0} → Reading → S → K → SharedView D → Loop S K D
 loop reader input output session =
     record { reader = reader; streams = streams input output; session = session }
 
@@ -69,18 +72,19 @@ module _ {S K D : Type 0}
     reader = now.reader;
     left = source.left now.streams.input;
     taken = sink.taken now.streams.output;
-    faults = disk.faults now.session.disk;
+    faults = disk.faults now.session.session.disk;
   }
 
--- A turn from a state, to one that the session comes to.
-module _ (tells : Type 0) (before : State) (comes_to : State → Type 0) (old new : Progress) where
-  -- A line was read, and the console made one step. More is said of the state that it leads to and
+-- A turn from a state of all sessions, to one that the session comes to.
+module _ (tells : Type 0) (before : SharedState) (comes_to : SharedState → Type 0)
+    (old new : Progress) where
+  -- A line was read, and its session made one step. More is said of the state that it leads to and
   -- of the exchange.
-  pub record Exchanges (says : State → Exchange → Type 0) : Type 0 where
+  pub record Exchanges (says : SharedState → Exchange → Type 0) : Type 0 where
     pub exchange : Exchange
-    pub after : State
+    pub after : SharedState
     pub takes : TakesLine exchange.line (bytes_ahead old) (bytes_ahead new) new.reader.ended
-    pub step : TakesStep tells before exchange after
+    pub step : TakesSharedStep tells before exchange after
     pub counted : exchange.disk_failed ≡ true → Rose old.faults new.faults
     pub arrives : comes_to after
     pub more : says after exchange
@@ -95,19 +99,20 @@ module _ (tells : Type 0) (before : State) (comes_to : State → Type 0) (old ne
   -- The run has come to the end of the input or to quit, in this health.
   abbrev pub Ends : Health → Type 0
   Ends health =
-      ((bytes_ahead old ≡ []) × (health_at before ≡ health) × comes_to before
+      ((bytes_ahead old ≡ []) × (health_at before.writer ≡ health) × comes_to before
       × (new.taken ≡ old.taken))
       ⊎ Exchanges (λ after x.
-      IsQuit x.line × (health_at after ≡ health) × (new.taken ≡ old.taken ++ reply_text x.reply))
+      IsQuit x.line × (health_at after.writer ≡ health)
+      × (new.taken ≡ old.taken ++ exchange_text x))
 
   -- The turn, and how the program ends with it if it does.
   abbrev pub TurnSays : Option Exit → Type 0
   TurnSays None =
-      Exchanges (λ after x. (¬ IsQuit x.line) × (new.taken ≡ old.taken ++ reply_text x.reply))
+      Exchanges (λ after x. (¬ IsQuit x.line) × (new.taken ≡ old.taken ++ exchange_text x))
   TurnSays (Some Done) = Ends Live
   TurnSays (Some StoreFailed) = Ends Failed
   TurnSays (Some OutputFault) =
-      Exchanges (λ after x. (¬ IsQuit x.line) × TakesFront old.taken new.taken (reply_text x.reply))
+      Exchanges (λ after x. (¬ IsQuit x.line) × TakesFront old.taken new.taken (exchange_text x))
   TurnSays (Some InputFault) = Breaks
   TurnSays (Some InputTooLong) = Breaks × (new.reader.taken ≡ 2 ^ 30)
   TurnSays (Some Usage) = ⊥
@@ -121,8 +126,8 @@ module _ {S K D : Type 0}
     (source : SourceGhosts S) (sink : SinkGhosts K) (disk : DiskGhosts D) where
   abbrev pub Turns : Option Exit → Loop S K D → Loop S K D → Type 0
   Turns exit old new =
-      (known : Bool) (state : State) → IsAt (as_known known disk) old.session state
+      (known : Bool) (state : SharedState) → IsSharedAt (as_known known disk) old.session state
       → source.tells → sink.tells
       → TurnSays (as_known known disk).tells_reads state
-      (ComesTo (as_known known disk) old.session new.session state)
+      (SharedComesTo (as_known known disk) old.session new.session state)
       (progress source sink disk old) (progress source sink disk new) exit

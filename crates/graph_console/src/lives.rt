@@ -4,12 +4,14 @@ ghost use Rattle.plain_graph.specs.Graph.{Graph};
 ghost use Rattle.rec_bytes.specs.declared.shape.Shape.{Shape as AShape};
 ghost use Rattle.console_words.specs.declared.run_options.RunOptions.{RunOptions};
 ghost use Rattle.graph_session.specs.Exchange.{Exchange};
+ghost use Rattle.graph_session.specs.Snapshots.{Sees, SharedState};
 ghost use Rattle.graph_session.specs.Stands.{Stands};
-ghost use Rattle.graph_session.specs.State.{Live, State};
+ghost use Rattle.graph_session.specs.State.{Live};
 ghost use Rattle.graph_console.specs.History.{Transactions, last_graph};
 ghost use Rattle.graph_console.specs.Lives.{Event, Happen, IsKept, Leads, World, start_of};
 ghost use Rattle.graph_console.specs.Program.{Serves, terms_for};
-ghost use Rattle.graph_console.specs.Run.{Run};
+ghost use Rattle.graph_console.specs.Run.{Run, no_readers};
+ghost use Rattle.graph_console.specs.TakenSnapshots.{HasTaken};
 ghost use Rattle.graph_console.specs.declared.exit.Exit.{Exit as AnExit};
 
 use disk_model::Disk;
@@ -28,14 +30,23 @@ pub fn keeps_over_runs<D: Disk>()
         (input left written : List ℕ)
         → Serves (terms_for D.Disk options first last) exit input left written
         → Leads D.Disk first last }
-    // Each run from a console that has not failed has the list of its transactions.
-    ensures recorded { D.tells_reads → (first : State) (run : List Exchange) (last : State)
-        → first.standing ≡ Live → Run D.tells_reads first run last
+    // Each run from a console that has not failed has the list of its transactions, to which the
+    // sessions that read add none.
+    ensures recorded { D.tells_reads
+        → (first : SharedState) (run : List Exchange) (last : SharedState)
+        → first.writer.standing ≡ Live → Run D.tells_reads first run last
         → (graphs : List Graph) × Transactions D.tells_reads first run last graphs }
     // The committed graph of a state is that of the last transaction of the exchanges that lead to
     // it.
-    ensures transactions { (first : State) (run : List Exchange) (last : State)
+    ensures transactions { (first : SharedState) (run : List Exchange) (last : SharedState)
         (graphs : List Graph) → Transactions D.tells_reads first run last graphs
         → Run D.tells_reads first run last
-        × (last.committed ≡ last_graph first.committed graphs) }
+        × (last.writer.committed ≡ last_graph first.writer.committed graphs) }
+    // A snapshot that is open at the end of a run was taken in it, and sees the graph that was
+    // committed then, whatever was committed since.
+    ensures snapshots { D.tells_reads
+        → (first : SharedState) (run : List Exchange) (last : SharedState)
+        → first.readers ≡ no_readers → Run D.tells_reads first run last
+        → (reader : ℕ) (graph : Graph) → Sees last.readers reader graph
+        → HasTaken D.tells_reads first run reader graph }
 {}

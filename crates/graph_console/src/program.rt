@@ -42,11 +42,12 @@ pub fn graph_main<S: Source, K: Sink, D: Disk>(
     disk: &mut D,
 ) -> Exit
     // What is written are the replies of a run of the console to the input's lines, as far as the
-    // exit says. The run starts with the graph that the disk holds. At its end each content that a
-    // crash may leave stands for a graph that the run's last state admits. At each moment it left a
-    // content from before, or one that a state of the run admits. No opening reads each record, so
-    // this is said of a disk that stands for a graph; of any other, and where what the disk reads
-    // is not known, the lines, the exits, the order of the replies and the counted faults are said.
+    // exit says. Each line is of one session. The run starts with the graph that the disk holds and
+    // with no snapshot. At its end each content that a crash may leave stands for a graph that the
+    // run's last state admits. At each moment it left a content from before, or one that a state of
+    // the run admits. No opening reads each record, so this is said of a disk that stands for a
+    // graph; of any other, and where what the disk reads is not known, the lines, the exits, the
+    // order of the replies and the counted faults are said.
     ensures serves { (known : Bool) (options : RunOptions)
         → AsksFor (map string_bytes words.items) (Asked.Run options)
         → HoldsGraph (as_known known D.Disk) disk.old

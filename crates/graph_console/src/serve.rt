@@ -1,9 +1,10 @@
 ghost use Rattle.std.specs.Prelude.{Bool, ◌≡◌, ◌+◌, ◌^◌, ◌<◌, ◌≤◌, false, length, IfNone, IfSome};
 ghost use Rattle.stream_io.specs.Reading.{IsFresh, used};
-ghost use Rattle.graph_session.specs.Console.{IsAt, Onward};
+ghost use Rattle.graph_session.specs.Console.{Onward};
 ghost use Rattle.graph_session.specs.Known.{as_known};
-ghost use Rattle.graph_session.specs.Session.{HaveSameDisk, view};
-ghost use Rattle.graph_session.specs.State.{State};
+ghost use Rattle.graph_session.specs.Session.{HaveSameDisk, shared_view, view};
+ghost use Rattle.graph_session.specs.SharedConsole.{IsSharedAt};
+ghost use Rattle.graph_session.specs.Snapshots.{SharedState};
 ghost use Rattle.graph_console.specs.Program.{HasStreamCause, ServesOn, streams, terms_from};
 ghost use Rattle.graph_console.specs.Serve.{IsRunExit, Turns, exit_after_turn, exit_at_end, loop};
 
@@ -20,8 +21,8 @@ pub(crate) fn serve<S: Source, K: Sink, D: Disk>(
     output: &mut K,
 ) -> Exit
     requires fresh { IsFresh reader.old }
-    ensures serves { (known : Bool) (first : State)
-        → IsAt (as_known known D.Disk) (view session.old) first
+    ensures serves { (known : Bool) (first : SharedState)
+        → IsSharedAt (as_known known D.Disk) (shared_view session.old) first
         → ServesOn S.Source K.Sink (terms_from (as_known known D.Disk) first
         (view session.old).disk (view session.new).disk) result
         (streams input.old output.old) (streams input.new output.new) }
@@ -48,8 +49,8 @@ fn serve_line<S: Source, K: Sink, D: Disk>(
     output: &mut K,
 ) -> Option<Exit>
     ensures turns { Turns S.Source K.Sink D.Disk result
-        (loop reader.old input.old output.old (view session.old))
-        (loop reader.new input.new output.new (view session.new)) }
+        (loop reader.old input.old output.old (shared_view session.old))
+        (loop reader.new input.new output.new (shared_view session.new)) }
     ensures counted { S.tells → reader.new.taken + length (S.left input.new)
         ≡ reader.old.taken + length (S.left input.old) }
     ensures limit { reader.new.taken ≤ 2 ^ 30 }

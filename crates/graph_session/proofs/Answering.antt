@@ -1,27 +1,34 @@
 -- A line that is settled, and its reply given.
-use Rattle.std.proofs.Common.{◌≡◌, ◌≢◌, ◌↔◌, ℕ, Bool, true, false, List, [], inl, refl, sym, true≢false, arith}
+use Rattle.std.proofs.Common.{◌≡◌, ◌≢◌, ◌↔◌, ℕ, zero, suc, Bool, true, false, List, [], inl, inr, refl, sym, subst, true≢false, arith}
 use Rattle.std.proofs.lemmas.List.{append-nil}
 use Rattle.fault_count.specs.Cause.{Rose}
 use Rattle.disk_model.specs.declared.disk.Disk.{Ghosts as DiskGhosts}
-use Rattle.disk_model.proofs.Spans.{OnlyNow}
+use Rattle.disk_model.proofs.Spans.{OnlyNow, only_reads_none}
 use Rattle.stream_io.specs.Lines.{InputLine}
 use Rattle.stream_io.specs.declared.streams.Sink.{Ghosts as SinkGhosts}
-use Rattle.plain_graph.specs.Reply.{DamagedRecord, Done, EdgeMade, Faulted, NoMemory, NodeMade, Refused, Reply, Silent, Told, reply_text}
+use Rattle.plain_graph.specs.Reply.{DamagedRecord, Done, EdgeMade, Faulted, NoMemory, NodeMade, Refused, Reply, Silent, Told, marked_text}
 use Rattle.plain_graph.specs.declared.refusal.Refusal.{Refusal}
-use Rattle.graph_session.specs.Answer.{AnswersLine, Delivers, Gives, Settles, Terminal}
+use Rattle.snap_store.specs.Snaps.{Snapshots}
+use Rattle.graph_session.specs.Answer.{AnswersLine, Delivers, Gives, Settles, Terminal, shared_in}
 use Rattle.graph_session.specs.Console.{HasNoDraft, IsAt, Onward, SessionView}
 use Rattle.graph_session.specs.DiskUse.{TellsNoChange, UsesDisk}
 use Rattle.graph_session.specs.Effects.{Stays}
 use Rattle.graph_session.specs.Exchange.{ConsoleStep, Exchange, IsDone, told_fault}
 use Rattle.graph_session.specs.Known.{as_known}
-use Rattle.graph_session.specs.MayStep.{MayStep}
 use Rattle.graph_session.specs.Moments.{ComesTo}
+use Rattle.graph_session.specs.ReaderAnswers.{MayStepAs}
 use Rattle.graph_session.specs.Refusals.{IsRefused}
-use Rattle.graph_session.specs.State.{IsQuit, IsSilent, NeverLacksMemory, State}
+use Rattle.graph_session.specs.SharedAnswer.{SettlesLine, SettlesShared, UsesAs}
+use Rattle.graph_session.specs.SharedConsole.{IsSharedAt}
+use Rattle.graph_session.specs.SharedConsoleStep.{SharedConsoleStep}
+use Rattle.graph_session.specs.SharedExchange.{AsksForSnapshot, SharedStep, step_of}
+use Rattle.graph_session.specs.SnapshotEffects.{SharedView}
+use Rattle.graph_session.specs.Snapshots.{SharedState}
+use Rattle.graph_session.specs.State.{IsQuit, NeverLacksMemory, State, mark_in, session_in}
 use Rattle.graph_session.specs.declared.turn.Turn.{Turn}
 use Rattle.graph_session.specs.declared.turn.Turn.TheVariants.{Go, Quit, SinkFault}
 use Rattle.graph_session.proofs.DiskUse.{uses-none}
-use Rattle.graph_session.proofs.Staying.{comes-stays, stays-none}
+use Rattle.graph_session.proofs.Staying.{comes-stays, crash-kept, stays-none}
 
 -- the reply says that the command was carried out
 abbrev pub IsGood : Reply → Type 0
@@ -110,21 +117,50 @@ module _ {D : Type 0} {g : DiskGhosts D} (only : OnlyNow g) {session : SessionVi
   pub onward-none : Onward g session session
   onward-none = record { disk_later = omega arith }
 
-  module _ {line : InputLine} {before : State} (at : IsAt g session before) where
-    pub settles-silent : IsSilent line → Settles g line session session before Silent
-    settles-silent silent = settles-given Silent before (comes-stays at (stays-none only session at.no_draft)) refl (λ told. (silent, refl)) (uses-none only session.disk)
+  pub settles-refused_at_once : {line : InputLine} {before : State} → IsAt g session before → (why : Refusal) → (g.tells_reads → IsRefused before line why) → Settles g line session session before (Refused why)
+  settles-refused_at_once at why is = settles-refused at (stays-none only session at.no_draft) why is (uses-none only session.disk)
 
-    pub settles-refused_at_once : (why : Refusal) → (g.tells_reads → IsRefused before line why) → Settles g line session session before (Refused why)
-    settles-refused_at_once why is = settles-refused at (stays-none only session at.no_draft) why is (uses-none only session.disk)
+-- ---- a line of whichever session
 
-    pub settles-memory_at_once : ¬ NeverLacksMemory line → Settles g line session session before (Faulted [] NoMemory)
-    settles-memory_at_once may = settles-memory at (stays-none only session at.no_draft) may (uses-none only session.disk)
+module _ {D : Type 0} {g : DiskGhosts D} {line : InputLine} {state : SharedState} {reply : Reply} where
+  -- a line of the session that writes, which asks for no snapshot
+  pub settles-written : {old new : SharedView D} → session_in line ≡ 0 → ¬ AsksForSnapshot line → UsesDisk g line state.writer reply old.session.disk new.session.disk → SettlesShared SharedConsoleStep g line old new state reply
+      → SettlesLine g line old new state reply
+  settles-written {old = old} {new = new} writes none uses shares = record {
+    shared = record {
+      after = shares.after;
+      arrives = shares.arrives;
+      disk_failed = shares.disk_failed;
+      counted = shares.counted;
+      step = λ told. subst (λ (n : ℕ). step_of n state (exchange line shares.disk_failed reply) shares.after) (sym writes) (inr (none, shares.step told));
+      blames = shares.blames;
+    };
+    uses = subst (λ (n : ℕ). UsesAs g n line state reply old.session.disk new.session.disk) (sym writes) uses;
+  }
+
+  -- a line that changes nothing and makes no call of the disk
+  pub settles-unchanged : OnlyNow g → {view : SharedView D} → IsSharedAt g view state → told_fault reply ≡ 0 → SharedStep state (exchange line false reply) state → SettlesLine g line view view state reply
+  settles-unchanged only {view = view} at quiet step = record {
+    shared = record {
+      after = state;
+      arrives = record { is_at = at; crash = crash-kept at.writer state.writer view.session.disk (only_reads_none g view.session.disk only) };
+      disk_failed = false;
+      counted = λ e. absurd (true≢false (sym e));
+      step = λ told. step;
+      blames = λ blames. absurd (blames quiet);
+    };
+    uses = by (session_in line);
+  }
+    where
+      by : (n : ℕ) → UsesAs g n line state reply view.session.disk view.session.disk
+      by zero = uses-none only view.session.disk
+      by (suc reader) = only_reads_none g view.session.disk only
 
 module _ {D K : Type 0} {g : DiskGhosts D} {sink : SinkGhosts K} {line : InputLine} {old new : Terminal D K} {turn : Turn} where
   -- the reply of a settled line was given to the sink
-  pub answers-given : (reply : Reply) → Gives sink (reply_text reply) old.output new.output turn → ¬ IsQuit line → Onward g old.session new.session
-      → (HasNoDraft old.session → MayStep g line old.session reply new.session)
-      → ((known : Bool) (state : State) → IsAt (as_known known g) old.session state → Settles (as_known known g) line old.session new.session state reply) → AnswersLine g sink line old new turn
+  pub answers-given : (reply : Reply) → Gives sink (marked_text (mark_in line) reply) old.output new.output turn → ¬ IsQuit line → Onward g old.session new.session
+      → (HasNoDraft old.session → MayStepAs g (session_in line) line (shared_in old) reply (shared_in new))
+      → ((known : Bool) (state : SharedState) → IsSharedAt (as_known known g) (shared_in old) state → SettlesLine (as_known known g) line (shared_in old) (shared_in new) state reply) → AnswersLine g sink line old new turn
   answers-given reply gives runs onward may settles = record {
     reply = reply;
     text = gives.delivers;
@@ -137,21 +173,30 @@ module _ {D K : Type 0} {g : DiskGhosts D} {sink : SinkGhosts K} {line : InputLi
   }
 
 -- a turn without a fault of the sink delivers nothing
-delivers-nothing : (turn : Turn) (text : List ℕ) → turn ≢ SinkFault → Delivers turn text text (reply_text Silent)
+delivers-nothing : (turn : Turn) (text : List ℕ) → turn ≢ SinkFault → Delivers turn text text []
 delivers-nothing Go text goes = sym (append-nil text)
 delivers-nothing Quit text goes = sym (append-nil text)
 delivers-nothing SinkFault text goes = absurd (goes refl)
 
-module _ {D K : Type 0} {g : DiskGhosts D} (only : OnlyNow g) {sink : SinkGhosts K} {line : InputLine} {terminal : Terminal D K} {turn : Turn} where
+module _ {D K : Type 0} {g : DiskGhosts D} (only : OnlyNow g) {sink : SinkGhosts K} {line : InputLine} where
   -- the line gets no reply
-  pub answers-silent : turn ≢ SinkFault → IsSilent line → ((turn ≡ Quit) ↔ IsQuit line) → AnswersLine g sink line terminal terminal turn
-  answers-silent goes silent quit = record {
+  pub answers-silent : {terminal : Terminal D K} {turn : Turn} → turn ≢ SinkFault → ((turn ≡ Quit) ↔ IsQuit line) → MayStepAs g (session_in line) line (shared_in terminal) Silent (shared_in terminal)
+      → ((state : SharedState) → SharedStep state (exchange line false Silent) state) → AnswersLine g sink line terminal terminal turn
+  answers-silent {terminal = terminal} {turn = turn} goes quit may step = record {
     reply = Silent;
     text = λ told. delivers-nothing turn (sink.taken terminal.output) goes;
     quit = quit;
-    may = λ none. inl (silent, refl, refl);
-    settles = λ known state at. settles-silent {g = as_known known g} only at silent;
+    may = λ none. may;
+    settles = λ known state at. settles-unchanged {g = as_known known g} only at refl (step state);
     cause = λ e. absurd (goes e);
     later = omega arith;
     onward = onward-none only;
   }
+
+  -- it gets one, and changes nothing
+  pub answers-unchanged : {session : SessionView D} {held : Snapshots} {before after : K} {turn : Turn} (reply : Reply) → told_fault reply ≡ 0 → Gives sink (marked_text (mark_in line) reply) before after turn → ¬ IsQuit line
+      → MayStepAs g (session_in line) line (record { session = session; held = held }) reply (record { session = session; held = held })
+      → ((known : Bool) (state : SharedState) → IsSharedAt (as_known known g) (record { session = session; held = held }) state → SharedStep state (exchange line false reply) state)
+      → AnswersLine g sink line (record { session = session; held = held; output = before }) (record { session = session; held = held; output = after }) turn
+  answers-unchanged reply quiet gives runs may step =
+      answers-given {line = line} reply gives runs (onward-none only) (λ none. may) (λ known state at. settles-unchanged {g = as_known known g} only at quiet (step known state at))

@@ -1,10 +1,10 @@
 -- What a line does over any disk.
-use Rattle.std.proofs.Common.{◌≡◌, ◌∙◌, ℕ, List, ap, inl, inr, refl, sym, subst}
+use Rattle.std.proofs.Common.{◌≡◌, ◌∙◌, ◌+◌, ℕ, zero, suc, List, length, ap, inl, inr, refl, sym, subst, arith}
 use Rattle.fault_count.specs.Cause.{Rose}
 use Rattle.disk_model.specs.declared.disk.Disk.{Ghosts}
 use Rattle.stream_io.specs.Lines.{InputLine, Whole}
-use Rattle.plain_graph.specs.Changes.{IsChange}
-use Rattle.plain_graph.specs.Kinds.{AreChanges, AreQuestions, Blanks, Bound, Change, Ending, Kind, Question, Upkeep}
+use Rattle.plain_graph.specs.Changes.{IsChange, start_weight}
+use Rattle.plain_graph.specs.Kinds.{AreChanges, AreQuestions, Blanks, Bound, Change, Ending, Kind, Question, Sight, Upkeep}
 use Rattle.plain_graph.specs.Lines.{IsQuestion, kind_of}
 use Rattle.plain_graph.specs.Reply.{Reply}
 use Rattle.plain_graph.specs.declared.command.Command.{Command}
@@ -14,7 +14,10 @@ use Rattle.graph_session.specs.Console.{HasNoDraft, SessionView}
 use Rattle.graph_session.specs.Drafting.{IsStopped}
 use Rattle.graph_session.specs.Effects.{Stays}
 use Rattle.graph_session.specs.MayStep.{HasFailedChange, IsServed, MayAnswer, MayAnswerKind, MayBound, MayChange, MayKeep, MayRead, MayStep, TellsMade}
+use Rattle.graph_session.specs.ReaderAnswers.{MayEnd, MayServeReader, MayStepAs}
 use Rattle.graph_session.specs.Refusals.{SpellsOnly}
+use Rattle.graph_session.specs.SharedExchange.{AsksForSnapshot}
+use Rattle.graph_session.specs.SnapshotEffects.{KeepsBound, KeepsFor, KeepsKind, KeepsOlds, SharedView}
 use Rattle.graph_session.specs.declared.answer.Answer.{Answer}
 use Rattle.graph_session.specs.declared.answer.Answer.TheVariants as answers
 use Rattle.graph_session.specs.declared.session.Session.{Session}
@@ -39,6 +42,7 @@ module _ {D : Type 0} (g : Ghosts D) (old : SessionView D) (reply : Reply) (new 
       by Ending is = absurd is
       by Bound is = absurd is
       by Upkeep is = absurd is
+      by Sight is = absurd is
       by Change is = may
       by Question is = absurd is
 
@@ -51,6 +55,7 @@ module _ {D : Type 0} (g : Ghosts D) (old : SessionView D) (reply : Reply) (new 
       by Ending is = absurd is
       by Bound is = absurd is
       by Upkeep is = absurd is
+      by Sight is = absurd is
       by Change is = absurd is
       by Question is = may
 
@@ -84,14 +89,16 @@ module _ {D : Type 0} (g : Ghosts D) (old : SessionView D) (reply : Reply) (new 
   change_none command (inr (inr (inr (inl (is, stays))))) = stays.beneath.no_draft
   change_none command (inr (inr (inr (inr (is, inl stays))))) = stays.1.beneath.no_draft
   change_none command (inr (inr (inr (inr (is, inr (closed, inl fails)))))) = fails.ends.no_draft
-  change_none command (inr (inr (inr (inr (is, inr (closed, inr doubts)))))) = doubts.2.ends.no_draft
+  change_none command (inr (inr (inr (inr (is, inr (closed, inr (inl fails))))))) = fails.ends.no_draft
+  change_none command (inr (inr (inr (inr (is, inr (closed, inr (inr doubts))))))) = doubts.2.ends.no_draft
 
   bound_none : (command : Command) → MayBound g old reply new command → HasNoDraft new
   bound_none commands.Begin (inl refused) = kept_none old new none refused.2
   bound_none commands.Begin (inr done) = done.2.beneath.no_draft
   bound_none commands.Commit (inl refused) = kept_none old new none refused.2
   bound_none commands.Commit (inr (opened, leaves, idle, inl done)) = done.1.ends.no_draft
-  bound_none commands.Commit (inr (opened, leaves, idle, inr failed)) = failed.1.ends.no_draft
+  bound_none commands.Commit (inr (opened, leaves, idle, inr (fault, inl fails))) = fails.ends.no_draft
+  bound_none commands.Commit (inr (opened, leaves, idle, inr (fault, inr left))) = left.ends.no_draft
   bound_none commands.Rollback (inl refused) = kept_none old new none refused.2
   bound_none commands.Rollback (inr done) = done.2.beneath.no_draft
   bound_none _ may = absurd may
@@ -111,6 +118,7 @@ module _ {D : Type 0} (g : Ghosts D) (old : SessionView D) (reply : Reply) (new 
   answer_none Ending command may = absurd may
   answer_none Bound command may = bound_none command may
   answer_none Upkeep command may = keep_none command may
+  answer_none Sight command may = absurd may
   answer_none Change command may = change_none command may
   answer_none Question command may = may.2.beneath.no_draft
 
@@ -118,3 +126,51 @@ module _ {D : Type 0} (g : Ghosts D) (old : SessionView D) (reply : Reply) (new 
   may-no_draft line (inl silent) = kept_none old new none silent.2
   may-no_draft line (inr (inl away)) = kept_none old new none away.1
   may-no_draft line (inr (inr may)) = answer_none (kind_of may.0) may.0 may.3
+
+-- ---- by the session
+
+module _ {D : Type 0} {g : Ghosts D} {reply : Reply} (old new : SharedView D) where
+  -- snapshots end only by a line that ends a transaction
+  pub keeps-end : (command : Command) → KeepsOlds g command old reply new → MayEnd g old reply new
+  keeps-end command keeps = by (kind_of command) command keeps.held
+    where
+      kept : (weight : ℕ) → KeepsFor g old reply new weight → MayEnd g old reply new
+      kept weight done = inr (done.ends, weight, done.held)
+
+      bound : (c : Command) → KeepsBound g old reply new c → MayEnd g old reply new
+      bound commands.Commit (inl (same, closed)) = inl same
+      bound commands.Commit (inr (opened, done)) = kept (length old.session.console.written) (done (length old.session.console.written) (omega arith))
+      bound c same = inl same
+
+      by : (kind : Kind) (c : Command) → KeepsKind g old reply new kind c → MayEnd g old reply new
+      by Blanks c same = inl same
+      by Ending c same = inl same
+      by Bound c done = bound c done
+      by Upkeep c same = inl same
+      by Sight c same = inl same
+      by Change c (inl (same, none)) = inl same
+      by Change c (inr (closed, more, done, weighs)) = kept (start_weight + more) done
+      by Question c same = inl same
+
+  -- a line of the session that writes, which asks for no snapshot
+  pub may-write : {line : InputLine} (session : ℕ) → session ≡ 0 → ¬ AsksForSnapshot line → MayStep g line old.session reply new.session → MayEnd g old reply new → MayStepAs g session line old reply new
+  may-write {line = line} session writes apart may ends = subst (λ (n : ℕ). MayStepAs g n line old reply new) (sym writes) (inr (apart, may, ends))
+
+shared_none : {D : Type 0} (old new : SharedView D) → HasNoDraft old.session → new ≡ old → HasNoDraft new.session
+shared_none {D = D} old new none same = kept_none old.session new.session none (ap (λ (v : SharedView D). v.session) same)
+
+module _ {D : Type 0} (g : Ghosts D) (old : SharedView D) (reply : Reply) (new : SharedView D) (none : HasNoDraft old.session) where
+  serve-none : (reader : ℕ) (command : Command) → MayServeReader g reader old reply new command → HasNoDraft new.session
+  serve-none reader command (inl (is, inl taken)) = kept_none old.session new.session none taken.2
+  serve-none reader command (inl (is, inr lacks)) = shared_none old new none lacks.1
+  serve-none reader command (inr (inl (is, released))) = kept_none old.session new.session none released.3
+  serve-none reader command (inr (inr (asks, read))) = read.3.beneath.no_draft
+
+  -- no session's line leaves a draft
+  pub as-no_draft : (session : ℕ) (line : InputLine) → MayStepAs g session line old reply new → HasNoDraft new.session
+  as-no_draft zero line (inl asks) = shared_none old new none asks.2
+  as-no_draft zero line (inr (apart, may, ends)) = may-no_draft g old.session reply new.session none line may
+  as-no_draft (suc reader) line (inl silent) = shared_none old new none silent.2
+  as-no_draft (suc reader) line (inr (inl away)) = shared_none old new none away.1
+  as-no_draft (suc reader) line (inr (inr (command, spelled, inl (why, refuses, is, same)))) = shared_none old new none same
+  as-no_draft (suc reader) line (inr (inr (command, spelled, inr (serves, may)))) = serve-none (suc reader) command may

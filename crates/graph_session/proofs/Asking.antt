@@ -12,15 +12,14 @@ use Rattle.graph_session.proofs.StoreRecords.{committed-read, draft-kept, workin
 use Rattle.graph_session.proofs.Moves.{seen_as}
 
 module _ {D : Type 0} {g : Ghosts D} where
-  -- calls that only read leave the session as it was
-  pub stays-read : (s t : Store D g) → OnlyReadsBase s.base t.base → spaces.SameButReads (store.state_of s) (store.state_of t) → s.draft.pairs ≡ []
-      → (health : Health) (weight : ℕ) (names : List (List ℕ)) → Stays g (seen_as s health weight names) (seen_as t health weight names)
-  stays-read s t reads same none health weight names = record {
+  -- calls that only read and leave no draft leave the session as it was
+  pub stays-over : (s t : Store D g) → OnlyReadsBase s.base t.base → t.draft.pairs ≡ [] → (health : Health) (weight : ℕ) (names : List (List ℕ)) → Stays g (seen_as s health weight names) (seen_as t health weight names)
+  stays-over s t reads none health weight names = record {
     beneath = record {
       shape = reads.shape;
       is_live = reads.live;
       committed = λ told. committed-read s.base t.base reads;
-      no_draft = draft-kept s t (ap (λ (x : spaces.State). x.written) same) none;
+      no_draft = none;
       disk = reads.disk;
     };
     health = refl;
@@ -30,3 +29,8 @@ module _ {D : Type 0} {g : Ghosts D} where
     written = ap (λ (held : Held). held.pairs) reads.own;
     working = λ told. working-read s.base t.base reads;
   }
+
+  -- and so do those of a line that reads
+  pub stays-read : (s t : Store D g) → OnlyReadsBase s.base t.base → spaces.SameButReads (store.state_of s) (store.state_of t) → s.draft.pairs ≡ []
+      → (health : Health) (weight : ℕ) (names : List (List ℕ)) → Stays g (seen_as s health weight names) (seen_as t health weight names)
+  stays-read s t reads same none = stays-over s t reads (draft-kept s t (ap (λ (x : spaces.State). x.written) same) none)

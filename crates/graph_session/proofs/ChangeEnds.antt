@@ -1,5 +1,5 @@
 -- A change, from its beginning to its end.
-use Rattle.std.proofs.Common.{◌≡◌, ◌∙◌, true, false, Result, inl, inr, sym, subst, true≢false}
+use Rattle.std.proofs.Common.{◌≡◌, ◌∙◌, Result, inl, inr, sym, subst, true≢false}
 use Rattle.disk_model.specs.declared.disk.Disk.{Ghosts}
 use Rattle.plain_graph.specs.Changes.{IsChange}
 use Rattle.plain_graph.specs.declared.command.Command.{Command}

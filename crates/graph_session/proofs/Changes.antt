@@ -1,36 +1,35 @@
 -- A change of the graph.
-use Rattle.std.proofs.Common.{◌≡◌, ◌∙◌, ◌+◌, ℕ, false, Some, is_some, List, [], ◌++◌, Contains, append_assoc, inl, inr, refl, sym, ap, subst, arith}
+use Rattle.std.proofs.Common.{◌≡◌, ◌∙◌, ◌+◌, ℕ, false, Some, is_some, List, [], ◌++◌, append_assoc, inl, inr, refl, sym, ap, subst, arith}
 use Rattle.std.proofs.lemmas.List.{append-nil}
 use Rattle.fault_count.specs.Cause.{Rose}
-use Rattle.disk_model.specs.Contents.{Files}
 use Rattle.disk_model.specs.Spans.{AtEachMoment}
 use Rattle.disk_model.specs.declared.disk.Disk.{Ghosts}
 use Rattle.disk_model.proofs.Spans.{at_each_moment_on}
 use Rattle.stream_io.specs.Lines.{Whole}
 use Rattle.plain_graph.specs.Changes.{Changes, IsChange, Weighs}
 use Rattle.plain_graph.specs.Graph.{Graph}
-use Rattle.plain_graph.specs.Kinds.{AreChanges, Blanks, Bound, Change, Ending, Kind, Question, Upkeep}
+use Rattle.plain_graph.specs.Kinds.{AreChanges, Blanks, Bound, Change, Ending, Kind, Question, Sight, Upkeep}
 use Rattle.plain_graph.specs.Lines.{kind_of}
 use Rattle.plain_graph.specs.Reply.{DiskFailed, Faulted, Reply}
 use Rattle.plain_graph.specs.declared.command.Command.{Command}
-use Rattle.plain_graph.specs.declared.command.Command.TheVariants as commands
 use Rattle.rec_bytes.specs.declared.key.Key.{Key}
 use Rattle.rec_bytes.specs.declared.record.Rec.{Rec}
 use Rattle.store_rules.specs.Graph.{graph_of}
 use Rattle.store_rules.specs.Rules.{IsWellFormed}
 use Rattle.graph_session.specs.Answer.{Settles}
 use Rattle.graph_session.specs.Console.{IsAt, SessionView, TellsAll}
-use Rattle.graph_session.specs.Effects.{CommitsAlone, CommitsFrom, FailsAlone, IsAloneInDoubt, Keeps, Stays}
+use Rattle.graph_session.specs.Effects.{CommitsAlone, CommitsFrom, FailsDrafted, IsAloneInDoubt, Keeps, Stays}
 use Rattle.graph_session.specs.Exchange.{CarriesKind, CarriesOut, LeavesChange, LeavesKind, LeavesOpen, MakesChange, opening}
 use Rattle.graph_session.specs.Refusals.{IsAccepted, IsReached, SpellsOnly}
-use Rattle.graph_session.specs.Stands.{HoldsAdmitted, IsAdmitted, IsAdmittedByEither}
-use Rattle.graph_session.specs.State.{Admits, Standing, State, Transaction, graphs_from, seen, seen_by}
+use Rattle.graph_session.specs.Stands.{IsAdmittedByEither}
+use Rattle.graph_session.specs.State.{State, Transaction, seen, seen_by}
 use Rattle.graph_session.specs.declared.health.Health.TheVariants as healths
 use Rattle.graph_session.proofs.Answering.{IsGood, good-changed, settles-done, settles-fault}
 use Rattle.graph_session.proofs.Conditions.{NeedsNone, NeedsOne, reached}
 use Rattle.graph_session.proofs.DiskUse.{change-needs, uses-reads, uses-writes}
+use Rattle.graph_session.proofs.FailedReads.{comes-fails}
 use Rattle.graph_session.proofs.Held.{committed-one, held}
-use Rattle.graph_session.proofs.Known.{begin-all, begin-same, known-one, known-two}
+use Rattle.graph_session.proofs.Known.{begin-all, begin-more, known-two}
 use Rattle.graph_session.proofs.Stands.{IsOneOf, all-admitted, either-admitted, either-held, held-admitted, own-one, redone-held}
 use Rattle.graph_session.proofs.States.{is_closed, is_live, not_failed, same_one}
 use Rattle.graph_session.proofs.Staying.{comes-stays, crash-kept, images-kept, reads-kept}
@@ -55,6 +54,7 @@ carries-change old new command reply change makes = by (kind_of command) change
     by Ending is = absurd is
     by Bound is = absurd is
     by Upkeep is = absurd is
+    by Sight is = absurd is
     by Change is = makes
     by Question is = absurd is
 
@@ -66,6 +66,7 @@ leaves-change old new line command change leaves = by (kind_of command) change
     by Ending is = absurd is
     by Bound is = absurd is
     by Upkeep is = absurd is
+    by Sight is = absurd is
     by Change is = leaves
     by Question is = absurd is
 
@@ -89,16 +90,6 @@ module _ {D : Type 0} {g : Ghosts D} {old : SessionView D} {state : State} (at :
   change-reached = reached state only (inl (not_failed at live)) (λ needs. absurd (change-none command change needs)) (λ needs. absurd (change-one command change needs))
 
 module _ {D : Type 0} {g : Ghosts D} {old : SessionView D} {state : State} (at : IsAt g old state) (live : old.console.health ≡ healths.Live) where
-  -- what is admitted is the committed graph, which stays open
-  stopped-admits : (graph : Graph) → Admits state graph → Admits (stopped state) graph
-  stopped-admits graph admits = subst (λ (standing : Standing). Contains (graphs_from state.committed standing) graph) (is_live at live) admits
-
-  stopped-held : (content : Files) → HoldsAdmitted state content → HoldsAdmitted (stopped state) content
-  stopped-held content had = (had.0, stopped-admits had.0 had.1, had.2)
-
-  stopped-admitted : (content : Files) → IsAdmitted state content → IsAdmitted (stopped state) content
-  stopped-admitted content had = (had.0, stopped-admits had.0 had.1, had.2)
-
   alone-one : (now : Key → Rec) → (g.tells_reads → IsWellFormed now state.shape) → g.tells_reads → IsOneOf (changed state (graph_of now)) now
   alone-one now store told = own-one (changed state (graph_of now)) now (is_live at live) (store told) refl
 
@@ -156,26 +147,11 @@ module _ {D : Type 0} {g : Ghosts D} {old new : SessionView D} {state : State} (
         (uses-reads state only (change-needs command change) (change-reached at live only change) stays.beneath.disk)
 
   module _ (closed : old.console.is_open ≡ false) where
-    fails_alone-at : FailsAlone g old new → IsAt g new (stopped state)
-    fails_alone-at fails = record {
-      shape = at.shape ∙ sym fails.ends.shape;
-      health = fails.health;
-      opened = sym fails.ends.is_open;
-      weight = λ other none. cc;
-      no_draft = fails.ends.no_draft;
-      closed = λ failed. refl;
-      holds = λ told stands. cc;
-      known = λ told failed graph admits.
-          known-one new.console.names state.committed graph admits (begin-same new.console.names old.console.names state.committed.names fails.names (held at live told).brought);
-      reads = λ told. stopped-held at live (g.reads new.disk) (reads-kept at new.disk fails.disk told);
-      images = λ told image left. stopped-admitted at live image (images-kept at new.disk fails.disk told image left);
-    }
-
-    -- the disk failed as a change alone was made
-    pub settles-alone_read_fault : {line : List ℕ} {command : Command} → SpellsOnly line command → IsChange command → FailsAlone g old new → Rose (g.faults old.disk) (g.faults new.disk)
+    -- the disk failed before anything of a change alone was written
+    pub settles-alone_read_fault : {line : List ℕ} {command : Command} → SpellsOnly line command → IsChange command → FailsDrafted g old new → Rose (g.faults old.disk) (g.faults new.disk)
         → Settles g (Whole line) old new state (Faulted [] DiskFailed)
     settles-alone_read_fault {line = line} {command = command} only change fails rose =
-        settles-fault {line = Whole line} {before = state} (Faulted [] DiskFailed) (stopped state) (record { is_at = fails_alone-at fails; crash = crash-kept at (stopped state) new.disk fails.disk }) rose
+        settles-fault {line = Whole line} {before = state} (Faulted [] DiskFailed) (stopped state) (comes-fails at live fails) rose
         (λ told. (refl, change-reached at live only change, command, only.spelled, inl refl, leaves-change state (stopped state) line command change (inr (is_closed at closed, inl refl))))
         (uses-reads state only (change-needs command change) (change-reached at live only change) fails.disk)
 
@@ -231,7 +207,7 @@ module _ {D : Type 0} {g : Ghosts D} {old new : SessionView D} {state : State} (
         known = λ told failed graph admits.
             let had = held at live told in
             known-two new.console.names state.committed (graph_of now) graph admits
-            (had.brought.0 ++ left.brought.0, left.brought.1 ∙ ap (λ (names : List (List ℕ)). names ++ left.brought.0) had.brought.1 ∙ append_assoc state.committed.names had.brought.0 left.brought.0)
+            (begin-more new.console.names old.console.names state.committed.names left.brought had.brought)
             (begin-all new.console.names (graph_of now).names (grown told).named);
         reads = λ told.
             either-held (in_doubt state (graph_of now)) old.console.committed now (g.reads new.disk) (first-one at live told (graph_of now)) (doubt-one at live now (λ told. (grown told).store) told) (left.stored.read told);

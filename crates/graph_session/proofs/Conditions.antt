@@ -72,13 +72,13 @@ idle_reasons = unchanging-free commands.Blank (λ h. h) 0 empty_graph tt
 
 module _ (state : State) {line : List ℕ} {command : Command} (only : SpellsOnly line command) where
   -- a line that spells a command has no fault of the grammar
-  faultless : Fails grammar_fault state line
+  pub faultless : Fails grammar_fault state line
   faultless why (bytes, is, fault, leftmost, told) = only.no_fault fault (subst (λ (found : List ℕ). IsLeftmostFault found fault) (same bytes is) leftmost).has
     where
       same : (bytes : List ℕ) → Whole line ≡ Whole bytes → bytes ≡ line
       same bytes e = cc
 
-  serves : MayServe state command → Fails store_failed state line
+  pub serves : MayServe state command → Fails store_failed state line
   serves (inl live) why h = live h.0
   serves (inr again) why h = h.2 (subst (λ (c : Command). SpellsOnly line c) again only).spelled
 

@@ -44,7 +44,7 @@ asks-needs commands.Blank asks = absurd asks
 asks-needs commands.Quit asks = absurd asks
 asks-needs commands.Begin asks = absurd asks
 asks-needs commands.Rollback asks = absurd asks
-asks-needs commands.Stats asks = inr (inr refl)
+asks-needs commands.Stats asks = inr (inr (inl refl))
 asks-needs _ asks = inl tt
 
 module _ {D : Type 0} {g : Ghosts D} {line : InputLine} {before : State} {reply : Reply} where

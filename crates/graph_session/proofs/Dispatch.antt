@@ -1,31 +1,37 @@
 -- A line is answered by its command, or by its fault.
-use Rattle.std.proofs.Common.{◌≡◌, ◌≢◌, ◌∙◌, ℕ, Option, None, Some, List, [], inl, inr, refl, sym, ap, subst}
+use Rattle.std.proofs.Common.{◌≡◌, ◌≢◌, ◌↔◌, ◌∙◌, ℕ, Option, None, Some, List, [], inl, inr, refl, sym, ap, subst}
 use Rattle.disk_model.specs.declared.disk.Disk.{Ghosts as DiskGhosts}
 use Rattle.disk_model.proofs.Spans.{OnlyNow}
 use Rattle.stream_io.specs.Lines.{Long, Whole}
 use Rattle.stream_io.specs.declared.streams.Sink.{Ghosts as SinkGhosts}
-use Rattle.plain_graph.specs.Reply.{Faulted, NoMemory, Refused, Reply, reply_text}
+use Rattle.plain_graph.specs.Reply.{Faulted, NoMemory, Refused, Reply, marked_text}
 use Rattle.plain_graph.specs.declared.command.Command.{Command}
 use Rattle.plain_graph.specs.declared.command.Command.TheVariants as commands
 use Rattle.plain_graph.specs.declared.refusal.Refusal.{Refusal}
 use Rattle.plain_graph.specs.declared.refusal.Refusal.TheVariants as refusals
+use Rattle.snap_store.specs.Snaps.{Snapshots}
 use Rattle.gremlin_parse.specs.Commands.{NeedsNoMemory}
 use Rattle.gremlin_parse.specs.Lines.{IsLeftmostFault, Spells}
+use Rattle.gremlin_parse.specs.Tags.{session_of}
 use Rattle.gremlin_parse.specs.declared.line_fault.LineFault.{LineFault}
 use Rattle.gremlin_parse.specs.declared.line_fault.LineFault.TheVariants as faults
-use Rattle.graph_session.specs.Answer.{AnswersLine, Gives, Terminal}
+use Rattle.graph_session.specs.Answer.{AnswersLine, Gives, Terminal, shared_in}
 use Rattle.graph_session.specs.Answering.{reply_of}
 use Rattle.graph_session.specs.Console.{SessionView}
-use Rattle.graph_session.specs.Refusals.{SpellsOnly, refusal_of}
-use Rattle.graph_session.specs.Known.{as_known}
 use Rattle.graph_session.specs.MayStep.{IsServed}
-use Rattle.graph_session.specs.Settling.{IsLoud, SettlesCommand, told_by, told_of}
+use Rattle.graph_session.specs.Refusals.{SpellsOnly, refusal_of}
+use Rattle.graph_session.specs.Settling.{IsLoud, IsParsed, SettlesCommand, told_by, told_of}
+use Rattle.graph_session.specs.SharedExchange.{AsksForSnapshot, IsOfSnapshots}
+use Rattle.graph_session.specs.SnapshotEffects.{KeepsOlds}
+use Rattle.graph_session.specs.State.{IsQuit, IsSilent, mark_in}
 use Rattle.graph_session.specs.declared.health.Health.TheVariants as healths
 use Rattle.graph_session.specs.declared.turn.Turn.{Turn}
 use Rattle.graph_session.specs.declared.turn.Turn.TheVariants as turns
-use Rattle.graph_session.proofs.Anyhow.{may-served}
-use Rattle.graph_session.proofs.Answering.{answers-given, answers-silent, onward-none, settles-memory_at_once, settles-refused_at_once}
-use Rattle.graph_session.proofs.Conditions.{failed-refused, fault-refused, long-refused}
+use Rattle.graph_session.proofs.Anyhow.{keeps-end, may-served, may-write}
+use Rattle.graph_session.proofs.Answering.{answers-given, answers-silent, answers-unchanged, settles-written}
+use Rattle.graph_session.proofs.AtOnce.{apart-only, asks-only, may-silent, may-turn_away, may-unanswered, may-writer, step-fault, step-memory, step-refused, step-silent, step-writer}
+use Rattle.graph_session.proofs.Conditions.{failed-refused, long-refused}
+use Rattle.graph_session.proofs.SharedSettling.{settles-shared}
 use Rattle.graph_session.proofs.Spelling.{IsMute, lacks-memory, quit-only, silent-mute, spells-same}
 use Rattle.graph_session.proofs.States.{is_failed}
 
@@ -41,70 +47,122 @@ refused-other fault why is e = absurd (clash (sym (ap refusal_of e) ∙ is))
     clash same = cc
 
 -- a line with a fault spells no command that needs no memory
-pub spells-none : {line : List ℕ} (fault : LineFault) → (fault ≢ faults.Memory → (command : Command) → ¬ Spells line command) → (fault ≡ faults.Memory → (command : Command) → NeedsNoMemory command → ¬ Spells line command)
+pub spells-none : (line : List ℕ) (fault : LineFault) → (fault ≢ faults.Memory → (command : Command) → ¬ Spells line command) → (fault ≡ faults.Memory → (command : Command) → NeedsNoMemory command → ¬ Spells line command)
     → (command : Command) → NeedsNoMemory command → ¬ Spells line command
-spells-none faults.Memory none memory command needs = memory refl command needs
-spells-none _ none memory command needs = none (λ e. cc) command
+spells-none line faults.Memory none memory command needs = memory refl command needs
+spells-none line _ none memory command needs = none (λ e. cc) command
 
-module _ {D K : Type 0} {g : DiskGhosts D} {sink : SinkGhosts K} {line : List ℕ} {command : Command} (only : SpellsOnly line command) {old new : Terminal D K} {turn : Turn} where
+fault-apart : (line : List ℕ) → ((command : Command) → NeedsNoMemory command → ¬ Spells line command) → ¬ AsksForSnapshot (Whole line)
+fault-apart line none (inl h) = none commands.Snapshot tt h
+fault-apart line none (inr h) = none commands.Release tt h
+
+-- ---- a line of the session that writes
+
+-- a command that gets a reply
+loud-not_mute : (command : Command) → IsLoud command → ¬ IsMute command
+loud-not_mute command loud (inl e) = subst IsLoud e loud tt
+loud-not_mute command loud (inr e) = subst IsLoud e loud tt
+
+-- the reply has the line's mark
+pub given-marked : {K : Type 0} {sink : SinkGhosts K} {line : List ℕ} {session : ℕ} {command : Command} {mark : List ℕ} → IsParsed line session command mark → {before after : K} {turn : Turn} (reply : Reply)
+    → Gives sink (marked_text mark reply) before after turn → Gives sink (marked_text (mark_in (Whole line)) reply) before after turn
+given-marked {sink = sink} parsed {before = before} {after = after} {turn = turn} reply gives = subst (λ (m : List ℕ). Gives sink (marked_text m reply) before after turn) (sym parsed.mark_is) gives
+
+module _ {D K : Type 0} {g : DiskGhosts D} {sink : SinkGhosts K} {line : List ℕ} {session : ℕ} {command : Command} {mark : List ℕ} (parsed : IsParsed line session command mark) where
   -- a command that was settled, and whose reply was given
-  pub answers-settled : (reply : Reply) → command ≢ commands.Quit → IsServed old.session.console command → SettlesCommand g command old.session new.session reply
-      → Gives sink (reply_text reply) old.output new.output turn → AnswersLine g sink (Whole line) old new turn
-  answers-settled reply other served settles gives =
-      answers-given {line = Whole line} reply gives (quit-only only other) settles.onward (λ none. may-served only served (settles.may none)) (λ known state at. settles.settles known line state only served at)
+  pub answers-settled : {old new : Terminal D K} {turn : Turn} (reply : Reply) → session ≡ 0 → IsLoud command → ¬ IsOfSnapshots command → IsServed old.session.console command → SettlesCommand g command old.session new.session reply
+      → KeepsOlds g command (shared_in old) reply (shared_in new) → Gives sink (marked_text mark reply) old.output new.output turn → AnswersLine g sink (Whole line) old new turn
+  answers-settled {old = old} {new = new} reply writes loud apart served settles keeps gives =
+      let first = parsed.session_is ∙ writes in
+      let none = apart-only parsed.only apart in
+      answers-given {line = Whole line} reply (given-marked parsed reply gives) (quit-only parsed.only (λ e. loud-not_mute command loud (inr e))) settles.onward
+      (λ free. may-write (shared_in old) (shared_in new) (session_of line) first none (may-served parsed.only served (settles.may free)) (keeps-end (shared_in old) (shared_in new) command keeps))
+      (λ known state at.
+      let done = settles.settles known line state.writer parsed.only served at.writer in
+      settles-written {line = Whole line} first none done.uses (settles-shared known parsed.only at served done (settles.may at.writer.no_draft) keeps))
+
+module _ {D K : Type 0} (g : DiskGhosts D) (only_now : OnlyNow g) (sink : SinkGhosts K) {session : SessionView D} {held : Snapshots} {before after : K} {turn : Turn} {line : List ℕ} {named : ℕ} {command : Command} {mark : List ℕ}
+    (parsed : IsParsed line named command mark) (writes : named ≡ 0) (loud : IsLoud command) where
+  -- the disk has failed the session
+  pub answers-failed : session.console.health ≡ healths.Failed → ¬ IsOfSnapshots command → command ≢ commands.Reopen → Gives sink (marked_text mark (Refused refusals.Failed)) before after turn
+      → AnswersLine g sink (Whole line) (record { session = session; held = held; output = before }) (record { session = session; held = held; output = after }) turn
+  answers-failed failed apart again gives =
+      let only = parsed.only in
+      let mute = loud-not_mute command loud in
+      let first = parsed.session_is ∙ writes in
+      let none = apart-only only apart in
+      answers-unchanged {g = g} only_now {line = Whole line} (Refused refusals.Failed) refl (given-marked parsed (Refused refusals.Failed) gives) (quit-only only (λ e. mute (inr e)))
+      (may-turn_away g (record { session = session; held = held }) (session_of line) first (Whole line) (Refused refusals.Failed) none
+      (inr (inr (refl, failed, (λ silent. mute (silent-mute only silent)), λ spells. again (spells-same only commands.Reopen spells)))))
+      (λ known state at. step-refused (session_of line) first state (Whole line) none refusals.Failed (failed-refused state.writer only (is_failed at.writer failed) mute again))
+
+  -- it has no snapshots
+  pub answers-writer : IsOfSnapshots command → Gives sink (marked_text mark (Refused refusals.Writer)) before after turn
+      → AnswersLine g sink (Whole line) (record { session = session; held = held; output = before }) (record { session = session; held = held; output = after }) turn
+  answers-writer about gives =
+      let first = parsed.session_is ∙ writes in
+      let asks = asks-only parsed.only about in
+      answers-unchanged {g = g} only_now {line = Whole line} (Refused refusals.Writer) refl (given-marked parsed (Refused refusals.Writer) gives) (quit-only parsed.only (λ e. loud-not_mute command loud (inr e)))
+      (may-writer g (record { session = session; held = held }) (session_of line) first (Whole line) asks) (λ known state at. step-writer (session_of line) first state (Whole line) asks)
+
+-- ---- a line of whichever session
 
 blank-not_quit : ¬ (commands.Quit ≡ commands.Blank)
 blank-not_quit e = cc
 
+blank-apart : ¬ IsOfSnapshots commands.Blank
+blank-apart (inl e) = cc
+blank-apart (inr e) = cc
+
+quit-apart : ¬ IsOfSnapshots commands.Quit
+quit-apart (inl e) = cc
+quit-apart (inr e) = cc
+
 module _ {D K : Type 0} (g : DiskGhosts D) (only_now : OnlyNow g) (sink : SinkGhosts K) where
-  -- a line of blanks
-  pub answers-blank : {line : List ℕ} {terminal : Terminal D K} → SpellsOnly line commands.Blank → AnswersLine g sink (Whole line) terminal terminal turns.Go
-  answers-blank {line = line} only = answers-silent {g = g} only_now {line = Whole line} (λ e. cc) (inl only.spelled) ((λ e. cc), λ h. absurd (blank-not_quit (only.only commands.Quit h)))
+  module _ {line : List ℕ} {terminal : Terminal D K} where
+    silent_line : {command : Command} {turn : Turn} → SpellsOnly line command → ¬ IsOfSnapshots command → turn ≢ turns.SinkFault → IsSilent (Whole line) → ((turn ≡ turns.Quit) ↔ IsQuit (Whole line)) → AnswersLine g sink (Whole line) terminal terminal turn
+    silent_line only apart goes silent quit =
+        let none = apart-only only apart in
+        answers-silent {g = g} only_now {line = Whole line} goes quit (may-silent g (shared_in terminal) (session_of line) (Whole line) none silent) (λ state. step-silent (session_of line) state (Whole line) none silent)
 
-  -- the end of the run
-  pub answers-quit : {line : List ℕ} {terminal : Terminal D K} → SpellsOnly line commands.Quit → AnswersLine g sink (Whole line) terminal terminal turns.Quit
-  answers-quit {line = line} only = answers-silent {g = g} only_now {line = Whole line} (λ e. cc) (inr only.spelled) ((λ e. only.spelled), λ h. refl)
+    -- a line of blanks
+    pub answers-blank : SpellsOnly line commands.Blank → AnswersLine g sink (Whole line) terminal terminal turns.Go
+    answers-blank only = silent_line only blank-apart (λ e. cc) (inl only.spelled) ((λ e. cc), λ h. absurd (blank-not_quit (only.only commands.Quit h)))
 
-module _ {D K : Type 0} (g : DiskGhosts D) (only_now : OnlyNow g) (sink : SinkGhosts K) {session : SessionView D} {before after : K} {turn : Turn} where
-  -- the disk has failed the session
-  pub answers-failed : {line : List ℕ} {command : Command} → SpellsOnly line command → session.console.health ≡ healths.Failed → ¬ IsMute command → command ≢ commands.Reopen
-      → Gives sink (reply_text (Refused refusals.Failed)) before after turn
-      → AnswersLine g sink (Whole line) (record { session = session; output = before }) (record { session = session; output = after }) turn
-  answers-failed {line = line} only failed loud other gives =
-      answers-given {line = Whole line} (Refused refusals.Failed) gives (quit-only only (λ e. loud (inr e))) (onward-none {g = g} only_now)
-      (λ none. inr (inl (inr (inr (refl, failed, (λ silent. loud (silent-mute only silent)), λ spells. other (spells-same only commands.Reopen spells))), refl)))
-      (λ known state at. settles-refused_at_once {g = as_known known g} only_now {line = Whole line} at refusals.Failed (λ told. failed-refused state only (is_failed at failed) loud other))
+    -- the end of the run
+    pub answers-quit : SpellsOnly line commands.Quit → AnswersLine g sink (Whole line) terminal terminal turns.Quit
+    answers-quit only = silent_line only quit-apart (λ e. cc) (inr only.spelled) ((λ e. only.spelled), λ h. refl)
 
-  -- the line is too long
-  pub answers-long : Gives sink (reply_text (Refused refusals.LongLine)) before after turn
-      → AnswersLine g sink Long (record { session = session; output = before }) (record { session = session; output = after }) turn
-  answers-long gives =
-      answers-given {line = Long} (Refused refusals.LongLine) gives (λ quit. quit) (onward-none {g = g} only_now) (λ none. inr (inl (inl (refusals.LongLine, refl, inl (refl, refl)), refl)))
-      (λ known state at. settles-refused_at_once {g = as_known known g} only_now {line = Long} at refusals.LongLine (λ told. long-refused state))
-
-  module _ (line : List ℕ) where
-    answers-refused : (fault : LineFault) (why : Refusal) → IsLeftmostFault line fault → refusal_of fault ≡ Some why → ¬ Spells line commands.Quit
-        → Gives sink (reply_text (Refused why)) before after turn
-        → AnswersLine g sink (Whole line) (record { session = session; output = before }) (record { session = session; output = after }) turn
-    answers-refused fault why leftmost is quit gives =
-        answers-given {line = Whole line} (Refused why) gives quit (onward-none {g = g} only_now) (λ none. inr (inl (inl (why, refl, inr (line, refl, fault, leftmost, is)), refl)))
-        (λ known state at. settles-refused_at_once {g = as_known known g} only_now {line = Whole line} at why (λ told. fault-refused state line fault why leftmost is))
-
-    -- the line spells no command
-    pub answers-fault : (fault : LineFault) → (fault ≢ faults.Memory → IsLeftmostFault line fault) → (fault ≢ faults.Memory → (command : Command) → ¬ Spells line command)
-        → (fault ≡ faults.Memory → (command : Command) → NeedsNoMemory command → ¬ Spells line command)
-        → Gives sink (reply_text (reply_of (told_of fault))) before after turn
-        → AnswersLine g sink (Whole line) (record { session = session; output = before }) (record { session = session; output = after }) turn
-    answers-fault fault leftmost none memory gives = by (refusal_of fault) refl gives
+  module _ {session : SessionView D} {held : Snapshots} {before after : K} {turn : Turn} where
+    -- the line is too long
+    pub answers-long : Gives sink (marked_text [] (Refused refusals.LongLine)) before after turn
+        → AnswersLine g sink Long (record { session = session; held = held; output = before }) (record { session = session; held = held; output = after }) turn
+    answers-long gives =
+        answers-unchanged {g = g} only_now {line = Long} (Refused refusals.LongLine) refl gives (λ quit. quit)
+        (may-unanswered g (record { session = session; held = held }) 0 Long (Refused refusals.LongLine) long-apart (inl (refusals.LongLine, refl, inl (refl, refl))))
+        (λ known state at. step-refused 0 refl state Long long-apart refusals.LongLine (long-refused state.writer))
       where
-        by : (told : Option Refusal) → refusal_of fault ≡ told → Gives sink (reply_text (reply_of (told_by told))) before after turn
-            → AnswersLine g sink (Whole line) (record { session = session; output = before }) (record { session = session; output = after }) turn
-        by None is given =
-            let lacks = memory (memory-only fault is) in
-            answers-given {line = Whole line} (Faulted [] NoMemory) given (lacks commands.Quit tt) (onward-none {g = g} only_now) (λ none. inr (inl (inr (inl (refl, lacks-memory line lacks)), refl)))
-            (λ known state at. settles-memory_at_once {g = as_known known g} only_now {line = Whole line} at (lacks-memory line lacks))
-        by (Some why) is given = answers-refused fault why (leftmost (refused-other fault why is)) is (none (refused-other fault why is) commands.Quit) given
+        long-apart : ¬ AsksForSnapshot Long
+        long-apart (inl h) = h
+        long-apart (inr h) = h
 
-pub loud-not_mute : (command : Command) → IsLoud command → ¬ IsMute command
-loud-not_mute command loud (inl e) = subst IsLoud e loud tt
-loud-not_mute command loud (inr e) = subst IsLoud e loud tt
+    module _ (line : List ℕ) (fault : LineFault) (none : fault ≢ faults.Memory → (command : Command) → ¬ Spells line command) (memory : fault ≡ faults.Memory → (command : Command) → NeedsNoMemory command → ¬ Spells line command) where
+      -- the line spells no command
+      pub answers-fault : (fault ≢ faults.Memory → IsLeftmostFault line fault) → Gives sink (marked_text (mark_in (Whole line)) (reply_of (told_of fault))) before after turn
+          → AnswersLine g sink (Whole line) (record { session = session; held = held; output = before }) (record { session = session; held = held; output = after }) turn
+      answers-fault leftmost gives = by (refusal_of fault) refl gives
+        where
+          by : (told : Option Refusal) → refusal_of fault ≡ told → Gives sink (marked_text (mark_in (Whole line)) (reply_of (told_by told))) before after turn
+              → AnswersLine g sink (Whole line) (record { session = session; held = held; output = before }) (record { session = session; held = held; output = after }) turn
+          by None is given =
+              let lacks = lacks-memory line (memory (memory-only fault is)) in
+              let apart = fault-apart line (spells-none line fault none memory) in
+              answers-unchanged {g = g} only_now {line = Whole line} (Faulted [] NoMemory) refl given (spells-none line fault none memory commands.Quit tt)
+              (may-unanswered g (record { session = session; held = held }) (session_of line) (Whole line) (Faulted [] NoMemory) apart (inr (refl, lacks)))
+              (λ known state at. step-memory (session_of line) state (Whole line) apart lacks)
+          by (Some why) is given =
+              let first = leftmost (refused-other fault why is) in
+              let apart = fault-apart line (spells-none line fault none memory) in
+              answers-unchanged {g = g} only_now {line = Whole line} (Refused why) refl given (spells-none line fault none memory commands.Quit tt)
+              (may-unanswered g (record { session = session; held = held }) (session_of line) (Whole line) (Refused why) apart (inl (why, refl, inr (line, refl, fault, first, is))))
+              (λ known state at. step-fault (session_of line) state line apart fault why first is)

@@ -1,26 +1,31 @@
 -- What stands in a draft, and beneath it.
-use Rattle.std.proofs.Common.{◌≡◌, ◌⊎◌, ◌∙◌, ◌≤◌, ℕ, inl, inr, refl, sym, subst}
+use Rattle.std.proofs.Common.{◌≡◌, ◌⊎◌, ◌∙◌, ◌≤◌, ℕ, length, inl, inr, refl, sym, subst}
 use Rattle.fault_count.specs.Cause.{Rose}
-use Rattle.disk_model.specs.Spans.{AtEachMoment}
+use Rattle.disk_model.specs.Spans.{AtEachMoment, OnlyReads}
 use Rattle.disk_model.specs.declared.disk.Disk.{Ghosts}
 use Rattle.plain_graph.specs.Graph.{Graph}
 use Rattle.plain_graph.specs.declared.command.Command.{Command}
 use Rattle.rec_bytes.specs.declared.key.Key.{Key}
 use Rattle.rec_bytes.specs.declared.record.Rec.{Rec}
 use Rattle.rec_bytes.specs.declared.shape.Shape.{Shape}
+use Rattle.rec_bytes.specs.Pairs.{Pairs, merged}
 use Rattle.rec_bytes.specs.Space.{State as Space}
 use Rattle.record_file.specs.Redone.{Redoes}
 use Rattle.txn_core.specs.Base.{SameBeneath}
 use Rattle.txn_core.specs.Kept.{IsOnDisk}
+use Rattle.txn_core.specs.Outcomes.{HasFailedCommit}
+use Rattle.txn_core.specs.Sights.{KeepsSights}
 use Rattle.txn_core.specs.Store as store
+use Rattle.snap_store.specs.Keeping.{KeepsHeld}
+use Rattle.snap_store.specs.Snaps.{Snapshots}
 use Rattle.graph_ops.specs.Change.{IsRefusal}
 use Rattle.graph_ops.specs.Store.{graph_in}
 use Rattle.graph_ops.specs.declared.change_fault.ChangeFault.{ChangeFault}
 use Rattle.graph_ops.specs.declared.change_fault.ChangeFault.TheVariants as faults
-use Rattle.graph_session.specs.Drafting.{Closes, CommitsRecords, DoubtsRecords, HasStore, IsStopped, TriesCommit, answer_for}
+use Rattle.graph_session.specs.Drafting.{Closes, CommitsRecords, DoubtsRecords, DropsRecords, EndsCommit, HasStore, IsStopped, TriesCommit, answer_for}
 use Rattle.graph_session.specs.State.{State, seen}
 use Rattle.graph_session.specs.declared.answer.Answer.{Answer}
-use Rattle.graph_session.specs.declared.answer.Answer.TheVariants as answers
+use Rattle.graph_session.specs.declared.health.Health.TheVariants as healths
 use Rattle.graph_session.specs.declared.session.Session.{Session}
 use Rattle.graph_session.proofs.StoreRecords.{committed-beneath}
 
@@ -28,6 +33,11 @@ crash-either : {D : Type 0} (g : Ghosts D) (disk other now : D) (a b c d : Key �
 crash-either {D = D} g disk other now a b c d same e f h =
     subst (λ (records : Key → Rec). AtEachMoment g other now (λ left. Redoes left c ⊎ Redoes left records)) f
     (subst (λ (records : Key → Rec). AtEachMoment g other now (λ left. Redoes left records ⊎ Redoes left b)) e (subst (λ (was : D). AtEachMoment g was now (λ left. Redoes left a ⊎ Redoes left b)) same h))
+
+-- what snapshots see over the same records, by the same old ones
+pub sights-as : {D : Type 0} (g : Ghosts D) (disk : D) (a b : Key → Rec) (held old new : Snapshots) → a ≡ b → held ≡ old → KeepsSights g a disk held new → KeepsSights g b disk old new
+sights-as g disk a b held old new same is sights =
+    subst (λ (records : Key → Rec). KeepsSights g records disk old new) same (subst (λ (was : Snapshots). KeepsSights g a disk was new) is sights)
 
 -- The space has the shape and the graph that a line sees.
 pub record Sees (space : Space) (state : State) : Type 0 where
@@ -74,20 +84,39 @@ module _ {D : Type 0} {g : Ghosts D} where
       rose = subst (λ (disk : D). Rose (g.faults disk) (g.faults new.store.base.disk.now)) same.disk doubts.rose;
     }
 
-    pub tries-kept : mid.names.names ≡ old.names.names → mid.health ≡ old.health → (made answer : Answer) → TriesCommit (store.working mid.store) mid new made answer
-        → TriesCommit (store.drafted old.store) old new made answer
-    tries-kept names health made answer tries = record {
+    drops-kept : mid.names.names ≡ old.names.names → DropsRecords mid new → DropsRecords old new
+    drops-kept names drops = record {
+      closes = closes-kept drops.closes;
+      health = drops.health;
+      names = drops.names ∙ names;
+      disk = subst (λ (disk : D). OnlyReads g disk new.store.base.disk.now) same.disk drops.disk;
+      rose = subst (λ (disk : D). Rose (g.faults disk) (g.faults new.store.base.disk.now)) same.disk drops.rose;
+    }
+
+    pub tries-kept : mid.names.names ≡ old.names.names → mid.health ≡ old.health → mid.store.base.own.pairs ≡ merged old.store.base.own.pairs old.store.draft.pairs → mid.snaps ≡ old.snaps
+        → (made answer : Answer) → TriesCommit (store.working mid.store) mid.store.base.own.pairs mid new made answer
+        → TriesCommit (store.drafted old.store) (merged old.store.base.own.pairs old.store.draft.pairs) old new made answer
+    tries-kept names health own snaps made answer tries = record {
       crash = λ told images.
           crash-either g mid.store.base.disk.now old.store.base.disk.now new.store.base.disk.now (store.committed mid.store) (store.working mid.store) (store.committed old.store) (store.drafted old.store) same.disk
           (committed-beneath old.store.base mid.store.base same) kept (tries.crash told images);
       later = subst (λ (disk : D). g.faults disk ≤ g.faults new.store.base.disk.now) same.disk tries.later;
+      sights = sights-as g new.store.base.disk.now (store.committed mid.store) (store.committed old.store) mid.snaps old.snaps new.snaps (committed-beneath old.store.base mid.store.base same) snaps tries.sights;
+      held = λ weight few.
+          subst (λ (held : Snapshots). KeepsHeld weight held new.snaps) snaps (tries.held weight (subst (λ (written : Pairs). length written ≤ weight) (sym own) few));
       ends = ends tries.ends;
     }
       where
-        ends : ((answer ≡ made) × CommitsRecords (store.working mid.store) mid new) ⊎ ((answer ≡ answers.DiskFailed) × DoubtsRecords (store.working mid.store) mid new)
-            → ((answer ≡ made) × CommitsRecords (store.drafted old.store) old new) ⊎ ((answer ≡ answers.DiskFailed) × DoubtsRecords (store.drafted old.store) old new)
+        ends : EndsCommit (store.working mid.store) mid new made answer → EndsCommit (store.drafted old.store) old new made answer
         ends (inl (is, commits)) = inl (is, commits-kept names health commits)
-        ends (inr (is, doubts)) = inr (is, doubts-kept names doubts)
+        ends (inr (is, inl drops)) = inr (is, inl (drops-kept names drops))
+        ends (inr (is, inr doubts)) = inr (is, inr (doubts-kept names doubts))
+
+  -- the disk failed in a commit
+  pub records-failed : (old new : Session D g) → Closes old new → new.health ≡ healths.Failed → new.names.names ≡ old.names.names → Rose (g.faults old.store.base.disk.now) (g.faults new.store.base.disk.now)
+      → HasFailedCommit old.store.base new.store.base → DropsRecords old new ⊎ DoubtsRecords (store.working old.store) old new
+  records-failed old new closes health names rose (inl dropped) = inl (record { closes = closes; health = health; names = names; disk = dropped.reads; rose = rose })
+  records-failed old new closes health names rose (inr doubt) = inr (record { closes = closes; health = health; names = names; stored = doubt.stored; rose = rose })
 
   -- why no change was drafted, by the fault of its call
   pub fault-stopped : (command : Command) (old : Session D g) (now : D) (fault : ChangeFault)

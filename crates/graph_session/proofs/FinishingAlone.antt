@@ -3,11 +3,13 @@ use Rattle.std.proofs.Common.{◌≡◌, ◌⊎◌, ◌∙◌, ◌≤◌, ℕ, B
 use Rattle.fault_count.specs.Cause.{Rose}
 use Rattle.disk_model.specs.Spans.{AtEachMoment, OnlyReads}
 use Rattle.disk_model.specs.declared.disk.Disk.{Ghosts}
+use Rattle.disk_model.proofs.Spans.{only_reads_on}
 use Rattle.stream_io.specs.Lines.{Whole}
 use Rattle.plain_graph.specs.Changes.{Changes, IsChange}
 use Rattle.plain_graph.specs.Graph.{Graph}
 use Rattle.plain_graph.specs.Refusals.{NoReason, change_reasons}
 use Rattle.plain_graph.specs.declared.command.Command.{Command}
+use Rattle.rec_bytes.specs.Pairs.{merged}
 use Rattle.rec_bytes.specs.declared.key.Key.{Key}
 use Rattle.rec_bytes.specs.declared.record.Rec.{Rec}
 use Rattle.rec_bytes.specs.declared.shape.Shape.{Shape}
@@ -19,10 +21,10 @@ use Rattle.txn_core.specs.Store.{committed, drafted, state_of}
 use Rattle.graph_session.specs.Answer.{Settles}
 use Rattle.graph_session.specs.Answering.{reply_of}
 use Rattle.graph_session.specs.Console.{IsAt}
-use Rattle.graph_session.specs.Drafting.{CommitsRecords, DoubtsRecords, Drafts, DropsAlone, FinishesAlone, HasDraft, HasStore, IsStopped, OnlyDrafts, TellsChange, TriesCommit}
-use Rattle.graph_session.specs.Effects.{CommitsAlone, CommitsFrom, FailsAlone, IsAloneInDoubt, Stays}
+use Rattle.graph_session.specs.Drafting.{Closes, CommitsRecords, DoubtsRecords, Drafts, DropsAlone, DropsRecords, EndsCommit, FinishesAlone, HasDraft, HasStore, IsStopped, OnlyDrafts, TellsChange, TriesCommit}
+use Rattle.graph_session.specs.Effects.{CommitsAlone, CommitsFrom, Ends, FailsDrafted, FailsRead, IsAloneInDoubt, Stays}
 use Rattle.graph_session.specs.Known.{as_known}
-use Rattle.graph_session.specs.MayStep.{MayAnswer}
+use Rattle.graph_session.specs.MayStep.{HasFailedChange, MayAnswer, TellsDiskFault}
 use Rattle.graph_session.specs.Refusals.{IsAccepted, SpellsOnly}
 use Rattle.graph_session.specs.Session.{view}
 use Rattle.graph_session.specs.Settling.{SettlesCommand}
@@ -37,19 +39,20 @@ use Rattle.graph_session.proofs.Conditions.{accepted, alone-light}
 use Rattle.graph_session.proofs.Drafts.{Sees, sees-as, stored-either}
 use Rattle.graph_session.proofs.StoreRecords.{committed-beneath, committed-read, drafted-none, length-none, working-none}
 use Rattle.graph_session.proofs.Anyhow.{made-good, may-change, may-stopped}
+use Rattle.graph_session.proofs.FailedReads.{fails-drafted}
 use Rattle.graph_session.proofs.Finishing.{settles-stopped, unmade-memory}
 use Rattle.graph_session.proofs.Held.{held, seen_closed, take-brought}
-use Rattle.graph_session.proofs.Knowing.{alone_in_doubt-known, commits_alone-known, fails_alone-known, from-known, stays-known, told_of}
+use Rattle.graph_session.proofs.Knowing.{alone_in_doubt-known, commits_alone-known, fails_drafted-known, fails_read-known, from-known, stays-known, told_of}
 use Rattle.graph_session.proofs.States.{is_closed}
 use Rattle.graph_session.proofs.Streams.{Rose-from}
 
 module _ {D : Type 0} {g : Ghosts D} {begun mid : Session D g} (old new : Session D g) (live : old.health ≡ healths.Live) (closed : old.store.base.in_transaction ≡ false) (idle : length old.store.base.own.pairs ≡ 0)
     (same : SameBeneath old.store.base begun.store.base) (own : begun.store.base.own.pairs ≡ []) (draft : begun.store.draft.pairs ≡ []) (names : begun.names.names ≡ old.names.names) (health : begun.health ≡ old.health)
     (only : OnlyDrafts begun mid) where
-  drafted-begun : drafted begun.store ≡ committed old.store
+  pub drafted-begun : drafted begun.store ≡ committed old.store
   drafted-begun = drafted-none begun.store draft ∙ working-none begun.store.base own ∙ committed-beneath old.store.base begun.store.base same
 
-  committed-mid : committed mid.store ≡ committed old.store
+  pub committed-mid : committed mid.store ≡ committed old.store
   committed-mid = committed-read begun.store.base mid.store.base only.base ∙ committed-beneath old.store.base begun.store.base same
 
   shape-mid : mid.store.base.shape ≡ old.store.base.shape
@@ -80,7 +83,7 @@ module _ {D : Type 0} {g : Ghosts D} {begun mid : Session D g} (old new : Sessio
     sees-begun = record { shape = at.shape ∙ sym same.shape; graph = seen_closed state (is_closed at closed) ∙ sym begun-graph }
 
   module _ (count : ℕ) (counts : count ≡ length old.names.names) (answer : Answer) (drops : DropsAlone count mid new answer) where
-    disk-dropped : OnlyReads g old.store.base.disk.now new.store.base.disk.now
+    pub disk-dropped : OnlyReads g old.store.base.disk.now new.store.base.disk.now
     disk-dropped = subst (λ (disk : D). OnlyReads g old.store.base.disk.now disk) (sym drops.beneath.disk) reads-mid
 
     committed-dropped : committed new.store ≡ committed old.store
@@ -106,7 +109,7 @@ module _ {D : Type 0} {g : Ghosts D} {begun mid : Session D g} (old new : Sessio
       working = λ told. working-none new.store.base drops.closes.own ∙ committed-dropped ∙ sym (working-none old.store.base (length-none old.store.base.own.pairs idle));
     }
 
-    fails-dropped : answer ≡ answers.DiskFailed → FailsAlone g (view old) (view new)
+    fails-dropped : answer ≡ answers.DiskFailed → FailsRead g (view old) (view new)
     fails-dropped is = record {
       ends = record { shape = drops.beneath.shape ∙ shape-mid; is_open = drops.closes.in_transaction; no_draft = drops.closes.draft };
       health = drops.failed is;
@@ -130,9 +133,9 @@ module _ {D : Type 0} {g : Ghosts D} {begun mid : Session D g} (old new : Sessio
         → Settles (as_known known g) (Whole line) (view old) (view new) state (reply_of answer)
     unmade-alone known change spelled at stopped =
         settles-stopped known at live spelled change begun mid.store.base.disk.now (has-begun known at) (sees-begun known at) answer stopped stays-dropped
-        (λ is rose. settles-alone_read_fault at live closed spelled change (fails_alone-known known (fails-dropped is)) (rose-dropped rose))
+        (λ is rose. settles-alone_read_fault at live closed spelled change (fails-drafted (fails_read-known known (fails-dropped is))) (rose-dropped rose))
 
-  module _ (made : Drafted) (answer : Answer) (tries : TriesCommit (drafted mid.store) mid new made.answer answer) where
+  module _ (made : Drafted) (answer : Answer) (tries : TriesCommit (drafted mid.store) (merged mid.store.base.own.pairs mid.store.draft.pairs) mid new made.answer answer) where
     from-mid : CommitsFrom g (view old) (view new) (drafted mid.store)
     from-mid = record {
       mid = mid.store.base.disk.now;
@@ -145,9 +148,15 @@ module _ {D : Type 0} {g : Ghosts D} {begun mid : Session D g} (old new : Sessio
     later-tried : g.faults old.store.base.disk.now ≤ g.faults new.store.base.disk.now
     later-tried = let a = later-mid in let b = tries.later in omega (arith, a, b)
 
+    ends-mid : Closes mid new → Ends (view old) (view new)
+    ends-mid closes = record { shape = closes.same.shape ∙ shape-mid; is_open = closes.in_transaction; no_draft = closes.draft }
+
+    rose-mid : Rose (g.faults mid.store.base.disk.now) (g.faults new.store.base.disk.now) → Rose (g.faults old.store.base.disk.now) (g.faults new.store.base.disk.now)
+    rose-mid rose = Rose-from (g.faults old.store.base.disk.now) (g.faults mid.store.base.disk.now) (g.faults new.store.base.disk.now) later-mid rose
+
     commits-mid : CommitsRecords (drafted mid.store) mid new → CommitsAlone g (view old) (view new) (drafted mid.store)
     commits-mid commits = record {
-      ends = record { shape = commits.closes.same.shape ∙ shape-mid; is_open = commits.closes.in_transaction; no_draft = commits.closes.draft };
+      ends = ends-mid commits.closes;
       health = commits.health ∙ only.health ∙ health;
       live = commits.live;
       committed = commits.committed;
@@ -159,27 +168,34 @@ module _ {D : Type 0} {g : Ghosts D} {begun mid : Session D g} (old new : Sessio
     doubts-mid doubts =
         let stored = stored-either new.store.base.disk.now (committed mid.store) (drafted mid.store) (committed old.store) (drafted mid.store) committed-mid refl doubts.stored in
         record {
-          ends = record { shape = doubts.closes.same.shape ∙ shape-mid; is_open = doubts.closes.in_transaction; no_draft = doubts.closes.draft };
+          ends = ends-mid doubts.closes;
           health = doubts.health;
           brought = (only.brought.0, doubts.names ∙ names-mid);
           stored = record { read = stored.read; images = λ told. stored.images told.0 told.1 };
         }
 
+    drops-mid : DropsRecords mid new → FailsDrafted g (view old) (view new)
+    drops-mid drops = record {
+      ends = ends-mid drops.closes;
+      health = drops.health;
+      brought = (only.brought.0, drops.names ∙ names-mid);
+      disk = only_reads_on g old.store.base.disk.now mid.store.base.disk.now new.store.base.disk.now reads-mid drops.disk;
+    }
+
     may-tried : (command : Command) → IsChange command → TellsChange command made.answer → MayAnswer g command (view old) (reply_of answer) (view new)
     may-tried command change tells = by tries.ends
       where
-        by : ((answer ≡ made.answer) × CommitsRecords (drafted mid.store) mid new) ⊎ ((answer ≡ answers.DiskFailed) × DoubtsRecords (drafted mid.store) mid new)
-            → MayAnswer g command (view old) (reply_of answer) (view new)
+        by : EndsCommit (drafted mid.store) mid new made.answer answer → MayAnswer g command (view old) (reply_of answer) (view new)
         by (inl (is, commits)) =
             subst (λ (a : Answer). MayAnswer g command (view old) (reply_of a) (view new)) (sym is)
             (may-change g (view old) (reply_of made.answer) (view new) command change (inl (tells, inr (closed, drafted mid.store, from-mid, commits-mid commits))))
-        by (inr (is, doubts)) =
+        by (inr (is, failed)) =
             subst (λ (a : Answer). MayAnswer g command (view old) (reply_of a) (view new)) (sym is)
-            (may-change g (view old) (reply_of answers.DiskFailed) (view new) command change
-            (inr (inr (inr (inr (
-              (refl, Rose-from (g.faults old.store.base.disk.now) (g.faults mid.store.base.disk.now) (g.faults new.store.base.disk.now) later-mid doubts.rose),
-              inr (closed, inr (drafted mid.store, from-mid, doubts-mid doubts)),
-            ))))))
+            (may-change g (view old) (reply_of answers.DiskFailed) (view new) command change (inr (inr (inr (inr (fails failed))))))
+          where
+            fails : DropsRecords mid new ⊎ DoubtsRecords (drafted mid.store) mid new → TellsDiskFault g (view old) (reply_of answers.DiskFailed) (view new) × HasFailedChange g (view old) (view new)
+            fails (inl drops) = ((refl, rose-mid drops.rose), inr (closed, inr (inl (drops-mid drops))))
+            fails (inr doubts) = ((refl, rose-mid doubts.rose), inr (closed, inr (inr (drafted mid.store, from-mid, doubts-mid doubts))))
 
     module _ (known : Bool) {command : Command} (change : IsChange command) (tells : TellsChange command made.answer) (has : g.tells_reads → HasStore begun → HasDraft command begun mid made) {line : List ℕ} {state : State}
         (spelled : SpellsOnly line command) (at : IsAt (as_known known g) (view old) state) where
@@ -201,17 +217,19 @@ module _ {D : Type 0} {g : Ghosts D} {begun mid : Session D g} (old new : Sessio
           is_accepted told =
               accepted state spelled (change-reached at live spelled change) (sees-as (sees-begun known at told) (λ limit graph. NoReason change_reasons limit graph command) (alone-draft told).free) (alone-light state command (is_closed at closed))
 
-          by : ((answer ≡ made.answer) × CommitsRecords (drafted mid.store) mid new) ⊎ ((answer ≡ answers.DiskFailed) × DoubtsRecords (drafted mid.store) mid new)
-              → Settles (as_known known g) (Whole line) (view old) (view new) state (reply_of answer)
+          by : EndsCommit (drafted mid.store) mid new made.answer answer → Settles (as_known known g) (Whole line) (view old) (view new) state (reply_of answer)
           by (inl (is, commits)) =
               subst (λ (a : Answer). Settles (as_known known g) (Whole line) (view old) (view new) state (reply_of a)) (sym is)
               (settles-alone at live closed (drafted mid.store) spelled change (reply_of made.answer) (made-good command (reply_of made.answer) tells) (from-known known from-mid) (commits_alone-known known (commits-mid commits))
               (λ told. record { store = alone-store told; named = commits.names ∙ (alone-draft told).store.names }) is_accepted alone-changes)
-          by (inr (is, doubts)) =
+          by (inr (is, inl drops)) =
+              subst (λ (a : Answer). Settles (as_known known g) (Whole line) (view old) (view new) state (reply_of a)) (sym is)
+              (settles-alone_read_fault at live closed spelled change (fails_drafted-known known (drops-mid drops)) (rose-mid drops.rose))
+          by (inr (is, inr doubts)) =
               subst (λ (a : Answer). Settles (as_known known g) (Whole line) (view old) (view new) state (reply_of a)) (sym is)
               (settles-alone_fault at live closed (drafted mid.store) spelled change (reply_of made.answer) (from-known known from-mid) (alone_in_doubt-known known (doubts-mid doubts))
               (λ told. record { store = alone-store told; named = doubts.names ∙ (alone-draft told).store.names }) is_accepted alone-changes
-              (Rose-from (g.faults old.store.base.disk.now) (g.faults mid.store.base.disk.now) (g.faults new.store.base.disk.now) later-mid doubts.rose))
+              (rose-mid doubts.rose))
 
   module _ {command : Command} (change : IsChange command) (count : ℕ) (counts : count ≡ length old.names.names) where
     pub settles-finish_alone : (result : Result Drafted Answer) (answer : Answer) → Drafts command begun mid result → FinishesAlone result count mid new answer

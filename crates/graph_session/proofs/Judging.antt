@@ -1,10 +1,10 @@
 -- A verdict on the records of a space, and how many there are of each part of its graph.
-use Rattle.std.proofs.Common.{◌≡◌, ◌≢◌, ◌∙◌, ℕ, List, [], inl, inr, refl, sym, ap, subst, arith}
+use Rattle.std.proofs.Common.{◌≡◌, ℕ, List, [], inl, inr, refl, ap}
 use Rattle.fault_count.specs.Cause.{Rose}
 use Rattle.stream_io.specs.declared.streams.Sink.{Ghosts as SinkGhosts}
 use Rattle.plain_graph.specs.Counts.{counts_of}
 use Rattle.plain_graph.specs.Lines.{broken_text, counts_text, one_line, sound_text}
-use Rattle.plain_graph.specs.Reply.{DiskFailed, Faulted, NoMemory, Told, reply_text}
+use Rattle.plain_graph.specs.Reply.{DiskFailed, Faulted, NoMemory, Told, marked_text}
 use Rattle.plain_graph.specs.declared.command.Command.TheVariants as commands
 use Rattle.plain_graph.specs.declared.counts.Counts.{Counts}
 use Rattle.rec_bytes.specs.declared.damage.Damage.{Damage}
@@ -13,7 +13,7 @@ use Rattle.store_check.specs.Verdicts.{IsLeastBroken}
 use Rattle.store_check.specs.declared.verdict.Verdict.TheVariants as verdicts
 use Rattle.store_rules.specs.Graph.{graph_of}
 use Rattle.store_rules.specs.Rules.{IsWellFormed}
-use Rattle.traversal_run.specs.Reading.{IsNamedStore, IsRead}
+use Rattle.traversal_run.specs.Reading.{IsRead}
 use Rattle.graph_session.specs.Answer.{Gives}
 use Rattle.graph_session.specs.Questions.{GivesReading}
 use Rattle.graph_session.specs.State.{IsSpared}
@@ -22,11 +22,12 @@ use Rattle.graph_session.proofs.Conditions.{idle_reasons}
 
 check-spared : ¬ IsSpared commands.Check
 check-spared (inl spared) = spared
-check-spared (inr e) = cc
+check-spared (inr (inl e)) = cc
+check-spared (inr (inr e)) = cc
 
-module _ {R K : Type 0} {space : SpaceGhosts R} {sink : SinkGhosts K} (names : List (List ℕ)) {a b : R} (read : IsRead space a b) {before after : K} {turn : Turn} where
+module _ {R K : Type 0} {space : SpaceGhosts R} {sink : SinkGhosts K} (names : List (List ℕ)) {a b : R} (read : IsRead space a b) {mark : List ℕ} {before after : K} {turn : Turn} where
   -- the records keep the rules
-  pub gives-sound : (space.tells → IsWellFormed (space.state a).records (space.state a).shape) → Gives sink (reply_text (Told [] sound_text)) before after turn → GivesReading space sink names commands.Check a b before after turn
+  pub gives-sound : (space.tells → IsWellFormed (space.state a).records (space.state a).shape) → Gives sink (marked_text mark (Told [] sound_text)) before after turn → GivesReading space sink names commands.Check mark a b before after turn
   gives-sound keeps gives = record {
     reply = Told [] sound_text;
     form = (one_line sound_text, inl refl, refl, refl);
@@ -41,7 +42,7 @@ module _ {R K : Type 0} {space : SpaceGhosts R} {sink : SinkGhosts K} (names : L
   -- a rule is broken, so it is no store that stands for a graph
   pub gives-broken : (damage : Damage) → (space.tells → IsLeastBroken (space.state a).records (space.state a).shape 1 damage)
       → (space.tells → IsWellFormed (space.state a).records (space.state a).shape → verdicts.Broken damage ≡ verdicts.Sound)
-      → Gives sink (reply_text (Told [] (broken_text damage.file damage.id damage.rule))) before after turn → GivesReading space sink names commands.Check a b before after turn
+      → Gives sink (marked_text mark (Told [] (broken_text damage.file damage.id damage.rule))) before after turn → GivesReading space sink names commands.Check mark a b before after turn
   gives-broken damage least breaks gives = record {
     reply = Told [] (broken_text damage.file damage.id damage.rule);
     form = (one_line (broken_text damage.file damage.id damage.rule), inr (damage.file, damage.id, damage.rule, refl), refl, refl);
@@ -54,7 +55,7 @@ module _ {R K : Type 0} {space : SpaceGhosts R} {sink : SinkGhosts K} (names : L
   }
 
   -- no verdict was found
-  pub gives-memory : Gives sink (reply_text (Faulted [] NoMemory)) before after turn → GivesReading space sink names commands.Check a b before after turn
+  pub gives-memory : Gives sink (marked_text mark (Faulted [] NoMemory)) before after turn → GivesReading space sink names commands.Check mark a b before after turn
   gives-memory gives = record {
     reply = Faulted [] NoMemory;
     form = (check-spared, one_line sound_text, inl refl, tt, ([], refl));
@@ -66,7 +67,7 @@ module _ {R K : Type 0} {space : SpaceGhosts R} {sink : SinkGhosts K} (names : L
     idle = λ spared. absurd (check-spared spared);
   }
 
-  pub gives-disk : Rose (space.faults a) (space.faults b) → Gives sink (reply_text (Faulted [] DiskFailed)) before after turn → GivesReading space sink names commands.Check a b before after turn
+  pub gives-disk : Rose (space.faults a) (space.faults b) → Gives sink (marked_text mark (Faulted [] DiskFailed)) before after turn → GivesReading space sink names commands.Check mark a b before after turn
   gives-disk rose gives = record {
     reply = Faulted [] DiskFailed;
     form = (check-spared, one_line sound_text, inl refl, tt, ([], refl));
@@ -79,9 +80,9 @@ module _ {R K : Type 0} {space : SpaceGhosts R} {sink : SinkGhosts K} (names : L
   }
 
 -- what is counted, of which no record is read
-pub gives-counts : {R K : Type 0} {space : SpaceGhosts R} {sink : SinkGhosts K} (names : List (List ℕ)) {a : R} → IsRead space a a → {before after : K} {turn : Turn} → (counts : Counts)
+pub gives-counts : {R K : Type 0} {space : SpaceGhosts R} {sink : SinkGhosts K} (names : List (List ℕ)) {a : R} → IsRead space a a → {mark : List ℕ} {before after : K} {turn : Turn} → (counts : Counts)
     → (IsWellFormed (space.state a).records (space.state a).shape → counts ≡ counts_of (graph_of (space.state a).records))
-    → Gives sink (reply_text (Told [] (counts_text counts))) before after turn → GivesReading space sink names commands.Stats a a before after turn
+    → Gives sink (marked_text mark (Told [] (counts_text counts))) before after turn → GivesReading space sink names commands.Stats mark a a before after turn
 gives-counts names read counts are gives = record {
   reply = Told [] (counts_text counts);
   form = (one_line (counts_text counts), (counts, refl), refl, refl);

@@ -8,7 +8,7 @@ use Rattle.rec_bytes.specs.declared.record.Rec.{Rec}
 use Rattle.recovery.specs.Finding.{IsCareful}
 use Rattle.txn_core.specs.Kept.{IsOnDisk}
 use Rattle.graph_session.specs.Console.{SessionView, TellsAll}
-use Rattle.graph_session.specs.Effects.{IsStored, Begins, Commits, CommitsAlone, CommitsFrom, Drops, FailsAlone, IsAloneInDoubt, IsBrought, IsFound, IsLeftOpen, IsLost, IsStopped, Keeps, KeepsBeneath, Stays}
+use Rattle.graph_session.specs.Effects.{IsStored, Begins, Commits, CommitsAlone, CommitsFrom, Drops, FailsDrafted, FailsRead, IsAloneInDoubt, IsBrought, IsFound, IsLeftOpen, IsLost, IsStopped, Keeps, KeepsBeneath, Stays}
 use Rattle.graph_session.specs.Known.{TellsIf, as_known}
 use Rattle.graph_session.specs.Opening.{IsUnopened, LeavesByOpening, LeavesRefused}
 use Rattle.txn_core.specs.declared.config.Config.{Config}
@@ -80,8 +80,11 @@ module _ (known : Bool) {D : Type 0} {g : Ghosts D} where
   pub from-known : {old new : SessionView D} {now : Key → Rec} → CommitsFrom g old new now → CommitsFrom (as_known known g) old new now
   from-known x = record { mid = x.mid; reads = reads-known x.reads; crash = λ t. x.crash (told_all known g t) }
 
-  pub fails_alone-known : {old new : SessionView D} → FailsAlone g old new → FailsAlone (as_known known g) old new
-  fails_alone-known x = record { ends = x.ends; health = x.health; names = x.names; disk = reads-known x.disk }
+  pub fails_read-known : {old new : SessionView D} → FailsRead g old new → FailsRead (as_known known g) old new
+  fails_read-known x = record { ends = x.ends; health = x.health; names = x.names; disk = reads-known x.disk }
+
+  pub fails_drafted-known : {old new : SessionView D} → FailsDrafted g old new → FailsDrafted (as_known known g) old new
+  fails_drafted-known x = record { ends = x.ends; health = x.health; brought = x.brought; disk = reads-known x.disk }
 
   pub careful-known : {old new : D} → IsCareful g old new → IsCareful (as_known known g) old new
   careful-known {old = old} {new = new} x told = ⊎_elim (λ (reads : OnlyReads g old new). inl (reads-known reads)) (λ store. inr store) (x (told_of known g told))

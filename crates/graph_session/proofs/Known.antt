@@ -1,5 +1,5 @@
 -- The names in memory begin with those of each graph that the disk may hold.
-use Rattle.std.proofs.Common.{◌≡◌, ◌∙◌, ℕ, zero, suc, List, [], ◌∷◌, Contains, refl, sym, subst, arith}
+use Rattle.std.proofs.Common.{◌≡◌, ◌∙◌, ℕ, zero, suc, List, [], ◌∷◌, ◌++◌, Contains, append_assoc, refl, sym, ap, subst, arith}
 use Rattle.std.proofs.lemmas.List.{append-nil}
 use Rattle.disk_model.specs.declared.disk.Disk.{Ghosts}
 use Rattle.plain_graph.specs.Graph.{Graph}
@@ -12,6 +12,10 @@ begin-same names old first same begins = (begins.0, same ∙ begins.1)
 
 pub begin-all : (names first : List (List ℕ)) → names ≡ first → BeginWith names first
 begin-all names first same = ([], same ∙ sym (append-nil first))
+
+-- and so do more names
+pub begin-more : (names old first : List (List ℕ)) → BeginWith names old → BeginWith old first → BeginWith names first
+begin-more names old first more begins = (begins.0 ++ more.0, more.1 ∙ ap (λ (known : List (List ℕ)). known ++ more.0) begins.1 ∙ append_assoc first begins.0 more.0)
 
 begin-of : (names : List (List ℕ)) (a graph : Graph) → a ≡ graph → BeginWith names a.names → BeginWith names graph.names
 begin-of names a graph is = subst (λ (found : Graph). BeginWith names found.names) is

@@ -6,7 +6,7 @@ use Rattle.disk_model.specs.declared.disk.Disk.{Ghosts as DiskGhosts}
 use Rattle.stream_io.specs.Lines.{Whole}
 use Rattle.stream_io.specs.declared.streams.Sink.{Ghosts as SinkGhosts}
 use Rattle.plain_graph.specs.Graph.{Graph}
-use Rattle.plain_graph.specs.Kinds.{AreQuestions, Blanks, Bound, Change, Ending, Kind, Question, Upkeep}
+use Rattle.plain_graph.specs.Kinds.{AreQuestions, Blanks, Bound, Change, Ending, Kind, Question, Sight, Upkeep}
 use Rattle.plain_graph.specs.Lines.{IsQuestion, kind_of}
 use Rattle.plain_graph.specs.Reply.{DamagedRecord, DiskFailed, Done, EdgeMade, Faulted, NoMemory, NodeMade, PastCount, Refused, Reply, Silent, Told}
 use Rattle.plain_graph.specs.declared.command.Command.{Command}
@@ -36,12 +36,12 @@ use Rattle.graph_session.proofs.Staying.{comes-stays}
 
 -- ---- what a line that reads is not
 
-asks-none : (command : Command) → IsQuestion command → ¬ NeedsNone command
+pub asks-none : (command : Command) → IsQuestion command → ¬ NeedsNone command
 asks-none command asks (inl e) = subst IsQuestion e asks
 asks-none command asks (inr (inl e)) = subst IsQuestion e asks
 asks-none command asks (inr (inr e)) = subst IsQuestion e asks
 
-asks-one : (command : Command) → IsQuestion command → ¬ NeedsOne command
+pub asks-one : (command : Command) → IsQuestion command → ¬ NeedsOne command
 asks-one command asks (inl e) = subst IsQuestion e asks
 asks-one command asks (inr e) = subst IsQuestion e asks
 
@@ -52,7 +52,7 @@ asks-live console command asks (inr e) = absurd (subst IsQuestion e asks)
 
 -- ---- what it is told
 
-carries-told : (state : State) (command : Command) → IsQuestion command → (lines : List (List ℕ)) (last : List ℕ) → ShowsAll (seen state) command lines last → CarriesOut state command (Told lines last) state
+pub carries-told : (state : State) (command : Command) → IsQuestion command → (lines : List (List ℕ)) (last : List ℕ) → ShowsAll (seen state) command lines last → CarriesOut state command (Told lines last) state
 carries-told state command asks lines last (reading, shows, none, these, ends) = by (kind_of command) asks
   where
     by : (kind : Kind) → AreQuestions kind → CarriesKind kind state command (Told lines last) state
@@ -60,10 +60,11 @@ carries-told state command asks lines last (reading, shows, none, these, ends) =
     by Ending is = absurd is
     by Bound is = absurd is
     by Upkeep is = absurd is
+    by Sight is = absurd is
     by Change is = absurd is
     by Question is = (reading, shows, none, (λ i. Told (these i) (ends i)), refl)
 
-leaves-same : (state : State) (line : List ℕ) (command : Command) → IsQuestion command → LeavesOpen state (Whole line) command state
+pub leaves-same : (state : State) (line : List ℕ) (command : Command) → IsQuestion command → LeavesOpen state (Whole line) command state
 leaves-same state line command asks = by (kind_of command) asks
   where
     by : (kind : Kind) → AreQuestions kind → LeavesKind kind state (Whole line) command state
@@ -71,6 +72,7 @@ leaves-same state line command asks = by (kind_of command) asks
     by Ending is = absurd is
     by Bound is = absurd is
     by Upkeep is = absurd is
+    by Sight is = absurd is
     by Change is = absurd is
     by Question is = refl
 
@@ -132,8 +134,8 @@ module _ {D : Type 0} {g : DiskGhosts D} {session : SessionView D} {state : Stat
 module _ {D : Type 0} {g : DiskGhosts D} {old new : SessionView D} {state : State} (at : IsAt g old state) (live : old.console.health ≡ healths.Live) {line : List ℕ} {command : Command} (only : SpellsOnly line command) (asks : IsQuestion command)
     (stays : Stays g old new) where
   -- the reply that was given to a line that reads
-  pub settles-asked : {R K : Type 0} {space : SpaceGhosts R} {sink : SinkGhosts K} {a b : R} {before after : K} {turn : Turn}
-      (given : GivesReading space sink old.console.names command a b before after turn) → (g.tells_reads → space.tells) → (space.state a).records ≡ old.console.working → (space.state a).shape ≡ old.console.shape
+  pub settles-asked : {R K : Type 0} {space : SpaceGhosts R} {sink : SinkGhosts K} {mark : List ℕ} {a b : R} {before after : K} {turn : Turn}
+      (given : GivesReading space sink old.console.names command mark a b before after turn) → (g.tells_reads → space.tells) → (space.state a).records ≡ old.console.working → (space.state a).shape ≡ old.console.shape
       → (Rose (space.faults a) (space.faults b) → Rose (g.faults old.disk) (g.faults new.disk)) → (b ≡ a → new ≡ old) → Settles g (Whole line) old new state given.reply
   settles-asked {space = space} {a = a} given tells records shape rose same =
       settles-reading at live only asks stays (λ spared. same (given.idle spared)) given.reply given.form (λ blames. rose (given.told blames))

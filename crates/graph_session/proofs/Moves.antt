@@ -8,9 +8,9 @@ use Rattle.plain_graph.specs.Changes.{start_weight}
 use Rattle.plain_graph.specs.Reply.{DiskFailed, Done, Faulted, Refused}
 use Rattle.plain_graph.specs.declared.command.Command.TheVariants as commands
 use Rattle.plain_graph.specs.declared.refusal.Refusal.TheVariants as refusals
-use Rattle.rec_bytes.specs.Format.{names_file, nodes_file, properties_file, relationships_file, strings_file}
+use Rattle.rec_bytes.specs.Format.{names_file}
 use Rattle.rec_bytes.specs.Pairs.{Held}
-use Rattle.rec_bytes.specs.Space.{meta_in, meta_of}
+use Rattle.rec_bytes.specs.Space.{meta_of}
 use Rattle.rec_bytes.specs.declared.key.Key.{Key}
 use Rattle.rec_bytes.specs.declared.meta.Meta.{Meta}
 use Rattle.rec_bytes.specs.declared.record.Rec.{Rec}
@@ -18,23 +18,22 @@ use Rattle.record_file.specs.Redone.{Redoes}
 use Rattle.store_rules.specs.Views.{high}
 use Rattle.txn_core.specs.Base.{SameBeneath, SameStore}
 use Rattle.txn_core.specs.Kept.{IsOnDisk}
-use Rattle.txn_core.specs.Outcomes.{HasFailed, IsCheckpointed, IsInDoubt, IsWritten}
+use Rattle.txn_core.specs.Outcomes.{HasFailed, HasFailedCommit, IsCheckpointed, IsDropped, IsWritten}
 use Rattle.txn_core.specs.Store.{committed, state_of, working}
 use Rattle.txn_core.specs.declared.store.Store.{Store}
 use Rattle.graph_session.specs.Console.{SessionView}
-use Rattle.graph_session.specs.Effects.{Begins, Commits, Drops, Ends, IsBrought, IsLeftOpen, IsStopped, IsStored, KeepsBeneath}
+use Rattle.graph_session.specs.Effects.{Begins, Commits, Drops, Ends, FailsRead, IsBrought, IsLeftOpen, IsStopped, IsStored, KeepsBeneath}
 use Rattle.graph_session.specs.Known.{as_known}
 use Rattle.graph_session.specs.Settling.{SettlesCommand}
 use Rattle.graph_session.specs.declared.health.Health.{Health}
 use Rattle.graph_session.specs.declared.health.Health.TheVariants as healths
 use Rattle.graph_session.proofs.Answering.{settles-refused_at_once}
 use Rattle.graph_session.proofs.Conditions.{closed-refused, open-refused}
-use Rattle.graph_session.proofs.Knowing.{begins-known, brought-known, commits-known, drops-known, left_open-known, stopped-known, told_all}
+use Rattle.graph_session.proofs.Knowing.{begins-known, brought-known, commits-known, drops-known, fails_read-known, left_open-known, stopped-known, told_all}
 use Rattle.graph_session.proofs.States.{is_open, not_failed, not_open}
-use Rattle.graph_session.proofs.Staying.{stays-none}
 use Rattle.graph_session.proofs.StoreRecords.{committed-beneath, drafted-none, length-none, working-none}
 use Rattle.graph_session.proofs.Storage.{settles-checkpoint, settles-checkpoint_fault}
-use Rattle.graph_session.proofs.Transactions.{commit-open, rollback-open, settles-begin, settles-commit, settles-commit_fault, settles-rollback}
+use Rattle.graph_session.proofs.Transactions.{commit-open, rollback-open, settles-begin, settles-commit, settles-commit_fault, settles-commit_read_fault, settles-rollback}
 
 -- a session's view, from its parts
 abbrev pub seen_as : {D : Type 0} {g : Ghosts D} → Store D g → Health → ℕ → List (List ℕ) → SessionView D
@@ -177,22 +176,32 @@ module _ {D : Type 0} {g : Ghosts D} where
         onward = record { disk_later = later_on };
       }
 
-      is_left_open : IsInDoubt s.base t.base → IsLeftOpen g (seen_as s health weight names) (seen_as t healths.Failed weight names)
-      is_left_open doubt = record {
+      is_left_open : IsOnDisk g t.base.disk.now (λ left. Redoes left (committed s) ⊎ Redoes left (working s)) → IsLeftOpen g (seen_as s health weight names) (seen_as t healths.Failed weight names)
+      is_left_open stored = record {
         ends = ends health healths.Failed weight names;
         health = refl;
         names = refl;
-        stored = stored-either t.base.disk.now (committed s) (working s) doubt.stored;
+        stored = stored-either t.base.disk.now (committed s) (working s) stored;
       }
 
-      -- or it is left open whether it is
-      pub left_open : IsInDoubt s.base t.base → Rose (g.faults s.base.disk.now) (g.faults t.base.disk.now) → ¬ (s.base.own.pairs ≡ [])
+      is_read : IsDropped s.base t.base → FailsRead g (seen_as s health weight names) (seen_as t healths.Failed weight names)
+      is_read dropped = record { ends = ends health healths.Failed weight names; health = refl; names = refl; disk = dropped.reads }
+
+      -- the disk failed in the commit: it was only read, or it is left open whether what the transaction had is committed
+      pub commit_failed : HasFailedCommit s.base t.base → Rose (g.faults s.base.disk.now) (g.faults t.base.disk.now) → ¬ (s.base.own.pairs ≡ [])
           → SettlesCommand g commands.Commit (seen_as s health weight names) (seen_as t healths.Failed weight names) (Faulted [] DiskFailed)
-      left_open doubt rose busy = record {
+      commit_failed (inl dropped) rose busy = record {
         settles = λ known line state only served at.
             let open_one = is_open at opened in
-            settles-commit_fault at live open_one.0 open_one.1 only opened (λ told. let all = told_all known g told in crash all.0 all.1) (left_open-known known (is_left_open doubt)) rose;
-        may = λ none. inr (opened, (λ told. crash told.0 told.1), (λ nothing. absurd (busy nothing)), inr ((refl, rose), is_left_open doubt));
+            settles-commit_read_fault at live open_one.0 open_one.1 only opened (fails_read-known known (is_read dropped)) rose;
+        may = λ none. inr (opened, (λ told. crash told.0 told.1), (λ nothing. absurd (busy nothing)), inr ((refl, rose), inl (is_read dropped)));
+        onward = record { disk_later = later_on };
+      }
+      commit_failed (inr doubt) rose busy = record {
+        settles = λ known line state only served at.
+            let open_one = is_open at opened in
+            settles-commit_fault at live open_one.0 open_one.1 only opened (λ told. let all = told_all known g told in crash all.0 all.1) (left_open-known known (is_left_open doubt.stored)) rose;
+        may = λ none. inr (opened, (λ told. crash told.0 told.1), (λ nothing. absurd (busy nothing)), inr ((refl, rose), inr (is_left_open doubt.stored)));
         onward = record { disk_later = later_on };
       }
 

@@ -6,7 +6,7 @@ use Rattle.plain_graph.specs.Changes.{IsChange}
 use Rattle.plain_graph.specs.Graph.{Graph, empty_graph, has_node}
 use Rattle.plain_graph.specs.Kinds.{AreQuestions, Kind, Question}
 use Rattle.plain_graph.specs.Lines.{At, Between, IsFormed, IsQuestion, Reading, Shows, kind_of, nodes_of}
-use Rattle.plain_graph.specs.Reply.{DamagedRecord, DiskFailed, Faulted, NoMemory, Refused, Told, reply_text}
+use Rattle.plain_graph.specs.Reply.{DamagedRecord, DiskFailed, Faulted, NoMemory, Refused, Told, marked_text}
 use Rattle.plain_graph.specs.declared.command.Command.{Command}
 use Rattle.plain_graph.specs.declared.command.Command.TheVariants as commands
 use Rattle.plain_graph.specs.declared.refusal.Refusal.TheVariants as refusals
@@ -51,7 +51,8 @@ module _ {command : Command} (asks : AsksNodes command) where
 
   pub asks-unspared : ¬ IsSpared command
   asks-unspared (inl spared) = reads-lacks (kind_of command) asks.question spared
-  asks-unspared (inr is) = other-than commands.Stats (λ some. some) is
+  asks-unspared (inr (inl is)) = other-than commands.Stats (λ some. some) is
+  asks-unspared (inr (inr is)) = other-than commands.Release (λ some. some) is
 
   pub asks-idle : ¬ IsChange command
   asks-idle = asks-unchanging command asks.question
@@ -78,12 +79,12 @@ undamaged V fault sound damage is = subst (λ (f : ExpandFault). NotDamaged {T =
 
 -- ---- what is given
 
-module _ {R K : Type 0} {space : SpaceGhosts R} {sink : SinkGhosts K} {names : List (List ℕ)} {command : Command} (asks : AsksNodes command) {a b : R} (read : IsRead space a b) {before after : K} {turn : Turn} where
+module _ {R K : Type 0} {space : SpaceGhosts R} {sink : SinkGhosts K} {names : List (List ℕ)} {command : Command} (asks : AsksNodes command) {a b : R} (read : IsRead space a b) {mark : List ℕ} {before after : K} {turn : Turn} where
   -- the reading was told
   pub gives-told : (reading : Reading) → IsFormed command reading → reading.is_past ≡ false
       → (space.tells → IsNamedStore (space.state a).records (space.state a).shape names → HasNodes (graph_of (space.state a).records) (nodes_of command))
       → (space.tells → IsNamedStore (space.state a).records (space.state a).shape names → Shows (graph_of (space.state a).records) command reading)
-      → Gives sink (reply_text (Told reading.lines reading.last)) before after turn → GivesReading space sink names command a b before after turn
+      → Gives sink (marked_text mark (Told reading.lines reading.last)) before after turn → GivesReading space sink names command mark a b before after turn
   gives-told reading formed none has shows gives = record {
     reply = Told reading.lines reading.last;
     form = (reading, formed, refl, refl);
@@ -99,7 +100,7 @@ module _ {R K : Type 0} {space : SpaceGhosts R} {sink : SinkGhosts K} {names : L
   pub gives-unknown : (fault : ExpandFault) → (fault ≡ faults.Disk → Rose (space.faults a) (space.faults b))
       → (space.tells → IsNamedStore (space.state a).records (space.state a).shape names → (id : ℕ) → fault ≡ faults.NoNode id → LacksNode (graph_of (space.state a).records) (nodes_of command) id)
       → (space.tells → IsNamedStore (space.state a).records (space.state a).shape names → (damage : Damage) → ¬ (fault ≡ faults.Damaged damage))
-      → Gives sink (reply_text (reply_of (answer_for fault))) before after turn → GivesReading space sink names command a b before after turn
+      → Gives sink (marked_text mark (reply_of (answer_for fault))) before after turn → GivesReading space sink names command mark a b before after turn
   gives-unknown (faults.NoNode id) rose missing sound gives = record {
     reply = Refused (refusals.NoNode id);
     form = (asks-refusable asks, id, refl);

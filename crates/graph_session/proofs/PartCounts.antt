@@ -1,5 +1,5 @@
 -- How many there are of each part of the graph.
-use Rattle.std.proofs.Common.{◌≡◌, ◌∙◌, ℕ, nat_eq, Bool, true, false, not, cond, Some, None, is_some, List, length, refl, sym}
+use Rattle.std.proofs.Common.{◌≡◌, ◌∙◌, ℕ, nat_eq, Bool, true, false, not, cond, Some, None, is_some, length, refl, sym}
 use Rattle.plain_graph.specs.Counts.{counts_of}
 use Rattle.plain_graph.specs.declared.counts.Counts.{Counts}
 use Rattle.rec_bytes.specs.Format.{names_file, nodes_file, properties_file, relationships_file, strings_file}

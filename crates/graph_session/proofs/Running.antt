@@ -20,7 +20,7 @@ use Rattle.traversal_run.specs.Run.{meant, stopped_by, to_come}
 use Rattle.traversal_run.specs.declared.run.Run.{Run}
 use Rattle.graph_session.specs.Answer.{Gives}
 use Rattle.graph_session.specs.Exchange.{ShowsPast, ShowsSome, told_in}
-use Rattle.graph_session.specs.LineBuffer.{Adds}
+use Rattle.graph_session.specs.LineBuffer.{AddsLine, MarkedLines, no_lines}
 use Rattle.graph_session.specs.Questions.{GivesReading, MeansFault}
 use Rattle.graph_session.specs.declared.turn.Turn.{Turn}
 use Rattle.graph_session.specs.declared.turn.Turn.TheVariants.{Go}
@@ -61,29 +61,29 @@ first-first : (found : List Item) (item : Item) (coming : Stream) → with_first
 first-first found item coming = λ i. record { items = sym (append_assoc found (item ∷ []) coming.items) i; past = coming.past }
 
 -- Some results of a query were found, and the run has the others.
-pub record IsRunning {R K : Type 0} (space : SpaceGhosts R) (sink : SinkGhosts K) (names : List (List ℕ)) (query : Query) (old now : R) (before after : K) (held : List ℕ) (run : Run) : Type 0 where
+pub record IsRunning {R K : Type 0} (space : SpaceGhosts R) (sink : SinkGhosts K) (names : List (List ℕ)) (query : Query) (mark : List ℕ) (old now : R) (before after : K) (held : MarkedLines) (run : Run) : Type 0 where
   pub found : List Item
   pub coming : space.tells → IsNamedStore (space.state old).records (space.state old).shape names
       → meant (graph_of (space.state old).records) query ≡ with_first found (to_come (graph_of (space.state old).records) run)
   pub goes : stopped_by run ≡ None
   pub read : IsRead space old now
-  pub has : HasLines sink before after held (map item_line found)
+  pub has : HasLines sink mark before after held (map item_line found)
 
 -- nothing was found yet
-pub running-first : {R K : Type 0} {space : SpaceGhosts R} {sink : SinkGhosts K} (names : List (List ℕ)) (query : Query) → ((a : R) → space.onward a a) → (r : R) (k : K) (run : Run)
-    → ((graph : Graph) → to_come graph run ≡ meant graph query) → stopped_by run ≡ None → IsRunning space sink names query r r k k [] run
-running-first {space = space} names query stays r k run begins goes = record {
+pub running-first : {R K : Type 0} {space : SpaceGhosts R} {sink : SinkGhosts K} (names : List (List ℕ)) (query : Query) (mark : List ℕ) → ((a : R) → space.onward a a) → (r : R) (k : K) (run : Run)
+    → ((graph : Graph) → to_come graph run ≡ meant graph query) → stopped_by run ≡ None → IsRunning space sink names query mark r r k k (no_lines mark) run
+running-first {space = space} names query mark stays r k run begins goes = record {
   found = [];
   coming = λ told store. sym (begins (graph_of (space.state r).records));
   goes = goes;
   read = is_read-none space stays r;
-  has = lines-none k;
+  has = lines-none mark k;
 }
 
 -- there was no memory for a run
-pub running-none : {R K : Type 0} {space : SpaceGhosts R} {sink : SinkGhosts K} (names : List (List ℕ)) (query : Query) → ((a : R) → space.onward a a) → (r : R) (k then : K) (turn : Turn)
-    → Gives sink (fault_line NoMemory) k then turn → GivesReading space sink names (commands.Query query) r r k then turn
-running-none {space = space} names query stays r k then turn gives = record {
+pub running-none : {R K : Type 0} {space : SpaceGhosts R} {sink : SinkGhosts K} (names : List (List ℕ)) (query : Query) (mark : List ℕ) → ((a : R) → space.onward a a) → (r : R) (k then : K) (turn : Turn)
+    → Gives sink (mark ++ fault_line NoMemory) k then turn → GivesReading space sink names (commands.Query query) mark r r k then turn
+running-none {space = space} names query mark stays r k then turn gives = record {
   reply = Faulted [] NoMemory;
   form = query-stop query [] NoMemory;
   gives = gives;
@@ -94,8 +94,8 @@ running-none {space = space} names query stays r k then turn gives = record {
   idle = λ spared. absurd (query-spared query spared);
 }
 
-module _ {R K : Type 0} {space : SpaceGhosts R} {sink : SinkGhosts K} {names : List (List ℕ)} {query : Query} (further : (a b c : R) → space.onward a b → space.onward b c → space.onward a c) {old now : R} {before after : K}
-    {held : List ℕ} {run : Run} (running : IsRunning space sink names query old now before after held run) where
+module _ {R K : Type 0} {space : SpaceGhosts R} {sink : SinkGhosts K} {names : List (List ℕ)} {query : Query} {mark : List ℕ} (further : (a b c : R) → space.onward a b → space.onward b c → space.onward a c) {old now : R} {before after : K}
+    {held : MarkedLines} {run : Run} (running : IsRunning space sink names query mark old now before after held run) where
   abbrev graph : Graph
   graph = graph_of (space.state old).records
 
@@ -127,17 +127,17 @@ module _ {R K : Type 0} {space : SpaceGhosts R} {sink : SinkGhosts K} {names : L
           ∙ first-first running.found item (to_come graph later)
 
       -- a result was found, and its line gathered
-      pub running-on : stopped_by later ≡ None → (new : List ℕ) (then : K) → Adds sink (result_text item) held new after then Go → IsRunning space sink names query old next before then new later
+      pub running-on : stopped_by later ≡ None → (new : MarkedLines) (then : K) → AddsLine sink (result_text item) held new after then Go → IsRunning space sink names query mark old next before then new later
       running-on goes new then adds = record {
         found = running.found ++ item ∷ [];
         coming = found_more;
         goes = goes;
         read = read-on;
-        has = subst (λ (lines : List (List ℕ)). HasLines sink before then new lines) (sym (map-append item_line running.found (item ∷ []))) (lines-add running.has (item_line item) new then adds);
+        has = subst (λ (lines : List (List ℕ)). HasLines sink mark before then new lines) (sym (map-append item_line running.found (item ∷ []))) (lines-add running.has (item_line item) new then adds);
       }
 
       -- the sink failed
-      pub running-stop : (new : List ℕ) (then : K) (turn : Turn) → Adds sink (result_text item) held new after then turn → turn ≢ Go → GivesReading space sink names (commands.Query query) old next before then turn
+      pub running-stop : (new : MarkedLines) (then : K) (turn : Turn) → AddsLine sink (result_text item) held new after then turn → turn ≢ Go → GivesReading space sink names (commands.Query query) mark old next before then turn
       running-stop new then turn adds stops =
           let first = running.found ++ item ∷ [] in
           let all = meaning graph query in
@@ -145,9 +145,9 @@ module _ {R K : Type 0} {space : SpaceGhosts R} {sink : SinkGhosts K} {names : L
           record {
             reply = whole_of past first all;
             form = whole-form query past first all;
-            gives = subst (λ (text : List ℕ). Gives sink text before then turn) (whole-text past first all)
-                (subst (λ (lines : List (List ℕ)). Gives sink (bytes_of lines ++ rest_of past first all) before then turn) (sym (map-append item_line running.found (item ∷ [])))
-                (lines-stop running.has (item_line item) new then turn adds stops (rest_of past first all)));
+            gives = subst (λ (text : List ℕ). Gives sink text before then turn) (whole-text mark past first all)
+                (subst (λ (lines : List (List ℕ)). Gives sink (bytes_of mark lines ++ rest_of mark past first all) before then turn) (sym (map-append item_line running.found (item ∷ [])))
+                (lines-stop running.has (item_line item) new then turn adds stops (rest_of mark past first all)));
             means = λ told store. whole-means graph query past refl first ((to_come graph later).items, sym (ap (λ (s : Stream). s.items) (found_more told store)));
             verdict = λ told is. cc;
             told = λ blames. absurd (blames (whole-told past first all));
@@ -157,7 +157,7 @@ module _ {R K : Type 0} {space : SpaceGhosts R} {sink : SinkGhosts K} {names : L
 
     -- all results were found
     pub running-end : (space.tells → IsNamedStore (space.state now).records (space.state now).shape names → to_come graph_now run ≡ stream []) → (then : K) (turn : Turn)
-        → Gives sink (held ++ text_line end_text) after then turn → GivesReading space sink names (commands.Query query) old next before then turn
+        → Gives sink (held.bytes ++ (held.mark ++ text_line end_text)) after then turn → GivesReading space sink names (commands.Query query) mark old next before then turn
     running-end ends then turn gives = record {
       reply = Told (map item_line running.found) end_text;
       form = query-tell query running.found;
@@ -173,7 +173,7 @@ module _ {R K : Type 0} {space : SpaceGhosts R} {sink : SinkGhosts K} {names : L
 
     -- the run stopped with a fault
     pub running-fault : (fault : Fault) → (space.tells → IsNamedStore (space.state old).records (space.state old).shape names → MeansFault graph (commands.Query query) (map item_line running.found) fault)
-        → (told_in fault ≢ 0 → Rose (space.faults now) (space.faults next)) → (then : K) (turn : Turn) → Gives sink (held ++ fault_line fault) after then turn → GivesReading space sink names (commands.Query query) old next before then turn
+        → (told_in fault ≢ 0 → Rose (space.faults now) (space.faults next)) → (then : K) (turn : Turn) → Gives sink (held.bytes ++ (held.mark ++ fault_line fault)) after then turn → GivesReading space sink names (commands.Query query) mark old next before then turn
     running-fault fault means rose then turn gives = record {
       reply = Faulted (map item_line running.found) fault;
       form = query-stop query running.found fault;

@@ -1,8 +1,8 @@
 -- What a line is that spells one command.
-use Rattle.std.proofs.Common.{◌≡◌, ◌≢◌, ◌⊎◌, List, ℕ, inl, inr, refl, subst, sym}
+use Rattle.std.proofs.Common.{◌≡◌, ◌≢◌, ◌⊎◌, List, ℕ, inl, inr, subst, sym}
 use Rattle.stream_io.specs.Lines.{Whole}
 use Rattle.plain_graph.specs.Changes.{IsChange}
-use Rattle.plain_graph.specs.Kinds.{AreChanges, AreQuestions, Blanks, Bound, Change, Ending, Kind, Question, Upkeep}
+use Rattle.plain_graph.specs.Kinds.{AreChanges, AreQuestions, Blanks, Bound, Change, Ending, Kind, Question, Sight, Upkeep}
 use Rattle.plain_graph.specs.Lines.{IsQuestion, kind_of}
 use Rattle.plain_graph.specs.declared.command.Command.{Command}
 use Rattle.plain_graph.specs.declared.command.Command.TheVariants as commands
@@ -41,10 +41,13 @@ spared-needs_none commands.Checkpoint spared = tt
 spared-needs_none commands.Check spared = tt
 spared-needs_none commands.Stats spared = tt
 spared-needs_none commands.Reopen spared = tt
+spared-needs_none commands.Snapshot spared = tt
+spared-needs_none commands.Release spared = tt
 spared-needs_none commands.Quit spared = tt
 spared-needs_none (commands.Delete target) spared = tt
 spared-needs_none command (inl spared) = spared
-spared-needs_none command (inr e) = cc
+spared-needs_none command (inr (inl e)) = cc
+spared-needs_none command (inr (inr e)) = cc
 
 -- a line that has no memory for its command spells none that needs no memory
 pub lacks-memory : (line : List ℕ) → ((command : Command) → NeedsNoMemory command → ¬ Spells line command) → ¬ NeverLacksMemory (Whole line)
@@ -56,19 +59,22 @@ changes-spared Blanks change spared = change
 changes-spared Ending change spared = change
 changes-spared Bound change spared = change
 changes-spared Upkeep change spared = change
+changes-spared Sight change spared = change
 changes-spared Change change spared = spared
 changes-spared Question change spared = change
 
 -- a change may lack memory
 pub change-spared : (command : Command) → IsChange command → ¬ IsSpared command
 change-spared command change (inl spared) = changes-spared (kind_of command) change spared
-change-spared command change (inr e) = subst IsChange e change
+change-spared command change (inr (inl e)) = subst IsChange e change
+change-spared command change (inr (inr e)) = subst IsChange e change
 
 questions-unchanging : (kind : Kind) → AreQuestions kind → ¬ AreChanges kind
 questions-unchanging Blanks asks change = asks
 questions-unchanging Ending asks change = asks
 questions-unchanging Bound asks change = asks
 questions-unchanging Upkeep asks change = asks
+questions-unchanging Sight asks change = asks
 questions-unchanging Change asks change = asks
 questions-unchanging Question asks change = change
 

@@ -79,3 +79,48 @@ module _ {K : Type 0} {sink : Ghosts K} {line old new : List ℕ} {before mid af
     cause = λ is. Rose-from (sink.faults before) (sink.faults mid) (sink.faults after) adds.later (gives.cause is);
     later = let first = adds.later in let second = gives.later in omega (arith, first, second);
   }
+
+module _ {K : Type 0} {sink : Ghosts K} {first second old mid new : List ℕ} {before between after : K} where
+  -- a text was gathered, and then another one
+  pub adds-more : Adds sink first old mid before between Go → (turn : Turn) → Adds sink second mid new between after turn → Adds sink (first ++ second) old new before after turn
+  adds-more adds Go more = record {
+    gathers = λ told.
+        let had = adds.gathers told in
+        let has = more.gathers told in (
+          had.0 ++ has.0,
+          has.1 ∙ ap (λ (xs : List ℕ). xs ++ has.0) had.1 ∙ append_assoc (sink.taken before) had.0 has.0,
+          append_assoc had.0 has.0 new
+              ∙ ap (λ (xs : List ℕ). had.0 ++ xs) has.2
+              ∙ sym (append_assoc had.0 mid second)
+              ∙ ap (λ (xs : List ℕ). xs ++ second) had.2
+              ∙ append_assoc old first second,
+        );
+    runs = λ e. cc;
+    cause = λ e. cc;
+    later = let early = adds.later in let late = more.later in omega (arith, early, late);
+  }
+  adds-more adds Quit more = absurd (more.runs refl)
+  adds-more adds SinkFault more = record {
+    gathers = λ told.
+        let had = adds.gathers told in
+        subst (λ (bytes : List ℕ). TakesFront (sink.taken before) (sink.taken after) bytes)
+        (sym (append_assoc had.0 mid second) ∙ ap (λ (xs : List ℕ). xs ++ second) had.2 ∙ append_assoc old first second)
+        (takes-after (sink.taken before) (sink.taken between) (sink.taken after) had.0 (mid ++ second) had.1 (more.gathers told));
+    runs = λ e. cc;
+    cause = λ is. Rose-from (sink.faults before) (sink.faults between) (sink.faults after) adds.later (more.cause is);
+    later = let early = adds.later in let late = more.later in omega (arith, early, late);
+  }
+
+module _ {K : Type 0} {sink : Ghosts K} {first old mid : List ℕ} {before after : K} where
+  -- the sink failed at the first of two
+  pub adds-cut : (second : List ℕ) (turn : Turn) → Adds sink first old mid before after turn → turn ≢ Go → Adds sink (first ++ second) old mid before after turn
+  adds-cut second Go adds stops = absurd (stops refl)
+  adds-cut second Quit adds stops = absurd (adds.runs refl)
+  adds-cut second SinkFault adds stops = record {
+    gathers = λ told.
+        subst (λ (bytes : List ℕ). TakesFront (sink.taken before) (sink.taken after) bytes) (append_assoc old first second)
+        (takes-more (sink.taken before) (sink.taken after) (old ++ first) second (adds.gathers told));
+    runs = λ e. cc;
+    cause = adds.cause;
+    later = adds.later;
+  }

@@ -14,7 +14,7 @@ use Rattle.rec_bytes.specs.Format.{names_file}
 use Rattle.store_rules.specs.Views.{high}
 use Rattle.graph_session.specs.Answer.{Settles}
 use Rattle.graph_session.specs.Console.{IsAt, SessionView, TellsAll}
-use Rattle.graph_session.specs.Effects.{Begins, Commits, Drops, IsLeftOpen, LeavesEither}
+use Rattle.graph_session.specs.Effects.{Begins, Commits, Drops, FailsRead, IsLeftOpen, LeavesEither}
 use Rattle.graph_session.specs.Exchange.{failing, opening}
 use Rattle.graph_session.specs.Refusals.{IsAccepted, IsReached, SpellsOnly}
 use Rattle.graph_session.specs.Stands.{IsAdmittedByEither}
@@ -23,11 +23,13 @@ use Rattle.graph_session.specs.declared.health.Health.TheVariants as healths
 use Rattle.graph_session.proofs.Answering.{settles-done, settles-fault}
 use Rattle.graph_session.proofs.Conditions.{NeedsNone, NeedsOne, idle-accepted, idle_reasons, reached}
 use Rattle.graph_session.proofs.DiskUse.{uses-same, uses-writes}
+use Rattle.graph_session.proofs.FailedReads.{comes-fails, fails-drafted}
 use Rattle.graph_session.proofs.Held.{committed-one, held, names-cut, seen_closed, seen_open, working-open}
 use Rattle.graph_session.proofs.Known.{begin-all, begin-same, known-two}
 use Rattle.graph_session.proofs.Stands.{IsOneOf, all-admitted, either-admitted, either-held, held-admitted, own-one, redone-held}
 use Rattle.graph_session.proofs.States.{is_closed, is_live, is_open, not_failed, not_open, same_one}
 use Rattle.graph_session.proofs.Staying.{crash-kept, images-kept, reads-kept}
+use Rattle.graph_session.proofs.Storage.{stopped}
 
 begin-closed : ¬ NeedsOne commands.Begin
 begin-closed (inl e) = cc
@@ -205,11 +207,19 @@ module _ {D : Type 0} {g : Ghosts D} {old new : SessionView D} {state : State} (
         (λ told. (commit-accepted at live only opened, commands.Commit, only.spelled, (refl, transaction, is, refl)))
         (uses-writes state only tt (commit-reached at live only opened) (inr (inl only.spelled)) (λ none. none))
 
+    -- the disk failed before anything of it was written
+    pub settles-commit_read_fault : {line : List ℕ} → SpellsOnly line commands.Commit → old.console.is_open ≡ true → FailsRead g old new → Rose (g.faults old.disk) (g.faults new.disk)
+        → Settles g (Whole line) old new state (Faulted [] DiskFailed)
+    settles-commit_read_fault {line = line} only opened fails rose =
+        settles-fault {line = Whole line} {before = state} (Faulted [] DiskFailed) (stopped state) (comes-fails at live (fails-drafted fails)) rose
+        (λ told. (refl, commit-reached at live only opened, commands.Commit, only.spelled, inl refl, (transaction, is, inl refl)))
+        (uses-writes state only tt (commit-reached at live only opened) (inr (inl only.spelled)) (λ none. none))
+
     -- the disk failed in the commit
     pub settles-commit_fault : {line : List ℕ} → SpellsOnly line commands.Commit → old.console.is_open ≡ true → LeavesEither g old new.disk → IsLeftOpen g old new
         → Rose (g.faults old.disk) (g.faults new.disk) → Settles g (Whole line) old new state (Faulted [] DiskFailed)
     settles-commit_fault {line = line} only opened leaves left rose =
         settles-fault {line = Whole line} {before = state} (Faulted [] DiskFailed) (in_doubt state transaction.graph)
         (record { is_at = left_open-at left; crash = commit-crash at live (in_doubt state transaction.graph) new.disk (λ told. second-one at live told transaction is) leaves }) rose
-        (λ told. (refl, commit-reached at live only opened, commands.Commit, only.spelled, inl refl, (transaction, is, refl)))
+        (λ told. (refl, commit-reached at live only opened, commands.Commit, only.spelled, inl refl, (transaction, is, inr refl)))
         (uses-writes state only tt (commit-reached at live only opened) (inr (inl only.spelled)) (λ none. none))

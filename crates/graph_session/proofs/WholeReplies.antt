@@ -1,12 +1,12 @@
 -- The reply to a query whose lines the sink didn't take.
-use Rattle.std.proofs.Common.{◌≡◌, ◌∙◌, ℕ, Bool, true, false, List, [], ◌∷◌, ◌++◌, append_assoc, length, drop, map, inl, inr, refl, sym, ap}
+use Rattle.std.proofs.Common.{◌≡◌, ◌∙◌, ℕ, Bool, true, false, List, [], ◌++◌, append_assoc, length, drop, map, inl, inr, refl, sym, ap}
 use Rattle.std.proofs.Math.Seq.{drop-append_seam}
 use Rattle.std.proofs.lemmas.Grind.{flat_map-append}
 use Rattle.std.proofs.lemmas.List.{append-nil, map-append}
 use Rattle.plain_graph.specs.Graph.{Graph}
 use Rattle.plain_graph.specs.Lines.{Reading}
 use Rattle.plain_graph.specs.Meaning.{has_past_count, meaning}
-use Rattle.plain_graph.specs.Reply.{DamagedRecord, DiskFailed, Fault, Faulted, NoMemory, PastCount, Reply, Told, end_text, fault_line, item_line, reply_text, text_line}
+use Rattle.plain_graph.specs.Reply.{DamagedRecord, DiskFailed, Fault, Faulted, NoMemory, PastCount, Reply, Told, end_text, fault_line, item_line, marked_line, marked_text}
 use Rattle.plain_graph.specs.declared.command.Command.TheVariants as commands
 use Rattle.plain_graph.specs.declared.item.Item.{Item}
 use Rattle.plain_graph.specs.declared.query.Query.{Query}
@@ -35,7 +35,8 @@ reading_of graph query = record { lines = map item_line (meaning graph query); l
 
 pub query-spared : (query : Query) → ¬ IsSpared (commands.Query query)
 query-spared query (inl spared) = spared
-query-spared query (inr e) = cc
+query-spared query (inr (inl e)) = cc
+query-spared query (inr (inr e)) = cc
 
 -- a fault may come after any results
 pub query-stop : (query : Query) (found : List Item) (fault : Fault) → MayTell (commands.Query query) (Faulted (map item_line found) fault)
@@ -58,16 +59,16 @@ whole_of false first all = Told (map item_line (first ++ drop (length first) all
 whole_of true first all = Faulted (map item_line first) PastCount
 
 -- what of its text is not the lines of the first results
-abbrev pub rest_of : Bool → List Item → List Item → List ℕ
-rest_of false first all = bytes_of (map item_line (drop (length first) all)) ++ text_line end_text
-rest_of true first all = fault_line PastCount
+abbrev pub rest_of : List ℕ → Bool → List Item → List Item → List ℕ
+rest_of mark false first all = bytes_of mark (map item_line (drop (length first) all)) ++ marked_line mark end_text
+rest_of mark true first all = mark ++ fault_line PastCount
 
-pub whole-text : (past : Bool) (first all : List Item) → bytes_of (map item_line first) ++ rest_of past first all ≡ reply_text (whole_of past first all)
-whole-text false first all =
-    sym (append_assoc (bytes_of (map item_line first)) (bytes_of (map item_line (drop (length first) all))) (text_line end_text))
-    ∙ ap (λ (xs : List ℕ). xs ++ text_line end_text)
-    (sym (flat_map-append text_line (map item_line first) (map item_line (drop (length first) all))) ∙ ap bytes_of (sym (map-append item_line first (drop (length first) all))))
-whole-text true first all = refl
+pub whole-text : (mark : List ℕ) (past : Bool) (first all : List Item) → bytes_of mark (map item_line first) ++ rest_of mark past first all ≡ marked_text mark (whole_of past first all)
+whole-text mark false first all =
+    sym (append_assoc (bytes_of mark (map item_line first)) (bytes_of mark (map item_line (drop (length first) all))) (marked_line mark end_text))
+    ∙ ap (λ (xs : List ℕ). xs ++ marked_line mark end_text)
+    (sym (flat_map-append (marked_line mark) (map item_line first) (map item_line (drop (length first) all))) ∙ ap (bytes_of mark) (sym (map-append item_line first (drop (length first) all))))
+whole-text mark true first all = refl
 
 pub whole-form : (query : Query) (past : Bool) (first all : List Item) → MayTell (commands.Query query) (whole_of past first all)
 whole-form query false first all = query-tell query (first ++ drop (length first) all)

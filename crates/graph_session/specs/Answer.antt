@@ -5,14 +5,19 @@ use Rattle.disk_model.specs.declared.disk.Disk.{Ghosts as DiskGhosts}
 use Rattle.stream_io.specs.Lines.{InputLine}
 use Rattle.stream_io.specs.Streams.{TakesFront}
 use Rattle.stream_io.specs.declared.streams.Sink.{Ghosts as SinkGhosts}
-use Rattle.plain_graph.specs.Reply.{Reply, reply_text}
-use Rattle.graph_session.specs.Console.{HasNoDraft, IsAt, Onward, SessionView}
+use Rattle.plain_graph.specs.Reply.{Reply, marked_text}
+use Rattle.snap_store.specs.Snaps.{Snapshots}
+use Rattle.graph_session.specs.Console.{HasNoDraft, Onward, SessionView}
 use Rattle.graph_session.specs.DiskUse.{UsesDisk}
 use Rattle.graph_session.specs.Exchange.{TakesStep}
 use Rattle.graph_session.specs.Known.{as_known}
-use Rattle.graph_session.specs.MayStep.{MayStep}
 use Rattle.graph_session.specs.Moments.{ComesTo}
-use Rattle.graph_session.specs.State.{State, IsQuit}
+use Rattle.graph_session.specs.ReaderAnswers.{MayStepAs}
+use Rattle.graph_session.specs.SharedAnswer.{SettlesLine}
+use Rattle.graph_session.specs.SharedConsole.{IsSharedAt}
+use Rattle.graph_session.specs.SnapshotEffects.{SharedView}
+use Rattle.graph_session.specs.Snapshots.{SharedState}
+use Rattle.graph_session.specs.State.{State, IsQuit, mark_in, session_in}
 use Rattle.graph_session.specs.declared.turn.Turn.{Turn}
 use Rattle.graph_session.specs.declared.turn.Turn.TheVariants.{Go, Quit, SinkFault}
 
@@ -43,23 +48,34 @@ pub record Settles {D : Type 0} (disk : DiskGhosts D) (line : InputLine) (old ne
       (record { line = line; disk_failed = disk_failed; reply = reply }) after
   pub uses : UsesDisk disk line before reply old.disk new.disk
 
--- a session, and the sink of its replies
+-- a session, what it keeps of old records for snapshots, and the sink of its replies
 pub record Terminal (D K : Type 0) : Type 0 where
   pub session : SessionView D
+  pub held : Snapshots
   pub output : K
 
--- What one call says of its line: its reply, which is given to the sink where that tells what it
--- takes; what the line does over any disk; and from each state that the session is at, how it is
--- settled, also where nothing is known of what the disk reads. Only quit ends the run.
+-- the session with the old records
+abbrev pub shared_in : {D K : Type 0} → Terminal D K → SharedView D
+shared_in terminal = record { session = terminal.session; held = terminal.held }
+
+-- What one call says of its line, of whichever session: its reply, each line of which begins with
+-- the session's mark where the line names it, and which is given to the sink where that tells what
+-- it takes; what the line does over any disk; and from each state of all sessions that the session
+-- is at, how it is settled, also where nothing is known of what the disk reads. Only quit ends the
+-- run.
 pub record AnswersLine {D K : Type 0} (disk : DiskGhosts D) (sink : SinkGhosts K) (line : InputLine)
     (old new : Terminal D K) (turn : Turn) : Type 0 where
   pub reply : Reply
   pub text : sink.tells
-      → Delivers turn (sink.taken old.output) (sink.taken new.output) (reply_text reply)
+      → Delivers turn (sink.taken old.output) (sink.taken new.output)
+      (marked_text (mark_in line) reply)
   pub quit : (turn ≡ Quit) ↔ IsQuit line
-  pub may : HasNoDraft old.session → MayStep disk line old.session reply new.session
-  pub settles : (known : Bool) (state : State) → IsAt (as_known known disk) old.session state
-      → Settles (as_known known disk) line old.session new.session state reply
+  pub may :
+      HasNoDraft old.session
+      → MayStepAs disk (session_in line) line (shared_in old) reply (shared_in new)
+  pub settles : (known : Bool) (state : SharedState)
+      → IsSharedAt (as_known known disk) (shared_in old) state
+      → SettlesLine (as_known known disk) line (shared_in old) (shared_in new) state reply
   pub cause : turn ≡ SinkFault → Rose (sink.faults old.output) (sink.faults new.output)
   pub later : sink.faults old.output ≤ sink.faults new.output
   pub onward : Onward disk old.session new.session

@@ -2,7 +2,7 @@
 use Rattle.std.specs.Prelude.{◌≡◌, ◌⊎◌, ℕ, ◌+◌, ◌<◌, ◌≤◌, IsTrue, true, false, Result, Ok, Err}
 use Rattle.std.specs.Prelude.{List, [], ◌++◌, length, take}
 use Rattle.fault_count.specs.Cause.{Rose}
-use Rattle.disk_model.specs.Spans.{AtEachMoment}
+use Rattle.disk_model.specs.Spans.{AtEachMoment, OnlyReads}
 use Rattle.disk_model.specs.declared.disk.Disk.{Ghosts}
 use Rattle.plain_graph.specs.Changes.{most_weight}
 use Rattle.plain_graph.specs.Refusals.{FirstReason, change_reasons}
@@ -11,10 +11,14 @@ use Rattle.plain_graph.specs.declared.refusal.Refusal.{Refusal}
 use Rattle.plain_graph.specs.declared.refusal.Refusal.TheVariants as refusals
 use Rattle.rec_bytes.specs.declared.key.Key.{Key}
 use Rattle.rec_bytes.specs.declared.record.Rec.{Rec}
+use Rattle.rec_bytes.specs.Pairs.{Pairs, merged}
 use Rattle.rec_bytes.specs.Space.{State as Space}
 use Rattle.record_file.specs.Redone.{Redoes}
+use Rattle.store_rules.specs.Writes.{WritesAtMost}
+use Rattle.snap_store.specs.Keeping.{KeepsHeld}
 use Rattle.txn_core.specs.Base.{OnlyReadsBase, SameBeneath, SameStore}
 use Rattle.txn_core.specs.Kept.{IsOnDisk}
+use Rattle.txn_core.specs.Sights.{KeepsSights}
 use Rattle.txn_core.specs.Store.{committed, drafted, state_of, working}
 use Rattle.graph_ops.specs.Change.{MakesChange, full_of}
 use Rattle.graph_ops.specs.Store.{IsStore, graph_in}
@@ -60,6 +64,7 @@ module _ {D : Type 0} {g : Ghosts D} where
     pub base : OnlyReadsBase old.store.base new.store.base
     pub weight : new.weight ≡ old.weight
     pub health : new.health ≡ old.health
+    pub snaps : new.snaps ≡ old.snaps
     pub brought : (rest : List (List ℕ)) × (new.names.names ≡ old.names.names ++ rest)
     pub later : g.faults old.store.base.disk.now ≤ g.faults new.store.base.disk.now
 
@@ -85,6 +90,7 @@ module _ {D : Type 0} {g : Ghosts D} where
   abbrev pub Drafts : Command → Session D g → Session D g → Result Drafted Answer → Type 0
   Drafts command old new (Ok made) = TellsChange command made.answer
       × (g.tells_reads → HasStore old → HasDraft command old new made)
+      × WritesAtMost made.weight (state_of old.store) (state_of new.store)
   Drafts command old new (Err why) = IsStopped command old new.store.base.disk.now why
 
   -- The draft was dropped, and the names cut back to so many. The transaction is as it was.
@@ -96,17 +102,20 @@ module _ {D : Type 0} {g : Ghosts D} where
     pub names : new.names.names ≡ take count old.names.names
     pub weight : new.weight ≡ old.weight
     pub health : new.health ≡ old.health
+    pub snaps : new.snaps ≡ old.snaps
 
   -- The transaction has the draft.
   pub record KeepsDraft (more : ℕ) (old new : Session D g) : Type 0 where
     pub fits : old.weight + more ≤ most_weight
     pub beneath : SameBeneath old.store.base new.store.base
     pub in_transaction : new.store.base.in_transaction ≡ old.store.base.in_transaction
+    pub own : new.store.base.own.pairs ≡ merged old.store.base.own.pairs old.store.draft.pairs
     pub working : working new.store ≡ drafted old.store
     pub draft : new.store.draft.pairs ≡ []
     pub names : new.names.names ≡ old.names.names
     pub weight : new.weight ≡ old.weight + more
     pub health : new.health ≡ old.health
+    pub snaps : new.snaps ≡ old.snaps
 
   -- why the draft is not kept
   abbrev pub IsUnkept : ℕ → Session D g → Answer → Type 0
@@ -146,15 +155,32 @@ module _ {D : Type 0} {g : Ghosts D} where
         (λ left. Redoes left (committed old.store) ⊎ Redoes left now)
     pub rose : Rose (g.faults old.store.base.disk.now) (g.faults new.store.base.disk.now)
 
-  -- A commit was tried. At each moment of it a crash leaves what was committed, or these records.
-  pub record TriesCommit (now : Key → Rec) (old new : Session D g) (made answer : Answer)
-      : Type 0 where
+  -- An old record could not be read: nothing was written, and what was committed is so alone.
+  pub record DropsRecords (old new : Session D g) : Type 0 where
+    pub closes : Closes old new
+    pub health : new.health ≡ healths.Failed
+    pub names : new.names.names ≡ old.names.names
+    pub disk : OnlyReads g old.store.base.disk.now new.store.base.disk.now
+    pub rose : Rose (g.faults old.store.base.disk.now) (g.faults new.store.base.disk.now)
+
+  -- what came of a commit of these records, which was to be answered so
+  abbrev pub EndsCommit : (Key → Rec) → Session D g → Session D g → Answer → Answer → Type 0
+  EndsCommit now old new made answer =
+      ((answer ≡ made) × CommitsRecords now old new)
+      ⊎ ((answer ≡ answers.DiskFailed) × (DropsRecords old new ⊎ DoubtsRecords now old new))
+
+  -- A commit was tried, of a transaction that has written these records. At each moment of it a
+  -- crash leaves what was committed, or the records as they are now. Each snapshot that is still
+  -- open sees what it saw.
+  pub record TriesCommit (now : Key → Rec) (written : Pairs) (old new : Session D g)
+      (made answer : Answer) : Type 0 where
     pub crash : g.tells_reads → g.tells_images
         → AtEachMoment g old.store.base.disk.now new.store.base.disk.now
         (λ left. Redoes left (committed old.store) ⊎ Redoes left now)
     pub later : g.faults old.store.base.disk.now ≤ g.faults new.store.base.disk.now
-    pub ends : ((answer ≡ made) × CommitsRecords now old new)
-        ⊎ ((answer ≡ answers.DiskFailed) × DoubtsRecords now old new)
+    pub sights : KeepsSights g (committed old.store) new.store.base.disk.now old.snaps new.snaps
+    pub held : (weight : ℕ) → length written ≤ weight → KeepsHeld weight old.snaps new.snaps
+    pub ends : EndsCommit now old new made answer
 
   -- The change was dropped with the names that it brought. Where the disk is blamed, the session
   -- is failed.
@@ -162,13 +188,15 @@ module _ {D : Type 0} {g : Ghosts D} where
     pub beneath : SameBeneath old.store.base new.store.base
     pub closes : Closes old new
     pub names : new.names.names ≡ take count old.names.names
+    pub snaps : new.snaps ≡ old.snaps
     pub failed : answer ≡ answers.DiskFailed → new.health ≡ healths.Failed
     pub healthy : ¬ (answer ≡ answers.DiskFailed) → new.health ≡ old.health
 
   -- what becomes of a draft that is a transaction by itself
   abbrev pub FinishesAlone : Result Drafted Answer → ℕ → Session D g → Session D g → Answer → Type 0
   FinishesAlone (Ok made) count old new answer =
-      TriesCommit (drafted old.store) old new made.answer answer
+      TriesCommit (drafted old.store)
+      (merged old.store.base.own.pairs old.store.draft.pairs) old new made.answer answer
       ⊎ ((answer ≡ answers.NoMemory) × DropsAlone count old new answer)
   FinishesAlone (Err why) count old new answer = (answer ≡ why) × DropsAlone count old new answer
 
@@ -182,6 +210,7 @@ module _ {D : Type 0} {g : Ghosts D} where
     pub draft : new.store.draft.pairs ≡ []
     pub names : new.names.names ≡ old.names.names
     pub health : new.health ≡ old.health
+    pub snaps : new.snaps ≡ old.snaps
 
   -- a change begins, in the open transaction or by itself
   abbrev pub BeginsChange : Session D g → Session D g → Begun → Type 0

@@ -181,9 +181,18 @@ pub record CommitsFrom {D : Type 0} (g : Ghosts D) (old new : SessionView D) (no
       TellsAll g → AtEachMoment g mid new.disk (λ left. Redoes left old.console.committed
       ⊎ Redoes left now)
 
--- The disk failed as a change alone was made, and was only read.
-pub record FailsAlone {D : Type 0} (g : Ghosts D) (old new : SessionView D) : Type 0 where
+-- The disk failed as a change alone was drafted, or before anything of a transaction was written,
+-- and was only read.
+pub record FailsRead {D : Type 0} (g : Ghosts D) (old new : SessionView D) : Type 0 where
   pub ends : Ends old new
   pub health : new.console.health ≡ healths.Failed
   pub names : new.console.names ≡ old.console.names
+  pub disk : OnlyReads g old.disk new.disk
+
+-- The disk failed before anything of a change alone was written, and was only read. The names that
+-- the change brought are in memory still.
+pub record FailsDrafted {D : Type 0} (g : Ghosts D) (old new : SessionView D) : Type 0 where
+  pub ends : Ends old new
+  pub health : new.console.health ≡ healths.Failed
+  pub brought : BeginWith new.console.names old.console.names
   pub disk : OnlyReads g old.disk new.disk

@@ -4,7 +4,7 @@ use Rattle.std.specs.Prelude.{[], ◌∷◌, ◌++◌}
 use Rattle.stream_io.specs.Lines.{InputLine}
 use Rattle.plain_graph.specs.Changes.{Changes, Weighs, start_weight}
 use Rattle.plain_graph.specs.Graph.{Graph}
-use Rattle.plain_graph.specs.Kinds.{Blanks, Bound, Change, Ending, Kind, Question, Upkeep}
+use Rattle.plain_graph.specs.Kinds.{Blanks, Bound, Change, Ending, Kind, Question, Sight, Upkeep}
 use Rattle.plain_graph.specs.Lines.{Reading, Shows, kind_of}
 use Rattle.plain_graph.specs.Reply.{DamagedRecord, DiskFailed, Done, EdgeMade, Fault, Faulted}
 use Rattle.plain_graph.specs.Reply.{NoMemory, NodeMade, PastCount, Refused, Reply, Silent, Told}
@@ -66,6 +66,7 @@ CarriesKind Blanks old command reply new = ⊥
 CarriesKind Ending old command reply new = ⊥
 CarriesKind Bound old command reply new = MovesBound old command reply new
 CarriesKind Upkeep old command reply new = KeepsStore old command reply new
+CarriesKind Sight old command reply new = ⊥
 CarriesKind Change old command reply new = MakesChange old command reply new
 CarriesKind Question old command reply new = TellsReading old command reply new
 
@@ -99,12 +100,13 @@ LeavesChange old line command new =
     × Changes old.shape.limit old.committed command reply graph
     × (new ≡ failing old (old.committed ∷ graph ∷ [])))))
 
--- A commit leaves open whether the transaction's graph is committed. Nothing else of a transaction
--- calls the disk.
+-- A commit leaves open whether the transaction's graph is committed; where an old record that a
+-- snapshot needs could not be read, it is not. Nothing else of a transaction calls the disk.
 abbrev pub LeavesBound : State → Command → State → Type 0
 LeavesBound old commands.Commit new =
     (transaction : Transaction) × (old.open_one ≡ Some transaction)
-    × (new ≡ failing old (old.committed ∷ transaction.graph ∷ []))
+    × ((new ≡ failing old (old.committed ∷ []))
+    ⊎ (new ≡ failing old (old.committed ∷ transaction.graph ∷ [])))
 LeavesBound old _ new = ⊥
 
 -- a checkpoint leaves the committed graph, and `reopen` what there was
@@ -119,6 +121,7 @@ LeavesKind Blanks old line command new = ⊥
 LeavesKind Ending old line command new = ⊥
 LeavesKind Bound old line command new = LeavesBound old command new
 LeavesKind Upkeep old line command new = LeavesStore old command new
+LeavesKind Sight old line command new = ⊥
 LeavesKind Change old line command new = LeavesChange old line command new
 LeavesKind Question old line command new = new ≡ old
 

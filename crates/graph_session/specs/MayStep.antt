@@ -6,7 +6,7 @@ use Rattle.disk_model.specs.declared.disk.Disk.{Ghosts}
 use Rattle.stream_io.specs.Lines.{InputLine, Whole, Long}
 use Rattle.plain_graph.specs.Changes.{most_weight}
 use Rattle.plain_graph.specs.Graph.{Graph}
-use Rattle.plain_graph.specs.Kinds.{Blanks, Bound, Change, Ending, Kind, Question, Upkeep}
+use Rattle.plain_graph.specs.Kinds.{Blanks, Bound, Change, Ending, Kind, Question, Sight, Upkeep}
 use Rattle.plain_graph.specs.Lines.{IsFormed, Reading, kind_of}
 use Rattle.plain_graph.specs.Refusals.{FirstReason, change_reasons}
 use Rattle.plain_graph.specs.Reply.{DamagedRecord, DiskFailed, Done, EdgeMade, Fault, Faulted}
@@ -21,9 +21,9 @@ use Rattle.gremlin_parse.specs.Lines.{IsLeftmostFault}
 use Rattle.gremlin_parse.specs.declared.line_fault.LineFault.{LineFault}
 use Rattle.graph_session.specs.Console.{ConsoleView, SessionView}
 use Rattle.graph_session.specs.Effects.{Begins, Commits, CommitsAlone, CommitsFrom, Drops}
-use Rattle.graph_session.specs.Effects.{FailsAlone, IsAloneInDoubt, IsBrought, IsFound, IsLeftOpen}
-use Rattle.graph_session.specs.Effects.{IsLost, IsStopped, Keeps, LeavesCommitted, LeavesEither}
-use Rattle.graph_session.specs.Effects.{LeavesSame, Stays}
+use Rattle.graph_session.specs.Effects.{FailsDrafted, FailsRead, IsAloneInDoubt, IsBrought}
+use Rattle.graph_session.specs.Effects.{IsFound, IsLeftOpen, IsLost, IsStopped, Keeps}
+use Rattle.graph_session.specs.Effects.{LeavesCommitted, LeavesEither, LeavesSame, Stays}
 use Rattle.graph_session.specs.Exchange.{AreFirst, told_fault}
 use Rattle.graph_session.specs.Refusals.{refusal_of}
 use Rattle.graph_session.specs.State.{IsSilent, IsSpared, NeverLacksMemory, SpellsLine}
@@ -97,13 +97,13 @@ module _ {D : Type 0} (g : Ghosts D) (old new : SessionView D) where
       ⊎ ((old.console.is_open ≡ false) × (now : Key → Rec) × CommitsFrom g old new now
       × CommitsAlone g old new now)
 
-  -- The disk failed in a change. An open transaction stays as it was; a change by itself is not
-  -- made, or it is left open whether it is.
+  -- The disk failed in a change. An open transaction stays as it was. A change by itself is not
+  -- made, where the disk was only read; or it is left open whether it is.
   abbrev pub HasFailedChange : Type 0
   HasFailedChange =
       ((old.console.is_open ≡ true) × Stays g old new)
       ⊎ ((old.console.is_open ≡ false)
-      × (FailsAlone g old new
+      × (FailsRead g old new ⊎ FailsDrafted g old new
       ⊎ ((now : Key → Rec) × CommitsFrom g old new now × IsAloneInDoubt g old new now)))
 
 module _ {D : Type 0} (g : Ghosts D) (old : SessionView D) (reply : Reply) (new : SessionView D)
@@ -126,13 +126,15 @@ module _ {D : Type 0} (g : Ghosts D) (old : SessionView D) (reply : Reply) (new 
         ((reply ≡ Refused refusals.TransactionOpen) × (old.console.is_open ≡ true) × (new ≡ old))
         ⊎ ((reply ≡ Done) × (old.console.is_open ≡ false) × Begins g old new)
 
-    -- A transaction that has written nothing is committed without a call of the disk.
+    -- A transaction that has written nothing is committed without a call of the disk. Where the
+    -- disk failed and was only read, what was committed is so alone; else it is left open.
     abbrev pub MayCommit : Type 0
     MayCommit =
         ((reply ≡ Refused refusals.NoTransaction) × (old.console.is_open ≡ false) × (new ≡ old))
         ⊎ ((old.console.is_open ≡ true) × LeavesEither g old new.disk
         × (old.console.written ≡ [] → (reply ≡ Done) × (new.disk ≡ old.disk))
-        × (((reply ≡ Done) × Commits g old new) ⊎ (TellsDiskFault × IsLeftOpen g old new)))
+        × (((reply ≡ Done) × Commits g old new)
+        ⊎ (TellsDiskFault × (FailsRead g old new ⊎ IsLeftOpen g old new))))
 
     abbrev pub MayRollback : Type 0
     MayRollback =
@@ -180,6 +182,7 @@ module _ {D : Type 0} (g : Ghosts D) (old : SessionView D) (reply : Reply) (new 
     MayAnswerKind Ending command = ⊥
     MayAnswerKind Bound command = MayBound command
     MayAnswerKind Upkeep command = MayKeep command
+    MayAnswerKind Sight command = ⊥
     MayAnswerKind Change command = MayChange command
     MayAnswerKind Question command = MayRead command
 

@@ -6,7 +6,7 @@ use Rattle.plain_graph.specs.Graph.{Graph}
 use Rattle.plain_graph.specs.Lines.{Reading, Shows}
 use Rattle.plain_graph.specs.Refusals.{FirstReason, NoReason, change_reasons}
 use Rattle.plain_graph.specs.Reply.{DamagedRecord, DiskFailed, Fault, Faulted, NoMemory, PastCount}
-use Rattle.plain_graph.specs.Reply.{Refused, Reply, Told, reply_text}
+use Rattle.plain_graph.specs.Reply.{Refused, Reply, Told, marked_text}
 use Rattle.plain_graph.specs.declared.command.Command.{Command}
 use Rattle.plain_graph.specs.declared.command.Command.TheVariants as commands
 use Rattle.rec_bytes.specs.declared.space.Reads.{Ghosts as SpaceGhosts}
@@ -44,15 +44,16 @@ Means graph command (Refused why) =
     (limit : ℕ) → FirstReason change_reasons limit graph command why
 Means graph command _ = ⊥
 
--- A reply to the command was given to the sink; where the sink failed it is a whole one, of which a
--- prefix was taken. Over a well-formed store with these names the reply is what the graph means.
--- Over any records `check` tells a verdict on them. The disk is blamed only where it failed.
+-- A reply to the command was given to the sink, with this mark before each line; where the sink
+-- failed it is a whole one, of which a prefix was taken. Over a well-formed store with these names
+-- the reply is what the graph means. Over any records `check` tells a verdict on them. The disk is
+-- blamed only where it failed.
 pub record GivesReading {R K : Type 0} (space : SpaceGhosts R) (sink : SinkGhosts K)
-    (names : List (List ℕ)) (command : Command) (old new : R) (before after : K) (turn : Turn)
-    : Type 0 where
+    (names : List (List ℕ)) (command : Command) (mark : List ℕ) (old new : R) (before after : K)
+    (turn : Turn) : Type 0 where
   pub reply : Reply
   pub form : MayTell command reply
-  pub gives : Gives sink (reply_text reply) before after turn
+  pub gives : Gives sink (marked_text mark reply) before after turn
   pub means : space.tells
       → IsNamedStore (space.state old).records (space.state old).shape names
       → Means (graph_of (space.state old).records) command reply

@@ -4,6 +4,7 @@ use Rattle.disk_model.specs.declared.disk.Disk.{Ghosts}
 use Rattle.txn_core.specs.Store.{committed, working}
 use Rattle.graph_session.specs.Answer.{Terminal}
 use Rattle.graph_session.specs.Console.{SessionView}
+use Rattle.graph_session.specs.SnapshotEffects.{SharedView}
 use Rattle.graph_session.specs.declared.session.Session.{Session}
 
 module _ {D : Type 0} {g : Ghosts D} where
@@ -25,9 +26,17 @@ module _ {D : Type 0} {g : Ghosts D} where
     disk = session.store.base.disk.now;
   }
 
+  -- the same with what it keeps of old records
+  abbrev pub shared_view : Session D g → SharedView D
+  shared_view session = record { session = view session; held = session.snaps }
+
   -- the session with the sink of its replies
   abbrev pub with_sink : {K : Type 0} → Session D g → K → Terminal D K
-  with_sink session output = record { session = view session; output = output }
+  with_sink session output = record {
+    session = view session;
+    held = session.snaps;
+    output = output;
+  }
 
   -- both are over one disk
   abbrev pub HaveSameDisk : Session D g → Session D g → Type 0

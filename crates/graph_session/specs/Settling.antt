@@ -1,12 +1,13 @@
 -- What a call says that settles a line of a command.
-use Rattle.std.specs.Prelude.{Bool, ℕ, Option, None, Some, List}
+use Rattle.std.specs.Prelude.{◌≡◌, Bool, ℕ, Option, None, Some, List}
 use Rattle.disk_model.specs.declared.disk.Disk.{Ghosts}
 use Rattle.stream_io.specs.Lines.{Whole}
 use Rattle.plain_graph.specs.Kinds.{AreSilent}
 use Rattle.plain_graph.specs.Lines.{kind_of}
-use Rattle.plain_graph.specs.Reply.{Reply}
+use Rattle.plain_graph.specs.Reply.{Reply, mark_text}
 use Rattle.plain_graph.specs.declared.command.Command.{Command}
 use Rattle.plain_graph.specs.declared.refusal.Refusal.{Refusal}
+use Rattle.gremlin_parse.specs.Tags.{session_named, session_of}
 use Rattle.gremlin_parse.specs.declared.line_fault.LineFault.{LineFault}
 use Rattle.graph_session.specs.declared.answer.Answer.{Answer}
 use Rattle.graph_session.specs.declared.answer.Answer.TheVariants as answers
@@ -24,6 +25,13 @@ told_by (Some why) = answers.Refused why
 
 abbrev pub told_of : LineFault → Answer
 told_of fault = told_by (refusal_of fault)
+
+-- The line spells just this command, is of this session, and each line of its reply begins with the
+-- mark.
+pub record IsParsed (line : List ℕ) (session : ℕ) (command : Command) (mark : List ℕ) : Type 0 where
+  pub only : SpellsOnly line command
+  pub session_is : session_of line ≡ session
+  pub mark_is : mark_text (session_named line) ≡ mark
 
 -- a command that gets a reply
 abbrev pub IsLoud : Command → Type 0

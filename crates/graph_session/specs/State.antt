@@ -2,11 +2,13 @@
 use Rattle.std.specs.Prelude.{◌≡◌, ◌⊎◌, ℕ, Option, Some, None, List, [], ◌∷◌, Contains}
 use Rattle.stream_io.specs.Lines.{InputLine, Whole, Long}
 use Rattle.plain_graph.specs.Graph.{Graph}
-use Rattle.plain_graph.specs.Kinds.{Change, Kind, Question}
+use Rattle.plain_graph.specs.Kinds.{Change, Kind, Question, Sight}
 use Rattle.plain_graph.specs.Lines.{kind_of}
+use Rattle.plain_graph.specs.Reply.{mark_text}
 use Rattle.plain_graph.specs.declared.command.Command.{Command}
 use Rattle.plain_graph.specs.declared.command.Command.TheVariants as commands
 use Rattle.gremlin_parse.specs.Lines.{Spells}
+use Rattle.gremlin_parse.specs.Tags.{session_named, session_of}
 use Rattle.rec_bytes.specs.declared.shape.Shape.{Shape}
 use Rattle.graph_session.specs.declared.health.Health.{Health}
 use Rattle.graph_session.specs.declared.health.Health.TheVariants as healths
@@ -70,6 +72,16 @@ abbrev pub SpellsLine : InputLine → Command → Type 0
 SpellsLine (Whole bytes) command = Spells bytes command
 SpellsLine Long command = ⊥
 
+-- the session of a line: the one that it names, or the first one
+abbrev pub session_in : InputLine → ℕ
+session_in (Whole bytes) = session_of bytes
+session_in Long = 0
+
+-- what each line of its reply begins with
+abbrev pub mark_in : InputLine → List ℕ
+mark_in (Whole bytes) = mark_text (session_named bytes)
+mark_in Long = []
+
 abbrev pub IsQuit : InputLine → Type 0
 IsQuit line = SpellsLine line commands.Quit
 
@@ -81,11 +93,14 @@ IsSilent line = SpellsLine line commands.Blank ⊎ IsQuit line
 abbrev pub AreSpared : Kind → Type 0
 AreSpared Change = ⊥
 AreSpared Question = ⊥
+AreSpared Sight = ⊥
 AreSpared _ = Unit {0}
 
--- a command that never lacks memory: one that neither changes the graph nor reads it, or `stats`
+-- a command that never lacks memory: one that neither changes the graph nor reads it nor takes a
+-- snapshot of it, and of the others `stats` and `release`
 abbrev pub IsSpared : Command → Type 0
-IsSpared command = AreSpared (kind_of command) ⊎ (command ≡ commands.Stats)
+IsSpared command =
+    AreSpared (kind_of command) ⊎ (command ≡ commands.Stats) ⊎ (command ≡ commands.Release)
 
 -- a line that never lacks memory: it is too long, or spells such a command
 abbrev pub NeverLacksMemory : InputLine → Type 0

@@ -1,17 +1,19 @@
 -- What a line is answered with that asks whether the store keeps its rules, whatever is in it.
-use Rattle.std.specs.Prelude.{◌≡◌, ◌⊎◌, ℕ, List, []}
+use Rattle.std.specs.Prelude.{◌≡◌, ◌⊎◌, ℕ, zero, suc, true, List, []}
 use Rattle.stream_io.specs.declared.streams.Sink.{Ghosts as SinkGhosts}
 use Rattle.plain_graph.specs.Lines.{broken_text, sound_text}
 use Rattle.plain_graph.specs.Reply.{DamagedRecord, DiskFailed, Fault, Faulted, NoMemory, PastCount}
-use Rattle.plain_graph.specs.Reply.{Reply, Told, reply_text}
+use Rattle.plain_graph.specs.Reply.{Reply, Told, marked_text}
 use Rattle.rec_bytes.specs.Space.{laid_over}
 use Rattle.rec_bytes.specs.declared.damage.Damage.{Damage}
 use Rattle.rec_bytes.specs.declared.shape.Shape.{Shape}
+use Rattle.snap_store.specs.Layers.{is_open, sees}
 use Rattle.store_check.specs.Verdicts.{IsLeastBroken}
 use Rattle.store_rules.specs.Rules.{IsWellFormed}
 use Rattle.store_rules.specs.Views.{Records}
 use Rattle.graph_session.specs.Answer.{Gives}
 use Rattle.graph_session.specs.Console.{ConsoleView}
+use Rattle.graph_session.specs.SnapshotEffects.{SharedView}
 use Rattle.graph_session.specs.declared.turn.Turn.{Turn}
 
 -- a fault with which no verdict is found: want of memory, or the disk's
@@ -35,14 +37,22 @@ TellsVerdict records shape (Told lines last) = (lines ≡ []) × IsVerdict recor
 TellsVerdict records shape (Faulted lines fault) = (lines ≡ []) × LeavesUnjudged fault
 TellsVerdict records shape _ = ⊥
 
--- the records that a line sees
+-- the records that a line of the session that writes sees
 abbrev pub seen_records : ConsoleView → Records
 seen_records console = laid_over console.working console.draft
 
--- The reply was given to the sink. Where the disk tells its reads, it tells the verdict on the
--- records that the line sees, also where they are those of no well-formed store.
-pub record Judges {K : Type 0} (tells : Type 0) (sink : SinkGhosts K) (console : ConsoleView)
-    (before after : K) (turn : Turn) : Type 0 where
+-- The records that a line of the session of this number sees: a reader sees what its snapshot
+-- shows.
+abbrev pub SeesRecords : {D : Type 0} → SharedView D → ℕ → Records → Type 0
+SeesRecords view zero records = records ≡ seen_records view.session.console
+SeesRecords view (suc reader) records =
+    (is_open (suc reader) view.held.open_ones ≡ true)
+    × (records ≡ sees view.held.open_ones (suc reader) view.session.console.committed)
+
+-- The reply was given to the sink, with this mark before each line. Where the disk tells its reads,
+-- it tells the verdict on these records, also where they are those of no well-formed store.
+pub record Judges {K : Type 0} (tells : Type 0) (sink : SinkGhosts K) (mark : List ℕ)
+    (records : Records) (shape : Shape) (before after : K) (turn : Turn) : Type 0 where
   pub reply : Reply
-  pub gives : Gives sink (reply_text reply) before after turn
-  pub verdict : tells → TellsVerdict (seen_records console) console.shape reply
+  pub gives : Gives sink (marked_text mark reply) before after turn
+  pub verdict : tells → TellsVerdict records shape reply

@@ -6,6 +6,7 @@ ghost use Rattle.graph_ops.specs.Change.{full_of};
 ghost use Rattle.graph_session.specs.Answering.{reply_of};
 ghost use Rattle.graph_session.specs.Drafting.{answer_for};
 ghost use Rattle.graph_session.specs.Settling.{SettlesCommand};
+ghost use Rattle.graph_session.specs.SnapshotEffects.{KeepsOlds};
 ghost use Rattle.graph_session.specs.declared.health.Health.TheVariants as healths;
 
 use crate::answer::Answer;
@@ -47,7 +48,7 @@ impl<'d, D: Disk> Session<'d, D> {
       OnlyDrafts,
       TriesCommit,
     };
-    ghost use Rattle.graph_session.specs.Session.{HaveSameDisk, view};
+    ghost use Rattle.graph_session.specs.Session.{HaveSameDisk, shared_view, view};
 
     /// Makes a node, in the open transaction or else as a transaction by itself.
     pub(crate) fn make_node(&mut self, label: &Text, pairs: &Pairs) -> Answer
@@ -55,6 +56,8 @@ impl<'d, D: Disk> Session<'d, D> {
         requires live { self.old.health ≡ healths.Live }
         ensures settles { SettlesCommand D.Disk (commands.Node label.now pairs.now)
             (view self.old) (view self.new) (reply_of result) }
+        ensures keeps { KeepsOlds D.Disk (commands.Node label.now pairs.now)
+            (shared_view self.old) (reply_of result) (shared_view self.new) }
         ensures same_disk { HaveSameDisk self.old self.new }
     {
         let begun = self.begin_change();
@@ -68,6 +71,8 @@ impl<'d, D: Disk> Session<'d, D> {
         requires live { self.old.health ≡ healths.Live }
         ensures settles { SettlesCommand D.Disk (commands.Edge from label.now to pairs.now)
             (view self.old) (view self.new) (reply_of result) }
+        ensures keeps { KeepsOlds D.Disk (commands.Edge from label.now to pairs.now)
+            (shared_view self.old) (reply_of result) (shared_view self.new) }
         ensures same_disk { HaveSameDisk self.old self.new }
     {
         let begun = self.begin_change();
@@ -81,6 +86,8 @@ impl<'d, D: Disk> Session<'d, D> {
         requires live { self.old.health ≡ healths.Live }
         ensures settles { SettlesCommand D.Disk (commands.Set target key.now value.now)
             (view self.old) (view self.new) (reply_of result) }
+        ensures keeps { KeepsOlds D.Disk (commands.Set target key.now value.now)
+            (shared_view self.old) (reply_of result) (shared_view self.new) }
         ensures same_disk { HaveSameDisk self.old self.new }
     {
         let begun = self.begin_change();
@@ -93,6 +100,8 @@ impl<'d, D: Disk> Session<'d, D> {
         requires live { self.old.health ≡ healths.Live }
         ensures settles { SettlesCommand D.Disk (commands.Unset target key.now)
             (view self.old) (view self.new) (reply_of result) }
+        ensures keeps { KeepsOlds D.Disk (commands.Unset target key.now)
+            (shared_view self.old) (reply_of result) (shared_view self.new) }
         ensures same_disk { HaveSameDisk self.old self.new }
     {
         let begun = self.begin_change();
@@ -105,6 +114,8 @@ impl<'d, D: Disk> Session<'d, D> {
         requires live { self.old.health ≡ healths.Live }
         ensures settles { SettlesCommand D.Disk (commands.Delete target)
             (view self.old) (view self.new) (reply_of result) }
+        ensures keeps { KeepsOlds D.Disk (commands.Delete target)
+            (shared_view self.old) (reply_of result) (shared_view self.new) }
         ensures same_disk { HaveSameDisk self.old self.new }
     {
         let begun = self.begin_change();
@@ -305,13 +316,15 @@ impl<'d, D: Disk> Session<'d, D> {
         }
     }
 
-    // Commits the change, or leaves open whether it is on the disk.
+    // Commits the change, or leaves open whether it is on the disk. What it replaces is kept for the
+    // snapshots first; where that can't be read, nothing is committed.
     fn commit_alone(&mut self, answer: Answer) -> Answer
         requires opened { IsTrue self.old.store.base.in_transaction }
         requires live { IsTrue self.old.store.base.live }
-        ensures { TriesCommit (working self.old.store) self.old self.new answer result }
+        ensures { TriesCommit (working self.old.store) self.old.store.base.own.pairs
+            self.old self.new answer result }
     {
-        match self.store.commit() {
+        match self.store.commit_kept(&mut self.snaps) {
             Ok(()) => answer,
             Err(Failed) => {
                 self.health = Health::Failed;

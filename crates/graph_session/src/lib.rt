@@ -1,6 +1,7 @@
-//! The console of one writer: a line in, one step of the console, its reply out. When a step
-//! returns, a change that was answered is on the disk. Nothing of the graph is kept in memory but
-//! its names; a query reads the records as it goes.
+//! The console of all sessions, of which one writes and the others read snapshots: a line in, one
+//! step of the console, its reply out. When a step returns, a change that was answered is on the
+//! disk. Nothing of the graph is kept in memory but its names and the old records that open snapshots
+//! need; a query reads the records as it goes.
 #![tactic(auto)]
 
 mod answer;
@@ -10,7 +11,9 @@ mod health;
 mod line_buffer;
 mod opening;
 mod questions;
+mod reading;
 mod session;
+mod sight_reading;
 mod storing;
 mod transacting;
 mod turn;

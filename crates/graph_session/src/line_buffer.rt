@@ -2,7 +2,7 @@ ghost use Rattle.std.specs.Prelude.{◌≡◌, ◌++◌, []};
 ghost use Rattle.plain_graph.specs.Forms.{IsShown};
 ghost use Rattle.plain_graph.specs.Reply.{result_text};
 ghost use Rattle.graph_session.specs.Answer.{Gives};
-ghost use Rattle.graph_session.specs.LineBuffer.{Adds};
+ghost use Rattle.graph_session.specs.LineBuffer.{Adds, AddsLine, no_lines};
 
 use crate::Turn;
 use crate::giving::give;
@@ -13,29 +13,33 @@ use stream_io::Sink;
 /// How many bytes are gathered before they are given to the sink.
 pub(crate) const BUFFER_BYTES: usize = 4_096;
 
-/// Lines of a reply that are gathered for the sink. Contracts see the bytes.
+/// Lines of a reply that are gathered for the sink, each after a mark. Contracts see the bytes, and
+/// the mark.
 #[derive(Drop)]
-pub(crate) struct LineBuffer {
+pub(crate) struct LineBuffer<'a> {
     bytes: ByteBuffer<BUFFER_BYTES>,
+    /// What each line begins with.
+    mark: &'a [u8],
     /// The line that is written next.
     line: ResultLine,
 }
 
-impl Model for LineBuffer {
-    ghost use Rattle.std.specs.Prelude.{List, ℕ};
+impl<'a> Model for LineBuffer<'a> {
+    ghost use Rattle.graph_session.specs.LineBuffer.{MarkedLines};
 
-    ghost Value = { List ℕ };
+    ghost Value = { MarkedLines };
 
-    ghost view = { λ b. b.bytes };
+    ghost view = { λ b. record { mark = b.mark.now; bytes = b.bytes } };
 }
 
-impl LineBuffer {
-    /// No bytes.
-    pub(crate) fn new() -> LineBuffer
-        ensures { result ≡ [] }
+impl<'a> LineBuffer<'a> {
+    /// No lines yet, and the mark of those to come.
+    pub(crate) fn new(mark: &'a [u8]) -> LineBuffer<'a>
+        ensures { result ≡ no_lines mark.now }
     {
         LineBuffer {
             bytes: ByteBuffer::new(),
+            mark,
             line: ResultLine::new(),
         }
     }
@@ -43,24 +47,25 @@ impl LineBuffer {
     /// Puts the line of a result at the end, as `add` does.
     pub(crate) fn add_result<K: Sink>(&mut self, output: &mut K, item: &Item) -> Turn
         requires { IsShown item.now }
-        ensures { Adds K.Sink (result_text item.now)
+        ensures { AddsLine K.Sink (result_text item.now)
             self.old self.new output.old output.new result }
     {
         result_line(item, &mut self.line);
-        gather(&mut self.bytes, output, self.line.as_bytes())
+        gather_marked(&mut self.bytes, output, self.mark, self.line.as_bytes())
     }
 
-    /// Puts a line at the end. Where it has no room, what was gathered goes to the sink first; a
-    /// line that is longer than the buffer then follows it.
+    /// Puts the mark and a line at the end. Where they have no room, what was gathered goes to the
+    /// sink first; a line that is longer than the buffer then follows it.
     pub(crate) fn add<K: Sink>(&mut self, output: &mut K, line: &[u8]) -> Turn
-        ensures { Adds K.Sink line.now self.old self.new output.old output.new result }
+        ensures { AddsLine K.Sink line.now self.old self.new output.old output.new result }
     {
-        gather(&mut self.bytes, output, line)
+        gather_marked(&mut self.bytes, output, self.mark, line)
     }
 
-    /// Puts the last line at the end, and gives all to the sink.
+    /// Puts the mark and the last line at the end, and gives all to the sink.
     pub(crate) fn finish<K: Sink>(&mut self, output: &mut K, line: &[u8]) -> Turn
-        ensures { Gives K.Sink (self.old ++ line.now) output.old output.new result }
+        ensures { Gives K.Sink (self.old.bytes ++ (self.old.mark ++ line.now))
+            output.old output.new result }
     {
         match self.add(output, line) {
             Turn::Go => self.flush(output),
@@ -70,27 +75,42 @@ impl LineBuffer {
 
     // Gives what was gathered to the sink, and forgets it.
     fn flush<K: Sink>(&mut self, output: &mut K) -> Turn
-        ensures gives { Gives K.Sink self.old output.old output.new result }
-        ensures empty { self.new ≡ [] }
+        ensures gives { Gives K.Sink self.old.bytes output.old output.new result }
+        ensures empty { self.new ≡ no_lines self.old.mark }
     {
         give_all(&mut self.bytes, output)
     }
 }
 
-// Puts a line after these bytes.
-fn gather<K: Sink>(bytes: &mut ByteBuffer<BUFFER_BYTES>, output: &mut K, line: &[u8]) -> Turn
-    ensures { Adds K.Sink line.now bytes.old bytes.new output.old output.new result }
+// Puts a mark and a line after these bytes.
+fn gather_marked<K: Sink>(
+    bytes: &mut ByteBuffer<BUFFER_BYTES>,
+    output: &mut K,
+    mark: &[u8],
+    line: &[u8],
+) -> Turn
+    ensures { Adds K.Sink (mark.now ++ line.now) bytes.old bytes.new output.old output.new result }
 {
-    if !bytes.has_room(line.len()) {
+    match gather(bytes, output, mark) {
+        Turn::Go => gather(bytes, output, line),
+        turn => turn,
+    }
+}
+
+// Puts a text after these bytes.
+fn gather<K: Sink>(bytes: &mut ByteBuffer<BUFFER_BYTES>, output: &mut K, text: &[u8]) -> Turn
+    ensures { Adds K.Sink text.now bytes.old bytes.new output.old output.new result }
+{
+    if !bytes.has_room(text.len()) {
         match give_all(bytes, output) {
             Turn::Go => {}
             turn => return turn,
         }
-        if line.len() > BUFFER_BYTES {
-            return give(output, line);
+        if text.len() > BUFFER_BYTES {
+            return give(output, text);
         }
     }
-    bytes.push(line);
+    bytes.push(text);
     Turn::Go
 }
 

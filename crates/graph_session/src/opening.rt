@@ -1,5 +1,7 @@
 ghost use Rattle.std.specs.Prelude.{◌≡◌, IfErr, IfOk, true};
 ghost use Rattle.rec_bytes.specs.Shape.{is_allowed};
+ghost use Rattle.record_file.specs.Redone.{Redoes};
+ghost use Rattle.snap_store.specs.Snaps.{no_snapshots};
 ghost use Rattle.txn_core.specs.Config.{shape_of};
 ghost use Rattle.graph_session.specs.Opening.{IsUnopened, Opens, unloaded};
 
@@ -7,6 +9,7 @@ use crate::{Health, NotOpened, Session};
 use disk_model::Disk;
 use name_store::load;
 use rec_bytes::Fault;
+use snap_store::Snaps;
 use std::alloc::Global;
 use txn_core::{Config, OpenFault, Store};
 
@@ -22,6 +25,10 @@ impl<'d, D: Disk> Session<'d, D> {
     ) -> Result<Session<'d, D>, NotOpened<'d, D>>
         requires { is_allowed (shape_of config) ≡ true }
         ensures opened { IfOk result (λ session. Opens D.Disk config disk.old (view session)) }
+        // No session has a snapshot, and what is read of the disk is what is committed.
+        ensures no_snapshots { IfOk result (λ session. session.snaps ≡ no_snapshots) }
+        ensures stored { D.tells_reads → IfOk result (λ session.
+            Redoes (D.reads (view session).disk) (view session).console.committed) }
         ensures unopened { IfErr result (λ refusal.
             IsUnopened D.Disk config disk.old refusal.disk.now refusal.why) }
         ensures same_disk { IfOk result (λ session.
@@ -39,6 +46,7 @@ impl<'d, D: Disk> Session<'d, D> {
                 names,
                 weight: 0,
                 health: Health::Live,
+                snaps: Snaps::new(alloc),
                 alloc,
             }),
             Err(fault) => Err(NotOpened {

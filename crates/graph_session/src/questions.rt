@@ -21,45 +21,50 @@ mod query_results;
 mod verdicts;
 mod walks;
 
-/// Answers a line that reads the graph of a space, whose names these are. A line of another kind
-/// gets no reply from it.
+/// Answers a line that reads the graph of a space, whose names these are. The mark stands before
+/// each line of the reply. A line of another kind gets no reply from it.
 pub(crate) fn answer_question<R: Reads, K: Sink>(
     alloc: Global,
     space: &mut R,
     names: &Names,
     command: &Command,
+    mark: &[u8],
     output: &mut K,
 ) -> Turn
     requires { HasForm command.now }
     ensures { IsQuestion command.now → GivesReading R.Reads K.Sink names.now.names command.now
-        space.old space.new output.old output.new result }
+        mark.now space.old space.new output.old output.new result }
 {
     match command {
-        Command::Check => give_verdict(alloc, space, output),
-        Command::Stats => give_counts(space, output),
+        Command::Check => give_verdict(alloc, space, mark, output),
+        Command::Stats => give_counts(space, mark, output),
         Command::Degree {
             id,
             direction,
             label,
-        } => give_degree(alloc, space, names, *id, *direction, label, output),
+        } => give_degree(alloc, space, names, *id, *direction, label, mark, output),
         Command::Expand {
             id,
             direction,
             label,
-        } => give_edges(alloc, space, names, *id, *direction, label, output),
+        } => give_edges(alloc, space, names, *id, *direction, label, mark, output),
         Command::Path {
             from,
             to,
             direction,
             label,
-        } => give_walk(alloc, space, names, *from, *to, *direction, label, output),
+        } => give_walk(
+            alloc, space, names, *from, *to, *direction, label, mark, output,
+        ),
         Command::Levels {
             from,
             to,
             direction,
             label,
-        } => give_levels(alloc, space, names, *from, *to, *direction, label, output),
-        Command::Query(query) => give_query(alloc, space, names, query, output),
+        } => give_levels(
+            alloc, space, names, *from, *to, *direction, label, mark, output,
+        ),
+        Command::Query(query) => give_query(alloc, space, names, query, mark, output),
         _ => Turn::Go,
     }
 }

@@ -1,13 +1,18 @@
-ghost use Rattle.std.specs.Prelude.{◌≡◌, ◌≢◌, ◌≤◌, IfNone, IfSome, IsTrue, List, OnSome, false, ℕ};
+ghost use Rattle.std.specs.Prelude.{◌≡◌, ◌≢◌, ◌≤◌, ◌↔◌, IfNone, IfSome, IsTrue, List, OnSome, false, ℕ};
 ghost use Rattle.stream_io.specs.Lines.{Long, Whole};
 ghost use Rattle.recovery.specs.Finding.{IsCareful};
 ghost use Rattle.graph_session.specs.Answer.{AnswersLine};
 ghost use Rattle.graph_session.specs.Answering.{reply_of};
 ghost use Rattle.graph_session.specs.Console.{HasNoDraft};
-ghost use Rattle.graph_session.specs.Refusals.{SpellsOnly};
 ghost use Rattle.graph_session.specs.MayStep.{IsServed};
-ghost use Rattle.graph_session.specs.Settling.{IsLoud, SettlesCommand, told_of};
-ghost use Rattle.graph_session.specs.Verdicts.{Judges};
+ghost use Rattle.graph_session.specs.Settling.{IsLoud, IsParsed, SettlesCommand, told_of};
+ghost use Rattle.graph_session.specs.SharedExchange.{IsOfSnapshots};
+ghost use Rattle.graph_session.specs.SnapshotEffects.{KeepsOlds};
+ghost use Rattle.graph_session.specs.State.{mark_in};
+ghost use Rattle.graph_session.specs.Verdicts.{Judges, SeesRecords, seen_records};
+ghost use Rattle.store_rules.specs.Views.{Records};
+ghost use Rattle.snap_store.specs.Snaps.{IsReader};
+ghost use Rattle.gremlin_parse.specs.Tags.{session_of};
 ghost use Rattle.gremlin_parse.specs.Lines.{Spells};
 ghost use Rattle.plain_graph.specs.Lines.{HasForm, IsQuestion};
 ghost use Rattle.plain_graph.specs.declared.command.Command.TheVariants as commands;
@@ -18,14 +23,18 @@ use crate::giving::give_answer;
 use crate::questions::answer_question;
 use crate::{Health, Turn};
 use disk_model::Disk;
-use gremlin_parse::{LineFault, parse_line};
+use gremlin_parse::{LineFault, Parsed, named_session, parse_line};
 use name_store::Names;
-use plain_graph::{Command, Refusal};
+use plain_graph::{Command, Refusal, mark_of};
+use snap_store::Snaps;
 use std::alloc::Global;
 use stream_io::Sink;
 use txn_core::Store;
 
-/// One writer's session over a disk.
+/// The session that writes. The others only read.
+const WRITER: u8 = 0;
+
+/// The sessions over a disk: one that writes, and seven that read snapshots.
 #[derive(Drop)]
 pub struct Session<'d, D: Disk> {
     pub(crate) store: Store<'d, D>,
@@ -34,23 +43,28 @@ pub struct Session<'d, D: Disk> {
     /// What the open transaction weighs.
     pub(crate) weight: u32,
     pub(crate) health: Health,
+    /// The snapshots of the sessions that read, with the old records that they need.
+    pub(crate) snaps: Snaps,
     pub(crate) alloc: Global,
     ghost light: { weight ≤ 2048 },
     ghost standing: { health ≡ healths.Live → IsTrue store.base.live },
 }
 
 impl<'d, D: Disk> Session<'d, D> {
-    ghost use Rattle.graph_session.specs.Session.{HaveSameDisk, view, with_sink};
+    ghost use Rattle.graph_session.specs.Session.{HaveSameDisk, shared_view, view, with_sink};
 
-    /// Answers one line, by one reply to the sink; a line of blanks and `quit` get none. At its
-    /// return a change that was answered is on the disk. Where memory lacks, the reply says so and
-    /// nothing changes.
+    /// Answers one line of a session, by one reply to the sink; a line of blanks and `quit` get
+    /// none. At its return a change that was answered is on the disk. Where memory lacks, the reply
+    /// says so and nothing changes.
     pub fn step<K: Sink>(&mut self, line: &[u8], output: &mut K) -> Turn
         ensures answers { AnswersLine D.Disk K.Sink (Whole line.now)
             (with_sink self.old output.old) (with_sink self.new output.new) result }
         // What `check` says is true of any content of the disk.
         ensures judges { Spells line.now commands.Check → self.old.health ≡ healths.Live
-            → Judges D.tells_reads K.Sink (view self.old).console output.old output.new result }
+            → (records : Records)
+            → SeesRecords (shared_view self.old) (session_of line.now) records
+            → Judges D.tells_reads K.Sink (mark_in (Whole line.now)) records
+            (view self.old).console.shape output.old output.new result }
         // `reopen` leaves files that are no store, or a broken one, as they were.
         ensures careful { Spells line.now commands.Reopen
             → IsCareful D.Disk (view self.old).disk (view self.new).disk }
@@ -58,9 +72,12 @@ impl<'d, D: Disk> Session<'d, D> {
         ensures no_draft { HasNoDraft (view self.old) → HasNoDraft (view self.new) }
         ensures same_disk { HaveSameDisk self.old self.new }
     {
+        let mark = mark_of(named_session(line));
         match parse_line(self.alloc, line) {
-            Ok(command) => self.answer(&command, output),
-            Err(fault) => give_answer(output, answer_of(fault)),
+            Ok(Parsed { session, command }) => {
+                self.answer(session, &command, mark.as_bytes(), output)
+            }
+            Err(fault) => give_answer(output, mark.as_bytes(), answer_of(fault)),
         }
     }
 
@@ -71,10 +88,10 @@ impl<'d, D: Disk> Session<'d, D> {
         ensures no_draft { HasNoDraft (view self.old) → HasNoDraft (view self.new) }
         ensures same_disk { HaveSameDisk self.old self.new }
     {
-        give_answer(output, Answer::Refused(Refusal::LongLine))
+        give_answer(output, &[], Answer::Refused(Refusal::LongLine))
     }
 
-    /// Ends the session, drops an open transaction, and hands the disk back.
+    /// Ends the sessions, drops an open transaction, and hands the disk back.
     pub fn close(self) -> &'d mut D
         ensures same_disk { result.ghost_name ≡ self.entry.store.base.disk.ghost_name }
         ensures disk { result.now ≡ self.entry.store.base.disk.now }
@@ -83,21 +100,31 @@ impl<'d, D: Disk> Session<'d, D> {
         store.close()
     }
 
-    /// Whether the disk has failed the session.
+    /// Whether the disk has failed the sessions.
     pub fn health(&self) -> Health
         ensures { result ≡ (view self.now).console.health }
     {
         self.health
     }
 
-    // Answers a line of this command.
-    fn answer<K: Sink>(&mut self, command: &Command, output: &mut K) -> Turn
-        requires { HasForm command.now }
-        ensures answers { (line : List ℕ) → SpellsOnly line command.now
+    // Answers a line of a session that spells this command. The mark stands before each line of its
+    // reply.
+    fn answer<K: Sink>(
+        &mut self,
+        session: u8,
+        command: &Command,
+        mark: &[u8],
+        output: &mut K,
+    ) -> Turn
+        requires form { HasForm command.now }
+        requires session { session ≤ 7 }
+        ensures answers { (line : List ℕ) → IsParsed line session command.now mark.now
             → AnswersLine D.Disk K.Sink (Whole line)
             (with_sink self.old output.old) (with_sink self.new output.new) result }
         ensures judges { command.now ≡ commands.Check → self.old.health ≡ healths.Live
-            → Judges D.tells_reads K.Sink (view self.old).console output.old output.new result }
+            → (records : Records) → SeesRecords (shared_view self.old) session records
+            → Judges D.tells_reads K.Sink mark.now records (view self.old).console.shape
+            output.old output.new result }
         ensures careful { command.now ≡ commands.Reopen
             → IsCareful D.Disk (view self.old).disk (view self.new).disk }
         ensures same_disk { HaveSameDisk self.old self.new }
@@ -105,29 +132,69 @@ impl<'d, D: Disk> Session<'d, D> {
         match command {
             Command::Blank => Turn::Go,
             Command::Quit => Turn::Quit,
-            other => self.serve(other, output),
+            other => self.serve(session, other, mark, output),
         }
     }
 
     // Answers a line of a command that gets a reply.
-    fn serve<K: Sink>(&mut self, command: &Command, output: &mut K) -> Turn
+    fn serve<K: Sink>(
+        &mut self,
+        session: u8,
+        command: &Command,
+        mark: &[u8],
+        output: &mut K,
+    ) -> Turn
         requires form { HasForm command.now }
         requires loud { IsLoud command.now }
-        ensures answers { (line : List ℕ) → SpellsOnly line command.now
+        requires session { session ≤ 7 }
+        ensures answers { (line : List ℕ) → IsParsed line session command.now mark.now
             → AnswersLine D.Disk K.Sink (Whole line)
             (with_sink self.old output.old) (with_sink self.new output.new) result }
         ensures judges { command.now ≡ commands.Check → self.old.health ≡ healths.Live
-            → Judges D.tells_reads K.Sink (view self.old).console output.old output.new result }
+            → (records : Records) → SeesRecords (shared_view self.old) session records
+            → Judges D.tells_reads K.Sink mark.now records (view self.old).console.shape
+            output.old output.new result }
         ensures careful { command.now ≡ commands.Reopen
             → IsCareful D.Disk (view self.old).disk (view self.new).disk }
         ensures same_disk { HaveSameDisk self.old self.new }
     {
+        if session == WRITER {
+            self.serve_writer(command, mark, output)
+        } else {
+            self.serve_reader(session, command, mark, output)
+        }
+    }
+
+    // Answers it for the session that writes.
+    fn serve_writer<K: Sink>(&mut self, command: &Command, mark: &[u8], output: &mut K) -> Turn
+        requires form { HasForm command.now }
+        requires loud { IsLoud command.now }
+        ensures answers { (line : List ℕ) → IsParsed line 0 command.now mark.now
+            → AnswersLine D.Disk K.Sink (Whole line)
+            (with_sink self.old output.old) (with_sink self.new output.new) result }
+        ensures judges { command.now ≡ commands.Check → self.old.health ≡ healths.Live
+            → Judges D.tells_reads K.Sink mark.now (seen_records (view self.old).console)
+            (view self.old).console.shape output.old output.new result }
+        ensures careful { command.now ≡ commands.Reopen
+            → IsCareful D.Disk (view self.old).disk (view self.new).disk }
+        ensures same_disk { HaveSameDisk self.old self.new }
+    {
+        if is_of_snapshots(command) {
+            return give_answer(output, mark, Answer::Refused(Refusal::Writer));
+        }
         if self.refuses(command) {
-            return give_answer(output, Answer::Refused(Refusal::Failed));
+            return give_answer(output, mark, Answer::Refused(Refusal::Failed));
         }
         match self.settle(command) {
-            Some(answer) => give_answer(output, answer),
-            None => answer_question(self.alloc, &mut self.store, &self.names, command, output),
+            Some(answer) => give_answer(output, mark, answer),
+            None => answer_question(
+                self.alloc,
+                &mut self.store,
+                &self.names,
+                command,
+                mark,
+                output,
+            ),
         }
     }
 
@@ -146,8 +213,11 @@ impl<'d, D: Disk> Session<'d, D> {
         requires served { IsServed (view self.old).console command.now }
         requires form { HasForm command.now }
         requires loud { IsLoud command.now }
+        requires writes { ¬ IsOfSnapshots command.now }
         ensures settles { IfSome result (λ answer. SettlesCommand D.Disk command.now
             (view self.old) (view self.new) (reply_of answer)) }
+        ensures keeps { IfSome result (λ answer. KeepsOlds D.Disk command.now
+            (shared_view self.old) (reply_of answer) (shared_view self.new)) }
         ensures told { OnSome result (¬ IsQuestion command.now) }
         ensures asked { IfNone result (IsQuestion command.now × (self.new ≡ self.old)) }
         ensures careful { command.now ≡ commands.Reopen
@@ -173,6 +243,13 @@ impl<'d, D: Disk> Session<'d, D> {
             _ => None,
         }
     }
+}
+
+// Whether the command takes a snapshot or releases one, which only sessions that read have.
+fn is_of_snapshots(command: &Command) -> bool
+    ensures { IsTrue result ↔ IsOfSnapshots command.now }
+{
+    matches!(command, Command::Snapshot | Command::Release)
 }
 
 // The answer of a line that spells no command.

@@ -5,6 +5,7 @@ ghost use Rattle.plain_graph.specs.declared.command.Command.TheVariants as comma
 ghost use Rattle.graph_session.specs.Answering.{reply_of};
 ghost use Rattle.graph_session.specs.Naming.{TakesNames};
 ghost use Rattle.graph_session.specs.Settling.{SettlesCommand};
+ghost use Rattle.graph_session.specs.SnapshotEffects.{KeepsOlds};
 ghost use Rattle.graph_session.specs.declared.health.Health.TheVariants as healths;
 
 use crate::answer::Answer;
@@ -16,13 +17,15 @@ use rec_bytes::RowFault;
 use txn_core::AgainFault;
 
 impl<'d, D: Disk> Session<'d, D> {
-    ghost use Rattle.graph_session.specs.Session.{HaveSameDisk, view};
+    ghost use Rattle.graph_session.specs.Session.{HaveSameDisk, shared_view, view};
 
     /// Brings all records into their files, and empties the log.
     pub(crate) fn checkpoint(&mut self) -> Answer
         requires live { self.old.health ≡ healths.Live }
         ensures settles { SettlesCommand D.Disk commands.Checkpoint
             (view self.old) (view self.new) (reply_of result) }
+        ensures keeps { KeepsOlds D.Disk commands.Checkpoint
+            (shared_view self.old) (reply_of result) (shared_view self.new) }
         ensures same_disk { HaveSameDisk self.old self.new }
     {
         if self.store.in_transaction() {
@@ -41,6 +44,8 @@ impl<'d, D: Disk> Session<'d, D> {
     pub(crate) fn reopen(&mut self) -> Answer
         ensures settles { SettlesCommand D.Disk commands.Reopen
             (view self.old) (view self.new) (reply_of result) }
+        ensures keeps { KeepsOlds D.Disk commands.Reopen
+            (shared_view self.old) (reply_of result) (shared_view self.new) }
         ensures careful { IsCareful D.Disk (view self.old).disk (view self.new).disk }
         ensures same_disk { HaveSameDisk self.old self.new }
     {
@@ -64,6 +69,7 @@ impl<'d, D: Disk> Session<'d, D> {
             self.old.names.names self.new.names.names self.new.health result }
         ensures reads { OnlyReadsBase self.old.store.base self.new.store.base }
         ensures draft { self.new.store.draft.pairs ≡ [] }
+        ensures snaps { self.new.snaps ≡ self.old.snaps }
         ensures later { D.faults self.old.store.base.disk.now
             ≤ D.faults self.new.store.base.disk.now }
     {

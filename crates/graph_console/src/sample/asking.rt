@@ -1,9 +1,9 @@
 ghost use Rattle.std.specs.Prelude.{◌≡◌, IfOk};
-ghost use Rattle.graph_session.specs.Console.{IsAt};
-ghost use Rattle.graph_session.specs.State.{State};
+ghost use Rattle.graph_session.specs.SharedConsole.{IsSharedAt};
+ghost use Rattle.graph_session.specs.Snapshots.{SharedState};
 ghost use Rattle.graph_console.specs.Sample.{tells_failure};
 ghost use Rattle.graph_console.specs.Sampling.{AnswersWell};
-ghost use Rattle.graph_session.specs.Session.{view};
+ghost use Rattle.graph_session.specs.Session.{shared_view};
 
 use disk_model::Disk;
 use graph_session::{Session, Turn};
@@ -23,8 +23,9 @@ pub(crate) fn ask<D: Disk>(
     session: &mut Session<'_, D>,
     line: &[u8],
 ) -> Result<Page, AllocError>
-    ensures { IfOk result (λ page. (state : State) → IsAt D.Disk (view session.old) state
-        → AnswersWell D.Disk line.now page.taken state (view session.new)) }
+    ensures { IfOk result (λ page. (state : SharedState)
+        → IsSharedAt D.Disk (shared_view session.old) state
+        → AnswersWell D.Disk line.now page.taken state (shared_view session.new)) }
 {
     let mut page = Page::new(alloc, REPLY_BYTES, Vec::new(alloc))?;
     if let Turn::SinkFault = session.step(line, &mut page) {

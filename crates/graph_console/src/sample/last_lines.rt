@@ -1,8 +1,8 @@
 ghost use Rattle.std.specs.Prelude.{◌≡◌, ◌≢◌, ◌<◌, ◌≤◌, Some, IfNone, IfSome, [], slice_index_or};
 ghost use Rattle.fault_count.specs.Cause.{Rose};
-ghost use Rattle.graph_session.specs.Console.{IsAt};
-ghost use Rattle.graph_session.specs.Session.{view};
-ghost use Rattle.graph_session.specs.State.{State};
+ghost use Rattle.graph_session.specs.Session.{shared_view};
+ghost use Rattle.graph_session.specs.SharedConsole.{IsSharedAt};
+ghost use Rattle.graph_session.specs.Snapshots.{SharedState};
 ghost use Rattle.graph_console.specs.Program.{Writes};
 ghost use Rattle.graph_console.specs.Sample.{IsSampleExit, Samples, last_lines, sample_store};
 ghost use Rattle.graph_console.specs.Sampling.{Asks, SampledTo};
@@ -28,7 +28,7 @@ pub(crate) fn run_sample<D: Disk, K: Sink>(
     session: &mut Session<'_, D>,
     output: &mut K,
 ) -> Exit
-    ensures samples { IsAt D.Disk (view session.old) (sample_store options) → K.tells
+    ensures samples { IsSharedAt D.Disk (shared_view session.old) (sample_store options) → K.tells
         → Writes (K.taken output.old) (K.taken output.new)
         (Samples D.tells_reads options result) }
     ensures exits { IsSampleExit result }
@@ -46,7 +46,8 @@ fn ask_last_lines<D: Disk, K: Sink>(
     session: &mut Session<'_, D>,
     output: &mut K,
 ) -> Exit
-    ensures samples { (options : SampleOptions) → SampledTo D.Disk options [] (view session.old) []
+    ensures samples { (options : SampleOptions)
+        → SampledTo D.Disk options [] (shared_view session.old) []
         → K.tells → Writes (K.taken output.old) (K.taken output.new)
         (Samples D.tells_reads options result) }
     ensures exits { IsSampleExit result }
@@ -82,8 +83,9 @@ fn ask_aloud<D: Disk, K: Sink>(
     line: &[u8],
     output: &mut K,
 ) -> Option<Exit>
-    ensures asks { (state : State) → IsAt D.Disk (view session.old) state → K.tells
-        → Asks D.Disk line.now state (view session.new)
+    ensures asks { (state : SharedState)
+        → IsSharedAt D.Disk (shared_view session.old) state → K.tells
+        → Asks D.Disk line.now state (shared_view session.new)
         (K.taken output.old) (K.taken output.new) result }
     ensures exits { IfSome result (λ exit. (exit ≢ Exit.Done) × IsSampleExit exit) }
     ensures cause { result ≡ Some Exit.OutputFault

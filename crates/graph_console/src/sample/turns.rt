@@ -1,6 +1,6 @@
 ghost use Rattle.std.specs.Prelude.{OnOk};
-ghost use Rattle.graph_session.specs.Console.{IsAt};
-ghost use Rattle.graph_session.specs.Session.{view};
+ghost use Rattle.graph_session.specs.Session.{shared_view};
+ghost use Rattle.graph_session.specs.SharedConsole.{IsSharedAt};
 ghost use Rattle.graph_console.specs.Sample.{SampleState, sample_store};
 ghost use Rattle.graph_console.specs.Sampling.{TookTurns};
 
@@ -17,9 +17,9 @@ pub(crate) fn take_turns<D: Disk>(
     options: SampleOptions,
     session: &mut Session<'_, D>,
 ) -> Result<(), AllocError>
-    ensures { OnOk result (IsAt D.Disk (view session.old) (sample_store options)
+    ensures { OnOk result (IsSharedAt D.Disk (shared_view session.old) (sample_store options)
         → (sample : SampleState)
-        × TookTurns D.Disk options options.count sample (view session.new)) }
+        × TookTurns D.Disk options options.count sample (shared_view session.new)) }
 {
     let mut sampler = Sampler::new(alloc, options.seed);
     'turns: for _turn in 0..options.count {

@@ -2,7 +2,7 @@ ghost use Rattle.plain_graph.specs.declared.command.Command.TheVariants as comma
 ghost use Rattle.graph_session.specs.Questions.{GivesReading};
 
 use crate::Turn;
-use crate::giving::{give, give_answer};
+use crate::giving::{give_answer, give_line};
 use crate::type_numbers::number_in;
 use crate::unknown::answer_of;
 use expand::degree;
@@ -20,13 +20,14 @@ pub(crate) fn give_degree<R: Reads, K: Sink>(
     id: u32,
     direction: Direction,
     label: &Option<Text>,
+    mark: &[u8],
     output: &mut K,
 ) -> Turn
     ensures { GivesReading R.Reads K.Sink names.now.names (commands.Degree id direction label.now)
-        space.old space.new output.old output.new result }
+        mark.now space.old space.new output.old output.new result }
 {
     match degree(alloc, space, id, direction, number_in(names, label)) {
-        Ok(edges) => give(output, degree_line(edges).as_bytes()),
-        Err(fault) => give_answer(output, answer_of(fault)),
+        Ok(edges) => give_line(output, mark, degree_line(edges).as_bytes()),
+        Err(fault) => give_answer(output, mark, answer_of(fault)),
     }
 }

@@ -1,7 +1,7 @@
 ghost use Rattle.std.specs.Prelude.{◌≡◌, ◌≤◌, IfOk, List, ℕ, length, map};
 ghost use Rattle.plain_graph.specs.Graph.{has_node};
 ghost use Rattle.plain_graph.specs.Lines.{HasForm, expansion, listed};
-ghost use Rattle.plain_graph.specs.Reply.{Told, end_text, item_line, reply_text};
+ghost use Rattle.plain_graph.specs.Reply.{Told, end_text, item_line, marked_text};
 ghost use Rattle.plain_graph.specs.declared.command.Command.TheVariants as commands;
 ghost use Rattle.plain_graph.specs.declared.item.Item.TheVariants as items;
 ghost use Rattle.store_rules.specs.Graph.{graph_of};
@@ -13,7 +13,7 @@ ghost use Rattle.graph_session.specs.EdgeResults.{IsEdge, item_of, items_of};
 ghost use Rattle.graph_session.specs.Questions.{GivesReading};
 
 use crate::Turn;
-use crate::giving::{give, give_answer};
+use crate::giving::{give_answer, give_line};
 use crate::line_buffer::LineBuffer;
 use crate::type_numbers::number_of;
 use crate::unknown::answer_of;
@@ -33,18 +33,19 @@ pub(crate) fn give_edges<R: Reads, K: Sink>(
     id: u32,
     direction: Direction,
     label: &Text,
+    mark: &[u8],
     output: &mut K,
 ) -> Turn
     requires { HasForm (commands.Expand id direction label.now) }
     ensures { GivesReading R.Reads K.Sink names.now.names (commands.Expand id direction label.now)
-        space.old space.new output.old output.new result }
+        mark.now space.old space.new output.old output.new result }
 {
     let Ok(copy) = label.copy(alloc) else {
-        return give(output, no_memory());
+        return give_line(output, mark, no_memory());
     };
     match edges_of(alloc, space, names, id, direction, label) {
-        Ok(rows) => give_rows(&rows, copy, output),
-        Err(fault) => give_answer(output, answer_of(fault)),
+        Ok(rows) => give_rows(&rows, copy, mark, output),
+        Err(fault) => give_answer(output, mark, answer_of(fault)),
     }
 }
 
@@ -74,12 +75,13 @@ fn edges_of<R: Reads>(
 }
 
 /// Gives a line for each edge of this type, and the end.
-fn give_rows<K: Sink>(rows: &[EdgeRow], label: Text, output: &mut K) -> Turn
+fn give_rows<K: Sink>(rows: &[EdgeRow], label: Text, mark: &[u8], output: &mut K) -> Turn
     requires { length label ≤ 48 }
-    ensures { Gives K.Sink (reply_text (Told (map item_line (items_of label rows.now)) end_text))
+    ensures { Gives K.Sink
+        (marked_text mark.now (Told (map item_line (items_of label rows.now)) end_text))
         output.old output.new result }
 {
-    let mut lines = LineBuffer::new();
+    let mut lines = LineBuffer::new(mark);
     let mut edge = Item::Edge {
         id: 0,
         label,

@@ -17,12 +17,13 @@ pub(crate) fn give_query<R: Reads, K: Sink>(
     space: &mut R,
     names: &Names,
     query: &Query,
+    mark: &[u8],
     output: &mut K,
 ) -> Turn
     ensures { GivesReading R.Reads K.Sink names.now.names (commands.Query query.now)
-        space.old space.new output.old output.new result }
+        mark.now space.old space.new output.old output.new result }
 {
-    let mut lines = LineBuffer::new();
+    let mut lines = LineBuffer::new(mark);
     let Ok(mut run) = Run::new(alloc, query) else {
         return lines.finish(output, no_memory());
     };

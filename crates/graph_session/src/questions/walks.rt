@@ -3,7 +3,7 @@ ghost use Rattle.plain_graph.specs.Adjacency.{adjacency_in};
 ghost use Rattle.plain_graph.specs.Graph.{has_node};
 ghost use Rattle.plain_graph.specs.Lines.{IsFound, level_text, types_of, walk_reading};
 ghost use Rattle.plain_graph.specs.Reached.{IsLeastOrNone};
-ghost use Rattle.plain_graph.specs.Reply.{Told, end_text, reply_text};
+ghost use Rattle.plain_graph.specs.Reply.{Told, end_text, marked_text};
 ghost use Rattle.plain_graph.specs.declared.command.Command.TheVariants as commands;
 ghost use Rattle.store_rules.specs.Graph.{graph_of};
 ghost use Rattle.expand.specs.ExpandFault.{HasExpandCause, NotDamaged};
@@ -13,7 +13,7 @@ ghost use Rattle.graph_session.specs.Answer.{Gives};
 ghost use Rattle.graph_session.specs.Questions.{GivesReading};
 
 use crate::Turn;
-use crate::giving::{give, give_answer};
+use crate::giving::{give_answer, give_line};
 use crate::line_buffer::LineBuffer;
 use crate::type_numbers::number_of;
 use crate::unknown::answer_of;
@@ -34,15 +34,16 @@ pub(crate) fn give_walk<R: Reads, K: Sink>(
     to: u32,
     direction: Direction,
     label: &Option<Text>,
+    mark: &[u8],
     output: &mut K,
 ) -> Turn
     ensures { GivesReading R.Reads K.Sink names.now.names
         (commands.Path from to direction label.now)
-        space.old space.new output.old output.new result }
+        mark.now space.old space.new output.old output.new result }
 {
     match found_walk(alloc, space, names, from, to, direction, label) {
-        Ok(walk) => give_nodes(walk.as_slice(), output),
-        Err(fault) => give_answer(output, answer_of(fault)),
+        Ok(walk) => give_nodes(walk.as_slice(), mark, output),
+        Err(fault) => give_answer(output, mark, answer_of(fault)),
     }
 }
 
@@ -55,15 +56,16 @@ pub(crate) fn give_levels<R: Reads, K: Sink>(
     to: u32,
     direction: Direction,
     label: &Option<Text>,
+    mark: &[u8],
     output: &mut K,
 ) -> Turn
     ensures { GivesReading R.Reads K.Sink names.now.names
         (commands.Levels from to direction label.now)
-        space.old space.new output.old output.new result }
+        mark.now space.old space.new output.old output.new result }
 {
     match found_levels(alloc, space, names, from, to, direction, label) {
-        Ok(answer) => give_node_levels(answer.levels.as_slice(), output),
-        Err(fault) => give_answer(output, answer_of(fault)),
+        Ok(answer) => give_node_levels(answer.levels.as_slice(), mark, output),
+        Err(fault) => give_answer(output, mark, answer_of(fault)),
     }
 }
 
@@ -135,16 +137,16 @@ fn found_levels<R: Reads>(
 
 /// Gives how many edges a walk has, a line for each of its nodes, and the end, or that there is no
 /// walk.
-fn give_nodes<K: Sink>(walk: &[u32], output: &mut K) -> Turn
+fn give_nodes<K: Sink>(walk: &[u32], mark: &[u8], output: &mut K) -> Turn
     ensures { Gives K.Sink
-        (reply_text (Told (walk_reading walk.now).lines (walk_reading walk.now).last))
+        (marked_text mark.now (Told (walk_reading walk.now).lines (walk_reading walk.now).last))
         output.old output.new result }
 {
     let count = walk.len() as u64;
     if count == 0 {
-        return give(output, no_path());
+        return give_line(output, mark, no_path());
     }
-    let mut lines = LineBuffer::new();
+    let mut lines = LineBuffer::new(mark);
     match lines.add(output, path(count - 1).as_bytes()) {
         Turn::Go => {}
         turn => return turn,
@@ -159,11 +161,11 @@ fn give_nodes<K: Sink>(walk: &[u32], output: &mut K) -> Turn
 }
 
 /// Gives a line for each node with its level, and the end.
-fn give_node_levels<K: Sink>(levels: &[NodeLevel], output: &mut K) -> Turn
-    ensures { Gives K.Sink (reply_text (Told (map level_text levels.now) end_text))
+fn give_node_levels<K: Sink>(levels: &[NodeLevel], mark: &[u8], output: &mut K) -> Turn
+    ensures { Gives K.Sink (marked_text mark.now (Told (map level_text levels.now) end_text))
         output.old output.new result }
 {
-    let mut lines = LineBuffer::new();
+    let mut lines = LineBuffer::new(mark);
     for level in levels {
         match lines.add(output, level_line(*level).as_bytes()) {
             Turn::Go => {}

@@ -7,9 +7,11 @@ use Rattle.txn_core.specs.declared.config.Config.{Config}
 use Rattle.txn_core.specs.declared.open_fault.OpenFault.TheVariants.{Memory}
 use Rattle.graph_session.specs.Known.{as_known}
 use Rattle.graph_session.specs.Opening.{IsUnopened, LeavesRefused, Opens}
-use Rattle.graph_session.specs.Session.{view}
-use Rattle.graph_session.proofs.Knowing.{leaves-known, unopened-known}
+use Rattle.graph_session.specs.Session.{shared_view, view}
+use Rattle.graph_session.proofs.Knowing.{leaves-known, told_of, unopened-known}
+use Rattle.graph_session.proofs.SnapshotTaking.{opens-shared}
 use Rattle.graph_console.specs.Program.{Serves, Writes, config_for, terms_for}
+use Rattle.graph_console.specs.Run.{begins_with}
 use Rattle.graph_console.specs.Unopened.{EndsUnopened}
 use Rattle.graph_console.proofs.Failing.{failed_rose}
 use Rattle.graph_console.proofs.Opened.{at_equal, bad_files, disk_failed, ends_unopened, serves_opened, serves_unopened, sound_for, unopened_memory}
@@ -30,12 +32,13 @@ returns-in-Ok-open-clause-serves g c = λ known holds s k.
     let config_is : c.config_of.result ≡ config_for c.args.options = c.config_of.ensures in
     let opens = subst (λ (config : Config). Opens g.D.Disk config c.args.disk.now (view c.in-Ok-open.session)) config_is c.in-Ok-open.ensures.opened in
     let begins = opens.begins known holds in
+    let at = opens-shared (as_known known g.D.Disk) (shared_view c.in-Ok-open.session) begins.0 begins.2 (λ told. c.in-Ok-open.ensures.stored (told_of known g.D.Disk told)) begins.1.closed c.in-Ok-open.ensures.no_snapshots in
     at_equal
     (λ (disk : g.row.D.Denot). Writes (g.K.Sink.taken c.args.output.now) (g.K.Sink.taken c.serve-exit.new.output)
     (Serves (terms_for (as_known known g.D.Disk) c.args.options c.args.disk.now disk) c.serve-exit.result (g.S.Source.left c.args.input.now) (g.S.Source.left c.serve-exit.new.input)))
     (view c.serve-exit.new.session).disk _
     (serves_opened (as_known known g.D.Disk) c.args.options c.args.disk.now (view c.in-Ok-open.session) (view c.serve-exit.new.session).disk (leaves-known known g.D.Disk (config_for c.args.options) c.args.disk.now (view c.in-Ok-open.session).disk opens.crash) opens.later holds begins.0 begins.1 begins.2 c.serve-exit.result _ _ _ _
-    (c.serve-exit.ensures.serves known begins.0 begins.2 s k))
+    (c.serve-exit.ensures.serves known (begins_with begins.0) at s k))
     (search rules)
 
 pub returns-in-Ok-open-clause-store_failed : goal.returns-in-Ok-open-clause-store_failed

@@ -1,10 +1,10 @@
 use Rattle.std.proofs.Common.{◌≡◌, ◌∙◌, ◌++◌, inl, refl, arith}
-use Rattle.plain_graph.specs.Reply.{reply_text}
 use Rattle.graph_session.specs.State.{IsQuit}
 use Rattle.disk_model.proofs.Spans.{at_each_moment_none}
 use Rattle.graph_session.specs.Known.{as_known}
-use Rattle.graph_session.specs.Session.{view}
+use Rattle.graph_session.specs.Session.{shared_view, view}
 use Rattle.graph_console.specs.Program.{terms_from}
+use Rattle.graph_console.specs.Run.{exchange_text}
 use Rattle.graph_console.specs.Serve.{Progress, loop, progress}
 use Rattle.graph_console.proofs.Admitted.{carries}
 use Rattle.graph_console.proofs.Runs.{serving_first, serving_on, served}
@@ -14,7 +14,7 @@ use Rattle.graph_console.proofs.serve.serve.Goals as goal
 pub lines-init : goal.lines-init
 lines-init g c = record {
   serving = λ known first is_at s k.
-      serving_first (as_known known g.D.Disk).tells_reads first _ (progress g.S.Source g.K.Sink g.D.Disk (loop c.args.reader.now c.args.input.now c.args.output.now (view c.args.session.now))) (record {
+      serving_first (as_known known g.D.Disk).tells_reads first _ (progress g.S.Source g.K.Sink g.D.Disk (loop c.args.reader.now c.args.input.now c.args.output.now (shared_view c.args.session.now))) (record {
         is_at = is_at;
         crash = λ told. at_each_moment_none (as_known known g.D.Disk) (view c.args.session.now).disk _ g.met.D.Disk.only_now told.1 (λ image left. inl left);
       }) c.requires.fresh;
@@ -27,25 +27,25 @@ lines-init g c = record {
 
 pub returns-in-Some-clause-serves : goal.returns-in-Some-clause-serves
 returns-in-Some-clause-serves g c = λ known first is_at s k.
-    let start : Progress = progress g.S.Source g.K.Sink g.D.Disk (loop c.args.reader.now c.args.input.now c.args.output.now (view c.args.session.now)) in
-    let old : Progress = progress g.S.Source g.K.Sink g.D.Disk (loop c.lines.reader c.lines.input c.lines.output (view c.lines.session)) in
-    let new : Progress = progress g.S.Source g.K.Sink g.D.Disk (loop c.serve_line.new.reader c.serve_line.new.input c.serve_line.new.output (view c.serve_line.new.session)) in
+    let start : Progress = progress g.S.Source g.K.Sink g.D.Disk (loop c.args.reader.now c.args.input.now c.args.output.now (shared_view c.args.session.now)) in
+    let old : Progress = progress g.S.Source g.K.Sink g.D.Disk (loop c.lines.reader c.lines.input c.lines.output (shared_view c.lines.session)) in
+    let new : Progress = progress g.S.Source g.K.Sink g.D.Disk (loop c.serve_line.new.reader c.serve_line.new.input c.serve_line.new.output (shared_view c.serve_line.new.session)) in
     let so_far = c.lines.invariant.serving known first is_at s k in
-    served (as_known known g.D.Disk).tells_reads first _ _ _ start old new so_far (carries {g = as_known known g.D.Disk} (view c.serve_line.new.session) so_far.steps so_far.arrives)
+    served (as_known known g.D.Disk).tells_reads first _ _ _ start old new so_far (carries {g = as_known known g.D.Disk} (shared_view c.serve_line.new.session) so_far.steps so_far.arrives)
     (terms_from (as_known known g.D.Disk) first (view c.args.session.now).disk (view c.serve_line.new.session).disk) refl
-    (λ run last since counts. record { durable = since.is_at.images; crash = since.crash; counts = counts })
+    (λ run last since counts. record { durable = since.is_at.writer.images; crash = since.crash; counts = counts })
     c.serve_line.ensures.onward.disk_later (c.serve_line.ensures.counted s) c.in-Some.exit (c.in-Some.ensures.turns known so_far.state so_far.arrives.is_at s k)
 
 pub lines-preserved : goal.lines-preserved
 lines-preserved g c = record {
   serving = λ known first is_at s k.
-      let start : Progress = progress g.S.Source g.K.Sink g.D.Disk (loop c.args.reader.now c.args.input.now c.args.output.now (view c.args.session.now)) in
-      let old : Progress = progress g.S.Source g.K.Sink g.D.Disk (loop c.lines.reader c.lines.input c.lines.output (view c.lines.session)) in
-      let new : Progress = progress g.S.Source g.K.Sink g.D.Disk (loop c.serve_line.new.reader c.serve_line.new.input c.serve_line.new.output (view c.serve_line.new.session)) in
+      let start : Progress = progress g.S.Source g.K.Sink g.D.Disk (loop c.args.reader.now c.args.input.now c.args.output.now (shared_view c.args.session.now)) in
+      let old : Progress = progress g.S.Source g.K.Sink g.D.Disk (loop c.lines.reader c.lines.input c.lines.output (shared_view c.lines.session)) in
+      let new : Progress = progress g.S.Source g.K.Sink g.D.Disk (loop c.serve_line.new.reader c.serve_line.new.input c.serve_line.new.output (shared_view c.serve_line.new.session)) in
       let so_far = c.lines.invariant.serving known first is_at s k in
       let says = c.in_default.ensures.turns known so_far.state so_far.arrives.is_at s k in
-      serving_on (as_known known g.D.Disk).tells_reads first _ _ _ start old new so_far (carries {g = as_known known g.D.Disk} (view c.serve_line.new.session) so_far.steps so_far.arrives)
-      (λ after x. (¬ IsQuit x.line) × (new.taken ≡ old.taken ++ reply_text x.reply)) says says.more.0 says.more.1
+      serving_on (as_known known g.D.Disk).tells_reads first _ _ _ start old new so_far (carries {g = as_known known g.D.Disk} (shared_view c.serve_line.new.session) so_far.steps so_far.arrives)
+      (λ after x. (¬ IsQuit x.line) × (new.taken ≡ old.taken ++ exchange_text x)) says says.more.0 says.more.1
       c.serve_line.ensures.onward.disk_later c.serve_line.ensures.stays_ended (c.serve_line.ensures.counted s);
   counted = λ s. c.serve_line.ensures.counted s ∙ c.lines.invariant.counted s;
   onward = onward_on c.lines.invariant.onward c.serve_line.ensures.onward;

@@ -1,9 +1,10 @@
 use Rattle.std.proofs.Common.{Bool, ◌≡◌, ◌+◌, length, ◌-◌, ◌^◌, ◌≤◌}
 use Rattle.stream_io.specs.Reading.{used}
-use Rattle.graph_session.specs.Console.{IsAt, Onward}
+use Rattle.graph_session.specs.Console.{Onward}
 use Rattle.graph_session.specs.Known.{as_known}
-use Rattle.graph_session.specs.Session.{HaveSameDisk, view}
-use Rattle.graph_session.specs.State.{State}
+use Rattle.graph_session.specs.Session.{HaveSameDisk, shared_view, view}
+use Rattle.graph_session.specs.SharedConsole.{IsSharedAt}
+use Rattle.graph_session.specs.Snapshots.{SharedState}
 use Rattle.graph_console.specs.Serve.{loop, progress}
 use Rattle.graph_console.proofs.Admitted.{IsAtSince}
 use Rattle.graph_console.proofs.Runs.{Serving}
@@ -11,10 +12,10 @@ use Rattle.graph_console.proofs.serve.serve.Given as goal
 
 abbrev pub invariant-lines : goal.invariant-lines
 invariant-lines g l = record {
-  serving : (known : Bool) (first : State) → IsAt (as_known known g.D.Disk) (view l.fn.session) first → g.S.Source.tells → g.K.Sink.tells
-      → Serving (as_known known g.D.Disk).tells_reads first (IsAtSince (as_known known g.D.Disk) (view l.fn.session) (view l.session) first)
-      (progress g.S.Source g.K.Sink g.D.Disk (loop l.fn.reader l.fn.input l.fn.output (view l.fn.session)))
-      (progress g.S.Source g.K.Sink g.D.Disk (loop l.reader l.input l.output (view l.session)));
+  serving : (known : Bool) (first : SharedState) → IsSharedAt (as_known known g.D.Disk) (shared_view l.fn.session) first → g.S.Source.tells → g.K.Sink.tells
+      → Serving (as_known known g.D.Disk).tells_reads first (IsAtSince (as_known known g.D.Disk) (shared_view l.fn.session) (shared_view l.session) first)
+      (progress g.S.Source g.K.Sink g.D.Disk (loop l.fn.reader l.fn.input l.fn.output (shared_view l.fn.session)))
+      (progress g.S.Source g.K.Sink g.D.Disk (loop l.reader l.input l.output (shared_view l.session)));
   counted : g.S.Source.tells → l.reader.taken + length (g.S.Source.left l.input) ≡ l.fn.reader.taken + length (g.S.Source.left l.fn.input);
   onward : Onward g.D.Disk (view l.fn.session) (view l.session);
   input_later : g.S.Source.faults l.fn.input ≤ g.S.Source.faults l.input;

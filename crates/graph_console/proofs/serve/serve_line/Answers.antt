@@ -1,8 +1,8 @@
 use Rattle.std.proofs.Common.{refl}
 use Rattle.graph_session.specs.Known.{as_known}
-use Rattle.graph_session.specs.Moments.{ComesTo}
-use Rattle.graph_session.specs.Session.{view}
-use Rattle.graph_session.specs.State.{State}
+use Rattle.graph_session.specs.Session.{shared_view, with_sink}
+use Rattle.graph_session.specs.SharedAnswer.{SharedComesTo}
+use Rattle.graph_session.specs.Snapshots.{SharedState}
 use Rattle.graph_console.specs.Serve.{Progress, loop, progress}
 use Rattle.graph_console.proofs.Turns.{answers_at, comes_none, says_after, says_at_end}
 use Rattle.graph_console.proofs.serve.serve_line.Goals as goal
@@ -10,32 +10,32 @@ use Rattle.graph_console.proofs.serve.serve_line.Goals as goal
 pub returns-in-Line-clause-turns : goal.returns-in-Line-clause-turns
 returns-in-Line-clause-turns g c = λ known state is_at s k.
     let takes = rw c.in-Line.is at (c.next.follows.holds-at-none.takes s) in
-    let old = loop c.args.reader.now c.args.input.now c.args.output.now (view c.args.session.now) in
-    let new = loop c.next.follows.lender-at-none c.next.new.source c.step-turn.new.output (view c.step-turn.new.self) in
-    rw (c.exit_after_turn.ensures, c.health.ensures) (says_after g.S.Source k old new takes c.step-turn.result (answers_at c.step-turn.ensures.answers known state is_at))
+    let old = loop c.args.reader.now c.args.input.now c.args.output.now (shared_view c.args.session.now) in
+    let new = loop c.next.follows.lender-at-none c.next.new.source c.step-turn.new.output (shared_view c.step-turn.new.self) in
+    rw (c.exit_after_turn.ensures, c.health.ensures) (says_after g.S.Source k old new takes c.step-turn.result (answers_at {old = with_sink c.args.session.now c.args.output.now} {new = with_sink c.step-turn.new.self c.step-turn.new.output} c.step-turn.ensures.answers known state is_at))
 
 pub returns-in-TooLong-clause-turns : goal.returns-in-TooLong-clause-turns
 returns-in-TooLong-clause-turns g c = λ known state is_at s k.
     let takes = rw c.in-TooLong.is at (c.next.follows.holds-at-none.takes s) in
-    let old = loop c.args.reader.now c.args.input.now c.args.output.now (view c.args.session.now) in
-    let new = loop c.next.follows.lender-at-none c.next.new.source c.too_long-turn.new.output (view c.too_long-turn.new.self) in
-    rw (c.exit_after_turn-in-TooLong.ensures, c.health-in-TooLong.ensures) (says_after g.S.Source k old new takes c.too_long-turn.result (answers_at c.too_long-turn.ensures.answers known state is_at))
+    let old = loop c.args.reader.now c.args.input.now c.args.output.now (shared_view c.args.session.now) in
+    let new = loop c.next.follows.lender-at-none c.next.new.source c.too_long-turn.new.output (shared_view c.too_long-turn.new.self) in
+    rw (c.exit_after_turn-in-TooLong.ensures, c.health-in-TooLong.ensures) (says_after g.S.Source k old new takes c.too_long-turn.result (answers_at {old = with_sink c.args.session.now c.args.output.now} {new = with_sink c.too_long-turn.new.self c.too_long-turn.new.output} c.too_long-turn.ensures.answers known state is_at))
 
 pub returns-in-End-clause-turns : goal.returns-in-End-clause-turns
 returns-in-End-clause-turns g c = λ known state is_at s k.
     let takes = rw c.in-End.is at (c.next.follows.holds-at-none.takes s) in
-    let session = view c.args.session.now in
+    let session = shared_view c.args.session.now in
     let old : Progress = progress g.S.Source g.K.Sink g.D.Disk (loop c.args.reader.now c.args.input.now c.args.output.now session) in
     let new : Progress = progress g.S.Source g.K.Sink g.D.Disk (loop c.next.follows.lender-at-none c.next.new.source c.args.output.now session) in
-    let comes_to : State → Type 0 = ComesTo (as_known known g.D.Disk) session session state in
-    let stays : comes_to state = comes_none (as_known known g.D.Disk) g.met.D.Disk.only_now (view c.args.session.now) state is_at in
-    rw (c.exit_at_end.ensures, c.health-in-End.ensures) (says_at_end (as_known known g.D.Disk).tells_reads state comes_to old new (view c.args.session.now).console.health takes.0 is_at.health stays refl)
+    let comes_to : SharedState → Type 0 = SharedComesTo (as_known known g.D.Disk) session session state in
+    let stays : comes_to state = comes_none (as_known known g.D.Disk) g.met.D.Disk.only_now (shared_view c.args.session.now) state is_at in
+    rw (c.exit_at_end.ensures, c.health-in-End.ensures) (says_at_end (as_known known g.D.Disk).tells_reads state comes_to old new session.session.console.health takes.0 is_at.writer.health stays refl)
 
 pub returns-in-SourceFault-clause-turns : goal.returns-in-SourceFault-clause-turns
 returns-in-SourceFault-clause-turns g c = λ known state is_at s k. record {
   drops = rw c.in-SourceFault.is at (c.next.follows.holds-at-none.takes s);
   stops = (rw c.in-SourceFault.is at c.next.follows.holds-at-none.counts).0;
-  arrives = comes_none (as_known known g.D.Disk) g.met.D.Disk.only_now (view c.args.session.now) state is_at;
+  arrives = comes_none (as_known known g.D.Disk) g.met.D.Disk.only_now (shared_view c.args.session.now) state is_at;
   output = refl;
 }
 
@@ -44,7 +44,7 @@ returns-in-Exhausted-clause-turns g c = λ known state is_at s k. (
   record {
     drops = rw c.in-Exhausted.is at (c.next.follows.holds-at-none.takes s);
     stops = (rw c.in-Exhausted.is at c.next.follows.holds-at-none.counts).0;
-    arrives = comes_none (as_known known g.D.Disk) g.met.D.Disk.only_now (view c.args.session.now) state is_at;
+    arrives = comes_none (as_known known g.D.Disk) g.met.D.Disk.only_now (shared_view c.args.session.now) state is_at;
     output = refl;
   },
   (rw c.in-Exhausted.is at c.next.follows.holds-at-none.counts).1,

@@ -1,6 +1,6 @@
 use Rattle.std.proofs.Common.{◌≡◌, ◌∙◌, List, ℕ, [], ◌++◌, Some, suc, ap, arith, append_assoc, drop, subst, sym, take}
 use Rattle.std.proofs.lemmas.List.{append-nil}
-use Rattle.graph_session.specs.Session.{view}
+use Rattle.graph_session.specs.Session.{shared_view}
 use Rattle.graph_console.specs.Sample.{last_lines}
 use Rattle.graph_console.specs.Sampling.{SampledTo}
 use Rattle.graph_console.proofs.Samples.{ends_in_line, ends_sample, last_lines_all, last_lines_more, last_lines_split, sampled_on}
@@ -19,9 +19,9 @@ lines-preserved g c = record {
       let asks = c.in_default.ensures.asks so_far.2.last so_far.2.is_at k in (
         so_far.0 ++ asks.0,
         asks.2 ∙ ap (λ (taken : List ℕ). taken ++ asks.0) so_far.1 ∙ append_assoc (g.K.Sink.taken c.args.output.now) so_far.0 asks.0,
-        subst (λ (asked : List (List ℕ)). SampledTo g.D.Disk options asked (view c.ask_aloud.new.session) (so_far.0 ++ asks.0))
+        subst (λ (asked : List (List ℕ)). SampledTo g.D.Disk options asked (shared_view c.ask_aloud.new.session) (so_far.0 ++ asks.0))
             (last_lines_more c.lines.index c.lines-test.true c.last_line.result.now c.last_line.ensures)
-            (sampled_on (take c.lines.index last_lines) c.last_line.result.now asks.0 so_far.0 (view c.lines.session) (view c.ask_aloud.new.session) so_far.2 asks.1),
+            (sampled_on (take c.lines.index last_lines) c.last_line.result.now asks.0 so_far.0 (shared_view c.lines.session) (shared_view c.ask_aloud.new.session) so_far.2 asks.1),
       );
   later = omega (arith, c.lines.invariant.later, c.in_default.ensures.later);
 }
@@ -29,7 +29,7 @@ lines-preserved g c = record {
 pub returns-in-Some-clause-samples : goal.returns-in-Some-clause-samples
 returns-in-Some-clause-samples g c = λ options s k.
     let so_far = c.lines.invariant.sampled options s k in
-    ends_in_line (take c.lines.index last_lines) c.last_line.result.now (drop (suc c.lines.index) last_lines) (view c.lines.session) (view c.ask_aloud.new.session) so_far.0
+    ends_in_line (take c.lines.index last_lines) c.last_line.result.now (drop (suc c.lines.index) last_lines) (shared_view c.lines.session) (shared_view c.ask_aloud.new.session) so_far.0
     (g.K.Sink.taken c.args.output.now) (g.K.Sink.taken c.lines.output) (g.K.Sink.taken c.ask_aloud.new.output) c.in-Some.exit
     (last_lines_split c.lines.index c.lines-test.true c.last_line.result.now c.last_line.ensures) so_far.2 so_far.1 (c.in-Some.ensures.asks so_far.2.last so_far.2.is_at k)
 
@@ -42,6 +42,6 @@ returns-clause-samples g c = λ options s k.
     let at_end : c.lines.index ≡ 5 = omega arith in (
       so_far.0,
       so_far.1,
-      ends_sample (view c.lines.session) so_far.0
-          (subst (λ (asked : List (List ℕ)). SampledTo g.D.Disk options asked (view c.lines.session) so_far.0) (last_lines_all c.lines.index at_end) so_far.2),
+      ends_sample (shared_view c.lines.session) so_far.0
+          (subst (λ (asked : List (List ℕ)). SampledTo g.D.Disk options asked (shared_view c.lines.session) so_far.0) (last_lines_all c.lines.index at_end) so_far.2),
     )

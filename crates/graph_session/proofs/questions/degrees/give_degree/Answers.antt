@@ -20,7 +20,7 @@ returns-in-Ok g c =
     (λ told store.
     ap (λ (edges : ℕ). one_line (degree_text edges))
     (met.rows told store.store ∙ rows-degree s.records s.shape store.store (option_list c.number_in.result) c.args.label.now (c.number_in.ensures s.records s.shape store) c.args.direction c.args.id))
-    (rw (c.as_bytes.ensures, c.degree-in-Ok.ensures) at c.give.ensures)
+    (rw (c.as_bytes.ensures, c.degree-in-Ok.ensures) at c.give_line.ensures)
 
 pub returns-in-Err : goal.returns-in-Err
 returns-in-Err g c =

@@ -1,4 +1,4 @@
-use Rattle.std.proofs.Common.{Vec, [], ◌∷◌}
+use Rattle.std.proofs.Common.{Vec}
 use Rattle.std.specs.declared.alloc.Global.{Global}
 use Rattle.rel_store.specs.declared.edge_row.EdgeRow.{EdgeRow}
 use Rattle.graph_session.proofs.Expansion.{is_read-gets, items-expansion, ok-then}

@@ -1,4 +1,4 @@
-use Rattle.std.proofs.Common.{◌∙◌, ℕ, Err, List, [], Vec, ap, map, refl}
+use Rattle.std.proofs.Common.{ℕ, Err, List, [], Vec, ap, map, refl}
 use Rattle.std.specs.declared.alloc.Global.{Global}
 use Rattle.plain_graph.specs.Lines.{listed}
 use Rattle.plain_graph.specs.Reply.{item_line}
@@ -18,7 +18,7 @@ asks id direction label = record { question = tt; some = tt; reading = listed []
 
 pub returns-in_default : goal.returns-in_default
 returns-in_default g c =
-    gives-unknown (asks c.args.id c.args.direction c.args.label.now) (is_read-none g.R.Reads g.met.R.Reads.stays_onward c.args.space.now) faults.Memory (λ e. cc) (λ told store id e. cc) (λ told store damage e. cc) (rw c.no_memory.ensures at c.give.ensures)
+    gives-unknown (asks c.args.id c.args.direction c.args.label.now) (is_read-none g.R.Reads g.met.R.Reads.stays_onward c.args.space.now) faults.Memory (λ e. cc) (λ told store id e. cc) (λ told store damage e. cc) (rw c.no_memory.ensures at c.give_line.ensures)
 
 pub returns-in-Ok-edges_of : goal.returns-in-Ok-edges_of
 returns-in-Ok-edges_of g c =

@@ -4,7 +4,7 @@ use Rattle.graph_session.proofs.EdgeLines.{giving-end, giving-more, giving-none,
 use Rattle.graph_session.proofs.questions.edge_results.give_rows.Goals as goal
 
 pub loop-row-init : goal.loop-row-init
-loop-row-init g c = rw c.new-lines.ensures (giving-none c.args.output.now c.args.label c.args.rows.now 0 0 0 0)
+loop-row-init g c = rw c.new-lines.ensures (giving-none c.args.mark.now c.args.output.now c.args.label c.args.rows.now 0 0 0 0)
 
 pub returns : goal.returns
 returns g c =

@@ -5,11 +5,11 @@ use Rattle.graph_session.proofs.questions.query_results.give_query.Goals as goal
 
 pub loop-init : goal.loop-init
 loop-init g c =
-    rw c.new-lines.ensures (running-first c.args.names.now.names c.args.query.now g.met.R.Reads.stays_onward c.args.space.now c.args.output.now c.in-Ok.run' c.in-Ok.ensures.begins c.in-Ok.ensures.stopped)
+    rw c.new-lines.ensures (running-first c.args.names.now.names c.args.query.now c.args.mark.now g.met.R.Reads.stays_onward c.args.space.now c.args.output.now c.in-Ok.run' c.in-Ok.ensures.begins c.in-Ok.ensures.stopped)
 
 pub returns-in_default : goal.returns-in_default
 returns-in_default g c =
-    running-none c.args.names.now.names c.args.query.now g.met.R.Reads.stays_onward c.args.space.now c.args.output.now c.finish.new.output c.finish.result (rw (c.new-lines.ensures, c.no_memory.ensures) at c.finish.ensures)
+    running-none c.args.names.now.names c.args.query.now c.args.mark.now g.met.R.Reads.stays_onward c.args.space.now c.args.output.now c.finish.new.output c.finish.result (rw (c.new-lines.ensures, c.no_memory.ensures) at c.finish.ensures)
 
 pub loop-preserved : goal.loop-preserved
 loop-preserved g c =

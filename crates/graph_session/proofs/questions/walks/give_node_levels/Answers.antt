@@ -7,7 +7,7 @@ use Rattle.graph_session.proofs.WalkReplies.{listing-end, listing-more, listing-
 use Rattle.graph_session.proofs.questions.walks.give_node_levels.Goals as goal
 
 pub loop-level-init : goal.loop-level-init
-loop-level-init g c = rw c.new-lines.ensures (lines-none c.args.output.now)
+loop-level-init g c = rw c.new-lines.ensures (lines-none c.args.mark.now c.args.output.now)
 
 pub loop-level-preserved : goal.loop-level-preserved
 loop-level-preserved g c =

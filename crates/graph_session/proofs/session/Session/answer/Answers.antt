@@ -5,7 +5,7 @@ use Rattle.graph_session.proofs.Dispatch.{answers-blank, answers-quit}
 use Rattle.graph_session.proofs.session.Session.answer.Goals as goal
 
 pub returns-in-Blank-clause-answers : goal.returns-in-Blank-clause-answers
-returns-in-Blank-clause-answers g c = λ line only. answers-blank g.D.Disk g.met.D.Disk.only_now g.K.Sink (subst (λ (command : Command). SpellsOnly line command) c.in-Blank.is only)
+returns-in-Blank-clause-answers g c = λ line parsed. answers-blank g.D.Disk g.met.D.Disk.only_now g.K.Sink (subst (λ (command : Command). SpellsOnly line command) c.in-Blank.is parsed.only)
 
 pub returns-in-Quit-clause-answers : goal.returns-in-Quit-clause-answers
-returns-in-Quit-clause-answers g c = λ line only. answers-quit g.D.Disk g.met.D.Disk.only_now g.K.Sink (subst (λ (command : Command). SpellsOnly line command) c.in-Quit.is only)
+returns-in-Quit-clause-answers g c = λ line parsed. answers-quit g.D.Disk g.met.D.Disk.only_now g.K.Sink (subst (λ (command : Command). SpellsOnly line command) c.in-Quit.is parsed.only)

@@ -1,5 +1,5 @@
-use Rattle.std.proofs.Common.{ap, length, sym, true≢false}
-use Rattle.graph_session.proofs.Moves.{committed_one, left_open, refused-commit}
+use Rattle.std.proofs.Common.{◌∙◌, ap, inl, inr, length, refl, sym, true≢false}
+use Rattle.graph_session.proofs.Moves.{commit_failed, committed_one, refused-commit}
 use Rattle.graph_session.specs.Session.{view}
 use Rattle.graph_session.proofs.session.Session.commit.Goals as goal
 
@@ -11,10 +11,30 @@ pub returns-in-Ok-clause-settles : goal.returns-in-Ok-clause-settles
 returns-in-Ok-clause-settles g c =
     let s = c.args.self.now in
     let done = c.in-Ok.ensures in
-    committed_one s.store c.commit.new.self done.same done.closed done.draft done.cause.later (sym c.if-not-in_transaction.ensures.is) done.crash s.health c.requires.live s.weight s.names.names done.own done.done (λ nothing. (done.empty (ap length nothing)).1)
+    committed_one s.store c.commit_kept.new.self done.same done.closed done.draft done.cause.later (sym c.if-not-in_transaction.ensures.is) done.crash s.health c.requires.live s.weight s.names.names done.own done.done (λ nothing. (done.empty (ap length nothing)).1)
 
 pub returns-in-Err-clause-settles : goal.returns-in-Err-clause-settles
 returns-in-Err-clause-settles g c =
     let s = c.args.self.now in
     let done = c.in-Err.ensures in
-    left_open s.store c.commit.new.self done.same done.closed done.draft done.cause.later (sym c.if-not-in_transaction.ensures.is) done.crash s.health c.requires.live s.weight s.names.names done.failed done.cause.failed (λ nothing. true≢false (sym (done.empty (ap length nothing)).0))
+    commit_failed s.store c.commit_kept.new.self done.same done.closed done.draft done.cause.later (sym c.if-not-in_transaction.ensures.is) done.crash s.health c.requires.live s.weight s.names.names done.failed done.cause.failed (λ nothing. true≢false (sym (done.empty (ap length nothing)).0))
+
+pub returns-then-not-in_transaction-clause-keeps :
+    goal.returns-then-not-in_transaction-clause-keeps
+returns-then-not-in_transaction-clause-keeps g c = record { held = inl (refl, sym c.if-not-in_transaction.ensures.is); weighed = λ none weighed. weighed }
+
+pub returns-in-Ok-clause-keeps : goal.returns-in-Ok-clause-keeps
+returns-in-Ok-clause-keeps g c =
+    let done = c.in-Ok.ensures in
+    record {
+      held = inr (sym c.if-not-in_transaction.ensures.is, λ weight few. record { ends = inl tt; sights = done.sights; held = done.held weight few });
+      weighed = λ none weighed opened. absurd (true≢false (sym opened ∙ done.closed));
+    }
+
+pub returns-in-Err-clause-keeps : goal.returns-in-Err-clause-keeps
+returns-in-Err-clause-keeps g c =
+    let done = c.in-Err.ensures in
+    record {
+      held = inr (sym c.if-not-in_transaction.ensures.is, λ weight few. record { ends = inr refl; sights = done.sights; held = done.held weight few });
+      weighed = λ none weighed opened. absurd (true≢false (sym opened ∙ done.closed));
+    }

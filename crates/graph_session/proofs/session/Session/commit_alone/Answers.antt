@@ -1,4 +1,5 @@
-use Rattle.std.proofs.Common.{inl, refl}
+use Rattle.std.proofs.Common.{inl, inr, refl}
+use Rattle.graph_session.proofs.Drafts.{records-failed}
 use Rattle.graph_session.proofs.session.Session.commit_alone.Goals as goal
 
 pub returns-in-Ok : goal.returns-in-Ok
@@ -7,6 +8,8 @@ returns-in-Ok g c =
     record {
       crash = done.crash;
       later = done.cause.later;
+      sights = done.sights;
+      held = done.held;
       ends = inl (
         refl,
         record {
@@ -18,4 +21,15 @@ returns-in-Ok g c =
           stored = done.done.stored;
         },
       );
+    }
+
+pub returns-in-Err : goal.returns-in-Err
+returns-in-Err g c =
+    let done = c.in-Err.ensures in
+    record {
+      crash = done.crash;
+      later = done.cause.later;
+      sights = done.sights;
+      held = done.held;
+      ends = inr (refl, records-failed c.args.self.now _ (record { same = done.same; in_transaction = done.closed; own = done.own; draft = done.draft }) refl refl done.cause.failed done.failed);
     }

@@ -1,4 +1,5 @@
 use Rattle.graph_session.proofs.ChangeEnds.{settles-change}
+use Rattle.graph_session.proofs.KeptChanges.{keeps-change}
 use Rattle.graph_session.proofs.session.Session.delete.Goals as goal
 
 pub returns-in-Node-clause-settles : goal.returns-in-Node-clause-settles
@@ -8,3 +9,11 @@ returns-in-Node-clause-settles g c =
 pub returns-in-Edge-clause-settles : goal.returns-in-Edge-clause-settles
 returns-in-Edge-clause-settles g c =
     rw c.in-Edge.is (settles-change tt c.requires.live c.end_change-in-Edge.new.self c.begin_change-begun.result c.begin_change-begun.ensures c.draft_edge_deletion-drafted.ensures.only c.draft_edge_deletion-drafted.result c.draft_edge_deletion-drafted.ensures.drafts c.end_change-in-Edge.result c.end_change-in-Edge.ensures)
+
+pub returns-in-Node-clause-keeps : goal.returns-in-Node-clause-keeps
+returns-in-Node-clause-keeps g c =
+    rw c.in-Node.is (keeps-change tt c.requires.live c.end_change.new.self c.begin_change-begun.result c.begin_change-begun.ensures c.draft_deletion-drafted.ensures.only c.draft_deletion-drafted.result c.draft_deletion-drafted.ensures.drafts c.end_change.result c.end_change.ensures)
+
+pub returns-in-Edge-clause-keeps : goal.returns-in-Edge-clause-keeps
+returns-in-Edge-clause-keeps g c =
+    rw c.in-Edge.is (keeps-change tt c.requires.live c.end_change-in-Edge.new.self c.begin_change-begun.result c.begin_change-begun.ensures c.draft_edge_deletion-drafted.ensures.only c.draft_edge_deletion-drafted.result c.draft_edge_deletion-drafted.ensures.drafts c.end_change-in-Edge.result c.end_change-in-Edge.ensures)

@@ -1,6 +1,12 @@
-use Rattle.std.proofs.Common.{Err, ap, inl, refl}
+use Rattle.std.proofs.Common.{Err, ap, inl, refl, subst, sym}
+use Rattle.rec_bytes.specs.declared.key.Key.{Key}
+use Rattle.rec_bytes.specs.declared.record.Rec.{Rec}
+use Rattle.record_file.specs.Redone.{Redoes}
+use Rattle.record_file.proofs.Redone.{Redoes-kept}
+use Rattle.txn_core.specs.Store.{committed}
 use Rattle.name_store.specs.declared.names.Names.{Names}
 use Rattle.graph_session.proofs.Beginnings.{loaded-opens, loaded-refused, opening-leaves, opening-sound}
+use Rattle.graph_session.proofs.StoreRecords.{committed-read}
 use Rattle.graph_session.proofs.session.Session.open.Goals as goal
 
 -- the store isn't opened
@@ -64,3 +70,12 @@ returns-in-Err-load-clause-unopened g c =
     })
     c.load.ensures.onward c.load.ensures.cause.later Names c.close.result.now c.why_of.result c.in-Err-load.fault c.close.ensures.disk c.why_of.ensures c.in-Err-load.ensures.damaged c.in-Err-load.ensures.sound
     (λ e. c.in-Err-load.ensures.cause.disk (ap Err e))
+
+-- what is read of the disk is what is committed
+pub returns-in-Ok-load-clause-stored : goal.returns-in-Ok-load-clause-stored
+returns-in-Ok-load-clause-stored g c = λ told.
+    let d = g.D.Disk in
+    let opened = c.in-Ok.store in
+    let loaded = c.load.new.space in
+    subst (λ (records : Key → Rec). Redoes (d.reads loaded.base.disk.now) records) (sym (committed-read opened.base loaded.base c.load.ensures.onward))
+    (Redoes-kept (committed opened) (d.reads opened.base.disk.now) (d.reads loaded.base.disk.now) (c.in-Ok.ensures.stored.read told) c.load.ensures.onward.disk.keeps)

@@ -1,4 +1,4 @@
-use Rattle.std.proofs.Common.{◌≡◌, ◌∙◌, Err, ap, inl, sym}
+use Rattle.std.proofs.Common.{◌≡◌, ◌∙◌, Err, ap, inl, refl, sym, true≢false}
 use Rattle.disk_model.proofs.Spans.{only_reads_none}
 use Rattle.rec_bytes.specs.declared.damage.Damage.{Damage}
 use Rattle.txn_core.specs.declared.again_fault.AgainFault.TheVariants as faults
@@ -47,3 +47,18 @@ returns-in-Err-Disk-clause-careful g c = c.in-Err-Disk.ensures.careful
 
 pub returns-in-Err-Damaged-clause-careful : goal.returns-in-Err-Damaged-clause-careful
 returns-in-Err-Damaged-clause-careful g c = c.in-Err-Damaged.ensures.careful
+
+pub returns-then-in_transaction-clause-keeps : goal.returns-then-in_transaction-clause-keeps
+returns-then-in_transaction-clause-keeps g c = record { held = refl; weighed = λ none weighed. weighed }
+
+pub returns-in-Ok-clause-keeps : goal.returns-in-Ok-clause-keeps
+returns-in-Ok-clause-keeps g c = record {
+  held = c.name_again.ensures.snaps;
+  weighed = λ none weighed opened. absurd (true≢false (sym opened ∙ c.name_again.ensures.reads.in_transaction ∙ c.in-Ok.ensures.closed));
+}
+
+pub returns-in-Err-Disk-clause-keeps : goal.returns-in-Err-Disk-clause-keeps
+returns-in-Err-Disk-clause-keeps g c = record { held = refl; weighed = λ none weighed opened. absurd (true≢false (sym opened ∙ c.in-Err-Disk.ensures.closed)) }
+
+pub returns-in-Err-Damaged-clause-keeps : goal.returns-in-Err-Damaged-clause-keeps
+returns-in-Err-Damaged-clause-keeps g c = record { held = refl; weighed = λ none weighed opened. absurd (true≢false (sym opened ∙ c.in-Err-Damaged.ensures.closed)) }

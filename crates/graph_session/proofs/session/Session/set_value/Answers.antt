@@ -1,6 +1,11 @@
 use Rattle.graph_session.proofs.ChangeEnds.{settles-change}
+use Rattle.graph_session.proofs.KeptChanges.{keeps-change}
 use Rattle.graph_session.proofs.session.Session.set_value.Goals as goal
 
 pub returns-clause-settles : goal.returns-clause-settles
 returns-clause-settles g c =
     settles-change tt c.requires.live c.end_change.new.self c.begin_change-begun.result c.begin_change-begun.ensures c.draft_value-drafted.ensures.only c.draft_value-drafted.result c.draft_value-drafted.ensures.drafts c.end_change.result c.end_change.ensures
+
+pub returns-clause-keeps : goal.returns-clause-keeps
+returns-clause-keeps g c =
+    keeps-change tt c.requires.live c.end_change.new.self c.begin_change-begun.result c.begin_change-begun.ensures c.draft_value-drafted.ensures.only c.draft_value-drafted.result c.draft_value-drafted.ensures.drafts c.end_change.result c.end_change.ensures

@@ -1,0 +1,89 @@
+-- What a command of the session that writes leaves of the old records that are kept, over any disk.
+use Rattle.std.specs.Prelude.{◌≡◌, ◌⊎◌, ◌+◌, ◌≤◌, ℕ, true, false, List, [], ◌++◌, length}
+use Rattle.std.specs.Prelude.{is_some}
+use Rattle.disk_model.specs.Spans.{OnlyReads}
+use Rattle.disk_model.specs.declared.disk.Disk.{Ghosts}
+use Rattle.plain_graph.specs.Changes.{Weighs, start_weight}
+use Rattle.plain_graph.specs.Kinds.{Bound, Change, Kind}
+use Rattle.plain_graph.specs.Lines.{kind_of}
+use Rattle.plain_graph.specs.Reply.{DiskFailed, Done, EdgeMade, Faulted, NodeMade, Reply}
+use Rattle.plain_graph.specs.declared.command.Command.{Command}
+use Rattle.plain_graph.specs.declared.command.Command.TheVariants as commands
+use Rattle.rec_bytes.specs.Pairs.{IsOrdered, Pairs, find_pair}
+use Rattle.rec_bytes.specs.Space.{IsAmong}
+use Rattle.rec_bytes.specs.declared.key.Key.{Key}
+use Rattle.store_rules.specs.Graph.{graph_of, names_of}
+use Rattle.store_rules.specs.Rules.{IsWellFormed}
+use Rattle.store_rules.specs.Writes.{meta_keys}
+use Rattle.snap_store.specs.Keeping.{KeepsHeld}
+use Rattle.snap_store.specs.Snaps.{Snapshots}
+use Rattle.txn_core.specs.Sights.{KeepsSights}
+use Rattle.graph_session.specs.Console.{ConsoleView, HasNoDraft, SessionView}
+
+-- a session, and what it keeps of old records for snapshots
+pub record SharedView (D : Type 0) : Type 0 where
+  pub session : SessionView D
+  pub held : Snapshots
+
+-- The written records are those of the files' meta records, and at most so many more that with a
+-- transaction's first weight they are the weight.
+pub record AreWeighed (written : Pairs) (weight : ℕ) : Type 0 where
+  pub rising : IsOrdered written
+  pub keys : List Key
+  pub few : length keys + start_weight ≤ weight
+  pub each : (key : Key) → is_some (find_pair written key) ≡ true → IsAmong key (keys ++ meta_keys)
+
+-- an open transaction has written no more records than it weighs
+abbrev pub IsWeighed : ConsoleView → Type 0
+IsWeighed console = console.is_open ≡ true → AreWeighed console.written console.weight
+
+-- the reply confirms what the line asked for
+abbrev pub Confirms : Reply → Type 0
+Confirms Done = Unit {0}
+Confirms (NodeMade id) = Unit {0}
+Confirms (EdgeMade id) = Unit {0}
+Confirms _ = ⊥
+
+module _ {D : Type 0} (g : Ghosts D) (old : SharedView D) (reply : Reply) (new : SharedView D) where
+  -- A transaction of this weight was ended, or left open by the disk. Each snapshot that is still
+  -- open sees what it saw, and the sums of weights bound what is kept.
+  pub record KeepsFor (weight : ℕ) : Type 0 where
+    pub ends : Confirms reply ⊎ (reply ≡ Faulted [] DiskFailed)
+    pub sights : KeepsSights g old.session.console.committed new.session.disk old.held new.held
+    pub held : KeepsHeld weight old.held new.held
+
+  -- `commit` ends the open transaction; where none is open nothing is kept.
+  abbrev pub KeepsCommit : Type 0
+  KeepsCommit =
+      ((new.held ≡ old.held) × (old.session.console.is_open ≡ false))
+      ⊎ ((old.session.console.is_open ≡ true)
+      × ((weight : ℕ) → length old.session.console.written ≤ weight → KeepsFor weight))
+
+  -- A change outside a transaction is one by itself, whose weight is that of the line where the
+  -- store has a graph. One that is not made, or in a transaction, keeps nothing.
+  abbrev pub KeepsChange : Command → Type 0
+  KeepsChange command =
+      ((new.held ≡ old.held)
+      × ((old.session.console.is_open ≡ true)
+      ⊎ ((¬ Confirms reply) × OnlyReads g old.session.disk new.session.disk)))
+      ⊎ ((old.session.console.is_open ≡ false) × (more : ℕ) × KeepsFor (start_weight + more)
+      × (g.tells_reads → IsWellFormed old.session.console.committed old.session.console.shape
+      → old.session.console.names ≡ names_of old.session.console.committed
+      → Weighs old.session.console.shape.threshold (graph_of old.session.console.committed)
+      command more))
+
+  abbrev pub KeepsBound : Command → Type 0
+  KeepsBound commands.Commit = KeepsCommit
+  KeepsBound _ = new.held ≡ old.held
+
+  abbrev pub KeepsKind : Kind → Command → Type 0
+  KeepsKind Bound command = KeepsBound command
+  KeepsKind Change command = KeepsChange command
+  KeepsKind _ command = new.held ≡ old.held
+
+-- What a command leaves of the old records, and of the bound on those that a transaction writes.
+pub record KeepsOlds {D : Type 0} (g : Ghosts D) (command : Command) (old : SharedView D)
+    (reply : Reply) (new : SharedView D) : Type 0 where
+  pub held : KeepsKind g old reply new (kind_of command) command
+  pub weighed :
+      HasNoDraft old.session → IsWeighed old.session.console → IsWeighed new.session.console
