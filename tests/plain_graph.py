@@ -19,6 +19,10 @@ SHOWN = str.maketrans({"'": "\\'", "\\": "\\\\", "\n": "\\n", "\r": "\\r", "\t":
 SHORT_TEXT, BLOCK = 40, 48
 RELATIONS = {"gt": operator.gt, "gte": operator.ge, "lt": operator.lt, "lte": operator.le}
 KINDS = {"node": 0, "edge": 1}
+# What names the session of a line, the first words of lines that only read, and those about a snapshot.
+TAG = re.compile(r"[ \t]*@([0-7])[ \t](.*)", re.S)
+QUESTIONS = ("stats", "check", "expand", "degree", "path", "levels", "g")
+OF_SNAPSHOTS = ("snapshot", "release")
 # The directions of edges, each with the one that leads back.
 BACK = {"out": "in", "in": "out", "both": "both"}
 
@@ -169,6 +173,10 @@ class PlainGraph:
 
     # --- transactions
 
+    def stored(self):
+        """What is stored, as a state."""
+        return self.state() if self.before is None else self.before
+
     def state(self):
         return pickle.dumps((self.elements, self.free, self.next, self.names))
 
@@ -197,6 +205,10 @@ class PlainGraph:
         """Nothing is to be done."""
 
     line_reopen = line_checkpoint
+
+    def line_check(self, tokens):
+        tokens.end()
+        return "sound"
 
     def line_stats(self, tokens):
         nodes, edges = self.elements
@@ -433,6 +445,53 @@ class PlainGraph:
             return items
 
         return repeated
+
+
+class Sessions:
+    """The session that writes, and by its number what the snapshot of each other one shows. None ends by itself."""
+
+    def __init__(self):
+        self.writer, self.snapshots = PlainGraph(), {}
+
+    def answer(self, line):
+        """The reply to a line, without its last newline. If the line names its session, each line of the reply does."""
+        tag = TAG.fullmatch(line)
+        if not tag:
+            return self.reply(0, line)
+        reply = self.reply(int(tag[1]), tag[2])
+        return None if reply is None else "\n".join(f"@{tag[1]} {it}" for it in reply.split("\n"))
+
+    def reply(self, session, line):
+        if not session:
+            return "error writer" if line.split() in ([it] for it in OF_SNAPSHOTS) else self.writer.answer(line)
+        held = Tokens(line).held
+        if not held:
+            return None
+        word = held[0][1]
+        is_of_snapshots = word in OF_SNAPSHOTS and len(held) == 1
+        if not is_of_snapshots and word not in QUESTIONS:
+            return "error read only"
+        if word == "snapshot":
+            return self.snap(session)
+        if session not in self.snapshots:
+            return "error no snapshot"
+        if word != "release":
+            return self.snapshots[session].answer(line)
+        del self.snapshots[session]
+        return "ok"
+
+    def snap(self, session):
+        if session in self.snapshots:
+            return "error snapshot open"
+        self.snapshots[session] = PlainGraph()
+        self.snapshots[session].restore(self.writer.stored())
+        return "ok"
+
+    def end_run(self):
+        """The next run finds what is stored, and no snapshot."""
+        stored = self.writer.stored()
+        self.__init__()
+        self.writer.restore(stored)
 
 
 def elements(items):

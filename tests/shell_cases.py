@@ -132,6 +132,38 @@ def dump_and_read(folder):
     assert ran.out.decode() == text and ran.status == 0, f"{ran}"
 
 
+def sessions(folder):
+    """Lines of a session that reads see its snapshot. What the shell puts before a line stands neither in the reply nor in a
+    place of it. A line may name its session itself, and then its reply does, too."""
+    graph(folder)
+    told = "session 0, which writes\nsession 1, which reads\nerror no snapshot\na session is one of 0 to 7\n"
+    assert says(folder, ".session", ".session 1", ".session", "g.V()", ".session 8", status=REFUSED) == told
+    takes = ".session 1", "snapshot", "@0 delete edge 0", "@0 node city", "@2 g.V()"
+    taken = "ok\n@0 ok\n@0 node 3\n@2 error no snapshot\n"
+    seen = says(folder, *takes, "g.V().count()", "path 0 1 out", "@0 path 0 1 out", "@0 \t", "node a", status=REFUSED)
+    assert seen == taken + "==>3\nend\npath 1\n==>v[0]\n==>v[1]\nend\n@0 no path\nerror read only\n", seen
+    faults = says(folder, ".session 3", "g.V(", "@3 g.V(", "node a b=01", "x" * 9_000, "@4 quit", "stats", status=REFUSED)
+    assert faults == "error syntax 4\n@3 error syntax 7\nerror syntax 10\nerror line\n", faults
+    undone = ".session 1", "snapshot", "@0 node x t='new'"
+    shown = says(folder, *undone, ".mode table", "g.V(0).values('name','age')", "expand 0 out created", "g.V(4)", ".session 0", "g.V(4)")
+    tables = "name   age\n-----  ---\nmarko   29\nedge  from  type     to\n----  ----  -------  --\n   1     0  created   2\n"
+    assert shown == "ok\n@0 node 4\n" + tables + "node\n----\n   4\n", shown
+
+
+def tools_of_a_session(folder):
+    """A dump has the graph that the session sees. Names and a backup are those of the store, and a reader drops nothing."""
+    graph(folder / "one")
+    before = says(folder / "one", ".dump")
+    read = ".session 1", "snapshot", "@0 delete edge 0", "@0 set node 1 fresh 'new'"
+    assert says(folder / "one", *read, ".dump") == "ok\n@0 ok\n@0 ok\n" + before
+    said = says(folder / "one", ".session 1", ".dump", ".drop 0", "snapshot", ".drop 0", status=REFUSED).splitlines()
+    refused = "begin is answered: error read only; nothing is changed"
+    assert said == ["error no snapshot", "error no snapshot", "ok", refused], f"{said}"
+    said = says(folder / "one", ".session 1", ".names", ".backup ../two", "stats", status=REFUSED)
+    assert "fresh     key\n" in said and said.endswith("names 11\nerror no snapshot\n"), said
+    assert says(folder / "two", ".dump") == says(folder / "one", ".dump") != before
+
+
 def backup(folder):
     graph(folder / "one")
     counts = "nodes 3 edges 3 properties 7 blocks 0 names 10"
@@ -167,6 +199,9 @@ COMPLETED = (
     ("path 0 1 ", "", ["out", "in", "both", "knows", "name"]),
     ("", "pa", ["path"]),
     ("degree ", "i", ["in"]),
+    ("", "sn", ["snapshot"]),
+    ("@1 ", "g", ["g.V()", "g.E()"]),
+    (" @1 g.V().", "ha", ["has(", "hasLabel("]),
 )
 
 
@@ -182,6 +217,8 @@ CASES = {
     "shell: names": names,
     "shell: a node with its edges": drop,
     "shell: dump and read": dump_and_read,
+    "shell: sessions": sessions,
+    "shell: what is of a session": tools_of_a_session,
     "shell: completion": completion,
     "backup": backup,
 }

@@ -7,7 +7,7 @@ use std::alloc::{AllocError, Global};
 use stream_io::{Bytes, Page};
 
 /// The bytes that an output has room for.
-const OUTPUT: usize = 131_072;
+const OUTPUT: usize = 262_144;
 
 /// The greatest piece of a read, in bytes.
 const PIECE: usize = 16;

@@ -1,8 +1,10 @@
 //! Scripts that are drawn: nodes, edges and their properties come and go, with loops and edges side
-//! by side. Each reply is the one that plain lists foretell.
+//! by side, and other sessions read snapshots meanwhile. Each reply is the one that plain lists
+//! foretell, also after a stop.
+use crate::lists::sessions::{Sent, Sessions};
 use crate::lists::{Console, Element, Given, Line, Pair, Pairs, Way};
-use crate::runs::run_words;
-use disk_model::PlainDisk;
+use crate::runs::{Ended, plan, run_words};
+use disk_model::{Crash, MemoryDisk, Room};
 use graph_console::Exit;
 use std::alloc::{AllocError, Global};
 use std::process::Abort;
@@ -11,7 +13,21 @@ use std::test::Fail;
 /// How many nodes a script has at most.
 const NODES: usize = 6;
 
-const LINES: usize = 600;
+/// How many lines a run has that is stopped, and how many the next one.
+const LINES: usize = 450;
+
+const LINES_AFTER: usize = 150;
+
+/// The first call at which a run may be stopped, and how many there are. Some runs make fewer.
+const FIRST_STOP: u64 = 100;
+
+const STOPS: u64 = 500;
+
+/// What a disk keeps of a run's calls.
+const ROOM: Room = Room {
+    calls: 8_192,
+    bytes: 4_194_304,
+};
 
 /// The graph of a script: few edges anywhere, or few or many edges of which most are at one node, a
 /// hub.
@@ -85,14 +101,16 @@ impl Draws {
         }
     }
 
-    /// A line that begins or ends a transaction, or needs none.
+    /// A line that begins or ends a transaction, or needs none; or one that only sessions that read
+    /// may send.
     fn word(&mut self) -> Line {
-        match self.draw() % 8 {
-            0 | 1 => Line::Begin,
-            2 => Line::Commit,
-            3 => Line::Rollback,
-            4 | 5 => Line::Checkpoint,
-            _ => Line::Reopen,
+        match self.draw() % 17 {
+            0..=3 => Line::Begin,
+            4 | 5 => Line::Commit,
+            6 | 7 => Line::Rollback,
+            8..=11 => Line::Checkpoint,
+            12..=15 => Line::Reopen,
+            _ => Line::Snapshot,
         }
     }
 
@@ -131,6 +149,20 @@ impl Draws {
                 way,
                 label,
             },
+        }
+    }
+
+    /// A line of a session that reads; at times one that it may not send.
+    fn reading(&mut self, console: &Console) -> Line {
+        match self.draw() % 32 {
+            0..=7 => Line::Snapshot,
+            8..=10 => Line::Release,
+            11 => self.change(console),
+            12 | 13 => Line::Stats,
+            14 | 15 => Line::Check,
+            16 | 17 => Line::Vertices,
+            18..=21 => Line::Values { key: self.name() },
+            _ => self.question(),
         }
     }
 
@@ -270,31 +302,140 @@ fn draw_line(draws: &mut Draws, console: &Console, share: u64) -> Line {
     }
 }
 
-/// Checks a script of this kind.
+/// A line of one of the eight sessions: three of four are of the one that writes.
+fn draw_sent(draws: &mut Draws, console: &Console, share: u64) -> Sent {
+    if draws.draw() % 4 > 0 {
+        return Sent {
+            session: 0,
+            is_named: draws.draw() % 4 == 0,
+            line: draw_line(draws, console, share),
+        };
+    }
+    Sent {
+        session: (draws.draw() % 7) as usize + 1,
+        is_named: true,
+        line: draws.reading(console),
+    }
+}
+
+/// The lines of a run that begins with these sessions.
+fn draw_run(
+    alloc: Global,
+    draws: &mut Draws,
+    start: &Sessions,
+    count: usize,
+    share: u64,
+) -> Result<Vec<Sent>, AllocError> {
+    let mut sessions = start.next_run()?;
+    let mut lines = Vec::new(alloc);
+    for _ in 0..count {
+        let sent = draw_sent(draws, sessions.writer(), share);
+        let _ = sessions.answer(sent)?;
+        lines.push(sent)?;
+    }
+    Ok(lines)
+}
+
+fn input_of(alloc: Global, lines: &[Sent]) -> Result<String, AllocError> {
+    let mut input = String::new(alloc);
+    for sent in lines {
+        input.push_str(&sent.text(alloc)?)?;
+    }
+    Ok(input)
+}
+
+/// The bytes after those lines of the reply with which these begin.
+fn after_lines<'a>(bytes: &'a [u8], reply: &str) -> &'a [u8] {
+    let mut rest = bytes;
+    for line in reply.split_inclusive('\n') {
+        match rest.strip_prefix(line.as_bytes()) {
+            Some(later) => rest = later,
+            None => return rest,
+        }
+    }
+    rest
+}
+
+/// What a run that may be stopped leaves for the next one: without the line in which the stop came,
+/// and with it. Nothing, if it answers otherwise than the lists.
+fn left_by(
+    alloc: Global,
+    start: &Sessions,
+    lines: &[Sent],
+    ended: &Ended,
+) -> Result<Option<[Sessions; 2]>, AllocError> {
+    let mut sessions = start.next_run()?;
+    if ended.exit == Exit::DiskFault {
+        return Ok(Some([sessions, start.next_run()?]));
+    }
+    let mut rest = ended.output.taken();
+    for sent in lines {
+        let before = sessions.next_run()?;
+        let reply = sessions.answer(*sent)?;
+        match rest.strip_prefix(reply.as_bytes()) {
+            Some(later) => rest = later,
+            None => {
+                let fault = format!(in alloc; "{}fault disk\n", sent.mark(alloc)?)?;
+                if !after_lines(rest, &reply).starts_with(fault.as_bytes()) {
+                    return Ok(None);
+                }
+                return Ok(Some([before, sessions.next_run()?]));
+            }
+        }
+    }
+    if !rest.is_empty() {
+        return Ok(None);
+    }
+    Ok(Some([sessions.next_run()?, sessions.next_run()?]))
+}
+
+/// Whether a run answers as these sessions do.
+fn answers(start: &Sessions, lines: &[Sent], ended: &Ended) -> Result<bool, AllocError> {
+    let mut sessions = start.next_run()?;
+    let mut rest = ended.output.taken();
+    for sent in lines {
+        let reply = sessions.answer(*sent)?;
+        match rest.strip_prefix(reply.as_bytes()) {
+            Some(later) => rest = later,
+            None => return Ok(false),
+        }
+    }
+    Ok(rest.is_empty() && ended.exit == Exit::Done)
+}
+
+/// Checks a script of this kind: a run that is stopped at a call of the disk, and the next one over
+/// what a loss of power leaves.
 fn check_drawn(rt: &impl Abort, alloc: Global, kind: Kind) -> Result<(), AllocError> {
-    let limit = kind.graph.limit();
+    let (limit, threshold) = (kind.graph.limit(), kind.threshold);
     let mut draws = Draws {
         state: kind.seed,
         graph: kind.graph,
     };
-    let mut console = Console::new(alloc, kind.threshold, limit as usize);
-    let mut input = String::new(alloc);
-    let mut want = String::new(alloc);
-    for _ in 0..LINES {
-        let line = draw_line(&mut draws, &console, kind.share);
-        input.push_str(&line.text(alloc)?)?;
-        want.push_str(&console.answer(line)?)?;
-    }
-    let threshold = kind.threshold;
     let threshold_option = format!(in alloc; "--threshold={threshold}")?;
     let limit_option = format!(in alloc; "--limit={limit}")?;
     let words: &[&str] = &["nipakeel", "run", &limit_option, &threshold_option];
-    let mut disk = PlainDisk::new(alloc, limit)?;
+    let start = Sessions::new(alloc, Console::new(alloc, threshold, limit as usize))?;
+    let lines = draw_run(alloc, &mut draws, &start, LINES, kind.share)?;
+    let input = input_of(alloc, &lines)?;
+    let stop = FIRST_STOP.saturating_add(draws.draw() % STOPS);
+    let mut disk = MemoryDisk::new(alloc, limit, ROOM, plan(alloc, &[], Some(stop))?)?;
     let ended = run_words(alloc, words, input.as_bytes(), &mut disk)?;
-    assert!(rt; ended.exit == Exit::Done);
+    let Some([without, with]) = left_by(alloc, &start, &lines, &ended)? else {
+        assert!(rt; false, "threshold {threshold}, stop {stop}: {input}");
+        return Ok(());
+    };
+    let mut left = disk.after_crash(
+        alloc,
+        Crash::Mixed(kind.seed),
+        ROOM,
+        plan(alloc, &[], None)?,
+    )?;
+    let lines = draw_run(alloc, &mut draws, &with, LINES_AFTER, kind.share)?;
+    let input = input_of(alloc, &lines)?;
+    let ended = run_words(alloc, words, input.as_bytes(), &mut left)?;
     assert!(rt;
-        ended.output.taken() == want.as_bytes(),
-        "threshold {threshold}: {input}"
+        answers(&without, &lines, &ended)? || answers(&with, &lines, &ended)?,
+        "threshold {threshold}, stop {stop}: {input}"
     );
     Ok(())
 }

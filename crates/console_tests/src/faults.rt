@@ -15,10 +15,10 @@ fn run_failing(alloc: Global, input: &[u8], call: u64) -> Result<(Ended, MemoryD
 #[test]
 fn each_call_of_the_disk_may_fail(rt: HostRuntime) -> Result<(), Fail> {
     let alloc = rt.alloc();
-    let script: &[u8] =
-        b"node a\nbegin\nnode b\ndelete node 0\ncommit\ncheckpoint\nreopen\nreopen\nstats\n";
-    let replies: &[u8] =
-        b"node 0\nok\nnode 1\nok\nok\nok\nok\nok\nnodes 1 edges 0 properties 0 blocks 0 names 2\n";
+    let script: &[u8] = b"node a\n@1 snapshot\nbegin\nnode b\ndelete node 0\ncommit\ncheckpoint\n\
+        reopen\nreopen\n@1 g.V().label()\nstats\n";
+    let replies: &[u8] = b"node 0\n@1 ok\nok\nnode 1\nok\nok\nok\nok\nok\n@1 ==>'a'\n@1 end\n\
+        nodes 1 edges 0 properties 0 blocks 0 names 2\n";
     let mut statuses = Vec::new(alloc);
     for call in 1..=CALLS {
         let (ended, mut disk) = run_failing(alloc, script, call)?;
@@ -31,9 +31,9 @@ fn each_call_of_the_disk_may_fail(rt: HostRuntime) -> Result<(), Fail> {
         let again = run(alloc, b"stats\n", &mut disk)?;
         assert!(rt; again.exit == Exit::Done, "call {call}");
         if status == 0 {
-            // What the run last saw is what is stored.
+            // What the run last saw is what is stored, and a snapshot shows what it showed before.
             assert!(rt;
-                taken.ends_with(again.output.taken()),
+                taken.ends_with(again.output.taken()) && is_shown(taken, b"@1 ==>'a'"),
                 "call {call}: {taken:?}"
             );
         }
@@ -46,16 +46,25 @@ fn each_call_of_the_disk_may_fail(rt: HostRuntime) -> Result<(), Fail> {
 }
 
 /// A node with a long text becomes dense by loops, loses one of them and the text, and one more
-/// after a checkpoint. The store is opened again after each line.
+/// after a checkpoint. The store is opened again after each line. A snapshot from before all this
+/// but the text is checked at the end.
 const REOPENED: &[u8] = b"node a x='TTTTTTTTTTTTTTTTTTTTTTTTTTTTTTTTTTTTTTTTT'\nreopen\n\
-    edge 0 S 0\nreopen\nedge 0 A 0\nreopen\nedge 0 B 0\nreopen\ndelete edge 1\nreopen\n\
-    set node 0 x 1\nreopen\ncheckpoint\nreopen\ndelete edge 0\nreopen\ncheck\ncheck\nstats\n";
+    @1 snapshot\nedge 0 S 0\nreopen\nedge 0 A 0\nreopen\nedge 0 B 0\nreopen\ndelete edge 1\n\
+    reopen\nset node 0 x 1\nreopen\ncheckpoint\nreopen\ndelete edge 0\nreopen\n@1 check\ncheck\n\
+    check\nstats\n";
 
 /// How often the text has this line.
 fn count_lines(text: &[u8], line: &[u8]) -> usize {
     text.split(|byte| *byte == b'\n')
         .filter(|it| *it == line)
         .count()
+}
+
+/// The session that reads has seen this line, if it has got a snapshot and the disk has failed in
+/// no line of its own.
+fn is_shown(text: &[u8], line: &[u8]) -> bool {
+    let taken = count_lines(text, b"@1 ok");
+    count_lines(text, line).saturating_add(count_lines(text, b"@1 fault disk")) == taken
 }
 
 #[test]
@@ -74,7 +83,10 @@ fn a_store_is_opened_again_after_each_fault(rt: HostRuntime) -> Result<(), Fail>
             );
             continue;
         }
-        let faults = count_lines(taken, b"fault disk");
+        let faults = count_lines(taken, b"fault disk").saturating_add(count_lines(
+            taken,
+            b"@1 fault disk",
+        ));
         if faults == 0 {
             assert!(rt; has_failed, "call {call}");
             break;
@@ -90,7 +102,10 @@ fn a_store_is_opened_again_after_each_fault(rt: HostRuntime) -> Result<(), Fail>
         }
         assert!(rt; ended.exit == Exit::Done, "call {call}");
         assert!(rt; count_lines(taken, b"error failed") <= 1, "call {call}");
-        assert!(rt; taken.ends_with(found), "call {call}: {taken:?}");
+        assert!(rt;
+            taken.ends_with(found) && is_shown(taken, b"@1 sound"),
+            "call {call}: {taken:?}"
+        );
     }
     Ok(())
 }
@@ -98,21 +113,21 @@ fn a_store_is_opened_again_after_each_fault(rt: HostRuntime) -> Result<(), Fail>
 #[test]
 fn a_node_may_be_stored_that_was_not_answered(rt: HostRuntime) -> Result<(), Fail> {
     let alloc = rt.alloc();
-    let script: &[u8] = b"node a\ng.V()\nreopen\ng.V().count()\n";
+    let script: &[u8] = b"@1 snapshot\nnode a\ng.V()\nreopen\ng.V().count()\n@1 g.V().count()\n";
     // The last call of the line is the second sync of the log.
     let mut last = 0;
     for call in 1..=CALLS {
         let (ended, _) = run_failing(alloc, script, call)?;
-        if ended.output.taken().starts_with(b"node 0\n") {
+        if ended.output.taken().starts_with(b"@1 ok\nnode 0\n") {
             break;
         }
         last = call;
     }
     let (ended, _) = run_failing(alloc, script, last)?;
-    let want: &[u8] = b"fault disk\nerror failed\nok\n==>1\nend\n";
+    let want: &[u8] = b"@1 ok\nfault disk\nerror failed\nok\n==>1\nend\n@1 ==>0\n@1 end\n";
     assert!(rt; ended.output.taken() == want, "call {last}");
     assert!(rt; ended.exit == Exit::Done);
-    let (ended, _) = run_failing(alloc, b"node a\n", last)?;
+    let (ended, _) = run_failing(alloc, b"@1 snapshot\nnode a\n", last)?;
     assert!(rt; ended.exit == Exit::StoreFailed);
     Ok(())
 }
@@ -134,12 +149,20 @@ fn lines_that_need_no_disk_make_no_call(rt: HostRuntime) -> Result<(), Fail> {
             break;
         }
     }
-    // All lines but the last two leave the disk alone.
+    // All lines up to the second node leave the disk alone. It fails the session, and which reason
+    // counts first shows after it.
     let script: &[u8] = b"node a\nstats\ncommit\nbegin\nbegin\ncheckpoint\nreopen\nnode\n\n\
-        rollback\nbegin\ncommit\nnode b\nstats\n";
+        rollback\nbegin\ncommit\n@1 snapshot\n@1 stats\n@1 snapshot\n@2 snapshot\n@2 release\n\
+        @2 g.V()\n@1 node c\nsnapshot\nnode b\nstats\n@1 foo\n@1 node c\n@1 reopen\n@1 snapshot\n\
+        @1 g.V()\n@1 \n@2 g.V()\n@1 release\nsnapshot\nrelease\ncommit\n";
     let want: &[u8] = b"node 0\nnodes 1 edges 0 properties 0 blocks 0 names 1\n\
         error no transaction\nok\nerror transaction open\nerror transaction open\n\
-        error transaction open\nerror syntax 4\nok\nok\nok\nfault disk\nerror failed\n";
+        error transaction open\nerror syntax 4\nok\nok\nok\n@1 ok\n\
+        @1 nodes 1 edges 0 properties 0 blocks 0 names 1\n@1 error snapshot open\n@2 ok\n@2 ok\n\
+        @2 error no snapshot\n@1 error read only\nerror writer\nfault disk\nerror failed\n\
+        @1 error syntax 3\n@1 error read only\n@1 error read only\n@1 error failed\n\
+        @1 error failed\n@2 error failed\n@1 error failed\nerror writer\nerror writer\n\
+        error failed\n";
     let ended = run_until(alloc, script, stop)?;
     assert!(rt; ended.output.taken() == want);
     assert!(rt; ended.exit == Exit::StoreFailed);

@@ -1,4 +1,5 @@
 //! A console over plain lists, by which the replies to lines are foretold.
+pub(crate) mod sessions;
 mod walks;
 
 use std::alloc::{AllocError, Global};
@@ -159,9 +160,25 @@ pub(crate) enum Line {
     Stats,
     Check,
     Vertices,
+    Values {
+        key: char,
+    },
+    Snapshot,
+    Release,
 }
 
 impl Line {
+    /// Whether only the session that writes may send it.
+    fn is_of_writer(self) -> bool {
+        match self {
+            Line::Begin | Line::Commit | Line::Rollback => true,
+            Line::Checkpoint | Line::Reopen => true,
+            Line::Node { .. } | Line::Edge { .. } => true,
+            Line::Set { .. } | Line::Unset { .. } | Line::Delete(_) => true,
+            _ => false,
+        }
+    }
+
     pub(crate) fn text(self, alloc: Global) -> Result<String, AllocError> {
         match self {
             Line::Node { label, pairs } => {
@@ -225,6 +242,9 @@ impl Line {
             Line::Stats => String::from_str(alloc, "stats\n"),
             Line::Check => String::from_str(alloc, "check\n"),
             Line::Vertices => String::from_str(alloc, "g.V()\n"),
+            Line::Values { key } => format!(in alloc; "g.V().values('{key}')\n"),
+            Line::Snapshot => String::from_str(alloc, "snapshot\n"),
+            Line::Release => String::from_str(alloc, "release\n"),
         }
     }
 }
@@ -283,12 +303,12 @@ struct Ends {
     to: u32,
 }
 
-/// A property of an element, and how many blocks its value takes.
+/// A property of an element.
 #[derive(Clone, Copy, Drop)]
 struct Property {
     element: Element,
     key: char,
-    blocks: u64,
+    value: Given,
 }
 
 /// A graph as lists.
@@ -336,7 +356,7 @@ impl Lists {
     fn blocks(&self) -> u64 {
         let mut sum: u64 = 0;
         for property in &self.properties {
-            sum = sum.saturating_add(property.blocks);
+            sum = sum.saturating_add(property.value.blocks());
         }
         sum
     }
@@ -348,7 +368,7 @@ impl Lists {
         self.properties.push(Property {
             element,
             key: pair.key,
-            blocks: pair.value.blocks(),
+            value: pair.value,
         })?;
         Ok(())
     }
@@ -448,8 +468,24 @@ impl Console {
         self.seen.nodes.live.len()
     }
 
-    /// Carries out the line, and answers its reply.
-    pub(crate) fn answer(&mut self, line: Line) -> Result<String, AllocError> {
+    /// A console over a copy of the stored graph, with no transaction.
+    fn stored_copy(&self) -> Result<Console, AllocError> {
+        let stored = match &self.stored {
+            Some(stored) => stored.copy()?,
+            None => self.seen.copy()?,
+        };
+        Ok(Console {
+            alloc: self.alloc,
+            threshold: self.threshold,
+            limit: self.limit,
+            seen: stored,
+            stored: None,
+            weight: 0,
+        })
+    }
+
+    /// Carries out a line of the session that writes, and answers its reply.
+    fn answer(&mut self, line: Line) -> Result<String, AllocError> {
         match line {
             Line::Node { label, pairs } => self.make_node(label, pairs),
             Line::Edge {
@@ -482,6 +518,8 @@ impl Console {
             Line::Stats => self.stats(),
             Line::Check => self.say("sound\n"),
             Line::Vertices => self.vertices(),
+            Line::Values { key } => self.values(key),
+            Line::Snapshot | Line::Release => self.say("error writer\n"),
         }
     }
 
@@ -705,6 +743,21 @@ impl Console {
         for id in 0..self.seen.nodes.next {
             if self.seen.nodes.live.contains(&id) {
                 write!(said, "==>v[{id}]\n")?;
+            }
+        }
+        said.push_str("end\n")?;
+        Ok(said)
+    }
+
+    /// The values of the key at the nodes, by ascending identifier.
+    fn values(&self, key: char) -> Result<String, AllocError> {
+        let mut said = String::new(self.alloc);
+        for id in 0..self.seen.nodes.next {
+            for property in &self.seen.properties {
+                if property.element == Element::Node(id) && property.key == key {
+                    let value = property.value.text(self.alloc)?;
+                    write!(said, "==>{value}\n")?;
+                }
             }
         }
         said.push_str("end\n")?;

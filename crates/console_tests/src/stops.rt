@@ -18,57 +18,66 @@ struct Script<'a> {
     nothing: &'a [u8],
 }
 
-/// Counts, and deletes the edge and the node that were made first.
-const PROBE: &[u8] = b"stats\ndelete edge 0\ndelete node 0\n";
+/// Counts, and deletes the edge and the node that were made first. No session has a snapshot.
+const PROBE: &[u8] = b"@1 g.V()\nstats\ndelete edge 0\ndelete node 0\n";
 
 const NOTHING: &[u8] =
-    b"nodes 0 edges 0 properties 0 blocks 0 names 0\nerror no edge 0\nerror no node 0\n";
+    b"@1 error no snapshot\nnodes 0 edges 0 properties 0 blocks 0 names 0\nerror no edge 0\nerror no node 0\n";
 
 /// Node 0 alone, and node 1 alone.
-const FIRST: &[u8] = b"nodes 1 edges 0 properties 0 blocks 0 names 1\nerror no edge 0\nok\n";
+const FIRST: &[u8] =
+    b"@1 error no snapshot\nnodes 1 edges 0 properties 0 blocks 0 names 1\nerror no edge 0\nok\n";
 
 const SECOND: &[u8] =
-    b"nodes 1 edges 0 properties 0 blocks 0 names 2\nerror no edge 0\nerror no node 0\n";
+    b"@1 error no snapshot\nnodes 1 edges 0 properties 0 blocks 0 names 2\nerror no edge 0\nerror no node 0\n";
 
 /// A change alone, a transaction that is rolled back, one that is committed, and one that is open
-/// at the end.
+/// at the end. Snapshots are taken before the second one and while it is open, and show what they
+/// did after it, a checkpoint and a reopen.
 const NODES: &[Row] = &[
     (b"node a\n", b"node 0\n", FIRST),
     (b"begin\n", b"ok\n", FIRST),
     (b"node temp\n", b"node 1\n", FIRST),
+    (b"@1 snapshot\n", b"@1 ok\n", FIRST),
     (b"rollback\n", b"ok\n", FIRST),
     (b"begin\n", b"ok\n", FIRST),
     (b"node b\n", b"node 1\n", FIRST),
+    (b"@7 snapshot\n", b"@7 ok\n", FIRST),
     (b"delete node 0\n", b"ok\n", FIRST),
     (b"commit\n", b"ok\n", SECOND),
     (b"checkpoint\n", b"ok\n", SECOND),
+    (b"@1 g.V().label()\n", b"@1 ==>'a'\n@1 end\n", SECOND),
+    (b"@1 release\n", b"@1 ok\n", SECOND),
     (b"reopen\n", b"ok\n", SECOND),
     (
         b"stats\n",
         b"nodes 1 edges 0 properties 0 blocks 0 names 2\n",
         SECOND,
     ),
+    (b"@7 g.V().label()\n", b"@7 ==>'a'\n@7 end\n", SECOND),
     (b"begin\n", b"ok\n", SECOND),
     (b"node c\n", b"node 0\n", SECOND),
 ];
 
 /// A loop at node 0.
-const LOOP: &[u8] = b"nodes 1 edges 1 properties 0 blocks 0 names 2\nok\nok\n";
+const LOOP: &[u8] =
+    b"@1 error no snapshot\nnodes 1 edges 1 properties 0 blocks 0 names 2\nok\nok\n";
 
 /// Edge 1 alone, from node 0 to node 1.
 const BETWEEN: &[u8] =
-    b"nodes 2 edges 1 properties 0 blocks 0 names 2\nerror no edge 0\nerror node 0 has relationships\n";
+    b"@1 error no snapshot\nnodes 2 edges 1 properties 0 blocks 0 names 2\nerror no edge 0\nerror node 0 has relationships\n";
 
 /// Two nodes without edges.
-const APART: &[u8] = b"nodes 2 edges 0 properties 0 blocks 0 names 2\nerror no edge 0\nok\n";
+const APART: &[u8] =
+    b"@1 error no snapshot\nnodes 2 edges 0 properties 0 blocks 0 names 2\nerror no edge 0\nok\n";
 
 /// Edge 1 alone, from node 1 to node 0, of another type.
 const BACK: &[u8] =
-    b"nodes 2 edges 1 properties 0 blocks 0 names 3\nerror no edge 0\nerror node 0 has relationships\n";
+    b"@1 error no snapshot\nnodes 2 edges 1 properties 0 blocks 0 names 3\nerror no edge 0\nerror node 0 has relationships\n";
 
 /// Edge 0 beside it.
 const BOTH: &[u8] =
-    b"nodes 2 edges 2 properties 0 blocks 0 names 3\nok\nerror node 0 has relationships\n";
+    b"@1 error no snapshot\nnodes 2 edges 2 properties 0 blocks 0 names 3\nok\nerror node 0 has relationships\n";
 
 /// Edges that come and go, alone and in transactions, of which the last is open at the end.
 const EDGES: &[Row] = &[
@@ -109,7 +118,7 @@ const LOOPLESS: &[u8] =
     b"==>e[1][0-A->1]\n==>e[2][0-A->1]\n==>e[3][1-A->0]\nend\n==>e[3][1-A->0]\n==>e[1][0-A->1]\n==>e[2][0-A->1]\nend\nsound\n";
 
 /// Node 0 becomes dense and has a group less again, and then node 1 becomes dense in a transaction.
-/// The last one is open at the end.
+/// The last one is open at the end. A snapshot from before sees no group.
 const DENSE: &[Row] = &[
     (b"begin\n", b"ok\n", NO_EDGES),
     (b"node a\n", b"node 0\n", NO_EDGES),
@@ -117,6 +126,7 @@ const DENSE: &[Row] = &[
     (b"edge 0 S 0\n", b"edge 0\n", NO_EDGES),
     (b"edge 0 A 1\n", b"edge 1\n", NO_EDGES),
     (b"commit\n", b"ok\n", TWO),
+    (b"@1 snapshot\n", b"@1 ok\n", TWO),
     (b"edge 1 B 0\n", b"edge 2\n", THREE),
     (b"delete edge 2\n", b"ok\n", TWO),
     (b"checkpoint\n", b"ok\n", TWO),
@@ -125,6 +135,11 @@ const DENSE: &[Row] = &[
     (b"edge 1 A 0\n", b"edge 3\n", DOUBLE),
     (b"delete edge 0\n", b"ok\n", DOUBLE),
     (b"commit\n", b"ok\n", LOOPLESS),
+    (
+        b"@1 g.V(0).bothE()\n",
+        b"@1 ==>e[0][0-S->0]\n@1 ==>e[1][0-A->1]\n@1 ==>e[0][0-S->0]\n@1 end\n",
+        LOOPLESS,
+    ),
     (b"begin\n", b"ok\n", LOOPLESS),
     (b"delete edge 1\n", b"ok\n", LOOPLESS),
 ];
