@@ -74,6 +74,8 @@ class Browsing:
         given, word = to_bytes(line), (line.split() or [""])[0]
         if b"\n" in given or len(given) > MOST_LINE or word == "quit" or not word:
             raise Wrong("it is no line")
+        if word.startswith("@"):
+            raise Wrong("the page's lines name no session")
         if not self.writes and not word.startswith("g") and word not in QUESTIONS:
             raise Wrong("the page was begun without --write, and takes no line that may change something")
         begun = time.monotonic()

@@ -2,8 +2,10 @@
 
 from __future__ import annotations
 
+import contextlib
 import os
 import pathlib
+import re
 import select
 import subprocess
 from typing import Iterator, List, Sequence, Tuple
@@ -16,6 +18,8 @@ ARROW = b"==>"
 GOES_ON = (ARROW, b"path ")
 # How a reply ends, in the place of `end`, that has a fault in it, or that finds no walk.
 FAULTS = (b"error ", b"fault disk", b"damaged ", b"no path")
+# How a line begins that names its session. Session 0 writes, and the others read.
+NAMED = re.compile(rb"^[ \t]*@([0-7])[ \t]")
 # How each status of the program reads to a person. Negative ones are signals.
 STATUSES = {
     0: "it read its input to the end",
@@ -49,6 +53,17 @@ class NotAnswered(Exception):
         self.line, self.reply = line, reply
         asked = line if len(line) <= 100 else line[:97] + b"..."
         super().__init__(f"{asked.decode(errors='replace')} is answered: {reply.decode(errors='replace')}")
+
+
+def mark_of(line: bytes) -> bytes:
+    """What each line of the reply begins with: the session, if the line names it."""
+    found = NAMED.match(line)
+    return b"@%s " % found[1] if found else b""
+
+
+def after_mark(line: bytes) -> bytes:
+    """The line without its session."""
+    return NAMED.sub(b"", line)
 
 
 def ending(status: int, said: bytes = b"") -> str:
@@ -87,6 +102,27 @@ class Program:
         os.set_blocking(self.input, False)
         self.to_write, self.held, self.held_lines = b"", b"", 0
         self.sent = 0
+        # The session of lines that name none.
+        self.session = 0
+
+    @contextlib.contextmanager
+    def as_session(self, number: int) -> Iterator[None]:
+        """In it, lines that name no session are of this one."""
+        before, self.session = self.session, number
+        try:
+            yield
+        finally:
+            self.session = before
+
+    def named(self, line: bytes) -> bytes:
+        """The line with its session, if it names none and isn't of session 0."""
+        return b"@%d " % self.session + line if self.session and not NAMED.match(line) else line
+
+    def send_line(self, line: bytes) -> bytes:
+        """Sends a line of the session, and returns what each line of its reply begins with."""
+        line = self.named(line)
+        self.send(line + b"\n")
+        return mark_of(line)
 
     def send(self, lines: bytes) -> None:
         """Gives the program these whole lines, as far as it takes them now. The rest goes with later calls."""
@@ -127,15 +163,14 @@ class Program:
         return lines
 
     def ask(self, line: bytes) -> bytes:
-        """Sends a line whose reply is one line, and returns that."""
-        self.send(line + b"\n")
-        return self.replies(1)[0]
+        """Sends a line whose reply is one line, and returns that, without a mark."""
+        mark = self.send_line(line)
+        return self.replies(1)[0].removeprefix(mark)
 
     def results(self, line: bytes) -> Iterator[bytes]:
         """Sends a query, or another line with results, and gives these as they come, without their arrows. Raises
         `NotAnswered` where the reply doesn't end as it should. They are to be taken to the end before the next line."""
-        self.send(line + b"\n")
-        return self.listed(line)
+        return self.listed(line, self.send_line(line))
 
     def path(self, first: int, last: int, *words: str) -> List[int]:
         """The nodes of the path that `path` gives, of these words for a direction and a type. There are none where no
@@ -146,12 +181,12 @@ class Program:
             return []
         if not begins.startswith(b"path "):
             raise NotAnswered(line, begins) if begins.startswith(FAULTS) else self.refuses(begins)
-        return [int(it.removeprefix(b"v[").removesuffix(b"]")) for it in self.listed(line)]
+        return [int(it.removeprefix(b"v[").removesuffix(b"]")) for it in self.listed(line, mark_of(self.named(line)))]
 
-    def listed(self, line: bytes) -> Iterator[bytes]:
-        """The results of a line up to the end of its reply."""
+    def listed(self, line: bytes, mark: bytes = b"") -> Iterator[bytes]:
+        """The results of a line up to the end of its reply, whose lines begin with this mark."""
         while True:
-            lines = self.replies(max(self.held_lines, 1))
+            lines = [it.removeprefix(mark) for it in self.replies(max(self.held_lines, 1))]
             last = None if lines[-1].startswith(GOES_ON) else lines.pop()
             for it in lines:
                 if it.startswith(ARROW):
@@ -162,9 +197,11 @@ class Program:
                 raise NotAnswered(line, last) if last.startswith(FAULTS) else self.refuses(last)
 
     def counts(self) -> Tuple[int, int]:
-        """How many nodes and edges `stats` tells."""
+        """How many nodes and edges `stats` tells. Raises `NotAnswered` where a session that reads has no snapshot."""
         reply = self.ask(b"stats")
         words = reply.split()
+        if self.session and reply.startswith(b"error "):
+            raise NotAnswered(b"stats", reply)
         if words[::2] != [b"nodes", b"edges", b"properties", b"blocks", b"names"]:
             raise self.refuses(reply)
         return int(words[1]), int(words[3])

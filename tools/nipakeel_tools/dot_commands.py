@@ -10,6 +10,7 @@ from typing import Any, Callable, Dict, List
 
 from nipakeel_tools.backup import back_up
 from nipakeel_tools.client import NotAnswered
+from nipakeel_tools.limits import SESSIONS
 from nipakeel_tools.lines import help_lines
 from nipakeel_tools.names import names_of_store
 from nipakeel_tools.query import Asking
@@ -58,6 +59,17 @@ def mode(shell: Any, *words: str) -> None:
         shell.shows_lines([shell.mode])
 
 
+def session(shell: Any, *number: str) -> None:
+    """From now on lines are of this session. Without a number it is told."""
+    if not number:
+        does = "reads" if shell.program.session else "writes"
+        shell.shows_lines([f"session {shell.program.session}, which {does}"])
+    elif number[0] in map(str, range(SESSIONS)):
+        shell.program.session = int(number[0])
+    else:
+        raise Wrong(f"a session is one of 0 to {SESSIONS - 1}")
+
+
 def switch(name: str) -> Callable[..., None]:
     def turns(shell: Any, word: str) -> None:
         if word not in ("on", "off"):
@@ -82,10 +94,13 @@ def read(shell: Any, path: str) -> None:
 
 
 def dump(shell: Any, *path: str) -> None:
-    """Lines that make the graph in a new store."""
+    """Lines that make the graph that the session sees in a new store."""
+    found = names_of_store(shell.program, shell.folder)
+    # A key of a snapshot may be in use nowhere else.
+    keys = found.all if shell.program.session else found.keys
     with tempfile.TemporaryFile() as node_file, tempfile.TemporaryFile() as edge_file:
         nodes, edges = Kept("nodes", node_file), Kept("edges", edge_file)
-        asked = Asking(lambda: shell.program, names_of_store(shell.program, shell.folder).keys)
+        asked = Asking(lambda: shell.program, keys)
         asked.begin()
         for kept, kind, count in ((nodes, "V", asked.counts[0]), (edges, "E", asked.counts[1])):
             for page in asked.every(kind, count):
@@ -96,7 +111,8 @@ def dump(shell: Any, *path: str) -> None:
 
 
 def backup(shell: Any, folder: str) -> None:
-    counts = back_up(shell.program, shell.folder, pathlib.Path(folder), shell.path, quiet=True)
+    with shell.program.as_session(0):
+        counts = back_up(shell.program, shell.folder, pathlib.Path(folder), shell.path, quiet=True)
     shell.shows_lines([f"{folder}: sound, {counts}"])
 
 
@@ -135,6 +151,7 @@ DOT_COMMANDS: Dict[str, Any] = {
     ".help": (tell_help, 0, 9, ".help WORD"),
     ".names": (names, 0, 0, ".names"),
     ".mode": (mode, 0, 1, f".mode {'|'.join(MODES)}"),
+    ".session": (session, 0, 1, ".session K"),
     ".timer": (switch("timer"), 1, 1, ".timer on|off"),
     ".pager": (switch("pager"), 1, 1, ".pager on|off"),
     ".read": (read, 1, 1, ".read FILE"),

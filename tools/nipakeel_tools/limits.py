@@ -9,6 +9,8 @@ MOST_INPUT = 2**30
 # A text of this many bytes or fewer takes no block, and a longer one takes blocks of 48.
 SHORT_TEXT, BLOCK = 40, 48
 DEFAULT_THRESHOLD = 50
+# Numbered from 0 on.
+SESSIONS = 8
 
 # The weights: the most of a transaction, that of one with no change, and of the changes that an import makes.
 MOST_WEIGHT, LEAST_WEIGHT = 2_048, 7

@@ -6,10 +6,12 @@ import re
 import unicodedata
 from typing import List, Optional, Sequence
 
-PROMPTS = {"live": "nipakeel> ", "open": "nipakeel (open)> ", "failed": "nipakeel (failed)> "}
+SHOWN_STATES = {"live": "", "open": " (open)", "failed": " (failed)"}
 # Faults that have a place, which is the last word of the reply.
 PLACED = re.compile(rb"error (?:syntax|name length|text length|number range|step kind|too many steps|times range) ([0-9]+)")
 CHANGES = (b"node", b"edge", b"set", b"unset", b"delete")
+# How a typed line begins that names its session.
+NAMED = re.compile(r"^[ \t]*@[0-7][ \t]+")
 HELP = [
     ("node LABEL KEY=VALUE ..", "makes a node with these properties"),
     ("edge A TYPE B KEY=VALUE ..", "makes an edge from node A to node B"),
@@ -44,12 +46,16 @@ HELP = [
     ("check", "tests the whole store: sound, or a record that breaks a rule"),
     ("checkpoint", "empties the redo log"),
     ("reopen", "finds out what is stored, after the disk has failed"),
+    ("@1 snapshot", "session 1 sees what is committed now, until @1 release; 1 to 7 may"),
+    ("@1 g.V()", "a query of session 1; @1 may stand before each line that reads"),
+    ("@1 release", "gives up the snapshot of session 1"),
     ("quit", "leaves"),
 ]
 DOTS = [
     (".help WORD", "this list, or its lines with the word"),
     (".names", "the labels, types and keys of the store"),
     (".mode table", "how results are shown: table, csv, json, or lines as the program has them"),
+    (".session 1", "later lines are of session 1; .session 0 writes again; .session tells it"),
     (".timer on", "tells after each line how long it took; off"),
     (".pager off", "shows long results without a pager; on"),
     (".read FILE", "the lines of a file"),
@@ -71,13 +77,16 @@ WORDS_AFTER = {
 
 
 class State:
-    """What the prompt shows: whether a transaction is open, and whether the session has failed."""
+    """What the prompt shows: whether a transaction is open, and whether the disk has failed the sessions."""
 
     def __init__(self) -> None:
         self.now = "live"
 
+    def prompt(self, session: int) -> str:
+        return f"nipakeel{f' @{session}' if session else ''}{SHOWN_STATES[self.now]}> "
+
     def follows(self, line: bytes, reply: bytes) -> None:
-        """Takes note of a line and the last line of its reply."""
+        """Takes note of a line and the last line of its reply, both without their session."""
         word = line.split()[0] if line.split() else b""
         if reply == b"error failed":
             self.now = "failed"
@@ -112,6 +121,12 @@ def place_of(reply: bytes) -> Optional[int]:
     return int(found[1]) if found else None
 
 
+def moved(reply: bytes, by: int) -> bytes:
+    """The reply to a line before which so many bytes were put: its place is that in the line without them."""
+    place = place_of(reply)
+    return reply if place is None else b"%s %d" % (reply.rpartition(b" ")[0], place - by)
+
+
 def under(line: bytes, at: int, prompt: str, width: int) -> str:
     """What to show under a typed line for the fault at this byte: a caret, and above it the piece of the line there,
     unless that stands above it as it was typed."""
@@ -139,11 +154,12 @@ def is_in_quotes(before: str) -> bool:
 
 def completions(before: str, begun: str, names: Sequence[str]) -> List[str]:
     """What may follow: `begun` is the word at the cursor, and `before` the line up to it."""
+    before = NAMED.sub("", before)
     first, words = before.lstrip(), before.split()
     if is_in_quotes(before):
         found = list(names)
     elif not first:
-        found = sorted({line.split()[0] for line, _ in HELP if line[0] != "."})
+        found = sorted({NAMED.sub("", line).split()[0] for line, _ in HELP if line[0] != "."})
     elif first == ".":
         found = [line.split()[0][1:] for line, _ in DOTS]
     elif first.startswith("g"):

@@ -72,8 +72,9 @@ def numbers(folder: pathlib.Path, file: int) -> Set[int]:
 
 
 def names_of_store(program: Program, folder: str | os.PathLike[str]) -> Names:
-    """The names of the store that a run serves."""
-    reply = program.ask(b"checkpoint")
+    """The names of the store that a run serves, whichever session its lines are of."""
+    with program.as_session(0):
+        reply = program.ask(b"checkpoint")
     if reply != b"ok":
         raise NotAnswered(b"checkpoint", reply)
     return names_in(folder)
