@@ -10,7 +10,7 @@ use Rattle.node_store.specs.declared.node_row.NodeRow.{NodeRow}
 use Rattle.plain_graph.specs.declared.item.Item.{Item}
 use Rattle.plain_graph.specs.declared.item.Item.TheVariants as items
 use Rattle.store_rules.specs.Rows.{option_list}
-use Rattle.traversal_run.specs.Feeding.{Counts, Feeds, IsCountOf, after_rows, filter_stage, passing}
+use Rattle.traversal_run.specs.Feeding.{Counts, Feeds, IsCountOf, filter_stage, passing}
 use Rattle.store_rules.specs.Graph.{graph_of}
 use Rattle.store_rules.specs.Views.{Records}
 use Rattle.traversal_run.specs.Finding.{element_at, vertex_if}
@@ -208,6 +208,11 @@ pub passing_end : (graph : Graph) (test : Filter) (source now : Source) (before 
     → left_of graph now ≡ [] → so_far ≡ before + length (passing graph test source)
 passing_end graph test source now before so_far same none =
     let long : length (passing graph test now) ≡ 0 = ap (λ list. length (flat_map (filtered graph test) list)) none in omega arith
+
+-- what two rows make of what a source still has
+abbrev after_rows : Graph → Row → Row → Source → Stream
+after_rows graph first second source =
+    after_row graph second (after_row graph first (stream (left_of graph source)))
 
 -- what a count gives
 abbrev count_stream : Bool → ℕ → Stream

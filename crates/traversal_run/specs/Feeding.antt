@@ -5,11 +5,9 @@ use Rattle.plain_graph.specs.Graph.{Graph}
 use Rattle.plain_graph.specs.declared.filter.Filter.{Filter}
 use Rattle.plain_graph.specs.declared.item.Item.{Item}
 use Rattle.traversal_run.specs.Mapping.{filtered}
-use Rattle.traversal_run.specs.Row.{Stream, after_row, stream}
 use Rattle.traversal_run.specs.Source.{left_of}
 use Rattle.traversal_run.specs.Stage.{after_stage, counts_past}
 use Rattle.traversal_run.specs.declared.mapping.Mapping.TheVariants as mappings
-use Rattle.traversal_run.specs.declared.row.Row.{Row}
 use Rattle.traversal_run.specs.declared.source.Source.{Source}
 use Rattle.traversal_run.specs.declared.stage.Stage.{Stage}
 use Rattle.traversal_run.specs.declared.stage.Stage.TheVariants as stages
@@ -20,6 +18,7 @@ Feeds graph source old outs rest new =
     (after_stage graph old (left_of graph source) ≡ outs ++ after_stage graph new (left_of graph rest))
     × (counts_past old (left_of graph source) ≡ counts_past new (left_of graph rest))
 
+-- a filter under way
 abbrev pub filter_stage : Filter → Stage
 filter_stage test = stages.Mapped (mappings.Filter test)
 
@@ -38,8 +37,3 @@ IsCountOf list before false after = 9223372036854775807 < before + length list
 -- what a filter lets through of what a source still has
 abbrev pub passing : Graph → Filter → Source → List Item
 passing graph test source = flat_map (filtered graph test) (left_of graph source)
-
--- what two rows make of what a source still has
-abbrev pub after_rows : Graph → Row → Row → Source → Stream
-after_rows graph first second source =
-    after_row graph second (after_row graph first (stream (left_of graph source)))

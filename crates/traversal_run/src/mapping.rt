@@ -33,6 +33,7 @@ pub(crate) enum Mapping {
 }
 
 /// What the step makes of an item.
+#[inline(always)]
 pub(crate) fn mapped<R: Reads>(
     alloc: Global,
     space: &mut R,

@@ -98,6 +98,7 @@ impl Source {
 
     /// The first element in use that is still to come, where this is the mark. It costs a read for
     /// each identifier up to that of the element, and no more than one for each that was given out.
+    #[inline(always)]
     pub(crate) fn next<R: Reads>(
         &mut self,
         alloc: Global,

@@ -61,6 +61,7 @@ pub(crate) enum Stage {
 
 impl Stage {
     /// What the step gives for one more item. A count takes all that wait at once.
+    #[inline(always)]
     pub(crate) fn take<R: Reads>(
         &mut self,
         alloc: Global,
