@@ -7,7 +7,7 @@ module _ {R : Type 0} (onward : R → R → Type 0) where
   -- the view is of the same layers over the same space, in which only such calls were made
   pub record OnwardView (old new : View R) : Type 0 where
     pub same : new.committed.ghost_name ≡ old.committed.ghost_name
-    pub layers : new.layers.now ≡ old.layers.now
+    pub layers : new.kept.layers.now ≡ old.kept.layers.now
     pub beneath : onward old.committed.now new.committed.now
 
   pub onward_none : (v : View R) → onward v.committed.now v.committed.now → OnwardView v v

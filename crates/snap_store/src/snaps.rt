@@ -34,6 +34,7 @@ ghost use Rattle.snap_store.specs.View.{seen_state};
 ghost use Rattle.snap_store.specs.Sums.{AreCovered, EndsOverfull, risen};
 
 use crate::layer::{Layer, MOST_KEPT, layers_from, place_of};
+use crate::marks::{MarkedLayers, no_marks, set_mark};
 use crate::releasing::take_away;
 use crate::snap_state::SnapState;
 use crate::view::View;
@@ -50,17 +51,20 @@ const SESSIONS: usize = 8;
 pub struct Snaps {
     layers: Vec<Layer>,
     ended: [bool; SESSIONS],
+    // Of each key that a layer has a record of the mark is set. Marks are cleared where none is open.
+    marks: Vec<bool>,
     alloc: Global,
 }
 
 impl Model for Snaps {
-    ghost use Rattle.snap_store.specs.Snaps.{AreLayers, Snapshots, layers_of};
+    ghost use Rattle.snap_store.specs.Marks.{AreHeld};
+    ghost use Rattle.snap_store.specs.Snaps.{Snapshots, layers_of};
 
     ghost Value = { Snapshots };
 
     ghost view = { λ s. record { open_ones = layers_of s.layers.items; ended = s.ended } };
 
-    ghost invariant = { λ s. AreLayers s.layers.items };
+    ghost invariant = { λ s. AreHeld s.layers.items s.marks.items };
 }
 
 impl Snaps {
@@ -82,6 +86,7 @@ impl Snaps {
         Snaps {
             layers: Vec::new(alloc),
             ended: [false; SESSIONS],
+            marks: Vec::new(alloc),
             alloc,
         }
     }
@@ -129,6 +134,7 @@ impl Snaps {
         ensures covered { (sums : ℕ → ℕ)
             → AreCovered sums self.old.open_ones → AreCovered sums self.new.open_ones }
     {
+        self.clear_marks()?;
         let layer = Layer::new(self.alloc, reader)?;
         self.layers.push(layer)?;
         self.ended[reader as usize] = false;
@@ -163,6 +169,7 @@ impl Snaps {
         let last = self.layers.len() - 1;
         let layer = &mut self.layers[last];
         layer.set.put_reserved(key, rec);
+        set_mark(&mut self.marks, key);
     }
 
     /// Ends the oldest open snapshots, just so many that the old records of the others and so many
@@ -189,6 +196,16 @@ impl Snaps {
         ensures { result ≡ any_open self.now.open_ones }
     {
         !self.layers.is_empty()
+    }
+
+    // Makes the marks anew, where no snapshot is open.
+    fn clear_marks(&mut self) -> Result<(), AllocError>
+        ensures { self.new ≡ self.old }
+    {
+        if self.layers.is_empty() {
+            self.marks = no_marks(self.alloc)?;
+        }
+        Ok(())
     }
 
     // Whether one is open, and with so many new records more would be kept than may be.
@@ -249,7 +266,10 @@ impl Snaps {
         ensures committed { result.committed.now ≡ committed.old }
     {
         View {
-            layers: layers_from(&self.layers, reader),
+            kept: MarkedLayers {
+                layers: layers_from(&self.layers, reader),
+                marks: &self.marks,
+            },
             committed,
             reads: 0,
         }

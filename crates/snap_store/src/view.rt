@@ -2,13 +2,14 @@ ghost use Rattle.std.specs.Prelude.{◌≡◌};
 ghost use Rattle.snap_store.specs.Snaps.{layers_of};
 ghost use Rattle.snap_store.specs.View.{seen_state};
 
-use crate::layer::{Layer, find_into};
+use crate::layer::find_into;
+use crate::marks::{MarkedLayers, may_have};
 use rec_bytes::{Key, Meta, Reads, Rec, Shape, SpaceFault, meta_key};
 
 /// What a snapshot sees of a committed space.
 #[derive(Drop)]
 pub struct View<'v, R: Reads> {
-    pub(crate) layers: &'v [Layer],
+    pub(crate) kept: MarkedLayers<'v>,
     pub(crate) committed: &'v mut R,
     /// How many records were asked for.
     pub(crate) reads: u64,
@@ -19,7 +20,7 @@ impl<'v, R: Reads> Reads for View<'v, R> {
 
     ghost tells = { R.tells };
 
-    ghost state = { λ v. seen_state (layers_of v.layers.now) v.reads (R.state v.committed.now) };
+    ghost state = { λ v. seen_state (layers_of v.kept.layers.now) v.reads (R.state v.committed.now) };
 
     ghost faults = { λ v. R.faults v.committed.now };
 
@@ -46,16 +47,19 @@ impl<'v, R: Reads> Reads for View<'v, R> {
 
     fn get_into(&mut self, key: Key, rec: &mut Rec) -> Result<(), SpaceFault> {
         self.reads = self.reads.saturating_add(1);
-        if find_into(self.layers, key, rec) {
+        if may_have(self.kept.marks, key) && find_into(self.kept.layers, key, rec) {
             return Ok(());
         }
         self.committed.get_into(key, rec)
     }
 
     fn meta(&self, file: u8) -> Meta {
-        let mut rec = Rec::ZEROS;
-        if find_into(self.layers, meta_key(file), &mut rec) {
-            return Meta::of(&rec);
+        let key = meta_key(file);
+        if may_have(self.kept.marks, key) {
+            let mut rec = Rec::ZEROS;
+            if find_into(self.kept.layers, key, &mut rec) {
+                return Meta::of(&rec);
+            }
         }
         self.committed.meta(file)
     }

@@ -1,17 +1,28 @@
 use Rattle.std.proofs.Common.{ap, sym, ◌∙◌, subst}
 use Rattle.snap_store.specs.Layers.{SameSights, is_open, released}
+use Rattle.snap_store.specs.Marks.{AreMarked}
 use Rattle.snap_store.specs.Snaps.{Snapshots, layers_of}
 use Rattle.snap_store.specs.Sums.{AreCovered}
 use Rattle.snap_store.proofs.HeldLaws.{no_place, rising_all}
 use Rattle.snap_store.proofs.LayerLaws.{sights-released}
+use Rattle.snap_store.proofs.MarkLaws.{marked_less, only_released}
 use Rattle.snap_store.proofs.ShapeLaws.{covered-released, gone-released}
 use Rattle.snap_store.proofs.snaps.Snaps.release.Goals as goal
+
+pub invariant_of-self-then-is_open : goal.invariant_of-self-then-is_open
+invariant_of-self-then-is_open c =
+    let xs = c.self.inside.layers.items in
+    record {
+      right = c.take_away.ensures.right;
+      marked = subst (AreMarked c.self.inside.marks.items) (sym c.take_away.ensures.layers)
+          (marked_less c.self.inside.marks.items (released c.args.reader (layers_of xs)) (layers_of xs) (only_released c.args.reader (layers_of xs) (rising_all xs c.self.invariant.right.each)) c.self.invariant.marked);
+    }
 
 pub returns-then-is_open-clause-sights : goal.returns-then-is_open-clause-sights
 returns-then-is_open-clause-sights c =
     let xs = c.self.inside.layers.items in
     subst (λ (s : Snapshots). SameSights s.open_ones (layers_of c.take_away.new.layers.items)) c.self.view_is
-    (subst (SameSights (layers_of xs)) (sym c.take_away.ensures.layers) (sights-released (layers_of xs) c.args.reader c.self.invariant.distinct (rising_all xs c.self.invariant.each)))
+    (subst (SameSights (layers_of xs)) (sym c.take_away.ensures.layers) (sights-released (layers_of xs) c.args.reader c.self.invariant.right.distinct (rising_all xs c.self.invariant.right.each)))
 
 pub returns-then-is_open-clause-covered : goal.returns-then-is_open-clause-covered
 returns-then-is_open-clause-covered c = λ sums covered.
@@ -21,7 +32,7 @@ returns-then-is_open-clause-covered c = λ sums covered.
 pub returns-then-is_open-clause-closed : goal.returns-then-is_open-clause-closed
 returns-then-is_open-clause-closed c =
     let xs = c.self.inside.layers.items in
-    ap (is_open c.args.reader) c.take_away.ensures.layers ∙ gone-released c.args.reader (layers_of xs) c.self.invariant.distinct
+    ap (is_open c.args.reader) c.take_away.ensures.layers ∙ gone-released c.args.reader (layers_of xs) c.self.invariant.right.distinct
 
 pub returns-else-is_open-clause-open_ones : goal.returns-else-is_open-clause-open_ones
 returns-else-is_open-clause-open_ones c =
