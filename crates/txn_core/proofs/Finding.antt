@@ -20,7 +20,7 @@ use Rattle.redo_log.proofs.Appends.{HasEntries-read}
 use Rattle.record_file.specs.Records.{IsUnmade, record_at}
 use Rattle.record_file.specs.Redone.{Redoes}
 use Rattle.record_file.specs.Unique.{entries_unique}
-use Rattle.recovery.specs.Finding.{IsMade}
+use Rattle.recovery.specs.Finding.{IsMade, IsRecoverable}
 use Rattle.txn_core.specs.Config.{Suits, shape_of}
 use Rattle.txn_core.specs.Kept.{IsKept}
 use Rattle.record_file.specs.MetaFile.{AreMetasOf, with_metas}
@@ -89,18 +89,18 @@ made_kept g mid now metas changed none reads log settled held =
     kept_settled g now metas changed none (λ told. HasEntries-read [] 0 (g.reads mid) (g.reads now) (log told) (reads.keeps 7)) (λ told images. settled_read g mid now reads images (settled told images))
     (λ told. subst (λ (r : Key → Rec). AreMetasOf r metas) (sym (same_records (g.reads mid) (g.reads now) reads.keeps)) (held told))
 
--- what a stop leaves before it
-pub unmade_left : {D : Type 0} (g : Ghosts D) (first now : D) (config : Config) → AtEachMoment g first now (λ left. g.may_leave first left ⊎ IsUnmade left)
+-- what a stop leaves before it, while the disk is only read
+pub unmade_left : {D : Type 0} (g : Ghosts D) (first now : D) (config : Config) → g.tells_images → OnlyReads g first now
     → AtEachMoment g first now (λ left. g.may_leave first left ⊎ IsOldOrNew (g.reads first) (shape_of config) left)
-unmade_left g first now config before = at_each_moment_weaker g first now _ _ before (λ left. ⊎_elim (λ was. inl was) (λ none. inr (inl none)))
+unmade_left g first now config images reads = at_each_moment_weaker g first now (g.may_leave first) _ (reads.time images) (λ left was. inl was)
 
 -- what a stop leaves while the first entry is appended
 pub unmade_crash : {D : Type 0} (g : Ghosts D) (first mid now : D) (config : Config) (shape : Shape) → IsUnmade (g.reads first) → record_at (g.reads mid) ≡ record_at (g.reads first) → shape ≡ shape_of config
-    → AtEachMoment g first mid (λ left. g.may_leave first left ⊎ IsUnmade left) → AtEachMoment g mid now (IsOldOrNew (g.reads mid) shape)
+    → g.tells_images → OnlyReads g first mid → AtEachMoment g mid now (IsOldOrNew (g.reads mid) shape)
     → AtEachMoment g first now (λ left. g.may_leave first left ⊎ IsOldOrNew (g.reads first) (shape_of config) left)
-unmade_crash g first mid now config shape unmade same is before crash =
-    at_each_moment_on g first mid now _ _ (unmade_left g first mid config before) crash
-    (λ left made. inr (⊎_elim (λ none. inl none) (λ redoes. inr (Redoes-same left _ _ (ap (λ (records : Key → Rec). laid_over records (creation_pairs shape)) same ∙ ap (made_over (g.reads first)) is) redoes)) made))
+unmade_crash g first mid now config shape unmade same is images before crash =
+    at_each_moment_on g first mid now _ _ (unmade_left g first mid config images before) crash
+    (λ left made. inr (⊎_elim (λ none. inl (none.0, none.1 ∙ same)) (λ redoes. inr (Redoes-same left _ _ (ap (λ (records : Key → Rec). laid_over records (creation_pairs shape)) same ∙ ap (made_over (g.reads first)) is) redoes)) made))
 
 -- the new store
 pub unmade_opened : (content mid : Files) (config : Config) (shape made : Shape) (space : Key → Rec) → IsUnmade content → record_at mid ≡ record_at content → made ≡ shape_of config → shape ≡ made → space ≡ made_over mid made → Opens content config shape space
@@ -114,6 +114,11 @@ unmade_mid content mid unmade same log = record { log = log; blank = λ file is_
 -- a content with no entry redoes to its own records
 pub redoes_own : (content : Files) → IsUnmade content → Redoes content (record_at content)
 redoes_own content unmade = record { entries = []; tail = 0; log = unmade.log; makes = refl }
+
+-- a content over which a store is opened is a store, or none was made in it
+pub opens-recoverable : (content : Files) (config : Config) (shape : Shape) (space : Key → Rec) → Opens content config shape space → IsRecoverable content
+opens-recoverable content config shape space (inl new) = (record_at content, redoes_own content new.0, inl new.0)
+opens-recoverable content config shape space (inr (before, redoes, made, suits, is)) = (before, redoes, inr (shape, made))
 
 -- two facts of a success
 pub if_ok_both : {T E : Type 0} (r : Result T E) (P Q : T → Type 0) → IfOk r P → IfOk r Q → IfOk r (λ x. P x × Q x)

@@ -5,3 +5,4 @@ pub mod Making
 pub mod Raising
 pub mod Sets
 pub mod States
+pub mod StoreRecords

@@ -56,7 +56,7 @@ old_or_new g disk shape unmade settled left is =
     (λ i key. record_at-log key 0 (entry_bytes (length (creation_pairs shape)) + 1) is.old left is.elsewhere i)
     ∙ records-settled (g.reads disk) (g.may_leave disk) (settled-records g disk settled) is.old is.was_left in
     ⊎_elim
-    (λ had. inl (record { log = had; blank = λ file is_file. ap (λ (records : Key → Rec). records (meta_key_of file)) same ∙ unmade.blank file is_file }))
+    (λ had. inl (record { log = had; blank = λ file is_file. ap (λ (records : Key → Rec). records (meta_key_of file)) same ∙ unmade.blank file is_file }, same))
     (λ more. inr (record {
       entries = creation_pairs shape ∷ [];
       tail = entry_bytes (length (creation_pairs shape));

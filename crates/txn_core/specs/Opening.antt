@@ -66,9 +66,10 @@ HasOpeningEntry content shape left =
     (IsUnmade content × HasOnly left (creation_pairs shape ∷ []))
     ⊎ ((before : Key → Rec) × Redoes content before × HasOnly left (raising_entries shape before))
 
--- a content with no store, or with the new one
+-- a content with no store and the same records, or with the new one
 abbrev pub IsOldOrNew : Files → Shape → Files → Type 0
-IsOldOrNew content shape left = IsUnmade left ⊎ Redoes left (made_over content shape)
+IsOldOrNew content shape left =
+    (IsUnmade left × (record_at left ≡ record_at content)) ⊎ Redoes left (made_over content shape)
 
 -- Why the store of this content is not opened.
 abbrev pub RefusesOpening : Files → Config → OpenFault → Type 0

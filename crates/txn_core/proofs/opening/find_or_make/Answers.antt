@@ -113,7 +113,7 @@ returns-in_err-make_new-in-Ok-Unmade-clause-crash_new g c reads images unmade =
     let content = g.D.Disk.reads c.args.disk.now in
     let same = c.in-Ok-Unmade.ensures.space reads (record_at content) (redoes_own content unmade) in
     let none_now = unmade_mid content (g.D.Disk.reads c.recover.new.disk) unmade same (c.in-Ok-Unmade.ensures.emptied reads) in
-    unmade_crash disk c.args.disk.now c.recover.new.disk c.make_new.new.disk c.args.config c.shape.result unmade same c.shape.ensures (c.recover.ensures.unmade reads images unmade)
+    unmade_crash disk c.args.disk.now c.recover.new.disk c.make_new.new.disk c.args.config c.shape.result unmade same c.shape.ensures images (c.recover.ensures.closed reads unmade.log.1)
     (c.make_new.ensures.crash reads images none_now (c.in-Ok-Unmade.ensures.settled reads images))
 
 pub returns-in_ok-make_new-in-Ok-Unmade-clause-crash_new : goal.returns-in_ok-make_new-in-Ok-Unmade-clause-crash_new
@@ -122,7 +122,7 @@ returns-in_ok-make_new-in-Ok-Unmade-clause-crash_new g c reads images unmade =
     let content = g.D.Disk.reads c.args.disk.now in
     let same = c.in-Ok-Unmade.ensures.space reads (record_at content) (redoes_own content unmade) in
     let none_now = unmade_mid content (g.D.Disk.reads c.recover.new.disk) unmade same (c.in-Ok-Unmade.ensures.emptied reads) in
-    unmade_crash disk c.args.disk.now c.recover.new.disk c.make_new.new.disk c.args.config c.shape.result unmade same c.shape.ensures (c.recover.ensures.unmade reads images unmade)
+    unmade_crash disk c.args.disk.now c.recover.new.disk c.make_new.new.disk c.args.config c.shape.result unmade same c.shape.ensures images (c.recover.ensures.closed reads unmade.log.1)
     (c.make_new.ensures.crash reads images none_now (c.in-Ok-Unmade.ensures.settled reads images))
 
 pub returns-in_ok-make_new-in-Ok-Unmade-clause-opened : goal.returns-in_ok-make_new-in-Ok-Unmade-clause-opened
@@ -179,4 +179,4 @@ returns-in-Err-Disk-clause-crash g c reads images space shape redoes is =
     at_each_moment_weaker g.D.Disk c.args.disk.now c.recover.new.disk _ _ (c.recover.ensures.crash reads images space redoes) (λ left. ⊎_elim (λ was. inl was) (λ redoes. inr (inl redoes)))
 
 pub returns-in-Err-Disk-clause-crash_new : goal.returns-in-Err-Disk-clause-crash_new
-returns-in-Err-Disk-clause-crash_new g c reads images unmade = unmade_left g.D.Disk c.args.disk.now c.recover.new.disk c.args.config (c.recover.ensures.unmade reads images unmade)
+returns-in-Err-Disk-clause-crash_new g c reads images unmade = unmade_left g.D.Disk c.args.disk.now c.recover.new.disk c.args.config images (c.recover.ensures.closed reads unmade.log.1)
