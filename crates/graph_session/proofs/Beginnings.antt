@@ -22,7 +22,6 @@ use Rattle.record_file.specs.Records.{IsUnmade, record_at}
 use Rattle.record_file.specs.Redone.{Redoes}
 use Rattle.record_file.proofs.Redone.{Redoes-kept}
 use Rattle.recovery.specs.Finding as finding
-use Rattle.recovery.specs.Finding.{IsRecoverable}
 use Rattle.txn_core.specs.Base.{OnlyReadsBase}
 use Rattle.txn_core.specs.Config.{Suits, shape_of}
 use Rattle.txn_core.specs.Kept.{IsOnDisk}
@@ -40,6 +39,7 @@ use Rattle.rec_bytes.specs.Fault.{NotDamaged}
 use Rattle.name_store.specs.Loading.{AreLoadable, IsLoadFault, IsNameDamage, after_names, name_mark}
 use Rattle.name_store.specs.Loading.IsNameDamage.{HighMark, SameText, WrongForm, WrongText}
 use Rattle.name_store.proofs.NameDamage.{AreLoadable-AreInRange}
+use Rattle.txn_core.proofs.Finding.{opens-recoverable}
 use Rattle.graph_session.specs.Console.{IsAt, SessionView}
 use Rattle.graph_session.specs.Known.{as_known}
 use Rattle.graph_session.specs.Opening.{IsUnopened, LeavesByOpening, LeavesOldOrSame, LeavesRefused, Opens, RefusesContent, StandsForOne, Starts, StartsAs, unloaded}
@@ -49,7 +49,7 @@ use Rattle.graph_session.specs.Versions.{IsWellFormedIn}
 use Rattle.graph_session.specs.declared.health.Health.TheVariants as healths
 use Rattle.graph_session.proofs.Knowing.{on_disk-known, told_of}
 use Rattle.graph_session.proofs.Openings.{starts-stands}
-use Rattle.graph_session.proofs.Stands.{Redoes-only, Stands-only, all-admitted, own-one, redone-held, unmade-not_found, unmade-recoverable}
+use Rattle.graph_session.proofs.Stands.{Redoes-only, Stands-only, all-admitted, own-one, redone-held, unmade-not_found}
 use Rattle.graph_session.proofs.States.{same_one}
 use Rattle.graph_session.proofs.StoreRecords.{committed-read, draft-read, drafted-none, working-none, working-read}
 use Rattle.graph_session.proofs.Streams.{Rose-from}
@@ -89,11 +89,6 @@ opened-store content config shape space allowed (inl new) other graph stands = n
 opened-store content config shape space allowed (inr (before, redoes, found, suits, is)) other graph stands =
     subst (λ (records : Key → Rec). IsWellFormed records shape) (sym is) (found-store content shape other before graph redoes found stands).store
 
--- a content over which a store is opened is a store, or none was made in it
-opens-recoverable : (content : Files) (config : Config) (shape : Shape) (space : Key → Rec) → opening.Opens content config shape space → IsRecoverable content
-opens-recoverable content config shape space (inl new) = unmade-recoverable content new.0
-opens-recoverable content config shape space (inr (before, redoes, made, suits, is)) = (before, redoes, inr (shape, made))
-
 -- the state that a session over these records begins with
 abbrev pub beginning : Shape → (Key → Rec) → State
 beginning shape space = record { shape = shape; committed = graph_of space; open_one = None; standing = Live }
@@ -118,7 +113,7 @@ left-made content images config shape store left (inr redoes) = inr (inr ((λ un
 left-new : (content : Files) (images : Files → Type 0) (config : Config) → is_allowed (shape_of config) ≡ true → IsUnmade content
     → (left : Files) → images left ⊎ IsOldOrNew content (shape_of config) left → LeavesOldOrSame content images config left
 left-new content images config allowed unmade left (inl old) = inl old
-left-new content images config allowed unmade left (inr (inl blank)) = inr (inl (unmade, inl (blank, refl)))
+left-new content images config allowed unmade left (inr (inl blank)) = inr (inl (unmade, inl (blank.0, refl)))
 left-new content images config allowed unmade left (inr (inr redoes)) =
     let shape = shape_of config in
     inr (inl (

@@ -1,5 +1,5 @@
-//! The tests of the crates from the disk up to the store: over disks in memory that fail, stop and
-//! lose power.
+//! The tests of the crates from the disk up to the store and the follower: over disks in memory
+//! that fail, stop and lose power.
 #![tactic(auto)]
 
 #[cfg(test)]
@@ -10,6 +10,8 @@ mod disks;
 mod entries;
 #[cfg(test)]
 mod files;
+#[cfg(test)]
+mod followers;
 #[cfg(test)]
 mod logged_store;
 #[cfg(test)]

@@ -1,0 +1,15 @@
+pub mod Accepts
+pub mod Applies
+pub mod Beginnings
+pub mod Completing
+pub mod Following
+pub mod Numbered
+pub mod Opening
+pub mod Puts
+pub mod Reading
+pub mod Reopening
+pub mod RoundTrip
+pub mod Slots
+pub mod Standing
+pub mod StoreRecords
+pub mod Taking

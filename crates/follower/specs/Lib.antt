@@ -1,0 +1,9 @@
+pub mod Applying
+pub mod Follower
+pub mod Running
+pub mod Sent
+pub mod Shipment
+pub mod Shipping
+pub mod Slot
+pub mod Taken
+pub mod Viewing
