@@ -6,9 +6,10 @@ use Rattle.rec_bytes.specs.Space as spaces
 use Rattle.txn_core.specs.Base.{OnlyReadsBase}
 use Rattle.txn_core.specs.Store as store
 use Rattle.txn_core.specs.declared.store.Store.{Store}
+use Rattle.txn_core.proofs.StoreRecords.{committed-read, working-read}
 use Rattle.graph_session.specs.Effects.{Stays}
 use Rattle.graph_session.specs.declared.health.Health.{Health}
-use Rattle.graph_session.proofs.StoreRecords.{committed-read, draft-kept, working-read}
+use Rattle.graph_session.proofs.StoreRecords.{draft-kept}
 use Rattle.graph_session.proofs.Moves.{seen_as}
 
 module _ {D : Type 0} {g : Ghosts D} where

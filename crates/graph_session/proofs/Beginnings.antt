@@ -40,6 +40,7 @@ use Rattle.name_store.specs.Loading.{AreLoadable, IsLoadFault, IsNameDamage, aft
 use Rattle.name_store.specs.Loading.IsNameDamage.{HighMark, SameText, WrongForm, WrongText}
 use Rattle.name_store.proofs.NameDamage.{AreLoadable-AreInRange}
 use Rattle.txn_core.proofs.Finding.{opens-recoverable}
+use Rattle.txn_core.proofs.StoreRecords.{committed-read, drafted-none, working-none, working-read}
 use Rattle.graph_session.specs.Console.{IsAt, SessionView}
 use Rattle.graph_session.specs.Known.{as_known}
 use Rattle.graph_session.specs.Opening.{IsUnopened, LeavesByOpening, LeavesOldOrSame, LeavesRefused, Opens, RefusesContent, StandsForOne, Starts, StartsAs, unloaded}
@@ -51,7 +52,7 @@ use Rattle.graph_session.proofs.Knowing.{on_disk-known, told_of}
 use Rattle.graph_session.proofs.Openings.{starts-stands}
 use Rattle.graph_session.proofs.Stands.{Redoes-only, Stands-only, all-admitted, own-one, redone-held, unmade-not_found}
 use Rattle.graph_session.proofs.States.{same_one}
-use Rattle.graph_session.proofs.StoreRecords.{committed-read, draft-read, drafted-none, working-none, working-read}
+use Rattle.graph_session.proofs.StoreRecords.{draft-read}
 use Rattle.graph_session.proofs.Streams.{Rose-from}
 use Rattle.graph_session.proofs.Versions.{graph_of-raised, newest-well_formed}
 

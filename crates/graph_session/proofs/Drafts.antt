@@ -16,6 +16,7 @@ use Rattle.txn_core.specs.Kept.{IsOnDisk}
 use Rattle.txn_core.specs.Outcomes.{HasFailedCommit}
 use Rattle.txn_core.specs.Sights.{KeepsSights}
 use Rattle.txn_core.specs.Store as store
+use Rattle.txn_core.proofs.StoreRecords.{committed-beneath}
 use Rattle.snap_store.specs.Keeping.{KeepsHeld}
 use Rattle.snap_store.specs.Snaps.{Snapshots}
 use Rattle.graph_ops.specs.Change.{IsRefusal}
@@ -27,7 +28,6 @@ use Rattle.graph_session.specs.State.{State, seen}
 use Rattle.graph_session.specs.declared.answer.Answer.{Answer}
 use Rattle.graph_session.specs.declared.health.Health.TheVariants as healths
 use Rattle.graph_session.specs.declared.session.Session.{Session}
-use Rattle.graph_session.proofs.StoreRecords.{committed-beneath}
 
 crash-either : {D : Type 0} (g : Ghosts D) (disk other now : D) (a b c d : Key → Rec) → disk ≡ other → a ≡ c → b ≡ d → AtEachMoment g disk now (λ left. Redoes left a ⊎ Redoes left b) → AtEachMoment g other now (λ left. Redoes left c ⊎ Redoes left d)
 crash-either {D = D} g disk other now a b c d same e f h =

@@ -17,6 +17,7 @@ use Rattle.rec_bytes.specs.declared.shape.Shape.{Shape}
 use Rattle.store_rules.specs.Graph.{graph_of, names_of}
 use Rattle.store_rules.specs.Rules.{IsWellFormed}
 use Rattle.txn_core.specs.Store.{drafted, state_of, working}
+use Rattle.txn_core.proofs.StoreRecords.{committed-beneath, committed-read, drafted-none, working-beneath, working-read}
 use Rattle.graph_ops.specs.Store.{graph_in}
 use Rattle.graph_session.specs.Answer.{Settles}
 use Rattle.graph_session.specs.Answering.{reply_of}
@@ -41,7 +42,6 @@ use Rattle.graph_session.proofs.Changes.{change-reached, settles-change_fault, s
 use Rattle.graph_session.proofs.Conditions.{accepted, heavy-refused, refused, weight-light}
 use Rattle.graph_session.proofs.DiskUse.{change-needs, uses-reads}
 use Rattle.graph_session.proofs.Drafts.{Sees, sees-as}
-use Rattle.graph_session.proofs.StoreRecords.{committed-beneath, committed-read, drafted-none, working-beneath, working-read}
 use Rattle.graph_session.proofs.Held.{held, names-working, seen_open, take-brought}
 use Rattle.graph_session.proofs.Knowing.{keeps-known, stays-known, told_of}
 use Rattle.graph_session.proofs.Spelling.{change-spared, spared-only}

@@ -1,5 +1,6 @@
 -- A change that is a transaction by itself, from its draft to its reply.
 use Rattle.std.proofs.Common.{◌≡◌, ◌⊎◌, ◌∙◌, ◌≤◌, ℕ, Bool, false, Ok, Err, Result, List, [], ◌++◌, length, take, inl, inr, true≢false, refl, sym, ap, subst, arith}
+use Rattle.std.proofs.lemmas.List.{nil_from_length}
 use Rattle.fault_count.specs.Cause.{Rose}
 use Rattle.disk_model.specs.Spans.{AtEachMoment, OnlyReads}
 use Rattle.disk_model.specs.declared.disk.Disk.{Ghosts}
@@ -18,6 +19,7 @@ use Rattle.store_rules.specs.Graph.{graph_of}
 use Rattle.store_rules.specs.Rules.{IsWellFormed}
 use Rattle.txn_core.specs.Base.{SameBeneath}
 use Rattle.txn_core.specs.Store.{committed, drafted, state_of}
+use Rattle.txn_core.proofs.StoreRecords.{committed-beneath, committed-read, drafted-none, working-none}
 use Rattle.graph_session.specs.Answer.{Settles}
 use Rattle.graph_session.specs.Answering.{reply_of}
 use Rattle.graph_session.specs.Console.{IsAt}
@@ -37,7 +39,6 @@ use Rattle.graph_session.specs.declared.session.Session.{Session}
 use Rattle.graph_session.proofs.Changes.{change-reached, settles-alone, settles-alone_fault, settles-alone_read_fault}
 use Rattle.graph_session.proofs.Conditions.{accepted, alone-light}
 use Rattle.graph_session.proofs.Drafts.{Sees, sees-as, stored-either}
-use Rattle.graph_session.proofs.StoreRecords.{committed-beneath, committed-read, drafted-none, length-none, working-none}
 use Rattle.graph_session.proofs.Anyhow.{made-good, may-change, may-stopped}
 use Rattle.graph_session.proofs.FailedReads.{fails-drafted}
 use Rattle.graph_session.proofs.Finishing.{settles-stopped, unmade-memory}
@@ -105,8 +106,8 @@ module _ {D : Type 0} {g : Ghosts D} {begun mid : Session D g} (old new : Sessio
       is_open = drops.closes.in_transaction ∙ sym closed;
       weight = λ is. absurd (true≢false (sym is ∙ closed));
       names = names-dropped;
-      written = drops.closes.own ∙ sym (length-none old.store.base.own.pairs idle);
-      working = λ told. working-none new.store.base drops.closes.own ∙ committed-dropped ∙ sym (working-none old.store.base (length-none old.store.base.own.pairs idle));
+      written = drops.closes.own ∙ sym (nil_from_length old.store.base.own.pairs idle);
+      working = λ told. working-none new.store.base drops.closes.own ∙ committed-dropped ∙ sym (working-none old.store.base (nil_from_length old.store.base.own.pairs idle));
     }
 
     fails-dropped : answer ≡ answers.DiskFailed → FailsRead g (view old) (view new)

@@ -1,5 +1,6 @@
 -- What the store's calls leave of a session, as its lines are settled.
 use Rattle.std.proofs.Common.{◌≡◌, ◌⊎◌, ◌∙◌, ℕ, ◌≤◌, true, false, List, [], length, take, inl, inr, refl, sym, ap, subst, arith}
+use Rattle.std.proofs.lemmas.List.{nil_from_length}
 use Rattle.fault_count.specs.Cause.{Rose}
 use Rattle.disk_model.specs.Spans.{AtEachMoment, OnlyReads}
 use Rattle.disk_model.specs.declared.disk.Disk.{Ghosts}
@@ -21,6 +22,7 @@ use Rattle.txn_core.specs.Kept.{IsOnDisk}
 use Rattle.txn_core.specs.Outcomes.{HasFailed, HasFailedCommit, IsCheckpointed, IsDropped, IsWritten}
 use Rattle.txn_core.specs.Store.{committed, state_of, working}
 use Rattle.txn_core.specs.declared.store.Store.{Store}
+use Rattle.txn_core.proofs.StoreRecords.{committed-beneath, drafted-none, working-none}
 use Rattle.graph_session.specs.Console.{SessionView}
 use Rattle.graph_session.specs.Effects.{Begins, Commits, Drops, Ends, FailsRead, IsBrought, IsLeftOpen, IsStopped, IsStored, KeepsBeneath}
 use Rattle.graph_session.specs.Known.{as_known}
@@ -31,7 +33,6 @@ use Rattle.graph_session.proofs.Answering.{settles-refused_at_once}
 use Rattle.graph_session.proofs.Conditions.{closed-refused, open-refused}
 use Rattle.graph_session.proofs.Knowing.{begins-known, brought-known, commits-known, drops-known, fails_read-known, left_open-known, stopped-known, told_all}
 use Rattle.graph_session.proofs.States.{is_open, not_failed, not_open}
-use Rattle.graph_session.proofs.StoreRecords.{committed-beneath, drafted-none, length-none, working-none}
 use Rattle.graph_session.proofs.Storage.{settles-checkpoint, settles-checkpoint_fault}
 use Rattle.graph_session.proofs.Transactions.{commit-open, rollback-open, settles-begin, settles-commit, settles-commit_fault, settles-commit_read_fault, settles-rollback}
 
@@ -218,7 +219,7 @@ module _ {D : Type 0} {g : Ghosts D} where
       live = done.live;
       names = refl;
       committed = done.space;
-      working = λ told. working-none t.base (ap (λ (held : Held). held.pairs) own ∙ length-none s.base.own.pairs none);
+      working = λ told. working-none t.base (ap (λ (held : Held). held.pairs) own ∙ nil_from_length s.base.own.pairs none);
       stored = stored-one t.base.disk.now (committed s) done.stored;
     }
 

@@ -1,5 +1,6 @@
 -- A store that is found again, and its names.
 use Rattle.std.proofs.Common.{◌≡◌, ◌⊎◌, ⊎_elim, ◌∙◌, ℕ, ◌≤◌, Bool, false, List, [], length, inl, inr, refl, sym, ap, subst, arith}
+use Rattle.std.proofs.lemmas.List.{nil_from_length}
 use Rattle.fault_count.specs.Cause.{Rose}
 use Rattle.disk_model.specs.Spans.{AtEachMoment, OnlyReads}
 use Rattle.disk_model.specs.declared.disk.Disk.{Ghosts}
@@ -20,6 +21,7 @@ use Rattle.txn_core.specs.Again.{IsOld, IsRecovered}
 use Rattle.txn_core.specs.Base.{OnlyReadsBase, SameStore}
 use Rattle.txn_core.specs.Store.{content, drafted}
 use Rattle.txn_core.specs.declared.store.Store.{Store}
+use Rattle.txn_core.proofs.StoreRecords.{committed-read, drafted-none, working-none}
 use Rattle.graph_session.specs.Answering.{reply_of}
 use Rattle.graph_session.specs.Console.{BeginWith, IsAt}
 use Rattle.graph_session.specs.Effects.{Ends, IsFound, IsLost, LeavesSame}
@@ -34,7 +36,6 @@ use Rattle.graph_session.specs.declared.health.Health.TheVariants as healths
 use Rattle.graph_session.proofs.Knowing.{found-known, lost-known, told_all, told_of}
 use Rattle.graph_session.proofs.Known.{known-admitted}
 use Rattle.graph_session.proofs.Moves.{seen_as}
-use Rattle.graph_session.proofs.StoreRecords.{committed-read, drafted-none, length-none, working-none}
 use Rattle.graph_session.proofs.Streams.{Rose-from}
 use Rattle.graph_session.proofs.Storage.{leaves-same_read, settles-reopen, settles-reopen_damaged, settles-reopen_fault}
 use Rattle.graph_session.proofs.Versions.{newest-made, newest-not_old}
@@ -90,7 +91,7 @@ module _ {D : Type 0} {g : Ghosts D} where
       read_on told space redoes = Redoes-kept space (content t) (content u) (read told space redoes) reads.disk.keeps
 
       no_own-now : t.base.own.pairs ≡ []
-      no_own-now = ap (λ (held : Held). held.pairs) own ∙ length-none s.base.own.pairs no_own
+      no_own-now = ap (λ (held : Held). held.pairs) own ∙ nil_from_length s.base.own.pairs no_own
 
       -- the records that are served are those that what was read redoes to
       drafted-space : g.tells_reads → (space : Key → Rec) → Redoes (content s) space → drafted t ≡ space

@@ -4,9 +4,9 @@ use Rattle.rec_bytes.specs.declared.record.Rec.{Rec}
 use Rattle.record_file.specs.Redone.{Redoes}
 use Rattle.record_file.proofs.Redone.{Redoes-kept}
 use Rattle.txn_core.specs.Store.{committed}
+use Rattle.txn_core.proofs.StoreRecords.{committed-read}
 use Rattle.name_store.specs.declared.names.Names.{Names}
 use Rattle.graph_session.proofs.Beginnings.{loaded-opens, loaded-refused, opening-leaves, opening-sound}
-use Rattle.graph_session.proofs.StoreRecords.{committed-read}
 use Rattle.graph_session.proofs.session.Session.open.Goals as goal
 
 -- the store isn't opened

@@ -1,6 +1,7 @@
 use Rattle.std.proofs.Common.{◌≡◌, ◌↔◌, ◌∙◌, Bool, IsTrue, false, true≢false, ap, refl, sym}
 use Rattle.rec_bytes.specs.Pairs.{Held}
 use Rattle.txn_core.specs.declared.store.Store.{Store}
+use Rattle.txn_core.proofs.StoreRecords.{drafted-none}
 use Rattle.graph_session.specs.Answering.{reply_of}
 use Rattle.graph_session.specs.Session.{shared_view, view}
 use Rattle.graph_session.proofs.Anyhow.{may-read}
@@ -10,7 +11,6 @@ use Rattle.graph_session.proofs.Knowing.{stays-known, told_of}
 use Rattle.graph_session.proofs.KeptChanges.{keeps-read}
 use Rattle.graph_session.proofs.Lifting.{asks-live, settles-asked}
 use Rattle.graph_session.proofs.Moves.{seen_as}
-use Rattle.graph_session.proofs.StoreRecords.{drafted-none}
 use Rattle.graph_session.proofs.session.Session.serve_writer.Goals as goal
 
 denied : (b : Bool) (P : Type 0) → (IsTrue b ↔ P) → b ≡ false → ¬ P
