@@ -2,15 +2,15 @@
 use Rattle.std.proofs.Common.{◌≡◌, ◌≢◌, ◌⊎◌, ◌+◌, ◌≤◌, ℕ, List, sym, subst, ⊎_elim, refl}
 use Rattle.rec_bytes.specs.Format.{nil}
 use Rattle.rec_bytes.specs.Space.{State}
-use Rattle.store_rules.specs.Chains.{In}
+use Rattle.store_rules.specs.Chains.{In, without}
 use Rattle.store_rules.specs.Rules.{AllListed, Head, IsListed, first_of}
 use Rattle.store_rules.specs.Views.{Records}
 use Rattle.store_rules.proofs.ChainLaws.{walk_of_chain}
-use Rattle.chain_edit.specs.Chains.{Differ, IsChainFrom, next_of, next_place, prev_of, without}
+use Rattle.chain_edit.specs.Chains.{Differ, IsChainFrom, next_of, next_place, prev_of}
 use Rattle.chain_edit.specs.Heads.{IsPlace}
 use Rattle.chain_edit.specs.Listed.{AreHeads, without_one}
 use Rattle.chain_edit.specs.Unlinking.{HasUnlinked, lead_place, unlinked}
-use Rattle.chain_edit.proofs.ChainSteps.{gone, in_without, on_test, stays_without}
+use Rattle.store_rules.proofs.ChainSteps.{gone, in_without, on_test, stays_without}
 use Rattle.chain_edit.proofs.AllPushed.{apart_head, apart_link, head_cases}
 use Rattle.chain_edit.proofs.Removals.{has_unlinked}
 

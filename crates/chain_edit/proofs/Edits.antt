@@ -7,7 +7,7 @@ use Rattle.rec_bytes.specs.Space.{State}
 use Rattle.store_rules.specs.Chains.{place_of}
 use Rattle.chain_edit.specs.Chains.{Differ, next_of, prev_of, prev_place}
 use Rattle.chain_edit.specs.Links.{backed, prev_set}
-use Rattle.chain_edit.proofs.ChainSteps.{on_test}
+use Rattle.store_rules.proofs.ChainSteps.{on_test}
 use Rattle.chain_edit.proofs.LinkLaws.{field-set_other, place-set_prev, prev_of-set_prev_same, prev_of-set_prev_other, next_of-set_prev, elsewhere-set_prev, rel_rec}
 
 module _ (s : State) (node f to : ℕ) where

@@ -2,7 +2,6 @@ pub mod AllPushed
 pub mod AllUnlinked
 pub mod Broken
 pub mod Causes
-pub mod ChainSteps
 pub mod Damages
 pub mod Edits
 pub mod InRange

@@ -14,7 +14,7 @@ use Rattle.chain_edit.specs.Chains.{ChangeOnly, Differ, IsChainFrom, ShareNoLink
 use Rattle.chain_edit.specs.Heads.{IsPlace}
 use Rattle.chain_edit.specs.Links.{backed, next_set}
 use Rattle.chain_edit.specs.Pushing.{CanPush, HasPushed, pushed}
-use Rattle.chain_edit.proofs.ChainSteps.{chain_push, first_in, nil_out}
+use Rattle.store_rules.proofs.ChainSteps.{chain_push, first_in, nil_out}
 use Rattle.chain_edit.proofs.Edits.{elsewhere-backed, field-backed, next_of-backed, place-backed, prev_of-backed_same, prev_of-backed_other}
 use Rattle.chain_edit.proofs.LinkLaws.{elsewhere-set_next, field-set_other, field-set_same, next_of-set_next_same, next_of-set_next_other, prev_of-set_next, rel-set_elsewhere, rel_rec, set_at}
 

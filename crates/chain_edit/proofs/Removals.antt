@@ -7,16 +7,16 @@ use Rattle.rec_bytes.specs.Record.{field, with_field}
 use Rattle.rec_bytes.specs.Space.{State, after_get, after_put, put}
 use Rattle.rec_bytes.proofs.Numbers.{field-lt}
 use Rattle.rec_bytes.proofs.Spaces.{put_same, put_twice}
-use Rattle.store_rules.specs.Chains.{In, IsWalk, next_in, place_of, prev_in}
+use Rattle.store_rules.specs.Chains.{In, IsWalk, next_in, place_of, prev_in, without}
 use Rattle.store_rules.specs.Rules.{Head, first_of}
 use Rattle.store_rules.specs.Views.{Records, key_in}
 use Rattle.store_rules.proofs.ChainLaws.{chain_stays, walk_of_chain}
 use Rattle.store_rules.proofs.NumberLaws.{eq_false, eq_true}
-use Rattle.chain_edit.specs.Chains.{ChangeOnly, Differ, IsChainAt, IsChainFrom, ShareNoLink, next_of, next_place, prev_of, prev_place, without}
+use Rattle.chain_edit.specs.Chains.{ChangeOnly, Differ, IsChainAt, IsChainFrom, ShareNoLink, next_of, next_place, prev_of, prev_place}
 use Rattle.chain_edit.specs.Heads.{IsPlace}
 use Rattle.chain_edit.specs.Links.{backed, next_set, number_set}
 use Rattle.chain_edit.specs.Unlinking.{CanUnlink, HasUnlinked, alone, lead_place, led, unlinked}
-use Rattle.chain_edit.proofs.ChainSteps.{after_in, after_other, before_in, before_other, chain_unlink, first_before, nil_out, on_test}
+use Rattle.store_rules.proofs.ChainSteps.{after_in, after_other, before_in, before_other, chain_unlink, first_before, nil_out, on_test}
 use Rattle.chain_edit.proofs.Edits.{elsewhere-backed, field-backed, next_of-backed, place-backed, prev_of-backed_same, prev_of-backed_other}
 use Rattle.chain_edit.proofs.LinkLaws.{elsewhere-set_next, elsewhere-set_prev, field-set_other, field-set_same, next_of-set_next_same, next_of-set_next_other, next_of-set_prev, place-set_next, place-set_prev, prev_of-set_next, prev_of-set_prev_same, prev_of-set_prev_other, rel-set_elsewhere, rel_rec, set_at}
 

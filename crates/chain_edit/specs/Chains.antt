@@ -1,5 +1,5 @@
 -- Chains of relationships, by the links of one node, and what edits of one leave of others.
-use Rattle.std.specs.Prelude.{◌≡◌, ◌≢◌, ◌⊎◌, ℕ, ◌+◌, ◌≤◌, nat_eq, if◌then◌else◌, List, [], ◌∷◌}
+use Rattle.std.specs.Prelude.{◌≡◌, ◌≢◌, ◌⊎◌, ℕ, ◌+◌, ◌≤◌, List, [], ◌∷◌}
 use Rattle.rec_bytes.specs.declared.key.Key.{Key}
 use Rattle.rec_bytes.specs.Format.{nil, record_bytes, relationships_file}
 use Rattle.rec_bytes.specs.Record.{field}
@@ -33,11 +33,6 @@ IsChainFrom records node from xs = IsChain (next_of records node) (prev_of recor
 
 abbrev pub IsChainAt : Records → Head → ℕ → List ℕ → Type 0
 IsChainAt records head node xs = IsChainFrom records node (first_of records head) xs
-
--- the list without the first that equals x
-abbrev pub without : ℕ → List ℕ → List ℕ
-without x [] = []
-without x (y ∷ ys) = if nat_eq x y then ys else y ∷ without x ys
 
 -- chains of the two nodes use different links of a relationship
 abbrev pub Differ : Records → ℕ → ℕ → ℕ → Type 0

@@ -4,12 +4,12 @@ use Rattle.rec_bytes.specs.declared.record.Rec.{Rec}
 use Rattle.rec_bytes.specs.Format.{nil}
 use Rattle.rec_bytes.specs.Record.{with_field}
 use Rattle.rec_bytes.specs.Space.{State, after_get, after_put}
-use Rattle.store_rules.specs.Chains.{In, place_of}
+use Rattle.store_rules.specs.Chains.{In, place_of, without}
 use Rattle.store_rules.specs.Rules.{Head}
 use Rattle.store_rules.specs.Views.{Records}
 use Rattle.rel_store.specs.RelRecord.{range_damage, rel_key}
 use Rattle.chain_edit.specs.Chains.{ChangeOnly, IsChainAt, IsChainFrom, ShareNoLink, next_of}
-use Rattle.chain_edit.specs.Chains.{next_place, prev_of, prev_place, without}
+use Rattle.chain_edit.specs.Chains.{next_place, prev_of, prev_place}
 use Rattle.chain_edit.specs.Links.{IsLinkDamage, backed, next_set, number_set}
 use Rattle.rec_bytes.specs.declared.fault.Fault.{Fault}
 use Rattle.rec_bytes.specs.declared.fault.Fault.TheVariants.{Memory, Disk, Damaged}

@@ -33,7 +33,7 @@ use Rattle.chain_edit.specs.Chains.{Differ, prev_of}
 use Rattle.chain_edit.specs.Links.{IsRightLink}
 use Rattle.chain_edit.specs.Listed.{AreHeads, with_one}
 use Rattle.chain_edit.proofs.AllPushed.{all_listed_same, all_listed_stays}
-use Rattle.chain_edit.proofs.ChainSteps.{on_test}
+use Rattle.store_rules.proofs.ChainSteps.{on_test}
 use Rattle.chain_edit.proofs.OwnedHeads.{end_in, end_on, ends_differ, heads_differ, in_head_group, on_has_group, only_head, other_record, owned_heads, owner_kind, owner_used}
 use Rattle.graph_ops.specs.EdgeEnds.{both_joined, joined}
 use Rattle.graph_ops.proofs.EdgeLists.{first_used, joined_listed, prev_joined}

@@ -16,7 +16,7 @@ use Rattle.chain_edit.specs.Pushing.{pushed}
 use Rattle.chain_edit.specs.Unlinking.{unlinked}
 use Rattle.chain_edit.proofs.AllPushed.{all_listed_pushed, all_listed_stays}
 use Rattle.chain_edit.proofs.AllUnlinked.{all_listed_unlinked}
-use Rattle.chain_edit.proofs.ChainSteps.{after_in, before_in, first_before, first_in}
+use Rattle.store_rules.proofs.ChainSteps.{after_in, before_in, first_before, first_in}
 use Rattle.chain_edit.proofs.Edits.{prev_of-backed_other}
 use Rattle.chain_edit.proofs.LinkLaws.{field-set_other, prev_of-set_next}
 use Rattle.chain_edit.proofs.OwnedHeads.{owned_heads}

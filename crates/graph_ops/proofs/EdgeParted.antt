@@ -36,7 +36,7 @@ use Rattle.group_store.specs.Counting.{one_less, tallied}
 use Rattle.group_store.proofs.HeadCounts.{less_here}
 use Rattle.chain_edit.specs.Listed.{AreHeads, without_one}
 use Rattle.chain_edit.proofs.AllPushed.{all_listed_same, all_listed_stays}
-use Rattle.chain_edit.proofs.ChainSteps.{on_test}
+use Rattle.store_rules.proofs.ChainSteps.{on_test}
 use Rattle.chain_edit.proofs.InRange.{right_next, right_prev}
 use Rattle.chain_edit.proofs.OwnedHeads.{end_in, end_on, heads_differ, only_head, other_record, owned_heads, owner_kind}
 use Rattle.graph_ops.specs.EdgeEnds.{both_parted, end_groups, parted}

@@ -19,7 +19,7 @@ use Rattle.chain_edit.specs.Heads.{IsPlace}
 use Rattle.chain_edit.specs.Links.{backed, next_set, number_set, prev_set}
 use Rattle.chain_edit.specs.Pushing.{pushed}
 use Rattle.chain_edit.specs.Unlinking.{alone, led, unlinked}
-use Rattle.chain_edit.proofs.ChainSteps.{on_test}
+use Rattle.store_rules.proofs.ChainSteps.{on_test}
 use Rattle.chain_edit.proofs.Edits.{elsewhere-backed, field-backed, place-backed}
 use Rattle.chain_edit.proofs.LinkLaws.{elsewhere-set_next, field-set_other, field-set_same}
 use Rattle.group_store.specs.Counting.{one_less, one_more, tallied}

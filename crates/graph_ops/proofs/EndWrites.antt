@@ -10,7 +10,7 @@ use Rattle.node_store.specs.NodeRecord.{node_key}
 use Rattle.store_rules.specs.Views.{key_in}
 use Rattle.store_rules.specs.Writes.{AreOwn, WritesBeside, meta_keys}
 use Rattle.store_rules.proofs.WriteLaws.{among_both, among_left, among_metas, among_right, beside_more, these_written}
-use Rattle.chain_edit.proofs.ChainSteps.{on_test}
+use Rattle.store_rules.proofs.ChainSteps.{on_test}
 use Rattle.group_store.specs.Dropping.{lead_key}
 use Rattle.group_store.specs.GroupRecord.{group_key}
 use Rattle.graph_ops.specs.EdgeDeleting.{WritesEnds, WritesTaken}

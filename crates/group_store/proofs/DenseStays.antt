@@ -18,7 +18,7 @@ use Rattle.store_rules.specs.Views.{Records, first_link, high, kind_at, rec_at}
 use Rattle.store_rules.proofs.ViewLaws.{kind_below, kind_low}
 use Rattle.chain_edit.specs.Links as links
 use Rattle.chain_edit.specs.Pushing.{pushed}
-use Rattle.chain_edit.proofs.ChainSteps.{on_test}
+use Rattle.store_rules.proofs.ChainSteps.{on_test}
 use Rattle.chain_edit.proofs.Edits.{elsewhere-backed}
 use Rattle.chain_edit.proofs.LinkLaws.{elsewhere-set_next, elsewhere-set_prev, field-set_other}
 use Rattle.group_store.specs.Counting.{one_more, tallied}

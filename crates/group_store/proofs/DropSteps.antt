@@ -8,7 +8,7 @@ use Rattle.rec_bytes.specs.Format as format
 use Rattle.rec_bytes.specs.Record.{field}
 use Rattle.rec_bytes.specs.Space.{SameButReads, State, WritesOnly, after_get}
 use Rattle.rec_bytes.proofs.Spaces.{writes_then}
-use Rattle.chain_edit.proofs.ChainSteps.{after_in, before_in, first_before}
+use Rattle.store_rules.proofs.ChainSteps.{after_in, before_in, first_before}
 use Rattle.store_rules.specs.Chains.{In}
 use Rattle.store_rules.specs.Rules.{is_filled}
 use Rattle.store_rules.proofs.ChainLaws.{walk_of_chain}

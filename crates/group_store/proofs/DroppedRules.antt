@@ -10,7 +10,7 @@ use Rattle.rec_bytes.specs.Record.{field, with_field}
 use Rattle.rec_bytes.specs.RecordFiles.{meta_key_of}
 use Rattle.rec_bytes.specs.Space.{State, after_get, after_set}
 use Rattle.rec_bytes.proofs.Spaces.{put_other}
-use Rattle.store_rules.specs.Chains.{In, IsChain, next_in, prev_in}
+use Rattle.store_rules.specs.Chains.{In, IsChain, next_in, prev_in, without}
 use Rattle.store_rules.specs.Ends.{Regroups}
 use Rattle.store_rules.specs.Rules.{AreExact, HasGroup, HasGroups, Head, IsEnd, IsGrouped, IsInGroup, IsLinked, IsListed, IsSplit, KeepsRules, Owns, StandsAt, first_of, is_filled}
 use Rattle.store_rules.specs.Views.{GroupRow, RelRow, first_link, group_at, group_in, high, is_live, key_in, kind_at, kind_in, rec_at, rel_at, row_if, is_group_kind}
@@ -26,8 +26,7 @@ use Rattle.id_freelist.specs.Giving.{CanGive, HasGiven}
 use Rattle.id_freelist.proofs.FreeListLaws.{has_given}
 use Rattle.id_freelist.proofs.Leaving.{is_gone, not_free_id}
 use Rattle.node_store.specs.NodeRecord.{node_key}
-use Rattle.chain_edit.specs.Chains.{without}
-use Rattle.chain_edit.proofs.ChainSteps.{in_without, on_test}
+use Rattle.store_rules.proofs.ChainSteps.{in_without, on_test}
 use Rattle.chain_edit.proofs.LinkLaws.{field-set_other, set_at}
 use Rattle.group_store.specs.declared.side.Side.{Side}
 use Rattle.group_store.specs.declared.side.Side.TheVariants.{Out, In as Into, Loop}

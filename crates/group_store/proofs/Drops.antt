@@ -11,14 +11,13 @@ use Rattle.rec_bytes.specs.RecordFiles.{meta_key_of}
 use Rattle.rec_bytes.specs.Space.{State, after_get, after_set, meta_in}
 use Rattle.rec_bytes.proofs.Numbers.{field-lt}
 use Rattle.rec_bytes.proofs.Spaces.{put_other}
-use Rattle.store_rules.specs.Chains.{In, IsChain, IsWalk}
+use Rattle.store_rules.specs.Chains.{In, IsChain, IsWalk, without}
 use Rattle.store_rules.specs.Rules.{next_free}
 use Rattle.store_rules.specs.Views.{first_link, high, kind_at, kind_in, rec_at, is_group_kind}
 use Rattle.store_rules.proofs.ChainLaws.{chain_stays, walk_of_chain, walk_stays}
 use Rattle.store_rules.proofs.NumberLaws.{eq_false, eq_true, nat_cases}
 use Rattle.store_rules.proofs.ViewLaws.{kind_by, kind_low}
-use Rattle.chain_edit.specs.Chains.{without}
-use Rattle.chain_edit.proofs.ChainSteps.{after_in, after_other, before_in, before_other, chain_unlink, first_before, gone, in_without, nil_out, on_test, stays_without}
+use Rattle.store_rules.proofs.ChainSteps.{after_in, after_other, before_in, before_other, chain_unlink, first_before, gone, in_without, nil_out, on_test, stays_without}
 use Rattle.chain_edit.proofs.LinkLaws.{field-set_other, field-set_same}
 use Rattle.group_store.specs.Dropping.{CanDrop, HasDropped, follows}
 use Rattle.group_store.specs.GroupChain.{IsGroupChain, IsGroupOf, group_field, next_group, previous_group, type_of}

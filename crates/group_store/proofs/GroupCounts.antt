@@ -6,7 +6,7 @@ use Rattle.rec_bytes.specs.declared.shape.Shape.{Shape}
 use Rattle.rec_bytes.specs.Format as format
 use Rattle.rec_bytes.specs.Record.{field}
 use Rattle.rec_bytes.specs.Space.{meta_in}
-use Rattle.store_rules.specs.Chains.{In, IsChain, next_in, prev_in}
+use Rattle.store_rules.specs.Chains.{In, IsChain, next_in, prev_in, without}
 use Rattle.store_rules.specs.Properties.{AreOnce}
 use Rattle.store_rules.specs.Rows.{ids}
 use Rattle.store_rules.specs.Rules.{GroupHead, Head, IsEnd, IsInGroup, first_of}
@@ -16,8 +16,7 @@ use Rattle.store_rules.proofs.GroupLaws.{filled_chain, group_id, same_group}
 use Rattle.store_rules.proofs.NumberLaws.{eq_false, eq_true, nat_cases}
 use Rattle.store_rules.proofs.OnceLaws.{in_left, in_right}
 use Rattle.store_rules.proofs.ViewLaws.{kind_below, live_false, live_true, row_some, some_row}
-use Rattle.chain_edit.specs.Chains.{without}
-use Rattle.chain_edit.proofs.ChainSteps.{stays_without}
+use Rattle.store_rules.proofs.ChainSteps.{stays_without}
 use Rattle.group_store.specs.Spreading.{KeepsBut, StandsBut}
 
 -- ---- no more than there are to go round

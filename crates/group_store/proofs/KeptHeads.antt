@@ -19,7 +19,7 @@ use Rattle.store_rules.proofs.GroupLaws.{IsFirstPlace, same_group}
 use Rattle.store_rules.proofs.MetaLaws.{high_fits, live_fits}
 use Rattle.store_rules.proofs.NumberLaws.{eq_false, nat_cases}
 use Rattle.store_rules.proofs.ViewLaws.{kind_below, kind_by, kind_low, row_some, some_row}
-use Rattle.chain_edit.proofs.ChainSteps.{on_test}
+use Rattle.store_rules.proofs.ChainSteps.{on_test}
 use Rattle.chain_edit.proofs.LinkLaws.{field-set_other, key_cases, set_at}
 use Rattle.node_store.specs.Loading as nodes
 use Rattle.group_store.specs.Densing.{IsSparse}

@@ -35,7 +35,7 @@ use Rattle.store_rules.proofs.NumberLaws.{eq_true, lt_true, nat_cases}
 use Rattle.store_rules.proofs.Shapes.{high_most, room_most, room_small}
 use Rattle.store_rules.proofs.ViewLaws.{group_used, kind_below, kind_by, kind_low, row_none, some_row}
 use Rattle.chain_edit.specs.Chains.{next_of, prev_of}
-use Rattle.chain_edit.proofs.ChainSteps.{first_in, on_test}
+use Rattle.store_rules.proofs.ChainSteps.{first_in, on_test}
 use Rattle.group_store.specs.declared.group_row.GroupRow.{GroupRow}
 use Rattle.group_store.specs.GroupChain.{IsGroupChain, IsGroupOf, LacksGroup, next_group, type_of}
 use Rattle.group_store.specs.GroupRecord.{count_in, group_key}

@@ -14,7 +14,7 @@ use Rattle.store_rules.specs.Chains.{In}
 use Rattle.store_rules.specs.Views.{Records, first_link, kind_at}
 use Rattle.store_rules.proofs.ChainLaws.{walk_of_chain}
 use Rattle.chain_edit.specs.Walking.{ReadsAtMost}
-use Rattle.chain_edit.proofs.ChainSteps.{first_in}
+use Rattle.store_rules.proofs.ChainSteps.{first_in}
 use Rattle.rec_bytes.specs.declared.fault.Fault.{Fault}
 use Rattle.rec_bytes.specs.declared.fault.Fault.TheVariants.{Memory, Disk, Damaged}
 use Rattle.group_store.specs.declared.group_row.GroupRow.{GroupRow}

@@ -21,7 +21,7 @@ use Rattle.store_rules.specs.Views.{Records, first_link, high, is_group_kind, ki
 use Rattle.store_rules.proofs.ChainLaws.{chain_stays, head_once, walk_of_chain, walk_stays}
 use Rattle.store_rules.proofs.NumberLaws.{eq_true, nat_cases}
 use Rattle.store_rules.proofs.ViewLaws.{group_used, kind_high, kind_low}
-use Rattle.chain_edit.proofs.ChainSteps.{chain_push, first_in, nil_out, on_test}
+use Rattle.store_rules.proofs.ChainSteps.{chain_push, first_in, nil_out, on_test}
 use Rattle.chain_edit.proofs.LinkLaws.{field-set_other, field-set_same}
 use Rattle.group_store.specs.GroupChain.{IsGroupChain, IsGroupOf, LacksType, group_field, next_group, previous_group, type_of}
 use Rattle.group_store.specs.GroupRecord.{count_in, group_key, is_counted}

@@ -28,7 +28,7 @@ use Rattle.chain_edit.specs.Links.{IsRightLink, backed, next_set, prev_set}
 use Rattle.chain_edit.specs.Listed.{AreHeads, with_one}
 use Rattle.chain_edit.specs.Pushing.{HasPushed, pushed}
 use Rattle.chain_edit.proofs.AllPushed.{all_listed_pushed, all_listed_same, all_listed_stays}
-use Rattle.chain_edit.proofs.ChainSteps.{first_in, on_test}
+use Rattle.store_rules.proofs.ChainSteps.{first_in, on_test}
 use Rattle.chain_edit.proofs.Edits.{elsewhere-backed}
 use Rattle.chain_edit.proofs.LinkLaws.{elsewhere-set_next, elsewhere-set_prev, next_of-set_prev, place-set_prev, prev_of-set_prev_other, prev_of-set_prev_same}
 use Rattle.chain_edit.proofs.OwnedHeads.{end_in, end_on, ends_differ, only_head, owned_heads}

@@ -11,7 +11,7 @@ use Rattle.store_rules.specs.Views.{first_link}
 use Rattle.store_rules.proofs.ChainLaws.{walk_of_chain}
 use Rattle.chain_edit.specs.Links.{prev_set}
 use Rattle.chain_edit.specs.Pushing.{pushed}
-use Rattle.chain_edit.proofs.ChainSteps.{first_in}
+use Rattle.store_rules.proofs.ChainSteps.{first_in}
 use Rattle.rec_bytes.specs.declared.fault.Fault.{Fault}
 use Rattle.group_store.specs.declared.making.OwnGroup.{OwnGroup}
 use Rattle.group_store.specs.GroupChain.{IsDense, IsGroupOf, LacksGroup, next_group}

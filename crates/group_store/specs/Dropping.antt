@@ -1,6 +1,5 @@
 -- An empty group that is taken out of the chain of its node, and given back.
 use Rattle.std.specs.Prelude.{◌≡◌, ◌≢◌, ℕ, ◌-◌, ◌≤◌, nat_eq, if◌then◌else◌, List, ◌∷◌}
-use Rattle.chain_edit.specs.Chains.{without}
 use Rattle.id_freelist.specs.FreeLists.{IsFreeList}
 use Rattle.id_freelist.specs.Giving.{given}
 use Rattle.node_store.specs.NodeRecord.{node_key}
@@ -9,7 +8,7 @@ use Rattle.rec_bytes.specs.declared.key.Key.{Key}
 use Rattle.rec_bytes.specs.Format as format
 use Rattle.rec_bytes.specs.RecordFiles.{meta_key_of}
 use Rattle.rec_bytes.specs.Space.{State, after_get, after_set, meta_in}
-use Rattle.store_rules.specs.Chains.{In}
+use Rattle.store_rules.specs.Chains.{In, without}
 use Rattle.store_rules.specs.Views.{Records, high, kind_at}
 use Rattle.rec_bytes.specs.declared.fault.Fault.{Fault}
 use Rattle.rec_bytes.specs.declared.fault.Fault.TheVariants.{Memory, Disk, Damaged}

@@ -1,5 +1,6 @@
 pub mod BlockLists
 pub mod ChainLaws
+pub mod ChainSteps
 pub mod Changes
 pub mod CountLaws
 pub mod Counts

@@ -20,6 +20,11 @@ IsChain next prev before from [] = from ≡ nil
 IsChain next prev before from (x ∷ xs) =
     (from ≡ x) × (x ≢ nil) × (prev x ≡ before) × IsChain next prev x (next x) xs
 
+-- the list without the first that equals x
+abbrev pub without : ℕ → List ℕ → List ℕ
+without x [] = []
+without x (y ∷ ys) = if nat_eq x y then ys else y ∷ without x ys
+
 -- The place of the two links that a chain of the node uses in a relationship: those of its source
 -- where the node is the source, else those of its target. The next link stands after the previous
 -- one.

@@ -1,10 +1,9 @@
 -- What a change of links does to a list that follows them.
 use Rattle.std.proofs.Common.{cond, true, false, ◌≡◌, ◌≢◌, ◌⊎◌, ℕ, nat_eq, List, [], ◌∷◌, sym, ap, ◌∙◌, subst, inl, inr, ⊎_elim, refl}
 use Rattle.rec_bytes.specs.Format.{nil}
-use Rattle.store_rules.specs.Chains.{IsWalk, IsChain, In}
+use Rattle.store_rules.specs.Chains.{IsWalk, IsChain, In, without}
 use Rattle.store_rules.proofs.ChainLaws.{chain_stays, head_once, walk_of_chain}
 use Rattle.store_rules.proofs.NumberLaws.{nat_cases, eq_true, eq_false}
-use Rattle.chain_edit.specs.Chains.{without}
 
 -- two numbers are equal or not, and a test says so
 pub eq_cases : (x y : ℕ) → ((x ≡ y) × (nat_eq x y ≡ true)) ⊎ ((x ≢ y) × (nat_eq x y ≡ false))
