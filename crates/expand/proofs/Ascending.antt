@@ -10,7 +10,7 @@ use Rattle.std.proofs.lemmas.Map.Keys.{IsDistinct-IsPermutation, IsDistinct-from
 use Rattle.store_rules.proofs.NumberLaws.{eq_false}
 use Rattle.rel_store.specs.declared.edge_row.EdgeRow.{EdgeRow}
 use Rattle.expand.specs.Matching.{IsPart, id_of}
-use Rattle.expand.proofs.Members.{contains_cases, contains_filter, contains_first, contains_later, filter_contains, pairs_rest}
+use Rattle.store_rules.proofs.Members.{contains_cases, contains_filter, contains_first, contains_later, filter_contains, pairs_rest}
 
 -- ---- one ascending list
 

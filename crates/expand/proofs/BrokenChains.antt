@@ -49,7 +49,7 @@ use Rattle.expand.specs.ExpandFault.{of_fault}
 use Rattle.expand.specs.Expanding.{Blames}
 use Rattle.expand.specs.Walking.{AllBelong, AreOfGroups, chain_blamed, with_node}
 use Rattle.expand.proofs.GroupHeads.{heads_apart, heads_in, place_is}
-use Rattle.expand.proofs.Members.{contains_cases, contains_first, contains_image, contains_later, length-once_below}
+use Rattle.store_rules.proofs.Members.{contains_cases, contains_first, contains_image, contains_later, length-once_below}
 
 -- ---- sides
 

@@ -25,7 +25,7 @@ use Rattle.expand.specs.declared.matching.End.TheVariants as ends
 use Rattle.expand.specs.Expanding.{edge_row_at, rows_of}
 use Rattle.expand.specs.Matching.{IsPart, id_of, is_at, is_met, is_met_at, is_wanted}
 use Rattle.expand.proofs.Ascending.{Differs, flips, same_id}
-use Rattle.expand.proofs.Members.{ascends_collect, collect_contains, contains_collect, contains_map, filter_contains, map_contains, pairs_map, pairs_once}
+use Rattle.store_rules.proofs.Members.{ascends_collect, collect_contains, contains_collect, contains_map, filter_contains, map_contains, pairs_map, pairs_once}
 
 -- the rows of relationships in use, none of which comes twice, with all that pass a test among them
 pub rows_part : (s : Records) (test : EdgeRow → Bool) (xs : List ℕ) → AreOnce xs → ((x : ℕ) → In x xs → kind_at s format.relationships_file x ≢ 0)

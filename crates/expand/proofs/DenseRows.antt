@@ -29,7 +29,7 @@ use Rattle.expand.proofs.ChainRows.{length-part, rows_part}
 use Rattle.expand.proofs.ChainWalks.{walks_are}
 use Rattle.expand.proofs.GroupHeads.{all_met, chain, firsts_are, groups, heads_differ, heads_in, heads_own, only_met}
 use Rattle.expand.proofs.HeadChains.{HaveChains, have_chains}
-use Rattle.expand.proofs.Members.{contains_map, length-once_below}
+use Rattle.store_rules.proofs.Members.{contains_map, length-once_below}
 use Rattle.expand.proofs.TypeCounts.{groups_count, met_le}
 
 module _ (s : State) (store : IsStore s) (row : NodeRow) (dense : kind_at s.records format.nodes_file row.id ≡ format.dense) (first : row.first ≡ first_link s.records row.id) (direction : Direction) (labels : List ℕ) where

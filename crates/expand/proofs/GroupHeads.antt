@@ -36,7 +36,7 @@ use Rattle.expand.specs.FirstLinks.{first_links, first_numbers, first_on, link_o
 use Rattle.expand.specs.Matching.{is_at, is_met, is_met_at, is_wanted}
 use Rattle.expand.proofs.ChainRows.{at_met}
 use Rattle.expand.proofs.HeadChains.{Own, Stands}
-use Rattle.expand.proofs.Members.{contains_cases, contains_first, contains_image, contains_later, image_contains, pairs_append, pairs_none}
+use Rattle.store_rules.proofs.Members.{contains_cases, contains_first, contains_image, contains_later, image_contains, pairs_append, pairs_none}
 
 -- ---- sides
 

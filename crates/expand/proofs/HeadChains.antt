@@ -13,7 +13,7 @@ use Rattle.store_rules.proofs.OnceLaws.{in_left, in_parts, in_right, once_both, 
 use Rattle.chain_edit.specs.Chains.{next_of}
 use Rattle.chain_edit.proofs.OwnedHeads.{only_head}
 use Rattle.expand.specs.Walking.{AreWalks}
-use Rattle.expand.proofs.Members.{contains_cases, contains_first, contains_later, pairs_first, pairs_rest}
+use Rattle.store_rules.proofs.Members.{contains_cases, contains_first, contains_later, pairs_first, pairs_rest}
 
 module _ (s : Records) (shape : Shape) (store : IsWellFormed s shape) (n : ℕ) where
   abbrev pub Own : Head → Type 0

@@ -10,7 +10,6 @@ pub mod GroupSums
 pub mod HeadChains
 pub mod LoadedRows
 pub mod ManyEdges
-pub mod Members
 pub mod ModelEdges
 pub mod ReadCounts
 pub mod RowCounts

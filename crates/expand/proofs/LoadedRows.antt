@@ -49,7 +49,7 @@ use Rattle.expand.proofs.ChainRows as chain_rows
 use Rattle.expand.proofs.ChainRows.{length-part, part_met}
 use Rattle.expand.proofs.ChainWalks.{Rows}
 use Rattle.expand.proofs.DenseRows as dense_rows
-use Rattle.expand.proofs.Members.{contains_map}
+use Rattle.store_rules.proofs.Members.{contains_map}
 use Rattle.expand.proofs.ModelEdges.{length-at_node}
 use Rattle.expand.proofs.ReadCounts.{load_reads, records-after_load, reads_then, shape-after_load}
 

@@ -17,7 +17,7 @@ use Rattle.expand.specs.Costs.{dense_reads, most_reads}
 use Rattle.expand.specs.Expanding.{IsStore, edge_row_at, graph_in, rows_of}
 use Rattle.expand.specs.Matching.{is_at}
 use Rattle.expand.proofs.GroupHeads.{end_at}
-use Rattle.expand.proofs.Members.{contains_collect, contains_filter}
+use Rattle.store_rules.proofs.Members.{contains_collect, contains_filter}
 use Rattle.expand.proofs.ModelEdges.{length-at_node}
 
 module _ (s : State) (store : IsStore s) (n : ℕ) (many : s.shape.threshold < degree_in (graph_in s) n) where

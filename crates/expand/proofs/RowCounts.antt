@@ -22,7 +22,7 @@ use Rattle.expand.specs.Expanding.{edge_row_at, rows_of}
 use Rattle.expand.specs.Matching.{IsPart, id_of, is_met, is_met_at, is_wanted, rows_at}
 use Rattle.expand.proofs.Ascending.{Differs}
 use Rattle.expand.proofs.ChainRows.{length-members, length-part}
-use Rattle.expand.proofs.Members.{contains_filter, filter_contains}
+use Rattle.store_rules.proofs.Members.{contains_filter, filter_contains}
 
 -- ---- rows that have all that are met
 

@@ -33,7 +33,7 @@ use Rattle.expand.specs.Costs.{is_met_edge, met_count, type_count}
 use Rattle.expand.specs.Expanding.{AreRowsOf, IsRowOf, edge_row_at, name_of, rows_of}
 use Rattle.expand.specs.Matching.{is_at, is_met, is_met_at, is_wanted}
 use Rattle.expand.proofs.GroupHeads as heads
-use Rattle.expand.proofs.Members.{collect_contains, contains_collect, contains_filter, contains_image, contains_map, filter_contains, image_contains, map_contains, pairs_map, pairs_once}
+use Rattle.store_rules.proofs.Members.{collect_contains, contains_collect, contains_filter, contains_image, contains_map, filter_contains, image_contains, map_contains, pairs_map, pairs_once}
 use Rattle.expand.proofs.ModelEdges.{rows_are, zip_filter}
 
 -- ---- texts

@@ -7,7 +7,7 @@ use Rattle.std.proofs.lemmas.List.{get_or-map, get_or-take, length-map, length-t
 use Rattle.std.proofs.lemmas.List.Elements.{at_from_Contains}
 use Rattle.std.proofs.lemmas.List.Folds.{list_any_at}
 use Rattle.indexmap.proofs.CallerLemmas.{Contains-list_any}
-use Rattle.expand.proofs.Members.{contains_image, image_contains}
+use Rattle.store_rules.proofs.Members.{contains_image, image_contains}
 use borrow.Author.Tests.{eqb-true}
 use Rattle.path_find.specs.Checking.{AreDistinct}
 use Rattle.plain_graph.specs.Levels.{HasLevel, level_of}

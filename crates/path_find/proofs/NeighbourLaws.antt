@@ -16,7 +16,7 @@ use Rattle.store_rules.proofs.ViewLaws.{row_some, some_row}
 use Rattle.chain_edit.specs.Walking.{edge_at}
 use Rattle.expand.specs.Expanding.{AreRowsOf, IsStore, edge_row_at, graph_in, rows_of}
 use Rattle.expand.specs.Matching.{rows_at}
-use Rattle.expand.proofs.Members.{contains_collect, contains_filter, contains_image}
+use Rattle.store_rules.proofs.Members.{contains_collect, contains_filter, contains_image}
 use Rattle.expand.proofs.ModelEdges.{rows_at_are}
 use Rattle.plain_graph.specs.Adjacency.{far_end}
 use Rattle.path_find.specs.Ends.{row_end}

@@ -13,7 +13,7 @@ use Rattle.rec_bytes.specs.Space.{State}
 use Rattle.rel_store.specs.declared.edge_row.EdgeRow.{EdgeRow}
 use Rattle.expand.specs.Expanding.{rows_of}
 use Rattle.expand.specs.Matching.{is_wanted, rows_at}
-use Rattle.expand.proofs.Members.{contains_filter, contains_image, filter_contains, image_contains}
+use Rattle.store_rules.proofs.Members.{contains_filter, contains_image, filter_contains, image_contains}
 use Rattle.path_find.specs.Ends.{row_end}
 use Rattle.path_find.specs.Meeting.{reversed}
 use Rattle.path_find.specs.Reads.{neighbours_at}

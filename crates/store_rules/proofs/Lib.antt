@@ -16,6 +16,7 @@ pub mod HeldChange
 pub mod LinkFits
 pub mod Made
 pub mod MemberLaws
+pub mod Members
 pub mod MetaLaws
 pub mod NameMade
 pub mod NameRows
