@@ -2,6 +2,9 @@ pub mod Breaking
 pub mod Chains
 pub mod Ends
 pub mod Graph
+pub mod Hashes
+pub mod IndexChange
+pub mod Indexes
 pub mod Properties
 pub mod PropertyChange
 pub mod Ranges

@@ -1,7 +1,7 @@
 -- The first rule: each record is of a known kind, its numbers are ones that may stand there, and
 -- its other bytes are zero.
-use Rattle.std.specs.Prelude.{◌≡◌, ℕ, ◌+◌, ◌<◌, nat_eq, nat_le, nat_lt, Bool, true, false, ◌&&◌}
-use Rattle.std.specs.Prelude.{◌||◌, cond, not, Option, None, Some, List, [], ◌∷◌}
+use Rattle.std.specs.Prelude.{◌≡◌, ℕ, zero, suc, ◌+◌, ◌<◌, nat_eq, nat_le, nat_lt, Bool, true}
+use Rattle.std.specs.Prelude.{false, ◌&&◌, ◌||◌, cond, not, Option, None, Some, List, [], ◌∷◌}
 use Rattle.std.specs.List.{list_any}
 use Rattle.rec_bytes.specs.declared.record.Rec.{Rec}
 use Rattle.rec_bytes.specs.declared.shape.Shape.{Shape}
@@ -110,6 +110,40 @@ name_layout size =
     cond (nat_lt 0 size && nat_le size 48)
     (laid [] (bytes_of format.kind 2 ∷ bytes_of format.name_text size ∷ []))
     None
+
+-- so many numbers of a record that name records, from a place on
+abbrev pub pointers_from : ℕ → (ℕ → Pointer) → ℕ → List Pointer
+pointers_from zero pointer place = []
+pointers_from (suc n) pointer place = pointer place ∷ pointers_from n pointer (place + 4)
+
+-- a definition of the index, with its records of heads
+abbrev pub definition_layout : Option Layout
+definition_layout = laid
+    (may format.definition_next format.index_file
+    ∷ pointers_from format.definition_head_count (λ place. must place format.index_file)
+    format.definition_heads)
+    (bytes_of format.kind 1 ∷ bytes_of format.definition_label 60 ∷ [])
+
+-- a record of heads
+abbrev pub heads_layout : Option Layout
+heads_layout = laid
+    (pointers_from format.heads_count (λ place. may place format.index_file) format.heads_first)
+    (bytes_of format.kind 1 ∷ bytes_of format.heads_first 60 ∷ [])
+
+-- an entry, whose hash may be anything
+abbrev pub entry_layout : Option Layout
+entry_layout = laid
+    (must format.indexed_node format.nodes_file
+    ∷ may format.indexed_previous format.index_file ∷ may format.indexed_next format.index_file
+    ∷ [])
+    (bytes_of format.kind 1 ∷ bytes_of format.indexed_node 20 ∷ [])
+
+-- the layout of a record of the index that is in use, by its kind
+abbrev pub index_layout : ℕ → Option Layout
+index_layout kind =
+    cond (nat_eq kind format.definition) definition_layout
+    (cond (nat_eq kind format.heads) heads_layout
+    (cond (nat_eq kind format.indexed) entry_layout None))
 
 -- the layout of a record in use, by its file, where the kind is one of the file's
 abbrev pub used_layout : ℕ → Rec → ℕ → Option Layout
