@@ -1,4 +1,5 @@
 pub mod BlockLists
+pub mod BucketChange
 pub mod ChainLaws
 pub mod ChainSteps
 pub mod Changes
@@ -8,11 +9,14 @@ pub mod EdgeChange
 pub mod EdgeGone
 pub mod EdgeMade
 pub mod ElementProperties
+pub mod EntryGone
+pub mod EntryMade
 pub mod FilledGroups
 pub mod Frames
 pub mod GraphRows
 pub mod GroupLaws
 pub mod HeldChange
+pub mod IndexFrames
 pub mod LinkFits
 pub mod Made
 pub mod MemberLaws
@@ -20,6 +24,7 @@ pub mod Members
 pub mod MetaLaws
 pub mod NameMade
 pub mod NameRows
+pub mod NewIndexes
 pub mod NewStores
 pub mod NodeChange
 pub mod NodeGone
