@@ -45,6 +45,17 @@ after_in next f [] r h i = elim i [ ]
 after_in next f (x ∷ xs) r h (inl e) = ⊎_elim (λ n. inl (ap next e ∙ n)) (λ k. inr (inr (subst (λ z. In z xs) (ap next (sym e)) k))) (first_in next (next x) xs h.2)
 after_in next f (x ∷ xs) r h (inr i) = ⊎_elim (λ n. inl n) (λ k. inr (inr k)) (after_in next (next x) xs r h.2 i)
 
+-- what comes after the next one is another
+pub twice_other : (next : ℕ → ℕ) (f : ℕ) (xs : List ℕ) (x : ℕ) → IsWalk next f xs → In x xs → next x ≢ nil → next (next x) ≢ x
+twice_other next f [] x h i some q = elim i [ ]
+twice_other next f (y ∷ ys) x h (inl e) some q =
+    let again : next (next y) ≡ y = ap (λ z. next (next z)) (sym e) ∙ q ∙ e in
+    ⊎_elim (λ (none : next y ≡ nil). some (ap next e ∙ none))
+    (λ (there : In (next y) ys). ⊎_elim (λ (none : next (next y) ≡ nil). h.1 (sym again ∙ none))
+        (λ k. head_once next y ys h.1 h.2 (subst (λ z. In z ys) again k)) (after_in next (next y) ys (next y) h.2 there))
+    (first_in next (next y) ys h.2)
+twice_other next f (y ∷ ys) x h (inr i) some q = twice_other next (next y) ys x h.2 i some q
+
 -- before the first stands what the chain says
 pub first_before : (next prev : ℕ → ℕ) (b f : ℕ) (xs : List ℕ) (r : ℕ) → IsChain next prev b f xs → In r xs → f ≡ r → prev r ≡ b
 first_before next prev b f [] r h i e = elim i [ ]
@@ -58,6 +69,15 @@ before_in next prev b f (x ∷ xs) r h (inr i) = ⊎_elim
     (λ (e : next x ≡ r). inr (inl (first_before next prev x (next x) xs r h.3 i e)))
     (λ (k : In (prev r) xs). inr (inr k))
     (before_in next prev x (next x) xs r h.3 i)
+
+-- what comes before a member leads to it, or that one is the first
+pub next_before : (next prev : ℕ → ℕ) (b f : ℕ) (xs : List ℕ) (r : ℕ) → IsChain next prev b f xs → In r xs → ((f ≡ r) × (prev r ≡ b)) ⊎ (next (prev r) ≡ r)
+next_before next prev b f [] r h i = elim i [ ]
+next_before next prev b f (x ∷ xs) r h (inl e) = inl (h.0 ∙ sym e, ap prev e ∙ h.2)
+next_before next prev b f (x ∷ xs) r h (inr i) = inr (⊎_elim
+    (λ (k : (next x ≡ r) × (prev r ≡ x)). ap next k.1 ∙ k.0)
+    (λ (k : next (prev r) ≡ r). k)
+    (next_before next prev x (next x) xs r h.3 i))
 
 -- and what comes before it is another
 pub before_other : (next prev : ℕ → ℕ) (b f : ℕ) (xs : List ℕ) (x : ℕ) → (In b xs → ⊥) → IsChain next prev b f xs → In x xs → prev x ≢ x
