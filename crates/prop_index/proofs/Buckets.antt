@@ -1,0 +1,49 @@
+-- Buckets that are found, and their entries.
+use Rattle.std.proofs.Common.{◌≡◌, ℕ, List, ap, sym, ◌∙◌, subst, arith}
+use Rattle.rec_bytes.specs.Format as format
+use Rattle.rec_bytes.specs.Record.{field}
+use Rattle.rec_bytes.specs.Space.{SameButReads, State}
+use Rattle.store_rules.specs.Chains.{IsChain}
+use Rattle.store_rules.specs.Hashes.{bucket_of}
+use Rattle.store_rules.specs.Indexes.{AreIndexed, Entries, first_entry, index_rec, next_entry, previous_entry}
+use Rattle.store_rules.specs.Views.{Records, high, rec_at}
+use Rattle.store_rules.proofs.ChainLaws.{walk_of_chain}
+use Rattle.store_rules.proofs.Members.{length-once_below}
+use Rattle.store_rules.proofs.OnceLaws.{once_walk}
+use Rattle.store_rules.proofs.ViewLaws.{kind_below}
+use Rattle.prop_index.specs.Gathering.{AreEntries}
+use Rattle.prop_index.specs.Heads.{IsBucketOf, IsFoundBucket, IsHead}
+use Rattle.prop_index.specs.Leaving.{IsBucketChain}
+use Rattle.prop_index.specs.declared.heads.Bucket.{Bucket}
+
+-- it begins where the definition says
+pub bucket-first : (records : Records) (d number : ℕ) (bucket : Bucket) → IsBucketOf records d number bucket → bucket.first ≡ first_entry records d number
+bucket-first records d number bucket is = is.head.first_is ∙ (λ i. field 4 (index_rec records (is.id_is i)) (is.place_is i))
+
+-- its entries are those of the index
+pub bucket-chain : (s : Records) (wanted : Entries) (ix : AreIndexed s wanted) (label key hash : ℕ) (bucket : Bucket) (found : IsFoundBucket s ix.definitions label key hash bucket)
+    → IsBucketChain s bucket.first (ix.lists found.definition (bucket_of hash))
+bucket-chain s wanted ix label key hash bucket found =
+    let is = ix.buckets found.definition (bucket_of hash) found.listed (omega arith) in
+    record {
+      chain = subst (λ f. IsChain (next_entry s) (previous_entry s) format.nil f (ix.lists found.definition (bucket_of hash))) (sym (bucket-first s found.definition (bucket_of hash) bucket found.is)) is.chain;
+      kind = is.kind;
+    }
+
+-- there are no more of them than were given out
+pub chain-entries : (s : State) (first : ℕ) (xs : List ℕ) → IsBucketChain s.records first xs → AreEntries s first xs
+chain-entries s first xs is =
+    let walk = walk_of_chain _ _ _ _ xs is.chain in
+    record {
+      walk = walk;
+      few = length-once_below xs (high s.records format.index_file) (once_walk _ _ xs walk)
+          (λ x i. kind_below (high s.records format.index_file) (rec_at s.records format.index_file x) x (λ e. let k = is.kind x i in omega (arith, e, k)));
+      kind = is.kind;
+    }
+
+-- after reads they are what they were
+pub chain-reread : (s z : State) (first : ℕ) (xs : List ℕ) → SameButReads s z → IsBucketChain s.records first xs → IsBucketChain z.records first xs
+chain-reread s z first xs same is = subst (λ (r : Records). IsBucketChain r first xs) (sym (ap (λ (y : State). y.records) same)) is
+
+pub head-reread : (s z : State) (bucket : Bucket) → SameButReads s z → IsHead s.records bucket → IsHead z.records bucket
+head-reread s z bucket same is = subst (λ (r : Records). IsHead r bucket) (sym (ap (λ (y : State). y.records) same)) is

@@ -1,0 +1,12 @@
+mod Ascending
+mod Buckets
+mod Changed
+mod Found
+mod Gathers
+mod Lookups
+mod Made
+mod Reread
+mod Searches
+mod Unlinked
+mod Values
+mod Walks

@@ -1,0 +1,110 @@
+-- A lookup in a store.
+use Rattle.std.proofs.Common.{◌≡◌, ◌≢◌, ◌<◌, ◌+◌, ◌*◌, ℕ, true, List, length, refl, sym, ◌∙◌, subst, inl, arith}
+use Rattle.std.specs.List.Sorted.{IsNonDecreasing, IsPermutation}
+use Rattle.std.specs.Prelude.{Result, Err, IfErr}
+use Rattle.std.specs.Result.{IsErrAnd}
+use Rattle.std.proofs.lemmas.Result.{err_from_is_err_and}
+use Rattle.plain_graph.specs.declared.value.Value.{Value}
+use Rattle.rec_bytes.specs.declared.fault.Fault.{Fault}
+use Rattle.rec_bytes.specs.declared.fault.Fault.TheVariants as fault
+use Rattle.rec_bytes.specs.Fault as faults
+use Rattle.rec_bytes.specs.Format as format
+use Rattle.rec_bytes.specs.RecordFiles.{is_meta_file}
+use Rattle.rec_bytes.specs.Space.{SameButReads, State}
+use Rattle.store_rules.specs.Chains.{In, IsWalk}
+use Rattle.store_rules.specs.Hashes.{bucket_of, hash_of}
+use Rattle.store_rules.specs.Indexes.{IsIndexed, entry_node, first_definition, indexed_key, next_definition, wanted_in}
+use Rattle.store_rules.specs.Views.{Records, high, kind_at, rec_at}
+use Rattle.store_rules.proofs.PropertyWalks.{walk_is}
+use Rattle.store_rules.proofs.Shapes.{high_most}
+use Rattle.store_rules.proofs.ViewLaws.{kind_below}
+use Rattle.prop_store.specs.Changing.{HasElement}
+use Rattle.prop_store.specs.Owner.{IsOwner}
+use Rattle.prop_store.specs.Reading.{ReadsAtMost}
+use Rattle.prop_store.proofs.ElementChanges.{has_properties}
+use Rattle.prop_store.proofs.ElementGraphs.{listed_at, owns_listed}
+use Rattle.prop_store.proofs.ReadCounts.{reads_then}
+use Rattle.prop_index.specs.Gathering.{AreEntries, AreReadable, IsListedNode, count_hashed, node_owner, nodes_with}
+use Rattle.prop_index.specs.Heads.{IsFoundBucket}
+use Rattle.prop_index.specs.Looking.{IsRefusal, ReadsForLookup, found_in, of_fault}
+use Rattle.prop_index.specs.Reading.{HasRoom}
+use Rattle.prop_index.specs.declared.heads.Bucket.{Bucket}
+use Rattle.prop_index.specs.declared.lookup_fault.LookupFault.{LookupFault}
+use Rattle.prop_index.proofs.Buckets.{bucket-chain, chain-entries, chain-reread}
+use Rattle.prop_index.proofs.Found.{found_sorted, node_of_entry, walk}
+use Rattle.prop_index.proofs.Reread.{node_after, room_after, same_records}
+
+-- a fault that is no damage is a refusal
+pub refusal_of : (records : Records) (label key : ℕ) (f : Fault) → faults.NotDamaged {T = ℕ} (Err f) → IsRefusal records label key (of_fault f)
+refusal_of records label key fault.Memory is = tt
+refusal_of records label key fault.Disk is = tt
+refusal_of records label key (fault.Damaged damage) is = is
+
+pub refused_exit : {T U : Type 0} (records : Records) (label key : ℕ) (r : Result T LookupFault) (q : Result U Fault) (f : Fault) → q ≡ Err f → IsErrAnd r (λ e. e ≡ of_fault f) → faults.NotDamaged q
+    → IfErr r (IsRefusal records label key)
+refused_exit {T = T} records label key r q f is h sound =
+    let p = err_from_is_err_and r h in
+    subst (λ (z : Result T LookupFault). IfErr z (IsRefusal records label key)) (sym p.1)
+    (subst (IsRefusal records label key) (sym p.2) (refusal_of records label key f (subst faults.NotDamaged is sound)))
+
+module _ (s : State) (store : IsIndexed s.records s.shape) where
+  -- any list of the definitions is theirs
+  pub definitions_are : (ds : List ℕ) → IsWalk (next_definition s.records) (first_definition s.records) ds → ds ≡ store.indexes.definitions
+  definitions_are ds walked = walk_is (next_definition s.records) (first_definition s.records) ds store.indexes.definitions walked store.indexes.walk
+
+  pub has_room : (file : ℕ) → is_meta_file file ≡ true → HasRoom s file
+  has_room file is = (store.store.ranges.metas file is).high
+
+  -- a node in use can be read
+  node_listed : (n : ℕ) → kind_at s.records format.nodes_file n ≢ format.free_kind → IsListedNode s n
+  node_listed n used =
+      let low : n < high s.records format.nodes_file = kind_below (high s.records format.nodes_file) (rec_at s.records format.nodes_file n) n used in
+      let most = high_most s.records s.shape format.nodes_file store.store.ranges refl in
+      let is : IsOwner (node_owner n) = record { key = record { file = refl; id = omega arith }; file = inl refl; place = refl } in
+      let has : HasElement s (node_owner n) = record { store = store.store; used = used } in
+      let es = listed_at s (node_owner n) is has in
+      record { room = has_room format.nodes_file refl; low = low; properties = es; has = has_properties s (node_owner n) es (owns_listed s (node_owner n) is has) }
+
+  -- ---- the bucket that was found
+  module _ (label key : ℕ) (value : Value) (hash : ℕ) (hashed : hash ≡ hash_of value) (bucket : Bucket) (found : IsFoundBucket s.records store.indexes.definitions label key hash bucket)
+      (z : State) (same : SameButReads s z) where
+    abbrev d : ℕ
+    d = found.definition
+
+    abbrev pub entries : List ℕ
+    entries = store.indexes.lists d (bucket_of hash)
+
+    pub are_entries : AreEntries z bucket.first entries
+    are_entries = chain-entries z bucket.first entries (chain-reread s z bucket.first entries same (bucket-chain s.records (wanted_in s.records) store.indexes label key hash bucket found))
+
+    pub are_readable : AreReadable z hash entries
+    are_readable = record {
+      room = room_after s z format.index_file same (has_room format.index_file refl);
+      nodes = λ x i e. subst (λ (r : Records). IsListedNode z (entry_node r x)) (sym (same_records s z same))
+          (node_after s z (entry_node s.records x) same (node_listed (entry_node s.records x) (node_of_entry s store d found.listed value x (subst (λ h. In x (store.indexes.lists d (bucket_of h))) hashed i))));
+    }
+
+    pub found_is : (nodes sorted : List ℕ) → nodes ≡ nodes_with z.records key hash value entries → IsPermutation nodes sorted → IsNonDecreasing sorted → sorted ≡ found_in s.records label key value
+    found_is nodes sorted is moved ascends =
+        let nodes_are : nodes ≡ nodes_with s.records (indexed_key s.records d) (hash_of value) value (store.indexes.lists d (bucket_of (hash_of value)))
+        = is ∙ (λ i. nodes_with (same_records s z same i) (sym found.pair.1 i) (hashed i) value (store.indexes.lists d (bucket_of (hashed i)))) in
+        found_sorted s store d found.listed value sorted (subst (λ (ns : List ℕ). IsPermutation ns sorted) nodes_are moved) ascends
+        ∙ (λ i. found_in s.records (found.pair.0 i) (found.pair.1 i) value)
+
+    pub lookup_reads : (after : State) → ReadsAtMost (2 + length store.indexes.definitions) s z → ReadsAtMost (length entries + 55 * count_hashed z.records hash entries) z after
+        → ReadsForLookup label key value s after
+    lookup_reads after first later =
+        let xs = store.indexes.lists d (bucket_of (hash_of value)) in
+        let gathered : ReadsAtMost (length xs + 55 * count_hashed s.records (hash_of value) xs) z after
+        = subst (λ (n : ℕ). ReadsAtMost n z after)
+        (λ i. length (store.indexes.lists d (bucket_of (hashed i))) + 55 * count_hashed (same_records s z same i) (hashed i) (store.indexes.lists d (bucket_of (hashed i)))) later in
+        record {
+          definitions = store.indexes.definitions;
+          walk = store.indexes.walk;
+          definition = d;
+          listed = found.listed;
+          pair = found.pair;
+          entries = xs;
+          bucket = walk s store d found.listed value;
+          reads = reads_then (2 + length store.indexes.definitions) (length xs + 55 * count_hashed s.records (hash_of value) xs) _ s z after (omega arith) first gathered;
+        }

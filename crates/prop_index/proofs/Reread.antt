@@ -1,0 +1,34 @@
+-- What holds of a space holds of it after reads.
+use Rattle.std.proofs.Common.{◌≡◌, ℕ, List, ap, sym, ◌∙◌, subst}
+use Rattle.rec_bytes.specs.Format as format
+use Rattle.rec_bytes.specs.Space.{SameButReads, State}
+use Rattle.store_rules.specs.Indexes.{AreIndexed, Entries}
+use Rattle.id_freelist.specs.Taking.{CanTake}
+use Rattle.prop_index.specs.Finding.{AreDefinitions}
+use Rattle.prop_index.specs.Gathering.{IsListedNode}
+use Rattle.prop_index.specs.Reading.{HasRoom}
+use Rattle.store_rules.specs.Views.{Records}
+
+-- reads after reads
+pub same_then : (a b c : State) → SameButReads a b → SameButReads b c → SameButReads a c
+same_then a b c h k = k ∙ ap (λ (z : State). record z { reads = c.reads }) h
+
+pub same_records : (a b : State) → SameButReads a b → b.records ≡ a.records
+same_records a b same = ap (λ (z : State). z.records) same
+
+pub room_after : (s z : State) (file : ℕ) → SameButReads s z → HasRoom s file → HasRoom z file
+room_after s z file same room = subst (λ (y : State). HasRoom y file) (sym same) room
+
+pub node_after : (s z : State) (n : ℕ) → SameButReads s z → IsListedNode s n → IsListedNode z n
+node_after s z n same listed =
+    let at : IsListedNode (record s { reads = z.reads }) n = record { room = listed.room; low = listed.low; properties = listed.properties; has = listed.has } in
+    subst (λ (y : State). IsListedNode y n) (sym same) at
+
+pub can_after : (s z : State) (free : List ℕ) → SameButReads s z → CanTake s format.index_file free → CanTake z format.index_file free
+can_after s z free same can =
+    let at : CanTake (record s { reads = z.reads }) format.index_file free = record { list = can.list; low = can.low; unused = can.unused; count = can.count; mark = can.mark } in
+    subst (λ (y : State). CanTake y format.index_file free) (sym same) at
+
+-- the definitions of indexes
+pub definitions_of : (s : Records) (wanted : Entries) (ix : AreIndexed s wanted) → AreDefinitions s ix.definitions
+definitions_of s wanted ix = record { walk = ix.walk; few = ix.few; defined = ix.defined }

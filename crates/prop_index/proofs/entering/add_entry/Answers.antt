@@ -1,0 +1,21 @@
+use Rattle.std.proofs.Common.{◌<◌, ◌^◌, sym, subst, rules}
+use Rattle.rec_bytes.specs.Space.{State}
+use Rattle.store_rules.specs.IndexChange.{IsEntryMade}
+use Rattle.prop_index.proofs.Made.{below_taken, made}
+use Rattle.prop_index.proofs.entering.add_entry.Goals as goal
+
+pub returns-clause-made : goal.returns-clause-made
+returns-clause-made g c tells free head can right =
+    let s = (g.S.Reads.state c.args.space.now).records in
+    let u = g.S.Reads.state c.take.new.space in
+    let bucket = c.args.bucket in
+    let content = c.args.content in
+    let id = c.in_ok-id.id in
+    let taken = c.in_ok-id.ensures.taken tells free can.list in
+    let node_fits : content.node < 2 ^ 32 = search rules in
+    let hash_fits : content.hash < 2 ^ 64 = search rules in (
+      id,
+      subst (λ (z : State). IsEntryMade s z.records id bucket.slot.id bucket.slot.place content.node content.hash) (sym (c.in_ok-link.ensures.ok tells))
+          (made s u bucket.slot bucket.first id content free taken (below_taken s u.records id free taken can.low) (c.in_ok-id.ensures.fresh tells) c.in_ok-id.ensures.key.id
+          head.heads head.first_is right node_fits hash_fits),
+    )

@@ -1,0 +1,45 @@
+use Rattle.std.specs.Prelude.{Result, Ok, Err, OnOk}
+use Rattle.std.proofs.Common.{ℕ, ap, sym, ◌∙◌, subst}
+use Rattle.rec_bytes.specs.Space.{SameButReads}
+use Rattle.store_rules.specs.Indexes.{AreIndexed, Entry, with_entry}
+use Rattle.store_rules.specs.Views.{Records}
+use Rattle.prop_store.proofs.ReadCounts.{reads_same}
+use Rattle.prop_index.specs.Entering.{IsMade, entry_of}
+use Rattle.prop_index.specs.Heads.{IsBucketSought}
+use Rattle.prop_index.specs.declared.entry_row.Content.{Content}
+use Rattle.prop_index.proofs.Buckets.{head-reread}
+use Rattle.prop_index.proofs.Changed.{entered_in, unlisted_entered}
+use Rattle.prop_index.proofs.Reread.{can_after, same_records}
+use Rattle.prop_index.proofs.entering.enter.Goals as goal
+
+on_ok : {T E : Type 0} {P Q : Type 0} (r : Result T E) → (P → Q) → OnOk r P → OnOk r Q
+on_ok (Ok x) f p = f p
+on_ok (Err e) f p = tt
+
+pub returns-in-Ok-None-clause-entered : goal.returns-in-Ok-None-clause-entered
+returns-in-Ok-None-clause-entered g c tells wanted free ix can unwanted =
+    let s = g.S.Reads.state c.args.space.now in
+    let now = g.S.Reads.state c.find_bucket.new.space in
+    let same : SameButReads s now = reads_same 18 s now c.find_bucket.ensures.at_most in
+    let content : Content = record { node = c.args.node; hash = c.hash_of-hash.result } in
+    let none = subst (IsBucketSought s.records ix.definitions c.args.label c.args.key c.hash_of-hash.result) c.in-Ok-None.field-0-is (c.in-Ok-None.ensures.found tells wanted ix) in
+    subst (λ (r : Records). AreIndexed r (with_entry wanted (entry_of c.args.label c.args.key c.args.node c.args.value.now))) (sym (same_records s now same))
+    (subst (λ (h : ℕ). AreIndexed s.records (with_entry wanted (record { label = c.args.label; key = c.args.key; node = c.args.node; hash = h }))) c.hash_of-hash.ensures
+    (unlisted_entered s.records wanted ix c.args.label c.args.key content none))
+
+pub returns-clause-entered : goal.returns-clause-entered
+returns-clause-entered g c tells wanted free ix can unwanted =
+    let s = g.S.Reads.state c.args.space.now in
+    let now = g.S.Reads.state c.find_bucket.new.space in
+    let t = g.S.Reads.state c.add_entry.new.space in
+    let same : SameButReads s now = reads_same 18 s now c.find_bucket.ensures.at_most in
+    let records = same_records s now same in
+    let content : Content = record { node = c.args.node; hash = c.hash_of-hash.result } in
+    let bucket = c.in-Ok-Some.bucket in
+    let found = subst (IsBucketSought s.records ix.definitions c.args.label c.args.key c.hash_of-hash.result) c.in-Ok-Some.field-0-is (c.in-Ok-Some.ensures.found tells wanted ix) in
+    let hashed : (h : ℕ) → Entry = λ h. record { label = c.args.label; key = c.args.key; node = c.args.node; hash = h } in
+    on_ok c.add_entry.result
+    (λ made. subst (λ (h : ℕ). AreIndexed t.records (with_entry wanted (hashed h))) c.hash_of-hash.ensures
+    (entered_in s.records wanted ix c.args.label c.args.key content bucket found t.records (subst (λ (r : Records). IsMade r t.records bucket content) records made)
+    (ap (λ (h : ℕ). wanted (hashed h)) c.hash_of-hash.ensures ∙ unwanted)))
+    (c.add_entry.ensures.made tells free (head-reread s now bucket same found.is.head) (can_after s now free same can))

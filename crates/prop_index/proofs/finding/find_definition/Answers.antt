@@ -1,0 +1,82 @@
+use Rattle.std.proofs.Common.{◌≡◌, ℕ, arith, ap, sym, ◌∙◌, subst}
+use Rattle.std.proofs.lemmas.Bool.{true≢false}
+use Rattle.std.proofs.lemmas.Result.{err_from_is_err_and}
+use Rattle.rec_bytes.specs.declared.record.Rec.{Rec}
+use Rattle.rec_bytes.specs.Format as format
+use Rattle.rec_bytes.specs.Record.{field}
+use Rattle.store_rules.specs.Chains.{IsWalk}
+use Rattle.store_rules.specs.Indexes.{index_rec, next_definition}
+use Rattle.store_rules.specs.Views.{Records, kind_at}
+use Rattle.prop_store.proofs.ReadCounts.{reads_one, reads_records, reads_same, reads_then}
+use Rattle.prop_index.proofs.Reread.{room_after}
+use Rattle.prop_index.proofs.Searches.{search_begins, search_here, search_on, search_over}
+use Rattle.prop_index.proofs.finding.find_definition.Goals as goal
+
+pub returns-in_err-meta-clause-at_most : goal.returns-in_err-meta-clause-at_most
+returns-in_err-meta-clause-at_most g c = reads_one 17 _ _ (omega arith) c.get.ensures.state
+
+pub loop-init : goal.loop-init
+loop-init g c =
+    let s = g.R.Reads.state c.args.space.now in
+    record {
+      told = λ tells ds are. search_begins _ _ ds c.number-at.result (subst (λ (n : ℕ). IsWalk (next_definition s.records) n ds)
+          (sym (c.number-at.ensures ∙ ap (λ (r : Rec). field 4 r format.meta_definition) (c.in_ok-meta.ensures.got tells ∙ ap (λ k. s.records k) c.meta_key.ensures))) are.walk);
+      reads = reads_one 1 _ _ (omega arith) c.get.ensures.state;
+      onward = c.get.ensures.onward;
+      later = c.get.ensures.cause.later;
+    }
+
+pub returns-then-at-clause-found : goal.returns-then-at-clause-found
+returns-then-at-clause-found g c tells ds are = search_over _ _ ds c.loop.at c.loop.counter (c.loop.invariant.told tells ds are) c.if-at.true
+
+pub returns-in_err-rec-clause-sound : goal.returns-in_err-rec-clause-sound
+returns-in_err-rec-clause-sound g c tells ds are room =
+    let s = g.R.Reads.state c.args.space.now in
+    let now = g.R.Reads.state c.loop.space in
+    let here = search_here _ _ ds c.loop.at c.loop.counter (c.loop.invariant.told tells ds are) c.if-at.false in
+    let p = err_from_is_err_and c.from_residual-in_err-rec.result c.from_residual-in_err-rec.ensures.1 in
+    rw (p.1, p.2) (c.in_err-rec.ensures.sound tells (room_after s now format.index_file (reads_same _ s now c.loop.invariant.reads) room)
+    (ap (λ (r : Records). kind_at r format.index_file c.loop.at) (reads_records _ s now c.loop.invariant.reads) ∙ are.defined c.loop.at here.0))
+
+pub returns-in_err-rec-clause-at_most : goal.returns-in_err-rec-clause-at_most
+returns-in_err-rec-clause-at_most g c = reads_then _ 1 17 _ _ _ (omega arith) c.loop.invariant.reads c.in_err-rec.ensures.at_most
+
+pub returns-then-is_of_pair-clause-found : goal.returns-then-is_of_pair-clause-found
+returns-then-is_of_pair-clause-found g c tells ds are = (search_here _ _ ds c.loop.at c.loop.counter (c.loop.invariant.told tells ds are) c.if-at.false).0
+
+pub returns-then-is_of_pair-clause-defined : goal.returns-then-is_of_pair-clause-defined
+returns-then-is_of_pair-clause-defined g c tells =
+    let s = g.R.Reads.state c.args.space.now in
+    let now = g.R.Reads.state c.loop.space in
+    let same = reads_records _ s now c.loop.invariant.reads in
+    let rec_is : c.in_ok-rec.rec ≡ index_rec s.records c.loop.at = c.in_ok-rec.ensures.got tells ∙ ap (λ (r : Records). index_rec r c.loop.at) same in
+    let says = c.is_of_pair.ensures.0 c.if-is_of_pair.true in
+    record {
+      rec_is = rec_is;
+      used = ap (λ (r : Records). kind_at r format.index_file c.loop.at) (sym same) ∙ c.in_ok-rec.ensures.used tells;
+      pair = (ap (λ (r : Rec). field 4 r format.definition_label) (sym rec_is) ∙ says.0, ap (λ (r : Rec). field 4 r format.definition_key) (sym rec_is) ∙ says.1);
+    }
+
+pub returns-then-is_of_pair-clause-cost : goal.returns-then-is_of_pair-clause-cost
+returns-then-is_of_pair-clause-cost g c tells ds are =
+    let few = (search_here _ _ ds c.loop.at c.loop.counter (c.loop.invariant.told tells ds are) c.if-at.false).1 in
+    reads_then _ 1 _ _ _ _ (omega (arith, few)) c.loop.invariant.reads c.in_ok-rec.ensures.at_most
+
+pub returns-then-is_of_pair-clause-at_most : goal.returns-then-is_of_pair-clause-at_most
+returns-then-is_of_pair-clause-at_most g c = reads_then _ 1 17 _ _ _ (omega arith) c.loop.invariant.reads c.in_ok-rec.ensures.at_most
+
+pub loop-preserved : goal.loop-preserved
+loop-preserved g c =
+    let s = g.R.Reads.state c.args.space.now in
+    let now = g.R.Reads.state c.loop.space in
+    let same = reads_records _ s now c.loop.invariant.reads in
+    record {
+      told = λ tells ds are.
+          let rec_is : c.in_ok-rec.rec ≡ index_rec s.records c.loop.at = c.in_ok-rec.ensures.got tells ∙ ap (λ (r : Records). index_rec r c.loop.at) same in
+          search_on _ _ ds c.loop.at c.loop.counter (c.loop.invariant.told tells ds are) c.number-at-in-loop.result c.if-at.false
+          (c.number-at-in-loop.ensures ∙ ap (λ (r : Rec). field 4 r format.definition_next) rec_is)
+          (λ pair. true≢false (sym (c.is_of_pair.ensures.1 (ap (λ (r : Rec). field 4 r format.definition_label) rec_is ∙ pair.0, ap (λ (r : Rec). field 4 r format.definition_key) rec_is ∙ pair.1)) ∙ c.if-is_of_pair.false));
+      reads = reads_then _ 1 _ _ _ _ (omega arith) c.loop.invariant.reads c.in_ok-rec.ensures.at_most;
+      onward = g.met.R.Reads.further_onward _ _ _ c.loop.invariant.onward c.in_ok-rec.ensures.onward;
+      later = omega (arith, c.loop.invariant.later, c.in_ok-rec.ensures.cause.later);
+    }

@@ -1,0 +1,78 @@
+use Rattle.std.proofs.Common.{◌≡◌, ◌*◌, ◌++◌, cond, [], ◌∷◌, arith, ap, sym, ◌∙◌, subst, refl}
+use Rattle.std.proofs.lemmas.Result.{err_from_is_err_and}
+use Rattle.rec_bytes.specs.declared.record.Rec.{Rec}
+use Rattle.rec_bytes.specs.Format as format
+use Rattle.rec_bytes.specs.Record.{field}
+use Rattle.rec_bytes.specs.Space.{SameButReads}
+use Rattle.store_rules.specs.Indexes.{entry_hash, entry_node, index_rec}
+use Rattle.store_rules.specs.Views.{Records, kind_at}
+use Rattle.prop_store.specs.Reading.{ReadsAtMost}
+use Rattle.prop_store.proofs.ReadCounts.{reads_same, reads_then}
+use Rattle.prop_index.specs.Gathering.{IsListedNode, is_hashed, is_picked}
+use Rattle.prop_index.proofs.Gathers.{gather_begins, gather_cost, gather_here, gather_on, gather_over}
+use Rattle.prop_index.proofs.Reread.{node_after, room_after, same_records, same_then}
+use Rattle.prop_index.proofs.gathering.gather.Goals as goal
+
+pub loop-init : goal.loop-init
+loop-init g c = record {
+  told = λ tells xs are. gather_begins _ _ _ _ xs c.args.first _ c.new-nodes.ensures.items are;
+  same = refl;
+  onward = g.met.R.Reads.stays_onward _;
+  later = omega arith;
+}
+
+pub returns-then-at-clause-found : goal.returns-then-at-clause-found
+returns-then-at-clause-found g c tells xs are = gather_over _ _ _ _ _ xs _ _ _ (c.loop.invariant.told tells xs are) c.if-at.true
+
+pub returns-then-at-clause-cost : goal.returns-then-at-clause-cost
+returns-then-at-clause-cost g c tells xs are = gather_cost _ _ _ _ _ xs _ _ _ (c.loop.invariant.told tells xs are) c.if-at.true
+
+pub returns-in_err-rec-clause-sound : goal.returns-in_err-rec-clause-sound
+returns-in_err-rec-clause-sound g c tells xs are readable =
+    let s = g.R.Reads.state c.args.space.now in
+    let now = g.R.Reads.state c.loop.space in
+    let same = c.loop.invariant.same in
+    let here = gather_here _ _ _ _ _ xs _ _ _ (c.loop.invariant.told tells xs are) c.if-at.false in
+    let p = err_from_is_err_and c.from_residual.result c.from_residual.ensures.1 in
+    rw (p.1, p.2) (c.in_err-rec.ensures.sound tells (room_after s now format.index_file same readable.room)
+    (ap (λ (r : Records). kind_at r format.index_file c.loop.at) (same_records s now same) ∙ are.kind c.loop.at here.0))
+
+pub returns-in_err-add_node-clause-sound : goal.returns-in_err-add_node-clause-sound
+returns-in_err-add_node-clause-sound g c tells xs are readable =
+    let s = g.R.Reads.state c.args.space.now in
+    let now = g.R.Reads.state c.loop.space in
+    let then = g.R.Reads.state c.record_at.new.space in
+    let same = c.loop.invariant.same in
+    let same_now : SameButReads s then = same_then s now then same (reads_same 1 now then c.in_ok-rec.ensures.at_most) in
+    let here = gather_here _ _ _ _ _ xs _ _ _ (c.loop.invariant.told tells xs are) c.if-at.false in
+    let rec_is : c.in_ok-rec.rec ≡ index_rec then.records c.loop.at = c.in_ok-rec.ensures.got tells ∙ ap (λ (r : Records). index_rec r c.loop.at) (sym (same_records now then (reads_same 1 now then c.in_ok-rec.ensures.at_most))) in
+    let p = err_from_is_err_and c.from_residual-in_err-add_node.result c.from_residual-in_err-add_node.ensures.1 in
+    let gone = same_records s then same_now in
+    rw (p.1, p.2) (c.in_err-add_node.ensures.sound tells c.loop.at rec_is
+    (λ e. node_after s then _ same_now (subst (λ (r : Records). IsListedNode s (entry_node r c.loop.at)) (sym gone) (readable.nodes c.loop.at here.0 (ap (λ (r : Records). entry_hash r c.loop.at) (sym gone) ∙ e)))))
+
+pub loop-preserved : goal.loop-preserved
+loop-preserved g c =
+    let s = g.R.Reads.state c.args.space.now in
+    let now = g.R.Reads.state c.loop.space in
+    let then = g.R.Reads.state c.record_at.new.space in
+    let after = g.R.Reads.state c.add_node.new.space in
+    let first = reads_same 1 now then c.in_ok-rec.ensures.at_most in
+    let same_now : SameButReads s then = same_then s now then c.loop.invariant.same first in
+    record {
+      told = λ tells xs are.
+          let told = c.loop.invariant.told tells xs are in
+          let was = same_records s now c.loop.invariant.same in
+          let rec_is : c.in_ok-rec.rec ≡ index_rec s.records c.loop.at = c.in_ok-rec.ensures.got tells ∙ ap (λ (r : Records). index_rec r c.loop.at) was in
+          let gone = same_records s then same_now in
+          let rec_then : c.in_ok-rec.rec ≡ index_rec then.records c.loop.at = rec_is ∙ ap (λ (r : Records). index_rec r c.loop.at) (sym gone) in
+          gather_on s now _ _ _ xs c.loop.at c.loop.counter _ told after c.number-at.result _ c.if-at.false
+          (c.number-at.ensures ∙ ap (λ (r : Rec). field 4 r format.indexed_next) rec_is)
+          (subst (λ (r : Records). c.add_node.new.nodes.items ≡ c.loop.nodes.items ++ cond (is_picked r c.args.sought.key c.args.sought.hash c.args.value.now c.loop.at) (entry_node r c.loop.at ∷ []) []) gone
+          (c.in_ok-add_node.ensures.added tells c.loop.at rec_then))
+          (reads_then 1 _ _ now then after (omega arith) c.in_ok-rec.ensures.at_most
+          (subst (λ (r : Records). ReadsAtMost (55 * cond (is_hashed r c.args.sought.hash c.loop.at) 1 0) then after) gone (c.in_ok-add_node.ensures.cost c.loop.at rec_then)));
+      same = same_then s then after same_now (reads_same 55 then after c.in_ok-add_node.ensures.at_most);
+      onward = g.met.R.Reads.further_onward _ _ _ (g.met.R.Reads.further_onward _ _ _ c.loop.invariant.onward c.in_ok-rec.ensures.onward) c.in_ok-add_node.ensures.onward;
+      later = omega (arith, c.loop.invariant.later, c.in_ok-rec.ensures.cause.later, c.in_ok-add_node.ensures.cause.later);
+    }

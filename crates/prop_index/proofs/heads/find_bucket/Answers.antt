@@ -1,0 +1,58 @@
+use Rattle.std.proofs.Common.{◌≡◌, ◌/◌, ◌+◌, ℕ, length, ap, sym, ◌∙◌, subst, arith}
+use Rattle.std.proofs.lemmas.Result.{err_from_is_err_and}
+use Rattle.rec_bytes.specs.Format as format
+use Rattle.rec_bytes.specs.Space.{SameButReads}
+use Rattle.store_rules.specs.Chains.{In}
+use Rattle.store_rules.specs.Indexes.{heads_of, index_rec}
+use Rattle.store_rules.specs.Views.{Records, kind_at}
+use Rattle.prop_store.proofs.ReadCounts.{reads_same, reads_then}
+use Rattle.prop_index.specs.Finding.{IsDefined, IsFound}
+use Rattle.prop_index.specs.Heads.{IsBucketOf}
+use Rattle.prop_index.proofs.Reread.{definitions_of, room_after, same_records}
+use Rattle.prop_index.proofs.heads.find_bucket.Goals as goal
+
+pub returns-in_default-clause-found : goal.returns-in_default-clause-found
+returns-in_default-clause-found g c tells wanted ix =
+    let s = g.R.Reads.state c.args.space.now in
+    subst (IsFound s.records ix.definitions c.args.label c.args.key) c.in_default.is (c.in_ok-definition.ensures.found tells ix.definitions (definitions_of s.records wanted ix))
+
+pub returns-clause-found : goal.returns-clause-found
+returns-clause-found g c tells wanted ix =
+    let s = g.R.Reads.state c.args.space.now in
+    let now = g.R.Reads.state c.find_definition.new.space in
+    let records = same_records s now (reads_same 17 s now c.in_ok-definition.ensures.at_most) in
+    let definition = c.in-Some.definition in
+    let pair = subst (IsDefined s.records c.args.label c.args.key) c.in-Some.is (c.in_ok-definition.ensures.defined tells) in
+    let rec_is : definition.rec ≡ index_rec now.records definition.id = pair.rec_is ∙ ap (λ (r : Records). index_rec r definition.id) (sym records) in
+    record {
+      definition = definition.id;
+      listed = subst (IsFound s.records ix.definitions c.args.label c.args.key) c.in-Some.is (c.in_ok-definition.ensures.found tells ix.definitions (definitions_of s.records wanted ix));
+      pair = pair.pair;
+      is = subst (λ (p : Records × ℕ). IsBucketOf p.0 definition.id p.1 c.in_ok-bucket.bucket) (λ i. (records i, c.bucket_of.ensures.is i)) (c.in_ok-bucket.ensures.is tells rec_is);
+    }
+
+pub returns-in_err-bucket-clause-sound : goal.returns-in_err-bucket-clause-sound
+returns-in_err-bucket-clause-sound g c tells wanted ix room =
+    let s = g.R.Reads.state c.args.space.now in
+    let now = g.R.Reads.state c.find_definition.new.space in
+    let same : SameButReads s now = reads_same 17 s now c.in_ok-definition.ensures.at_most in
+    let records = same_records s now same in
+    let definition = c.in-Some.definition in
+    let pair = subst (IsDefined s.records c.args.label c.args.key) c.in-Some.is (c.in_ok-definition.ensures.defined tells) in
+    let listed : In definition.id ix.definitions = subst (IsFound s.records ix.definitions c.args.label c.args.key) c.in-Some.is (c.in_ok-definition.ensures.found tells ix.definitions (definitions_of s.records wanted ix)) in
+    let low = c.bucket_of.ensures.low in
+    let heads : kind_at now.records format.index_file (heads_of now.records definition.id (c.bucket_of.result / 15)) ≡ format.heads
+    = ap (λ (r : Records). kind_at r format.index_file (heads_of r definition.id (c.bucket_of.result / 15))) records ∙ ix.heads definition.id (c.bucket_of.result / 15) listed (omega (arith, low)) in
+    let p = err_from_is_err_and c.from_residual-in_err-bucket.result c.from_residual-in_err-bucket.ensures.1 in
+    rw (p.1, p.2) (c.in_err-bucket.ensures.sound tells (pair.rec_is ∙ ap (λ (r : Records). index_rec r definition.id) (sym records)) (room_after s now format.index_file same room) heads)
+
+pub returns-in_err-bucket-clause-at_most : goal.returns-in_err-bucket-clause-at_most
+returns-in_err-bucket-clause-at_most g c = reads_then 17 1 18 _ _ _ (omega arith) c.in_ok-definition.ensures.at_most c.in_err-bucket.ensures.at_most
+
+pub returns-clause-cost : goal.returns-clause-cost
+returns-clause-cost g c tells wanted ix =
+    let s = g.R.Reads.state c.args.space.now in
+    reads_then (1 + length ix.definitions) 1 (2 + length ix.definitions) _ _ _ (omega arith) (c.in_ok-definition.ensures.cost tells ix.definitions (definitions_of s.records wanted ix)) c.in_ok-bucket.ensures.at_most
+
+pub returns-clause-at_most : goal.returns-clause-at_most
+returns-clause-at_most g c = reads_then 17 1 18 _ _ _ (omega arith) c.in_ok-definition.ensures.at_most c.in_ok-bucket.ensures.at_most

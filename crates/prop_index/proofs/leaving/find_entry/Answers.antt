@@ -1,0 +1,58 @@
+use Rattle.std.proofs.Common.{◌≡◌, arith, ap, sym, ◌∙◌, refl}
+use Rattle.std.proofs.lemmas.Bool.{true≢false}
+use Rattle.rec_bytes.specs.declared.record.Rec.{Rec}
+use Rattle.rec_bytes.specs.Format as format
+use Rattle.rec_bytes.specs.Record.{field}
+use Rattle.store_rules.specs.Indexes.{index_rec}
+use Rattle.store_rules.specs.Views.{Records}
+use Rattle.prop_store.proofs.ReadCounts.{reads_same}
+use Rattle.prop_index.proofs.Reread.{same_records, same_then}
+use Rattle.prop_index.proofs.Searches.{search_begins, search_here, search_on, search_over}
+use Rattle.prop_index.proofs.leaving.find_entry.Goals as goal
+
+pub loop-init : goal.loop-init
+loop-init g c = record {
+  told = λ tells xs are. search_begins _ _ xs c.args.first are.walk;
+  same = refl;
+  onward = g.met.R.Reads.stays_onward _;
+  later = omega arith;
+}
+
+pub returns-then-at-clause-found : goal.returns-then-at-clause-found
+returns-then-at-clause-found g c tells xs are = search_over _ _ xs c.loop.at c.loop.counter (c.loop.invariant.told tells xs are) c.if-at.true
+
+pub returns-in_err-rec-clause-same : goal.returns-in_err-rec-clause-same
+returns-in_err-rec-clause-same g c = same_then (g.R.Reads.state c.args.space.now) (g.R.Reads.state c.loop.space) (g.R.Reads.state c.record_at.new.space) c.loop.invariant.same (reads_same 1 (g.R.Reads.state c.loop.space) (g.R.Reads.state c.record_at.new.space) c.in_err-rec.ensures.at_most)
+
+pub returns-then-is_of-clause-found : goal.returns-then-is_of-clause-found
+returns-then-is_of-clause-found g c tells xs are =
+    let s = g.R.Reads.state c.args.space.now in
+    let now = g.R.Reads.state c.loop.space in
+    let rec_is : c.in_ok-rec.rec ≡ index_rec s.records c.loop.at = c.in_ok-rec.ensures.got tells ∙ ap (λ (r : Records). index_rec r c.loop.at) (same_records s now c.loop.invariant.same) in
+    let says = c.is_of.ensures.0 c.if-is_of.true in
+    record {
+      member = (search_here _ _ xs c.loop.at c.loop.counter (c.loop.invariant.told tells xs are) c.if-at.false).0;
+      rec_is = rec_is;
+      says = (ap (λ (r : Rec). field 4 r format.indexed_node) (sym rec_is) ∙ says.0, ap (λ (r : Rec). field 8 r format.indexed_hash) (sym rec_is) ∙ says.1);
+    }
+
+pub returns-then-is_of-clause-same : goal.returns-then-is_of-clause-same
+returns-then-is_of-clause-same g c = same_then (g.R.Reads.state c.args.space.now) (g.R.Reads.state c.loop.space) (g.R.Reads.state c.record_at.new.space) c.loop.invariant.same (reads_same 1 (g.R.Reads.state c.loop.space) (g.R.Reads.state c.record_at.new.space) c.in_ok-rec.ensures.at_most)
+
+pub loop-preserved : goal.loop-preserved
+loop-preserved g c =
+    let s = g.R.Reads.state c.args.space.now in
+    let now = g.R.Reads.state c.loop.space in
+    record {
+      told = λ tells xs are.
+          let rec_is : c.in_ok-rec.rec ≡ index_rec s.records c.loop.at = c.in_ok-rec.ensures.got tells ∙ ap (λ (r : Records). index_rec r c.loop.at) (same_records s now c.loop.invariant.same) in
+          search_on _ _ xs c.loop.at c.loop.counter (c.loop.invariant.told tells xs are) c.number-at.result c.if-at.false
+          (c.number-at.ensures ∙ ap (λ (r : Rec). field 4 r format.indexed_next) rec_is)
+          (λ says. true≢false (sym (c.is_of.ensures.1 (ap (λ (r : Rec). field 4 r format.indexed_node) rec_is ∙ says.0, ap (λ (r : Rec). field 8 r format.indexed_hash) rec_is ∙ says.1)) ∙ c.if-is_of.false));
+      same = same_then (g.R.Reads.state c.args.space.now) (g.R.Reads.state c.loop.space) (g.R.Reads.state c.record_at.new.space) c.loop.invariant.same (reads_same 1 (g.R.Reads.state c.loop.space) (g.R.Reads.state c.record_at.new.space) c.in_ok-rec.ensures.at_most);
+      onward = g.met.R.Reads.further_onward _ _ _ c.loop.invariant.onward c.in_ok-rec.ensures.onward;
+      later = omega (arith, c.loop.invariant.later, c.in_ok-rec.ensures.cause.later);
+    }
+
+pub returns-clause-found : goal.returns-clause-found
+returns-clause-found g c tells xs are = search_over _ _ xs c.loop.at c.loop.counter (c.loop.invariant.told tells xs are) c.if-at-2.false

@@ -1,0 +1,19 @@
+use Rattle.std.proofs.Common.{◌≡◌, ◌≤◌, ◌+◌, List, ℕ, length, map}
+use Rattle.store_rules.specs.Indexes.{next_definition}
+use Rattle.prop_store.specs.Reading.{ReadsAtMost}
+use Rattle.prop_index.specs.Finding.{AreDefinitions}
+use Rattle.prop_index.specs.Listing.{pair_of}
+use Rattle.prop_index.proofs.Walks.{IsWalked}
+use Rattle.prop_index.proofs.listing.indexes.Given as goal
+
+abbrev pub invariant-loop : goal.invariant-loop
+invariant-loop g l =
+    let old = g.R.Reads.state l.fn.space in
+    record {
+      told : g.R.Reads.tells → (ds : List ℕ) → AreDefinitions old.records ds
+          → (passed : List ℕ) × IsWalked (next_definition old.records) ds l.at passed × (l.pairs.items ≡ map (pair_of old.records) passed);
+      few : length l.pairs.items ≡ l.counter;
+      reads : ReadsAtMost (1 + l.counter) old (g.R.Reads.state l.space);
+      onward : g.R.Reads.onward l.fn.space l.space;
+      later : g.R.Reads.faults l.fn.space ≤ g.R.Reads.faults l.space;
+    }

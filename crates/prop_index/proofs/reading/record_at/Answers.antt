@@ -1,0 +1,48 @@
+use Rattle.std.proofs.Common.{◌≡◌, ◌≢◌, ◌<◌, ◌≤◌, ℕ, sym, ap, ◌∙◌, subst, arith}
+use Rattle.rec_bytes.specs.declared.meta.Meta.{Meta}
+use Rattle.rec_bytes.specs.declared.record.Rec.{Rec}
+use Rattle.rec_bytes.specs.declared.shape.Shape.{Shape}
+use Rattle.rec_bytes.specs.Format as format
+use Rattle.rec_bytes.specs.Record.{field}
+use Rattle.rec_bytes.specs.RecordFiles.{room_of}
+use Rattle.store_rules.specs.Indexes.{index_rec}
+use Rattle.store_rules.specs.Views.{high, kind_at}
+use Rattle.store_rules.proofs.ViewLaws.{kind_low}
+use Rattle.prop_store.proofs.ReadCounts.{reads_none, reads_one}
+use Rattle.prop_index.specs.Reading.{HighMark, IsReadFault, LeadsNowhere, OtherKind}
+use Rattle.prop_index.proofs.reading.record_at.Goals as goal
+
+pub returns-then-id-meta-clause-damaged : goal.returns-then-id-meta-clause-damaged
+returns-then-id-meta-clause-damaged g c tells = LeadsNowhere (subst (λ (m : Meta). m.high ≤ c.args.id) c.meta.ensures c.if-id-meta.true)
+
+pub returns-then-id-meta-clause-at_most : goal.returns-then-id-meta-clause-at_most
+returns-then-id-meta-clause-at_most g c = reads_none 1 _
+
+pub returns-then-id-room_of-clause-damaged : goal.returns-then-id-room_of-clause-damaged
+returns-then-id-room_of-clause-damaged g c tells =
+    let s = g.R.Reads.state c.args.space.now in
+    let low : c.args.id < high s.records format.index_file = subst (λ (m : Meta). c.args.id < m.high) c.meta.ensures c.if-id-meta.false in
+    let room : c.room_of.result ≡ room_of s.shape format.index_file = c.room_of.ensures ∙ ap (λ (h : Shape). room_of h format.index_file) c.shape.ensures.is in
+    let past : room_of s.shape format.index_file ≤ c.args.id = subst (λ (n : ℕ). n ≤ c.args.id) room c.if-id-room_of.true in
+    subst (IsReadFault s c.args.id c.args.kind c.args.named) (sym c.damaged.ensures) (HighMark (omega (arith, low, past)))
+
+pub returns-then-id-room_of-clause-at_most : goal.returns-then-id-room_of-clause-at_most
+returns-then-id-room_of-clause-at_most g c = reads_none 1 _
+
+pub returns-in_err-rec-clause-at_most : goal.returns-in_err-rec-clause-at_most
+returns-in_err-rec-clause-at_most g c = reads_one 1 _ _ (omega arith) c.get.ensures.state
+
+pub returns-then-byte-kind-clause-damaged : goal.returns-then-byte-kind-clause-damaged
+returns-then-byte-kind-clause-damaged g c tells =
+    let s = g.R.Reads.state c.args.space.now in
+    let low : c.args.id < high s.records format.index_file = subst (λ (m : Meta). c.args.id < m.high) c.meta.ensures c.if-id-meta.false in
+    let got : c.in_ok-rec.rec ≡ index_rec s.records c.args.id = c.in_ok-rec.ensures.got tells in
+    let other : kind_at s.records format.index_file c.args.id ≢ c.args.kind = λ e. c.if-byte-kind.true
+    (c.byte.ensures ∙ ap (λ (r : Rec). field 1 r format.kind) got ∙ sym (kind_low (high s.records format.index_file) (index_rec s.records c.args.id) c.args.id low) ∙ e) in
+    subst (IsReadFault s c.args.id c.args.kind c.args.named) (sym c.damaged-then-byte-kind.ensures) (OtherKind other)
+
+pub returns-then-byte-kind-clause-at_most : goal.returns-then-byte-kind-clause-at_most
+returns-then-byte-kind-clause-at_most g c = reads_one 1 _ _ (omega arith) c.get.ensures.state
+
+pub returns-clause-at_most : goal.returns-clause-at_most
+returns-clause-at_most g c = reads_one 1 _ _ (omega arith) c.get.ensures.state

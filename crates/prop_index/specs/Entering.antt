@@ -1,0 +1,31 @@
+-- What an entry that is added makes of the records.
+use Rattle.std.specs.Prelude.{◌≡◌, ◌≢◌, ℕ}
+use Rattle.id_freelist.specs.declared.take_fault.TakeFault.{TakeFault}
+use Rattle.id_freelist.specs.declared.take_fault.TakeFault.TheVariants as takes
+use Rattle.plain_graph.specs.declared.value.Value.{Value}
+use Rattle.rec_bytes.specs.declared.fault.Fault.{Fault}
+use Rattle.rec_bytes.specs.declared.fault.Fault.TheVariants as faults
+use Rattle.rec_bytes.specs.Format as format
+use Rattle.store_rules.specs.Hashes.{hash_of}
+use Rattle.store_rules.specs.IndexChange.{IsEntryMade}
+use Rattle.store_rules.specs.Indexes.{Entry}
+use Rattle.store_rules.specs.Views.{Records, kind_at}
+use Rattle.prop_index.specs.declared.entry_row.Content.{Content}
+use Rattle.prop_index.specs.declared.heads.Bucket.{Bucket}
+
+-- the entry of a value that a node has
+abbrev pub entry_of : ℕ → ℕ → ℕ → Value → Entry
+entry_of label key node value =
+    record { label = label; key = key; node = node; hash = hash_of value }
+
+-- An entry was put in front of the bucket, where the one that stood first was an entry.
+abbrev pub IsMade : Records → Records → Bucket → Content → Type 0
+IsMade s t bucket content =
+    (bucket.first ≢ format.nil → kind_at s format.index_file bucket.first ≡ format.indexed)
+    → (id : ℕ) × IsEntryMade s t id bucket.slot.id bucket.slot.place content.node content.hash
+
+-- a fault of records that are read as one of a change
+abbrev pub of_read : Fault → TakeFault
+of_read faults.Memory = takes.Memory
+of_read faults.Disk = takes.Disk
+of_read (faults.Damaged damage) = takes.Damaged damage

@@ -1,0 +1,10 @@
+pub mod Entering
+pub mod Finding
+pub mod Gathering
+pub mod Heads
+pub mod Leaving
+pub mod Linking
+pub mod Listing
+pub mod Looking
+pub mod Reading
+pub mod Unlinking

@@ -1,0 +1,61 @@
+-- What a lookup answers and reads.
+use Rattle.std.specs.Prelude.{ℕ, ◌+◌, ◌*◌, List, Result, length}
+use Rattle.plain_graph.specs.declared.value.Value.{Value}
+use Rattle.rec_bytes.specs.Cause.{HasDiskCause}
+use Rattle.rec_bytes.specs.Format as format
+use Rattle.rec_bytes.specs.Space.{State}
+use Rattle.store_rules.specs.Chains.{In, IsWalk}
+use Rattle.store_rules.specs.Hashes.{bucket_of, hash_of}
+use Rattle.store_rules.specs.Indexes.{first_definition, first_entry, has_value}
+use Rattle.store_rules.specs.Indexes.{next_definition, next_entry, node_value}
+use Rattle.store_rules.specs.Rows.{ids}
+use Rattle.store_rules.specs.Views.{Records, high}
+use Rattle.prop_index.specs.Finding.{IsPair}
+use Rattle.prop_index.specs.Gathering.{count_hashed}
+use Rattle.prop_index.specs.declared.lookup_fault.LookupFault.{LookupFault}
+use Rattle.prop_index.specs.declared.lookup_fault.LookupFault.TheVariants as lookups
+use Rattle.prop_store.specs.Reading.{ReadsAtMost}
+use Rattle.rec_bytes.specs.declared.fault.Fault.{Fault}
+use Rattle.rec_bytes.specs.declared.fault.Fault.TheVariants as faults
+
+-- the nodes of the label whose key has the value
+abbrev pub found_in : Records → ℕ → ℕ → Value → List ℕ
+found_in records label key value =
+    ids (λ n. has_value value (node_value records label key n)) (high records format.nodes_file)
+
+-- no definition is of the label and the key
+abbrev pub IsUnlisted : Records → ℕ → ℕ → Type 0
+IsUnlisted records label key =
+    (ds : List ℕ) → IsWalk (next_definition records) (first_definition records) ds
+    → (d : ℕ) → In d ds → ¬ IsPair records label key d
+
+-- The reads of a lookup: two, one for each definition, one for each entry of the bucket, and 55 for
+-- each of these with the value's hash.
+pub record ReadsForLookup (label key : ℕ) (value : Value) (old new : State) : Type 0 where
+  pub definitions : List ℕ
+  pub walk : IsWalk (next_definition old.records) (first_definition old.records) definitions
+  pub definition : ℕ
+  pub listed : In definition definitions
+  pub pair : IsPair old.records label key definition
+  pub entries : List ℕ
+  pub bucket : IsWalk (next_entry old.records)
+      (first_entry old.records definition (bucket_of (hash_of value))) entries
+  pub reads : ReadsAtMost (2 + length definitions + length entries
+      + 55 * count_hashed old.records (hash_of value) entries) old new
+
+-- a fault of records that are read as one of a lookup
+abbrev pub of_fault : Fault → LookupFault
+of_fault faults.Memory = lookups.Memory
+of_fault faults.Disk = lookups.Disk
+of_fault (faults.Damaged damage) = lookups.Damaged damage
+
+-- In a store there is no index where it is said so, and no record is damaged.
+abbrev pub IsRefusal : Records → ℕ → ℕ → LookupFault → Type 0
+IsRefusal records label key lookups.NoIndex = IsUnlisted records label key
+IsRefusal records label key lookups.Memory = Unit {0}
+IsRefusal records label key lookups.Disk = Unit {0}
+IsRefusal records label key (lookups.Damaged damage) = ⊥
+
+-- the disk is blamed only where it failed
+abbrev pub HasLookupCause : {T : Type 0} → ℕ → ℕ → Result T LookupFault → Type 0
+HasLookupCause before now result = HasDiskCause lookups.Disk before now result

@@ -1,0 +1,15 @@
+use rec_bytes::Rec;
+
+/// What an entry says.
+#[derive(Clone, Copy)]
+pub(crate) struct Content {
+    pub node: u32,
+    pub hash: u64,
+}
+
+/// An entry in use.
+#[derive(Clone, Copy)]
+pub(crate) struct EntryRow {
+    pub id: u32,
+    pub rec: Rec,
+}

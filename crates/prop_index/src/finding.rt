@@ -1,0 +1,74 @@
+//! The definition of a pair.
+
+ghost use Rattle.std.specs.Prelude.{◌≡◌, ◌↔◌, ◌+◌, ℕ, List, IfOk, IsTrue, length, OnOk};
+ghost use Rattle.rec_bytes.specs.Record.{field};
+ghost use Rattle.prop_index.specs.Finding.{AreDefinitions, IsDefined, IsFound};
+ghost use Rattle.prop_index.specs.Reading.{HasRoom};
+ghost use Rattle.rec_bytes.specs.Fault.{HasFaultCause, NotDamaged};
+ghost use Rattle.prop_store.specs.Reading.{ReadsAtMost};
+ghost use Rattle.rec_bytes.specs.Format.{index_file};
+
+use crate::reading::{damaged, out_of_range, record_at};
+use rec_bytes::{
+    DEFINITION, DEFINITION_KEY, DEFINITION_LABEL, DEFINITION_NEXT, Damage, Fault, INDEX,
+    INDEX_RULE, META, META_DEFINITION, NIL, RANGE_RULE, Reads, Rec, meta_key,
+};
+
+/// How many definitions a store may have.
+pub(crate) const MOST_DEFINITIONS: u32 = 16;
+
+/// A definition in use.
+#[derive(Clone, Copy)]
+pub(crate) struct Definition {
+    pub id: u32,
+    pub rec: Rec,
+}
+
+/// Finds the definition of a label and a key.
+pub(crate) fn find_definition<R: Reads>(
+    space: &mut R,
+    label: u32,
+    key: u32,
+) -> Result<Option<Definition>, Fault>
+    ensures found { R.tells → (ds : List ℕ) → AreDefinitions (R.state space.old).records ds
+        → IfOk result (IsFound (R.state space.old).records ds label key) }
+    ensures defined { R.tells → IfOk result (IsDefined (R.state space.old).records label key) }
+    ensures sound { R.tells → (ds : List ℕ) → AreDefinitions (R.state space.old).records ds
+        → HasRoom (R.state space.old) index_file → NotDamaged result }
+    ensures cost { R.tells → (ds : List ℕ) → AreDefinitions (R.state space.old).records ds
+        → OnOk result (ReadsAtMost (1 + length ds) (R.state space.old) (R.state space.new)) }
+    ensures at_most { ReadsAtMost 17 (R.state space.old) (R.state space.new) }
+    ensures onward { R.onward space.old space.new }
+    ensures cause { HasFaultCause (R.faults space.old) (R.faults space.new) result }
+{
+    let meta = space.get(meta_key(INDEX))?;
+    let mut named = Damage {
+        file: META,
+        id: INDEX as u32,
+        rule: RANGE_RULE,
+    };
+    let mut at = meta.number(META_DEFINITION);
+    for _ in 0..MOST_DEFINITIONS {
+        if at == NIL {
+            return Ok(None);
+        }
+        let rec = record_at(space, at, DEFINITION, named)?;
+        if is_of_pair(&rec, label, key) {
+            return Ok(Some(Definition { id: at, rec }));
+        }
+        named = out_of_range(at);
+        at = rec.number(DEFINITION_NEXT);
+    }
+    if at != NIL {
+        return Err(damaged(META, INDEX as u32, INDEX_RULE));
+    }
+    Ok(None)
+}
+
+/// Whether the record of a definition has the label and the key.
+fn is_of_pair(rec: &Rec, label: u32, key: u32) -> bool
+    ensures { IsTrue result ↔ (field 4 rec.now DEFINITION_LABEL ≡ label)
+        × (field 4 rec.now DEFINITION_KEY ≡ key) }
+{
+    rec.number(DEFINITION_LABEL) == label && rec.number(DEFINITION_KEY) == key
+}

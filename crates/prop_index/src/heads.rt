@@ -1,0 +1,104 @@
+//! The first entries of buckets.
+
+ghost use Rattle.std.specs.Prelude.{◌≡◌, ◌<◌, ◌≤◌, ◌+◌, ◌/◌, IfOk, IfSome, OnOk, length};
+ghost use Rattle.prop_index.specs.Heads.{IsBucketOf, IsBucketSought, IsSlotOf};
+ghost use Rattle.prop_index.specs.Reading.{HasRoom};
+ghost use Rattle.prop_store.specs.Reading.{ReadsAtMost};
+ghost use Rattle.rec_bytes.specs.Fault.{HasFaultCause, NotDamaged};
+ghost use Rattle.rec_bytes.specs.Format as format;
+ghost use Rattle.rec_bytes.specs.Key.{IsKey};
+ghost use Rattle.store_rules.specs.Indexes.{AreIndexed, Entries, heads_of, index_rec};
+ghost use Rattle.store_rules.specs.Views.{key_in, kind_at};
+
+use crate::finding::{Definition, find_definition};
+use crate::hashing::bucket_of;
+use crate::reading::{out_of_range, record_at};
+use rec_bytes::{DEFINITION_HEADS, Fault, HEADS, HEADS_COUNT, HEADS_FIRST, Reads};
+
+/// The place of a first entry: a record of heads, and the place in it.
+#[derive(Clone, Copy)]
+pub(crate) struct Slot {
+    pub id: u32,
+    pub place: u8,
+}
+
+/// A bucket: where its first entry is named, and that entry, or `NIL`.
+#[derive(Clone, Copy)]
+pub(crate) struct Bucket {
+    pub slot: Slot,
+    pub first: u32,
+}
+
+/// Reads a bucket of an index, by its number.
+pub(crate) fn read_bucket<R: Reads>(
+    space: &mut R,
+    definition: &Definition,
+    number: u64,
+) -> Result<Bucket, Fault>
+    requires { number < 180 }
+    ensures is { R.tells → definition.now.rec
+        ≡ index_rec (R.state space.old).records definition.now.id
+        → IfOk result (IsBucketOf (R.state space.old).records definition.now.id number) }
+    ensures key { IfOk result (λ bucket. IsKey (key_in format.index_file bucket.slot.id)) }
+    ensures place { IfOk result (λ bucket. bucket.slot.place + 4 ≤ 64) }
+    ensures sound { R.tells → definition.now.rec
+        ≡ index_rec (R.state space.old).records definition.now.id
+        → HasRoom (R.state space.old) format.index_file
+        → kind_at (R.state space.old).records format.index_file
+        (heads_of (R.state space.old).records definition.now.id (number / 15)) ≡ format.heads
+        → NotDamaged result }
+    ensures at_most { ReadsAtMost 1 (R.state space.old) (R.state space.new) }
+    ensures onward { R.onward space.old space.new }
+    ensures cause { HasFaultCause (R.faults space.old) (R.faults space.new) result }
+{
+    let slot = slot_of(definition, number);
+    let rec = record_at(space, slot.id, HEADS, out_of_range(definition.id))?;
+    Ok(Bucket {
+        slot,
+        first: rec.number(slot.place),
+    })
+}
+
+/// Where the first entry of a bucket is named.
+fn slot_of(definition: &Definition, number: u64) -> Slot
+    requires { number < 180 }
+    ensures is { IsSlotOf definition.now.rec number result }
+    ensures place { result.place + 4 ≤ 64 }
+{
+    let record = (number / HEADS_COUNT as u64) as u8;
+    let place = (number % HEADS_COUNT as u64) as u8;
+    Slot {
+        id: definition.rec.number(DEFINITION_HEADS + 4 * record),
+        place: HEADS_FIRST + 4 * place,
+    }
+}
+
+/// Finds the bucket of a hash in the index of a label and a key.
+pub(crate) fn find_bucket<R: Reads>(
+    space: &mut R,
+    label: u32,
+    key: u32,
+    hash: u64,
+) -> Result<Option<Bucket>, Fault>
+    ensures found { R.tells → (wanted : Entries)
+        → (ix : AreIndexed (R.state space.old).records wanted)
+        → IfOk result (IsBucketSought (R.state space.old).records ix.definitions label key hash) }
+    ensures sound { R.tells → (wanted : Entries) → AreIndexed (R.state space.old).records wanted
+        → HasRoom (R.state space.old) format.index_file → NotDamaged result }
+    ensures cost { R.tells → (wanted : Entries)
+        → (ix : AreIndexed (R.state space.old).records wanted)
+        → OnOk result (ReadsAtMost (2 + length ix.definitions)
+        (R.state space.old) (R.state space.new)) }
+    ensures key { IfOk result (λ found. IfSome found
+        (λ bucket. IsKey (key_in format.index_file bucket.slot.id))) }
+    ensures place { IfOk result (λ found. IfSome found (λ bucket. bucket.slot.place + 4 ≤ 64)) }
+    ensures at_most { ReadsAtMost 18 (R.state space.old) (R.state space.new) }
+    ensures onward { R.onward space.old space.new }
+    ensures cause { HasFaultCause (R.faults space.old) (R.faults space.new) result }
+{
+    let Some(definition) = find_definition(space, label, key)? else {
+        return Ok(None);
+    };
+    let bucket = read_bucket(space, &definition, bucket_of(hash))?;
+    Ok(Some(bucket))
+}

@@ -1,0 +1,91 @@
+//! Whether a node has a value.
+
+ghost use Rattle.std.specs.Prelude.{◌≡◌, ◌<◌, IfOk, IsOk};
+ghost use Rattle.prop_index.specs.Gathering.{IsListedNode, node_owner};
+ghost use Rattle.prop_index.specs.Reading.{HasRoom};
+ghost use Rattle.rec_bytes.specs.Fault.{HasFaultCause, NotDamaged};
+ghost use Rattle.prop_store.specs.Owner.{IsOwner};
+ghost use Rattle.prop_store.specs.Reading.{ReadsAtMost, properties_met};
+ghost use Rattle.plain_graph.specs.Values.{value_cmp};
+ghost use Rattle.rec_bytes.specs.Format.{nodes_file};
+ghost use Rattle.store_rules.specs.Indexes.{has_value, value_in};
+ghost use Rattle.store_rules.specs.Views.{high};
+
+use plain_graph::Value;
+use prop_store::{Owner, read_key};
+use rec_bytes::{Damage, Fault, Key, META, NODE_FIRST_PROPERTY, NODES, RANGE_RULE, Reads, room_of};
+use std::alloc::Global;
+use std::cmp::Ordering;
+
+/// Where the first property of a node stands. Where there can be none, the record that names the
+/// node is damaged.
+fn owner_of<R: Reads>(space: &R, node: u32, named: Damage) -> Result<Owner, Damage>
+    ensures owner { IfOk result IsOwner }
+    ensures is { IfOk result (λ owner. owner ≡ node_owner node) }
+    ensures sound { HasRoom (R.state space.now) nodes_file
+        → node < high (R.state space.now).records nodes_file → IsOk result }
+{
+    if node >= space.meta(NODES).high {
+        return Err(named);
+    }
+    if node as u64 >= room_of(NODES, space.shape()) {
+        return Err(Damage {
+            file: META,
+            id: NODES as u32,
+            rule: RANGE_RULE,
+        });
+    }
+    Ok(Owner {
+        key: Key {
+            file: NODES,
+            id: node,
+        },
+        field: NODE_FIRST_PROPERTY,
+    })
+}
+
+/// Whether the value of a key of a node is this one.
+pub(crate) fn holds<R: Reads>(
+    alloc: Global,
+    space: &mut R,
+    node: u32,
+    key: u32,
+    value: &Value,
+    named: Damage,
+) -> Result<bool, Fault>
+    ensures met { R.tells → IfOk result (λ held. held ≡ has_value value.now
+        (value_in (properties_met (R.state space.old).records (node_owner node)) key)) }
+    ensures sound { R.tells → IsListedNode (R.state space.old) node → NotDamaged result }
+    ensures at_most { ReadsAtMost 55 (R.state space.old) (R.state space.new) }
+    ensures onward { R.onward space.old space.new }
+    ensures cause { HasFaultCause (R.faults space.old) (R.faults space.new) result }
+{
+    let owner = owner_of(space, node, named)?;
+    let held = read_key(alloc, space, owner, key)?;
+    Ok(is_value(&held, value))
+}
+
+/// Whether there is a value, and it is this one.
+fn is_value(held: &Option<Value>, value: &Value) -> bool
+    ensures { result ≡ has_value value.now held.now }
+{
+    match held {
+        Some(other) => compare(other, value).is_eq(),
+        None => false,
+    }
+}
+
+/// False, true, numbers by size, texts by their bytes.
+fn compare(value: &Value, other: &Value) -> Ordering
+    ensures { result ≡ value_cmp value.now other.now }
+{
+    match (value, other) {
+        (Value::Bool(a), Value::Bool(b)) => a.cmp(b),
+        (Value::Int(a), Value::Int(b)) => a.cmp(b),
+        (Value::Text(a), Value::Text(b)) => a.as_bytes().cmp(b.as_bytes()),
+        (Value::Bool(_), _) => Ordering::Less,
+        (_, Value::Bool(_)) => Ordering::Greater,
+        (Value::Int(_), Value::Text(_)) => Ordering::Less,
+        (Value::Text(_), Value::Int(_)) => Ordering::Greater,
+    }
+}

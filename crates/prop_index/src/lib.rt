@@ -1,0 +1,27 @@
+//! Indexes of the nodes of a label by the value of a key: an entry for each node, in one of 180
+//! buckets by the hash of its value. A lookup reads the definitions, one bucket, and the value of
+//! each node in it with the hash that is sought. Only a lookup and a list take memory of their own.
+#![tactic(auto)]
+
+mod entering;
+mod entry_record;
+mod entry_row;
+mod finding;
+mod gathering;
+mod hashing;
+mod heads;
+mod holding;
+mod leaving;
+mod link_test;
+mod linking;
+mod listing;
+mod looking;
+mod lookup_fault;
+mod reading;
+mod unlinking;
+
+pub use entering::enter;
+pub use leaving::leave;
+pub use listing::{IndexPair, indexes};
+pub use looking::lookup;
+pub use lookup_fault::LookupFault;

@@ -1,0 +1,62 @@
+//! The pairs that have an index.
+
+ghost use Rattle.std.specs.Prelude.{◌≡◌, ◌+◌, ◌≤◌, IfOk, OnOk, length, map};
+ghost use Rattle.prop_index.specs.Listing.{pair_of};
+ghost use Rattle.prop_index.specs.Reading.{HasRoom};
+ghost use Rattle.prop_store.specs.Reading.{ReadsAtMost};
+ghost use Rattle.rec_bytes.specs.Fault.{HasFaultCause, NotDamaged};
+ghost use Rattle.rec_bytes.specs.Format.{index_file};
+ghost use Rattle.store_rules.specs.Indexes.{AreIndexed, Entries};
+
+use crate::finding::MOST_DEFINITIONS;
+use crate::reading::{damaged, out_of_range, record_at};
+use rec_bytes::{
+    DEFINITION, DEFINITION_KEY, DEFINITION_LABEL, DEFINITION_NEXT, Damage, Fault, INDEX,
+    INDEX_RULE, META, META_DEFINITION, NIL, RANGE_RULE, Reads, meta_key,
+};
+use std::alloc::Global;
+
+/// A label and a key that have an index, by the numbers of their names.
+#[derive(Clone, Copy, Debug, PartialEq, Eq)]
+pub struct IndexPair {
+    pub label: u32,
+    pub key: u32,
+}
+
+/// The pairs of label and key that have an index, in the order of the definitions' chain.
+pub fn indexes<R: Reads>(alloc: Global, space: &mut R) -> Result<Vec<IndexPair>, Fault>
+    ensures listed { R.tells → (wanted : Entries)
+        → (ix : AreIndexed (R.state space.old).records wanted)
+        → IfOk result (λ pairs. pairs.items
+        ≡ map (pair_of (R.state space.old).records) ix.definitions) }
+    ensures sound { R.tells → (wanted : Entries) → AreIndexed (R.state space.old).records wanted
+        → HasRoom (R.state space.old) index_file → NotDamaged result }
+    ensures few { IfOk result (λ pairs. length pairs.items ≤ 16) }
+    ensures at_most { ReadsAtMost 17 (R.state space.old) (R.state space.new) }
+    ensures onward { R.onward space.old space.new }
+    ensures cause { HasFaultCause (R.faults space.old) (R.faults space.new) result }
+{
+    let mut pairs = Vec::new(alloc);
+    let meta = space.get(meta_key(INDEX))?;
+    let mut named = Damage {
+        file: META,
+        id: INDEX as u32,
+        rule: RANGE_RULE,
+    };
+    let mut at = meta.number(META_DEFINITION);
+    for _ in 0..MOST_DEFINITIONS {
+        if at == NIL {
+            return Ok(pairs);
+        }
+        let rec = record_at(space, at, DEFINITION, named)?;
+        let label = rec.number(DEFINITION_LABEL);
+        let key = rec.number(DEFINITION_KEY);
+        pairs.push(IndexPair { label, key })?;
+        named = out_of_range(at);
+        at = rec.number(DEFINITION_NEXT);
+    }
+    if at != NIL {
+        return Err(damaged(META, INDEX as u32, INDEX_RULE));
+    }
+    Ok(pairs)
+}
