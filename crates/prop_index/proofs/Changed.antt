@@ -58,7 +58,7 @@ module _ (s : Records) (wanted : Entries) (ix : AreIndexed s wanted) (label key 
     one_is : one ≡ record { label = indexed_label s d; key = indexed_key s d; node = content.node; hash = content.hash }
     one_is = λ i. record { label = sym found.pair.0 i; key = sym found.pair.1 i; node = content.node; hash = content.hash }
 
-    first_right : bucket.first ≢ format.nil → kind_at s format.index_file bucket.first ≡ format.indexed
+    pub first_right : bucket.first ≢ format.nil → kind_at s format.index_file bucket.first ≡ format.indexed
     first_right some =
         let is = bucket-chain s wanted ix label key content.hash bucket found in
         ⊎_elim (λ (n : bucket.first ≡ format.nil). absurd (some n)) (λ (m : In bucket.first xs). is.kind bucket.first m)

@@ -3,6 +3,7 @@ mod Buckets
 mod Changed
 mod Found
 mod Gathers
+mod IndexTouches
 mod Lookups
 mod Made
 mod Reread

@@ -7,4 +7,5 @@ pub mod Linking
 pub mod Listing
 pub mod Looking
 pub mod Reading
+pub mod Touching
 pub mod Unlinking

@@ -1,14 +1,15 @@
 //! Entries that are added.
 
-ghost use Rattle.std.specs.Prelude.{◌≡◌, ◌+◌, ◌≤◌, ℕ, List, OnOk, false};
-ghost use Rattle.id_freelist.specs.TakeFault.{HasTakeCause};
+ghost use Rattle.std.specs.Prelude.{◌≡◌, ◌≢◌, ◌+◌, ◌≤◌, ℕ, List, OnOk, false};
+ghost use Rattle.id_freelist.specs.TakeFault.{HasTakeCause, NotDamaged};
 ghost use Rattle.id_freelist.specs.Taking.{CanTake};
 ghost use Rattle.prop_index.specs.Entering.{IsMade, entry_of, of_read};
 ghost use Rattle.prop_index.specs.Heads.{IsHead};
-ghost use Rattle.rec_bytes.specs.Format.{index_file};
+ghost use Rattle.prop_index.specs.Touching.{TouchesIndex};
+ghost use Rattle.rec_bytes.specs.Format.{index_file, indexed};
 ghost use Rattle.rec_bytes.specs.Key.{IsKey};
 ghost use Rattle.store_rules.specs.Indexes.{AreIndexed, Entries, with_entry};
-ghost use Rattle.store_rules.specs.Views.{key_in};
+ghost use Rattle.store_rules.specs.Views.{key_in, kind_at};
 
 use crate::entry_row::Content;
 use crate::hashing::hash_of;
@@ -17,7 +18,7 @@ use crate::link_test::test_link;
 use crate::linking::link;
 use id_freelist::{TakeFault, take};
 use plain_graph::Value;
-use rec_bytes::{Fault, INDEX, Space};
+use rec_bytes::{Fault, INDEX, NIL, Space};
 
 /// Adds an entry of a node, with the value's hash, to the index of a label and a key. Where there
 /// is no such index nothing changes.
@@ -34,6 +35,10 @@ pub fn enter<S: Space>(
         → wanted (entry_of label key node value.now) ≡ false
         → OnOk result (AreIndexed (S.state space.new).records
         (with_entry wanted (entry_of label key node value.now))) }
+    ensures sound { S.tells → (wanted : Entries) → (free : List ℕ)
+        → AreIndexed (S.state space.old).records wanted
+        → CanTake (S.state space.old) index_file free → NotDamaged result }
+    ensures touches { TouchesIndex S.tells 3 (S.state space.old) (S.state space.new) }
     ensures onward { S.onward space.old space.new }
     ensures cause { HasTakeCause (S.faults space.old) (S.faults space.new) result }
 {
@@ -54,6 +59,11 @@ fn add_entry<S: Space>(space: &mut S, bucket: Bucket, content: Content) -> Resul
         → CanTake (S.state space.old) index_file free
         → OnOk result (IsMade (S.state space.old).records (S.state space.new).records
         bucket content) }
+    ensures sound { S.tells → (free : List ℕ)
+        → (bucket.first ≢ NIL
+        → kind_at (S.state space.old).records index_file bucket.first ≡ indexed)
+        → CanTake (S.state space.old) index_file free → NotDamaged result }
+    ensures touches { TouchesIndex S.tells 3 (S.state space.old) (S.state space.new) }
     ensures onward { S.onward space.old space.new }
     ensures cause { HasTakeCause (S.faults space.old) (S.faults space.new) result }
 {

@@ -6,7 +6,9 @@ ghost use Rattle.prop_index.specs.Entering.{entry_of};
 ghost use Rattle.prop_index.specs.Gathering.{AreEntries};
 ghost use Rattle.prop_index.specs.Heads.{IsHead};
 ghost use Rattle.prop_index.specs.Leaving.{IsBucketChain, IsDropped, IsEntrySought};
-ghost use Rattle.rec_bytes.specs.Fault.{HasFaultCause};
+ghost use Rattle.prop_index.specs.Reading.{HasRoom};
+ghost use Rattle.prop_index.specs.Touching.{TouchesIndex};
+ghost use Rattle.rec_bytes.specs.Fault.{HasFaultCause, NotDamaged};
 ghost use Rattle.rec_bytes.specs.Format.{index_file};
 ghost use Rattle.rec_bytes.specs.Key.{IsKey};
 ghost use Rattle.rec_bytes.specs.Record.{field};
@@ -40,6 +42,10 @@ pub fn leave<S: Space>(
         → CanTake (S.state space.old) index_file free
         → OnOk result (AreIndexed (S.state space.new).records
         (without_entry wanted (entry_of label key node value.now))) }
+    ensures sound { S.tells → (wanted : Entries) → (free : List ℕ)
+        → AreIndexed (S.state space.old).records wanted
+        → CanTake (S.state space.old) index_file free → NotDamaged result }
+    ensures touches { TouchesIndex S.tells 3 (S.state space.old) (S.state space.new) }
     ensures onward { S.onward space.old space.new }
     ensures cause { HasFaultCause (S.faults space.old) (S.faults space.new) result }
 {
@@ -59,6 +65,10 @@ fn drop_entry<S: Space>(space: &mut S, bucket: Bucket, content: Content) -> Resu
         → CanTake (S.state space.old) index_file free
         → OnOk result (IsDropped (S.state space.old).records (S.state space.new).records
         xs bucket.slot content) }
+    ensures sound { S.tells → (xs : List ℕ)
+        → IsBucketChain (S.state space.old).records bucket.first xs
+        → HasRoom (S.state space.old) index_file → NotDamaged result }
+    ensures touches { TouchesIndex S.tells 3 (S.state space.old) (S.state space.new) }
     ensures onward { S.onward space.old space.new }
     ensures cause { HasFaultCause (S.faults space.old) (S.faults space.new) result }
 {
@@ -83,6 +93,8 @@ fn find_entry<R: Reads>(
 ) -> Result<Option<EntryRow>, Fault>
     ensures found { R.tells → (xs : List ℕ) → AreEntries (R.state space.old) first xs
         → IfOk result (IsEntrySought (R.state space.old).records xs content) }
+    ensures sound { R.tells → (xs : List ℕ) → AreEntries (R.state space.old) first xs
+        → HasRoom (R.state space.old) index_file → NotDamaged result }
     ensures key { IfOk result (λ found. IfSome found (λ row. IsKey (key_in index_file row.id))) }
     ensures same { SameButReads (R.state space.old) (R.state space.new) }
     ensures onward { R.onward space.old space.new }

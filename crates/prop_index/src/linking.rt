@@ -1,10 +1,11 @@
 //! An entry in front of a bucket.
 
-ghost use Rattle.std.specs.Prelude.{◌≡◌, ◌≢◌, ◌+◌, ◌≤◌, [], ◌∷◌, OnOk};
+ghost use Rattle.std.specs.Prelude.{◌≡◌, ◌≢◌, ◌+◌, ◌≤◌, OnOk};
 ghost use Rattle.prop_index.specs.Linking.{backed_entry, linked_entry};
+ghost use Rattle.prop_index.specs.Touching.{TouchesIndex};
 ghost use Rattle.rec_bytes.specs.Format.{index_file};
 ghost use Rattle.rec_bytes.specs.Key.{IsKey};
-ghost use Rattle.rec_bytes.specs.Space.{HasCause, WritesOnly};
+ghost use Rattle.rec_bytes.specs.Space.{HasCause};
 ghost use Rattle.store_rules.specs.Views.{key_in};
 
 use crate::entry_record::entry_record;
@@ -27,8 +28,7 @@ pub(crate) fn link<S: Space>(
     requires id { IsKey (key_in index_file id) }
     ensures ok { S.tells → OnOk result (S.state space.new
         ≡ linked_entry (S.state space.old) slot first id content) }
-    ensures writes { WritesOnly (S.state space.old) (S.state space.new) (key_in index_file id
-        ∷ key_in index_file first ∷ key_in index_file slot.id ∷ []) }
+    ensures touches { TouchesIndex S.tells 3 (S.state space.old) (S.state space.new) }
     ensures onward { S.onward space.old space.new }
     ensures cause { HasCause (S.faults space.old) (S.faults space.new) result }
 {
@@ -49,8 +49,7 @@ pub(crate) fn back<S: Space>(space: &mut S, id: u32, to: u32) -> Result<(), Spac
     requires { id ≢ NIL → IsKey (key_in index_file id) }
     ensures ok { S.tells → OnOk result (S.state space.new
         ≡ backed_entry (S.state space.old) id to) }
-    ensures writes { WritesOnly (S.state space.old) (S.state space.new)
-        (key_in index_file id ∷ []) }
+    ensures touches { TouchesIndex S.tells 1 (S.state space.old) (S.state space.new) }
     ensures onward { S.onward space.old space.new }
     ensures cause { HasCause (S.faults space.old) (S.faults space.new) result }
 {

@@ -1,6 +1,7 @@
 //! An entry out of its bucket.
 
 ghost use Rattle.std.specs.Prelude.{◌≡◌, ◌≢◌, ◌+◌, ◌≤◌, OnOk};
+ghost use Rattle.prop_index.specs.Touching.{TouchesIndex};
 ghost use Rattle.prop_index.specs.Unlinking.{led_entry, unlinked_entry};
 ghost use Rattle.rec_bytes.specs.Format.{index_file};
 ghost use Rattle.rec_bytes.specs.Key.{IsKey};
@@ -28,6 +29,7 @@ pub(crate) fn unlink<S: Space>(
     requires after { after ≢ NIL → IsKey (key_in index_file after) }
     ensures ok { S.tells → OnOk result (S.state space.new
         ≡ unlinked_entry (S.state space.old) slot id before after) }
+    ensures touches { TouchesIndex S.tells 3 (S.state space.old) (S.state space.new) }
     ensures onward { S.onward space.old space.new }
     ensures cause { HasCause (S.faults space.old) (S.faults space.new) result }
 {
@@ -45,6 +47,7 @@ fn lead<S: Space>(space: &mut S, slot: Slot, before: u32, after: u32) -> Result<
     requires before { before ≢ NIL → IsKey (key_in index_file before) }
     ensures ok { S.tells → OnOk result (S.state space.new
         ≡ led_entry (S.state space.old) slot before after) }
+    ensures touches { TouchesIndex S.tells 1 (S.state space.old) (S.state space.new) }
     ensures onward { S.onward space.old space.new }
     ensures cause { HasCause (S.faults space.old) (S.faults space.new) result }
 {

@@ -4,10 +4,11 @@ use Rattle.rec_bytes.specs.declared.record.Rec.{Rec}
 use Rattle.rec_bytes.specs.Format as format
 use Rattle.rec_bytes.specs.Record.{field}
 use Rattle.store_rules.specs.Indexes.{index_rec}
-use Rattle.store_rules.specs.Views.{Records}
+use Rattle.store_rules.specs.Views.{Records, kind_at}
 use Rattle.prop_store.proofs.ReadCounts.{reads_same}
-use Rattle.prop_index.proofs.Reread.{same_records, same_then}
+use Rattle.prop_index.proofs.Reread.{same_records, same_then, room_after}
 use Rattle.prop_index.proofs.Searches.{search_begins, search_here, search_on, search_over}
+use Rattle.std.proofs.lemmas.Result.{err_from_is_err_and}
 use Rattle.prop_index.proofs.leaving.find_entry.Goals as goal
 
 pub loop-init : goal.loop-init
@@ -56,3 +57,13 @@ loop-preserved g c =
 
 pub returns-clause-found : goal.returns-clause-found
 returns-clause-found g c tells xs are = search_over _ _ xs c.loop.at c.loop.counter (c.loop.invariant.told tells xs are) c.if-at-2.false
+
+pub returns-in_err-rec-clause-sound : goal.returns-in_err-rec-clause-sound
+returns-in_err-rec-clause-sound g c tells xs are room =
+    let s = g.R.Reads.state c.args.space.now in
+    let now = g.R.Reads.state c.loop.space in
+    let same = c.loop.invariant.same in
+    let here = search_here _ _ xs c.loop.at c.loop.counter (c.loop.invariant.told tells xs are) c.if-at.false in
+    let p = err_from_is_err_and c.from_residual.result c.from_residual.ensures.1 in
+    rw (p.1, p.2) (c.in_err-rec.ensures.sound tells (room_after s now format.index_file same room)
+    (ap (λ (r : Records). kind_at r format.index_file c.loop.at) (same_records s now same) ∙ are.kind c.loop.at here.0))
