@@ -3,6 +3,7 @@ mod Buckets
 mod Changed
 mod Found
 mod Gathers
+mod IndexFull
 mod IndexTouches
 mod Lookups
 mod Made

@@ -6,6 +6,8 @@ use Rattle.plain_graph.specs.declared.value.Value.{Value}
 use Rattle.rec_bytes.specs.declared.fault.Fault.{Fault}
 use Rattle.rec_bytes.specs.declared.fault.Fault.TheVariants as faults
 use Rattle.rec_bytes.specs.Format as format
+use Rattle.rec_bytes.specs.RecordFiles.{room_of}
+use Rattle.rec_bytes.specs.Space.{State, meta_of}
 use Rattle.store_rules.specs.Hashes.{hash_of}
 use Rattle.store_rules.specs.IndexChange.{IsEntryMade}
 use Rattle.store_rules.specs.Indexes.{Entry}
@@ -23,6 +25,15 @@ abbrev pub IsMade : Records → Records → Bucket → Content → Type 0
 IsMade s t bucket content =
     (bucket.first ≢ format.nil → kind_at s format.index_file bucket.first ≡ format.indexed)
     → (id : ℕ) × IsEntryMade s t id bucket.slot.id bucket.slot.place content.node content.hash
+
+-- The file is full where as many records of the index are live as there is room for.
+abbrev pub IsIndexFull : State → TakeFault → Type 0
+IsIndexFull s (takes.Full file live) =
+    (file ≡ format.index_file) × (live ≡ (meta_of s format.index_file).live)
+    × (live ≡ room_of s.shape format.index_file)
+IsIndexFull s takes.Memory = Unit {0}
+IsIndexFull s takes.Disk = Unit {0}
+IsIndexFull s (takes.Damaged damage) = Unit {0}
 
 -- a fault of records that are read as one of a change
 abbrev pub of_read : Fault → TakeFault

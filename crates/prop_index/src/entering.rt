@@ -1,9 +1,9 @@
 //! Entries that are added.
 
-ghost use Rattle.std.specs.Prelude.{◌≡◌, ◌≢◌, ◌+◌, ◌≤◌, ℕ, List, OnOk, false};
+ghost use Rattle.std.specs.Prelude.{◌≡◌, ◌≢◌, ◌+◌, ◌≤◌, ℕ, List, IfErr, OnOk, false};
 ghost use Rattle.id_freelist.specs.TakeFault.{HasTakeCause, NotDamaged};
 ghost use Rattle.id_freelist.specs.Taking.{CanTake};
-ghost use Rattle.prop_index.specs.Entering.{IsMade, entry_of, of_read};
+ghost use Rattle.prop_index.specs.Entering.{IsIndexFull, IsMade, entry_of, of_read};
 ghost use Rattle.prop_index.specs.Heads.{IsHead};
 ghost use Rattle.prop_index.specs.Touching.{TouchesIndex};
 ghost use Rattle.rec_bytes.specs.Format.{index_file, indexed};
@@ -38,6 +38,7 @@ pub fn enter<S: Space>(
     ensures sound { S.tells → (wanted : Entries) → (free : List ℕ)
         → AreIndexed (S.state space.old).records wanted
         → CanTake (S.state space.old) index_file free → NotDamaged result }
+    ensures full { S.tells → IfErr result (IsIndexFull (S.state space.old)) }
     ensures touches { TouchesIndex S.tells 3 (S.state space.old) (S.state space.new) }
     ensures onward { S.onward space.old space.new }
     ensures cause { HasTakeCause (S.faults space.old) (S.faults space.new) result }
@@ -63,6 +64,7 @@ fn add_entry<S: Space>(space: &mut S, bucket: Bucket, content: Content) -> Resul
         → (bucket.first ≢ NIL
         → kind_at (S.state space.old).records index_file bucket.first ≡ indexed)
         → CanTake (S.state space.old) index_file free → NotDamaged result }
+    ensures full { S.tells → IfErr result (IsIndexFull (S.state space.old)) }
     ensures touches { TouchesIndex S.tells 3 (S.state space.old) (S.state space.new) }
     ensures onward { S.onward space.old space.new }
     ensures cause { HasTakeCause (S.faults space.old) (S.faults space.new) result }

@@ -3,6 +3,8 @@ use Rattle.std.proofs.Common.{◌<◌, ◌^◌, sym, subst, rules, arith}
 use Rattle.rec_bytes.specs.Space.{State}
 use Rattle.store_rules.specs.IndexChange.{IsEntryMade}
 use Rattle.prop_index.proofs.Made.{below_taken, made}
+use Rattle.prop_index.proofs.IndexFull.{take-full}
+use Rattle.std.proofs.lemmas.Result.{err_from_is_err_and}
 use Rattle.prop_index.proofs.IndexTouches.{index_taken, index_then}
 use Rattle.store_rules.specs.Views.{high, rec_at}
 use Rattle.store_rules.proofs.ViewLaws.{kind_below}
@@ -36,3 +38,9 @@ returns-in-Err-clause-sound g c tells free right can =
     let s = (g.S.Reads.state c.args.space.now).records in
     let first = c.args.bucket.first in
     true≢false (sym (c.in-Err.ensures.sound can.mark (λ some. kind_below (high s format.index_file) (rec_at s format.index_file first) first (λ e. let k = right some in omega (arith, e, k)))))
+
+pub returns-in_err-id-clause-full : goal.returns-in_err-id-clause-full
+returns-in_err-id-clause-full g c tells =
+    let s = g.S.Reads.state c.args.space.now in
+    let p = err_from_is_err_and c.from_residual.result c.from_residual.ensures.1 in
+    rw (p.1, p.2) (take-full s c.in_err-id.field-0.0 (c.in_err-id.ensures.refused tells))

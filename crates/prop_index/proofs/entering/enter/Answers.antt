@@ -10,12 +10,13 @@ use Rattle.rec_bytes.specs.Space.{SameButReads}
 use Rattle.store_rules.specs.Indexes.{AreIndexed, Entry, with_entry}
 use Rattle.store_rules.specs.Views.{Records, kind_at}
 use Rattle.prop_store.proofs.ReadCounts.{reads_same}
-use Rattle.prop_index.specs.Entering.{IsMade, entry_of, of_read}
+use Rattle.prop_index.specs.Entering.{IsIndexFull, IsMade, entry_of, of_read}
 use Rattle.prop_index.specs.Heads.{IsBucketSought}
 use Rattle.prop_index.specs.declared.entry_row.Content.{Content}
 use Rattle.prop_index.proofs.Buckets.{head-reread}
 use Rattle.prop_index.proofs.Changed.{entered_in, unlisted_entered, first_right}
 use Rattle.prop_index.proofs.Reread.{can_after, same_records}
+use Rattle.prop_index.proofs.IndexFull.{full-reread, read-full}
 use Rattle.prop_index.proofs.IndexTouches.{index_read, index_then}
 use Rattle.prop_index.proofs.entering.enter.Goals as goal
 
@@ -81,3 +82,14 @@ returns-clause-sound g c tells wanted free ix can =
     c.add_entry.ensures.sound tells free
     (λ some. ap (λ (r : Records). kind_at r format.index_file bucket.first) (same_records s now same) ∙ first_right s.records wanted ix c.args.label c.args.key content bucket found some)
     (can_after s now free same can)
+
+pub returns-in-Err-clause-full : goal.returns-in-Err-clause-full
+returns-in-Err-clause-full g c tells =
+    let s = g.S.Reads.state c.args.space.now in
+    subst (IsIndexFull s) (sym c.of_read.ensures) (read-full s c.in-Err.fault)
+
+pub returns-clause-full : goal.returns-clause-full
+returns-clause-full g c tells =
+    let s = g.S.Reads.state c.args.space.now in
+    let now = g.S.Reads.state c.find_bucket.new.space in
+    full-reread s now c.add_entry.result (reads_same 18 s now c.find_bucket.ensures.at_most) (c.add_entry.ensures.full tells)
