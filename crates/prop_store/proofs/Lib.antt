@@ -18,6 +18,7 @@ pub mod FileMoves
 pub mod FileSteps
 pub mod Followed
 pub mod Keys
+pub mod LeftElements
 pub mod LinkChanges
 pub mod ListLaws
 pub mod Meanings

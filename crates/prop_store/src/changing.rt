@@ -9,7 +9,7 @@ ghost use Rattle.prop_store.specs.Changing.{released_blocks};
 ghost use Rattle.rec_bytes.specs.Fault.{HasFaultCause, NotDamaged};
 ghost use Rattle.prop_store.specs.Fault.{BlamesBroken, BlamesDropped};
 ghost use Rattle.prop_store.specs.Owner.{IsInUse, IsOwner};
-ghost use Rattle.prop_store.specs.Touching.{TouchesProperties};
+ghost use Rattle.prop_store.specs.Touching.{LeavesElement, TouchesProperties};
 
 use crate::dropping::{drop_chain, drop_property};
 use crate::finding::{Search, find};
@@ -80,6 +80,8 @@ pub fn drop_all<S: Space>(space: &mut S, owner: Owner) -> Result<Dropped, Fault>
         dropped.properties dropped.blocks (S.state space.old) (S.state space.new)) }
     ensures at_most { TouchesProperties S.tells (owner.key ∷ []) 32 704
         (S.state space.old) (S.state space.new) }
+    ensures leaves { S.tells
+        → LeavesElement (S.state space.old) (S.state space.new) owner }
     ensures onward { S.onward space.old space.new }
     ensures cause { HasFaultCause (S.faults space.old) (S.faults space.new) result }
 {

@@ -9,6 +9,7 @@ use Rattle.prop_store.proofs.ElementGraphs.{drops_graph, owns_listed}
 use Rattle.prop_store.specs.Fault.{BlamesDropped}
 use Rattle.prop_store.specs.Owner.{IsInUse, first_of}
 use Rattle.prop_store.proofs.Exits.{same_has, space_has}
+use Rattle.prop_store.proofs.LeftElements.{left_after, left_read, left_set, left_then}
 use Rattle.prop_store.proofs.ReadCounts.{reads_one, reads_same}
 use Rattle.prop_store.proofs.Touches.{touches_after, touches_beside, touches_more, touches_owner, touches_reads, touches_then}
 use Rattle.prop_store.proofs.WriteCounts.{touched_beside}
@@ -138,3 +139,22 @@ returns-in_err-set_number-clause-cause g c =
     let later0 = c.in_ok-first.ensures.cause.later in
     let later1 = c.in_ok-dropped.ensures.cause.later in
     space_cause_passed _ _ _ c.from_residual-in_err-set_number.result c.in_err-set_number.field-0.0 (omega (arith, later0, later1)) c.in_err-set_number.ensures.cause c.from_residual-in_err-set_number.ensures.1
+
+-- ---- what is left of all other records
+
+pub returns-in_err-first-clause-leaves : goal.returns-in_err-first-clause-leaves
+returns-in_err-first-clause-leaves g c tells = left_read _ _ c.args.owner (reads_same 1 _ _ (reads_one 1 _ _ (omega arith) c.first.ensures.state))
+
+pub returns-in_err-dropped-clause-leaves : goal.returns-in_err-dropped-clause-leaves
+returns-in_err-dropped-clause-leaves g c tells = left_after g.S.Reads.tells 32 704 _ _ _ c.args.owner c.requires.owner tells (reads_same 1 _ _ (reads_one 1 _ _ (omega arith) c.first.ensures.state)) c.drop_chain.ensures.at_most
+
+pub returns-in_err-set_number-clause-leaves : goal.returns-in_err-set_number-clause-leaves
+returns-in_err-set_number-clause-leaves g c tells = left_then _ _ _ c.args.owner (left_after g.S.Reads.tells 32 704 _ _ _ c.args.owner c.requires.owner tells (reads_same 1 _ _ (reads_one 1 _ _ (omega arith) c.first.ensures.state)) c.drop_chain.ensures.at_most)
+    (left_read _ _ c.args.owner (reads_same 1 _ _ (reads_one 1 _ _ (omega arith) c.in_err-set_number.ensures.err)))
+
+pub returns-in_ok-set_number-clause-leaves : goal.returns-in_ok-set_number-clause-leaves
+returns-in_ok-set_number-clause-leaves g c tells = left_then _ _ _ c.args.owner (left_after g.S.Reads.tells 32 704 _ _ _ c.args.owner c.requires.owner tells (reads_same 1 _ _ (reads_one 1 _ _ (omega arith) c.first.ensures.state)) c.drop_chain.ensures.at_most)
+    (left_set _ _ c.args.owner _ (c.in_ok-set_number.ensures.ok tells))
+
+pub returns-else-first-clause-leaves : goal.returns-else-first-clause-leaves
+returns-else-first-clause-leaves g c tells = left_after g.S.Reads.tells 32 704 _ _ _ c.args.owner c.requires.owner tells (reads_same 1 _ _ (reads_one 1 _ _ (omega arith) c.first.ensures.state)) c.drop_chain.ensures.at_most
