@@ -45,7 +45,7 @@ abbrev pub clear_of : Rec → Rec
 clear_of r = with_field 4 (with_field 1 r format.kind format.dense) format.node_first_link format.nil
 
 -- numbers but the kind and the first link stay
-clear_other : (r : Rec) (n at : ℕ) → at + n ≤ 64 → 1 ≤ at → (at + n ≤ 8) ⊎ (12 ≤ at) → field n (clear_of r) at ≡ field n r at
+pub clear_other : (r : Rec) (n at : ℕ) → at + n ≤ 64 → 1 ≤ at → (at + n ≤ 8) ⊎ (12 ≤ at) → field n (clear_of r) at ≡ field n r at
 clear_other r n at inside one apart = field-with_field_other 4 (with_field 1 r format.kind format.dense) format.node_first_link format.nil n at inside (⊎_elim (λ l. inr l) (λ l. inl l) apart)
     ∙ field-with_field_other 1 r format.kind format.dense n at inside (inl one)
 

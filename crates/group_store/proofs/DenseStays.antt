@@ -38,7 +38,7 @@ dense_by s t node marks byte dense =
 
 -- ---- a group that is made
 
-taken_other : (s : State) (key : Key) → key ≢ meta_key_of format.groups_file → (taken s format.groups_file).records key ≡ s.records key
+pub taken_other : (s : State) (key : Key) → key ≢ meta_key_of format.groups_file → (taken s format.groups_file).records key ≡ s.records key
 unfolding mark_taken free_taken
 taken_other s key ne = on_test (λ (q : State). q.records key ≡ s.records key) (meta_of s format.groups_file).free format.nil (mark_taken s format.groups_file) (free_taken s format.groups_file)
     (λ _. put_other s.records (meta_key_of format.groups_file) _ key ne) (λ _. put_other s.records (meta_key_of format.groups_file) _ key ne)

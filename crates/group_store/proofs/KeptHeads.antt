@@ -192,12 +192,12 @@ module _ (r : Rec) (counts : Counts) where
   abbrev r3 : Rec
   r3 = with_field 4 r2 format.group_in_count counts.into
 
-  numbered : (n at : ℕ) → at + n ≤ 32 → field n (raised r counts) at ≡ field n r1 at
+  pub numbered : (n at : ℕ) → at + n ≤ 32 → field n (raised r counts) at ≡ field n r1 at
   numbered n at within = field-with_field_other 4 r3 format.group_loop_count counts.loops n at (omega arith) (inr (omega arith))
       ∙ field-with_field_other 4 r2 format.group_in_count counts.into n at (omega arith) (inr (omega arith))
       ∙ field-with_field_other 4 r1 format.group_out_count counts.out n at (omega arith) (inr (omega arith))
 
-  raised_kind : field 1 (raised r counts) format.kind ≡ format.counted
+  pub raised_kind : field 1 (raised r counts) format.kind ≡ format.counted
   raised_kind = numbered 1 format.kind (omega arith) ∙ field-with_field_same 1 r format.kind format.counted (omega arith) (omega arith)
 
   raised_number : (at : ℕ) → 1 ≤ at → at + 4 ≤ 32 → field 4 (raised r counts) at ≡ field 4 r at

@@ -23,6 +23,7 @@ pub mod HeadCounts
 pub mod Heads
 pub mod KeptHeads
 pub mod Leaves
+pub mod LeftBeside
 pub mod MadeRules
 pub mod MakeSteps
 pub mod Makes

@@ -9,7 +9,8 @@ use Rattle.rec_bytes.specs.Space.{State}
 use Rattle.store_rules.specs.Breaking.{IsHeadOf}
 use Rattle.store_rules.specs.Chains.{place_of}
 use Rattle.store_rules.specs.Rules.{Head}
-use Rattle.store_rules.specs.Views.{GroupRow, group_at, rec_at}
+use Rattle.store_rules.specs.Views.{GroupRow, Records, group_at, is_group_kind, kind_at, rec_at}
+use Rattle.node_store.specs.NodeRecord.{node_key}
 
 -- the record names the node as its source or its target
 abbrev pub IsEndIn : Rec → ℕ → Type 0
@@ -43,6 +44,31 @@ pub record LeavesOthers (s t : State) (node : ℕ) : Type 0 where
       → group.owner ≢ node → (n at : ℕ) → at + n ≤ format.record_bytes
       → field n (rec_at t.records format.groups_file g) at
       ≡ field n (rec_at s.records format.groups_file g) at
+
+-- Whatever the records are: of the node only its kind and its first link are other, and of
+-- relationships only links. Besides, groups may be, and their meta record.
+pub record LeavesBeside (s t : Records) (node : ℕ) : Type 0 where
+  pub others : (key : Key) → key.file ≢ format.relationships_file
+      → key.file ≢ format.groups_file → key ≢ meta_key_of format.groups_file
+      → key ≢ node_key node → t key ≡ s key
+  pub here : (n at : ℕ) → at + n ≤ format.record_bytes → 1 ≤ at
+      → (at + n ≤ format.node_first_link) ⊎ (format.node_first_property ≤ at)
+      → field n (rec_at t format.nodes_file node) at
+      ≡ field n (rec_at s format.nodes_file node) at
+  pub rels : (x n at : ℕ) → at + n ≤ format.record_bytes
+      → (at + n ≤ format.relationship_source_previous)
+      ⊎ (format.relationship_first_property ≤ at)
+      → field n (rec_at t format.relationships_file x) at
+      ≡ field n (rec_at s format.relationships_file x) at
+
+-- Whatever the records are: of a group only its kind and its numbers are other, and each is in use
+-- as it was. No record of another file is other.
+pub record LeavesCounted (s t : Records) : Type 0 where
+  pub others : (key : Key) → key.file ≢ format.groups_file → t key ≡ s key
+  pub groups : (g n at : ℕ) → 1 ≤ at → at + n ≤ format.group_out_count
+      → field n (rec_at t format.groups_file g) at ≡ field n (rec_at s format.groups_file g) at
+  pub used : (g : ℕ) → is_group_kind (kind_at t format.groups_file g)
+      ≡ is_group_kind (kind_at s format.groups_file g)
 
 -- Each node has the heads that it had.
 abbrev pub KeepsHeads : State → State → Type 0

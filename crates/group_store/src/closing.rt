@@ -8,7 +8,7 @@ ghost use Rattle.store_rules.specs.Breaking.{IsHeadOf};
 ghost use Rattle.chain_edit.specs.Breaks.{IsBreakFault};
 ghost use Rattle.chain_edit.specs.Heads.{head_of};
 ghost use Rattle.group_store.specs.Closing.{CanClose, HasClosed};
-ghost use Rattle.group_store.specs.Dropping.{lead_key};
+ghost use Rattle.group_store.specs.Dropping.{IsDropFault, lead_key};
 ghost use Rattle.group_store.specs.Leaving.{KeepsOtherHeads};
 ghost use Rattle.rec_bytes.specs.Fault.{HasFaultCause, NotDamaged, OnDamage};
 ghost use Rattle.group_store.specs.GroupRecord.{group_key};
@@ -25,6 +25,8 @@ pub fn close_chain<S: Space>(space: &mut S, node: u32, head: Head) -> Result<(),
         → HasClosed (S.state space.old) (S.state space.new) node most empty) }
     ensures sound { S.tells → (most : ℕ) (empty : List ℕ)
         → CanClose (S.state space.old) (head_of head) node most empty → NotDamaged result }
+    ensures damaged { S.tells
+        → IfErr result (IsDropFault (S.state space.old) node head.key.id) }
     ensures breaks { S.tells → IsHeadOf (S.state space.old).records (head_of head) node
         → IfErr result (IsBreakFault (S.state space.old)) }
     ensures unwritten { OnDamage result (SameButReads (S.state space.old) (S.state space.new)) }

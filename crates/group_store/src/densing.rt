@@ -16,7 +16,7 @@ ghost use Rattle.group_store.specs.Densing.{IsDenseFault, IsEndFault, IsMoveFaul
 ghost use Rattle.group_store.specs.GroupChain.{IsDense};
 ghost use Rattle.rec_bytes.specs.Fault.{HasFaultCause, NotDamaged, OnDamage};
 ghost use Rattle.group_store.specs.GroupRecord.{group_key};
-ghost use Rattle.group_store.specs.Leaving.{LeavesOthers};
+ghost use Rattle.group_store.specs.Leaving.{LeavesBeside, LeavesOthers};
 ghost use Rattle.group_store.specs.Moving.{GrowsBy, IsOwnTurn, turn_keys};
 ghost use Rattle.group_store.specs.Opening.{IsOpenFault};
 ghost use Rattle.group_store.specs.Raising.{IsGroupAt};
@@ -58,6 +58,12 @@ pub fn make_dense<S: Space>(space: &mut S, node: u32, threshold: u32) -> Result<
         → (S.state space.old).shape.threshold ≤ threshold
         → IfErr result (IsEndFault (S.state space.new) node) }
     ensures dense { S.tells → OnOk result (IsDense (S.state space.new).records node) }
+    ensures beside { S.tells → OnOk result
+        (LeavesBeside (S.state space.old).records
+        (S.state space.new).records node) }
+    ensures stays { S.tells → OnDamage result
+        (LeavesBeside (S.state space.old).records
+        (S.state space.new).records node) }
     ensures wrote { OnOk result (WritesBeside (node_key node) (2 * (threshold + 1))
         (S.state space.old) (S.state space.new)) }
     ensures writes { WritesBeside (node_key node) (2 * (threshold + 1) + 2)
@@ -134,6 +140,12 @@ fn move_one<S: Space>(space: &mut S, node: u32, rel: u32) -> Result<Turn, Fault>
         → IfErr result (IsMoveFault (S.state space.old) (S.state space.new) node rel) }
     ensures dense { S.tells → IsDense (S.state space.old).records node
         → OnOk result (IsDense (S.state space.new).records node) }
+    ensures beside { S.tells → OnOk result
+        (LeavesBeside (S.state space.old).records
+        (S.state space.new).records node) }
+    ensures stays { S.tells → OnDamage result
+        (LeavesBeside (S.state space.old).records
+        (S.state space.new).records node) }
     ensures wrote { IfOk result (λ turn.
         WritesOnly (S.state space.old) (S.state space.new) (turn_keys node rel turn)) }
     ensures touches { TouchesGroups (S.state space.old) (S.state space.new) node 2 2 }
@@ -178,6 +190,9 @@ pub(crate) fn own_group<S: Space>(space: &mut S, node: u32, label: u32) -> Resul
         → IfErr result (IsOpenFault (S.state space.old)) }
     ensures dense { S.tells → IsDense (S.state space.old).records node
         → OnOk result (IsDense (S.state space.new).records node) }
+    ensures beside { S.tells → OnOk result
+        (LeavesBeside (S.state space.old).records
+        (S.state space.new).records node) }
     ensures unwritten { OnDamage result (SameButReads (S.state space.old) (S.state space.new)) }
     ensures group { S.tells → IfOk result (λ own. IsDense (S.state space.old).records node
         → (own.row.counted ≡ true) ⊎ (IsGroupAt (S.state space.new) node own.row

@@ -18,7 +18,7 @@ ghost use Rattle.group_store.specs.Densing.{IsDenseFault, IsEndFault, IsSparse};
 ghost use Rattle.group_store.specs.FirstGroup.{IsNodeFault};
 ghost use Rattle.group_store.specs.GroupChain.{IsDense};
 ghost use Rattle.group_store.specs.GroupRecord.{group_key};
-ghost use Rattle.group_store.specs.Leaving.{KeepsHeads};
+ghost use Rattle.group_store.specs.Leaving.{KeepsHeads, LeavesBeside, LeavesCounted};
 ghost use Rattle.rec_bytes.specs.Fault.{HasFaultCause, NotDamaged, OnDamage};
 ghost use Rattle.group_store.specs.Opening.{
   CanOpen,
@@ -85,6 +85,8 @@ pub fn open_head<S: Space>(
         → IfOk result (λ head. IsHeadOf (S.state space.new).records (head_of head) node) }
     ensures heads { S.tells
         → OnOk result (KeepsHeads (S.state space.old) (S.state space.new)) }
+    ensures counts { S.tells → OnOk result
+        (LeavesCounted (S.state space.old).records (S.state space.new).records) }
     ensures head { IfOk result (λ head. IsHead (head_of head)) }
     ensures own { IfOk result (λ head. is_meta_file head.key.file ≡ true) }
     ensures wrote { IfOk result (λ head.
@@ -129,6 +131,9 @@ fn open_group<S: Space>(space: &mut S, node: u32, label: u32, side: Side) -> Res
         → IfErr result (IsOpenFault (S.state space.old)) }
     ensures unwritten { S.tells → IsDense (S.state space.old).records node
         → OnDamage result (SameButReads (S.state space.old) (S.state space.new)) }
+    ensures beside { S.tells → OnOk result
+        (LeavesBeside (S.state space.old).records
+        (S.state space.new).records node) }
     ensures at { IfOk result (λ head. head.key.file ≡ groups_file) }
     ensures head { IfOk result (λ head. IsHead (head_of head)) }
     ensures own { IfOk result (λ head. is_meta_file head.key.file ≡ true) }
@@ -172,6 +177,12 @@ pub fn open_chain<S: Space>(
         → IfErr result (IsDenseFault (S.state space.old) (S.state space.new) node) }
     ensures told { S.tells → (S.state space.old).shape.threshold ≤ threshold
         → IfErr result (IsEndFault (S.state space.new) node) }
+    ensures beside { S.tells → OnOk result
+        (LeavesBeside (S.state space.old).records
+        (S.state space.new).records node) }
+    ensures stays { S.tells → OnDamage result
+        (LeavesBeside (S.state space.old).records
+        (S.state space.new).records node) }
     ensures at { IfOk result
         (λ head. (head.key ≡ node_key node) ⊎ (head.key.file ≡ groups_file)) }
     ensures head { IfOk result (λ head. IsHead (head_of head)) }

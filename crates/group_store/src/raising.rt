@@ -11,7 +11,7 @@ ghost use Rattle.store_rules.specs.Views.{degree};
 ghost use Rattle.chain_edit.specs.Breaks.{IsBreakFault};
 ghost use Rattle.chain_edit.specs.Length.{HasCounted, IsMemberChain};
 ghost use Rattle.group_store.specs.GroupRecord.{group_key};
-ghost use Rattle.group_store.specs.Leaving.{KeepsHeads};
+ghost use Rattle.group_store.specs.Leaving.{KeepsHeads, LeavesBeside, LeavesCounted};
 ghost use Rattle.group_store.specs.Raising.{
   AreLengths,
   CanRaise,
@@ -56,6 +56,11 @@ pub(crate) fn count_group<S: Space>(space: &mut S, node: u32, row: &GroupRow) ->
     ensures unwritten { OnDamage result (SameButReads (S.state space.old) (S.state space.new)) }
     ensures heads { S.tells
         → OnOk result (KeepsHeads (S.state space.old) (S.state space.new)) }
+    ensures beside { S.tells → OnOk result
+        (LeavesBeside (S.state space.old).records
+        (S.state space.new).records node) }
+    ensures counts { S.tells → IsGroupAt (S.state space.old) node row.now → OnOk result
+        (LeavesCounted (S.state space.old).records (S.state space.new).records) }
     ensures writes { WritesOnly (S.state space.old) (S.state space.new)
         (group_key row.now.id ∷ []) }
     ensures onward { S.onward space.old space.new }

@@ -60,3 +60,8 @@ pub returns-in_ok-drop_if_empty-clause-heads : goal.returns-in_ok-drop_if_empty-
 returns-in_ok-drop_if_empty-clause-heads g c = λ tells owns.
     heads_closed (g.S.Reads.state c.args.space.now) (g.S.Reads.state c.drop_if_empty.new.space) (head_of c.args.head) c.args.node c.if-head-eq-GROUPS.true owns
     c.in_ok-drop_if_empty.field-0 c.in_ok-drop_if_empty.ensures.kept (c.in_ok-drop_if_empty.ensures.ok tells)
+
+pub returns-in_err-drop_if_empty-clause-damaged : goal.returns-in_err-drop_if_empty-clause-damaged
+returns-in_err-drop_if_empty-clause-damaged g c = λ tells.
+    let p = err_from_is_err_and c.from_residual.result c.from_residual.ensures.1 in
+    rw (p.1, p.2) (c.in_err-drop_if_empty.ensures.damaged tells)

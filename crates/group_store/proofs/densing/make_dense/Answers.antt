@@ -25,6 +25,8 @@ use Rattle.group_store.proofs.Touches.{node_touched, touches_beside, touches_mor
 use Rattle.group_store.proofs.Openings.{handed}
 use Rattle.group_store.proofs.Spreads.{left_all, left_first, left_next, left_none, none_over, not_dense_row, row_degree, turn_known}
 use Rattle.group_store.proofs.Causes.{cause_passed, later_on, row_cause_passed, space_cause_passed}
+use Rattle.group_store.proofs.LeftBeside.{beside_cleared, beside_read, beside_then, later_beside}
+use Rattle.group_store.proofs.MakeSteps.{on_damage}
 use Rattle.group_store.proofs.densing.make_dense.Goals as goal
 
 pub loop-init : goal.loop-init
@@ -42,6 +44,7 @@ loop-init g c =
           let used = (node_row s.records c.args.node c.in-Some.row (sym (sym c.in-Some.is ∙ c.in_ok-row.ensures.found tells))).0 in
           subst (λ (q : State). IsDense q.records c.args.node) (sym (c.in_ok-clear.ensures.ok tells))
           (dense_cleared v c.args.node (subst (λ (q : State). kind_at q.records nodes_file c.args.node ≢ 0) (sym same) used));
+      beside = λ tells. beside_then s.records v.records t.records c.args.node (beside_read s v c.args.node same) (beside_cleared v t c.args.node (c.in_ok-clear.ensures.ok tells));
       writes = come_none s v t c.args.node c.new-moved.result.relationships.items c.new-moved.result.groups.items same c.in_ok-clear.ensures.writes;
       rels = ap length moved.relationships;
       groups = ap length moved.groups;
@@ -64,6 +67,7 @@ loop-preserved g c =
       left = λ tells most empty can. left_next s now end c.args.node c.loop.at c.loop.counter most empty came groups turn c.if-at.false (c.in_ok-turn.ensures.own tells) (was.left tells most empty can) xs ys
           c.note.ensures.relationships c.note.ensures.groups (c.in_ok-turn.ensures.moved tells);
       dense = λ tells. c.in_ok-turn.ensures.dense tells (was.dense tells);
+      beside = λ tells. beside_then s.records now.records end.records c.args.node (was.beside tells) (c.in_ok-turn.ensures.beside tells);
       writes = come_next s now end c.args.node c.loop.at turn came groups xs ys was.writes c.in_ok-turn.ensures.wrote (c.note.ensures.known.0 c.if-not-note.false) c.note.ensures.relationships c.note.ensures.groups;
       rels = one_longer c.loop.at c.loop.counter came xs c.note.ensures.relationships was.rels;
       groups = one_longer turn.group c.loop.counter groups ys c.note.ensures.groups was.groups;
@@ -409,3 +413,58 @@ returns-then-not-note-clause-told g c = λ tells thin le. inr (inl c.rels_damage
 
 pub returns-then-at-2-clause-told : goal.returns-then-at-2-clause-told
 returns-then-at-2-clause-told g c = λ tells thin le. inr (inl c.rels_damage-then-at-2.ensures)
+
+-- ---- what is left of other records
+
+pub returns-then-at-clause-beside : goal.returns-then-at-clause-beside
+returns-then-at-clause-beside g c = λ tells. c.loop.invariant.beside tells
+
+pub returns-clause-beside : goal.returns-clause-beside
+returns-clause-beside g c = λ tells. c.loop.invariant.beside tells
+
+pub returns-in_err-row-clause-stays : goal.returns-in_err-row-clause-stays
+returns-in_err-row-clause-stays g c = λ tells.
+    let s = g.S.Reads.state c.args.space.now in
+    let l = g.S.Reads.state c.load.new.space in
+    on_damage c.from_residual.result _ (beside_read s l c.args.node (only_loads_node s l c.args.node c.load.ensures.state))
+
+pub returns-in_default-clause-stays : goal.returns-in_default-clause-stays
+returns-in_default-clause-stays g c = λ tells.
+    let s = g.S.Reads.state c.args.space.now in
+    let l = g.S.Reads.state c.load.new.space in
+    beside_read s l c.args.node (only_loads_node s l c.args.node c.load.ensures.state)
+
+pub returns-then-row-clause-stays : goal.returns-then-row-clause-stays
+returns-then-row-clause-stays g c = λ tells.
+    let s = g.S.Reads.state c.args.space.now in
+    let l = g.S.Reads.state c.load.new.space in
+    beside_read s l c.args.node (only_loads_node s l c.args.node c.load.ensures.state)
+
+pub returns-then-row-threshold-clause-stays : goal.returns-then-row-threshold-clause-stays
+returns-then-row-threshold-clause-stays g c = λ tells.
+    let s = g.S.Reads.state c.args.space.now in
+    let l = g.S.Reads.state c.load.new.space in
+    beside_read s l c.args.node (only_loads_node s l c.args.node c.load.ensures.state)
+
+pub returns-in_err-test_chain-clause-stays : goal.returns-in_err-test_chain-clause-stays
+returns-in_err-test_chain-clause-stays g c = λ tells.
+    let s = g.S.Reads.state c.args.space.now in
+    let l = g.S.Reads.state c.load.new.space in
+    let v = g.S.Reads.state c.test_chain.new.space in
+    on_damage c.from_residual-in_err-test_chain.result _ (beside_read s v c.args.node (same_twice s l v (only_loads_node s l c.args.node c.load.ensures.state) c.test_chain.ensures.state))
+
+pub returns-in_err-turn-clause-stays : goal.returns-in_err-turn-clause-stays
+returns-in_err-turn-clause-stays g c = λ tells.
+    let s = g.S.Reads.state c.args.space.now in
+    let now = g.S.Reads.state c.loop.space in
+    let p = err_from_is_err_and c.from_residual-in_err-turn.result c.from_residual-in_err-turn.ensures.1 in
+    rw (p.1, p.2) (later_beside s.records now.records (g.S.Reads.state c.move_one.new.space).records c.args.node (c.loop.invariant.beside tells) c.in_err-turn.field-0.0 (c.in_err-turn.ensures.stays tells))
+
+pub returns-then-not-note-clause-stays : goal.returns-then-not-note-clause-stays
+returns-then-not-note-clause-stays g c = λ tells.
+    let s = g.S.Reads.state c.args.space.now in
+    let now = g.S.Reads.state c.loop.space in
+    beside_then s.records now.records (g.S.Reads.state c.move_one.new.space).records c.args.node (c.loop.invariant.beside tells) (c.in_ok-turn.ensures.beside tells)
+
+pub returns-then-at-2-clause-stays : goal.returns-then-at-2-clause-stays
+returns-then-at-2-clause-stays g c = λ tells. c.loop.invariant.beside tells

@@ -24,6 +24,8 @@ use Rattle.group_store.proofs.OwnGroups.{keeps_then, writes_after}
 use Rattle.group_store.proofs.Spreads.{has_room, moved, only_loads, push_right, rel_there, row_sound, writes_freed, writes_pushed}
 use Rattle.group_store.proofs.Turns.{own_turn}
 use Rattle.group_store.proofs.Causes.{cause_passed, later_on, row_cause_passed, space_cause_passed}
+use Rattle.group_store.proofs.MakeSteps.{on_damage}
+use Rattle.group_store.proofs.LeftBeside.{beside_freed, beside_moved, beside_read, beside_then, unpushed_beside, unwritten_beside}
 use Rattle.group_store.proofs.densing.move_one.Goals as goal
 
 pub returns-in_err-row-clause-touches : goal.returns-in_err-row-clause-touches
@@ -198,3 +200,46 @@ returns-in_err-free_previous-clause-cause g c =
 pub returns-in_err-first-clause-cause : goal.returns-in_err-first-clause-cause
 returns-in_err-first-clause-cause g c =
     cause_passed _ _ _ c.from_residual-in_err-first.result c.in_err-first.field-0.0 (later_on (later_on c.in_ok-row.ensures.cause.later c.in_ok-own.ensures.cause.later) c.in_ok-free_previous.ensures.cause.later) c.in_err-first.ensures.cause c.from_residual-in_err-first.ensures.1
+
+-- ---- what is left of other records
+
+pub returns-clause-beside : goal.returns-clause-beside
+returns-clause-beside g c = λ tells.
+    let s = g.S.Reads.state c.args.space.now in
+    let l = g.S.Reads.state c.load.new.space in
+    let m = g.S.Reads.state c.own_group.new.space in
+    let end = g.S.Reads.state c.push_counted.new.space in
+    beside_then s.records l.records end.records c.args.node (beside_read s l c.args.node (only_loads s l c.args.rel c.load.ensures.state))
+    (beside_then l.records m.records end.records c.args.node (c.in_ok-own.ensures.beside tells)
+    (beside_moved m (g.S.Reads.state c.free_previous.new.space) end c.args.node c.args.rel (head_of c.group_head-head.result) (ap (λ (h : Head). h.key.file) c.group_head-head.ensures.is) (c.in_ok-free_previous.ensures.ok tells) (c.in_ok-first.ensures.ok tells)))
+
+pub returns-in_err-row-clause-stays : goal.returns-in_err-row-clause-stays
+returns-in_err-row-clause-stays g c = λ tells.
+    let s = g.S.Reads.state c.args.space.now in
+    let l = g.S.Reads.state c.load.new.space in
+    on_damage c.from_residual.result _ (beside_read s l c.args.node (only_loads s l c.args.rel c.load.ensures.state))
+
+pub returns-in_default-clause-stays : goal.returns-in_default-clause-stays
+returns-in_default-clause-stays g c = λ tells.
+    let s = g.S.Reads.state c.args.space.now in
+    let l = g.S.Reads.state c.load.new.space in
+    beside_read s l c.args.node (only_loads s l c.args.rel c.load.ensures.state)
+
+pub returns-in_err-own-clause-stays : goal.returns-in_err-own-clause-stays
+returns-in_err-own-clause-stays g c = λ tells.
+    let s = g.S.Reads.state c.args.space.now in
+    let l = g.S.Reads.state c.load.new.space in
+    let p = err_from_is_err_and c.from_residual-in_err-own.result c.from_residual-in_err-own.ensures.1 in
+    rw (p.1, p.2) (unwritten_beside s l (g.S.Reads.state c.own_group.new.space) c.args.node (only_loads s l c.args.rel c.load.ensures.state) c.in_err-own.field-0.0 c.in_err-own.ensures.unwritten)
+
+pub returns-in_err-first-clause-stays : goal.returns-in_err-first-clause-stays
+returns-in_err-first-clause-stays g c = λ tells.
+    let s = g.S.Reads.state c.args.space.now in
+    let l = g.S.Reads.state c.load.new.space in
+    let m = g.S.Reads.state c.own_group.new.space in
+    let t = g.S.Reads.state c.free_previous.new.space in
+    let p = err_from_is_err_and c.from_residual-in_err-first.result c.from_residual-in_err-first.ensures.1 in
+    rw (p.1, p.2) (unpushed_beside s.records t (g.S.Reads.state c.push_counted.new.space) c.args.node
+    (beside_then s.records l.records t.records c.args.node (beside_read s l c.args.node (only_loads s l c.args.rel c.load.ensures.state))
+    (beside_then l.records m.records t.records c.args.node (c.in_ok-own.ensures.beside tells) (beside_freed m t c.args.node c.args.rel (c.in_ok-free_previous.ensures.ok tells))))
+    c.in_err-first.field-0.0 c.in_err-first.ensures.unwritten)

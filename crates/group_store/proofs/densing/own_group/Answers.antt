@@ -22,6 +22,8 @@ use Rattle.group_store.proofs.OwnRoom.{can_make, can_walk, chain_ids, free_ids, 
 use Rattle.group_store.proofs.OwnGroups.{if_ok, keeps_then, none_found, opened_found, opened_made, writes_after}
 use Rattle.group_store.proofs.Turns.{found_grows, made_grows}
 use Rattle.group_store.proofs.Causes.{cause_passed}
+use Rattle.group_store.proofs.LeftBeside.{beside_made, beside_read, beside_then, if_done}
+use Rattle.group_store.specs.Leaving.{LeavesBeside}
 use Rattle.group_store.proofs.densing.own_group.Goals as goal
 
 pub returns-in_err-row-clause-writes : goal.returns-in_err-row-clause-writes
@@ -202,3 +204,20 @@ returns-in-None-clause-unwritten g c =
 pub returns-in_err-row-clause-cause : goal.returns-in_err-row-clause-cause
 returns-in_err-row-clause-cause g c =
     cause_passed _ _ _ c.from_residual.result c.in_err-row.field-0.0 (omega arith) c.in_err-row.ensures.cause c.from_residual.ensures.1
+
+-- ---- what is left of other records
+
+pub returns-in-Some-clause-beside : goal.returns-in-Some-clause-beside
+returns-in-Some-clause-beside g c = λ tells.
+    let s = g.S.Reads.state c.args.space.now in
+    let now = g.S.Reads.state c.find_group.new.space in
+    beside_read s now c.args.node (same_read _ s now c.find_group.ensures.at_most)
+
+pub returns-in-None-clause-beside : goal.returns-in-None-clause-beside
+returns-in-None-clause-beside g c = λ tells.
+    let s = g.S.Reads.state c.args.space.now in
+    let now = g.S.Reads.state c.find_group.new.space in
+    let end = g.S.Reads.state c.make_own.new.space in
+    if_done c.make_own.result (end ≡ made now c.args.node c.args.label) (LeavesBeside s.records end.records c.args.node)
+    (λ is. beside_then s.records now.records end.records c.args.node (beside_read s now c.args.node (same_read _ s now c.find_group.ensures.at_most))
+    (subst (λ (t : State). LeavesBeside now.records t.records c.args.node) (sym is) (beside_made now c.args.node c.args.label))) (c.make_own.ensures.ok tells)

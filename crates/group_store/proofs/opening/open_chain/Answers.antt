@@ -7,7 +7,7 @@ use Rattle.chain_edit.specs.declared.head.Head.{Head as ChainHead}
 use Rattle.chain_edit.specs.Heads.{head_of}
 use Rattle.group_store.specs.GroupChain.{IsDense}
 use Rattle.rec_bytes.specs.Format.{groups_file}
-use Rattle.rec_bytes.specs.Space.{State}
+use Rattle.rec_bytes.specs.Space.{SameButReads, State}
 use Rattle.node_store.specs.NodeRecord.{node_key}
 use Rattle.group_store.specs.Opening.{CanOpen, IsOpenFault, OpensChain, WritesOpened, moved_writes}
 use Rattle.group_store.proofs.BrokenGroups.{if_err, node_fault_breaks, only_breaks, open_read}
@@ -18,6 +18,10 @@ use Rattle.group_store.proofs.Opens.{dense_beside, dense_can, dense_group_can, d
 use Rattle.group_store.specs.Densing.{IsSparse}
 use Rattle.group_store.proofs.DenseFaults.{broken_then, dense_read, end_broken, end_opened, not_opened}
 use Rattle.group_store.proofs.Causes.{cause_passed}
+use Rattle.group_store.proofs.LeftBeside.{beside_read, beside_then, if_done, later_beside}
+use Rattle.group_store.proofs.DenseStays.{if_damage}
+use Rattle.group_store.proofs.MakeSteps.{on_damage}
+use Rattle.group_store.specs.Leaving.{LeavesBeside}
 use Rattle.group_store.proofs.opening.open_chain.Goals as goal
 
 pub returns-then-branch-clause-opened : goal.returns-then-branch-clause-opened
@@ -223,3 +227,55 @@ returns-then-degree-threshold-clause-at g c = inl (ap (λ (h : Head). h.key) c.n
 
 pub returns-clause-at : goal.returns-clause-at
 returns-clause-at g c = if_ok c.open_group-2.result _ (λ (head : ChainHead). (head.key ≡ node_key c.args.node) ⊎ (head.key.file ≡ groups_file)) (λ head is. inr is) c.open_group-2.ensures.at
+
+-- ---- what is left of other records
+
+pub returns-in_err-is_dense-clause-stays : goal.returns-in_err-is_dense-clause-stays
+returns-in_err-is_dense-clause-stays g c = λ tells. on_damage c.from_residual.result _ (beside_read (g.S.Reads.state c.args.space.now) (g.S.Reads.state c.is_dense.new.space) c.args.node c.is_dense.ensures.state)
+
+pub returns-then-branch-clause-beside : goal.returns-then-branch-clause-beside
+returns-then-branch-clause-beside g c = λ tells.
+    let s = g.S.Reads.state c.args.space.now in
+    let z = g.S.Reads.state c.is_dense.new.space in
+    let t = g.S.Reads.state c.open_group.new.space in
+    if_done c.open_group.result (LeavesBeside z.records t.records c.args.node) (LeavesBeside s.records t.records c.args.node)
+    (λ k. beside_then s.records z.records t.records c.args.node (beside_read s z c.args.node c.in_ok-is_dense.ensures.state) k) (c.open_group.ensures.beside tells)
+
+pub returns-then-branch-clause-stays : goal.returns-then-branch-clause-stays
+returns-then-branch-clause-stays g c = λ tells.
+    let s = g.S.Reads.state c.args.space.now in
+    let z = g.S.Reads.state c.is_dense.new.space in
+    let t = g.S.Reads.state c.open_group.new.space in
+    let dense = subst (λ (q : State). IsDense q.records c.args.node) (sym c.in_ok-is_dense.ensures.state) ((c.in_ok-is_dense.ensures.is tells).0 c.if-branch.true) in
+    if_damage c.open_group.result (SameButReads z t) (LeavesBeside s.records t.records c.args.node)
+    (λ k. beside_then s.records z.records t.records c.args.node (beside_read s z c.args.node c.in_ok-is_dense.ensures.state) (beside_read z t c.args.node k)) (c.open_group.ensures.unwritten tells dense)
+
+pub returns-then-degree-threshold-clause-beside : goal.returns-then-degree-threshold-clause-beside
+returns-then-degree-threshold-clause-beside g c = λ tells. beside_read (g.S.Reads.state c.args.space.now) (g.S.Reads.state c.is_dense.new.space) c.args.node c.in_ok-is_dense.ensures.state
+
+pub returns-in_err-make_dense-clause-stays : goal.returns-in_err-make_dense-clause-stays
+returns-in_err-make_dense-clause-stays g c = λ tells.
+    let s = g.S.Reads.state c.args.space.now in
+    let z = g.S.Reads.state c.is_dense.new.space in
+    let p = err_from_is_err_and c.from_residual-in_err-make_dense.result c.from_residual-in_err-make_dense.ensures.1 in
+    rw (p.1, p.2) (later_beside s.records z.records (g.S.Reads.state c.make_dense.new.space).records c.args.node (beside_read s z c.args.node c.in_ok-is_dense.ensures.state) c.in_err-make_dense.field-0.0 (c.in_err-make_dense.ensures.stays tells))
+
+pub returns-clause-beside : goal.returns-clause-beside
+returns-clause-beside g c = λ tells.
+    let s = g.S.Reads.state c.args.space.now in
+    let z = g.S.Reads.state c.is_dense.new.space in
+    let u = g.S.Reads.state c.make_dense.new.space in
+    let t = g.S.Reads.state c.open_group-2.new.space in
+    let first = beside_then s.records z.records u.records c.args.node (beside_read s z c.args.node c.in_ok-is_dense.ensures.state) (c.in_ok-make_dense.ensures.beside tells) in
+    if_done c.open_group-2.result (LeavesBeside u.records t.records c.args.node) (LeavesBeside s.records t.records c.args.node)
+    (λ k. beside_then s.records u.records t.records c.args.node first k) (c.open_group-2.ensures.beside tells)
+
+pub returns-clause-stays : goal.returns-clause-stays
+returns-clause-stays g c = λ tells.
+    let s = g.S.Reads.state c.args.space.now in
+    let z = g.S.Reads.state c.is_dense.new.space in
+    let u = g.S.Reads.state c.make_dense.new.space in
+    let t = g.S.Reads.state c.open_group-2.new.space in
+    let first = beside_then s.records z.records u.records c.args.node (beside_read s z c.args.node c.in_ok-is_dense.ensures.state) (c.in_ok-make_dense.ensures.beside tells) in
+    if_damage c.open_group-2.result (SameButReads u t) (LeavesBeside s.records t.records c.args.node)
+    (λ k. beside_then s.records u.records t.records c.args.node first (beside_read u t c.args.node k)) (c.open_group-2.ensures.unwritten tells (c.in_ok-make_dense.ensures.dense tells))

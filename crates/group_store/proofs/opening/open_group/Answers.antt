@@ -13,6 +13,7 @@ use Rattle.group_store.proofs.Heads.{then_unwritten}
 use Rattle.group_store.proofs.Raises.{breaks_read}
 use Rattle.group_store.proofs.Opens.{all_but, can_raise, not_full, opens_group}
 use Rattle.group_store.proofs.Causes.{cause_passed}
+use Rattle.group_store.proofs.LeftBeside.{beside_then}
 use Rattle.group_store.proofs.opening.open_group.Goals as goal
 
 pub returns-in_err-own-clause-sound : goal.returns-in_err-own-clause-sound
@@ -114,3 +115,7 @@ returns-in_err-count_group-clause-cause g c =
 
 pub returns-clause-at : goal.returns-clause-at
 returns-clause-at g c = ap (λ (h : Head). h.key.file) c.group_head.ensures.is
+
+-- what is left of other records
+pub returns-clause-beside : goal.returns-clause-beside
+returns-clause-beside g c = λ tells. beside_then _ _ _ c.args.node (c.in_ok-own.ensures.beside tells) (c.in_ok-count_group.ensures.beside tells)

@@ -24,6 +24,7 @@ use Rattle.group_store.proofs.MakeSteps.{on_damage, same_writes}
 use Rattle.group_store.proofs.Openings.{handed, keeps_read}
 use Rattle.group_store.proofs.OwnGroups.{writes_after}
 use Rattle.group_store.proofs.Causes.{cause_passed, later_on}
+use Rattle.group_store.proofs.LeftBeside.{counted_read, counted_then}
 use Rattle.group_store.proofs.opening.open_head.Goals as goal
 
 pub returns-then-not-branch-clause-found : goal.returns-then-not-branch-clause-found
@@ -254,3 +255,19 @@ returns-clause-owns g c = λ tells which.
     let at = found_at s z y c.in_ok-is_dense.ensures.state same c.args.node c.args.label c.in-Some.group found in
     subst (λ (h : Head). IsHeadOf t.records h c.args.node) (sym c.group_head.ensures.is)
     (c.in_ok-count_group.ensures.heads tells _ c.args.node (own_head y c.args.node c.in-Some.group c.args.side at))
+
+-- ---- what is left of other records
+
+pub returns-then-not-branch-clause-counts : goal.returns-then-not-branch-clause-counts
+returns-then-not-branch-clause-counts g c = λ tells. counted_read (g.S.Reads.state c.args.space.now) (g.S.Reads.state c.is_dense.new.space) c.in_ok-is_dense.ensures.state
+
+pub returns-clause-counts : goal.returns-clause-counts
+returns-clause-counts g c = λ tells.
+    let s = g.S.Reads.state c.args.space.now in
+    let z = g.S.Reads.state c.is_dense.new.space in
+    let y = g.S.Reads.state c.find_group.new.space in
+    let t = g.S.Reads.state c.count_group.new.space in
+    let found = subst (IsFound z.records c.args.node c.args.label) c.in-Some.is (c.in_ok-group.ensures.found tells) in
+    let same = only_read z y (1 + group_mark z) c.in_ok-group.ensures.at_most in
+    let at = found_at s z y c.in_ok-is_dense.ensures.state same c.args.node c.args.label c.in-Some.group found in
+    counted_then s.records y.records t.records (counted_read s y (same_twice s z y c.in_ok-is_dense.ensures.state same)) (c.in_ok-count_group.ensures.counts tells at)

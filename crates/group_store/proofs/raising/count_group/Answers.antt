@@ -5,6 +5,7 @@ use Rattle.group_store.proofs.ChainHeads.{same_twice}
 use Rattle.group_store.proofs.Raises.{can_read, got_same, lengths_read, raises, raises_after, raises_none}
 use Rattle.group_store.proofs.KeptHeads.{heads_raised}
 use Rattle.group_store.proofs.Causes.{cause_passed, later_on, space_cause_passed}
+use Rattle.group_store.proofs.LeftBeside.{beside_none, beside_raised, counted_none, counted_raised}
 use Rattle.group_store.proofs.raising.count_group.Goals as goal
 
 pub returns-then-row-clause-raised : goal.returns-then-row-clause-raised
@@ -46,3 +47,25 @@ returns-clause-heads g c = λ tells.
     let z = g.S.Reads.state c.count_chains.new.space in
     let t = g.S.Reads.state c.set_counts.new.space in
     heads_raised s z t c.args.row.now.id c.in_ok-counts.counts (same_twice s y z (got_same s y c.in_ok-rec.ensures.state) c.in_ok-counts.ensures.state) (c.in_ok-set_counts.ensures.ok tells)
+
+-- ---- what is left of other records
+
+pub returns-then-row-clause-beside : goal.returns-then-row-clause-beside
+returns-then-row-clause-beside g c = λ tells. beside_none (g.S.Reads.state c.args.space.now).records c.args.node
+
+pub returns-clause-beside : goal.returns-clause-beside
+returns-clause-beside g c = λ tells.
+    let s = g.S.Reads.state c.args.space.now in
+    let y = g.S.Reads.state c.get.new.self in
+    let z = g.S.Reads.state c.count_chains.new.space in
+    beside_raised s z (g.S.Reads.state c.set_counts.new.space) c.args.node c.args.row.now.id c.in_ok-counts.counts (same_twice s y z (got_same s y c.in_ok-rec.ensures.state) c.in_ok-counts.ensures.state) (c.in_ok-set_counts.ensures.ok tells)
+
+pub returns-then-row-clause-counts : goal.returns-then-row-clause-counts
+returns-then-row-clause-counts g c = λ tells at. counted_none (g.S.Reads.state c.args.space.now).records
+
+pub returns-clause-counts : goal.returns-clause-counts
+returns-clause-counts g c = λ tells at.
+    let s = g.S.Reads.state c.args.space.now in
+    let y = g.S.Reads.state c.get.new.self in
+    let z = g.S.Reads.state c.count_chains.new.space in
+    counted_raised s z (g.S.Reads.state c.set_counts.new.space) c.args.node c.args.row.now.id c.in_ok-counts.counts at.member (same_twice s y z (got_same s y c.in_ok-rec.ensures.state) c.in_ok-counts.ensures.state) (c.in_ok-set_counts.ensures.ok tells)

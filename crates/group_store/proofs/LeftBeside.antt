@@ -1,0 +1,262 @@
+-- What a change of a node's groups leaves of all other records, whatever the records are.
+use Rattle.std.specs.Prelude.{IfSome, OnOk}
+use Rattle.std.proofs.lemmas.Bool.{false≢true}
+use Rattle.std.proofs.Common.{◌≡◌, ◌≢◌, ◌⊎◌, ℕ, ◌+◌, ◌<◌, ◌≤◌, List, [], ◌∷◌, Result, Ok, Err, sym, ap, ◌∙◌, subst, inl, inr, ⊎_elim, arith, refl}
+use Rattle.rec_bytes.specs.declared.fault.Fault.{Fault}
+use Rattle.rec_bytes.specs.declared.fault.Fault.TheVariants.{Memory, Disk, Damaged}
+use Rattle.rec_bytes.specs.declared.key.Key.{Key}
+use Rattle.rec_bytes.specs.declared.meta.Meta.{Meta}
+use Rattle.rec_bytes.specs.declared.record.Rec.{Rec}
+use Rattle.rec_bytes.specs.Fault.{damage_of}
+use Rattle.rec_bytes.specs.Format as format
+use Rattle.rec_bytes.specs.Meta as metas
+use Rattle.rec_bytes.specs.Record.{field, with_field}
+use Rattle.rec_bytes.specs.RecordFiles.{meta_key_of}
+use Rattle.rec_bytes.specs.Space.{SameButReads, State, after_get, after_put, after_set, meta_of, put}
+use Rattle.rec_bytes.proofs.Numbers.{field-with_field_other}
+use Rattle.rec_bytes.proofs.Spaces.{meta_in-put_other, put_other, put_same}
+use Rattle.node_store.specs.NodeRecord.{node_key}
+use Rattle.id_freelist.specs.Taking.{taken, taken_id}
+use Rattle.store_rules.specs.Rules.{Head, first_of}
+use Rattle.store_rules.specs.Chains.{IsWalk}
+use Rattle.store_rules.specs.Views.{Records, first_link, high, is_group_kind, key_in, kind_at, kind_in, rec_at}
+use Rattle.store_rules.proofs.NumberLaws.{nat_cases}
+use Rattle.store_rules.proofs.ViewLaws.{kind_below, kind_low}
+use Rattle.chain_edit.specs.Chains.{next_place, prev_place}
+use Rattle.chain_edit.specs.Links as links
+use Rattle.chain_edit.specs.Pushing.{pushed}
+use Rattle.chain_edit.proofs.ChainSteps.{on_test}
+use Rattle.chain_edit.proofs.LinkLaws.{field-set_other, place_high, place_low, set_at}
+use Rattle.group_store.specs.Counting.{one_more, tallied}
+use Rattle.group_store.specs.GroupRecord.{group_key}
+use Rattle.group_store.specs.GroupChain.{IsGroupOf, next_group}
+use Rattle.group_store.specs.Leaving.{LeavesBeside, LeavesCounted}
+use Rattle.group_store.specs.Links.{backed}
+use Rattle.group_store.specs.Making.{empty_group, led, made}
+use Rattle.group_store.specs.Opening.{LacksGroupOn}
+use Rattle.group_store.specs.Raising.{raised, raised_state}
+use Rattle.group_store.specs.Spreading.{cleared}
+use Rattle.group_store.specs.declared.raising.Counts.{Counts}
+use Rattle.group_store.proofs.Clearing.{clear_of, clear_other}
+use Rattle.group_store.proofs.DenseStays.{taken_other}
+use Rattle.group_store.proofs.KeptHeads.{numbered, raised_kind}
+use Rattle.group_store.proofs.Tallies.{file-tallied}
+
+-- ---- one change
+
+pub beside_none : (s : Records) (node : ℕ) → LeavesBeside s s node
+beside_none s node = record { others = λ key a b c d. refl; here = λ n at inside one apart. refl; rels = λ x n at inside apart. refl }
+
+pub beside_read : (s t : State) (node : ℕ) → SameButReads s t → LeavesBeside s.records t.records node
+beside_read s t node same = subst (λ (z : State). LeavesBeside s.records z.records node) (sym same) (beside_none s.records node)
+
+pub beside_then : (s t u : Records) (node : ℕ) → LeavesBeside s t node → LeavesBeside t u node → LeavesBeside s u node
+beside_then s t u node a b = record {
+  others = λ key no_rel no_group no_meta ne. b.others key no_rel no_group no_meta ne ∙ a.others key no_rel no_group no_meta ne;
+  here = λ n at inside one apart. b.here n at inside one apart ∙ a.here n at inside one apart;
+  rels = λ x n at inside apart. b.rels x n at inside apart ∙ a.rels x n at inside apart;
+}
+
+-- no record but groups and their meta record is other
+beside_groups : (s t : Records) (node : ℕ) → ((key : Key) → key.file ≢ format.groups_file → key ≢ meta_key_of format.groups_file → t key ≡ s key) → LeavesBeside s t node
+beside_groups s t node same = record {
+  others = λ key a b c d. same key b c;
+  here = λ n at inside one apart. ap (λ r. field n r at) (same (key_in format.nodes_file node) (λ e. omega arith) (λ e. let f = ap (λ (k : Key). k.file) e in omega arith));
+  rels = λ x n at inside apart. ap (λ r. field n r at) (same (key_in format.relationships_file x) (λ e. omega arith) (λ e. let f = ap (λ (k : Key). k.file) e in omega arith));
+}
+
+-- a group is written
+pub beside_group : (s : Records) (node : ℕ) (key : Key) (rec : Rec) → key.file ≡ format.groups_file → LeavesBeside s (put s key rec) node
+beside_group s node key rec group = beside_groups s (put s key rec) node (λ q no_group no_meta. put_other s key rec q (λ e. no_group (ap (λ (k : Key). k.file) e ∙ group)))
+
+-- the node's record is
+beside_node : (s : Records) (node : ℕ) (rec : Rec) → ((n at : ℕ) → at + n ≤ format.record_bytes → 1 ≤ at → (at + n ≤ format.node_first_link) ⊎ (format.node_first_property ≤ at) → field n rec at ≡ field n (s (node_key node)) at)
+    → LeavesBeside s (put s (node_key node) rec) node
+beside_node s node rec stays = record {
+  others = λ key a b c d. put_other s (node_key node) rec key d;
+  here = λ n at inside one apart. ap (λ r. field n r at) (put_same s (node_key node) rec) ∙ stays n at inside one apart;
+  rels = λ x n at inside apart. ap (λ r. field n r at) (put_other s (node_key node) rec (key_in format.relationships_file x) (λ e. let f = ap (λ (k : Key). k.file) e in omega arith));
+}
+
+-- a link of a relationship is set
+beside_link : (s : Records) (node : ℕ) (p : Head) (to : ℕ) → p.key.file ≡ format.relationships_file → 16 ≤ p.field → p.field ≤ 28 → LeavesBeside s (set_at s p to) node
+beside_link s node p to rel low high = record {
+  others = λ key a b c d. put_other s p.key (with_field 4 (s p.key) p.field to) key (λ e. a (ap (λ (k : Key). k.file) e ∙ rel));
+  here = λ n at inside one apart. ap (λ r. field n r at) (put_other s p.key (with_field 4 (s p.key) p.field to) (key_in format.nodes_file node) (λ e. let f : format.nodes_file ≡ format.relationships_file = ap (λ (k : Key). k.file) e ∙ rel in omega arith));
+  rels = λ x n at inside apart. field-set_other s p to (key_in format.relationships_file x) n at inside (λ e. ⊎_elim (λ (k : at + n ≤ format.relationship_source_previous). inl (omega arith)) (λ (k : format.relationship_first_property ≤ at). inr (omega arith)) apart);
+}
+
+pub beside_prev : (s : State) (node m x to : ℕ) → LeavesBeside s.records (links.prev_set s m x to).records node
+beside_prev s node m x to =
+    let r = rec_at s.records format.relationships_file x in
+    beside_link s.records node (prev_place s.records m x) to refl (place_low r m) (let h = place_high r m in omega arith)
+
+pub beside_next : (s : State) (node m x to : ℕ) → LeavesBeside s.records (links.next_set s m x to).records node
+beside_next s node m x to =
+    let r = rec_at s.records format.relationships_file x in
+    beside_link s.records node (next_place s.records m x) to refl (let h = place_low r m in omega arith) (let h = place_high r m in omega arith)
+
+-- ---- a group that is made
+
+beside_led : (u : State) (node first id : ℕ) (rec : Rec) → LeavesBeside u.records (led u node first id rec).records node
+unfolding led backed
+beside_led u node first id rec =
+    let t = after_put u (group_key id) rec in
+    let b = backed t first id in
+    beside_then u.records t.records (led u node first id rec).records node (beside_group u.records node (group_key id) rec refl)
+    (beside_then t.records b.records (led u node first id rec).records node
+    (on_test (λ (q : State). LeavesBeside t.records q.records node) first format.nil t (after_set t (group_key first) 4 format.group_previous id) (λ _. beside_none t.records node) (λ _. beside_group t.records node (group_key first) _ refl))
+    (beside_node b.records node (with_field 4 (b.records (node_key node)) format.node_first_link id)
+    (λ n at inside one apart. sym (ap (λ r. field n r at) (put_same b.records (node_key node) (with_field 4 (b.records (node_key node)) format.node_first_link id)))
+    ∙ field-set_other b.records (record { key = node_key node; field = format.node_first_link }) id (node_key node) n at inside (λ _. apart))))
+
+pub beside_made : (s : State) (node label : ℕ) → LeavesBeside s.records (made s node label).records node
+unfolding made
+beside_made s node label =
+    let first = first_link s.records node in
+    let id = taken_id (meta_of s format.groups_file) in
+    let u = taken (after_get s) format.groups_file in
+    beside_then s.records u.records (made s node label).records node
+    (beside_groups s.records u.records node (λ key a b. taken_other (after_get s) key b))
+    (beside_led u node first id (empty_group node label first))
+
+-- ---- a group that gets its numbers
+
+pub beside_raised : (s z t : State) (node g : ℕ) (counts : Counts) → SameButReads s z → t ≡ raised_state z g counts → LeavesBeside s.records t.records node
+beside_raised s z t node g counts same is = beside_then s.records z.records t.records node (beside_read s z node same)
+    (subst (λ (q : State). LeavesBeside z.records q.records node) (sym is) (beside_group z.records node (group_key g) (raised (z.records (group_key g)) counts) refl))
+
+-- ---- a relationship that comes into a group
+
+beside_pushed : (s : State) (node : ℕ) (h : Head) (rel : ℕ) → h.key.file ≡ format.groups_file → LeavesBeside s.records (pushed s h node rel).records node
+unfolding pushed links.backed
+beside_pushed s node h rel group =
+    let first = first_of s.records h in
+    let b = links.backed (after_get s) node first rel in
+    let l = links.next_set b node rel first in
+    beside_then s.records b.records (pushed s h node rel).records node
+    (on_test (λ (q : State). LeavesBeside s.records q.records node) first format.nil (after_get s) (links.prev_set (after_get s) node first rel) (λ _. beside_none s.records node) (λ _. beside_prev (after_get s) node node first rel))
+    (beside_then b.records l.records (pushed s h node rel).records node (beside_next b node node rel first) (beside_group l.records node h.key (with_field 4 (s.records h.key) h.field rel) group))
+
+beside_tallied : (change : ℕ → ℕ) (s : State) (node : ℕ) (h : Head) → LeavesBeside s.records (tallied change s h).records node
+beside_tallied change s node h = beside_groups s.records (tallied change s h).records node (λ key a b. file-tallied change s h key a)
+
+pub beside_freed : (m t : State) (node rel : ℕ) → t ≡ links.prev_set m node rel format.nil → LeavesBeside m.records t.records node
+beside_freed m t node rel freed = subst (λ (z : State). LeavesBeside m.records z.records node) (sym freed) (beside_prev m node node rel format.nil)
+
+pub beside_moved : (m t end : State) (node rel : ℕ) (h : Head) → h.key.file ≡ format.groups_file → t ≡ links.prev_set m node rel format.nil → end ≡ tallied one_more (pushed t h node rel) h → LeavesBeside m.records end.records node
+beside_moved m t end node rel h group freed put = beside_then m.records t.records end.records node
+    (beside_freed m t node rel freed)
+    (subst (λ (z : State). LeavesBeside t.records z.records node) (sym put)
+    (beside_then t.records (pushed t h node rel).records (tallied one_more (pushed t h node rel) h).records node (beside_pushed t node h rel group) (beside_tallied one_more (pushed t h node rel) node h)))
+
+-- ---- a node that becomes dense
+
+pub beside_cleared : (s t : State) (node : ℕ) → t ≡ cleared s node → LeavesBeside s.records t.records node
+beside_cleared s t node is = subst (λ (z : State). LeavesBeside s.records z.records node) (sym is)
+    (beside_node s.records node (clear_of (s.records (node_key node))) (λ n at inside one apart. clear_other (s.records (node_key node)) n at inside one apart))
+
+-- ---- other nodes
+
+-- they are of the kind that they were
+pub beside_kinds : (s t : Records) (node : ℕ) → LeavesBeside s t node → (x : ℕ) → x ≢ node → kind_at t format.nodes_file x ≡ kind_at s format.nodes_file x
+beside_kinds s t node beside x ne =
+    let same = beside.others (key_in format.nodes_file x) (λ e. omega arith) (λ e. omega arith) (λ e. let f = ap (λ (k : Key). k.file) e in omega arith) (λ e. ne (ap (λ (k : Key). k.id) e)) in
+    let meta = beside.others (meta_key_of format.nodes_file) (λ e. omega arith) (λ e. omega arith) (λ e. let f = ap (λ (k : Key). k.id) e in omega arith) (λ e. let f = ap (λ (k : Key). k.file) e in omega arith) in
+    ap (λ m. kind_in m (rec_at t format.nodes_file x) x) (ap (λ r. (metas.meta_of r).high) meta) ∙ ap (λ r. kind_in (high s format.nodes_file) r x) same
+
+-- ---- what holds where a call succeeds, or where a record is said to be damaged
+
+pub if_done : {T E : Type 0} (r : Result T E) (P Q : Type 0) → (P → Q) → OnOk r P → OnOk r Q
+if_done (Ok x) P Q f h = f h
+if_done (Err e) P Q f h = tt
+
+-- a call that writes nothing where it tells a record, after reads
+pub unwritten_beside : (s l t : State) (node : ℕ) → SameButReads s l → (fault : Fault) → IfSome (damage_of fault) (λ _. SameButReads l t) → IfSome (damage_of fault) (λ _. LeavesBeside s.records t.records node)
+unwritten_beside s l t node same Memory told = tt
+unwritten_beside s l t node same Disk told = tt
+unwritten_beside s l t node same (Damaged damage) told = beside_then s.records l.records t.records node (beside_read s l node same) (beside_read l t node told)
+
+-- one that only reads there
+pub unpushed_beside : (s : Records) (t end : State) (node : ℕ) → LeavesBeside s t.records node → (fault : Fault) → IfSome (damage_of fault) (λ _. end ≡ after_get t) → IfSome (damage_of fault) (λ _. LeavesBeside s end.records node)
+unpushed_beside s t end node beside Memory told = tt
+unpushed_beside s t end node beside Disk told = tt
+unpushed_beside s t end node beside (Damaged damage) told = subst (λ (z : State). LeavesBeside s z.records node) (sym told) beside
+
+-- one after another
+pub later_beside : (s t u : Records) (node : ℕ) → LeavesBeside s t node → (fault : Fault) → IfSome (damage_of fault) (λ _. LeavesBeside t u node) → IfSome (damage_of fault) (λ _. LeavesBeside s u node)
+later_beside s t u node beside Memory told = tt
+later_beside s t u node beside Disk told = tt
+later_beside s t u node beside (Damaged damage) told = beside_then s t u node beside told
+
+-- ---- numbers of a group
+
+pub counted_none : (s : Records) → LeavesCounted s s
+counted_none s = record { others = λ key a. refl; groups = λ g n at one inside. refl; used = λ g. refl }
+
+pub counted_read : (s t : State) → SameButReads s t → LeavesCounted s.records t.records
+counted_read s t same = subst (λ (z : State). LeavesCounted s.records z.records) (sym same) (counted_none s.records)
+
+pub counted_then : (s t u : Records) → LeavesCounted s t → LeavesCounted t u → LeavesCounted s u
+counted_then s t u a b = record {
+  others = λ key file. b.others key file ∙ a.others key file;
+  groups = λ g n at one inside. b.groups g n at one inside ∙ a.groups g n at one inside;
+  used = λ g. b.used g ∙ a.used g;
+}
+
+counted_put : (s : State) (node g : ℕ) (counts : Counts) → IsGroupOf s.records node g → LeavesCounted s.records (raised_state s g counts).records
+counted_put s node g counts member =
+    let was = s.records (group_key g) in
+    let rec = raised was counts in
+    let t : Records = put s.records (group_key g) rec in
+    let marks : (f : ℕ) → high t f ≡ high s.records f = λ f. ap (λ (m : Meta). m.high) (meta_in-put_other s.records (group_key g) rec f (λ e. let k = ap (λ (q : Key). q.file) e in omega arith)) in
+    record {
+      others = λ key file. put_other s.records (group_key g) rec key (λ e. file (ap (λ (k : Key). k.file) e));
+      groups = λ k n at one inside. ⊎_elim
+          (λ (e : k ≡ g). subst (λ z. field n (rec_at t format.groups_file z) at ≡ field n (rec_at s.records format.groups_file z) at) (sym e)
+          (ap (λ r. field n r at) (put_same s.records (group_key g) rec) ∙ numbered was counts n at (omega arith)
+          ∙ field-with_field_other 1 was format.kind format.counted n at (omega arith) (inl (omega arith))))
+          (λ (ne : k ≢ g). ap (λ r. field n r at) (put_other s.records (group_key g) rec (group_key k) (λ e. ne (ap (λ (q : Key). q.id) e)))) (nat_cases k g);
+      used = λ k. ⊎_elim
+          (λ (e : k ≡ g). subst (λ z. is_group_kind (kind_at t format.groups_file z) ≡ is_group_kind (kind_at s.records format.groups_file z)) (sym e) (here marks))
+          (λ (ne : k ≢ g). ap is_group_kind (ap (λ m. kind_in m (rec_at t format.groups_file k) k) (marks format.groups_file)
+          ∙ ap (λ r. kind_in (high s.records format.groups_file) r k) (put_other s.records (group_key g) rec (group_key k) (λ e. ne (ap (λ (q : Key). q.id) e))))) (nat_cases k g);
+    }
+  where
+    here : ((f : ℕ) → high (put s.records (group_key g) (raised (s.records (group_key g)) counts)) f ≡ high s.records f) → is_group_kind (kind_at (raised_state s g counts).records format.groups_file g) ≡ is_group_kind (kind_at s.records format.groups_file g)
+    here marks =
+        let r = rec_at s.records format.groups_file g in
+        let rec = raised r counts in
+        let lt = kind_below (high s.records format.groups_file) r g (λ e. false≢true (ap is_group_kind (sym e) ∙ member.kind)) in
+        ap is_group_kind (kind_low (high (raised_state s g counts).records format.groups_file) (rec_at (raised_state s g counts).records format.groups_file g) g (subst (λ m. g < m) (sym (marks format.groups_file)) lt)
+        ∙ ap (λ q. field 1 q format.kind) (put_same s.records (group_key g) rec) ∙ raised_kind r counts) ∙ sym member.kind
+
+pub counted_raised : (s z t : State) (node g : ℕ) (counts : Counts) → IsGroupOf s.records node g → SameButReads s z → t ≡ raised_state z g counts → LeavesCounted s.records t.records
+counted_raised s z t node g counts member same is = counted_then s.records z.records t.records (counted_read s z same)
+    (subst (λ (q : State). LeavesCounted z.records q.records) (sym is) (counted_put z node g counts (subst (λ (q : State). IsGroupOf q.records node g) (sym same) member)))
+
+-- a node that lacks a group of a type lacked it before
+pub counted_lacks : (s t : Records) → LeavesCounted s t → (node label : ℕ) → LacksGroupOn t node label → LacksGroupOn s node label
+counted_lacks s t counted node label lacks = record {
+  dense = sym (kinds node) ∙ lacks.dense;
+  members = lacks.members;
+  list = record {
+    walk = walks first (lacks.list.walk);
+    only = λ g i. record { kind = sym (counted.used g) ∙ (lacks.list.only g i).kind; owner = sym (counted.groups g 4 format.group_owner (omega arith) (omega arith)) ∙ (lacks.list.only g i).owner };
+  };
+  lacks = λ g i e. lacks.lacks g i (counted.groups g 4 format.group_type (omega arith) (omega arith) ∙ e);
+}
+  where
+    kinds : (n : ℕ) → kind_at t format.nodes_file n ≡ kind_at s format.nodes_file n
+    kinds n = ap (λ m. kind_in m (rec_at t format.nodes_file n) n) (ap (λ r. (metas.meta_of r).high) (counted.others (meta_key_of format.nodes_file) (λ e. omega arith)))
+        ∙ ap (λ r. kind_in (high s format.nodes_file) r n) (counted.others (key_in format.nodes_file n) (λ e. omega arith))
+
+    first : first_link t node ≡ first_link s node
+    first = ap (λ r. field 4 r format.node_first_link) (counted.others (key_in format.nodes_file node) (λ e. omega arith))
+
+    steps : (a : ℕ) (xs : List ℕ) → IsWalk (next_group t) a xs → IsWalk (next_group s) a xs
+    steps a [] walk = walk
+    steps a (x ∷ xs) walk = (walk.0, walk.1, subst (λ z. IsWalk (next_group s) z xs) (counted.groups x 4 format.group_next (omega arith) (omega arith)) (steps (next_group t x) xs walk.2))
+
+    walks : first_link t node ≡ first_link s node → IsWalk (next_group t) (first_link t node) lacks.members → IsWalk (next_group s) (first_link s node) lacks.members
+    walks e walk = subst (λ f. IsWalk (next_group s) f lacks.members) e (steps (first_link t node) lacks.members walk)
