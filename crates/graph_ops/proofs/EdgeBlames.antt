@@ -1,6 +1,6 @@
 -- Which record is blamed where an edge is taken out of its chains, and heads that stay.
-use Rattle.std.specs.Prelude.{IfSome}
-use Rattle.std.proofs.Common.{◌≡◌, ◌≢◌, ◌⊎◌, ℕ, ◌+◌, ◌≤◌, Some, [], ◌∷◌, sym, ap, ◌∙◌, subst, inl, inr, ⊎_elim, arith}
+use Rattle.std.specs.Prelude.{IfErr, IfSome}
+use Rattle.std.proofs.Common.{◌≡◌, ◌≢◌, ◌⊎◌, ℕ, ◌+◌, ◌≤◌, Result, Ok, Err, [], ◌∷◌, sym, ap, ◌∙◌, subst, inl, inr, ⊎_elim, arith}
 use Rattle.rec_bytes.specs.declared.damage.Damage.{Damage}
 use Rattle.rec_bytes.specs.declared.fault.Fault.{Fault}
 use Rattle.rec_bytes.specs.declared.fault.Fault.TheVariants as faults
@@ -11,76 +11,101 @@ use Rattle.rec_bytes.specs.Format as format
 use Rattle.rec_bytes.specs.Meta as metas
 use Rattle.rec_bytes.specs.Record.{field}
 use Rattle.rec_bytes.specs.RecordFiles.{meta_key_of}
-use Rattle.rec_bytes.specs.Space.{IsAmong, SameButReads, State, after_get, after_set}
+use Rattle.rec_bytes.specs.Space.{IsAmong, SameButReads, State, after_set}
 use Rattle.store_rules.specs.Breaking.{Breaks, IsHeadOf}
 use Rattle.store_rules.specs.Rules.{Head}
-use Rattle.store_rules.specs.Views.{high, key_in, kind_at, rec_at, rel_at, rel_in}
+use Rattle.store_rules.specs.Views.{high, key_in}
 use Rattle.store_rules.specs.Writes.{ChangesOnly}
-use Rattle.store_rules.proofs.ViewLaws.{row_some}
 use Rattle.rel_store.specs.declared.rel_row.RelRow.{RelRow}
-use Rattle.rel_store.specs.RelRecord.{range_damage}
 use Rattle.prop_store.specs.Fault as props
 use Rattle.chain_edit.specs.Breaks.{IsBreakFault}
-use Rattle.chain_edit.specs.Chains.{next_of, prev_of}
-use Rattle.chain_edit.specs.Links.{IsLinkDamage}
-use Rattle.chain_edit.specs.Links.IsLinkDamage.{LeadsNowhere, HighMark}
 use Rattle.chain_edit.specs.Unlinking.{IsUnlinkFault, unlinked}
-use Rattle.chain_edit.proofs.Broken.{mark_breaks, next_breaks, prev_breaks}
 use Rattle.chain_edit.proofs.LinkLaws.{field-set_other}
 use Rattle.group_store.specs.Counting.{one_less, tallied}
+use Rattle.group_store.specs.Dropping.{IsDropDamage, IsDropFault}
+use Rattle.group_store.specs.Dropping.IsDropDamage.{BadMember, BadNext, BadPrevious}
+use Rattle.group_store.specs.GroupChain.{next_group, previous_group}
+use Rattle.group_store.specs.GroupRecord.{range_damage}
 use Rattle.group_store.specs.Leaving.{KeepsHeads}
-use Rattle.group_store.specs.Opening.{IsHeadFault, end_damage}
+use Rattle.group_store.specs.Links.{IsLinkDamage}
+use Rattle.group_store.specs.Links.IsLinkDamage.{HighLink, LeadsNowhere}
+use Rattle.group_store.specs.Opening.{IsHeadFault}
+use Rattle.group_store.specs.Walking.{IsMemberDamage}
+use Rattle.group_store.specs.Walking.IsMemberDamage.{HighMember, NoMember, UnknownMember}
+use Rattle.group_store.proofs.ChainHeads.{same_twice}
 use Rattle.group_store.proofs.KeptHeads.{alike_by, heads_alike}
 use Rattle.group_store.proofs.Tallies.{field-tallied}
 use Rattle.graph_ops.specs.ChangeFault.{of_fault}
-use Rattle.graph_ops.specs.Damage.{IfBlames, IsBroken}
-use Rattle.graph_ops.specs.EdgeDeleting.{BlamesDeleting, BlamesEnd, IsTakenDamage, LacksChain}
-use Rattle.graph_ops.specs.EdgeDeleting.IsTakenDamage.{BadLink, Broken, NoChain}
+use Rattle.graph_ops.specs.Damage.{IfBlames}
+use Rattle.graph_ops.specs.EdgeDeleting.{BlamesDeleting, BlamesEnd, IsEdgeLink, IsTakenDamage}
+use Rattle.graph_ops.specs.EdgeDeleting.IsTakenDamage.{Undropped}
 use Rattle.graph_ops.specs.EdgeEnds.{parted}
 use Rattle.graph_ops.specs.declared.change_fault.ChangeFault.{ChangeFault}
+use Rattle.graph_ops.specs.declared.change_fault.ChangeFault.TheVariants.{NoNode, NoEdge, HasRelationships, Full, NamesFull, PropsFull, Memory, Disk, Damaged}
+use Rattle.graph_ops.proofs.Broken.{blames_more}
 use Rattle.graph_ops.proofs.EdgeSteps.{number_unlinked, record_parted}
 
 -- ---- an end that is looked for
 
-pub end_read : (s t : State) (id node label : ℕ) → SameButReads s t → (fault : ChangeFault) → BlamesEnd s id node label fault → BlamesEnd t id node label fault
-end_read s t id node label same fault told = subst (λ (z : State). BlamesEnd z id node label fault) (sym same) told
+pub head_blamed : (s m : State) (id node label : ℕ) → SameButReads s m → (fault : Fault) → IsHeadFault m node id label fault → BlamesEnd s id node label (of_fault fault)
+head_blamed s m id node label same faults.Memory told = tt
+head_blamed s m id node label same faults.Disk told = tt
+head_blamed s m id node label same (faults.Damaged damage) told =
+    subst (λ (z : State). BlamesEnd z id node label (of_fault (faults.Damaged damage))) same (⊎_elim (λ k. inl k) (λ k. inr (k.0, inr k.1)) told)
 
-pub head_blamed : (s t : State) (id node label : ℕ) (fault : Fault) → IsHeadFault s node id label fault → IfSome (damage_of fault) (λ _. SameButReads s t) → BlamesEnd t id node label (of_fault fault)
-head_blamed s t id node label faults.Memory told same = tt
-head_blamed s t id node label faults.Disk told same = tt
-head_blamed s t id node label (faults.Damaged damage) told same =
-    subst (λ (z : State). BlamesEnd z id node label (of_fault (faults.Damaged damage))) (sym same) (⊎_elim (λ k. inl k) (λ k. inr (k.0, inr k.1)) told)
+-- nothing is written then
+pub head_unwritten : (s m t : State) → SameButReads s m → (fault : Fault) → IfSome (damage_of fault) (λ _. SameButReads m t) → IfBlames (λ _. SameButReads s t) (of_fault fault)
+head_unwritten s m t same faults.Memory told = tt
+head_unwritten s m t same faults.Disk told = tt
+head_unwritten s m t same (faults.Damaged damage) told = same_twice s m t same told
 
-pub end_taken : (s : State) (id : ℕ) (rel : RelRow) (node : ℕ) → (node ≡ rel.from) ⊎ (node ≡ rel.to) → (damage : Damage)
-    → IsBroken s damage ⊎ ((damage ≡ end_damage id) × LacksChain s node rel.label) → IsTakenDamage s id rel damage
-end_taken s id rel node which damage (inl k) = Broken damage k
-end_taken s id rel node which damage (inr k) = subst (IsTakenDamage s id rel) (sym k.0) (NoChain node which k.1)
+-- two facts of a record that is blamed
+pub blames_both : (P Q : Damage → Type 0) (fault : ChangeFault) → IfBlames P fault → IfBlames Q fault → IfBlames (λ damage. P damage × Q damage) fault
+blames_both P Q (NoNode id) a b = tt
+blames_both P Q (NoEdge id) a b = tt
+blames_both P Q (HasRelationships id degree) a b = tt
+blames_both P Q (Full file live) a b = tt
+blames_both P Q (NamesFull count) a b = tt
+blames_both P Q (PropsFull count) a b = tt
+blames_both P Q Memory a b = tt
+blames_both P Q Disk a b = tt
+blames_both P Q (Damaged damage) a b = (a, b)
+
+-- what is so of a record that is blamed, for what follows from it
+pub if_blames : {T : Type 0} (r : Result T ChangeFault) (P Q : Damage → Type 0) → ((damage : Damage) → P damage → Q damage) → IfErr r (IfBlames P) → IfErr r (IfBlames Q)
+if_blames (Ok x) P Q then h = tt
+if_blames (Err fault) P Q then h = blames_more P Q then fault h
 
 -- ---- a relationship that is taken out of a chain
 
-module _ (s : State) (id : ℕ) (rel : RelRow) where
-  -- a link that leads nowhere
-  link_taken : (link : ℕ) (damage : Damage) → (kind_at s.records format.relationships_file id ≢ 0 → (d : Damage) → IsLinkDamage s link (range_damage id) d → Breaks s.records s.shape d)
-      → IsLinkDamage s link (range_damage id) damage → IsTakenDamage (after_get s) id rel damage
-  link_taken link damage breaks (LeadsNowhere some above) = BadLink (λ used. breaks used (range_damage id) (LeadsNowhere some above))
-  link_taken link damage breaks (HighMark above) = Broken _ (mark_breaks s above)
-
-  live : kind_at s.records format.relationships_file id ≢ 0 → rel_at s.records id ≡ Some (rel_in (rec_at s.records format.relationships_file id) id)
-  live used = row_some (kind_at s.records format.relationships_file id) (rel_in (rec_at s.records format.relationships_file id) id) used
-
-  pub unlink_blamed : (t : State) (node : ℕ) (fault : Fault) → IsUnlinkFault s node id fault → IfSome (damage_of fault) (λ _. t ≡ after_get s) → IfBlames (IsTakenDamage t id rel) (of_fault fault)
-  unlink_blamed t node faults.Memory told same = tt
-  unlink_blamed t node faults.Disk told same = tt
-  unlink_blamed t node (faults.Damaged damage) told same = subst (λ (z : State). IsTakenDamage z id rel damage) (sym same)
-      (⊎_elim
-      (λ k. link_taken (prev_of s.records node id) damage (λ used d bad. prev_breaks s id node (rel_in (rec_at s.records format.relationships_file id) id) d (live used) bad) k)
-      (λ k. link_taken (next_of s.records node id) damage (λ used d bad. next_breaks s id node (rel_in (rec_at s.records format.relationships_file id) id) d (live used) bad) k) told)
+pub unlink_blamed : (s : State) (node id : ℕ) (fault : Fault) → IsUnlinkFault s node id fault → IfBlames (IsEdgeLink s id node) (of_fault fault)
+unlink_blamed s node id faults.Memory told = tt
+unlink_blamed s node id faults.Disk told = tt
+unlink_blamed s node id (faults.Damaged damage) told = told
 
 -- a group that isn't dropped
-pub close_blamed : (s t : State) (id : ℕ) (rel : RelRow) (fault : Fault) → IsBreakFault s fault → IfSome (damage_of fault) (λ _. SameButReads s t) → IfBlames (IsTakenDamage t id rel) (of_fault fault)
-close_blamed s t id rel faults.Memory told same = tt
-close_blamed s t id rel faults.Disk told same = tt
-close_blamed s t id rel (faults.Damaged damage) told same = Broken damage (subst (λ (z : State). Breaks z.records z.shape damage) (sym same) told)
+pub close_blamed : (was s t : State) (id : ℕ) (rel : RelRow) (node g : ℕ) (fault : Fault) → IsDropFault s node g fault → IsBreakFault s fault → IfSome (damage_of fault) (λ _. SameButReads s t)
+    → IfBlames (IsTakenDamage was t id rel) (of_fault fault)
+close_blamed was s t id rel node g faults.Memory told breaks same = tt
+close_blamed was s t id rel node g faults.Disk told breaks same = tt
+close_blamed was s t id rel node g (faults.Damaged damage) told breaks same = Undropped damage node g (drop_read s t node g damage same told) (subst (λ (z : State). Breaks z.records z.shape damage) (sym same) breaks)
+  where
+    drop_read : (s t : State) (node g : ℕ) (damage : Damage) → SameButReads s t → IsDropDamage s node g damage → IsDropDamage t node g damage
+    drop_read s t node g damage same told = subst (λ (z : State). IsDropDamage z node g damage) (sym same) (by damage told)
+      where
+        member : (d : Damage) → IsMemberDamage s node g d → IsMemberDamage (record s { reads = t.reads }) node g d
+        member d (NoMember not) = NoMember not
+        member d (UnknownMember low none) = UnknownMember low none
+        member d (HighMember above) = HighMember above
+
+        link : (l : ℕ) (d : Damage) → IsLinkDamage s l (range_damage g) d → IsLinkDamage (record s { reads = t.reads }) l (range_damage g) d
+        link l d (LeadsNowhere some above) = LeadsNowhere some above
+        link l d (HighLink above) = HighLink above
+
+        by : (d : Damage) → IsDropDamage s node g d → IsDropDamage (record s { reads = t.reads }) node g d
+        by d (BadMember _ bad) = BadMember d (member d bad)
+        by d (BadPrevious _ bad) = BadPrevious d (link (previous_group s.records g) d bad)
+        by d (BadNext _ bad) = BadNext d (link (next_group s.records g) d bad)
 
 -- properties that aren't taken away
 pub drop_blamed : (s v t : State) (id : ℕ) → SameButReads s v → (fault : Fault) → props.BlamesDropped v.records v.shape fault → BlamesDeleting s t id (of_fault fault)

@@ -5,6 +5,8 @@ use Rattle.prop_store.specs.Fault.{SharesBlock}
 use Rattle.rec_bytes.specs.declared.damage.Damage.{Damage}
 use Rattle.rec_bytes.specs.declared.key.Key.{Key}
 use Rattle.rec_bytes.specs.Format as format
+use Rattle.rec_bytes.specs.Record.{field}
+use Rattle.rec_bytes.specs.RecordFiles.{meta_key_of}
 use Rattle.rec_bytes.specs.Space.{State, WritesOnly, meta_of}
 use Rattle.rel_store.specs.Loading.{row_at}
 use Rattle.rel_store.specs.RelRecord.{range_damage, rel_key}
@@ -12,10 +14,15 @@ use Rattle.rel_store.specs.declared.rel_row.RelRow.{RelRow}
 use Rattle.store_rules.specs.Breaking.{IsHeadOf}
 use Rattle.store_rules.specs.Ends.{Regroups}
 use Rattle.store_rules.specs.Graph.{names_of}
+use Rattle.store_rules.specs.PropertyChange.{Apart}
 use Rattle.store_rules.specs.Rules.{KeepsRules, Owns, StandsAt}
-use Rattle.store_rules.specs.Views.{Records, degree, group_at, kind_at, node_at, rel_at}
+use Rattle.store_rules.specs.Views.{Records, degree, group_at, is_group_kind, kind_at, node_at, rec_at}
+use Rattle.store_rules.specs.Views.{rel_at}
 use Rattle.store_rules.specs.Writes.{AreOwn, meta_keys}
+use Rattle.chain_edit.specs.Chains.{next_of, prev_of}
 use Rattle.chain_edit.specs.Heads.{head_of}
+use Rattle.chain_edit.specs.Links.{IsLinkDamage}
+use Rattle.group_store.specs.Dropping.{IsDropDamage}
 use Rattle.group_store.specs.Opening.{LacksGroupOn, end_damage}
 use Rattle.graph_ops.specs.Damage.{IfBlames, IsBroken}
 use Rattle.graph_ops.specs.EdgeEnds.{end_groups, end_keys}
@@ -137,21 +144,54 @@ BlamesEnd s id node label fault =
     IfBlames (λ damage. IsBroken s damage
     ⊎ ((damage ≡ end_damage id) × LacksChain s node label)) fault
 
--- A record that is blamed where an edge that had this row is taken out of its chains breaks the
--- rule. Or it is the edge's, and breaks the rule if it is in use. Or it is the edge, for which an
--- end has no chain: by the third rule it is in one, and by the fourth each group is on its owner's
--- chain.
-pub data IsTakenDamage (s : State) (id : ℕ) (rel : RelRow) : Damage → Type 0 where
-  Broken : (damage : Damage) → IsBroken s damage → IsTakenDamage s id rel damage
-  BadLink : (kind_at s.records format.relationships_file id ≢ format.free_kind
-      → IsBroken s (range_damage id)) → IsTakenDamage s id rel (range_damage id)
+-- a link of the edge in a chain of the node leads nowhere
+abbrev pub IsEdgeLink : State → ℕ → ℕ → Damage → Type 0
+IsEdgeLink s id node damage =
+    IsLinkDamage s (prev_of s.records node id) (range_damage id) damage
+    ⊎ IsLinkDamage s (next_of s.records node id) (range_damage id) damage
+
+-- so it is at one of the two ends
+abbrev pub IsEndLink : State → ℕ → ℕ → ℕ → Damage → Type 0
+IsEndLink s id from to damage = IsEdgeLink s id from damage ⊎ IsEdgeLink s id to damage
+
+-- the edge's record says these ends
+pub record HasEndsIn (records : Records) (id from to : ℕ) : Type 0 where
+  pub source : field 4 (records (rel_key id)) format.relationship_source ≡ from
+  pub target : field 4 (records (rel_key id)) format.relationship_target ≡ to
+
+-- No record is other but those of properties and blocks, and the meta records of their files. Of
+-- the edge's own the place of its first property is, and of groups the kind and the numbers. Each
+-- group is in use as it was.
+pub record LeavesEdge (s t : State) (id : ℕ) : Type 0 where
+  pub shape : t.shape ≡ s.shape
+  pub others : (key : Key) → key.file ≢ format.properties_file → key.file ≢ format.strings_file
+      → key ≢ meta_key_of format.properties_file → key ≢ meta_key_of format.strings_file
+      → key.file ≢ format.groups_file → key ≢ rel_key id → t.records key ≡ s.records key
+  pub own : (n at : ℕ) → at + n ≤ format.record_bytes
+      → Apart n at 4 format.relationship_first_property
+      → field n (t.records (rel_key id)) at ≡ field n (s.records (rel_key id)) at
+  pub groups : (g n at : ℕ) → 1 ≤ at → at + n ≤ format.group_out_count
+      → field n (rec_at t.records format.groups_file g) at
+      ≡ field n (rec_at s.records format.groups_file g) at
+  pub used : (g : ℕ) → is_group_kind (kind_at t.records format.groups_file g)
+      ≡ is_group_kind (kind_at s.records format.groups_file g)
+
+-- A record that is blamed where an edge that had this row is taken out of its chains. It is found
+-- where its ends are looked for, and breaks the rule in the space as it is left, which differs from
+-- what it was in no more than properties, blocks and numbers of groups. Or it is the edge, for which
+-- an end had no chain: by the third rule it is in one, and by the fourth each group is on its
+-- owner's chain. Or a group of an end isn't dropped, and is told by the space as it is left.
+pub data IsTakenDamage (s t : State) (id : ℕ) (rel : RelRow) : Damage → Type 0 where
+  Sought : (damage : Damage) → LeavesEdge s t id → IsBroken t damage
+      → IsTakenDamage s t id rel damage
   NoChain : (node : ℕ) → (node ≡ rel.from) ⊎ (node ≡ rel.to) → LacksChain s node rel.label
-      → IsTakenDamage s id rel (end_damage id)
+      → IsTakenDamage s t id rel (end_damage id)
+  Undropped : (damage : Damage) (node g : ℕ) → IsDropDamage t node g damage
+      → IsBroken t damage → IsTakenDamage s t id rel damage
 
 -- A record that is blamed where an edge is deleted breaks the rule in the space as it was, or it is
--- a property that shares a block there. Or it is told where the edge is taken out of its chains, by
--- the space as it is left.
+-- a property that shares a block there. Or it is told where the edge is taken out of its chains.
 abbrev pub BlamesDeleting : State → State → ℕ → ChangeFault → Type 0
 BlamesDeleting s t id fault =
     IfBlames (λ damage. (IsBroken s damage ⊎ SharesBlock s.records damage)
-    ⊎ ((rel : RelRow) × (row_at s.records id ≡ Some rel) × IsTakenDamage t id rel damage)) fault
+    ⊎ ((rel : RelRow) × (row_at s.records id ≡ Some rel) × IsTakenDamage s t id rel damage)) fault

@@ -7,22 +7,23 @@ ghost use Rattle.plain_graph.specs.declared.command.Target.TheVariants as target
 ghost use Rattle.rec_bytes.specs.Format.{nodes_file, relationships_file};
 ghost use Rattle.rec_bytes.specs.Key.{IsKey};
 ghost use Rattle.store_rules.specs.Views.{key_in};
-ghost use Rattle.rec_bytes.specs.Space.{SameButReads, WritesOnly};
+ghost use Rattle.rec_bytes.specs.Space.{SameButReads, State, WritesOnly};
 ghost use Rattle.node_store.specs.Loading.{IsReadable, row_at};
 ghost use Rattle.rel_store.specs.RelRecord.{rel_key};
 ghost use Rattle.rel_store.specs.declared.rel_row.RelRow.{RelRow};
 ghost use Rattle.group_store.specs.Densing.{IsSparse};
 ghost use Rattle.group_store.specs.GroupChain.{IsDense};
 ghost use Rattle.group_store.specs.GroupRecord.{group_key};
-ghost use Rattle.group_store.specs.Leaving.{KeepsHeads};
+ghost use Rattle.group_store.specs.Leaving.{KeepsHeads, LeavesCounted};
 ghost use Rattle.store_rules.specs.Writes.{WritesAtMost, WritesBeside};
 ghost use Rattle.graph_ops.specs.Causes.{IsCaused};
 ghost use Rattle.graph_ops.specs.Change.{IsRefusal, MakesChange};
 ghost use Rattle.graph_ops.specs.ChangeFault.{HasChangeCause, IsFailure, IsOutside, LeavesSpace};
-ghost use Rattle.graph_ops.specs.Damage.{IfBlames};
+ghost use Rattle.graph_ops.specs.Damage.{IfBlames, OnBlame};
 ghost use Rattle.graph_ops.specs.EdgeDeleting.{BlamesDeleting, BlamesEnd, FindsEnd, FindsEnds};
-ghost use Rattle.graph_ops.specs.EdgeDeleting.{HasBareRow, HasHead, IsBareEdge, IsTakenDamage};
-ghost use Rattle.graph_ops.specs.EdgeDeleting.{KeepsKinds, TakesEdge, WritesTaken};
+ghost use Rattle.graph_ops.specs.EdgeDeleting.{HasBareRow, HasEndsIn, HasHead, IsBareEdge};
+ghost use Rattle.graph_ops.specs.EdgeDeleting.{IsEndLink, IsTakenDamage, KeepsKinds, LeavesEdge};
+ghost use Rattle.graph_ops.specs.EdgeDeleting.{TakesEdge, WritesTaken};
 ghost use Rattle.graph_ops.specs.EdgeEnds.{IsEdgeEnd};
 ghost use Rattle.graph_ops.specs.NodeDeleting.{HasDegree};
 ghost use Rattle.graph_ops.specs.Store.{IsStore, graph_in};
@@ -80,7 +81,9 @@ fn take_edge<S: Space>(space: &mut S, id: u32, rel: RelRow) -> Result<(), Change
         → TakesEdge (S.state space.old) (S.state space.new) names id) }
     ensures sound { S.tells → (names : List (List ℕ)) → IsStore (S.state space.old) names
         → HasBareRow (S.state space.old).records id rel → IfErr result IsOutside }
-    ensures damaged { S.tells → IfErr result (IfBlames (IsTakenDamage (S.state space.new) id rel)) }
+    ensures damaged { S.tells → HasEndsIn (S.state space.old).records id rel.from rel.to
+        → IfErr result (IfBlames (λ damage. IsEndLink (S.state space.old) id rel.from rel.to damage
+        ⊎ IsTakenDamage (S.state space.old) (S.state space.new) id rel damage)) }
     ensures writes { WritesBeside (rel_key id) 12 (S.state space.old) (S.state space.new) }
     ensures failure { IfErr result IsFailure }
     ensures onward { S.onward space.old space.new }
@@ -98,7 +101,12 @@ fn edge_ends<S: Space>(space: &mut S, id: u32, rel: RelRow) -> Result<BothEnds, 
         → FindsEnds (S.state space.old) (S.state space.new) names id ends.source ends.target) }
     ensures sound { S.tells → (names : List (List ℕ)) → IsStore (S.state space.old) names
         → HasBareRow (S.state space.old).records id rel → IfErr result IsOutside }
-    ensures damaged { S.tells → IfErr result (IfBlames (IsTakenDamage (S.state space.new) id rel)) }
+    ensures damaged { S.tells → IfErr result
+        (IfBlames (IsTakenDamage (S.state space.old) (S.state space.new) id rel)) }
+    ensures counts { S.tells → OnOk result
+        (LeavesEdge (S.state space.old) (S.state space.new) id) }
+    ensures nodes { IfOk result (λ ends. (ends.source.node ≡ rel.from)
+        × (ends.target.node ≡ rel.to)) }
     ensures heads { S.tells → IfOk result (λ ends. HasHead (S.state space.new).records ends.source
         × HasHead (S.state space.new).records ends.target) }
     ensures ends { IfOk result (λ ends. IsEdgeEnd ends.source × IsEdgeEnd ends.target) }
@@ -136,7 +144,11 @@ fn edge_end<S: Space>(
         → HasBareRow (S.state space.old).records id rel
         → (node ≡ rel.from) ⊎ (node ≡ rel.to) → IfErr result IsOutside }
     ensures damaged { S.tells → IfErr result
-        (BlamesEnd (S.state space.new) id node rel.label) }
+        (BlamesEnd (S.state space.old) id node rel.label) }
+    ensures unwritten { S.tells → OnBlame result
+        (SameButReads (S.state space.old) (S.state space.new)) }
+    ensures counts { S.tells → OnOk result
+        (LeavesCounted (S.state space.old).records (S.state space.new).records) }
     ensures has { S.tells → IfOk result (HasHead (S.state space.new).records) }
     ensures heads { S.tells → OnOk result (KeepsHeads (S.state space.old) (S.state space.new)) }
     ensures node { IfOk result (λ end. end.node ≡ node) }
@@ -199,8 +211,11 @@ fn unlink_edge<S: Space>(
     ensures sound { S.tells → (names : List (List ℕ)) → IsStore (S.state space.old) names
         → IsBareEdge (S.state space.old) id source target → IfErr result IsOutside }
     ensures damaged { S.tells → HasHead (S.state space.old).records source
-        → HasHead (S.state space.old).records target → (rel : RelRow)
-        → IfErr result (IfBlames (IsTakenDamage (S.state space.new) id rel)) }
+        → HasHead (S.state space.old).records target
+        → HasEndsIn (S.state space.old).records id source.node target.node
+        → (was : State) (rel : RelRow)
+        → IfErr result (IfBlames (λ damage. IsEndLink (S.state space.old) id source.node
+        target.node damage ⊎ IsTakenDamage was (S.state space.new) id rel damage)) }
     ensures writes { WritesTaken (S.state space.old) (S.state space.new) id source target }
     ensures failure { IfErr result IsFailure }
     ensures onward { S.onward space.old space.new }

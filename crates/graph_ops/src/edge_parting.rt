@@ -10,11 +10,10 @@ ghost use Rattle.chain_edit.specs.Chains.{next_of, prev_of};
 ghost use Rattle.chain_edit.specs.Heads.{head_of};
 ghost use Rattle.chain_edit.specs.Links.{IsRightLink};
 ghost use Rattle.group_store.specs.Leaving.{KeepsHeads};
-ghost use Rattle.rel_store.specs.declared.rel_row.RelRow.{RelRow};
 ghost use Rattle.graph_ops.specs.ChangeFault.{HasChangeCause, IsFailure, IsOutside};
 ghost use Rattle.graph_ops.specs.Damage.{IfBlames};
-ghost use Rattle.graph_ops.specs.EdgeDeleting.{HasHead, IsBareEdge, IsTakenDamage, PartsEdge};
-ghost use Rattle.graph_ops.specs.EdgeDeleting.{WritesEnds};
+ghost use Rattle.graph_ops.specs.EdgeDeleting.{HasEndsIn, HasHead, IsBareEdge, IsEdgeLink};
+ghost use Rattle.graph_ops.specs.EdgeDeleting.{IsEndLink, PartsEdge, WritesEnds};
 ghost use Rattle.graph_ops.specs.EdgeEnds.{IsEdgeEnd, both_parted, end_keys, parted};
 ghost use Rattle.graph_ops.specs.Store.{IsStore};
 
@@ -41,8 +40,10 @@ pub(crate) fn part_edge<S: Space>(
         → PartsEdge (S.state space.old) (S.state space.new) names id source target) }
     ensures sound { S.tells → (names : List (List ℕ)) → IsStore (S.state space.old) names
         → IsBareEdge (S.state space.old) id source target → IfErr result IsOutside }
-    ensures damaged { S.tells → (row : RelRow)
-        → IfErr result (IfBlames (IsTakenDamage (S.state space.new) id row)) }
+    ensures damaged { S.tells
+        → HasEndsIn (S.state space.old).records id source.node target.node
+        → HasHead (S.state space.old).records source
+        → IfErr result (IfBlames (IsEndLink (S.state space.old) id source.node target.node)) }
     ensures heads { S.tells → HasHead (S.state space.old).records source
         → HasHead (S.state space.old).records target
         → OnOk result (KeepsHeads (S.state space.old) (S.state space.new)) }
@@ -82,8 +83,10 @@ fn part_ends<S: Space>(
         (next_of (parted (S.state space.old) (head_of source.head) source.node rel
         (source.degree - 1)).records target.node rel))
         → IfErr result IsOutside }
-    ensures damaged { S.tells → (row : RelRow)
-        → IfErr result (IfBlames (IsTakenDamage (S.state space.new) rel row)) }
+    ensures damaged { S.tells
+        → HasEndsIn (S.state space.old).records rel source.node target.node
+        → HasHead (S.state space.old).records source
+        → IfErr result (IfBlames (IsEndLink (S.state space.old) rel source.node target.node)) }
     ensures heads { S.tells → HasHead (S.state space.old).records source
         → HasHead (S.state space.old).records target
         → OnOk result (KeepsHeads (S.state space.old) (S.state space.new)) }
@@ -110,8 +113,8 @@ fn part_end<S: Space>(space: &mut S, rel: u32, end: EdgeEnd) -> Result<(), Chang
         → IsRightLink (S.state space.old) (prev_of (S.state space.old).records end.node rel)
         → IsRightLink (S.state space.old) (next_of (S.state space.old).records end.node rel)
         → IfErr result IsOutside }
-    ensures damaged { S.tells → (row : RelRow)
-        → IfErr result (IfBlames (IsTakenDamage (S.state space.new) rel row)) }
+    ensures damaged { S.tells
+        → IfErr result (IfBlames (IsEdgeLink (S.state space.old) rel end.node)) }
     ensures heads { S.tells → HasHead (S.state space.old).records end
         → OnOk result (KeepsHeads (S.state space.old) (S.state space.new)) }
     ensures writes { (before after : ℕ) × WritesOnly (S.state space.old) (S.state space.new)

@@ -234,29 +234,3 @@ counted_put s node g counts member =
 pub counted_raised : (s z t : State) (node g : ℕ) (counts : Counts) → IsGroupOf s.records node g → SameButReads s z → t ≡ raised_state z g counts → LeavesCounted s.records t.records
 counted_raised s z t node g counts member same is = counted_then s.records z.records t.records (counted_read s z same)
     (subst (λ (q : State). LeavesCounted z.records q.records) (sym is) (counted_put z node g counts (subst (λ (q : State). IsGroupOf q.records node g) (sym same) member)))
-
--- a node that lacks a group of a type lacked it before
-pub counted_lacks : (s t : Records) → LeavesCounted s t → (node label : ℕ) → LacksGroupOn t node label → LacksGroupOn s node label
-counted_lacks s t counted node label lacks = record {
-  dense = sym (kinds node) ∙ lacks.dense;
-  members = lacks.members;
-  list = record {
-    walk = walks first (lacks.list.walk);
-    only = λ g i. record { kind = sym (counted.used g) ∙ (lacks.list.only g i).kind; owner = sym (counted.groups g 4 format.group_owner (omega arith) (omega arith)) ∙ (lacks.list.only g i).owner };
-  };
-  lacks = λ g i e. lacks.lacks g i (counted.groups g 4 format.group_type (omega arith) (omega arith) ∙ e);
-}
-  where
-    kinds : (n : ℕ) → kind_at t format.nodes_file n ≡ kind_at s format.nodes_file n
-    kinds n = ap (λ m. kind_in m (rec_at t format.nodes_file n) n) (ap (λ r. (metas.meta_of r).high) (counted.others (meta_key_of format.nodes_file) (λ e. omega arith)))
-        ∙ ap (λ r. kind_in (high s format.nodes_file) r n) (counted.others (key_in format.nodes_file n) (λ e. omega arith))
-
-    first : first_link t node ≡ first_link s node
-    first = ap (λ r. field 4 r format.node_first_link) (counted.others (key_in format.nodes_file node) (λ e. omega arith))
-
-    steps : (a : ℕ) (xs : List ℕ) → IsWalk (next_group t) a xs → IsWalk (next_group s) a xs
-    steps a [] walk = walk
-    steps a (x ∷ xs) walk = (walk.0, walk.1, subst (λ z. IsWalk (next_group s) z xs) (counted.groups x 4 format.group_next (omega arith) (omega arith)) (steps (next_group t x) xs walk.2))
-
-    walks : first_link t node ≡ first_link s node → IsWalk (next_group t) (first_link t node) lacks.members → IsWalk (next_group s) (first_link s node) lacks.members
-    walks e walk = subst (λ f. IsWalk (next_group s) f lacks.members) e (steps (first_link t node) lacks.members walk)

@@ -1,9 +1,9 @@
-use Rattle.std.proofs.Common.{◌≡◌, ◌∙◌, ◌+◌, ℕ, Some, List, [], ◌∷◌, sym, ap, subst, inl, inr, arith, refl}
+use Rattle.std.proofs.Common.{◌≡◌, ◌∙◌, ◌+◌, ℕ, Some, List, [], ◌∷◌, sym, ap, subst, inl, inr, ⊎_elim, arith, refl}
 use Rattle.plain_graph.specs.Refusals.{change_reasons}
 use Rattle.plain_graph.specs.declared.command.Command.TheVariants as commands
 use Rattle.plain_graph.specs.declared.command.Target.TheVariants as targets
 use Rattle.prop_store.specs.Changing.{HasElement}
-use Rattle.prop_store.specs.Touching.{TouchesProperties}
+use Rattle.prop_store.specs.Touching.{LeavesElement, TouchesProperties}
 use Rattle.prop_store.specs.declared.owner.Owner.{Owner}
 use Rattle.rec_bytes.specs.Format as format
 use Rattle.rec_bytes.specs.Space.{SameButReads, State}
@@ -30,6 +30,7 @@ use Rattle.prop_store.specs.Owner.{IsInUse}
 use Rattle.graph_ops.specs.Owners.{owner_of}
 use Rattle.graph_ops.proofs.Broken.{blames_more, rel_broken, rel_in_use}
 use Rattle.graph_ops.proofs.EdgeBlames.{drop_blamed}
+use Rattle.graph_ops.proofs.EdgeFrames.{edge_left, edge_read, edge_then, end_link_before, end_link_breaks, ends_found, ends_later, taken_before}
 use Rattle.graph_ops.proofs.edge_deleting.delete_edge.Goals as goal
 use Rattle.graph_ops.proofs.edge_deleting.delete_edge.Goals.{After-drop_all, After-load, After-take_edge}
 use Rattle.graph_ops.proofs.edge_deleting.delete_edge.Given.{Over}
@@ -216,7 +217,15 @@ returns-in_err-dropped-clause-damaged g c tells =
 pub returns-in_err-take_edge-clause-damaged : goal.returns-in_err-take_edge-clause-damaged
 returns-in_err-take_edge-clause-damaged g c tells =
     let s = g.S.Reads.state c.args.space.now in
+    let v = g.S.Reads.state c.load.new.space in
+    let w = g.S.Reads.state c.drop_all.new.space in
     let t = g.S.Reads.state c.take_edge.new.space in
-    let at = (goal.at.returns-in_err-take_edge-clause-damaged g c).After-take_edge in
-    fault_exit (λ f. f) (BlamesDeleting s t c.args.id) c.in_err-take_edge.field-0.0 c.from_residual-in_err-take_edge.result c.from_residual-in_err-take_edge.ensures.1
-    (blames_more _ _ (λ damage told. inr (c.in-Some.rel, sym (found g (goal.at.After-take_edge g at).After-drop_all tells), told)) c.in_err-take_edge.field-0.0 (c.in_err-take_edge.ensures.damaged tells))
+    let at = (goal.at.After-take_edge g (goal.at.returns-in_err-take_edge-clause-damaged g c).After-take_edge).After-drop_all in
+    let id = c.args.id in
+    let rel = c.in-Some.rel in
+    let row = sym (found g at tells) in
+    let left = edge_then s v w id (edge_read s v id (was_read g at)) (edge_left v w id (g.met.S.Reads.onward_shape _ _ c.drop_all.ensures.onward)
+        (subst (LeavesElement v w) c.edge_owner.ensures (c.drop_all.ensures.leaves tells))) in
+    fault_exit (λ f. f) (BlamesDeleting s t id) c.in_err-take_edge.field-0.0 c.from_residual-in_err-take_edge.result c.from_residual-in_err-take_edge.ensures.1
+    (blames_more _ _ (λ damage told. ⊎_elim (λ k. inl (inl (end_link_breaks s id rel damage row (end_link_before s w id rel.from rel.to damage left k)))) (λ k. inr (rel, row, taken_before s w t id rel left damage k)) told)
+    c.in_err-take_edge.field-0.0 (c.in_err-take_edge.ensures.damaged tells (ends_later s w id left rel.from rel.to (ends_found s id rel row))))

@@ -3,7 +3,11 @@ use Rattle.graph_ops.proofs.EndsFound.{taken_then}
 use Rattle.graph_ops.proofs.EndWrites.{groups_beside, taken_after, taken_beside}
 use Rattle.graph_ops.proofs.Exits.{fault_exit, on_ok}
 use Rattle.graph_ops.specs.Damage.{IfBlames}
-use Rattle.graph_ops.specs.EdgeDeleting.{IsTakenDamage}
+use Rattle.graph_ops.specs.EdgeDeleting.{HasEndsIn, IsEndLink, IsTakenDamage}
+use Rattle.std.proofs.Common.{◌⊎◌, inl, inr, ⊎_elim, subst, sym}
+use Rattle.graph_ops.proofs.Broken.{blames_more}
+use Rattle.graph_ops.proofs.EdgeBlames.{if_blames}
+use Rattle.graph_ops.proofs.EdgeFrames.{end_link_before, ends_later}
 use Rattle.graph_ops.proofs.edge_deleting.take_edge.Goals as goal
 
 -- ---- why it fails
@@ -38,10 +42,25 @@ returns-clause-writes g c =
 
 -- ---- which record is blamed
 pub returns-in_err-ends-clause-damaged : goal.returns-in_err-ends-clause-damaged
-returns-in_err-ends-clause-damaged g c tells =
-    fault_exit (λ f. f) (IfBlames (IsTakenDamage (g.S.Reads.state c.edge_ends.new.space) c.args.id c.args.rel)) c.in_err-ends.field-0.0 c.from_residual.result c.from_residual.ensures.1 (c.in_err-ends.ensures.damaged tells)
+returns-in_err-ends-clause-damaged g c tells ends =
+    let s = g.S.Reads.state c.args.space.now in
+    let t = g.S.Reads.state c.edge_ends.new.space in
+    fault_exit (λ f. f) (IfBlames (λ damage. IsEndLink s c.args.id c.args.rel.from c.args.rel.to damage ⊎ IsTakenDamage s t c.args.id c.args.rel damage)) c.in_err-ends.field-0.0 c.from_residual.result c.from_residual.ensures.1
+    (blames_more _ _ (λ damage told. inr told) c.in_err-ends.field-0.0 (c.in_err-ends.ensures.damaged tells))
 
 pub returns-clause-damaged : goal.returns-clause-damaged
-returns-clause-damaged g c tells =
+returns-clause-damaged g c tells ends =
+    let s = g.S.Reads.state c.args.space.now in
+    let t = g.S.Reads.state c.edge_ends.new.space in
+    let u = g.S.Reads.state c.unlink_edge.new.space in
     let has = c.in_ok-ends.ensures.heads tells in
-    c.unlink_edge.ensures.damaged tells has.0 has.1 c.args.rel
+    let left = c.in_ok-ends.ensures.counts tells in
+    let from = c.in_ok-ends.ensures.nodes.0 in
+    let to = c.in_ok-ends.ensures.nodes.1 in
+    let n = c.in_ok-ends.ends.source.node in
+    let m = c.in_ok-ends.ends.target.node in
+    let now = subst (λ a. HasEndsIn t.records c.args.id a m) (sym from) (subst (λ b. HasEndsIn t.records c.args.id c.args.rel.from b) (sym to) (ends_later s t c.args.id left c.args.rel.from c.args.rel.to ends)) in
+    if_blames c.unlink_edge.result _ _
+    (λ damage told. ⊎_elim
+    (λ k. inl (subst (λ a. IsEndLink s c.args.id a c.args.rel.to damage) from (subst (λ b. IsEndLink s c.args.id n b damage) to (end_link_before s t c.args.id n m damage left k)))) (λ k. inr k) told)
+    (c.unlink_edge.ensures.damaged tells has.0 has.1 now s c.args.rel)

@@ -3,10 +3,10 @@ use Rattle.graph_ops.proofs.DiskCauses.{space_cause_passed}
 use Rattle.chain_edit.specs.Heads.{head_of}
 use Rattle.graph_ops.specs.ChangeFault.{of_fault, of_space}
 use Rattle.graph_ops.specs.Damage.{IfBlames}
-use Rattle.graph_ops.specs.EdgeDeleting.{IsTakenDamage}
 use Rattle.graph_ops.proofs.Adding.{space_blamed}
 use Rattle.graph_ops.proofs.EdgeBlames.{heads_parted_by, unlink_blamed}
 use Rattle.graph_ops.proofs.Exits.{fault_exit}
+use Rattle.graph_ops.specs.EdgeDeleting.{IsEdgeLink}
 use Rattle.graph_ops.proofs.edge_parting.part_end.Goals as goal
 
 pub returns-in_err-set_number-clause-writes : goal.returns-in_err-set_number-clause-writes
@@ -21,16 +21,14 @@ returns-in_err-set_number-clause-cause g c =
 
 -- ---- which record is blamed, and heads that stay
 pub returns-in_err-unlink_counted-clause-damaged : goal.returns-in_err-unlink_counted-clause-damaged
-returns-in_err-unlink_counted-clause-damaged g c tells row =
+returns-in_err-unlink_counted-clause-damaged g c tells =
     let s = g.S.Reads.state c.args.space.now in
-    let t = g.S.Reads.state c.unlink_counted.new.space in
-    fault_exit of_fault (IfBlames (IsTakenDamage t c.args.rel row)) c.in_err-unlink_counted.field-0.0 c.from_residual.result c.from_residual.ensures.1
-    (unlink_blamed s c.args.rel row t c.args.end.node c.in_err-unlink_counted.field-0.0 (c.in_err-unlink_counted.ensures.damaged tells) c.in_err-unlink_counted.ensures.unwritten)
+    fault_exit of_fault (IfBlames (IsEdgeLink s c.args.rel c.args.end.node)) c.in_err-unlink_counted.field-0.0 c.from_residual.result c.from_residual.ensures.1
+    (unlink_blamed s c.args.end.node c.args.rel c.in_err-unlink_counted.field-0.0 (c.in_err-unlink_counted.ensures.damaged tells))
 
 pub returns-in_err-set_number-clause-damaged : goal.returns-in_err-set_number-clause-damaged
-returns-in_err-set_number-clause-damaged g c tells row =
-    let t = g.S.Reads.state c.set_number.new.space in
-    fault_exit of_space (IfBlames (IsTakenDamage t c.args.rel row)) c.in_err-set_number.field-0.0 c.from_residual-in_err-set_number.result c.from_residual-in_err-set_number.ensures.1 (space_blamed _ c.in_err-set_number.field-0.0)
+returns-in_err-set_number-clause-damaged g c tells =
+    fault_exit of_space (IfBlames (IsEdgeLink (g.S.Reads.state c.args.space.now) c.args.rel c.args.end.node)) c.in_err-set_number.field-0.0 c.from_residual-in_err-set_number.result c.from_residual-in_err-set_number.ensures.1 (space_blamed _ c.in_err-set_number.field-0.0)
 
 pub returns-clause-heads : goal.returns-clause-heads
 returns-clause-heads g c tells owns =
