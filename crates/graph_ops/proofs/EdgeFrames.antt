@@ -9,10 +9,10 @@ use Rattle.rec_bytes.specs.Format as format
 use Rattle.rec_bytes.specs.Meta as metas
 use Rattle.rec_bytes.specs.Record.{field, with_field}
 use Rattle.rec_bytes.specs.RecordFiles.{meta_key_of, room_of}
-use Rattle.rec_bytes.specs.Space.{SameButReads, State, after_get, after_put, after_set}
+use Rattle.rec_bytes.specs.Space.{SameButReads, State, after_get, after_put}
 use Rattle.rec_bytes.proofs.Numbers.{field-with_field_other}
 use Rattle.rec_bytes.proofs.Spaces.{put_other, put_same}
-use Rattle.store_rules.specs.Breaking.{Breaks, IsHeadOf}
+use Rattle.store_rules.specs.Breaking.{IsHeadOf}
 use Rattle.store_rules.specs.Chains.{IsWalk, place_of}
 use Rattle.store_rules.specs.Rules.{Head}
 use Rattle.store_rules.proofs.NumberLaws.{eq_false, eq_true}
@@ -32,7 +32,7 @@ use Rattle.prop_store.specs.Touching.{LeavesElement}
 use Rattle.group_store.specs.Counting.{one_less, tallied}
 use Rattle.group_store.specs.GroupChain.{next_group}
 use Rattle.group_store.specs.Leaving.{LeavesCounted}
-use Rattle.group_store.specs.Opening.{LacksGroupOn, end_damage}
+use Rattle.group_store.specs.Opening.{end_damage}
 use Rattle.group_store.proofs.Tallies.{file-tallied}
 use Rattle.graph_ops.specs.Damage.{IsBroken}
 use Rattle.graph_ops.specs.EdgeDeleting.{HasEndsIn, IsEdgeLink, IsEndLink, IsTakenDamage, LacksChain, LeavesEdge}

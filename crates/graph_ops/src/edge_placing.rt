@@ -1,6 +1,7 @@
 //! What a new edge writes: its record, without properties, and the chains of its ends.
 
-ghost use Rattle.std.specs.Prelude.{◌≡◌, ◌≤◌, ◌+◌, ℕ, List, Some, IfErr, IfOk, OnErr, slice_get};
+ghost use Rattle.std.specs.Prelude.{◌≡◌, ◌≤◌, ◌+◌, ℕ, List, Some, IfErr, IfOk, OnErr, OnOk};
+ghost use Rattle.std.specs.Prelude.{slice_get};
 ghost use Rattle.plain_graph.specs.declared.command.Target.TheVariants as targets;
 ghost use Rattle.rec_bytes.specs.Format.{nodes_file, relationships_file};
 ghost use Rattle.rec_bytes.specs.Key.{IsKey};
@@ -10,7 +11,7 @@ ghost use Rattle.store_rules.specs.Views.{key_in};
 ghost use Rattle.store_rules.specs.Writes.{WritesAtMost, WritesBeside};
 ghost use Rattle.graph_ops.specs.ChangeFault.{HasChangeCause, IsFailure, IsOutside};
 ghost use Rattle.graph_ops.specs.Damage.{IfBlames};
-ghost use Rattle.graph_ops.specs.EdgeAdding.{IsJoinDamage};
+ghost use Rattle.graph_ops.specs.EdgeAdding.{IsJoinDamage, IsUsedNode};
 ghost use Rattle.graph_ops.specs.EdgeOpening.{ends_moved};
 ghost use Rattle.graph_ops.specs.EdgePlacing.{PutsEdge};
 ghost use Rattle.graph_ops.specs.NodeDeleting.{HasDegree};
@@ -31,6 +32,7 @@ pub(crate) fn node_degree<R: Reads>(space: &mut R, id: u32) -> Result<u32, Chang
     ensures refused { R.tells → (names : List (List ℕ)) → IsStore (R.state space.old) names
         → IfErr result (IsMissing (graph_in (R.state space.old)) (targets.Node id)) }
     ensures absent { R.tells → IfErr result (IsAbsent (R.state space.old) (targets.Node id)) }
+    ensures kind { R.tells → OnOk result (IsUsedNode (R.state space.old) id) }
     ensures key { IfOk result (λ degree. IsKey (key_in nodes_file id)) }
     ensures state { SameButReads (R.state space.old) (R.state space.new) }
     ensures onward { R.onward space.old space.new }
@@ -69,8 +71,9 @@ pub(crate) fn put_edge<S: Space>(
         → HasDegree (S.state space.old).records from from_degree
         → HasDegree (S.state space.old).records to to_degree
         → HasRoom (S.state space.old) relationships_file 1 → IfErr result IsOutside }
-    ensures damaged { S.tells → (S.state space.old).shape.threshold ≤ threshold
-        → IfErr result (IfBlames (IsJoinDamage (S.state space.new) from to)) }
+    ensures damaged { S.tells → IsUsedNode (S.state space.old) from
+        → IsUsedNode (S.state space.old) to → (S.state space.old).shape.threshold ≤ threshold
+        → IfErr result (IfBlames (IsJoinDamage (S.state space.old) (S.state space.new) from to)) }
     ensures key { IfOk result (λ id. IsKey (key_in relationships_file id)) }
     ensures writes { IfOk result (λ id. WritesBeside (rel_key id)
         (8 + ends_moved threshold from from_degree to to_degree)

@@ -35,7 +35,8 @@ use Rattle.store_rules.specs.Views.{key_in}
 use Rattle.graph_ops.specs.Damage.{AddsElement, BreaksAdding, IfBlames, IsBroken}
 use Rattle.graph_ops.proofs.Adding.{breaks_then, line_blamed, room_blamed}
 use Rattle.graph_ops.proofs.Broken.{blames_more}
-use Rattle.graph_ops.proofs.JoinBlames.{absent_blamed, adds_back}
+use Rattle.graph_ops.proofs.JoinBlames.{absent_blamed, adds_back, beyond_read, used_beyond, used_read}
+use Rattle.group_store.proofs.ChainHeads.{same_twice}
 use Rattle.graph_ops.proofs.edge_adding.add_edge.Goals as goal
 use Rattle.graph_ops.proofs.edge_adding.add_edge.Goals.{After-prepare, After-put_properties, In_err-id, In_err-put_properties, In_ok-id, In_ok-prepared, In_ok-put_properties, In_ok-target, In_ok-test_room}
 use Rattle.graph_ops.proofs.edge_adding.add_edge.Given.{Over}
@@ -443,10 +444,18 @@ returns-in_err-prepared-clause-damaged g c tells =
 pub returns-in_err-id-clause-damaged : goal.returns-in_err-id-clause-damaged
 returns-in_err-id-clause-damaged g c tells =
     let s = g.S.Reads.state c.args.space.now in
+    let m = g.S.Reads.state c.node_degree.new.space in
+    let n = g.S.Reads.state c.node_degree-2.new.space in
+    let u = g.S.Reads.state c.prepare.new.space in
     let v = g.S.Reads.state c.put_edge.new.space in
+    let same = same_twice s m n c.node_degree.ensures.state c.node_degree-2.ensures.state in
+    let keeps = c.in_ok-prepared.ensures.stays tells in
+    let from = used_beyond n u c.args.from keeps (used_read s n c.args.from same (c.in_ok-source.ensures.kind tells)) in
+    let to = used_beyond n u c.args.to keeps (used_read m n c.args.to c.node_degree-2.ensures.state (c.in_ok-target.ensures.kind tells)) in
     let limit = ap (λ (h : Shape). h.threshold) (c.shape-threshold.ensures.is ∙ sym (g.met.S.Reads.onward_shape _ _ c.prepare.ensures.onward)) in
+    let shape = g.met.S.Reads.onward_shape _ _ c.prepare.ensures.onward ∙ ap (λ (z : State). z.shape) same in
     fault_exit (λ f. f) (BlamesLinking s v c.args.from c.args.to) c.in_err-id.field-0.0 c.from_residual-in_err-id.result c.from_residual-in_err-id.ensures.1
-    (blames_more _ _ (λ damage told. inr (inl told)) c.in_err-id.field-0.0 (c.in_err-id.ensures.damaged tells (omega arith)))
+    (blames_more _ _ (λ damage told. inr (inl (record { ready = u; shape = shape; keeps = beyond_read s n u same keeps; told = told }))) c.in_err-id.field-0.0 (c.in_err-id.ensures.damaged tells from to (omega arith)))
 
 pub returns-in_err-put_properties-clause-damaged : goal.returns-in_err-put_properties-clause-damaged
 returns-in_err-put_properties-clause-damaged g c tells =

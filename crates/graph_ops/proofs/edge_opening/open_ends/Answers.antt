@@ -1,4 +1,4 @@
-use Rattle.std.proofs.Common.{◌+◌, ◌≤◌, ℕ, List, [], sym, subst, inl, inr, arith, refl}
+use Rattle.std.proofs.Common.{◌+◌, ◌≤◌, ℕ, List, [], sym, subst, inl, inr, arith, refl, ⊎_elim}
 use Rattle.chain_edit.specs.Heads.{head_of}
 use Rattle.group_store.specs.Opening.{OpensChain}
 use Rattle.graph_ops.specs.declared.edge_end.EdgeEnd.{EdgeEnd}
@@ -15,6 +15,8 @@ use Rattle.graph_ops.specs.Damage.{IfBlames}
 use Rattle.graph_ops.specs.EdgeAdding.{IsJoinDamage}
 use Rattle.graph_ops.specs.EdgeAdding.IsJoinDamage.{NoHead}
 use Rattle.graph_ops.proofs.Broken.{blames_more}
+use Rattle.group_store.proofs.LeftBeside.{beside_none}
+use Rattle.graph_ops.proofs.JoinBlames.{used_beside}
 use Rattle.graph_ops.proofs.edge_opening.open_ends.Goals as goal
 use Rattle.graph_ops.proofs.edge_opening.open_ends.Goals.{In_ok-source}
 use Rattle.graph_ops.proofs.edge_opening.open_ends.Given.{Over}
@@ -107,15 +109,22 @@ returns-in_err-target-clause-cause g c =
 
 -- ---- which record is blamed, and where the heads are
 pub returns-in_err-source-clause-damaged : goal.returns-in_err-source-clause-damaged
-returns-in_err-source-clause-damaged g c tells le =
-    fault_exit (λ f. f) (IfBlames (IsJoinDamage (g.S.Reads.state c.open_end.new.space) c.args.from c.args.to)) c.in_err-source.field-0.0 c.from_residual.result c.from_residual.ensures.1
-    (blames_more _ _ (λ damage told. NoHead damage c.args.from (inl refl) told) c.in_err-source.field-0.0 (c.in_err-source.ensures.damaged tells le))
+returns-in_err-source-clause-damaged g c tells from to le =
+    let s = g.S.Reads.state c.args.space.now in
+    fault_exit (λ f. f) (IfBlames (IsJoinDamage s (g.S.Reads.state c.open_end.new.space) c.args.from c.args.to)) c.in_err-source.field-0.0 c.from_residual.result c.from_residual.ensures.1
+    (blames_more _ _ (λ damage told. NoHead damage c.args.from (inl refl) (⊎_elim (λ late. inl late) (λ k. inr (record { mid = s; shape = refl; beside = beside_none s.records c.args.from; told = k })) told))
+    c.in_err-source.field-0.0 (c.in_err-source.ensures.damaged tells from le))
 
 pub returns-in_err-target-clause-damaged : goal.returns-in_err-target-clause-damaged
-returns-in_err-target-clause-damaged g c tells le =
-    let now = subst (λ (h : Shape). h.threshold ≤ c.args.threshold) (sym (g.met.S.Reads.onward_shape _ _ c.open_end.ensures.onward)) le in
-    fault_exit (λ f. f) (IfBlames (IsJoinDamage (g.S.Reads.state c.open_end-2.new.space) c.args.from c.args.to)) c.in_err-target.field-0.0 c.from_residual-in_err-target.result c.from_residual-in_err-target.ensures.1
-    (blames_more _ _ (λ damage told. NoHead damage c.args.to (inr refl) told) c.in_err-target.field-0.0 (c.in_err-target.ensures.damaged tells now))
+returns-in_err-target-clause-damaged g c tells from to le =
+    let s = g.S.Reads.state c.args.space.now in
+    let m = g.S.Reads.state c.open_end.new.space in
+    let shape = g.met.S.Reads.onward_shape _ _ c.open_end.ensures.onward in
+    let now = subst (λ (h : Shape). h.threshold ≤ c.args.threshold) (sym shape) le in
+    let beside = c.in_ok-source.ensures.beside tells in
+    fault_exit (λ f. f) (IfBlames (IsJoinDamage s (g.S.Reads.state c.open_end-2.new.space) c.args.from c.args.to)) c.in_err-target.field-0.0 c.from_residual-in_err-target.result c.from_residual-in_err-target.ensures.1
+    (blames_more _ _ (λ damage told. NoHead damage c.args.to (inr refl) (⊎_elim (λ late. inl late) (λ k. inr (record { mid = m; shape = shape; beside = beside; told = k })) told))
+    c.in_err-target.field-0.0 (c.in_err-target.ensures.damaged tells (used_beside s m c.args.from c.args.to beside (λ e. c.if-from-to.false (sym e)) to) now))
 
 pub returns-then-from-to-clause-at : goal.returns-then-from-to-clause-at
 returns-then-from-to-clause-at g c = (c.in_ok-source.ensures.at, c.in_ok-source.ensures.at)

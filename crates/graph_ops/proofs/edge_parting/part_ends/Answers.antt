@@ -5,7 +5,6 @@ use Rattle.graph_ops.specs.Damage.{IfBlames}
 use Rattle.group_store.proofs.KeptHeads.{heads_then}
 use Rattle.graph_ops.proofs.Exits.{fault_exit}
 use Rattle.std.proofs.Common.{inl, inr}
-use Rattle.rec_bytes.specs.Space.{State}
 use Rattle.graph_ops.specs.EdgeDeleting.{IsEndLink}
 use Rattle.graph_ops.proofs.Broken.{blames_more}
 use Rattle.graph_ops.proofs.EdgeFrames.{link_before}

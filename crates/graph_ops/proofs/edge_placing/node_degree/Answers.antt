@@ -1,10 +1,11 @@
 use Rattle.std.proofs.Common.{◌∙◌, refl, sym}
-use Rattle.graph_ops.proofs.Elements.{node_missing}
+use Rattle.graph_ops.proofs.Elements.{node_missing, used_of}
 use Rattle.plain_graph.specs.declared.command.Target.TheVariants as targets
 use Rattle.graph_ops.specs.ChangeFault.{of_row}
 use Rattle.graph_ops.specs.Owners.{IsAbsent}
 use Rattle.graph_ops.proofs.Causes.{node_absent}
 use Rattle.graph_ops.proofs.Exits.{fault_exit}
+use Rattle.group_store.proofs.KeptHeads.{node_known}
 use Rattle.graph_ops.proofs.edge_placing.node_degree.Goals as goal
 
 pub returns-in_default-clause-refused : goal.returns-in_default-clause-refused
@@ -18,3 +19,8 @@ returns-in_err-node-clause-absent g c tells =
 
 pub returns-in_default-clause-absent : goal.returns-in_default-clause-absent
 returns-in_default-clause-absent g c tells = (refl, sym (sym c.in_default.is ∙ c.in_ok-node.ensures.found tells))
+
+pub returns-clause-kind : goal.returns-clause-kind
+returns-clause-kind g c tells =
+    let s = g.R.Reads.state c.args.space.now in
+    node_known s c.args.id (c.in_ok-node.ensures.known tells) (used_of s c.args.id c.in-Some.node (sym c.in-Some.is ∙ c.in_ok-node.ensures.found tells)).0

@@ -74,13 +74,14 @@ returns-clause-err_writes g c =
 
 -- ---- which record is blamed
 pub returns-in_err-ends-clause-damaged : goal.returns-in_err-ends-clause-damaged
-returns-in_err-ends-clause-damaged g c tells le =
-    fault_exit (λ f. f) (IfBlames (IsJoinDamage (g.S.Reads.state c.open_ends.new.space) c.args.from c.args.to)) c.in_err-ends.field-0.0 c.from_residual.result c.from_residual.ensures.1 (c.in_err-ends.ensures.damaged tells le)
+returns-in_err-ends-clause-damaged g c tells from to le =
+    fault_exit (λ f. f) (IfBlames (IsJoinDamage (g.S.Reads.state c.args.space.now) (g.S.Reads.state c.open_ends.new.space) c.args.from c.args.to)) c.in_err-ends.field-0.0 c.from_residual.result c.from_residual.ensures.1 (c.in_err-ends.ensures.damaged tells from to le)
 
 pub returns-clause-damaged : goal.returns-clause-damaged
-returns-clause-damaged g c tells le =
+returns-clause-damaged g c tells from to le =
+    let s = g.S.Reads.state c.args.space.now in
     let u = g.S.Reads.state c.join_edge.new.space in
     let nodes = c.in_ok-ends.ensures.nodes in
     let at = c.in_ok-ends.ensures.at in
-    subst (λ n. IfErr c.join_edge.result (IfBlames (IsJoinDamage u n c.args.to))) nodes.0
-    (subst (λ n. IfErr c.join_edge.result (IfBlames (IsJoinDamage u c.in_ok-ends.ends.source.node n))) nodes.1 (c.join_edge.ensures.damaged tells at.0 at.1))
+    subst (λ n. IfErr c.join_edge.result (IfBlames (IsJoinDamage s u n c.args.to))) nodes.0
+    (subst (λ n. IfErr c.join_edge.result (IfBlames (IsJoinDamage s u c.in_ok-ends.ends.source.node n))) nodes.1 (c.join_edge.ensures.damaged tells s at.0 at.1))
