@@ -234,8 +234,8 @@ module _ (s : State) (head : Head) (n rel d m : ℕ) (elsewhere : head.key.file 
       let same = put_same s.records (key_in format.relationships_file rel) (alone r n) in
       let by : (at : ℕ) → at + 4 ≤ 64 → (at + 4 ≤ pn) ⊎ (pn + 4 ≤ at) → (at + 4 ≤ pn + 4) ⊎ (pn + 4 + 4 ≤ at) → field 4 (rel_rec freed.records rel) at ≡ field 4 r at
       = λ at inside a b. ap (λ z. field 4 z at) same
-          ∙ field-with_field_other 4 (with_field 4 r pn format.nil) (pn + 4) format.nil 4 at inside (⊎_elim (λ k. inr k) (λ k. inl k) b)
-          ∙ field-with_field_other 4 r pn format.nil 4 at inside (⊎_elim (λ k. inr k) (λ k. inl k) a) in
+      ∙ field-with_field_other 4 (with_field 4 r pn format.nil) (pn + 4) format.nil 4 at inside (⊎_elim (λ k. inr k) (λ k. inl k) b)
+      ∙ field-with_field_other 4 r pn format.nil 4 at inside (⊎_elim (λ k. inr k) (λ k. inl k) a) in
       record {
         ends = by 8 (omega arith) (inl (omega (arith, bounds.0.0))) (inl (omega (arith, bounds.0.0)));
         prev = by pm (omega (arith, bounds.1.1)) (aside pm pn (inl refl) (inl refl)) (aside pm (pn + 4) (inl refl) (inr refl));
@@ -250,7 +250,7 @@ module _ (s : State) (head : Head) (n rel d m : ℕ) (elsewhere : head.key.file 
       let back = backed freed n after before in
       let now : PairStays back.records
       = on_test (λ (z : State). PairStays z.records) after format.nil freed (prev_set freed n after before) (λ _. stays_freed)
-          (λ _. stays_set freed.records (prev_place freed.records n after) before (λ e. inl (place_at freed.records after stays_freed e)) stays_freed) in
+      (λ _. stays_set freed.records (prev_place freed.records n after) before (λ e. inl (place_at freed.records after stays_freed e)) stays_freed) in
       on_test (λ (z : State). PairStays z.records) before format.nil (number_set back head after) (next_set back n before after)
       (λ _. stays_set back.records head after (λ e. absurd (elsewhere (sym (ap (λ (k : Key). k.file) e)))) now)
       (λ _. stays_set back.records (next_place back.records n before) after (λ e. inr (ap (λ z. z + 4) (place_at back.records before now e))) now)

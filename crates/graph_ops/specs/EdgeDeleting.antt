@@ -16,8 +16,8 @@ use Rattle.store_rules.specs.Ends.{Regroups}
 use Rattle.store_rules.specs.Graph.{names_of}
 use Rattle.store_rules.specs.PropertyChange.{Apart}
 use Rattle.store_rules.specs.Rules.{KeepsRules, Owns, StandsAt}
-use Rattle.store_rules.specs.Views.{Records, degree, group_at, is_group_kind, kind_at, node_at, rec_at}
-use Rattle.store_rules.specs.Views.{rel_at}
+use Rattle.store_rules.specs.Views.{Records, degree, group_at, is_group_kind, kind_at, node_at}
+use Rattle.store_rules.specs.Views.{rec_at, rel_at}
 use Rattle.store_rules.specs.Writes.{AreOwn, meta_keys}
 use Rattle.chain_edit.specs.Chains.{next_of, prev_of}
 use Rattle.chain_edit.specs.Heads.{head_of}
@@ -177,10 +177,10 @@ pub record LeavesEdge (s t : State) (id : ℕ) : Type 0 where
       ≡ is_group_kind (kind_at s.records format.groups_file g)
 
 -- A record that is blamed where an edge that had this row is taken out of its chains. It is found
--- where its ends are looked for, and breaks the rule in the space as it is left, which differs from
--- what it was in no more than properties, blocks and numbers of groups. Or it is the edge, for which
--- an end had no chain: by the third rule it is in one, and by the fourth each group is on its
--- owner's chain. Or a group of an end isn't dropped, and is told by the space as it is left.
+-- where its ends are looked for, and breaks the rule in the space as it is left, which differs
+-- from what it was in no more than properties, blocks and numbers of groups. Or it is the edge,
+-- for which an end had no chain: by the third rule it is in one, and by the fourth each group is
+-- on its owner's chain. Or a group of an end isn't dropped, and is told by the space as it is left.
 pub data IsTakenDamage (s t : State) (id : ℕ) (rel : RelRow) : Damage → Type 0 where
   Sought : (damage : Damage) → LeavesEdge s t id → IsBroken t damage
       → IsTakenDamage s t id rel damage

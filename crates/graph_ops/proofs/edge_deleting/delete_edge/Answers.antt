@@ -225,7 +225,7 @@ returns-in_err-take_edge-clause-damaged g c tells =
     let rel = c.in-Some.rel in
     let row = sym (found g at tells) in
     let left = edge_then s v w id (edge_read s v id (was_read g at)) (edge_left v w id (g.met.S.Reads.onward_shape _ _ c.drop_all.ensures.onward)
-        (subst (LeavesElement v w) c.edge_owner.ensures (c.drop_all.ensures.leaves tells))) in
+    (subst (LeavesElement v w) c.edge_owner.ensures (c.drop_all.ensures.leaves tells))) in
     fault_exit (λ f. f) (BlamesDeleting s t id) c.in_err-take_edge.field-0.0 c.from_residual-in_err-take_edge.result c.from_residual-in_err-take_edge.ensures.1
     (blames_more _ _ (λ damage told. ⊎_elim (λ k. inl (inl (end_link_breaks s id rel damage row (end_link_before s w id rel.from rel.to damage left k)))) (λ k. inr (rel, row, taken_before s w t id rel left damage k)) told)
     c.in_err-take_edge.field-0.0 (c.in_err-take_edge.ensures.damaged tells (ends_later s w id left rel.from rel.to (ends_found s id rel row))))
