@@ -1,7 +1,7 @@
 -- What a change of a node's groups leaves of all other records, whatever the records are.
 use Rattle.std.specs.Prelude.{IfSome, OnOk}
 use Rattle.std.proofs.lemmas.Bool.{false≢true}
-use Rattle.std.proofs.Common.{◌≡◌, ◌≢◌, ◌⊎◌, ℕ, ◌+◌, ◌<◌, ◌≤◌, List, [], ◌∷◌, Result, Ok, Err, sym, ap, ◌∙◌, subst, inl, inr, ⊎_elim, arith, refl}
+use Rattle.std.proofs.Common.{◌≡◌, ◌≢◌, ◌⊎◌, ℕ, ◌+◌, ◌<◌, ◌≤◌, Result, Ok, Err, sym, ap, ◌∙◌, subst, inl, inr, ⊎_elim, arith, refl}
 use Rattle.rec_bytes.specs.declared.fault.Fault.{Fault}
 use Rattle.rec_bytes.specs.declared.fault.Fault.TheVariants.{Memory, Disk, Damaged}
 use Rattle.rec_bytes.specs.declared.key.Key.{Key}
@@ -18,7 +18,6 @@ use Rattle.rec_bytes.proofs.Spaces.{meta_in-put_other, put_other, put_same}
 use Rattle.node_store.specs.NodeRecord.{node_key}
 use Rattle.id_freelist.specs.Taking.{taken, taken_id}
 use Rattle.store_rules.specs.Rules.{Head, first_of}
-use Rattle.store_rules.specs.Chains.{IsWalk}
 use Rattle.store_rules.specs.Views.{Records, first_link, high, is_group_kind, key_in, kind_at, kind_in, rec_at}
 use Rattle.store_rules.proofs.NumberLaws.{nat_cases}
 use Rattle.store_rules.proofs.ViewLaws.{kind_below, kind_low}
@@ -29,11 +28,10 @@ use Rattle.chain_edit.proofs.ChainSteps.{on_test}
 use Rattle.chain_edit.proofs.LinkLaws.{field-set_other, place_high, place_low, set_at}
 use Rattle.group_store.specs.Counting.{one_more, tallied}
 use Rattle.group_store.specs.GroupRecord.{group_key}
-use Rattle.group_store.specs.GroupChain.{IsGroupOf, next_group}
+use Rattle.group_store.specs.GroupChain.{IsGroupOf}
 use Rattle.group_store.specs.Leaving.{LeavesBeside, LeavesCounted}
 use Rattle.group_store.specs.Links.{backed}
 use Rattle.group_store.specs.Making.{empty_group, led, made}
-use Rattle.group_store.specs.Opening.{LacksGroupOn}
 use Rattle.group_store.specs.Raising.{raised, raised_state}
 use Rattle.group_store.specs.Spreading.{cleared}
 use Rattle.group_store.specs.declared.raising.Counts.{Counts}
