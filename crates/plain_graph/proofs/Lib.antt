@@ -1,2 +1,4 @@
+pub mod Alike
+pub mod Making
 pub mod PropertyLaws
 pub mod Unmarked

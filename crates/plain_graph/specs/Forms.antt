@@ -5,6 +5,8 @@ use mir.Syntax.{w64}
 use Rattle.plain_graph.specs.Names.{IsShortName}
 use Rattle.plain_graph.specs.declared.item.Item.{Item}
 use Rattle.plain_graph.specs.declared.item.Item.TheVariants as items
+use Rattle.plain_graph.specs.declared.mutation.Mutation.{Mutation}
+use Rattle.plain_graph.specs.declared.mutation.Mutation.TheVariants as mutations
 use Rattle.plain_graph.specs.declared.pairs.Pair.{Pair}
 use Rattle.plain_graph.specs.declared.value.Value.{Value}
 use Rattle.plain_graph.specs.declared.value.Value.TheVariants as values
@@ -30,3 +32,10 @@ ArePairs (pair ∷ later) = IsShortName pair.key × IsKept pair.value × ArePair
 abbrev pub IsMaybeName : Option (List ℕ) → Type 0
 IsMaybeName None = Unit {0}
 IsMaybeName (Some name) = IsShortName name
+
+-- labels and keys of the steps are names, and their values ones that a store may keep
+abbrev pub HasMutationForm : Mutation → Type 0
+HasMutationForm (mutations.AddV label pairs) = IsShortName label × ArePairs pairs
+HasMutationForm (mutations.AddE label to pairs) = IsShortName label × ArePairs pairs
+HasMutationForm (mutations.Property pairs) = ArePairs pairs
+HasMutationForm mutations.Drop = Unit {0}

@@ -7,6 +7,7 @@ pub mod Kinds
 pub mod Levels
 pub mod Lines
 pub mod Meaning
+pub mod Mutations
 pub mod Names
 pub mod Properties
 pub mod Reached
