@@ -3,12 +3,14 @@ pub mod Causes
 pub mod Change
 pub mod ChangeFault
 pub mod Damage
+pub mod Distinct
 pub mod EdgeAdding
 pub mod EdgeDeleting
 pub mod EdgeEnds
 pub mod EdgeJoining
 pub mod EdgeOpening
 pub mod EdgePlacing
+pub mod Mutating
 pub mod NodeAdding
 pub mod NodeDeleting
 pub mod Owners

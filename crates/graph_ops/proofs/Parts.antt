@@ -1,0 +1,252 @@
+-- Parts of a list of changes over a store, one after the other.
+use Rattle.std.specs.Prelude.{Result, Ok, Err, IfErr, IfOk, IsErrAnd}
+use Rattle.std.proofs.Common.{◌≡◌, ◌∙◌, ℕ, ◌+◌, ◌<◌, ◌≤◌, min, List, [], ◌∷◌, ◌++◌, Option, None, is_some, true, false, length, take, drop, get_or, append_assoc, inl, inr, sym, ap, subst, arith, refl}
+use Rattle.plain_graph.specs.Graph.{Graph}
+use Rattle.plain_graph.specs.Refusals.{FirstReason, change_reasons}
+use Rattle.plain_graph.specs.Reply.{Reply}
+use Rattle.plain_graph.specs.declared.command.Command.{Command}
+use Rattle.plain_graph.specs.declared.command.Command.TheVariants as commands
+use Rattle.plain_graph.specs.declared.item.Item.{Item}
+use Rattle.plain_graph.specs.declared.item.Item.TheVariants as items
+use Rattle.plain_graph.specs.declared.pairs.Pair.{Pair}
+use Rattle.plain_graph.specs.declared.refusal.Refusal.{Refusal}
+use Rattle.rec_bytes.specs.Space.{State}
+use Rattle.rec_bytes.specs.declared.shape.Shape.{Shape}
+use Rattle.store_rules.specs.Writes.{WritesAtMost}
+use Rattle.store_rules.proofs.RowLaws.{append_none}
+use Rattle.store_rules.proofs.WriteLaws.{more_written, none_written, then_written}
+use Rattle.graph_ops.specs.Change.{IsRefusal, MakesChange}
+use Rattle.graph_ops.specs.Store.{IsStore, graph_in}
+use Rattle.graph_ops.specs.declared.change_fault.ChangeFault.{ChangeFault}
+use Rattle.graph_ops.specs.declared.change_fault.ChangeFault.TheVariants.{NoNode, NoEdge, HasRelationships, Full, NamesFull, PropsFull, Memory, Disk, Damaged}
+use Rattle.graph_ops.proofs.Exits.{fault_exit}
+use Rattle.graph_ops.specs.Mutating.{IsListRefusal, MakesChanges, MakesList, MakesMutation, MakesPart, any_replies, most_told}
+use Rattle.plain_graph.specs.Mutations.{MakesEach, RefusesEach, changes_of, elements_of, new_elements, targets_once, vertex_id}
+use Rattle.plain_graph.specs.declared.mutation.Mutation.TheVariants as mutations
+use Rattle.plain_graph.proofs.Alike.{AreAlike, IsNewEdge, IsOfElement, alike_self, edge_carries, element_carries, node_once}
+use Rattle.plain_graph.proofs.Making.{AreAll, Carries, each_changes, each_then, each_weighs, never_refused, reasons_apart, reasons_same, refuses_more, refuses_then, weighs_once}
+use Rattle.graph_ops.proofs.Spreading.{IsSpread, all_split, deletions_all, edges_all, items_all, up_to_next}
+
+-- The changes so far, and what every exit says.
+pub record IsMaking (tells onward : Type 0) (commands : List Command) (Shown : List Reply → Type 0) (weight : ℕ) (s t : State) (before names : List (List ℕ)) (faults now : ℕ) : Type 0 where
+  pub part : MakesPart tells commands Shown weight s t before names
+  pub prefix : (rest : List (List ℕ)) × (names ≡ before ++ rest)
+  pub shape : t.shape ≡ s.shape
+  pub onward_is : onward
+  pub later : faults ≤ now
+
+-- ---- single changes
+
+pub one_part : (tells : Type 0) (command : Command) (Shown : List Reply → Type 0) (reply : Reply) (weight : ℕ) (s t : State) (before names : List (List ℕ)) → (tells → IsStore s before → MakesChange command reply weight s t names)
+    → weight + 7 ≤ 2048 → WritesAtMost weight s t → Shown (reply ∷ []) → MakesPart tells (command ∷ []) Shown weight s t before names
+one_part tells command Shown reply weight s t before names made light writes shown = record {
+  made = λ told store.
+      let one = made told store in (
+        reply ∷ [],
+        shown,
+        record {
+          store = one.store;
+          total = weight;
+          each = (reply, weight, graph_in t, [], 0, refl, omega arith, record { changes = one.changes; weighs = one.weighs; free = one.free }, (refl, refl, refl));
+          told = omega arith;
+        },
+      );
+  few = omega arith;
+  writes = λ lt. writes;
+}
+
+-- of a result, where nothing is said of its reply
+pub one_result : (r : Result ℕ ChangeFault) (tells : Type 0) (command : Command) (reply : Reply) (s t : State) (before names : List (List ℕ)) → (tells → IfOk r (λ weight. IsStore s before → MakesChange command reply weight s t names)) → IfOk r (λ weight. weight + 7 ≤ 2048)
+    → IfOk r (λ weight. WritesAtMost weight s t) → IfOk r (λ weight. MakesPart tells (command ∷ []) any_replies weight s t before names)
+one_result (Ok weight) tells command reply s t before names made light writes = one_part tells command any_replies reply weight s t before names made light writes tt
+one_result (Err fault) tells command reply s t before names made light writes = tt
+
+pub none_part : (tells : Type 0) (Shown : List Reply → Type 0) (s : State) (names : List (List ℕ)) → Shown [] → MakesPart tells [] Shown 0 s s names names
+none_part tells Shown s names shown = record {
+  made = λ told store. ([], shown, record { store = store; total = 0; each = (refl, refl, refl); told = omega arith });
+  few = omega arith;
+  writes = λ lt. none_written s s refl;
+}
+
+-- a result that is no vertex gets no edge
+pub none_from : (tells : Type 0) (label : List ℕ) (to : ℕ) (pairs : List Pair) (item : Item) (shown : List Item) (s : State) (names : List (List ℕ)) → vertex_id item ≡ None
+    → MakesPart tells (changes_of (mutations.AddE label to pairs) (item ∷ [])) (λ replies. shown ≡ shown ++ new_elements (changes_of (mutations.AddE label to pairs) (item ∷ [])) replies) 0 s s names names
+none_from tells label to pairs (items.Vertex id) shown s names none = absurd (subst (λ (o : Option ℕ). is_some o ≡ true → ⊥) (sym none) (λ (e : false ≡ true). absurd cc) refl)
+none_from tells label to pairs (items.Edge id type from end) shown s names none = none_part tells (λ replies. shown ≡ shown ++ new_elements [] replies) s names (sym (append_none shown))
+none_from tells label to pairs (items.Value value) shown s names none = none_part tells (λ replies. shown ≡ shown ++ new_elements [] replies) s names (sym (append_none shown))
+
+-- ---- one part and then another
+
+module _ (xs ys : List Command) (w v both : ℕ) (s t u : State) (is : both ≡ min (w + v) most_told) where
+  list_then : (rs ts : List Reply) (m n : List (List ℕ)) → t.shape ≡ s.shape → MakesList xs rs w s t m → MakesList ys ts v t u n → MakesList (xs ++ ys) (rs ++ ts) both s u n
+  list_then rs ts m n shape made next = record {
+    store = next.store;
+    total = made.total + next.total;
+    each = each_then s.shape.limit s.shape.threshold (graph_in s) (graph_in t) (graph_in u) xs ys rs ts made.total next.total made.each (subst (λ (z : Shape). MakesEach z.limit z.threshold (graph_in t) ys ts next.total (graph_in u)) shape next.each);
+    told = let a = made.told in let b = next.told in omega arith;
+  }
+
+  pub part_then : {tells : Type 0} {Shown Next Then : List Reply → Type 0} (b m n : List (List ℕ)) → t.shape ≡ s.shape
+      → ((rs ts : List Reply) (total : ℕ) → Shown rs → MakesEach s.shape.limit s.shape.threshold (graph_in s) xs rs total (graph_in t) → Next ts → Then (rs ++ ts)) → MakesPart tells xs Shown w s t b m → MakesPart tells ys Next v t u m n
+      → MakesPart tells (xs ++ ys) Then both s u b n
+  part_then b m n shape joins made next = record {
+    made = λ told store.
+        let one = made.made told store in
+        let other = next.made told one.2.store in
+        (one.0 ++ other.0, joins one.0 other.0 one.2.total one.1 one.2.each other.1, list_then one.0 other.0 m n shape one.2 other.2);
+    few = omega arith;
+    writes = λ lt. more_written (omega arith) (then_written (made.writes (omega arith)) (next.writes (omega arith)));
+  }
+
+-- ---- refusals
+
+-- what refuses some commands so refuses others so
+list_by : (limit : ℕ) (g h : Graph) (xs ys : List Command) → ((why : Refusal) → RefusesEach limit g xs why → RefusesEach limit h ys why) → (fault : ChangeFault) → IsListRefusal limit g xs fault → IsListRefusal limit h ys fault
+list_by limit g h xs ys more (NoNode id) why = more _ why
+list_by limit g h xs ys more (NoEdge id) why = more _ why
+list_by limit g h xs ys more (HasRelationships id degree) why = more _ why
+list_by limit g h xs ys more (Full file live) why = more _ why
+list_by limit g h xs ys more (NamesFull count) why = more _ why
+list_by limit g h xs ys more (PropsFull count) why = more _ why
+list_by limit g h xs ys more Memory why = tt
+list_by limit g h xs ys more Disk why = tt
+list_by limit g h xs ys more (Damaged damage) why = absurd why
+
+-- a list of one
+pub one_refused : (limit : ℕ) (graph : Graph) (command : Command) (fault : ChangeFault) → IsRefusal limit graph command fault → IsListRefusal limit graph (command ∷ []) fault
+one_refused limit graph command (NoNode id) why = inl why
+one_refused limit graph command (NoEdge id) why = inl why
+one_refused limit graph command (HasRelationships id degree) why = inl why
+one_refused limit graph command (Full file live) why = inl why
+one_refused limit graph command (NamesFull count) why = inl why
+one_refused limit graph command (PropsFull count) why = inl why
+one_refused limit graph command Memory why = tt
+one_refused limit graph command Disk why = tt
+one_refused limit graph command (Damaged damage) why = absurd why
+
+-- after the changes so far, and before those that are left
+pub next_refused : {tells : Type 0} {Shown : List Reply → Type 0} (told : tells) (s t : State) (xs ys zs all : List Command) (w : ℕ) (before names : List (List ℕ)) → MakesPart tells xs Shown w s t before names → IsStore s before → t.shape ≡ s.shape
+    → all ≡ xs ++ (ys ++ zs) → (fault : ChangeFault) → (IsStore t names → IsListRefusal t.shape.limit (graph_in t) ys fault) → IsListRefusal s.shape.limit (graph_in s) all fault
+next_refused told s t xs ys zs all w before names part store shape is fault refused =
+    let made = (part.made told store).2 in
+    let replies = (part.made told store).0 in
+    list_by s.shape.limit (graph_in t) (graph_in s) ys all
+    (λ why refuses.
+    subst (λ (cs : List Command). RefusesEach s.shape.limit (graph_in s) cs why) (sym is)
+    (refuses_then s.shape.limit s.shape.threshold (graph_in s) (graph_in t) xs (ys ++ zs) replies made.total why made.each (refuses_more s.shape.limit s.shape.threshold (graph_in t) ys zs why refuses)))
+    fault
+    (subst (λ (z : Shape). IsListRefusal z.limit (graph_in t) ys fault) shape (refused made.store))
+
+pub result_refused : {T : Type 0} (r : Result T ChangeFault) (limit : ℕ) (graph : Graph) (command : Command) → IfErr r (IsRefusal limit graph command) → IfErr r (IsListRefusal limit graph (command ∷ []))
+result_refused (Ok x) limit graph command refused = tt
+result_refused (Err fault) limit graph command refused = one_refused limit graph command fault refused
+
+-- ---- a loop over a list that is asked for part by part
+
+module _ {X : Type 0} (of : List X → List Command) (spread : IsSpread of) (xs : List X) (i : ℕ) (item any : X) (lt : i < length xs) (at : item ≡ get_or xs i any) where
+  pub up_to : of (take (i + 1) xs) ≡ of (take i xs) ++ of (item ∷ [])
+  up_to = up_to_next of spread xs i any lt ∙ ap (λ (x : X). of (take i xs) ++ of (x ∷ [])) (sym at)
+
+  all_of : of xs ≡ of (take i xs) ++ (of (item ∷ []) ++ of (drop (i + 1) xs))
+  all_of = all_split of spread xs i any lt ∙ ap (λ (x : X). of (take i xs) ++ (of (x ∷ []) ++ of (drop (i + 1) xs))) (sym at)
+
+  -- the next part after those so far
+  pub making_more : {tells on next_on : Type 0} {Shown Next Then : List Reply → Type 0} (w v both : ℕ) (s t u : State) (b m n : List (List ℕ)) (faults now then : ℕ) → both ≡ min (w + v) most_told → IsMaking tells on (of (take i xs)) Shown w s t b m faults now
+      → MakesPart tells (of (item ∷ [])) Next v t u m n → ((rest : List (List ℕ)) × (n ≡ m ++ rest)) → u.shape ≡ t.shape → next_on → now ≤ then
+      → ((rs ts : List Reply) (total : ℕ) → Shown rs → MakesEach s.shape.limit s.shape.threshold (graph_in s) (of (take i xs)) rs total (graph_in t) → Next ts → Then (rs ++ ts)) → IsMaking tells next_on (of (take (i + 1) xs)) Then both s u b n faults then
+  making_more {tells} {on} {next_on} {Shown} {Next} {Then} w v both s t u b m n faults now then is making part grown shape next later joins = record {
+    part = subst (λ (cs : List Command). MakesPart tells cs Then both s u b n) (sym up_to) (part_then (of (take i xs)) (of (item ∷ [])) w v both s t u is b m n making.shape joins making.part part);
+    prefix = (making.prefix.0 ++ grown.0, grown.1 ∙ ap (λ (l : List (List ℕ)). l ++ grown.0) making.prefix.1 ∙ append_assoc b making.prefix.0 grown.0);
+    shape = shape ∙ making.shape;
+    onward_is = next;
+    later = let a = making.later in omega arith;
+  }
+
+  -- a refusal of the next part is one of the whole list
+  pub next_exit : {T tells : Type 0} {Shown : List Reply → Type 0} (w : ℕ) (s t : State) (b m : List (List ℕ)) (fault : ChangeFault) (out : Result T ChangeFault) → tells → IsStore s b → MakesPart tells (of (take i xs)) Shown w s t b m → t.shape ≡ s.shape
+      → IsErrAnd out (λ y. y ≡ fault) → (IsStore t m → IsListRefusal t.shape.limit (graph_in t) (of (item ∷ [])) fault) → IfErr out (IsListRefusal s.shape.limit (graph_in s) (of xs))
+  next_exit w s t b m fault out told store part shape gives refused =
+      fault_exit (λ f. f) (IsListRefusal s.shape.limit (graph_in s) (of xs)) fault out gives
+      (next_refused told s t (of (take i xs)) (of (item ∷ [])) (of (drop (i + 1) xs)) (of xs) w b m part store shape all_of fault refused)
+
+-- ---- whole lists
+
+whole : (Is : Command → Type 0) (Alike : Graph → Graph → Type 0) (commands : List Command) (replies : List Reply) (weight : ℕ) (s t : State) (names : List (List ℕ)) → Carries s.shape.limit s.shape.threshold Is Alike
+    → Alike (graph_in s) (graph_in s) → AreAll Is commands → MakesList commands replies weight s t names → MakesChanges commands replies weight s t names
+whole Is Alike commands replies weight s t names carries alike are made =
+    let limit = s.shape.limit in
+    let threshold = s.shape.threshold in
+    let g = graph_in s in
+    record {
+      store = made.store;
+      changes = each_changes limit threshold g (graph_in t) commands replies made.total made.each;
+      total = made.total;
+      weighs = each_weighs limit threshold g (graph_in t) commands replies made.total made.each;
+      only = λ other weighs. weighs_once limit threshold Is Alike carries g g (graph_in t) commands replies made.total other are alike made.each weighs;
+      told = made.told;
+      free = λ why. never_refused limit threshold Is Alike carries g g (graph_in t) commands replies made.total why are alike made.each;
+    }
+
+pub edges_whole : (commands : List Command) (replies : List Reply) (weight : ℕ) (s t : State) (names : List (List ℕ)) → AreAll IsNewEdge commands → MakesList commands replies weight s t names → MakesChanges commands replies weight s t names
+edges_whole commands replies weight s t names are made = whole IsNewEdge AreAlike commands replies weight s t names (edge_carries s.shape.limit s.shape.threshold) (alike_self (graph_in s)) are made
+
+pub elements_whole : (commands : List Command) (replies : List Reply) (weight : ℕ) (s t : State) (names : List (List ℕ)) → AreAll IsOfElement commands → MakesList commands replies weight s t names → MakesChanges commands replies weight s t names
+elements_whole commands replies weight s t names are made = whole IsOfElement (λ g h. g ≡ h) commands replies weight s t names (element_carries s.shape.limit s.shape.threshold) refl are made
+
+-- a new node alone
+node_whole : (label : List ℕ) (pairs : List Pair) (replies : List Reply) (weight : ℕ) (s t : State) (names : List (List ℕ)) → MakesList (commands.Node label pairs ∷ []) replies weight s t names → MakesChanges (commands.Node label pairs ∷ []) replies weight s t names
+node_whole label pairs replies weight s t names made =
+    let limit = s.shape.limit in
+    let threshold = s.shape.threshold in
+    let g = graph_in s in
+    let list = commands.Node label pairs ∷ [] in
+    let one = made.each in
+    record {
+      store = made.store;
+      changes = each_changes limit threshold g (graph_in t) list replies made.total one;
+      total = made.total;
+      weighs = each_weighs limit threshold g (graph_in t) list replies made.total one;
+      only = λ other weighs.
+          let same : weighs.0 ≡ one.1 = node_once threshold g label pairs weighs.0 one.1 weighs.5 one.7.weighs in
+          let a = weighs.4 in
+          let b = weighs.7 in
+          let d = one.6 in
+          let e = one.8.1 in
+          omega (arith, same, a, b, d, e);
+      told = made.told;
+      free = λ why refused. reasons_apart change_reasons limit g g (commands.Node label pairs) why (reasons_same change_reasons limit g (commands.Node label pairs)) one.7.free (first_alone limit g label pairs why refused);
+    }
+  where
+    first_alone : (limit : ℕ) (g : Graph) (label : List ℕ) (pairs : List Pair) (why : Refusal) → RefusesEach limit g (commands.Node label pairs ∷ []) why → FirstReason change_reasons limit g (commands.Node label pairs) why
+    first_alone limit g label pairs why (inl first) = first
+    first_alone limit g label pairs why (inr other) = absurd other.4
+
+-- ---- what each mutation leaves
+
+from_none : (shown start rest : List Item) → start ≡ [] → shown ≡ start ++ rest → shown ≡ rest
+from_none shown start rest none is = is ∙ ap (λ (l : List Item). l ++ rest) none
+
+module _ {tells : Type 0} (results shown start : List Item) (weight : ℕ) (s t : State) (b n : List (List ℕ)) where
+  pub vertex_made : (label : List ℕ) (pairs : List Pair) → start ≡ [] → MakesPart tells (commands.Node label pairs ∷ []) (λ replies. shown ≡ start ++ new_elements (commands.Node label pairs ∷ []) replies) weight s t b n → tells → IsStore s b
+      → MakesMutation (mutations.AddV label pairs) results shown weight s t n
+  vertex_made label pairs none part told store =
+      let made = part.made told store in
+      (made.0, from_none shown start (new_elements (commands.Node label pairs ∷ []) made.0) none made.1, node_whole label pairs made.0 weight s t n made.2)
+
+  pub edges_made : (label : List ℕ) (to : ℕ) (pairs : List Pair) → start ≡ []
+      → MakesPart tells (changes_of (mutations.AddE label to pairs) results) (λ replies. shown ≡ start ++ new_elements (changes_of (mutations.AddE label to pairs) results) replies) weight s t b n → tells → IsStore s b
+      → MakesMutation (mutations.AddE label to pairs) results shown weight s t n
+  edges_made label to pairs none part told store =
+      let made = part.made told store in
+      let list = changes_of (mutations.AddE label to pairs) results in
+      (made.0, from_none shown start (new_elements list made.0) none made.1, edges_whole list made.0 weight s t n (edges_all label to pairs results) made.2)
+
+  pub values_made : (pairs : List Pair) → MakesPart tells (changes_of (mutations.Property pairs) results) any_replies weight s t b n → tells → IsStore s b → MakesMutation (mutations.Property pairs) results results weight s t n
+  values_made pairs part told store =
+      let made = part.made told store in
+      (made.0, refl, elements_whole (changes_of (mutations.Property pairs) results) made.0 weight s t n (items_all pairs results) made.2)
+
+  pub drops_made : shown ≡ [] → MakesPart tells (changes_of mutations.Drop results) any_replies weight s t b n → tells → IsStore s b → MakesMutation mutations.Drop results shown weight s t n
+  drops_made none part told store =
+      let made = part.made told store in
+      (made.0, none, elements_whole (changes_of mutations.Drop results) made.0 weight s t n (deletions_all (targets_once [] (elements_of results))) made.2)

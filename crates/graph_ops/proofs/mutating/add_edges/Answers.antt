@@ -1,0 +1,51 @@
+use Rattle.std.proofs.Common.{◌≡◌, ◌∙◌, ◌++◌, ◌∷◌, [], List, take, append_assoc, sym, ap, subst}
+use Rattle.std.proofs.lemmas.List.{take_all}
+use Rattle.plain_graph.specs.Reply.{Reply}
+use Rattle.plain_graph.specs.declared.command.Command.{Command}
+use Rattle.plain_graph.specs.declared.item.Item.{Item}
+use Rattle.graph_ops.specs.Store.{graph_in}
+use Rattle.graph_ops.specs.Mutating.{MakesPart}
+use Rattle.plain_graph.specs.Mutations.{changes_of, new_elements}
+use Rattle.plain_graph.specs.declared.mutation.Mutation.TheVariants as mutations
+use Rattle.plain_graph.proofs.Making.{elements_then}
+use Rattle.graph_ops.proofs.Parts.{making_more, next_exit, up_to}
+use Rattle.graph_ops.proofs.Spreading.{edges_spread}
+use Rattle.graph_ops.proofs.mutating.add_edges.Goals as goal
+
+pub returns-in_err-more-clause-refused : goal.returns-in_err-more-clause-refused
+returns-in_err-more-clause-refused g c told store =
+    let inv = c.loop-item.invariant in
+    let label = c.args.label.now in
+    let pairs = c.args.pairs.now in
+    let item = c.item-item.result in
+    next_exit (changes_of (mutations.AddE label c.args.to pairs)) (edges_spread label c.args.to pairs) c.args.items.now c.loop-item.item-index item item c.loop-item-test.true c.item-item.is c.loop-item.weight (g.S.Reads.state c.args.space.now) (g.S.Reads.state c.loop-item.space) c.args.names.now.names
+    c.loop-item.names.names c.in_err-more.field-0.0 c.from_residual.result told store inv.part inv.shape c.from_residual.ensures.1 (λ kept. c.in_err-more.ensures.refused told kept)
+
+pub loop-item-preserved : goal.loop-item-preserved
+loop-item-preserved g c =
+    let inv = c.loop-item.invariant in
+    let label = c.args.label.now in
+    let pairs = c.args.pairs.now in
+    let item = c.item-item.result in
+    let of : List Item → List Command = changes_of (mutations.AddE label c.args.to pairs) in
+    let spread = edges_spread label c.args.to pairs in
+    let s = g.S.Reads.state c.args.space.now in
+    let t = g.S.Reads.state c.loop-item.space in
+    let results = c.args.items.now in
+    let i = c.loop-item.item-index in
+    let start = c.args.shown.now.items in
+    making_more of spread results i item item c.loop-item-test.true c.item-item.is c.loop-item.weight c.in_ok-more.more c.both_weights-weight.result s t (g.S.Reads.state c.add_edge_from.new.space) c.args.names.now.names c.loop-item.names.names c.add_edge_from.new.names.names (g.S.Reads.faults c.args.space.now)
+    (g.S.Reads.faults c.loop-item.space) (g.S.Reads.faults c.add_edge_from.new.space) c.both_weights-weight.ensures inv c.in_ok-more.ensures.part c.add_edge_from.ensures.prefix (g.met.S.Reads.onward_shape _ _ c.add_edge_from.ensures.onward)
+    (g.met.S.Reads.further_onward c.args.space.now c.loop-item.space c.add_edge_from.new.space inv.onward_is c.add_edge_from.ensures.onward) c.add_edge_from.ensures.cause.later
+    (λ rs ts total a each b.
+    b ∙ ap (λ (l : List Item). l ++ new_elements (of (item ∷ [])) ts) a ∙ append_assoc start (new_elements (of (take i results)) rs) (new_elements (of (item ∷ [])) ts)
+    ∙ ap (λ (l : List Item). start ++ l)
+    (sym (elements_then s.shape.limit s.shape.threshold (graph_in s) (graph_in t) (of (take i results)) (of (item ∷ [])) rs ts total each) ∙ ap (λ (cs : List Command). new_elements cs (rs ++ ts)) (sym (up_to of spread results i item item c.loop-item-test.true c.item-item.is))))
+
+pub returns-clause-part : goal.returns-clause-part
+returns-clause-part g c =
+    let mutation = mutations.AddE c.args.label.now c.args.to c.args.pairs.now in
+    subst
+    (λ (results : List Item). MakesPart g.S.Reads.tells (changes_of mutation results) (λ (replies : List Reply). c.loop-item.shown.items ≡ c.args.shown.now.items ++ new_elements (changes_of mutation results) replies) c.loop-item.weight (g.S.Reads.state c.args.space.now) (g.S.Reads.state c.loop-item.space)
+    c.args.names.now.names c.loop-item.names.names)
+    (take_all c.loop-item.item-index c.args.items.now c.loop-item-test.false) c.loop-item.invariant.part

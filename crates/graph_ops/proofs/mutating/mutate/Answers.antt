@@ -1,0 +1,73 @@
+use Rattle.std.proofs.Common.{◌≡◌, ◌++◌, ◌∷◌, [], List, sym, subst}
+use Rattle.std.specs.Prelude.{IfErr}
+use Rattle.plain_graph.specs.Reply.{Reply}
+use Rattle.plain_graph.specs.declared.command.Command.TheVariants as commands
+use Rattle.plain_graph.specs.declared.item.Item.{Item}
+use Rattle.plain_graph.specs.declared.pairs.Pair.{Pair}
+use Rattle.graph_ops.specs.Store.{graph_in}
+use Rattle.graph_ops.proofs.Exits.{fault_exit}
+use Rattle.graph_ops.specs.Mutating.{IsListRefusal, MakesMutation, MakesPart, any_replies}
+use Rattle.plain_graph.specs.Mutations.{changes_of, new_elements}
+use Rattle.plain_graph.specs.declared.mutation.Mutation.{Mutation}
+use Rattle.plain_graph.specs.declared.mutation.Mutation.TheVariants as mutations
+use Rattle.graph_ops.proofs.Parts.{drops_made, edges_made, one_refused, values_made, vertex_made}
+use Rattle.graph_ops.proofs.mutating.mutate.Goals as goal
+
+pub returns-in_err-weight-in-AddV-clause-refused :
+    goal.returns-in_err-weight-in-AddV-clause-refused
+returns-in_err-weight-in-AddV-clause-refused g c told store =
+    let s = g.S.Reads.state c.args.space.now in
+    let out = c.from_residual.result in
+    let fault = c.in_err-weight-in-AddV.field-0.0 in
+    let command = commands.Node c.in-AddV.label c.in-AddV.pairs in
+    subst (λ (m : Mutation). IfErr out (IsListRefusal s.shape.limit (graph_in s) (changes_of m c.args.items.items))) (sym c.in-AddV.is)
+    (fault_exit (λ f. f) (IsListRefusal s.shape.limit (graph_in s) (command ∷ [])) fault out c.from_residual.ensures.1 (one_refused s.shape.limit (graph_in s) command fault (c.in_err-weight-in-AddV.ensures.refused told store)))
+
+pub returns-in_ok-weight-in-AddV-clause-made : goal.returns-in_ok-weight-in-AddV-clause-made
+returns-in_ok-weight-in-AddV-clause-made g c told store =
+    let s = g.S.Reads.state c.args.space.now in
+    let t = g.S.Reads.state c.add_vertex.new.space in
+    let shown = c.add_vertex.new.shown.items in
+    let weight = c.in_ok-weight-in-AddV.weight in
+    let n = c.add_vertex.new.names.names in
+    subst (λ (m : Mutation). MakesMutation m c.args.items.items shown weight s t n) (sym c.in-AddV.is)
+    (vertex_made c.args.items.items shown c.new-vertices.result.items weight s t c.args.names.now.names n c.in-AddV.label c.in-AddV.pairs c.new-vertices.ensures.items c.in_ok-weight-in-AddV.ensures.part told store)
+
+pub returns-in_ok-weight-in-AddE-clause-made : goal.returns-in_ok-weight-in-AddE-clause-made
+returns-in_ok-weight-in-AddE-clause-made g c told store =
+    let s = g.S.Reads.state c.args.space.now in
+    let t = g.S.Reads.state c.add_edges.new.space in
+    let shown = c.add_edges.new.shown.items in
+    let weight = c.in_ok-weight-in-AddE.weight in
+    let n = c.add_edges.new.names.names in
+    let label = c.in-AddE.label in
+    let to = c.in-AddE.to in
+    let pairs = c.in-AddE.pairs in
+    let part =
+    subst (λ (list : List Item). MakesPart g.S.Reads.tells (changes_of (mutations.AddE label to pairs) list) (λ (replies : List Reply). shown ≡ c.new-edges.result.items ++ new_elements (changes_of (mutations.AddE label to pairs) list) replies) weight s t c.args.names.now.names n) c.deref.ensures.value
+    c.in_ok-weight-in-AddE.ensures.part in
+    subst (λ (m : Mutation). MakesMutation m c.args.items.items shown weight s t n) (sym c.in-AddE.is)
+    (edges_made c.args.items.items shown c.new-edges.result.items weight s t c.args.names.now.names n label to pairs c.new-edges.ensures.items part told store)
+
+pub returns-in_ok-weight-in-Property-clause-made :
+    goal.returns-in_ok-weight-in-Property-clause-made
+returns-in_ok-weight-in-Property-clause-made g c told store =
+    let s = g.S.Reads.state c.args.space.now in
+    let t = g.S.Reads.state c.set_each.new.space in
+    let weight = c.in_ok-weight-in-Property.weight in
+    let n = c.set_each.new.names.names in
+    let results = c.args.items.items in
+    let pairs = c.in-Property.pairs in
+    let part = subst (λ (list : List Pair). MakesPart g.S.Reads.tells (changes_of (mutations.Property list) c.deref-in-Property.result.now) any_replies weight s t c.args.names.now.names n) c.as_slice.ensures c.in_ok-weight-in-Property.ensures.part in
+    let whole = subst (λ (list : List Item). MakesPart g.S.Reads.tells (changes_of (mutations.Property pairs) list) any_replies weight s t c.args.names.now.names n) c.deref-in-Property.ensures.value part in
+    subst (λ (m : Mutation). MakesMutation m results results weight s t n) (sym c.in-Property.is) (values_made results results results weight s t c.args.names.now.names n pairs whole told store)
+
+pub returns-in_ok-weight-in-Drop-clause-made : goal.returns-in_ok-weight-in-Drop-clause-made
+returns-in_ok-weight-in-Drop-clause-made g c told store =
+    let s = g.S.Reads.state c.args.space.now in
+    let t = g.S.Reads.state c.drop_each.new.space in
+    let weight = c.in_ok-weight-in-Drop.weight in
+    let n = c.args.names.now.names in
+    let shown = c.new.result.items in
+    let part = subst (λ (list : List Item). MakesPart g.S.Reads.tells (changes_of mutations.Drop list) any_replies weight s t n n) c.deref-in-Drop.ensures.value c.in_ok-weight-in-Drop.ensures.part in
+    subst (λ (m : Mutation). MakesMutation m c.args.items.items shown weight s t n) (sym c.in-Drop.is) (drops_made c.args.items.items shown shown weight s t n n c.new.ensures.items part told store)

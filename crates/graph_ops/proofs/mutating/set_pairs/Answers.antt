@@ -1,0 +1,41 @@
+use Rattle.std.proofs.Common.{sym, subst, List}
+use Rattle.plain_graph.specs.Forms.{IsKept}
+use Rattle.plain_graph.specs.Names.{IsShortName}
+use Rattle.plain_graph.specs.Reply.{Done}
+use Rattle.plain_graph.specs.declared.command.Command.TheVariants as commands
+use Rattle.plain_graph.specs.declared.pairs.Pair.{Pair}
+use Rattle.graph_ops.specs.Store.{graph_in}
+use Rattle.graph_ops.proofs.Assigned.{pair_form}
+use Rattle.graph_ops.specs.Mutating.{any_replies}
+use Rattle.plain_graph.specs.Mutations.{settings}
+use Rattle.graph_ops.proofs.Parts.{making_more, next_exit, one_part, one_refused}
+use Rattle.graph_ops.proofs.Spreading.{pairs_spread}
+use Rattle.graph_ops.proofs.mutating.set_pairs.Goals as goal
+
+pub set-requires : goal.set-requires
+set-requires g c = subst (λ (p : Pair). IsShortName p.key × IsKept p.value) (sym c.pair-item.is) (pair_form c.args.pairs.now c.loop-pair.pair-index c.pair-item.result c.requires c.loop-pair-test.true)
+
+pub returns-in_err-more-clause-refused : goal.returns-in_err-more-clause-refused
+returns-in_err-more-clause-refused g c told store =
+    let inv = c.loop-pair.invariant in
+    let t = g.S.Reads.state c.loop-pair.space in
+    let target = c.args.target in
+    let pair = c.pair-item.result in
+    let fault = c.in_err-more.field-0.0 in
+    next_exit (λ (pairs : List Pair). settings pairs target) (pairs_spread target) c.args.pairs.now c.loop-pair.pair-index pair pair c.loop-pair-test.true c.pair-item.is c.loop-pair.weight (g.S.Reads.state c.args.space.now) t c.args.names.now.names c.loop-pair.names.names fault c.from_residual.result told store inv.part
+    inv.shape c.from_residual.ensures.1 (λ kept. one_refused t.shape.limit (graph_in t) (commands.Set target pair.key pair.value) fault (c.in_err-more.ensures.refused told kept))
+
+pub loop-pair-preserved : goal.loop-pair-preserved
+loop-pair-preserved g c =
+    let inv = c.loop-pair.invariant in
+    let s = g.S.Reads.state c.args.space.now in
+    let t = g.S.Reads.state c.loop-pair.space in
+    let u = g.S.Reads.state c.set.new.space in
+    let target = c.args.target in
+    let pair = c.pair-item.result in
+    let before = c.loop-pair.names.names in
+    let after = c.set.new.names.names in
+    let made = c.in_ok-more.ensures in
+    making_more (λ (pairs : List Pair). settings pairs target) (pairs_spread target) c.args.pairs.now c.loop-pair.pair-index pair pair c.loop-pair-test.true c.pair-item.is c.loop-pair.weight c.in_ok-more.more c.both_weights-weight.result s t u c.args.names.now.names before after (g.S.Reads.faults c.args.space.now)
+    (g.S.Reads.faults c.loop-pair.space) (g.S.Reads.faults c.set.new.space) c.both_weights-weight.ensures inv (one_part g.S.Reads.tells (commands.Set target pair.key pair.value) any_replies Done c.in_ok-more.more t u before after made.made made.light made.writes tt) c.set.ensures.prefix (g.met.S.Reads.onward_shape _ _ c.set.ensures.onward)
+    (g.met.S.Reads.further_onward c.args.space.now c.loop-pair.space c.set.new.space inv.onward_is c.set.ensures.onward) c.set.ensures.cause.later (λ rs ts total a each b. tt)

@@ -1,0 +1,89 @@
+-- What a list of changes leaves of a store, and why one is refused.
+use Rattle.std.specs.Prelude.{◌≡◌, ℕ, ◌<◌, ◌≤◌, min, List}
+use Rattle.plain_graph.specs.Graph.{Graph}
+use Rattle.plain_graph.specs.Reply.{Reply}
+use Rattle.plain_graph.specs.declared.command.Command.{Command}
+use Rattle.plain_graph.specs.declared.item.Item.{Item}
+use Rattle.plain_graph.specs.declared.refusal.Refusal.{Refusal}
+use Rattle.plain_graph.specs.declared.refusal.Refusal.TheVariants as refusals
+use Rattle.rec_bytes.specs.Space.{State}
+use Rattle.store_rules.specs.Writes.{WritesAtMost}
+use Rattle.graph_ops.specs.Change.{full_of}
+use Rattle.graph_ops.specs.Store.{IsStore, graph_in}
+use Rattle.graph_ops.specs.declared.change_fault.ChangeFault.{ChangeFault}
+use Rattle.graph_ops.specs.declared.change_fault.ChangeFault.TheVariants.{NoNode, NoEdge}
+use Rattle.graph_ops.specs.declared.change_fault.ChangeFault.TheVariants.{HasRelationships, Full}
+use Rattle.graph_ops.specs.declared.change_fault.ChangeFault.TheVariants.{NamesFull, PropsFull}
+use Rattle.graph_ops.specs.declared.change_fault.ChangeFault.TheVariants.{Memory, Disk, Damaged}
+use Rattle.plain_graph.specs.Mutations.{ChangesEach, MakesEach, RefusesEach, WeighsEach, changes_of}
+use Rattle.plain_graph.specs.Mutations.{results_of}
+use Rattle.plain_graph.specs.declared.mutation.Mutation.{Mutation}
+
+-- the greatest weight that is told of a list of changes
+abbrev pub most_told : ℕ
+most_told = 4096
+
+-- The store has all changes of the list, with these replies. No change was refused, whatever
+-- identifiers new elements get, and what they weigh together is told up to the greatest weight.
+pub record MakesChanges (commands : List Command) (replies : List Reply) (weight : ℕ)
+    (old new : State) (names : List (List ℕ)) : Type 0 where
+  pub store : IsStore new names
+  pub changes : ChangesEach old.shape.limit (graph_in old) commands replies (graph_in new)
+  pub total : ℕ
+  pub weighs : WeighsEach old.shape.limit old.shape.threshold (graph_in old) commands total
+  pub only : (other : ℕ)
+      → WeighsEach old.shape.limit old.shape.threshold (graph_in old) commands other
+      → other ≡ total
+  pub told : weight ≡ min total most_told
+  pub free : (why : Refusal) → ¬ RefusesEach old.shape.limit (graph_in old) commands why
+
+-- The steps changed the store so, and these are the results that they show.
+abbrev pub MakesMutation : Mutation → List Item → List Item → ℕ → State → State → List (List ℕ)
+    → Type 0
+MakesMutation mutation items shown weight old new names =
+    (replies : List Reply) × (shown ≡ results_of mutation items replies)
+    × MakesChanges (changes_of mutation items) replies weight old new names
+
+-- The first change of the list that is refused is refused so. A failure of the machine is no
+-- refusal, and in a store no record is damaged.
+abbrev pub IsListRefusal : ℕ → Graph → List Command → ChangeFault → Type 0
+IsListRefusal limit graph commands (NoNode id) =
+    RefusesEach limit graph commands (refusals.NoNode id)
+IsListRefusal limit graph commands (NoEdge id) =
+    RefusesEach limit graph commands (refusals.NoEdge id)
+IsListRefusal limit graph commands (HasRelationships id degree) =
+    RefusesEach limit graph commands (refusals.HasRelationships id)
+IsListRefusal limit graph commands (Full file live) =
+    RefusesEach limit graph commands (full_of file)
+IsListRefusal limit graph commands (NamesFull count) =
+    RefusesEach limit graph commands refusals.FullNames
+IsListRefusal limit graph commands (PropsFull count) =
+    RefusesEach limit graph commands refusals.TooManyProperties
+IsListRefusal limit graph commands Memory = Unit {0}
+IsListRefusal limit graph commands Disk = Unit {0}
+IsListRefusal limit graph commands (Damaged damage) = ⊥
+
+-- ---- parts of a list
+
+-- The changes were made one after the other.
+pub record MakesList (commands : List Command) (replies : List Reply) (weight : ℕ)
+    (old new : State) (names : List (List ℕ)) : Type 0 where
+  pub store : IsStore new names
+  pub total : ℕ
+  pub each : MakesEach old.shape.limit old.shape.threshold (graph_in old) commands replies total
+      (graph_in new)
+  pub told : weight ≡ min total most_told
+
+-- So they were where the space tells and was a store, with what is said of the replies. Over every
+-- space the weight bounds what became written, as long as it is below the greatest that is told.
+pub record MakesPart (tells : Type 0) (commands : List Command) (Shown : List Reply → Type 0)
+    (weight : ℕ) (old new : State) (before names : List (List ℕ)) : Type 0 where
+  pub made : tells → IsStore old before
+      → (replies : List Reply) × Shown replies
+      × MakesList commands replies weight old new names
+  pub few : weight ≤ most_told
+  pub writes : weight < most_told → WritesAtMost weight old new
+
+-- nothing is said of the replies
+abbrev pub any_replies : List Reply → Type 0
+any_replies replies = Unit {0}

@@ -1,0 +1,389 @@
+ghost use Rattle.std.specs.Prelude.{◌≡◌, ◌++◌, ◌+◌, ◌<◌, ◌≤◌, [], ◌∷◌, ℕ, List, min, IfErr, IfOk};
+ghost use Rattle.std.specs.Prelude.{OnOk};
+ghost use Rattle.plain_graph.specs.Forms.{ArePairs, HasMutationForm};
+ghost use Rattle.plain_graph.specs.Names.{IsShortName};
+ghost use Rattle.plain_graph.specs.declared.command.Command.TheVariants as commands;
+ghost use Rattle.store_rules.specs.Writes.{WritesAtMost};
+ghost use Rattle.graph_ops.specs.Change.{IsRefusal};
+ghost use Rattle.graph_ops.specs.ChangeFault.{HasChangeCause};
+ghost use Rattle.graph_ops.specs.Store.{IsStore, graph_in};
+ghost use Rattle.graph_ops.specs.Mutating.{IsListRefusal, MakesMutation, MakesPart};
+ghost use Rattle.graph_ops.specs.Mutating.{any_replies, most_told};
+ghost use Rattle.plain_graph.specs.Mutations.{changes_of, deletions, new_elements, settings};
+ghost use Rattle.plain_graph.specs.declared.mutation.Mutation.TheVariants as mutations;
+
+use crate::distinct::distinct_elements;
+use crate::{Added, ChangeFault, add_edge, add_node, delete_edge, delete_node, set};
+use name_store::Names;
+use plain_graph::{Item, Mutation, Pair, Pairs, Target, Text};
+use rec_bytes::Space;
+use std::alloc::Global;
+
+/// The greatest weight that is told; a transaction may weigh half of it.
+const MOST_TOLD: u32 = 4_096;
+
+/// What a mutation shows, and its weight: how many records it puts, meta records aside, or 4,096
+/// where that is less.
+#[derive(Drop)]
+pub struct Mutated {
+    pub items: Vec<Item>,
+    pub weight: u32,
+}
+
+/// Makes the changes that the steps ask for on the results of a query, one after the other. After a
+/// refusal the caller drops the draft and cuts the names.
+pub fn mutate<S: Space>(
+    alloc: Global,
+    space: &mut S,
+    names: &mut Names,
+    items: Vec<Item>,
+    mutation: &Mutation,
+) -> Result<Mutated, ChangeFault>
+    requires { HasMutationForm mutation.now }
+    ensures made { S.tells → IfOk result (λ mutated. IsStore (S.state space.old) names.old.names
+        → MakesMutation mutation.now items.items mutated.items.items mutated.weight
+        (S.state space.old) (S.state space.new) names.new.names) }
+    ensures refused { S.tells → IsStore (S.state space.old) names.old.names
+        → IfErr result (IsListRefusal (S.state space.old).shape.limit
+        (graph_in (S.state space.old)) (changes_of mutation.now items.items)) }
+    ensures few { IfOk result (λ mutated. mutated.weight ≤ 4096) }
+    ensures writes { IfOk result (λ mutated. mutated.weight < 4096
+        → WritesAtMost mutated.weight (S.state space.old) (S.state space.new)) }
+    ensures prefix { (rest : List (List ℕ)) × (names.new.names ≡ names.old.names ++ rest) }
+    ensures onward { S.onward space.old space.new }
+    ensures cause { HasChangeCause (S.faults space.old) (S.faults space.new) result }
+{
+    match mutation {
+        Mutation::AddV { label, pairs } => {
+            let mut vertices = Vec::new(alloc);
+            let weight = add_vertex(space, names, label, pairs, &mut vertices)?;
+            Ok(Mutated {
+                items: vertices,
+                weight,
+            })
+        }
+        Mutation::AddE { label, to, pairs } => {
+            let mut edges = Vec::new(alloc);
+            let weight = add_edges(alloc, space, names, &items, label, *to, pairs, &mut edges)?;
+            Ok(Mutated {
+                items: edges,
+                weight,
+            })
+        }
+        Mutation::Property(pairs) => {
+            let weight = set_each(space, names, &items, pairs.as_slice())?;
+            Ok(Mutated { items, weight })
+        }
+        Mutation::Drop => {
+            let weight = drop_each(alloc, space, names, &items)?;
+            Ok(Mutated {
+                items: Vec::new(alloc),
+                weight,
+            })
+        }
+    }
+}
+
+/// Both weights together, as far as they are told.
+fn both_weights(one: u32, other: u32) -> u32
+    requires one { one ≤ most_told }
+    requires other { other ≤ most_told }
+    ensures { result ≡ min (one + other) most_told }
+{
+    let both = one + other;
+    if both < MOST_TOLD { both } else { MOST_TOLD }
+}
+
+/// Adds an element to those that are shown.
+fn show(shown: &mut Vec<Item>, item: Item) -> Result<(), ChangeFault>
+    ensures shown { OnOk result (shown.new.items ≡ shown.old.items ++ item ∷ []) }
+    ensures memory { IfErr result (λ fault. fault ≡ ChangeFault.Memory) }
+{
+    match shown.push(item) {
+        Ok(()) => Ok(()),
+        Err(_) => Err(ChangeFault::Memory),
+    }
+}
+
+// ---- elements taken away
+
+/// Deletes each different element of the results.
+fn drop_each<S: Space>(
+    alloc: Global,
+    space: &mut S,
+    names: &Names,
+    items: &[Item],
+) -> Result<u32, ChangeFault>
+    ensures part { IfOk result (λ weight. MakesPart S.tells (changes_of mutations.Drop items.now)
+        any_replies weight (S.state space.old) (S.state space.new)
+        names.now.names names.now.names) }
+    ensures refused { S.tells → IsStore (S.state space.old) names.now.names
+        → IfErr result (IsListRefusal (S.state space.old).shape.limit
+        (graph_in (S.state space.old)) (changes_of mutations.Drop items.now)) }
+    ensures onward { S.onward space.old space.new }
+    ensures cause { HasChangeCause (S.faults space.old) (S.faults space.new) result }
+{
+    let Ok(targets) = distinct_elements(alloc, items) else {
+        return Err(ChangeFault::Memory);
+    };
+    delete_each(space, names, &targets)
+}
+
+/// Deletes these elements, one after the other.
+fn delete_each<S: Space>(
+    space: &mut S,
+    names: &Names,
+    targets: &[Target],
+) -> Result<u32, ChangeFault>
+    ensures part { IfOk result (λ weight. MakesPart S.tells (deletions targets.now)
+        any_replies weight (S.state space.old) (S.state space.new)
+        names.now.names names.now.names) }
+    ensures refused { S.tells → IsStore (S.state space.old) names.now.names
+        → IfErr result (IsListRefusal (S.state space.old).shape.limit
+        (graph_in (S.state space.old)) (deletions targets.now)) }
+    ensures onward { S.onward space.old space.new }
+    ensures cause { HasChangeCause (S.faults space.old) (S.faults space.new) result }
+{
+    let mut weight = 0;
+    for target in targets {
+        let more = delete(space, names, *target)?;
+        weight = both_weights(weight, more);
+    }
+    Ok(weight)
+}
+
+/// Deletes an element.
+fn delete<S: Space>(space: &mut S, names: &Names, target: Target) -> Result<u32, ChangeFault>
+    ensures part { IfOk result (λ weight. MakesPart S.tells (commands.Delete target ∷ [])
+        any_replies weight (S.state space.old) (S.state space.new)
+        names.now.names names.now.names) }
+    ensures refused { S.tells → IsStore (S.state space.old) names.now.names
+        → IfErr result (IsRefusal (S.state space.old).shape.limit
+        (graph_in (S.state space.old)) (commands.Delete target)) }
+    ensures onward { S.onward space.old space.new }
+    ensures cause { HasChangeCause (S.faults space.old) (S.faults space.new) result }
+{
+    match target {
+        Target::Node(id) => delete_node(space, names, id),
+        Target::Edge(id) => delete_edge(space, names, id),
+    }
+}
+
+// ---- values
+
+/// Sets the pairs, from left to right, on each element of the results in turn.
+fn set_each<S: Space>(
+    space: &mut S,
+    names: &mut Names,
+    items: &[Item],
+    pairs: &[Pair],
+) -> Result<u32, ChangeFault>
+    requires { ArePairs pairs.now }
+    ensures part { IfOk result (λ weight. MakesPart S.tells
+        (changes_of (mutations.Property pairs.now) items.now)
+        any_replies weight (S.state space.old) (S.state space.new)
+        names.old.names names.new.names) }
+    ensures refused { S.tells → IsStore (S.state space.old) names.old.names
+        → IfErr result (IsListRefusal (S.state space.old).shape.limit
+        (graph_in (S.state space.old)) (changes_of (mutations.Property pairs.now) items.now)) }
+    ensures prefix { (rest : List (List ℕ)) × (names.new.names ≡ names.old.names ++ rest) }
+    ensures onward { S.onward space.old space.new }
+    ensures cause { HasChangeCause (S.faults space.old) (S.faults space.new) result }
+{
+    let mut weight = 0;
+    for item in items {
+        let more = set_item(space, names, item, pairs)?;
+        weight = both_weights(weight, more);
+    }
+    Ok(weight)
+}
+
+/// Sets the pairs, from left to right, on a result; a value has none.
+fn set_item<S: Space>(
+    space: &mut S,
+    names: &mut Names,
+    item: &Item,
+    pairs: &[Pair],
+) -> Result<u32, ChangeFault>
+    requires { ArePairs pairs.now }
+    ensures part { IfOk result (λ weight. MakesPart S.tells
+        (changes_of (mutations.Property pairs.now) (item.now ∷ []))
+        any_replies weight (S.state space.old) (S.state space.new)
+        names.old.names names.new.names) }
+    ensures refused { S.tells → IsStore (S.state space.old) names.old.names
+        → IfErr result (IsListRefusal (S.state space.old).shape.limit
+        (graph_in (S.state space.old))
+        (changes_of (mutations.Property pairs.now) (item.now ∷ []))) }
+    ensures prefix { (rest : List (List ℕ)) × (names.new.names ≡ names.old.names ++ rest) }
+    ensures onward { S.onward space.old space.new }
+    ensures cause { HasChangeCause (S.faults space.old) (S.faults space.new) result }
+{
+    match item {
+        Item::Vertex(id) => set_pairs(space, names, Target::Node(*id), pairs),
+        Item::Edge { id, .. } => set_pairs(space, names, Target::Edge(*id), pairs),
+        Item::Value(_) => Ok(0),
+    }
+}
+
+/// Sets the pairs, from left to right, on an element.
+fn set_pairs<S: Space>(
+    space: &mut S,
+    names: &mut Names,
+    target: Target,
+    pairs: &[Pair],
+) -> Result<u32, ChangeFault>
+    requires { ArePairs pairs.now }
+    ensures part { IfOk result (λ weight. MakesPart S.tells (settings pairs.now target)
+        any_replies weight (S.state space.old) (S.state space.new)
+        names.old.names names.new.names) }
+    ensures refused { S.tells → IsStore (S.state space.old) names.old.names
+        → IfErr result (IsListRefusal (S.state space.old).shape.limit
+        (graph_in (S.state space.old)) (settings pairs.now target)) }
+    ensures prefix { (rest : List (List ℕ)) × (names.new.names ≡ names.old.names ++ rest) }
+    ensures onward { S.onward space.old space.new }
+    ensures cause { HasChangeCause (S.faults space.old) (S.faults space.new) result }
+{
+    let mut weight = 0;
+    for pair in pairs {
+        let more = set(space, names, target, &pair.key, &pair.value)?;
+        weight = both_weights(weight, more);
+    }
+    Ok(weight)
+}
+
+// ---- new elements
+
+/// Adds a vertex.
+fn add_vertex<S: Space>(
+    space: &mut S,
+    names: &mut Names,
+    label: &Text,
+    pairs: &Pairs,
+    shown: &mut Vec<Item>,
+) -> Result<u32, ChangeFault>
+    requires label { IsShortName label.now }
+    requires pairs { ArePairs pairs.now }
+    ensures part { IfOk result (λ weight. MakesPart S.tells
+        (commands.Node label.now pairs.now ∷ [])
+        (λ replies. shown.new.items ≡ shown.old.items
+        ++ new_elements (commands.Node label.now pairs.now ∷ []) replies)
+        weight (S.state space.old) (S.state space.new) names.old.names names.new.names) }
+    ensures refused { S.tells → IsStore (S.state space.old) names.old.names
+        → IfErr result (IsRefusal (S.state space.old).shape.limit
+        (graph_in (S.state space.old)) (commands.Node label.now pairs.now)) }
+    ensures prefix { (rest : List (List ℕ)) × (names.new.names ≡ names.old.names ++ rest) }
+    ensures onward { S.onward space.old space.new }
+    ensures cause { HasChangeCause (S.faults space.old) (S.faults space.new) result }
+{
+    let Added { id, weight } = add_node(space, names, label, pairs)?;
+    show(shown, Item::Vertex(id))?;
+    Ok(weight)
+}
+
+/// Adds an edge from each vertex of the results in turn.
+fn add_edges<S: Space>(
+    alloc: Global,
+    space: &mut S,
+    names: &mut Names,
+    items: &[Item],
+    label: &Text,
+    to: u32,
+    pairs: &Pairs,
+    shown: &mut Vec<Item>,
+) -> Result<u32, ChangeFault>
+    requires label { IsShortName label.now }
+    requires pairs { ArePairs pairs.now }
+    ensures part { IfOk result (λ weight. MakesPart S.tells
+        (changes_of (mutations.AddE label.now to pairs.now) items.now)
+        (λ replies. shown.new.items ≡ shown.old.items
+        ++ new_elements (changes_of (mutations.AddE label.now to pairs.now) items.now) replies)
+        weight (S.state space.old) (S.state space.new) names.old.names names.new.names) }
+    ensures refused { S.tells → IsStore (S.state space.old) names.old.names
+        → IfErr result (IsListRefusal (S.state space.old).shape.limit
+        (graph_in (S.state space.old))
+        (changes_of (mutations.AddE label.now to pairs.now) items.now)) }
+    ensures prefix { (rest : List (List ℕ)) × (names.new.names ≡ names.old.names ++ rest) }
+    ensures onward { S.onward space.old space.new }
+    ensures cause { HasChangeCause (S.faults space.old) (S.faults space.new) result }
+{
+    let mut weight = 0;
+    for item in items {
+        let more = add_edge_from(alloc, space, names, item, label, to, pairs, shown)?;
+        weight = both_weights(weight, more);
+    }
+    Ok(weight)
+}
+
+/// Adds an edge from a result that is a vertex.
+fn add_edge_from<S: Space>(
+    alloc: Global,
+    space: &mut S,
+    names: &mut Names,
+    item: &Item,
+    label: &Text,
+    to: u32,
+    pairs: &Pairs,
+    shown: &mut Vec<Item>,
+) -> Result<u32, ChangeFault>
+    requires label { IsShortName label.now }
+    requires pairs { ArePairs pairs.now }
+    ensures part { IfOk result (λ weight. MakesPart S.tells
+        (changes_of (mutations.AddE label.now to pairs.now) (item.now ∷ []))
+        (λ replies. shown.new.items ≡ shown.old.items
+        ++ new_elements (changes_of (mutations.AddE label.now to pairs.now) (item.now ∷ []))
+        replies)
+        weight (S.state space.old) (S.state space.new) names.old.names names.new.names) }
+    ensures refused { S.tells → IsStore (S.state space.old) names.old.names
+        → IfErr result (IsListRefusal (S.state space.old).shape.limit
+        (graph_in (S.state space.old))
+        (changes_of (mutations.AddE label.now to pairs.now) (item.now ∷ []))) }
+    ensures prefix { (rest : List (List ℕ)) × (names.new.names ≡ names.old.names ++ rest) }
+    ensures onward { S.onward space.old space.new }
+    ensures cause { HasChangeCause (S.faults space.old) (S.faults space.new) result }
+{
+    match item {
+        Item::Vertex(from) => add_one_edge(alloc, space, names, *from, label, to, pairs, shown),
+        Item::Edge { .. } | Item::Value(_) => Ok(0),
+    }
+}
+
+/// Adds an edge, and shows it.
+fn add_one_edge<S: Space>(
+    alloc: Global,
+    space: &mut S,
+    names: &mut Names,
+    from: u32,
+    label: &Text,
+    to: u32,
+    pairs: &Pairs,
+    shown: &mut Vec<Item>,
+) -> Result<u32, ChangeFault>
+    requires label { IsShortName label.now }
+    requires pairs { ArePairs pairs.now }
+    ensures part { IfOk result (λ weight. MakesPart S.tells
+        (commands.Edge from label.now to pairs.now ∷ [])
+        (λ replies. shown.new.items ≡ shown.old.items
+        ++ new_elements (commands.Edge from label.now to pairs.now ∷ []) replies)
+        weight (S.state space.old) (S.state space.new) names.old.names names.new.names) }
+    ensures refused { S.tells → IsStore (S.state space.old) names.old.names
+        → IfErr result (IsRefusal (S.state space.old).shape.limit
+        (graph_in (S.state space.old)) (commands.Edge from label.now to pairs.now)) }
+    ensures prefix { (rest : List (List ℕ)) × (names.new.names ≡ names.old.names ++ rest) }
+    ensures onward { S.onward space.old space.new }
+    ensures cause { HasChangeCause (S.faults space.old) (S.faults space.new) result }
+{
+    let Ok(own_label) = label.copy(alloc) else {
+        return Err(ChangeFault::Memory);
+    };
+    let Added { id, weight } = add_edge(space, names, from, label, to, pairs)?;
+    show(
+        shown,
+        Item::Edge {
+            id,
+            label: own_label,
+            from,
+            to,
+        },
+    )?;
+    Ok(weight)
+}
