@@ -20,7 +20,7 @@ use Rattle.graph_ops.specs.Store.{IsStore, graph_in}
 use Rattle.graph_ops.specs.declared.change_fault.ChangeFault.{ChangeFault}
 use Rattle.graph_ops.specs.declared.change_fault.ChangeFault.TheVariants.{NoNode, NoEdge, HasRelationships, Full, NamesFull, PropsFull, Memory, Disk, Damaged}
 use Rattle.graph_ops.proofs.Exits.{fault_exit}
-use Rattle.graph_ops.specs.Mutating.{IsListRefusal, MakesChanges, MakesList, MakesMutation, MakesPart, any_replies, most_told}
+use Rattle.graph_ops.specs.Mutating.{IsListRefusal, MakesChanges, MakesList, MakesMutation, MakesPart, any_replies, most_drafted, most_told}
 use Rattle.plain_graph.specs.Mutations.{MakesEach, RefusesEach, changes_of, elements_of, new_elements, targets_once, vertex_id}
 use Rattle.plain_graph.specs.declared.mutation.Mutation.TheVariants as mutations
 use Rattle.plain_graph.proofs.Alike.{AreAlike, IsNewEdge, IsOfElement, alike_self, edge_carries, element_carries, node_once}
@@ -46,13 +46,11 @@ one_part tells command Shown reply weight s t before names made light writes sho
         shown,
         record {
           store = one.store;
-          total = weight;
           each = (reply, weight, graph_in t, [], 0, refl, omega arith, record { changes = one.changes; weighs = one.weighs; free = one.free }, (refl, refl, refl));
-          told = omega arith;
         },
       );
   few = omega arith;
-  writes = λ lt. writes;
+  writes = writes;
 }
 
 -- of a result, where nothing is said of its reply
@@ -63,9 +61,9 @@ one_result (Err fault) tells command reply s t before names made light writes = 
 
 pub none_part : (tells : Type 0) (Shown : List Reply → Type 0) (s : State) (names : List (List ℕ)) → Shown [] → MakesPart tells [] Shown 0 s s names names
 none_part tells Shown s names shown = record {
-  made = λ told store. ([], shown, record { store = store; total = 0; each = (refl, refl, refl); told = omega arith });
+  made = λ told store. ([], shown, record { store = store; each = (refl, refl, refl) });
   few = omega arith;
-  writes = λ lt. none_written s s refl;
+  writes = none_written s s refl;
 }
 
 -- a result that is no vertex gets no edge
@@ -77,13 +75,13 @@ none_from tells label to pairs (items.Value value) shown s names none = none_par
 
 -- ---- one part and then another
 
-module _ (xs ys : List Command) (w v both : ℕ) (s t u : State) (is : both ≡ min (w + v) most_told) where
+module _ (xs ys : List Command) (w v both : ℕ) (s t u : State) (is : both ≡ w + v) (few : both ≤ most_drafted) where
   list_then : (rs ts : List Reply) (m n : List (List ℕ)) → t.shape ≡ s.shape → MakesList xs rs w s t m → MakesList ys ts v t u n → MakesList (xs ++ ys) (rs ++ ts) both s u n
   list_then rs ts m n shape made next = record {
     store = next.store;
-    total = made.total + next.total;
-    each = each_then s.shape.limit s.shape.threshold (graph_in s) (graph_in t) (graph_in u) xs ys rs ts made.total next.total made.each (subst (λ (z : Shape). MakesEach z.limit z.threshold (graph_in t) ys ts next.total (graph_in u)) shape next.each);
-    told = let a = made.told in let b = next.told in omega arith;
+    each =
+        subst (λ (n : ℕ). MakesEach s.shape.limit s.shape.threshold (graph_in s) (xs ++ ys) (rs ++ ts) n (graph_in u)) (sym is)
+        (each_then s.shape.limit s.shape.threshold (graph_in s) (graph_in t) (graph_in u) xs ys rs ts w v made.each (subst (λ (z : Shape). MakesEach z.limit z.threshold (graph_in t) ys ts v (graph_in u)) shape next.each));
   }
 
   pub part_then : {tells : Type 0} {Shown Next Then : List Reply → Type 0} (b m n : List (List ℕ)) → t.shape ≡ s.shape
@@ -93,9 +91,9 @@ module _ (xs ys : List Command) (w v both : ℕ) (s t u : State) (is : both ≡ 
     made = λ told store.
         let one = made.made told store in
         let other = next.made told one.2.store in
-        (one.0 ++ other.0, joins one.0 other.0 one.2.total one.1 one.2.each other.1, list_then one.0 other.0 m n shape one.2 other.2);
-    few = omega arith;
-    writes = λ lt. more_written (omega arith) (then_written (made.writes (omega arith)) (next.writes (omega arith)));
+        (one.0 ++ other.0, joins one.0 other.0 w one.1 one.2.each other.1, list_then one.0 other.0 m n shape one.2 other.2);
+    few = few;
+    writes = more_written (omega arith) (then_written made.writes next.writes);
   }
 
 -- ---- refusals
@@ -133,7 +131,7 @@ next_refused told s t xs ys zs all w before names part store shape is fault refu
     list_by s.shape.limit (graph_in t) (graph_in s) ys all
     (λ why refuses.
     subst (λ (cs : List Command). RefusesEach s.shape.limit (graph_in s) cs why) (sym is)
-    (refuses_then s.shape.limit s.shape.threshold (graph_in s) (graph_in t) xs (ys ++ zs) replies made.total why made.each (refuses_more s.shape.limit s.shape.threshold (graph_in t) ys zs why refuses)))
+    (refuses_then s.shape.limit s.shape.threshold (graph_in s) (graph_in t) xs (ys ++ zs) replies w why made.each (refuses_more s.shape.limit s.shape.threshold (graph_in t) ys zs why refuses)))
     fault
     (subst (λ (z : Shape). IsListRefusal z.limit (graph_in t) ys fault) shape (refused made.store))
 
@@ -151,11 +149,11 @@ module _ {X : Type 0} (of : List X → List Command) (spread : IsSpread of) (xs 
   all_of = all_split of spread xs i any lt ∙ ap (λ (x : X). of (take i xs) ++ (of (x ∷ []) ++ of (drop (i + 1) xs))) (sym at)
 
   -- the next part after those so far
-  pub making_more : {tells on next_on : Type 0} {Shown Next Then : List Reply → Type 0} (w v both : ℕ) (s t u : State) (b m n : List (List ℕ)) (faults now then : ℕ) → both ≡ min (w + v) most_told → IsMaking tells on (of (take i xs)) Shown w s t b m faults now
+  pub making_more : {tells on next_on : Type 0} {Shown Next Then : List Reply → Type 0} (w v both : ℕ) (s t u : State) (b m n : List (List ℕ)) (faults now then : ℕ) → both ≡ w + v → both ≤ most_drafted → IsMaking tells on (of (take i xs)) Shown w s t b m faults now
       → MakesPart tells (of (item ∷ [])) Next v t u m n → ((rest : List (List ℕ)) × (n ≡ m ++ rest)) → u.shape ≡ t.shape → next_on → now ≤ then
       → ((rs ts : List Reply) (total : ℕ) → Shown rs → MakesEach s.shape.limit s.shape.threshold (graph_in s) (of (take i xs)) rs total (graph_in t) → Next ts → Then (rs ++ ts)) → IsMaking tells next_on (of (take (i + 1) xs)) Then both s u b n faults then
-  making_more {tells} {on} {next_on} {Shown} {Next} {Then} w v both s t u b m n faults now then is making part grown shape next later joins = record {
-    part = subst (λ (cs : List Command). MakesPart tells cs Then both s u b n) (sym up_to) (part_then (of (take i xs)) (of (item ∷ [])) w v both s t u is b m n making.shape joins making.part part);
+  making_more {tells} {on} {next_on} {Shown} {Next} {Then} w v both s t u b m n faults now then is few making part grown shape next later joins = record {
+    part = subst (λ (cs : List Command). MakesPart tells cs Then both s u b n) (sym up_to) (part_then (of (take i xs)) (of (item ∷ [])) w v both s t u is few b m n making.shape joins making.part part);
     prefix = (making.prefix.0 ++ grown.0, grown.1 ∙ ap (λ (l : List (List ℕ)). l ++ grown.0) making.prefix.1 ∙ append_assoc b making.prefix.0 grown.0);
     shape = shape ∙ making.shape;
     onward_is = next;
@@ -171,31 +169,31 @@ module _ {X : Type 0} (of : List X → List Command) (spread : IsSpread of) (xs 
 
 -- ---- whole lists
 
-whole : (Is : Command → Type 0) (Alike : Graph → Graph → Type 0) (commands : List Command) (replies : List Reply) (weight : ℕ) (s t : State) (names : List (List ℕ)) → Carries s.shape.limit s.shape.threshold Is Alike
-    → Alike (graph_in s) (graph_in s) → AreAll Is commands → MakesList commands replies weight s t names → MakesChanges commands replies weight s t names
-whole Is Alike commands replies weight s t names carries alike are made =
+whole : (Is : Command → Type 0) (Alike : Graph → Graph → Type 0) (commands : List Command) (replies : List Reply) (weight told : ℕ) (s t : State) (names : List (List ℕ)) → Carries s.shape.limit s.shape.threshold Is Alike
+    → Alike (graph_in s) (graph_in s) → AreAll Is commands → told ≡ min weight most_told → MakesList commands replies weight s t names → MakesChanges commands replies told s t names
+whole Is Alike commands replies weight told s t names carries alike are is made =
     let limit = s.shape.limit in
     let threshold = s.shape.threshold in
     let g = graph_in s in
     record {
       store = made.store;
-      changes = each_changes limit threshold g (graph_in t) commands replies made.total made.each;
-      total = made.total;
-      weighs = each_weighs limit threshold g (graph_in t) commands replies made.total made.each;
-      only = λ other weighs. weighs_once limit threshold Is Alike carries g g (graph_in t) commands replies made.total other are alike made.each weighs;
-      told = made.told;
-      free = λ why. never_refused limit threshold Is Alike carries g g (graph_in t) commands replies made.total why are alike made.each;
+      changes = each_changes limit threshold g (graph_in t) commands replies weight made.each;
+      total = weight;
+      weighs = each_weighs limit threshold g (graph_in t) commands replies weight made.each;
+      only = λ other weighs. weighs_once limit threshold Is Alike carries g g (graph_in t) commands replies weight other are alike made.each weighs;
+      told = is;
+      free = λ why. never_refused limit threshold Is Alike carries g g (graph_in t) commands replies weight why are alike made.each;
     }
 
-pub edges_whole : (commands : List Command) (replies : List Reply) (weight : ℕ) (s t : State) (names : List (List ℕ)) → AreAll IsNewEdge commands → MakesList commands replies weight s t names → MakesChanges commands replies weight s t names
-edges_whole commands replies weight s t names are made = whole IsNewEdge AreAlike commands replies weight s t names (edge_carries s.shape.limit s.shape.threshold) (alike_self (graph_in s)) are made
+pub edges_whole : (commands : List Command) (replies : List Reply) (weight told : ℕ) (s t : State) (names : List (List ℕ)) → AreAll IsNewEdge commands → told ≡ min weight most_told → MakesList commands replies weight s t names → MakesChanges commands replies told s t names
+edges_whole commands replies weight told s t names are is made = whole IsNewEdge AreAlike commands replies weight told s t names (edge_carries s.shape.limit s.shape.threshold) (alike_self (graph_in s)) are is made
 
-pub elements_whole : (commands : List Command) (replies : List Reply) (weight : ℕ) (s t : State) (names : List (List ℕ)) → AreAll IsOfElement commands → MakesList commands replies weight s t names → MakesChanges commands replies weight s t names
-elements_whole commands replies weight s t names are made = whole IsOfElement (λ g h. g ≡ h) commands replies weight s t names (element_carries s.shape.limit s.shape.threshold) refl are made
+pub elements_whole : (commands : List Command) (replies : List Reply) (weight told : ℕ) (s t : State) (names : List (List ℕ)) → AreAll IsOfElement commands → told ≡ min weight most_told → MakesList commands replies weight s t names → MakesChanges commands replies told s t names
+elements_whole commands replies weight told s t names are is made = whole IsOfElement (λ g h. g ≡ h) commands replies weight told s t names (element_carries s.shape.limit s.shape.threshold) refl are is made
 
 -- a new node alone
-node_whole : (label : List ℕ) (pairs : List Pair) (replies : List Reply) (weight : ℕ) (s t : State) (names : List (List ℕ)) → MakesList (commands.Node label pairs ∷ []) replies weight s t names → MakesChanges (commands.Node label pairs ∷ []) replies weight s t names
-node_whole label pairs replies weight s t names made =
+node_whole : (label : List ℕ) (pairs : List Pair) (replies : List Reply) (weight told : ℕ) (s t : State) (names : List (List ℕ)) → told ≡ min weight most_told → MakesList (commands.Node label pairs ∷ []) replies weight s t names → MakesChanges (commands.Node label pairs ∷ []) replies told s t names
+node_whole label pairs replies weight told s t names is made =
     let limit = s.shape.limit in
     let threshold = s.shape.threshold in
     let g = graph_in s in
@@ -203,9 +201,9 @@ node_whole label pairs replies weight s t names made =
     let one = made.each in
     record {
       store = made.store;
-      changes = each_changes limit threshold g (graph_in t) list replies made.total one;
-      total = made.total;
-      weighs = each_weighs limit threshold g (graph_in t) list replies made.total one;
+      changes = each_changes limit threshold g (graph_in t) list replies weight one;
+      total = weight;
+      weighs = each_weighs limit threshold g (graph_in t) list replies weight one;
       only = λ other weighs.
           let same : weighs.0 ≡ one.1 = node_once threshold g label pairs weighs.0 one.1 weighs.5 one.7.weighs in
           let a = weighs.4 in
@@ -213,7 +211,7 @@ node_whole label pairs replies weight s t names made =
           let d = one.6 in
           let e = one.8.1 in
           omega (arith, same, a, b, d, e);
-      told = made.told;
+      told = is;
       free = λ why refused. reasons_apart change_reasons limit g g (commands.Node label pairs) why (reasons_same change_reasons limit g (commands.Node label pairs)) one.7.free (first_alone limit g label pairs why refused);
     }
   where
@@ -226,27 +224,27 @@ node_whole label pairs replies weight s t names made =
 from_none : (shown start rest : List Item) → start ≡ [] → shown ≡ start ++ rest → shown ≡ rest
 from_none shown start rest none is = is ∙ ap (λ (l : List Item). l ++ rest) none
 
-module _ {tells : Type 0} (results shown start : List Item) (weight : ℕ) (s t : State) (b n : List (List ℕ)) where
+module _ {tells : Type 0} (results shown start : List Item) (weight told : ℕ) (is : told ≡ min weight most_told) (s t : State) (b n : List (List ℕ)) where
   pub vertex_made : (label : List ℕ) (pairs : List Pair) → start ≡ [] → MakesPart tells (commands.Node label pairs ∷ []) (λ replies. shown ≡ start ++ new_elements (commands.Node label pairs ∷ []) replies) weight s t b n → tells → IsStore s b
-      → MakesMutation (mutations.AddV label pairs) results shown weight s t n
-  vertex_made label pairs none part told store =
-      let made = part.made told store in
-      (made.0, from_none shown start (new_elements (commands.Node label pairs ∷ []) made.0) none made.1, node_whole label pairs made.0 weight s t n made.2)
+      → MakesMutation (mutations.AddV label pairs) results shown told s t n
+  vertex_made label pairs none part tells_it store =
+      let made = part.made tells_it store in
+      (made.0, from_none shown start (new_elements (commands.Node label pairs ∷ []) made.0) none made.1, node_whole label pairs made.0 weight told s t n is made.2)
 
   pub edges_made : (label : List ℕ) (to : ℕ) (pairs : List Pair) → start ≡ []
       → MakesPart tells (changes_of (mutations.AddE label to pairs) results) (λ replies. shown ≡ start ++ new_elements (changes_of (mutations.AddE label to pairs) results) replies) weight s t b n → tells → IsStore s b
-      → MakesMutation (mutations.AddE label to pairs) results shown weight s t n
-  edges_made label to pairs none part told store =
-      let made = part.made told store in
+      → MakesMutation (mutations.AddE label to pairs) results shown told s t n
+  edges_made label to pairs none part tells_it store =
+      let made = part.made tells_it store in
       let list = changes_of (mutations.AddE label to pairs) results in
-      (made.0, from_none shown start (new_elements list made.0) none made.1, edges_whole list made.0 weight s t n (edges_all label to pairs results) made.2)
+      (made.0, from_none shown start (new_elements list made.0) none made.1, edges_whole list made.0 weight told s t n (edges_all label to pairs results) is made.2)
 
-  pub values_made : (pairs : List Pair) → MakesPart tells (changes_of (mutations.Property pairs) results) any_replies weight s t b n → tells → IsStore s b → MakesMutation (mutations.Property pairs) results results weight s t n
-  values_made pairs part told store =
-      let made = part.made told store in
-      (made.0, refl, elements_whole (changes_of (mutations.Property pairs) results) made.0 weight s t n (items_all pairs results) made.2)
+  pub values_made : (pairs : List Pair) → MakesPart tells (changes_of (mutations.Property pairs) results) any_replies weight s t b n → tells → IsStore s b → MakesMutation (mutations.Property pairs) results results told s t n
+  values_made pairs part tells_it store =
+      let made = part.made tells_it store in
+      (made.0, refl, elements_whole (changes_of (mutations.Property pairs) results) made.0 weight told s t n (items_all pairs results) is made.2)
 
-  pub drops_made : shown ≡ [] → MakesPart tells (changes_of mutations.Drop results) any_replies weight s t b n → tells → IsStore s b → MakesMutation mutations.Drop results shown weight s t n
-  drops_made none part told store =
-      let made = part.made told store in
-      (made.0, none, elements_whole (changes_of mutations.Drop results) made.0 weight s t n (deletions_all (targets_once [] (elements_of results))) made.2)
+  pub drops_made : shown ≡ [] → MakesPart tells (changes_of mutations.Drop results) any_replies weight s t b n → tells → IsStore s b → MakesMutation mutations.Drop results shown told s t n
+  drops_made none part tells_it store =
+      let made = part.made tells_it store in
+      (made.0, none, elements_whole (changes_of mutations.Drop results) made.0 weight told s t n (deletions_all (targets_once [] (elements_of results))) is made.2)

@@ -1,5 +1,5 @@
 -- What a list of changes leaves of a store, and why one is refused.
-use Rattle.std.specs.Prelude.{◌≡◌, ℕ, ◌<◌, ◌≤◌, min, List}
+use Rattle.std.specs.Prelude.{◌≡◌, ℕ, ◌≤◌, min, List}
 use Rattle.plain_graph.specs.Graph.{Graph}
 use Rattle.plain_graph.specs.Reply.{Reply}
 use Rattle.plain_graph.specs.declared.command.Command.{Command}
@@ -22,6 +22,10 @@ use Rattle.plain_graph.specs.declared.mutation.Mutation.{Mutation}
 -- the greatest weight that is told of a list of changes
 abbrev pub most_told : ℕ
 most_told = 4096
+
+-- what the changes of a line weigh at most where there is memory for them
+abbrev pub most_drafted : ℕ
+most_drafted = 16384
 
 -- The store has all changes of the list, with these replies. No change was refused, whatever
 -- identifiers new elements get, and what they weigh together is told up to the greatest weight.
@@ -69,20 +73,18 @@ IsListRefusal limit graph commands (Damaged damage) = ⊥
 pub record MakesList (commands : List Command) (replies : List Reply) (weight : ℕ)
     (old new : State) (names : List (List ℕ)) : Type 0 where
   pub store : IsStore new names
-  pub total : ℕ
-  pub each : MakesEach old.shape.limit old.shape.threshold (graph_in old) commands replies total
+  pub each : MakesEach old.shape.limit old.shape.threshold (graph_in old) commands replies weight
       (graph_in new)
-  pub told : weight ≡ min total most_told
 
 -- So they were where the space tells and was a store, with what is said of the replies. Over every
--- space the weight bounds what became written, as long as it is below the greatest that is told.
+-- space the weight bounds what became written.
 pub record MakesPart (tells : Type 0) (commands : List Command) (Shown : List Reply → Type 0)
     (weight : ℕ) (old new : State) (before names : List (List ℕ)) : Type 0 where
   pub made : tells → IsStore old before
       → (replies : List Reply) × Shown replies
       × MakesList commands replies weight old new names
-  pub few : weight ≤ most_told
-  pub writes : weight < most_told → WritesAtMost weight old new
+  pub few : weight ≤ most_drafted
+  pub writes : WritesAtMost weight old new
 
 -- nothing is said of the replies
 abbrev pub any_replies : List Reply → Type 0

@@ -8,7 +8,7 @@ ghost use Rattle.graph_ops.specs.Change.{IsRefusal};
 ghost use Rattle.graph_ops.specs.ChangeFault.{HasChangeCause};
 ghost use Rattle.graph_ops.specs.Store.{IsStore, graph_in};
 ghost use Rattle.graph_ops.specs.Mutating.{IsListRefusal, MakesMutation, MakesPart};
-ghost use Rattle.graph_ops.specs.Mutating.{any_replies, most_told};
+ghost use Rattle.graph_ops.specs.Mutating.{any_replies, most_drafted, most_told};
 ghost use Rattle.plain_graph.specs.Mutations.{changes_of, deletions, new_elements, settings};
 ghost use Rattle.plain_graph.specs.declared.mutation.Mutation.TheVariants as mutations;
 
@@ -22,6 +22,9 @@ use std::alloc::Global;
 /// The greatest weight that is told; a transaction may weigh half of it.
 const MOST_TOLD: u32 = 4_096;
 
+/// What the changes of a line may weigh before memory is said to lack: eight transactions.
+const MOST_DRAFTED: u32 = 16_384;
+
 /// What a mutation shows, and its weight: how many records it puts, meta records aside, or 4,096
 /// where that is less.
 #[derive(Drop)]
@@ -31,7 +34,8 @@ pub struct Mutated {
 }
 
 /// Makes the changes that the steps ask for on the results of a query, one after the other. After a
-/// refusal the caller drops the draft and cuts the names.
+/// refusal the caller drops the draft and cuts the names. Where they would write more than eight
+/// transactions may, the answer is want of memory, whatever a later change would be refused for.
 pub fn mutate<S: Space>(
     alloc: Global,
     space: &mut S,
@@ -59,7 +63,7 @@ pub fn mutate<S: Space>(
             let weight = add_vertex(space, names, label, pairs, &mut vertices)?;
             Ok(Mutated {
                 items: vertices,
-                weight,
+                weight: told_weight(weight),
             })
         }
         Mutation::AddE { label, to, pairs } => {
@@ -67,31 +71,52 @@ pub fn mutate<S: Space>(
             let weight = add_edges(alloc, space, names, &items, label, *to, pairs, &mut edges)?;
             Ok(Mutated {
                 items: edges,
-                weight,
+                weight: told_weight(weight),
             })
         }
         Mutation::Property(pairs) => {
             let weight = set_each(space, names, &items, pairs.as_slice())?;
-            Ok(Mutated { items, weight })
+            Ok(Mutated {
+                items,
+                weight: told_weight(weight),
+            })
         }
         Mutation::Drop => {
             let weight = drop_each(alloc, space, names, &items)?;
             Ok(Mutated {
                 items: Vec::new(alloc),
-                weight,
+                weight: told_weight(weight),
             })
         }
     }
 }
 
-/// Both weights together, as far as they are told.
-fn both_weights(one: u32, other: u32) -> u32
-    requires one { one ≤ most_told }
-    requires other { other ≤ most_told }
-    ensures { result ≡ min (one + other) most_told }
+/// Both weights together. There is memory for so many records of one line, and no more.
+fn both_weights(one: u32, other: u32) -> Result<u32, ChangeFault>
+    requires one { one ≤ most_drafted }
+    requires other { other ≤ most_drafted }
+    ensures sum { IfOk result (λ both. both ≡ one + other) }
+    ensures few { IfOk result (λ both. both ≤ most_drafted) }
+    ensures memory { IfErr result (λ fault. fault ≡ ChangeFault.Memory) }
 {
     let both = one + other;
-    if both < MOST_TOLD { both } else { MOST_TOLD }
+    if both <= MOST_DRAFTED {
+        Ok(both)
+    } else {
+        Err(ChangeFault::Memory)
+    }
+}
+
+/// The weight as far as it is told.
+fn told_weight(weight: u32) -> u32
+    ensures is { result ≡ min weight most_told }
+    ensures few { result ≤ most_told }
+{
+    if weight < MOST_TOLD {
+        weight
+    } else {
+        MOST_TOLD
+    }
 }
 
 /// Adds an element to those that are shown.
@@ -147,7 +172,8 @@ fn delete_each<S: Space>(
     let mut weight = 0;
     for target in targets {
         let more = delete(space, names, *target)?;
-        weight = both_weights(weight, more);
+        let both = both_weights(weight, more)?;
+        weight = both;
     }
     Ok(weight)
 }
@@ -193,7 +219,8 @@ fn set_each<S: Space>(
     let mut weight = 0;
     for item in items {
         let more = set_item(space, names, item, pairs)?;
-        weight = both_weights(weight, more);
+        let both = both_weights(weight, more)?;
+        weight = both;
     }
     Ok(weight)
 }
@@ -246,7 +273,8 @@ fn set_pairs<S: Space>(
     let mut weight = 0;
     for pair in pairs {
         let more = set(space, names, target, &pair.key, &pair.value)?;
-        weight = both_weights(weight, more);
+        let both = both_weights(weight, more)?;
+        weight = both;
     }
     Ok(weight)
 }
@@ -309,7 +337,8 @@ fn add_edges<S: Space>(
     let mut weight = 0;
     for item in items {
         let more = add_edge_from(alloc, space, names, item, label, to, pairs, shown)?;
-        weight = both_weights(weight, more);
+        let both = both_weights(weight, more)?;
+        weight = both;
     }
     Ok(weight)
 }

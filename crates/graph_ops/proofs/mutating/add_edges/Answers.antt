@@ -34,8 +34,8 @@ loop-item-preserved g c =
     let results = c.args.items.now in
     let i = c.loop-item.item-index in
     let start = c.args.shown.now.items in
-    making_more of spread results i item item c.loop-item-test.true c.item-item.is c.loop-item.weight c.in_ok-more.more c.both_weights-weight.result s t (g.S.Reads.state c.add_edge_from.new.space) c.args.names.now.names c.loop-item.names.names c.add_edge_from.new.names.names (g.S.Reads.faults c.args.space.now)
-    (g.S.Reads.faults c.loop-item.space) (g.S.Reads.faults c.add_edge_from.new.space) c.both_weights-weight.ensures inv c.in_ok-more.ensures.part c.add_edge_from.ensures.prefix (g.met.S.Reads.onward_shape _ _ c.add_edge_from.ensures.onward)
+    making_more of spread results i item item c.loop-item-test.true c.item-item.is c.loop-item.weight c.in_ok-more.more c.in_ok-both.both s t (g.S.Reads.state c.add_edge_from.new.space) c.args.names.now.names c.loop-item.names.names c.add_edge_from.new.names.names (g.S.Reads.faults c.args.space.now)
+    (g.S.Reads.faults c.loop-item.space) (g.S.Reads.faults c.add_edge_from.new.space) c.in_ok-both.ensures.sum c.in_ok-both.ensures.few inv c.in_ok-more.ensures.part c.add_edge_from.ensures.prefix (g.met.S.Reads.onward_shape _ _ c.add_edge_from.ensures.onward)
     (g.met.S.Reads.further_onward c.args.space.now c.loop-item.space c.add_edge_from.new.space inv.onward_is c.add_edge_from.ensures.onward) c.add_edge_from.ensures.cause.later
     (λ rs ts total a each b.
     b ∙ ap (λ (l : List Item). l ++ new_elements (of (item ∷ [])) ts) a ∙ append_assoc start (new_elements (of (take i results)) rs) (new_elements (of (item ∷ [])) ts)

@@ -25,6 +25,6 @@ loop-target-preserved g c =
     let names = c.args.names.now.names in
     let i = c.loop-target.target-index in
     let target = get_or c.args.targets.now i (targets.Node 0) in
-    making_more deletions deletions_spread c.args.targets.now i target (targets.Node 0) c.loop-target-test.true refl c.loop-target.weight c.in_ok-more.more c.both_weights-weight.result (g.S.Reads.state c.args.space.now) (g.S.Reads.state c.loop-target.space) (g.S.Reads.state c.delete.new.space) names names names (g.S.Reads.faults c.args.space.now)
-    (g.S.Reads.faults c.loop-target.space) (g.S.Reads.faults c.delete.new.space) c.both_weights-weight.ensures inv c.in_ok-more.ensures.part ([], sym (append_none names)) (g.met.S.Reads.onward_shape _ _ c.delete.ensures.onward)
+    making_more deletions deletions_spread c.args.targets.now i target (targets.Node 0) c.loop-target-test.true refl c.loop-target.weight c.in_ok-more.more c.in_ok-both.both (g.S.Reads.state c.args.space.now) (g.S.Reads.state c.loop-target.space) (g.S.Reads.state c.delete.new.space) names names names (g.S.Reads.faults c.args.space.now)
+    (g.S.Reads.faults c.loop-target.space) (g.S.Reads.faults c.delete.new.space) c.in_ok-both.ensures.sum c.in_ok-both.ensures.few inv c.in_ok-more.ensures.part ([], sym (append_none names)) (g.met.S.Reads.onward_shape _ _ c.delete.ensures.onward)
     (g.met.S.Reads.further_onward c.args.space.now c.loop-target.space c.delete.new.space inv.onward_is c.delete.ensures.onward) c.delete.ensures.cause.later (λ rs ts total a each b. tt)

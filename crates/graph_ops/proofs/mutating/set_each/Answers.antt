@@ -17,6 +17,6 @@ loop-item-preserved g c =
     let inv = c.loop-item.invariant in
     let pairs = c.args.pairs.now in
     let item = c.item-item.result in
-    making_more (changes_of (mutations.Property pairs)) (items_spread pairs) c.args.items.now c.loop-item.item-index item item c.loop-item-test.true c.item-item.is c.loop-item.weight c.in_ok-more.more c.both_weights-weight.result (g.S.Reads.state c.args.space.now) (g.S.Reads.state c.loop-item.space)
-    (g.S.Reads.state c.set_item.new.space) c.args.names.now.names c.loop-item.names.names c.set_item.new.names.names (g.S.Reads.faults c.args.space.now) (g.S.Reads.faults c.loop-item.space) (g.S.Reads.faults c.set_item.new.space) c.both_weights-weight.ensures inv c.in_ok-more.ensures.part c.set_item.ensures.prefix
+    making_more (changes_of (mutations.Property pairs)) (items_spread pairs) c.args.items.now c.loop-item.item-index item item c.loop-item-test.true c.item-item.is c.loop-item.weight c.in_ok-more.more c.in_ok-both.both (g.S.Reads.state c.args.space.now) (g.S.Reads.state c.loop-item.space)
+    (g.S.Reads.state c.set_item.new.space) c.args.names.now.names c.loop-item.names.names c.set_item.new.names.names (g.S.Reads.faults c.args.space.now) (g.S.Reads.faults c.loop-item.space) (g.S.Reads.faults c.set_item.new.space) c.in_ok-both.ensures.sum c.in_ok-both.ensures.few inv c.in_ok-more.ensures.part c.set_item.ensures.prefix
     (g.met.S.Reads.onward_shape _ _ c.set_item.ensures.onward) (g.met.S.Reads.further_onward c.args.space.now c.loop-item.space c.set_item.new.space inv.onward_is c.set_item.ensures.onward) c.set_item.ensures.cause.later (λ rs ts total a each b. tt)
