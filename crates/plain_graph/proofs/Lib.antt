@@ -1,4 +1,6 @@
 pub mod Alike
+pub mod LineLaws
 pub mod Making
+pub mod MutationRows
 pub mod PropertyLaws
 pub mod Unmarked

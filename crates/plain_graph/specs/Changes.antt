@@ -16,8 +16,8 @@ use Rattle.plain_graph.specs.declared.command.Target.TheVariants as targets
 abbrev pub IsChange : Command → Type 0
 IsChange command = AreChanges (kind_of command)
 
--- The line changes the graph so, with this reply. The limit says how many nodes, and how many
--- edges, there may be.
+-- The single change of the command changes the graph so, with this reply. The limit says how many
+-- nodes, and how many edges, there may be. A mutating query makes several, so it has no row here.
 abbrev pub Changes : ℕ → Graph → Command → Reply → Graph → Type 0
 Changes limit old (commands.Node label pairs) reply new =
     (id : ℕ) × (reply ≡ NodeMade id) × AddsNode limit old label pairs id new

@@ -5,6 +5,7 @@ pub mod Forms
 pub mod Graph
 pub mod Kinds
 pub mod Levels
+pub mod LineChanges
 pub mod Lines
 pub mod Meaning
 pub mod Mutations

@@ -4,7 +4,7 @@ use Rattle.std.specs.Prelude.{◌≡◌, ◌⊎◌, ℕ, Bool, false, Option, So
 use Rattle.std.specs.Prelude.{codes, decimal, length, map}
 use Rattle.plain_graph.specs.Adjacency.{adjacency_in}
 use Rattle.plain_graph.specs.Counts.{counts_of}
-use Rattle.plain_graph.specs.Forms.{ArePairs, IsKept, IsMaybeName}
+use Rattle.plain_graph.specs.Forms.{ArePairs, HasMutationForm, IsKept, IsMaybeName}
 use Rattle.plain_graph.specs.Graph.{Graph}
 use Rattle.plain_graph.specs.Kinds.{AreQuestions, Blanks, Bound, Change, Ending, Kind, Question}
 use Rattle.plain_graph.specs.Kinds.{Sight, Upkeep}
@@ -123,6 +123,7 @@ kind_of (commands.Edge from label to pairs) = Change
 kind_of (commands.Set target key value) = Change
 kind_of (commands.Unset target key) = Change
 kind_of (commands.Delete target) = Change
+kind_of (commands.Mutate reading mutation) = Change
 kind_of commands.Check = Question
 kind_of commands.Stats = Question
 kind_of (commands.Expand id direction label) = Question
@@ -141,6 +142,7 @@ HasForm (commands.Expand id direction label) = IsShortName label
 HasForm (commands.Degree id direction label) = IsMaybeName label
 HasForm (commands.Path from to direction label) = IsMaybeName label
 HasForm (commands.Levels from to direction label) = IsMaybeName label
+HasForm (commands.Mutate reading mutation) = HasMutationForm mutation
 HasForm _ = Unit {0}
 
 -- the nodes that a question asks of

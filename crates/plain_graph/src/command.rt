@@ -1,4 +1,4 @@
-use crate::{Direction, Pairs, Query, Text, Value};
+use crate::{Direction, Mutation, Pairs, Query, Text, Value};
 
 /// An element of the graph that a line names.
 #[derive(Clone, Copy, Debug, PartialEq, Eq)]
@@ -87,4 +87,9 @@ pub enum Command {
     },
     /// The results of a query.
     Query(Query),
+    /// Changes of what a query gives, one after the other; of none for a new node.
+    Mutate {
+        reading: Option<Query>,
+        mutation: Mutation,
+    },
 }
