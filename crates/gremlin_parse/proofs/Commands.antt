@@ -286,6 +286,7 @@ sentence_of (commands.Levels from to direction label) is = inr (record {
   is = ap (λ (d : Direction). commands.Levels from to d label) (sym (direction_is direction));
 })
 sentence_of (commands.Query query) is = absurd is
+sentence_of (commands.Mutate reading mutation) is = absurd is
 
 pub sentence_parts : (command : Command) → (sentence : Sentence command) → parts_of command ≡ Exactly (word_of sentence.head) ∷ tail_parts sentence.head sentence.contents sentence.last
 sentence_parts command sentence = ap parts_of sentence.is ∙ command_parts sentence.head sentence.contents sentence.last sentence.plain sentence.allowed
@@ -310,6 +311,7 @@ plain_keeps head plain command rest bytes spells keeps =
   where
     keeps_command : (command : Command) → IsCommand command → KeepsBounds command → KeepsTail command bytes
     keeps_command (commands.Query query) is keeps = absurd is
+    keeps_command (commands.Mutate reading mutation) is keeps = absurd is
     keeps_command command is keeps = keeps
 
 -- a query after its word
@@ -342,20 +344,21 @@ after_element : (target : Target) (more : List Part) (word : List ℕ) → AllBy
 after_element (targets.Node id) more word all = all.1.1.1.1.1
 after_element (targets.Edge id) more word all = all.1.1.1.1.1
 
-parts_form : (command : Command) → AllByRecursion IsSpelled (parts_of command) → HasForm command
-parts_form (commands.Node label pairs) all = (short_name label all.1.1.0, pairs_form pairs all.1.1.1)
-parts_form (commands.Edge from label to pairs) all = (short_name label all.1.1.1.1.0, pairs_form pairs all.1.1.1.1.1.1.1)
-parts_form (commands.Set target key value) all =
+parts_form : (command : Command) → IsCommand command → AllByRecursion IsSpelled (parts_of command) → HasForm command
+parts_form (commands.Node label pairs) is all = (short_name label all.1.1.0, pairs_form pairs all.1.1.1)
+parts_form (commands.Edge from label to pairs) is all = (short_name label all.1.1.1.1.0, pairs_form pairs all.1.1.1.1.1.1.1)
+parts_form (commands.Set target key value) is all =
     let later = after_element target (Gap ∷ Name key ∷ Gap ∷ Written value ∷ Blanks ∷ []) (codes "set") all in
     (short_name key later.1.0, later.1.1.1.0.0)
-parts_form (commands.Unset target key) all =
+parts_form (commands.Unset target key) is all =
     let later = after_element target (Gap ∷ Name key ∷ Blanks ∷ []) (codes "unset") all in
     short_name key later.1.0
-parts_form (commands.Expand id direction label) all = short_name label all.1.1.1.1.1.1.0
-parts_form (commands.Degree id direction label) all = maybe_form label all.1.1.1.1.1
-parts_form (commands.Path from to direction label) all = maybe_form label all.1.1.1.1.1.1.1
-parts_form (commands.Levels from to direction label) all = maybe_form label all.1.1.1.1.1.1.1
-parts_form command all = tt
+parts_form (commands.Expand id direction label) is all = short_name label all.1.1.1.1.1.1.0
+parts_form (commands.Degree id direction label) is all = maybe_form label all.1.1.1.1.1
+parts_form (commands.Path from to direction label) is all = maybe_form label all.1.1.1.1.1.1.1
+parts_form (commands.Levels from to direction label) is all = maybe_form label all.1.1.1.1.1.1.1
+parts_form (commands.Mutate reading mutation) is all = absurd is
+parts_form command is all = tt
 
 -- A command that a line spells has its form.
 pub spelled_form : (line : List ℕ) (command : Command) → Spells line command → HasForm command
@@ -363,4 +366,5 @@ spelled_form line command (blanks, bytes, whole, are, tail) = tail_form command 
   where
     tail_form : (command : Command) (bytes : List ℕ) → IsKeptTail command bytes → HasForm command
     tail_form (commands.Query query) bytes tail = tt
-    tail_form command bytes tail = parts_form command (all_spelled (parts_of command) bytes tail.0 tail.1)
+    tail_form (commands.Mutate reading mutation) bytes tail = absurd tail
+    tail_form command bytes tail = parts_form command tt (all_spelled (parts_of command) bytes tail.0 tail.1)

@@ -60,10 +60,12 @@ tail_plain command is bytes made =
 
 loose_tail : (command : Command) (bytes : List ℕ) → IsLooseTail command bytes → IsTail command bytes
 loose_tail (commands.Query query) bytes (word, rest, whole, word_is, to) = inr ((codes "g", heads.Query), lookup_in head_words (codes "g") heads.Query (named heads.Query), (word, rest, whole, word_is, (query, refl, to)))
+loose_tail (commands.Mutate reading mutation) bytes made = absurd made
 loose_tail command bytes made = tail_plain command tt bytes made
 
 loosely : (command : Command) → IsCommand command → (bytes : List ℕ) → IsMadeOf (parts_of command) bytes → IsLooseTail command bytes
 loosely (commands.Query query) is bytes made = absurd is
+loosely (commands.Mutate reading mutation) is bytes made = absurd is
 loosely command is bytes made = made
 
 tail_loose : (command : Command) (bytes : List ℕ) → IsTail command bytes → IsLooseTail command bytes
@@ -175,6 +177,7 @@ bad_tail_after kind left line rest bytes rest_is takes bad =
 
 kept_loose : (command : Command) (bytes : List ℕ) → IsKeptTail command bytes → IsLooseTail command bytes
 kept_loose (commands.Query query) bytes (word, rest, whole, word_is, kept) = (word, rest, whole, word_is, query_of_kept query rest kept)
+kept_loose (commands.Mutate reading mutation) bytes tail = absurd tail
 kept_loose command bytes tail = tail.0
 
 pub spelled_loosely : (line : List ℕ) (command : Command) → Spells line command → SpellsLoosely line command
@@ -331,6 +334,7 @@ no_bad_tail (commands.Query query) bytes tail (word, rest, bytes_are, word_is, k
     let here : ThenWord head_words (KeptAfter query) bytes = ((codes "g", heads.Query), lookup_in head_words (codes "g") heads.Query (named heads.Query), (word, rest, bytes_are, word_is, kept)) in
     let both = words_agree head_words head_table (KeptAfter query) (λ head. BadAfter head kind left) (kept_halts query) (bad_after_halts kind left) bytes here bad in
     kept_no_bad_after query both.kind both.rest kind left both.one both.two
+no_bad_tail (commands.Mutate reading mutation) bytes tail keeps kind left = absurd keeps
 no_bad_tail command bytes tail keeps kind left = plain_no_bad command tt bytes tail keeps kind left
 
 -- ---- what is kept of the line
@@ -340,10 +344,12 @@ g_halts After = λ bytes (prefix, rest, bytes_are, same, after). subst (EndsRun 
 
 pub spelled_keeps : (rest bytes : List ℕ) (command : Command) → Takes AnyBlanks tt rest bytes → AfterFront (IsKeptTail command) rest → KeepsTail command bytes
 spelled_keeps rest bytes (commands.Query query) takes spells = (after_symbol AnyBlanks refl (Then (Exactly (codes "g")) (IsKeptQuery query)) (g_halts (IsKeptQuery query)) tt tt tt rest bytes takes spells).1
+spelled_keeps rest bytes (commands.Mutate reading mutation) takes (blanks, last, whole, are_blanks, tail) = absurd tail
 spelled_keeps rest bytes command takes (blanks, last, whole, are_blanks, tail) = tail.1
 
 spelled_of_tail : (rest bytes : List ℕ) (command : Command) → Takes AnyBlanks tt rest bytes → IsTail command bytes → KeepsTail command bytes → AfterFront (IsKeptTail command) rest
 spelled_of_tail rest bytes (commands.Query query) takes tail keeps = (takes.prefix, bytes, takes.bytes_are, takes.is, keeps)
+spelled_of_tail rest bytes (commands.Mutate reading mutation) takes tail keeps = absurd keeps
 spelled_of_tail rest bytes command takes tail keeps = (takes.prefix, bytes, takes.bytes_are, takes.is, (tail_loose command bytes tail, keeps))
 
 pub spells_of_tail : (line rest bytes : List ℕ) (command : Command) → rest ≡ after_tag line → Takes AnyBlanks tt rest bytes → IsTail command bytes → KeepsTail command bytes → Spells line command

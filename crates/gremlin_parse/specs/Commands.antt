@@ -72,10 +72,13 @@ parts_of (commands.Path from to direction label) =
 parts_of (commands.Levels from to direction label) =
     between_parts (codes "levels") from to direction ++ name_to_end label
 parts_of (commands.Query query) = []
+parts_of (commands.Mutate reading mutation) = []
 
--- The command is spelled by its parts; a query is spelled from place to place.
+-- The command is spelled by its parts; a query is spelled from place to place, and no line spells
+-- one that mutates yet.
 abbrev pub IsCommand : Command → Type 0
 IsCommand (commands.Query query) = ⊥
+IsCommand (commands.Mutate reading mutation) = ⊥
 IsCommand _ = Unit {0}
 
 abbrev pub KeepsBounds : Command → Type 0
@@ -92,6 +95,7 @@ NeedsNoMemory (commands.Degree id direction label) = ⊥
 NeedsNoMemory (commands.Path from to direction label) = ⊥
 NeedsNoMemory (commands.Levels from to direction label) = ⊥
 NeedsNoMemory (commands.Query query) = ⊥
+NeedsNoMemory (commands.Mutate reading mutation) = ⊥
 NeedsNoMemory _ = Unit {0}
 
 -- what a command or a query begins with
@@ -264,6 +268,7 @@ IsTail command bytes =
 -- What was read of the command is within its bounds.
 abbrev pub KeepsTail : Command → List ℕ → Type 0
 KeepsTail (commands.Query query) bytes = Then (Exactly (codes "g")) (IsKeptQuery query) bytes
+KeepsTail (commands.Mutate reading mutation) bytes = ⊥
 KeepsTail command bytes = KeepsBounds command
 
 -- no command that needs no memory
