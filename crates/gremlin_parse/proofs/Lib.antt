@@ -35,4 +35,5 @@ pub mod Tags
 pub mod Commands
 pub mod Lines
 pub mod Leftmost
+pub mod MutationRows
 pub mod Worked
