@@ -1,6 +1,6 @@
-//! Chains of relationships, linked in both directions: one more at the front, one taken out, a walk,
-//! and a walk that only counts. An edit costs at most three reads and three writes, a walk a read
-//! for each relationship. Only a walk that gives rows takes memory of its own.
+//! Chains of relationships, linked in both directions: one more at the front, one taken out, a
+//! walk, and a walk that only counts. An edit costs at most three reads and three writes, a walk a
+//! read for each relationship. Only a walk that gives rows takes memory of its own.
 #![tactic(auto)]
 
 mod chain;

@@ -70,8 +70,8 @@ pub fn walk<R: Reads>(
 }
 
 /// Reads the record of a relationship that a chain leads to from the one before, or, where that is
-/// `NIL`, first, into the caller's. A chain that runs into itself or into another one ends here, since what it meets
-/// leads back elsewhere.
+/// `NIL`, first, into the caller's. A chain that runs into itself or into another one ends here,
+/// since what it meets leads back elsewhere.
 pub(crate) fn read_next<R: Reads>(
     space: &mut R,
     chain: &Chain,

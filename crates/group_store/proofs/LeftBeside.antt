@@ -24,7 +24,7 @@ use Rattle.store_rules.proofs.ViewLaws.{kind_below, kind_low}
 use Rattle.chain_edit.specs.Chains.{next_place, prev_place}
 use Rattle.chain_edit.specs.Links as links
 use Rattle.chain_edit.specs.Pushing.{pushed}
-use Rattle.chain_edit.proofs.ChainSteps.{on_test}
+use Rattle.store_rules.proofs.ChainSteps.{on_test}
 use Rattle.chain_edit.proofs.LinkLaws.{field-set_other, place_high, place_low, set_at}
 use Rattle.group_store.specs.Counting.{one_more, tallied}
 use Rattle.group_store.specs.GroupRecord.{group_key}

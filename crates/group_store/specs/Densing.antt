@@ -41,9 +41,9 @@ pub record HasDenseRoom (s : State) (node threshold : ℕ) (empty : List ℕ) : 
 abbrev pub IsSparse : Records → ℕ → Type 0
 IsSparse records node = kind_at records format.nodes_file node ≡ format.sparse
 
--- What is told while the relationships come into groups, of the space as it is then. The record that
--- is said to be damaged breaks the rule, or it is a group whose first link leads nowhere, or the file
--- of groups is full.
+-- What is told while the relationships come into groups, of the space as it is then. The record
+-- that is said to be damaged breaks the rule, or it is a group whose first link leads nowhere, or
+-- the file of groups is full.
 abbrev pub IsLateDamage : State → Damage → Type 0
 IsLateDamage t damage =
     IsOpenFault t (Damaged damage)
@@ -57,8 +57,8 @@ IsMoveFault s t node rel (Damaged damage) =
     IsLateDamage t damage ⊎ ((damage ≡ rels_damage node) × (rel_at s.records rel ≡ None))
 
 -- Why a sparse node doesn't become dense. The record that is said to be damaged breaks the rule in
--- the space as it was: all of the node's own chain is read then. Or it is told later, of the space as
--- it is. That the node's relationships aren't those that were read may be told later only where
+-- the space as it was: all of the node's own chain is read then. Or it is told later, of the space
+-- as it is. That the node's relationships aren't those that were read may be told later only where
 -- the store broke some rule.
 abbrev pub IsDenseFault : State → State → ℕ → Fault → Type 0
 IsDenseFault s t node Memory = Unit {0}

@@ -114,8 +114,8 @@ IsHeadFault s node rel label (Damaged damage) =
     Breaks s.records s.shape damage
     ⊎ ((damage ≡ end_damage rel) × LacksGroupOn s.records node label)
 
--- What a group is refused for: the record that is said to be damaged breaks the rule, or the file of
--- groups is full.
+-- What a group is refused for: the record that is said to be damaged breaks the rule, or the file
+-- of groups is full.
 abbrev pub IsOpenFault : State → Fault → Type 0
 IsOpenFault s Memory = Unit {0}
 IsOpenFault s Disk = Unit {0}

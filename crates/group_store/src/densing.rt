@@ -40,9 +40,9 @@ use rel_store::{Linked, end_links, place_of};
 /// Makes a sparse node dense: each of its relationships comes into the group of its type, at the
 /// front of the chain of its direction. Its chain is read once before anything is written, and the
 /// node is damaged where it isn't sparse, where its degree says more than so many, or where its
-/// chain is broken or has more relationships than its degree says. It is too where, later, the chain
-/// isn't as it was read, or what stood first at a group's head or among the groups didn't come there
-/// by this call.
+/// chain is broken or has more relationships than its degree says. It is too where, later, the
+/// chain isn't as it was read, or what stood first at a group's head or among the groups didn't
+/// come there by this call.
 pub fn make_dense<S: Space>(space: &mut S, node: u32, threshold: u32) -> Result<(), Fault>
     requires { threshold ≤ 200 }
     ensures made { S.tells → OnOk result ((most : ℕ) (empty : List ℕ)

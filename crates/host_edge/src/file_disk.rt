@@ -112,9 +112,9 @@ impl Disk for FileDisk {
         counted(&mut self.faults, answer)
     }
 
-    /// After a sync of a file that succeeds, a loss of power takes neither its bytes, its length nor
-    /// its entry in the folder. The first sync of a run makes the entries of all files durable; if
-    /// that fails, it is a fault of the call, and the next sync tries again.
+    /// After a sync of a file that succeeds, a loss of power takes neither its bytes, its length
+    /// nor its entry in the folder. The first sync of a run makes the entries of all files durable;
+    /// if that fails, it is a fault of the call, and the next sync tries again.
     fn sync(&mut self, file: u8) -> Result<(), Failed>
         requires file { IsFile file }
         ensures count { CountsFailure self.old self.new result }

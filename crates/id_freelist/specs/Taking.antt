@@ -121,8 +121,8 @@ AreAllUsed records file =
 
 -- The record that is said to be damaged breaks the rule. The meta record has a number that can't
 -- stand there. With an empty free list and a low count, a record is not in use and so not on the
--- list, or else the count is wrong; the count is too high for the free list; or the list begins with
--- a record in use. Or the first free record names a next one that can't stand there.
+-- list, or else the count is wrong; the count is too high for the free list; or the list begins
+-- with a record in use. Or the first free record names a next one that can't stand there.
 pub data IsTakeDamage (s : State) (file : ℕ) : Damage → Type 0 where
   Unranged : (IsRanged (meta_of s file) (room s file) → ⊥)
       → IsTakeDamage s file (meta_damage file 1)

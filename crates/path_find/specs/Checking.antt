@@ -37,8 +37,8 @@ abbrev pub IsWithin : Option ℕ → NodeLevel → Type 0
 IsWithin None row = Unit {0}
 IsWithin (Some edges) row = row.level ≤ edges
 
--- These nodes, the neighbours of a row's node, are in the levels: of one below the last level with at
--- most one more, or without a walk with any.
+-- These nodes, the neighbours of a row's node, are in the levels: of one below the last level with
+-- at most one more, or without a walk with any.
 abbrev pub AreIn : List NodeLevel → Option ℕ → NodeLevel → List ℕ → Type 0
 AreIn levels None row ends = (end : ℕ) → Contains ends end → HasLevel levels end
 AreIn levels (Some edges) row ends =

@@ -1,8 +1,8 @@
 -- The kinds of lines. What a line may do follows from its kind.
 
--- A line of blanks; the end of the run; what begins or ends a transaction; what is done to the store
--- and not to its graph; what takes a snapshot or releases it; a change of the graph; and what is
--- read of it.
+-- A line of blanks; the end of the run; what begins or ends a transaction; what is done to the
+-- store and not to its graph; what takes a snapshot or releases it; a change of the graph; and what
+-- is read of it.
 pub data Kind : Type 0 where
   Blanks : Kind
   Ending : Kind

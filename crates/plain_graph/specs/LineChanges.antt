@@ -1,5 +1,5 @@
--- What a line changes of the graph, its weight, and why it is refused: by one change, or by those of
--- a mutating query.
+-- What a line changes of the graph, its weight, and why it is refused: by one change, or by those
+-- of a mutating query.
 use Rattle.std.specs.Prelude.{◌≡◌, ℕ, Option, Some, None, List, [], ◌∷◌, ◌++◌, map}
 use Rattle.plain_graph.specs.Changes.{Changes, Weighs}
 use Rattle.plain_graph.specs.Graph.{Graph}

@@ -65,8 +65,8 @@ pub record IsTextOf (records : Records) (p first size : ℕ) : Type 0 where
   pub first_is : first ≡ first_block records p
   pub size_is : size ≡ text_size records p
 
--- Why the property has no text: after some of its blocks there is no next one, or there is one after
--- the last.
+-- Why the property has no text: after some of its blocks there is no next one, or there is one
+-- after the last.
 pub data IsTextDamage (s : State) (p : ℕ) : Damage → Type 0 where
   NoBlock : (bs : List ℕ) (at left : ℕ) (d : Damage)
       → ArePassed s.records (first_block s.records p) (text_size s.records p) bs at left → 0 < left

@@ -15,8 +15,8 @@ BlamesBroken records shape Memory = Unit {0}
 BlamesBroken records shape Disk = Unit {0}
 BlamesBroken records shape (Damaged damage) = Breaks records shape damage
 
--- A property is blamed whose text leads to a block of another one. By the fifth rule one of the two,
--- or the block, is broken; which one isn't told.
+-- A property is blamed whose text leads to a block of another one. By the fifth rule one of the
+-- two, or the block, is broken; which one isn't told.
 pub record SharesBlock (records : Records) (d : Damage) : Type 0 where
   pub property : ℕ
   pub other : ℕ

@@ -49,7 +49,8 @@ pub(crate) fn drop_property<S: Space>(space: &mut S, row: &PropertyRow) -> Resul
     Ok(ids.len() as u32)
 }
 
-/// Gives the properties of an element back from its first one on, each with the blocks of its value.
+/// Gives the properties of an element back from its first one on, each with the blocks of its
+/// value.
 pub(crate) fn drop_chain<S: Space>(
     space: &mut S,
     owner: Owner,

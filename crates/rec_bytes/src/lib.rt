@@ -1,8 +1,8 @@
 //! Records of 64 bytes, the places of the numbers in them, the files that they stand in, and sets
-//! of written records by key. A number costs a few instructions, a find a read of a slot that a hash
-//! picks, a put of a new key a binary search and a move of two bytes for each greater key. A merge
-//! costs one of these for each record of the other set, and where many keys are new, a binary search
-//! for each of them and two moves of all places.
+//! of written records by key. A number costs a few instructions, a find a read of a slot that a
+//! hash picks, a put of a new key a binary search and a move of two bytes for each greater key. A
+//! merge costs one of these for each record of the other set, and where many keys are new, a binary
+//! search for each of them and two moves of all places.
 #![tactic(auto)]
 
 mod allowed_shape;

@@ -137,7 +137,8 @@ fn is_at(pairs: &Vec<(Key, Rec)>, place: usize, key: Key) -> bool
     place < pairs.len() && pairs[place].0 == key
 }
 
-// The place of the pair with a key that isn't before the hole, or where around the hole it would go.
+// The place of the pair with a key that isn't before the hole, or where around the hole it would
+// go.
 pub(crate) fn look_behind(
     pairs: &Vec<(Key, Rec)>,
     order: &Vec<u16>,

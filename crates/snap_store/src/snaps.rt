@@ -51,7 +51,8 @@ const SESSIONS: usize = 8;
 pub struct Snaps {
     layers: Vec<Layer>,
     ended: [bool; SESSIONS],
-    // Of each key that a layer has a record of the mark is set. Marks are cleared where none is open.
+    // Of each key that a layer has a record of the mark is set. Marks are cleared where none is
+    // open.
     marks: Vec<bool>,
     alloc: Global,
 }

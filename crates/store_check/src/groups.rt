@@ -1,5 +1,5 @@
-//! The fourth rule: each group is in the group chain of a dense node, and its counts are exact if it
-//! has any.
+//! The fourth rule: each group is in the group chain of a dense node, and its counts are exact if
+//! it has any.
 
 ghost use Rattle.std.specs.Prelude.{◌≡◌, ◌<◌, ◌≤◌, IfNone, IfOk, IfSome, [], false, length};
 ghost use Rattle.std.specs.Prelude.{map, ℕ};

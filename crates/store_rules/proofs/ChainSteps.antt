@@ -52,7 +52,7 @@ twice_other next f (y ∷ ys) x h (inl e) some q =
     let again : next (next y) ≡ y = ap (λ z. next (next z)) (sym e) ∙ q ∙ e in
     ⊎_elim (λ (none : next y ≡ nil). some (ap next e ∙ none))
     (λ (there : In (next y) ys). ⊎_elim (λ (none : next (next y) ≡ nil). h.1 (sym again ∙ none))
-        (λ k. head_once next y ys h.1 h.2 (subst (λ z. In z ys) again k)) (after_in next (next y) ys (next y) h.2 there))
+    (λ k. head_once next y ys h.1 h.2 (subst (λ z. In z ys) again k)) (after_in next (next y) ys (next y) h.2 there))
     (first_in next (next y) ys h.2)
 twice_other next f (y ∷ ys) x h (inr i) some q = twice_other next (next y) ys x h.2 i some q
 

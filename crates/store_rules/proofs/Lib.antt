@@ -31,6 +31,7 @@ pub mod NodeGone
 pub mod NodeMade
 pub mod NodeStores
 pub mod NumberLaws
+pub mod NumberedStores
 pub mod OnceLaws
 pub mod PropertyCounts
 pub mod PropertyFrames

@@ -316,8 +316,8 @@ HasNoIndex records = (x : ℕ) → kind_at records format.index_file x ≡ forma
 
 -- ---- all of them
 
--- The rules of a store of this shape. So many relationships a sparse node may have, and these groups
--- may be empty. What is said of the ranges is the first rule and the eighth.
+-- The rules of a store of this shape. So many relationships a sparse node may have, and these
+-- groups may be empty. What is said of the ranges is the first rule and the eighth.
 pub record KeepsRules (records : Records) (shape : Shape) (most : ℕ) (empty : List ℕ)
     : Type 0 where
   pub ranges : AreInRange records shape
