@@ -11,11 +11,11 @@ use Rattle.plain_graph.specs.declared.command.Target.TheVariants as targets
 use Rattle.plain_graph.specs.declared.direction.Direction.{Direction}
 use Rattle.plain_graph.specs.declared.direction.Direction.TheVariants as directions
 use Rattle.plain_graph.specs.declared.pairs.Pair.{Pair}
-use Rattle.plain_graph.specs.declared.query.Query.{Query}
 use Rattle.gremlin_parse.specs.Commands.{Asks, IsAfter, IsCommand, IsLast, IsLastOf, IsPlain, IsTail, KeepsBounds, KeepsTail, LacksMemory, LastContent, LastOf, NeedsNoMemory, SpellsAfter, command_of, element_of, head_words, last_part, parts_of, plain_command, production, word_of}
 use Rattle.gremlin_parse.specs.Grammar.{most_id, Part, Blanks, Gap, Exactly, Name, Number, Written, IsPart, IsMadeOf, target_parts, between_parts, direction_name, pairs_to_end, name_to_end, IsBounded}
 use Rattle.gremlin_parse.specs.Queries.{IsKeptQuery}
 use Rattle.gremlin_parse.specs.Lines.{IsKeptTail, Spells}
+use Rattle.gremlin_parse.specs.Reading.{Then}
 use Rattle.gremlin_parse.specs.Keywords.{Entry, InTable, plain, TakesWord}
 use Rattle.gremlin_parse.specs.Symbols.{Contents, ReadsAll}
 use Rattle.gremlin_parse.specs.Arguments.{target_names, direction_named, direction_names}
@@ -30,6 +30,8 @@ use Rattle.gremlin_parse.proofs.Symbols.{NameByte, no_blanks}
 use Rattle.gremlin_parse.proofs.Productions.{HaltsAt, follows_halts, read_follows}
 use Rattle.gremlin_parse.proofs.Spelling.{AllowsAll, parts_with, ThenParts, then_parts_map, then_parts_choice, follows_of_parts, parts_of_follows, follows_agree, read_allowed, read_bounded}
 use Rattle.gremlin_parse.proofs.Lasts.{one_last}
+use Rattle.gremlin_parse.proofs.QueryLaws.{IsAsked, query_is_asked, query_of_kept}
+use Rattle.gremlin_parse.proofs.Forms.{query_form}
 use Rattle.gremlin_parse.proofs.Heads.{entry_word, head_table, production_is, production_halts, last_closes, no_word_in_nothing}
 
 -- ---- the command that is spelled
@@ -99,22 +101,28 @@ commands_agree command other bytes (inr one) (inr two) =
     same_command command other word.kind found.contents found.rest found.one found.two
 
 -- Where a word of a command that asks for memory stands, no other command does.
-lacks_memory : (head : Head) → ((contents : Contents (production head)) (last : LastContent head) → ¬ NeedsNoMemory (command_of head contents last)) → (bytes rest : List ℕ) → bytes ≢ [] → TakesWord head_words bytes head rest → LacksMemory bytes
-lacks_memory head asks bytes rest some takes = λ command none tail. refuse command none tail
+lacks_memory : (head : Head) (bytes rest : List ℕ) → ((contents : Contents (production head)) (last : LastContent head) → ThenParts (parts_with (production head) contents) (LastOf head last) rest → ¬ NeedsNoMemory (command_of head contents last)) → bytes ≢ [] → TakesWord head_words bytes head rest → LacksMemory bytes
+lacks_memory head bytes rest asks some takes = λ command none tail. refuse command none tail
   where
     refuse : (command : Command) → NeedsNoMemory command → ¬ IsTail command bytes
     refuse command none (inl (blank, end)) = some end
     refuse command none (inr word) =
         let spelled = contents_of_spelled command head rest (ThenWord-after head_words head_table (SpellsAfter command) (spells_halts command) bytes rest head takes word) in
-        asks spelled.contents spelled.last (subst NeedsNoMemory spelled.is none)
+        asks spelled.contents spelled.last spelled.made (subst NeedsNoMemory spelled.is none)
 
-asks_memory : (head : Head) → Asks head → (contents : Contents (production head)) (last : LastContent head) → ¬ NeedsNoMemory (command_of head contents last)
-asks_memory (heads.Alone word) asks contents last = absurd asks
-asks_memory heads.Delete asks contents last = absurd asks
-asks_memory head asks contents last = λ none. none
+asked_memory : (command : Command) → IsAsked command → ¬ NeedsNoMemory command
+asked_memory (commands.Query query) is = λ none. none
+asked_memory (commands.Mutate reading mutation) is = λ none. none
+asked_memory command is = absurd is
+
+asks_memory : (head : Head) (rest : List ℕ) → Asks head → (contents : Contents (production head)) (last : LastContent head) → ThenParts (parts_with (production head) contents) (LastOf head last) rest → ¬ NeedsNoMemory (command_of head contents last)
+asks_memory (heads.Alone word) rest asks contents last made = absurd asks
+asks_memory heads.Delete rest asks contents last made = absurd asks
+asks_memory heads.Query rest asks contents command made = asked_memory command (query_is_asked command rest made)
+asks_memory head rest asks contents last made = λ none. none
 
 pub lacks_asked : (head : Head) → Asks head → (bytes rest : List ℕ) → bytes ≢ [] → TakesWord head_words bytes head rest → LacksMemory bytes
-lacks_asked head asks bytes rest some takes = lacks_memory head (asks_memory head asks) bytes rest some takes
+lacks_asked head asks bytes rest some takes = lacks_memory head bytes rest (asks_memory head rest asks) some takes
 
 -- What is read last asks for memory only where the command does.
 pub last_asks : (head : Head) → Lacks (last_part head) → Asks head
@@ -315,8 +323,13 @@ plain_keeps head plain command rest bytes spells keeps =
     keeps_command command is keeps = keeps
 
 -- a query after its word
-pub query_spelled : (query : Query) (bytes rest : List ℕ) → TakesWord head_words bytes heads.Query rest → IsKeptQuery query rest → KeepsTail (commands.Query query) bytes
-query_spelled query bytes rest (run, cut, is) kept = (run, rest, cut.bytes_are, entry_word (run, heads.Query) (lookup_in head_words run heads.Query is), kept)
+pub query_spelled : (command : Command) (bytes rest : List ℕ) → TakesWord head_words bytes heads.Query rest → IsKeptQuery command rest → KeepsTail command bytes
+query_spelled command bytes rest (run, cut, is) kept = keeps_query command (query_is_asked command rest (query_of_kept command rest kept)) (run, rest, cut.bytes_are, entry_word (run, heads.Query) (lookup_in head_words run heads.Query is), kept)
+  where
+    keeps_query : (command : Command) → IsAsked command → Then (Exactly (codes "g")) (IsKeptQuery command) bytes → KeepsTail command bytes
+    keeps_query (commands.Query query) is kept = kept
+    keeps_query (commands.Mutate reading mutation) is kept = kept
+    keeps_query command is kept = absurd is
 
 -- ---- the form of a command: its names are names of at most 48 bytes, and its values ones that a store may keep
 
@@ -366,5 +379,5 @@ spelled_form line command (blanks, bytes, whole, are, tail) = tail_form command 
   where
     tail_form : (command : Command) (bytes : List ℕ) → IsKeptTail command bytes → HasForm command
     tail_form (commands.Query query) bytes tail = tt
-    tail_form (commands.Mutate reading mutation) bytes tail = absurd tail
+    tail_form (commands.Mutate reading mutation) bytes (word, rest, same, word_is, kept) = query_form (commands.Mutate reading mutation) rest kept
     tail_form command bytes tail = parts_form command tt (all_spelled (parts_of command) bytes tail.0 tail.1)

@@ -2,6 +2,7 @@
 use Rattle.std.proofs.Common.{◌≡◌, ◌≢◌, ◌⊎◌, inl, inr, ℕ, false, Option, Some, None, List, [], ◌∷◌, ◌++◌, codes, refl, sym, ap, ◌∙◌, subst, ⊎_elim, append_assoc}
 use Rattle.std.specs.List.{AllByRecursion}
 use Rattle.plain_graph.specs.Names.{IsName}
+use Rattle.plain_graph.specs.declared.command.Command.TheVariants as commands
 use Rattle.gremlin_parse.specs.Grammar.{Gap, Name, Blanks, AreBlanks, IsMadeOf, IsBounded, name_to_end}
 use Rattle.gremlin_parse.specs.Reading.{StartsName}
 use Rattle.gremlin_parse.specs.Symbols.{Symbol, AnyBlanks, AnyGap, AnyName, Takes, Reads, ReadsAll, LeavesOne, Follows, BadFollows}
@@ -181,7 +182,7 @@ pub some_last : (kind : LastPart) → LastContentOf kind
 some_last lasts.End = tt
 some_last lasts.Pairs = []
 some_last lasts.MaybeName = None
-some_last lasts.Query = record { edges = false; ids = []; steps = [] }
+some_last lasts.Query = commands.Blank
 
 -- What stands last, by its parts.
 pub last_made : (kind : LastPart) → is_query kind ≡ false → (last : LastContentOf kind) (rest : List ℕ) → LastIs kind last rest → IsMadeOf (last_parts kind last) rest

@@ -6,7 +6,7 @@ use Rattle.std.proofs.lemmas.Bool.{cases_lt}
 use Rattle.plain_graph.specs.declared.command.Command.{Command}
 use Rattle.gremlin_parse.specs.Commands.{IsTail, KeepsTail, NeedsNoMemory}
 use Rattle.gremlin_parse.specs.Grammar.{is_blank}
-use Rattle.gremlin_parse.specs.Lines.{AfterFront, BadLine, IsKeptTail, IsLooseTail, NeedsMemory, Spells, IsLine, HasBad, HasFault, IsLeftmostFault, place_of}
+use Rattle.gremlin_parse.specs.Lines.{AfterFront, BadLine, IsLooseTail, NeedsMemory, Spells, IsLine, HasBad, HasFault, IsLeftmostFault, place_of}
 use Rattle.gremlin_parse.specs.Tags.{after_tag}
 use Rattle.gremlin_parse.specs.Faults.{IsViable, StopsAt}
 use Rattle.gremlin_parse.specs.Reading.{StopsBefore}

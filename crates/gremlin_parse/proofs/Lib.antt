@@ -19,6 +19,7 @@ pub mod Ends
 pub mod Turns
 pub mod Moves
 pub mod Walks
+pub mod Kept
 pub mod QueryPlaces
 pub mod OrderLaws
 pub mod Later
@@ -26,7 +27,9 @@ pub mod QueryReads
 pub mod OrderReads
 pub mod OrderTokens
 pub mod RepeatReads
+pub mod MutationReads
 pub mod QueryLaws
+pub mod Forms
 pub mod Words
 pub mod Arguments
 pub mod Lasts

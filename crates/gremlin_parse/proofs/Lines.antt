@@ -6,15 +6,14 @@ use Rattle.plain_graph.specs.declared.command.Command.{Command}
 use Rattle.plain_graph.specs.declared.command.Command.TheVariants as commands
 use Rattle.gremlin_parse.specs.Commands.{BadAfter, BadLast, BadTail, IsAfter, IsCommand, IsPlain, IsSomeTail, IsTail, KeepsBounds, KeepsTail, LacksMemory, LastContent, LastOf, SpellsAfter, command_of, head_words, last_part, parts_of, production, word_of}
 use Rattle.gremlin_parse.specs.Grammar.{Part, Blanks, Exactly, IsMadeOf, IsBounded, AreBlanks, is_blank}
-use Rattle.gremlin_parse.specs.Lines.{AfterFront, BadLine, IsLooseTail, IsKeptTail, IsFaultyTail, NeedsMemory, SpellsLoosely, Spells, IsLine}
+use Rattle.gremlin_parse.specs.Lines.{AfterFront, AfterG, BadLine, IsLooseTail, IsKeptTail, IsFaultyTail, NeedsMemory, SpellsLoosely, Spells, IsLine}
 use Rattle.gremlin_parse.specs.Tags.{IsTag, LeavesTag, ReadsTag, after_tag, is_at, session_first}
-use Rattle.gremlin_parse.specs.Queries.{Start, turn, is_loose, IsKeptQuery}
+use Rattle.gremlin_parse.specs.Queries.{Start, turn, is_loose, QueryTo, IsKeptQuery}
 use Rattle.gremlin_parse.specs.Keywords.{ThenWord}
 use Rattle.plain_graph.specs.Names.{is_name_byte}
-use Rattle.plain_graph.specs.declared.query.Query.{Query}
 use Rattle.gremlin_parse.proofs.Walks.{loose_within}
 use Rattle.gremlin_parse.proofs.QueryPlaces.{are, some}
-use Rattle.gremlin_parse.proofs.QueryLaws.{query_halts, query_of_kept, kept_query_no_bad}
+use Rattle.gremlin_parse.proofs.QueryLaws.{IsAsked, query_halts, query_is_asked, query_of_kept, kept_query_no_bad}
 use Rattle.gremlin_parse.specs.Faults.{EndsRun}
 use Rattle.gremlin_parse.specs.Reading.{Then, BadParts, first_byte}
 use Rattle.gremlin_parse.specs.Symbols.{AnyBlanks, Takes}
@@ -59,8 +58,8 @@ tail_plain command is bytes made =
     (sentence_of command is)
 
 loose_tail : (command : Command) (bytes : List ℕ) → IsLooseTail command bytes → IsTail command bytes
-loose_tail (commands.Query query) bytes (word, rest, whole, word_is, to) = inr ((codes "g", heads.Query), lookup_in head_words (codes "g") heads.Query (named heads.Query), (word, rest, whole, word_is, (query, refl, to)))
-loose_tail (commands.Mutate reading mutation) bytes made = absurd made
+loose_tail (commands.Query query) bytes (word, rest, whole, word_is, to) = inr ((codes "g", heads.Query), lookup_in head_words (codes "g") heads.Query (named heads.Query), (word, rest, whole, word_is, (commands.Query query, refl, to)))
+loose_tail (commands.Mutate reading mutation) bytes (word, rest, whole, word_is, to) = inr ((codes "g", heads.Query), lookup_in head_words (codes "g") heads.Query (named heads.Query), (word, rest, whole, word_is, (commands.Mutate reading mutation, refl, to)))
 loose_tail command bytes made = tail_plain command tt bytes made
 
 loosely : (command : Command) → IsCommand command → (bytes : List ℕ) → IsMadeOf (parts_of command) bytes → IsLooseTail command bytes
@@ -68,12 +67,24 @@ loosely (commands.Query query) is bytes made = absurd is
 loosely (commands.Mutate reading mutation) is bytes made = absurd is
 loosely command is bytes made = made
 
+-- What a query asks for is spelled by no parts.
+asked_is_none : (command : Command) → IsAsked command → ¬ IsCommand command
+asked_is_none (commands.Query query) is = λ none. none
+asked_is_none (commands.Mutate reading mutation) is = λ none. none
+asked_is_none command is = absurd is
+
+-- what a query asks for, by its places
+asked_loosely : (command : Command) → IsAsked command → (bytes : List ℕ) → AfterG (QueryTo command) bytes → IsLooseTail command bytes
+asked_loosely (commands.Query query) is bytes to = to
+asked_loosely (commands.Mutate reading mutation) is bytes to = to
+asked_loosely command is bytes to = absurd is
+
 tail_loose : (command : Command) (bytes : List ℕ) → IsTail command bytes → IsLooseTail command bytes
 tail_loose command bytes (inl (blank, end)) = subst (λ c. IsLooseTail c bytes) (sym blank) end
 tail_loose command bytes (inr (entry, within, (word, after, whole, word_is, spells))) = ⊎_elim
     (λ (query : entry.1 ≡ heads.Query).
     let (asked, is, to) = subst (λ (h : Head). SpellsAfter command h after) query spells in
-    subst (λ c. IsLooseTail c bytes) (sym is) (word, after, whole, word_is ∙ entry_word entry within ∙ ap word_of query, to))
+    subst (λ c. IsLooseTail c bytes) (sym is) (asked_loosely asked (query_is_asked asked after to) bytes (word, after, whole, word_is ∙ entry_word entry within ∙ ap word_of query, to)))
     (λ (plain : IsPlain entry.1).
     let head = entry.1 in
     let spelled = contents_of_spelled command head after spells in
@@ -176,8 +187,8 @@ bad_tail_after kind left line rest bytes rest_is takes bad =
 -- ---- within the bounds
 
 kept_loose : (command : Command) (bytes : List ℕ) → IsKeptTail command bytes → IsLooseTail command bytes
-kept_loose (commands.Query query) bytes (word, rest, whole, word_is, kept) = (word, rest, whole, word_is, query_of_kept query rest kept)
-kept_loose (commands.Mutate reading mutation) bytes tail = absurd tail
+kept_loose (commands.Query query) bytes (word, rest, whole, word_is, kept) = (word, rest, whole, word_is, query_of_kept (commands.Query query) rest kept)
+kept_loose (commands.Mutate reading mutation) bytes (word, rest, whole, word_is, kept) = (word, rest, whole, word_is, query_of_kept (commands.Mutate reading mutation) rest kept)
 kept_loose command bytes tail = tail.0
 
 pub spelled_loosely : (line : List ℕ) (command : Command) → Spells line command → SpellsLoosely line command
@@ -304,7 +315,7 @@ plain_no_bad command is bytes (inr word) keeps kind left = λ bad.
     let both = words_agree head_words head_table (SpellsAfter command) (λ head. BadAfter head kind left) (spells_halts command) (bad_after_halts kind left) bytes word bad in
     let head = both.kind in
     ⊎_elim
-    (λ (query : head ≡ heads.Query). let (asked, same, to) = subst (λ (h : Head). SpellsAfter command h both.rest) query both.one in absurd (subst IsCommand same is))
+    (λ (query : head ≡ heads.Query). let (asked, same, to) = subst (λ (h : Head). SpellsAfter command h both.rest) query both.one in absurd (asked_is_none asked (query_is_asked asked both.rest to) (subst IsCommand same is)))
     (λ (plain : IsPlain head).
     let spelled = contents_of_spelled command head both.rest both.one in
     let parts = parts_with (production head) spelled.contents in
@@ -316,25 +327,28 @@ plain_no_bad command is bytes (inr word) keeps kind left = λ bad.
     (query_or_plain head)
 
 -- the query that is kept, by the word
-abbrev KeptAfter : Query → Head → List ℕ → Type 0
-KeptAfter query heads.Query rest = IsKeptQuery query rest
-KeptAfter query _ rest = ⊥
+abbrev KeptAfter : Command → Head → List ℕ → Type 0
+KeptAfter command heads.Query rest = IsKeptQuery command rest
+KeptAfter command _ rest = ⊥
 
-kept_halts : (query : Query) (head : Head) → Halts is_name_byte (KeptAfter query head)
-kept_halts query heads.Query = λ rest kept. query_halts NameByte refl rest (query, query_of_kept query rest kept)
-kept_halts query head = λ rest none. absurd none
+kept_halts : (command : Command) (head : Head) → Halts is_name_byte (KeptAfter command head)
+kept_halts command heads.Query = λ rest kept. query_halts NameByte refl rest (command, query_of_kept command rest kept)
+kept_halts command head = λ rest none. absurd none
 
-kept_no_bad_after : (query : Query) (head : Head) (rest : List ℕ) (kind : BadToken) (left : ℕ) → KeptAfter query head rest → ¬ BadAfter head kind left rest
-kept_no_bad_after query heads.Query rest kind left kept = kept_query_no_bad query rest kept kind left
-kept_no_bad_after query head rest kind left none = absurd none
+kept_no_bad_after : (command : Command) (head : Head) (rest : List ℕ) (kind : BadToken) (left : ℕ) → KeptAfter command head rest → ¬ BadAfter head kind left rest
+kept_no_bad_after command heads.Query rest kind left kept = kept_query_no_bad command rest kept kind left
+kept_no_bad_after command head rest kind left none = absurd none
+
+no_bad_query : (command : Command) (bytes : List ℕ) → AfterG (IsKeptQuery command) bytes → (kind : BadToken) (left : ℕ) → ¬ BadTail kind left bytes
+no_bad_query command bytes (word, rest, bytes_are, word_is, kept) kind left = λ bad.
+    let here : ThenWord head_words (KeptAfter command) bytes = ((codes "g", heads.Query), lookup_in head_words (codes "g") heads.Query (named heads.Query), (word, rest, bytes_are, word_is, kept)) in
+    let both = words_agree head_words head_table (KeptAfter command) (λ head. BadAfter head kind left) (kept_halts command) (bad_after_halts kind left) bytes here bad in
+    kept_no_bad_after command both.kind both.rest kind left both.one both.two
 
 -- A command within its bounds leaves no bad token.
 pub no_bad_tail : (command : Command) (bytes : List ℕ) → IsTail command bytes → KeepsTail command bytes → (kind : BadToken) (left : ℕ) → ¬ BadTail kind left bytes
-no_bad_tail (commands.Query query) bytes tail (word, rest, bytes_are, word_is, kept) kind left = λ bad.
-    let here : ThenWord head_words (KeptAfter query) bytes = ((codes "g", heads.Query), lookup_in head_words (codes "g") heads.Query (named heads.Query), (word, rest, bytes_are, word_is, kept)) in
-    let both = words_agree head_words head_table (KeptAfter query) (λ head. BadAfter head kind left) (kept_halts query) (bad_after_halts kind left) bytes here bad in
-    kept_no_bad_after query both.kind both.rest kind left both.one both.two
-no_bad_tail (commands.Mutate reading mutation) bytes tail keeps kind left = absurd keeps
+no_bad_tail (commands.Query query) bytes tail keeps kind left = no_bad_query (commands.Query query) bytes keeps kind left
+no_bad_tail (commands.Mutate reading mutation) bytes tail keeps kind left = no_bad_query (commands.Mutate reading mutation) bytes keeps kind left
 no_bad_tail command bytes tail keeps kind left = plain_no_bad command tt bytes tail keeps kind left
 
 -- ---- what is kept of the line
@@ -342,14 +356,17 @@ no_bad_tail command bytes tail keeps kind left = plain_no_bad command tt bytes t
 g_halts : (After : List ℕ → Type 0) → Halts is_blank (Then (Exactly (codes "g")) After)
 g_halts After = λ bytes (prefix, rest, bytes_are, same, after). subst (EndsRun is_blank) (sym (bytes_are ∙ ap (λ w. w ++ rest) same)) refl
 
+keeps_after : (command : Command) (rest bytes : List ℕ) → Takes AnyBlanks tt rest bytes → AfterFront (AfterG (IsKeptQuery command)) rest → AfterG (IsKeptQuery command) bytes
+keeps_after command rest bytes takes spells = (after_symbol AnyBlanks refl (Then (Exactly (codes "g")) (IsKeptQuery command)) (g_halts (IsKeptQuery command)) tt tt tt rest bytes takes spells).1
+
 pub spelled_keeps : (rest bytes : List ℕ) (command : Command) → Takes AnyBlanks tt rest bytes → AfterFront (IsKeptTail command) rest → KeepsTail command bytes
-spelled_keeps rest bytes (commands.Query query) takes spells = (after_symbol AnyBlanks refl (Then (Exactly (codes "g")) (IsKeptQuery query)) (g_halts (IsKeptQuery query)) tt tt tt rest bytes takes spells).1
-spelled_keeps rest bytes (commands.Mutate reading mutation) takes (blanks, last, whole, are_blanks, tail) = absurd tail
+spelled_keeps rest bytes (commands.Query query) takes spells = keeps_after (commands.Query query) rest bytes takes spells
+spelled_keeps rest bytes (commands.Mutate reading mutation) takes spells = keeps_after (commands.Mutate reading mutation) rest bytes takes spells
 spelled_keeps rest bytes command takes (blanks, last, whole, are_blanks, tail) = tail.1
 
 spelled_of_tail : (rest bytes : List ℕ) (command : Command) → Takes AnyBlanks tt rest bytes → IsTail command bytes → KeepsTail command bytes → AfterFront (IsKeptTail command) rest
 spelled_of_tail rest bytes (commands.Query query) takes tail keeps = (takes.prefix, bytes, takes.bytes_are, takes.is, keeps)
-spelled_of_tail rest bytes (commands.Mutate reading mutation) takes tail keeps = absurd keeps
+spelled_of_tail rest bytes (commands.Mutate reading mutation) takes tail keeps = (takes.prefix, bytes, takes.bytes_are, takes.is, keeps)
 spelled_of_tail rest bytes command takes tail keeps = (takes.prefix, bytes, takes.bytes_are, takes.is, (tail_loose command bytes tail, keeps))
 
 pub spells_of_tail : (line rest bytes : List ℕ) (command : Command) → rest ≡ after_tag line → Takes AnyBlanks tt rest bytes → IsTail command bytes → KeepsTail command bytes → Spells line command

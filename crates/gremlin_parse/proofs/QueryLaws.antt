@@ -1,10 +1,12 @@
--- Queries as a language: where reading stops in one, that bytes are one query, and its bad tokens.
-use Rattle.std.proofs.Common.{◌≡◌, inl, inr, ℕ, zero, suc, true, List, [], ◌++◌, refl, sym, ⊎_elim}
-use Rattle.plain_graph.specs.declared.query.Query.{Query}
+-- Queries as a language: where reading stops in one, that bytes ask for one thing, and its bad tokens.
+use Rattle.std.proofs.Common.{◌≡◌, inl, inr, ℕ, zero, suc, true, Some, List, [], ◌++◌, refl, sym, subst, ⊎_elim}
+use Rattle.plain_graph.specs.declared.command.Command.{Command}
+use Rattle.plain_graph.specs.declared.command.Command.TheVariants as commands
+use Rattle.plain_graph.specs.declared.mutation.Mutation.TheVariants as mutations
 use Rattle.gremlin_parse.specs.Grammar.{Part, IsBounded}
 use Rattle.gremlin_parse.specs.Stopping.{IsStop}
 use Rattle.gremlin_parse.specs.Turns.{ThenSign, ThenOther, Loosely, Leads, LineFrom, KeptFrom, BadFrom}
-use Rattle.gremlin_parse.specs.Queries.{Place, Start, turn, is_loose, LineTo, QueryTo, IsQuery, IsKeptQuery, BadQuery, StopsInQuery}
+use Rattle.gremlin_parse.specs.Queries.{Place, Start, Steps, Ordered, Dropped, Changed, changed, turn, is_loose, LineTo, QueryTo, IsQuery, IsKeptQuery, BadQuery, StopsInQuery}
 use Rattle.gremlin_parse.specs.declared.bad_token.BadToken.{BadToken}
 use Rattle.gremlin_parse.specs.declared.stop.Stop.{Stop}
 use Rattle.gremlin_parse.specs.declared.stop.Stop.TheVariants as stops
@@ -16,11 +18,12 @@ use Rattle.gremlin_parse.proofs.Turns.{Language, place_halts, loose_ending, lead
 use Rattle.gremlin_parse.proofs.Moves.{line_ending, bad_ending}
 use Rattle.gremlin_parse.proofs.Walks.{blanks_agree, leads_agree, kept_no_bad, loose_within}
 use Rattle.gremlin_parse.proofs.QueryPlaces.{are, some}
+use Rattle.gremlin_parse.proofs.Kept.{leads_keep, each_sign_any, each_other_any}
 
 -- ---- a query, and some query
 
 abbrev pub SomeQuery : Language
-SomeQuery bytes = (query : Query) × QueryTo query bytes
+SomeQuery bytes = (command : Command) × QueryTo command bytes
 
 pub some_of_query : (bytes : List ℕ) → IsQuery bytes → SomeQuery bytes
 some_of_query bytes (prefix, rest, whole, are_blanks, (n, query, leads)) = (query, (prefix, rest, whole, are_blanks, (n, leads)))
@@ -65,22 +68,22 @@ queries_close = record {
 
 -- ---- one query
 
-no_blank_starts : (Bound : Part → Type 0) (end : Query) (n : ℕ) → Halts (passes Blank) (Leads turn is_loose Bound end n Start)
+no_blank_starts : (Bound : Part → Type 0) (end : Command) (n : ℕ) → Halts (passes Blank) (Leads turn is_loose Bound end n Start)
 no_blank_starts Bound end n = leads_bare turn is_loose Bound end n Blank Start refl
 
-pub queries_agree : (one two : Query) (bytes : List ℕ) → QueryTo one bytes → QueryTo two bytes → two ≡ one
+pub queries_agree : (one two : Command) (bytes : List ℕ) → QueryTo one bytes → QueryTo two bytes → two ≡ one
 queries_agree one two bytes first second =
-    let ends : (query : Query) → Halts (passes Blank) (LineTo query Start) = λ query rest (n, leads). no_blank_starts (λ _. Unit {0}) query n rest leads in
+    let ends : (command : Command) → Halts (passes Blank) (LineTo command Start) = λ command rest (n, leads). no_blank_starts (λ _. Unit {0}) command n rest leads in
     let (rest, (n, leads), (m, again)) = blanks_agree true (LineTo one Start) (LineTo two Start) (ends one) (ends two) bytes first second in
     sym (leads_agree turn is_loose are some (λ _. Unit {0}) (λ _. Unit {0}) one two n m Start rest leads again)
 
 -- A query within its bounds has no bad token.
-pub kept_query_no_bad : (query : Query) (bytes : List ℕ) → IsKeptQuery query bytes → (kind : BadToken) (left : ℕ) → ¬ BadQuery kind left bytes
-kept_query_no_bad query bytes kept kind left = λ bad.
-    let (rest, (n, leads), (m, bads)) = blanks_agree true (KeptFrom turn is_loose query Start) (BadFrom turn is_loose Start kind left) (λ rest (n, leads). no_blank_starts IsBounded query n rest leads) (λ rest (m, bads). bad_bare turn is_loose kind left m Blank Start refl rest bads) bytes kept bad in
-    kept_no_bad turn is_loose are some query kind left n m Start rest leads bads
+pub kept_query_no_bad : (command : Command) (bytes : List ℕ) → IsKeptQuery command bytes → (kind : BadToken) (left : ℕ) → ¬ BadQuery kind left bytes
+kept_query_no_bad command bytes kept kind left = λ bad.
+    let (rest, (n, leads), (m, bads)) = blanks_agree true (KeptFrom turn is_loose command Start) (BadFrom turn is_loose Start kind left) (λ rest (n, leads). no_blank_starts IsBounded command n rest leads) (λ rest (m, bads). bad_bare turn is_loose kind left m Blank Start refl rest bads) bytes kept bad in
+    kept_no_bad turn is_loose are some command kind left n m Start rest leads bads
 
-loosen : (end : Query) (n : ℕ) (place : Place) (bytes : List ℕ) → Leads turn is_loose IsBounded end n place bytes → Leads turn is_loose (λ _. Unit {0}) end n place bytes
+loosen : (end : Command) (n : ℕ) (place : Place) (bytes : List ℕ) → Leads turn is_loose IsBounded end n place bytes → Leads turn is_loose (λ _. Unit {0}) end n place bytes
 loosen end zero place bytes at = at
 loosen end (suc n) place bytes at =
     let From : Place → Language = Loosely turn is_loose (λ next rest. Leads turn is_loose IsBounded end n next rest) in
@@ -91,5 +94,24 @@ loosen end (suc n) place bytes at =
     (λ (other : ThenOther IsBounded (turn place).other From bytes). inr (other_map IsBounded (λ _. Unit {0}) (λ this bound. tt) From To step (turn place).other bytes other))
     at
 
-pub query_of_kept : (query : Query) (bytes : List ℕ) → IsKeptQuery query bytes → QueryTo query bytes
-query_of_kept query bytes (prefix, rest, whole, are_blanks, (n, leads)) = (prefix, rest, whole, are_blanks, (n, loosen query n Start rest leads))
+pub query_of_kept : (command : Command) (bytes : List ℕ) → IsKeptQuery command bytes → QueryTo command bytes
+query_of_kept command bytes (prefix, rest, whole, are_blanks, (n, leads)) = (prefix, rest, whole, are_blanks, (n, loosen command n Start rest leads))
+
+-- ---- what a query asks for
+
+-- A query asks for its results, or for a change.
+abbrev pub IsAsked : Command → Type 0
+IsAsked (commands.Query query) = Unit {0}
+IsAsked (commands.Mutate reading mutation) = Unit {0}
+IsAsked _ = ⊥
+
+end_is_asked : (place : Place) (end : Command) → Unit {0} → (turn place).ends ≡ Some end → IsAsked end
+end_is_asked (Steps query) end none ends = let same : commands.Query query ≡ end = cc in subst IsAsked same tt
+end_is_asked (Ordered query) end none ends = let same : commands.Query query ≡ end = cc in subst IsAsked same tt
+end_is_asked (Dropped query) end none ends = let same : commands.Mutate (Some query) mutations.Drop ≡ end = cc in subst IsAsked same tt
+end_is_asked (Changed subject pairs) end none ends = let same : changed subject pairs ≡ end = cc in subst IsAsked same tt
+end_is_asked place end none ends = cc
+
+pub query_is_asked : (command : Command) (bytes : List ℕ) → QueryTo command bytes → IsAsked command
+query_is_asked command bytes (prefix, rest, whole, are_blanks, (n, leads)) =
+    leads_keep turn is_loose (λ _. Unit {0}) (λ _. Unit {0}) IsAsked (λ place none. (each_sign_any (turn place).signs, each_other_any (λ _. Unit {0}) (turn place).other)) end_is_asked command n Start rest tt leads

@@ -2,7 +2,11 @@
 use Rattle.std.proofs.Common.{◌≡◌, inl, inr, ℕ, zero, nat_eq, cond, Bool, true, false, ◌||◌, Option, Some, None, List, [], ◌∷◌, ◌++◌, map, codes, pos, refl, sym, ap, ◌∙◌, subst, ⊎_elim}
 use Rattle.std.proofs.lemmas.Bool.Decides.{nat_tests}
 use Rattle.std.proofs.Common.{arith}
+use Rattle.plain_graph.specs.declared.command.Command.{Command}
+use Rattle.plain_graph.specs.declared.command.Command.TheVariants as commands
 use Rattle.plain_graph.specs.declared.direction.Direction.TheVariants as directions
+use Rattle.plain_graph.specs.declared.mutation.Mutation.TheVariants as mutations
+use Rattle.plain_graph.specs.declared.pairs.Pair.{Pair}
 use Rattle.plain_graph.specs.declared.query.BodyStep.{BodyStep}
 use Rattle.plain_graph.specs.declared.query.BodyStep.TheVariants as bodies
 use Rattle.plain_graph.specs.declared.query.Query.{Query}
@@ -19,11 +23,12 @@ use Rattle.plain_graph.specs.declared.value.Value.{Value}
 use Rattle.plain_graph.specs.declared.filter.Relation.{Relation}
 use Rattle.gremlin_parse.specs.Reading.{StartsNumber}
 use Rattle.gremlin_parse.specs.Turns.{Turn, Other, Nothing, Token, ThenOther, WithBlanks, Loosely, LineFrom, sign_at}
-use Rattle.gremlin_parse.specs.Queries.{step_words, body_words, as_step_word, bare_step, Into, OfQuery, OfBody, NamesFor, OfStep, OfHop, OfLabels, Quoted, OneName, Key, OrderKey, Place, Start, Source, Opening, FirstId, AfterId, NextId, Steps, StepName, Opens, Closing, FirstName, AfterName, AfterKey, ValueOf, AfterP, RelationName, OpensValue, Compared, ClosesValue, ClosesFilter, relation_names, relation_of, relation_filter, Most, OrderCloses, Ordered, OrderedName, ByFirst, AfterOrderKey, OrderDirection, AfterOrderWord, DirectionName, ByCloses, ordered_words, sort_names, is_descending, direction_of, plain_order, reordered, Quote, InQuotes, BodyFirst, Underscore, AfterAnonymous, BodyName, OpensBody, InBody, AfterBody, TimesWord, OpensTimes, TimesOf, body_name, query_from, with_step, opened, opened_names, opened_body, after_step, after_filter, after_names, after_quoted, value_filter, turn, is_loose}
+use Rattle.gremlin_parse.specs.Queries.{step_words, body_words, as_step_word, bare_step, Into, OfQuery, OfBody, NamesFor, OfStep, OfHop, OfLabels, Quoted, OneName, Key, OrderKey, Place, Start, Source, Opening, FirstId, AfterId, NextId, Steps, StepName, Opens, Closing, FirstName, AfterName, AfterKey, ValueOf, AfterP, RelationName, OpensValue, Compared, ClosesValue, ClosesFilter, relation_names, relation_of, relation_filter, Most, OrderCloses, Ordered, OrderedName, ByFirst, AfterOrderKey, OrderDirection, AfterOrderWord, DirectionName, ByCloses, ordered_words, sort_names, is_descending, direction_of, plain_order, reordered, Quote, InQuotes, BodyFirst, Underscore, AfterAnonymous, BodyName, OpensBody, InBody, AfterBody, TimesWord, OpensTimes, TimesOf, Subject, NewVertex, NewEdges, Elements, VertexLabel, EdgeType, PropertyKey, OpensVertex, VertexCloses, TypeCloses, AfterType, ToWord, OpensTo, ToFirst, ToUnderscore, ToAnonymous, ToVertex, OpensId, ToId, IdCloses, ToCloses, DropCloses, Dropped, Changed, PropertyName, OpensProperty, AfterPropertyKey, PropertyValue, PropertyCloses, property_words, changed, with_pair, body_name, query_from, with_step, opened, opened_names, opened_body, after_step, after_filter, after_names, after_quoted, value_filter, turn, is_loose}
 use Rattle.plain_graph.specs.declared.value.Value.TheVariants as values
 use Rattle.gremlin_parse.specs.declared.step_word.BareStep.TheVariants as bare
 use Rattle.gremlin_parse.specs.declared.step_word.BodyWord.{BodyWord}
 use Rattle.gremlin_parse.specs.declared.step_word.BodyWord.TheVariants as of_body
+use Rattle.gremlin_parse.specs.declared.step_word.ChangeWord.TheVariants as changes
 use Rattle.gremlin_parse.specs.declared.step_word.StepWord.{StepWord}
 use Rattle.gremlin_parse.specs.declared.step_word.StepWord.TheVariants as words
 use Rattle.gremlin_parse.proofs.Decimals.{number_starts}
@@ -50,10 +55,10 @@ by_sign : (place : Place) (b : ℕ) (next : Place) (line : List ℕ) → sign_at
 by_sign place b next line is later = line_join turn is_loose place (b ∷ line) (inl (b, next, is, (b ∷ [], line, refl, refl, loose_line next line later)))
 
 steps_line : (query : Query) → Line (Steps query) []
-steps_line query = (zero, query, (refl, refl))
+steps_line query = (zero, commands.Query query, (refl, refl))
 
 ordered_line : (query : Query) → Line (Ordered query) []
-ordered_line query = (zero, query, (refl, refl))
+ordered_line query = (zero, commands.Query query, (refl, refl))
 
 closes_line : (query : Query) (step : Step) → Line (Closing query step) (41 ∷ [])
 closes_line query step = by_sign (Closing query step) 41 (Steps (with_step query step)) [] refl (steps_line (with_step query step))
@@ -106,16 +111,93 @@ after_names_line (OfStep query step) names = steps_line _
 after_names_line (OfHop into direction) names = after_step_line into _
 after_names_line (OfLabels into) names = after_filter_line into _
 
--- a rest after a name between quotes and the parenthesis
-abbrev rest_of_quoted : Quoted → List ℕ
-rest_of_quoted (OneName purpose names) = rest_of_names purpose
-rest_of_quoted (Key into) = rest_after into
-rest_of_quoted (OrderKey query) = []
+-- ---- changes
 
-after_quoted_line : (quoted : Quoted) (name : List ℕ) → Line (after_quoted quoted name) (41 ∷ rest_of_quoted quoted)
+changed_line : (subject : Subject) (pairs : List Pair) → Line (Changed subject pairs) []
+changed_line subject pairs = (zero, changed subject pairs, (refl, refl))
+
+vertex_line : (label : List ℕ) → Line (VertexCloses label) (41 ∷ [])
+vertex_line label = by_sign (VertexCloses label) 41 (Changed (NewVertex label) []) [] refl (changed_line (NewVertex label) [])
+
+to_closes_line : (query : Query) (label : List ℕ) (to : ℕ) → Line (ToCloses query label to) (41 ∷ [])
+to_closes_line query label to = by_sign (ToCloses query label to) 41 (Changed (NewEdges query label to) []) [] refl (changed_line (NewEdges query label to) [])
+
+id_closes_line : (query : Query) (label : List ℕ) (to : ℕ) → Line (IdCloses query label to) (41 ∷ 41 ∷ [])
+id_closes_line query label to = by_sign (IdCloses query label to) 41 (ToCloses query label to) (41 ∷ []) refl (to_closes_line query label to)
+
+to_id_line : (query : Query) (label : List ℕ) → Line (ToId query label) (48 ∷ 41 ∷ 41 ∷ [])
+to_id_line query label = line_join turn is_loose (ToId query label) (48 ∷ 41 ∷ 41 ∷ []) (inr (0, tt, tt, (codes "0", 41 ∷ 41 ∷ [], refl, (refl, refl), loose_line (IdCloses query label 0) (41 ∷ 41 ∷ []) (id_closes_line query label 0))))
+
+-- the rest of `to` from the parenthesis of its vertex on, and from the vertex on
+abbrev id_rest : List ℕ
+id_rest = 40 ∷ 48 ∷ 41 ∷ 41 ∷ []
+
+abbrev vertex_rest : List ℕ
+vertex_rest = 86 ∷ id_rest
+
+opens_id_line : (query : Query) (label : List ℕ) → Line (OpensId query label) id_rest
+opens_id_line query label = by_sign (OpensId query label) 40 (ToId query label) (48 ∷ 41 ∷ 41 ∷ []) refl (to_id_line query label)
+
+to_vertex_line : (query : Query) (label : List ℕ) → Line (ToVertex query label) vertex_rest
+to_vertex_line query label = by_sign (ToVertex query label) 86 (OpensId query label) id_rest refl (opens_id_line query label)
+
+to_first_line : (query : Query) (label : List ℕ) → Line (ToFirst query label) vertex_rest
+to_first_line query label = by_sign (ToFirst query label) 86 (OpensId query label) id_rest refl (opens_id_line query label)
+
+opens_to_line : (query : Query) (label : List ℕ) → Line (OpensTo query label) (40 ∷ vertex_rest)
+opens_to_line query label = by_sign (OpensTo query label) 40 (ToFirst query label) vertex_rest refl (to_first_line query label)
+
+-- the rest after the dot after the type of new edges
+abbrev to_rest : List ℕ
+to_rest = codes "to" ++ 40 ∷ vertex_rest
+
+to_word_line : (query : Query) (label : List ℕ) → Line (ToWord query label) to_rest
+to_word_line query label = line_join turn is_loose (ToWord query label) to_rest (inr (tt, tt, tt, (codes "to", 40 ∷ vertex_rest, refl, refl, loose_line (OpensTo query label) (40 ∷ vertex_rest) (opens_to_line query label))))
+
+after_type_line : (query : Query) (label : List ℕ) → Line (AfterType query label) (46 ∷ to_rest)
+after_type_line query label = by_sign (AfterType query label) 46 (ToWord query label) to_rest refl (to_word_line query label)
+
+type_line : (query : Query) (label : List ℕ) → Line (TypeCloses query label) (41 ∷ 46 ∷ to_rest)
+type_line query label = by_sign (TypeCloses query label) 41 (AfterType query label) (46 ∷ to_rest) refl (after_type_line query label)
+
+property_closes_line : (subject : Subject) (pairs : List Pair) → Line (PropertyCloses subject pairs) (41 ∷ [])
+property_closes_line subject pairs = by_sign (PropertyCloses subject pairs) 41 (Changed subject pairs) [] refl (changed_line subject pairs)
+
+property_value_line : (subject : Subject) (pairs : List Pair) (key : List ℕ) → Line (PropertyValue subject pairs key) (48 ∷ 41 ∷ [])
+property_value_line subject pairs key =
+    let more : List Pair = with_pair pairs key (values.Int (pos 0)) in
+    line_join turn is_loose (PropertyValue subject pairs key) (48 ∷ 41 ∷ []) (inr (values.Int (pos 0), tt, tt, (codes "0", 41 ∷ [], refl, inl (0, refl, (refl, refl)), loose_line (PropertyCloses subject more) (41 ∷ []) (property_closes_line subject more))))
+
+property_key_line : (subject : Subject) (pairs : List Pair) (key : List ℕ) → Line (AfterPropertyKey subject pairs key) (44 ∷ 48 ∷ 41 ∷ [])
+property_key_line subject pairs key = by_sign (AfterPropertyKey subject pairs key) 44 (PropertyValue subject pairs key) (48 ∷ 41 ∷ []) refl (property_value_line subject pairs key)
+
+drop_line : (query : Query) → Line (DropCloses query) (41 ∷ [])
+drop_line query = by_sign (DropCloses query) 41 (Dropped query) [] refl (zero, commands.Mutate (Some query) mutations.Drop, (refl, refl))
+
+-- ---- names between quotes
+
+-- a rest after a name between quotes
+abbrev rest_of_quoted : Quoted → List ℕ
+rest_of_quoted (OneName purpose names) = 41 ∷ rest_of_names purpose
+rest_of_quoted (Key into) = 41 ∷ rest_after into
+rest_of_quoted (OrderKey query) = 41 ∷ []
+rest_of_quoted VertexLabel = 41 ∷ []
+rest_of_quoted (EdgeType query) = 41 ∷ 46 ∷ to_rest
+rest_of_quoted (PropertyKey subject pairs) = 44 ∷ 48 ∷ 41 ∷ []
+
+after_quoted_line : (quoted : Quoted) (name : List ℕ) → Line (after_quoted quoted name) (rest_of_quoted quoted)
 after_quoted_line (OneName purpose names) name = by_sign (AfterName purpose (names ++ name ∷ [])) 41 (after_names purpose (names ++ name ∷ [])) (rest_of_names purpose) refl (after_names_line purpose (names ++ name ∷ []))
 after_quoted_line (Key into) name = by_sign (AfterKey into name) 41 (after_filter into (filters.Has name)) (rest_after into) refl (after_filter_line into (filters.Has name))
 after_quoted_line (OrderKey query) name = by_sign (AfterOrderKey query name) 41 (Steps (reordered query (Some name) false)) [] refl (steps_line (reordered query (Some name) false))
+after_quoted_line VertexLabel name = vertex_line name
+after_quoted_line (EdgeType query) name = type_line query name
+after_quoted_line (PropertyKey subject pairs) name = property_key_line subject pairs name
+
+in_quotes_line : (quoted : Quoted) (double : Bool) → Line (InQuotes quoted double) (97 ∷ quote_byte double ∷ rest_of_quoted quoted)
+in_quotes_line quoted double = line_join turn is_loose (InQuotes quoted double) (97 ∷ quote_byte double ∷ rest_of_quoted quoted) (inr (codes "a", tt, tt, (codes "a" ++ quote_byte double ∷ [], rest_of_quoted quoted, refl, (refl, (refl, tt)), loose_line (after_quoted quoted (codes "a")) (rest_of_quoted quoted) (after_quoted_line quoted (codes "a")))))
+
+quote_line : (quoted : Quoted) → Line (Quote quoted) (39 ∷ 97 ∷ 39 ∷ rest_of_quoted quoted)
+quote_line quoted = by_sign (Quote quoted) 39 (InQuotes quoted false) (97 ∷ 39 ∷ rest_of_quoted quoted) refl (in_quotes_line quoted false)
 
 -- ---- what has to hold of each
 
@@ -136,6 +218,9 @@ step_table = word_table step_words refl
 pub ordered_table : IsWordTable ordered_words
 ordered_table = word_table ordered_words refl
 
+pub property_table : IsWordTable property_words
+property_table = word_table property_words refl
+
 -- the words of a body among those of steps
 pub body_table : IsWordTable (map as_step_word body_words)
 body_table = word_table (map as_step_word body_words) refl
@@ -147,6 +232,9 @@ quoted_halts : (quoted : Quoted) (name : List ℕ) → place_halts turn is_loose
 quoted_halts (OneName purpose names) name = refl
 quoted_halts (Key into) name = refl
 quoted_halts (OrderKey query) name = refl
+quoted_halts VertexLabel name = refl
+quoted_halts (EdgeType query) name = refl
+quoted_halts (PropertyKey subject pairs) name = refl
 
 -- ---- what an argument of has begins with
 
@@ -255,6 +343,27 @@ no_sort_order : (bytes : List ℕ) → Starts starts_sort bytes → Starts (λ b
 no_sort_order [] sort order = sort
 no_sort_order (b ∷ bytes) sort order = grind (arith, nat_tests)
 
+-- Of what a query begins with, `addV` begins with no sign.
+abbrev BeginsVertex : List ℕ → Type 0
+BeginsVertex bytes = Begins {Word = StepWord} (Token (Sign (codes "addV")) (λ _. OpensVertex)) bytes
+
+begins_vertex : (bytes : List ℕ) → BeginsVertex bytes → Starts (λ b. nat_eq b 97) bytes
+begins_vertex bytes (inl (content, allows, (prefix, rest, whole, is, after))) = subst (Starts (λ b. nat_eq b 97)) (sym (whole ∙ ap (λ p. p ++ rest) is)) refl
+begins_vertex bytes (inr (kind, left, (content, bad, rest, takes, at))) = absurd bad
+
+vertex_no_sign : (b : ℕ) → nat_eq b 97 ≡ true → sign_at (turn Source).signs b ≡ None
+vertex_no_sign b is =
+    let vertices : nat_eq 86 b ≡ false = grind (arith, nat_tests) in
+    let edges : nat_eq 69 b ≡ false = grind (arith, nat_tests) in
+    rw (vertices, edges)
+
+vertex_apart : (bytes : List ℕ) → BeginsVertex bytes → NoSign (turn Source).signs bytes
+vertex_apart [] begins = tt
+vertex_apart (b ∷ bytes) begins = vertex_no_sign b (begins_vertex (b ∷ bytes) begins)
+
+opens_vertex_line : Line OpensVertex (40 ∷ 39 ∷ 97 ∷ 39 ∷ 41 ∷ [])
+opens_vertex_line = by_sign OpensVertex 40 (Quote VertexLabel) (39 ∷ 97 ∷ 39 ∷ 41 ∷ []) refl (quote_line VertexLabel)
+
 abbrev by_signs : Query → List (ℕ × Place)
 by_signs query = (turn (ByFirst query)).signs
 
@@ -309,12 +418,18 @@ begins_number bytes (inr (kind, left, (number, bad, rest, takes, at))) = subst S
 other_is : (place : Place) (other : Other StepWord Place) → turn place ≡ record { ends = None; signs = []; other = other } → turn_halts Blank (turn place) ≡ true → IsEnded turn is_loose other → IsPlace turn is_loose place
 other_is place other is halts ended = record {
   no_blank = halts;
-  apart = subst (λ (t : Turn StepWord Place Query). StartsApart turn is_loose t.signs t.other) (sym is) (λ bytes begins. no_signs bytes);
-  ended = subst (λ (t : Turn StepWord Place Query). IsEnded turn is_loose t.other) (sym is) ended;
-  alone = subst (λ (t : Turn StepWord Place Query). (end : Query) → t.ends ≡ Some end → t.other ≡ Nothing) (sym is) (λ end ends. cc);
+  apart = subst (λ (t : Turn StepWord Place Command). StartsApart turn is_loose t.signs t.other) (sym is) (λ bytes begins. no_signs bytes);
+  ended = subst (λ (t : Turn StepWord Place Command). IsEnded turn is_loose t.other) (sym is) ended;
+  alone = subst (λ (t : Turn StepWord Place Command). (end : Command) → t.ends ≡ Some end → t.other ≡ Nothing) (sym is) (λ end ends. cc);
 }
 
 pub are : (place : Place) → IsPlace turn is_loose place
+are Source = record {
+  no_blank = refl;
+  apart = λ bytes begins. vertex_apart bytes begins;
+  ended = (refl, λ content. refl, (40 ∷ 39 ∷ 97 ∷ 39 ∷ 41 ∷ [], λ content. loose_line OpensVertex (40 ∷ 39 ∷ 97 ∷ 39 ∷ 41 ∷ []) opens_vertex_line));
+  alone = λ end ends. cc;
+}
 are (FirstId edges) = record {
   no_blank = refl;
   apart = λ bytes begins. number_apart (Steps (query_from edges [])) bytes (begins_number bytes begins);
@@ -350,7 +465,7 @@ are (ByFirst query) = record {
 }
 are (OrderDirection query key) = other_is _ _ refl refl (direction_ended query key)
 are (DirectionName query key) = other_is _ _ refl refl (sort_ended query key)
-are (InQuotes quoted double) = other_is _ _ refl refl (refl, quoted_halts quoted, (41 ∷ rest_of_quoted quoted, λ name. loose_line (after_quoted quoted name) (41 ∷ rest_of_quoted quoted) (after_quoted_line quoted name)))
+are (InQuotes quoted double) = other_is _ _ refl refl (refl, quoted_halts quoted, (rest_of_quoted quoted, λ name. loose_line (after_quoted quoted name) (rest_of_quoted quoted) (after_quoted_line quoted name)))
 are (BodyFirst query) = record {
   no_blank = refl;
   apart = λ bytes begins. body_apart (Underscore query) bytes begins;
@@ -360,18 +475,16 @@ are (BodyFirst query) = record {
 are (BodyName query body) = other_is _ _ refl refl (body_table, λ word. refl)
 are (TimesWord query body) = other_is _ _ refl refl (refl, λ word. refl, (40 ∷ 49 ∷ 41 ∷ [], λ word. loose_line (OpensTimes query body) (40 ∷ 49 ∷ 41 ∷ []) (opens_times_line query body)))
 are (TimesOf query body) = other_is _ _ refl refl (refl, λ times. refl, (41 ∷ [], λ times. loose_line (Closing query (steps.Repeat body times)) (41 ∷ []) (closes_line query (steps.Repeat body times))))
+are (ToWord query label) = other_is _ _ refl refl (refl, λ word. refl, (40 ∷ vertex_rest, λ word. loose_line (OpensTo query label) (40 ∷ vertex_rest) (opens_to_line query label)))
+are (ToId query label) = other_is _ _ refl refl (refl, λ to. refl, (41 ∷ 41 ∷ [], λ to. loose_line (IdCloses query label to) (41 ∷ 41 ∷ []) (id_closes_line query label to)))
+are (PropertyName subject pairs) = other_is _ _ refl refl (property_table, λ word. refl)
+are (PropertyValue subject pairs key) = other_is _ _ refl refl (refl, λ value. refl, (41 ∷ [], λ value. loose_line (PropertyCloses subject (with_pair pairs key value)) (41 ∷ []) (property_closes_line subject (with_pair pairs key value))))
 are place = record { no_blank = refl; apart = λ bytes none. absurd none; ended = tt; alone = λ end ends. refl }
 
 -- ---- a line of each of the other places
 
 most_line : (query : Query) → Line (Most query) (48 ∷ 41 ∷ [])
 most_line query = line_join turn is_loose (Most query) (48 ∷ 41 ∷ []) (inr (0, tt, tt, (codes "0", 41 ∷ [], refl, (refl, refl), loose_line (Closing query (steps.Limit 0)) (41 ∷ []) (closes_line query (steps.Limit 0)))))
-
-in_quotes_line : (quoted : Quoted) (double : Bool) → Line (InQuotes quoted double) (97 ∷ quote_byte double ∷ 41 ∷ rest_of_quoted quoted)
-in_quotes_line quoted double = line_join turn is_loose (InQuotes quoted double) (97 ∷ quote_byte double ∷ 41 ∷ rest_of_quoted quoted) (inr (codes "a", tt, tt, (codes "a" ++ quote_byte double ∷ [], 41 ∷ rest_of_quoted quoted, refl, (refl, (refl, tt)), loose_line (after_quoted quoted (codes "a")) (41 ∷ rest_of_quoted quoted) (after_quoted_line quoted (codes "a")))))
-
-quote_line : (quoted : Quoted) → Line (Quote quoted) (39 ∷ 97 ∷ 39 ∷ 41 ∷ rest_of_quoted quoted)
-quote_line quoted = by_sign (Quote quoted) 39 (InQuotes quoted false) (97 ∷ 39 ∷ 41 ∷ rest_of_quoted quoted) refl (in_quotes_line quoted false)
 
 first_name_line : (purpose : NamesFor) → Line (FirstName purpose) (41 ∷ rest_of_names purpose)
 first_name_line purpose = by_sign (FirstName purpose) 41 (after_names purpose []) (rest_of_names purpose) refl (after_names_line purpose [])
@@ -411,6 +524,9 @@ opened_some query words.Limit = (_, most_line query)
 opened_some query words.Order = (_, order_closes_line query)
 opened_some query words.By = (_, by_first_line query)
 opened_some query words.Repeat = body_some (BodyFirst query) query [] refl
+opened_some query (words.Change changes.AddE) = (_, quote_line (EdgeType query))
+opened_some query (words.Change changes.Property) = (_, quote_line (PropertyKey (Elements query) []))
+opened_some query (words.Change changes.Drop) = (_, drop_line query)
 
 opens_some : (query : Query) (word : StepWord) → (line : List ℕ) × Line (Opens query word) line
 opens_some query word = let later = opened_some query word in (40 ∷ later.0, by_sign (Opens query word) 40 (opened query word) later.0 refl later.1)
@@ -423,6 +539,16 @@ opening_line edges = by_sign (Opening edges) 40 (FirstId edges) (41 ∷ []) refl
 
 source_line : Line Source (86 ∷ 40 ∷ 41 ∷ [])
 source_line = by_sign Source 86 (Opening false) (40 ∷ 41 ∷ []) refl (opening_line false)
+
+to_anonymous_line : (query : Query) (label : List ℕ) → Line (ToAnonymous query label) (46 ∷ vertex_rest)
+to_anonymous_line query label = by_sign (ToAnonymous query label) 46 (ToVertex query label) vertex_rest refl (to_vertex_line query label)
+
+-- the rest after the name `property`
+abbrev opened_property : List ℕ
+opened_property = 40 ∷ 39 ∷ 97 ∷ 39 ∷ 44 ∷ 48 ∷ 41 ∷ []
+
+opens_property_line : (subject : Subject) (pairs : List Pair) → Line (OpensProperty subject pairs) opened_property
+opens_property_line subject pairs = by_sign (OpensProperty subject pairs) 40 (Quote (PropertyKey subject pairs)) (39 ∷ 97 ∷ 39 ∷ 44 ∷ 48 ∷ 41 ∷ []) refl (quote_line (PropertyKey subject pairs))
 
 pub some : (place : Place) → (line : List ℕ) × Line place line
 some Start = (_, by_sign Start 46 Source (86 ∷ 40 ∷ 41 ∷ []) refl source_line)
@@ -471,3 +597,25 @@ some (AfterBody query body) = (_, after_body_line query body)
 some (TimesWord query body) = (_, times_word_line query body)
 some (OpensTimes query body) = (_, opens_times_line query body)
 some (TimesOf query body) = (_, times_of_line query body)
+some OpensVertex = (_, opens_vertex_line)
+some (VertexCloses label) = (_, vertex_line label)
+some (TypeCloses query label) = (_, type_line query label)
+some (AfterType query label) = (_, after_type_line query label)
+some (ToWord query label) = (_, to_word_line query label)
+some (OpensTo query label) = (_, opens_to_line query label)
+some (ToFirst query label) = (_, to_first_line query label)
+some (ToUnderscore query label) = (_, by_sign (ToUnderscore query label) 95 (ToAnonymous query label) (46 ∷ vertex_rest) refl (to_anonymous_line query label))
+some (ToAnonymous query label) = (_, to_anonymous_line query label)
+some (ToVertex query label) = (_, to_vertex_line query label)
+some (OpensId query label) = (_, opens_id_line query label)
+some (ToId query label) = (_, to_id_line query label)
+some (IdCloses query label to) = (_, id_closes_line query label to)
+some (ToCloses query label to) = (_, to_closes_line query label to)
+some (DropCloses query) = (_, drop_line query)
+some (Dropped query) = ([], (zero, commands.Mutate (Some query) mutations.Drop, (refl, refl)))
+some (Changed subject pairs) = (_, changed_line subject pairs)
+some (PropertyName subject pairs) = (codes "property" ++ opened_property, line_join turn is_loose (PropertyName subject pairs) (codes "property" ++ opened_property) (inr ((codes "property", words.Change changes.Property), inl refl, tt, (codes "property", opened_property, refl, refl, loose_line (OpensProperty subject pairs) opened_property (opens_property_line subject pairs)))))
+some (OpensProperty subject pairs) = (_, opens_property_line subject pairs)
+some (AfterPropertyKey subject pairs key) = (_, property_key_line subject pairs key)
+some (PropertyValue subject pairs key) = (_, property_value_line subject pairs key)
+some (PropertyCloses subject pairs) = (_, property_closes_line subject pairs)

@@ -1,12 +1,15 @@
 -- What the readers of queries have read, from place to place.
-use Rattle.std.proofs.Common.{◌≡◌, ◌≢◌, ◌≤◌, ◌<◌, ◌+◌, ◌⊎◌, inl, inr, ℕ, zero, suc, min, nat_eq, cond, Bool, true, false, Option, Some, None, IfSome, IfNone, List, [], ◌∷◌, ◌++◌, length, refl, sym, ap, ◌∙◌, subst, ⊎_elim, length-append, arith}
+use Rattle.std.proofs.Common.{◌≡◌, ◌≢◌, ◌≤◌, ◌<◌, ◌+◌, ◌⊎◌, inl, inr, ℕ, zero, suc, min, nat_eq, cond, Bool, true, false, Option, Some, None, IfSome, IfNone, List, [], ◌∷◌, ◌++◌, length, codes, refl, sym, ap, ◌∙◌, subst, ⊎_elim, length-append, arith}
 use Rattle.std.proofs.lemmas.Bool.{cases_Bool}
 use borrow.Author.Tests.{eqb-true}
+use Rattle.plain_graph.specs.declared.command.Command.{Command}
+use Rattle.plain_graph.specs.declared.command.Command.TheVariants as commands
 use Rattle.gremlin_parse.specs.Grammar.{most_id, most_limit, quote_byte}
 use Rattle.gremlin_parse.specs.Reading.{first_byte}
 use Rattle.gremlin_parse.specs.Symbols.{OneWord, AnyClosed, AnyNumber, AnyValue, AnyBlanks, Sign, Reads, ReadsToken, ReadsId, Leaves}
 use Rattle.gremlin_parse.specs.Keywords.{Entry, whole_word, TakesWord}
 use Rattle.gremlin_parse.specs.Stopping.{StopsWith}
+use Rattle.plain_graph.specs.declared.mutation.Mutation.{Mutation}
 use Rattle.plain_graph.specs.declared.query.BodyStep.{BodyStep}
 use Rattle.plain_graph.specs.declared.query.BodyStep.TheVariants as bodies
 use Rattle.plain_graph.specs.declared.query.Query.{Query}
@@ -19,13 +22,17 @@ use Rattle.plain_graph.specs.declared.filter.Relation.TheVariants as relations
 use Rattle.plain_graph.specs.declared.value.Value.{Value}
 use Rattle.gremlin_parse.specs.Comparisons.{ReadsRelation, later}
 use Rattle.gremlin_parse.specs.declared.bad_token.BadToken.{BadToken}
+use Rattle.gremlin_parse.specs.declared.source.SourceKind.{SourceKind}
+use Rattle.gremlin_parse.specs.declared.source.SourceKind.TheVariants as sources
 use Rattle.gremlin_parse.specs.declared.step_word.BareStep.{BareStep}
 use Rattle.gremlin_parse.specs.declared.step_word.BodyWord.{BodyWord}
 use Rattle.gremlin_parse.specs.declared.step_word.BodyWord.TheVariants as of_body
+use Rattle.gremlin_parse.specs.declared.step_word.ChangeWord.{ChangeWord}
+use Rattle.gremlin_parse.specs.declared.step_word.ChangeWord.TheVariants as changes
 use Rattle.gremlin_parse.specs.declared.step_word.StepWord.TheVariants as words
 use Rattle.gremlin_parse.specs.Stages.{first_items, is_by, added_count, items_after, items_from, stage_of, step_fault, steps_in}
 use Rattle.gremlin_parse.specs.Turns.{Turn, LeavesWords, IsBadWord, sign_at, KeptFrom}
-use Rattle.gremlin_parse.specs.Queries.{Into, OfQuery, OfBody, NamesFor, OfStep, OfHop, OfLabels, Quoted, OneName, Key, OrderKey, Place, Start, Source, Opening, FirstId, AfterId, NextId, Steps, query_from, query_of, StepName, Opens, Closing, FirstName, AfterName, AfterKey, ValueOf, AfterP, RelationName, OpensValue, Compared, ClosesValue, ClosesFilter, relation_names, relation_name, relation_of, relation_filter, Most, Ordered, OrderedName, opened, opened_names, opened_body, after_step, after_filter, after_names, words_after, step_words, steps_place, plain_order, is_order, put_step, after_word, IsOrderStep, with_step, bare_step, needs_name, value_filter, Quote, InQuotes, one_of, QuotesAt, LeavesBoth, NeitherFirst, LeadsTo, StopsFrom, after_quoted, IsKeptQuery, StopsInQuery, turn, is_loose}
+use Rattle.gremlin_parse.specs.Queries.{Into, OfQuery, OfBody, NamesFor, OfStep, OfHop, OfLabels, Quoted, OneName, Key, OrderKey, Place, Start, Source, Opening, FirstId, AfterId, NextId, Steps, query_from, query_of, StepName, Opens, Closing, FirstName, AfterName, AfterKey, ValueOf, AfterP, RelationName, OpensValue, Compared, ClosesValue, ClosesFilter, relation_names, relation_name, relation_of, relation_filter, Most, Ordered, OrderedName, VertexLabel, EdgeType, PropertyKey, OpensVertex, opens_source, opened_source, opened, opened_names, opened_body, after_step, after_filter, after_names, words_after, step_words, steps_place, plain_order, is_order, put_step, after_word, IsOrderStep, with_step, bare_step, needs_name, value_filter, Quote, InQuotes, one_of, QuotesAt, LeavesBoth, NeitherFirst, LeadsTo, StopsFrom, after_quoted, IsKeptQuery, StopsInQuery, turn, is_loose}
 use Rattle.gremlin_parse.specs.declared.step_word.StepWord.{StepWord}
 use Rattle.gremlin_parse.specs.declared.stage.Items.{Items}
 use Rattle.gremlin_parse.specs.declared.stage.Stage.{Stage}
@@ -110,6 +117,9 @@ after_is_loose : (quoted : Quoted) (name : List ℕ) → is_loose (after_quoted 
 after_is_loose (OneName purpose names) name = refl
 after_is_loose (Key into) name = refl
 after_is_loose (OrderKey query) name = refl
+after_is_loose VertexLabel name = refl
+after_is_loose (EdgeType query) name = refl
+after_is_loose (PropertyKey subject pairs) name = refl
 
 name_leads : (quoted : Quoted) (name : List ℕ) (double : Bool) (bytes middle rest : List ℕ) → Reads (AnyClosed double) name bytes middle → Reads AnyBlanks tt middle rest → LeadsTo (InQuotes quoted double) bytes (after_quoted quoted name) rest
 name_leads quoted name double bytes middle rest reads blanks =
@@ -139,32 +149,28 @@ pub comma_leads : (place : Place) (on_comma on_close : Place) (bytes rest : List
 comma_leads place on_comma on_close bytes rest true comma close loose free token = token_leads place 44 on_comma bytes rest comma loose token
 comma_leads place on_comma on_close bytes rest false comma close loose free token = token_leads place 41 on_close bytes rest close free token
 
-pub source_leads : (bytes rest : List ℕ) (edges : Bool) → ReadsToken (cond edges 69 86 ∷ []) bytes rest → LeadsTo Source bytes (Opening edges) rest
-source_leads bytes rest true token = token_leads Source 69 (Opening true) bytes rest refl refl token
-source_leads bytes rest false token = token_leads Source 86 (Opening false) bytes rest refl refl token
+pub vertex_leads : (bytes rest : List ℕ) → ReadsToken (codes "addV") bytes rest → LeadsTo Source bytes OpensVertex rest
+vertex_leads bytes rest (middle, reads, blanks) =
+    reaches_next turn is_loose are some Source bytes OpensVertex middle rest
+    (record { prefix = reads.takes.prefix; bytes_are = reads.takes.bytes_are; how = inr (tt, refl, tt, tt, reads.takes.is, tt) })
+    blanks
 
-pub stop_at_source : (bytes : List ℕ) (stop : Stop) → LeavesBoth 69 86 bytes stop → StopsFrom Source bytes stop
-stop_at_source bytes stop leaves =
-    let left = leaves_both 86 69 (Opening false) (Opening true) bytes stop (turned stop leaves) in
-    stop_at Source bytes stop (record { no_end = λ end ends. cc; no_sign = left.0; other = left.1 })
+-- Where neither sign of the source stands, nor the word for a new vertex.
+pub stop_at_source : (bytes : List ℕ) (stop : Stop) → first_byte bytes ≢ Some 86 → first_byte bytes ≢ Some 69 → Leaves (Sign (codes "addV")) bytes stop → StopsFrom Source bytes stop
+stop_at_source bytes stop no_vertices no_edges leaves = stop_at Source bytes stop (record { no_end = λ end ends. cc; no_sign = no_two_signs 86 69 (Opening false) (Opening true) bytes (neither bytes no_vertices no_edges); other = leaves })
   where
-    swapped : (these : List ℕ) → NeitherFirst 69 86 these → NeitherFirst 86 69 these
-    swapped [] neither = tt
-    swapped (b ∷ these) neither = (neither.1, neither.0)
-
-    turned : (stop : Stop) → LeavesBoth 69 86 bytes stop → LeavesBoth 86 69 bytes stop
-    turned stops.Memory leaves = leaves
-    turned (stops.Syntax left) leaves = (leaves.0, swapped bytes leaves.1)
-    turned (stops.Bad kind left) leaves = leaves
+    neither : (these : List ℕ) → first_byte these ≢ Some 86 → first_byte these ≢ Some 69 → NeitherFirst 86 69 these
+    neither [] one two = tt
+    neither (b ∷ these) one two = (λ same. one (ap (λ (n : ℕ). Some n) same), λ same. two (ap (λ (n : ℕ). Some n) same))
 
 -- the one sign of a place, where it doesn't stand
 pub stop_at_sign : (place : Place) (b : ℕ) (next : Place) (bytes : List ℕ) (stop : Stop) → turn place ≡ one_of ((b, next) ∷ []) → Leaves (Sign (b ∷ [])) bytes stop → StopsFrom place bytes stop
 stop_at_sign place b next bytes stop is leaves =
     let left = leaves_sign b next bytes stop leaves in
     stop_at place bytes stop (record {
-      no_end = λ end ends. let clash : None ≡ Some end = ap (λ (t : Turn StepWord Place Query). t.ends) (sym is) ∙ ends in cc;
-      no_sign = subst (λ (t : Turn StepWord Place Query). NoSign t.signs bytes) (sym is) left.0;
-      other = subst (λ (t : Turn StepWord Place Query). LeavesOther turn is_loose are some t.other bytes stop) (sym is) left.1;
+      no_end = λ end ends. let clash : None ≡ Some end = ap (λ (t : Turn StepWord Place Command). t.ends) (sym is) ∙ ends in cc;
+      no_sign = subst (λ (t : Turn StepWord Place Command). NoSign t.signs bytes) (sym is) left.0;
+      other = subst (λ (t : Turn StepWord Place Command). LeavesOther turn is_loose are some t.other bytes stop) (sym is) left.1;
     })
 
 -- a comma and a closing parenthesis, where neither stands
@@ -172,9 +178,9 @@ pub stop_at_comma : (place : Place) (on_comma on_close : Place) (bytes : List �
 stop_at_comma place on_comma on_close bytes stop is leaves =
     let left = leaves_both 44 41 on_comma on_close bytes stop leaves in
     stop_at place bytes stop (record {
-      no_end = λ end ends. let clash : None ≡ Some end = ap (λ (t : Turn StepWord Place Query). t.ends) (sym is) ∙ ends in cc;
-      no_sign = subst (λ (t : Turn StepWord Place Query). NoSign t.signs bytes) (sym is) left.0;
-      other = subst (λ (t : Turn StepWord Place Query). LeavesOther turn is_loose are some t.other bytes stop) (sym is) left.1;
+      no_end = λ end ends. let clash : None ≡ Some end = ap (λ (t : Turn StepWord Place Command). t.ends) (sym is) ∙ ends in cc;
+      no_sign = subst (λ (t : Turn StepWord Place Command). NoSign t.signs bytes) (sym is) left.0;
+      other = subst (λ (t : Turn StepWord Place Command). LeavesOther turn is_loose are some t.other bytes stop) (sym is) left.1;
     })
 
 -- Quotes alone may stand at the place of a name.
@@ -220,20 +226,27 @@ stop_at_next_id edges ids bytes stop leaves = stop_at (NextId edges ids) bytes s
 
 -- ---- the whole source
 
-pub source_read : (bytes at_kind after_kind at_open rest : List ℕ) (edges : Bool) → ReadsToken (46 ∷ []) bytes at_kind → Reads (Sign (cond edges 69 86 ∷ [])) tt at_kind after_kind → Reads AnyBlanks tt after_kind at_open → ReadsToken (40 ∷ []) at_open rest → LeadsTo Start bytes (FirstId edges) rest
-source_read bytes at_kind after_kind at_open rest edges dot kind blanks parenthesis =
-    let one = token_leads Start 46 Source bytes at_kind refl refl dot in
-    let two = on Start bytes Source at_kind (Opening edges) at_open one (source_leads at_kind at_open edges (after_kind, kind, blanks)) in
-    on Start bytes (Opening edges) at_open (FirstId edges) rest two (token_leads (Opening edges) 40 (FirstId edges) at_open rest refl refl parenthesis)
+source_opens : (kind : SourceKind) (bytes rest : List ℕ) → ReadsToken (40 ∷ []) bytes rest → LeadsTo (opens_source kind) bytes (opened_source kind) rest
+source_opens sources.Vertices bytes rest token = token_leads (Opening false) 40 (FirstId false) bytes rest refl refl token
+source_opens sources.Edges bytes rest token = token_leads (Opening true) 40 (FirstId true) bytes rest refl refl token
+source_opens sources.NewVertex bytes rest token = token_leads OpensVertex 40 (Quote VertexLabel) bytes rest refl refl token
 
-pub stop_in_kind : (bytes at_kind : List ℕ) (stop : Stop) → ReadsToken (46 ∷ []) bytes at_kind → LeavesBoth 69 86 at_kind stop → StopsFrom Start bytes stop
-stop_in_kind bytes at_kind stop dot leaves = (token_leads Start 46 Source bytes at_kind refl refl dot).stops stop (stop_at_source at_kind stop leaves)
+stop_at_opening_of : (kind : SourceKind) (bytes : List ℕ) (stop : Stop) → Leaves (Sign (40 ∷ [])) bytes stop → StopsFrom (opens_source kind) bytes stop
+stop_at_opening_of sources.Vertices bytes stop leaves = stop_at_sign (Opening false) 40 (FirstId false) bytes stop refl leaves
+stop_at_opening_of sources.Edges bytes stop leaves = stop_at_sign (Opening true) 40 (FirstId true) bytes stop refl leaves
+stop_at_opening_of sources.NewVertex bytes stop leaves = stop_at_sign OpensVertex 40 (Quote VertexLabel) bytes stop refl leaves
 
-pub stop_in_opening : (bytes at_kind after_kind at_open : List ℕ) (edges : Bool) (stop : Stop) → ReadsToken (46 ∷ []) bytes at_kind → Reads (Sign (cond edges 69 86 ∷ [])) tt at_kind after_kind → Reads AnyBlanks tt after_kind at_open → Leaves (Sign (40 ∷ [])) at_open stop → StopsFrom Start bytes stop
-stop_in_opening bytes at_kind after_kind at_open edges stop dot kind blanks leaves =
-    let one = token_leads Start 46 Source bytes at_kind refl refl dot in
-    let two = on Start bytes Source at_kind (Opening edges) at_open one (source_leads at_kind at_open edges (after_kind, kind, blanks)) in
-    two.stops stop (stop_at_sign (Opening edges) 40 (FirstId edges) at_open stop refl leaves)
+kind_read : (bytes at_kind at_open : List ℕ) (kind : SourceKind) → ReadsToken (46 ∷ []) bytes at_kind → LeadsTo Source at_kind (opens_source kind) at_open → LeadsTo Start bytes (opens_source kind) at_open
+kind_read bytes at_kind at_open kind dot named = on Start bytes Source at_kind (opens_source kind) at_open (token_leads Start 46 Source bytes at_kind refl refl dot) named
+
+pub source_read : (bytes at_kind at_open rest : List ℕ) (kind : SourceKind) → ReadsToken (46 ∷ []) bytes at_kind → LeadsTo Source at_kind (opens_source kind) at_open → ReadsToken (40 ∷ []) at_open rest → LeadsTo Start bytes (opened_source kind) rest
+source_read bytes at_kind at_open rest kind dot named parenthesis = on Start bytes (opens_source kind) at_open (opened_source kind) rest (kind_read bytes at_kind at_open kind dot named) (source_opens kind at_open rest parenthesis)
+
+pub stop_in_kind : (bytes at_kind : List ℕ) (stop : Stop) → ReadsToken (46 ∷ []) bytes at_kind → StopsFrom Source at_kind stop → StopsFrom Start bytes stop
+stop_in_kind bytes at_kind stop dot at = (token_leads Start 46 Source bytes at_kind refl refl dot).stops stop at
+
+pub stop_in_opening : (bytes at_kind at_open : List ℕ) (kind : SourceKind) (stop : Stop) → ReadsToken (46 ∷ []) bytes at_kind → LeadsTo Source at_kind (opens_source kind) at_open → Leaves (Sign (40 ∷ [])) at_open stop → StopsFrom Start bytes stop
+stop_in_opening bytes at_kind at_open kind stop dot named leaves = (kind_read bytes at_kind at_open kind dot named).stops stop (stop_at_opening_of kind at_open stop leaves)
 
 -- ---- identifiers up to the parenthesis
 
@@ -319,7 +332,7 @@ read_faultless stage is_ordered bytes rest word no_bad takes = by_fault (step_fa
 pub by_is_ordered : (is_ordered : Bool) (bytes rest : List ℕ) (word : StepWord) → TakesWord (words_after is_ordered) bytes word rest → word ≡ words.By → is_ordered ≡ true
 by_is_ordered true bytes rest word takes by = refl
 by_is_ordered false bytes rest word (run, cut, is) by =
-    let other : is_by word ≡ false = all_in (λ (e : Entry StepWord). is_by e.1 ≡ false) step_words (run, word) (refl, (refl, (refl, (refl, (refl, (refl, (refl, (refl, (refl, (refl, (refl, (refl, (refl, (refl, (refl, (refl, (refl, (refl, tt)))))))))))))))))) (lookup_in step_words run word is) in
+    let other : is_by word ≡ false = all_in (λ (e : Entry StepWord). is_by e.1 ≡ false) step_words (run, word) (refl, (refl, (refl, (refl, (refl, (refl, (refl, (refl, (refl, (refl, (refl, (refl, (refl, (refl, (refl, (refl, (refl, (refl, (refl, (refl, (refl, tt))))))))))))))))))))) (lookup_in step_words run word is) in
     let clash : true ≡ false = ap is_by (sym by) ∙ other in
     cc
 
@@ -362,6 +375,9 @@ opened_is_loose query words.Limit = refl
 opened_is_loose query words.Order = refl
 opened_is_loose query words.By = refl
 opened_is_loose query words.Repeat = refl
+opened_is_loose query (words.Change changes.AddE) = refl
+opened_is_loose query (words.Change changes.Property) = refl
+opened_is_loose query (words.Change changes.Drop) = refl
 
 pub stop_at_dot : (is_ordered : Bool) (query : Query) (bytes : List ℕ) (stop : Stop) → bytes ≢ [] → Leaves (Sign (46 ∷ [])) bytes stop → StopsFrom (steps_place is_ordered query) bytes stop
 stop_at_dot true query bytes stop some_bytes leaves =
@@ -399,8 +415,8 @@ pub opening_read : (stage : Stage) (is_ordered : Bool) (bytes at_name after_name
 opening_read stage is_ordered bytes at_name after_name at_open rest word token no_fault takes blanks opening query same =
     on (steps_place is_ordered query) bytes (Opens query word) at_open (opened query word) rest (opens_read stage is_ordered bytes at_name after_name at_open word token no_fault takes blanks query same) (token_leads (Opens query word) 40 (opened query word) at_open rest refl (opened_is_loose query word) opening)
 
-pub opening_shorter : (is_ordered : Bool) (bytes at_name after_name at_open rest : List ℕ) (word : StepWord) → ReadsToken (46 ∷ []) bytes at_name → TakesWord (words_after is_ordered) at_name word after_name → Reads AnyBlanks tt after_name at_open → ReadsToken (40 ∷ []) at_open rest → length rest < length bytes
-opening_shorter is_ordered bytes at_name after_name at_open rest word token (run, cut, is) blanks opening =
+pub opening_shorter : (table : List (Entry StepWord)) (bytes at_name after_name at_open rest : List ℕ) (word : StepWord) → ReadsToken (46 ∷ []) bytes at_name → TakesWord table at_name word after_name → Reads AnyBlanks tt after_name at_open → ReadsToken (40 ∷ []) at_open rest → length rest < length bytes
+opening_shorter table bytes at_name after_name at_open rest word token (run, cut, is) blanks opening =
     let first = token_shorter 46 bytes at_name token in
     let second : length at_name ≡ length run + length after_name = ap length cut.bytes_are ∙ length-append run after_name in
     let third : length after_name ≡ length blanks.takes.prefix + length at_open = ap length blanks.takes.bytes_are ∙ length-append blanks.takes.prefix at_open in
@@ -698,20 +714,45 @@ steps_more edges bytes rest after is_ordered list items later count more word st
 pub stop_in_steps : (edges : Bool) (bytes rest : List ℕ) (is_ordered : Bool) (list : List Step) (items : Items) (count : ℕ) (stop : Stop) → StepsSoFar edges bytes is_ordered list items count rest → ((query : Query) → stage_of query ≡ record { items = items; steps = count } → StopsFrom (steps_place is_ordered query) rest stop) → (ids : List ℕ) → StopsFrom (Steps (query_from edges ids)) bytes stop
 stop_in_steps edges bytes rest is_ordered list items count stop so_far at ids = (so_far.leads ids).stops stop (at (query_of edges ids list) (stage_is edges bytes is_ordered list items count rest so_far ids))
 
-steps_end : (is_ordered : Bool) (query : Query) → (turn (steps_place is_ordered query)).ends ≡ Some query
+steps_end : (is_ordered : Bool) (query : Query) → (turn (steps_place is_ordered query)).ends ≡ Some (commands.Query query)
 steps_end true query = refl
 steps_end false query = refl
 
-pub steps_kept : (edges : Bool) (bytes rest : List ℕ) (is_ordered : Bool) (list : List Step) (items : Items) (count : ℕ) → StepsSoFar edges bytes is_ordered list items count rest → rest ≡ [] → (ids : List ℕ) → KeptFrom turn is_loose (query_of edges ids list) (Steps (query_from edges ids)) bytes
+pub steps_kept : (edges : Bool) (bytes rest : List ℕ) (is_ordered : Bool) (list : List Step) (items : Items) (count : ℕ) → StepsSoFar edges bytes is_ordered list items count rest → rest ≡ [] → (ids : List ℕ) → KeptFrom turn is_loose (commands.Query (query_of edges ids list)) (Steps (query_from edges ids)) bytes
 steps_kept edges bytes rest is_ordered list items count so_far none ids =
     let query : Query = query_of edges ids list in
-    (so_far.leads ids).kept query (kept_end turn is_loose are some (steps_place is_ordered query) query rest (steps_end is_ordered query) none)
+    (so_far.leads ids).kept (commands.Query query) (kept_end turn is_loose are some (steps_place is_ordered query) (commands.Query query) rest (steps_end is_ordered query) none)
+
+-- What the name of a step promises after the steps so far, with its parenthesis.
+abbrev pub OpensStep : Items → ℕ → Bool → StepWord → List ℕ → List ℕ → Type 0
+OpensStep items count is_ordered word rest at_arguments = (query : Query) → stage_of query ≡ record { items = items; steps = count } → LeadsTo (steps_place is_ordered query) rest (opened query word) at_arguments
+
+-- a step with its name and its arguments
+pub step_read : (items : Items) (count : ℕ) (is_ordered : Bool) (word : StepWord) (step : Step) (rest at_arguments after : List ℕ) → OpensStep items count is_ordered word rest at_arguments → ((query : Query) → stage_of query ≡ record { items = items; steps = count } → LeadsTo (opened query word) at_arguments (after_word word query step) after) → (query : Query) → stage_of query ≡ record { items = items; steps = count } → LeadsTo (steps_place is_ordered query) rest (after_word word query step) after
+step_read items count is_ordered word step rest at_arguments after opens reads query same = on (steps_place is_ordered query) rest (opened query word) at_arguments (after_word word query step) after (opens query same) (reads query same)
+
+pub stop_in_arguments : (items : Items) (count : ℕ) (is_ordered : Bool) (word : StepWord) (rest at_arguments : List ℕ) (stop : Stop) → OpensStep items count is_ordered word rest at_arguments → ((query : Query) → stage_of query ≡ record { items = items; steps = count } → StopsFrom (opened query word) at_arguments stop) → (query : Query) → stage_of query ≡ record { items = items; steps = count } → StopsFrom (steps_place is_ordered query) rest stop
+stop_in_arguments items count is_ordered word rest at_arguments stop opens at query same = (opens query same).stops stop (at query same)
+
+-- a step that changes the graph
+pub stop_in_change : (items : Items) (count : ℕ) (is_ordered : Bool) (word : StepWord) (change : ChangeWord) (rest at_arguments : List ℕ) (stop : Stop) → OpensStep items count is_ordered word rest at_arguments → word ≡ words.Change change → ((query : Query) → steps_in query.steps ≡ count → StopsFrom (opened query (words.Change change)) at_arguments stop) → (query : Query) → stage_of query ≡ record { items = items; steps = count } → StopsFrom (steps_place is_ordered query) rest stop
+stop_in_change items count is_ordered word change rest at_arguments stop opens is at query same =
+    (opens query same).stops stop (subst (λ (w : StepWord). StopsFrom (opened query w) at_arguments stop) (sym is) (at query (ap (λ (s : Stage). s.steps) same)))
+
+pub change_kept : (edges : Bool) (ids : List ℕ) (bytes rest at_arguments : List ℕ) (is_ordered : Bool) (list : List Step) (items : Items) (count : ℕ) (word : StepWord) (change : ChangeWord) (mutation : Mutation) → StepsSoFar edges bytes is_ordered list items count rest → OpensStep items count is_ordered word rest at_arguments → word ≡ words.Change change → ((query : Query) → steps_in query.steps ≡ count → KeptFrom turn is_loose (commands.Mutate (Some query) mutation) (opened query (words.Change change)) at_arguments) → KeptFrom turn is_loose (commands.Mutate (Some (query_of edges ids list)) mutation) (Steps (query_from edges ids)) bytes
+change_kept edges ids bytes rest at_arguments is_ordered list items count word change mutation so_far opens is kept =
+    let query : Query = query_of edges ids list in
+    let command : Command = commands.Mutate (Some query) mutation in
+    let here = subst (λ (w : StepWord). KeptFrom turn is_loose command (opened query w) at_arguments) (sym is) (kept query (sym so_far.counted)) in
+    (so_far.leads ids).kept command ((opens query (stage_is edges bytes is_ordered list items count rest so_far ids)).kept command here)
+
+-- What is kept from the steps on is kept from the identifiers on.
+pub elements_kept : (edges : Bool) (ids : List ℕ) (bytes at_steps : List ℕ) (command : Command) → ((edges : Bool) → LeadsTo (FirstId edges) bytes (Steps (query_from edges ids)) at_steps) → KeptFrom turn is_loose command (Steps (query_from edges ids)) at_steps → KeptFrom turn is_loose command (FirstId edges) bytes
+elements_kept edges ids bytes at_steps command these kept = (these edges).kept command kept
 
 -- the whole query
-pub query_is_kept : (edges : Bool) (ids : List ℕ) (bytes at_source at_ids at_steps : List ℕ) (list : List Step) → Reads AnyBlanks tt bytes at_source → LeadsTo Start at_source (FirstId edges) at_ids → LeadsTo (FirstId edges) at_ids (Steps (query_from edges ids)) at_steps → KeptFrom turn is_loose (query_of edges ids list) (Steps (query_from edges ids)) at_steps → IsKeptQuery (query_of edges ids list) bytes
-query_is_kept edges ids bytes at_source at_ids at_steps list blanks source these kept =
-    let query : Query = query_of edges ids list in
-    (blanks.takes.prefix, at_source, blanks.takes.bytes_are, blanks.takes.is, source.kept query (these.kept query kept))
+pub query_is_kept : (kind : SourceKind) (bytes at_source rest : List ℕ) (command : Command) → Reads AnyBlanks tt bytes at_source → LeadsTo Start at_source (opened_source kind) rest → KeptFrom turn is_loose command (opened_source kind) rest → IsKeptQuery command bytes
+query_is_kept kind bytes at_source rest command blanks source kept = (blanks.takes.prefix, at_source, blanks.takes.bytes_are, blanks.takes.is, source.kept command kept)
 
 -- a stop after the blanks
 pub query_stops : (bytes at_source : List ℕ) (stop : Stop) → Reads AnyBlanks tt bytes at_source → StopsFrom Start at_source stop → StopsInQuery bytes stop

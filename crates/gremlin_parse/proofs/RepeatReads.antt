@@ -2,6 +2,7 @@
 use Rattle.std.proofs.Common.{◌≡◌, ◌≢◌, ◌≤◌, ◌<◌, ◌+◌, ◌-◌, ◌⊎◌, inl, inr, ℕ, zero, suc, max, nat_eq, nat_lt, if◌then◌else◌, cond, Bool, true, false, Option, Some, None, List, [], ◌∷◌, ◌++◌, length, get_or, map, take, drop, codes, refl, sym, ap, ◌∙◌, subst, ⊎_elim, length-append, arith}
 use Rattle.std.specs.Cmp.Lexicographic.{pointwise}
 use Rattle.std.proofs.lemmas.Bool.Decides.{nat_tests}
+use Rattle.plain_graph.specs.declared.command.Command.{Command}
 use Rattle.plain_graph.specs.declared.query.BodyStep.{BodyStep}
 use Rattle.plain_graph.specs.declared.query.BodyStep.TheVariants as bodies
 use Rattle.plain_graph.specs.declared.query.Query.{Query}
@@ -88,13 +89,16 @@ leaves_among table fault bytes (stops.Bad kind left) leaves = bad_among table fa
 body_words_are : IsWordTable body_words
 body_words_are = word_table body_words refl
 
--- A name that was read without a fault is none of a 33rd step.
-pub read_early : (before : ℕ) (bytes rest : List ℕ) (word : BodyWord) → ((kind : BadToken) (place : ℕ) → ¬ IsBadWord body_words (λ _ _. late_fault before) kind place bytes) → TakesWord body_words bytes word rest → late_fault before ≡ None
-read_early before bytes rest word no_bad takes = by_fault (late_fault before) refl
+-- A word that was read without a fault is none of a 33rd step.
+pub read_in_time : {Word : Type 0} → (table : List (Entry Word)) → IsWordTable table → (before : ℕ) (bytes rest : List ℕ) (word : Word) → ((kind : BadToken) (place : ℕ) → ¬ IsBadWord table (λ _ _. late_fault before) kind place bytes) → TakesWord table bytes word rest → late_fault before ≡ None
+read_in_time table is_table before bytes rest word no_bad takes = by_fault (late_fault before) refl
   where
     by_fault : (found : Option BadToken) → late_fault before ≡ found → late_fault before ≡ None
     by_fault None is = is
-    by_fault (Some kind) is = absurd (no_bad kind (length bytes) (word, whole_word_of body_words body_words_are bytes rest word takes, is, refl))
+    by_fault (Some kind) is = absurd (no_bad kind (length bytes) (word, whole_word_of table is_table bytes rest word takes, is, refl))
+
+pub read_early : (before : ℕ) (bytes rest : List ℕ) (word : BodyWord) → ((kind : BadToken) (place : ℕ) → ¬ IsBadWord body_words (λ _ _. late_fault before) kind place bytes) → TakesWord body_words bytes word rest → late_fault before ≡ None
+read_early = read_in_time body_words body_words_are
 
 below_33 : (n : ℕ) → nat_lt n 32 ≡ true → n < 32
 below_33 n is = grind (arith, nat_tests)
@@ -234,7 +238,7 @@ body_begins query bytes other = record { stops = stays; kept = λ end (n, leads)
       viable = (stop.viable.0, to_first query (stop.read ++ stop.viable.0) stop.viable.1);
     }
 
-    keeps : (end : Query) (n : ℕ) → Leads turn is_loose IsBounded end n (BodyName query []) bytes → KeptFrom turn is_loose end (BodyFirst query) bytes
+    keeps : (end : Command) (n : ℕ) → Leads turn is_loose IsBounded end n (BodyName query []) bytes → KeptFrom turn is_loose end (BodyFirst query) bytes
     keeps end zero (ends, none) = cc
     keeps end (suc n) (inl sign) = absurd (sign_refuses [] (Loosely turn is_loose (λ next rest. Leads turn is_loose IsBounded end n next rest)) bytes (no_signs bytes) sign)
     keeps end (suc n) (inr other) = (suc n, inr other)

@@ -1,11 +1,11 @@
 -- What names the session of a line, whatever stands after it.
-use Rattle.std.proofs.Common.{◌≡◌, ◌⊎◌, inl, inr, ℕ, ◌-◌, ◌≤◌, Bool, true, false, ◌&&◌, cond, Option, Some, None, List, [], ◌∷◌, ◌++◌, length, take, drop, get_or, refl, sym, ap, ◌∙◌, subst, ⊎_elim, append_assoc}
+use Rattle.std.proofs.Common.{◌≡◌, inl, inr, ℕ, ◌-◌, ◌≤◌, Bool, true, ◌&&◌, cond, Option, Some, None, List, [], ◌∷◌, ◌++◌, length, take, drop, get_or, refl, sym, ap, ◌∙◌, append_assoc}
 use Rattle.gremlin_parse.specs.Grammar.{AreBlanks, is_blank}
 use Rattle.gremlin_parse.specs.Faults.{EndsRun}
 use Rattle.gremlin_parse.specs.Reading.{first_byte}
 use Rattle.gremlin_parse.specs.Stopping.{StopsWith}
 use Rattle.gremlin_parse.specs.Symbols.{AnyBlanks, Takes}
-use Rattle.gremlin_parse.specs.Tags.{IsTag, IsUntagged, LeavesSession, LeavesTag, ReadsSession, ReadsTag, after_tag, is_at, is_session, named_by, rest_by, session_first, tag_first, tag_in}
+use Rattle.gremlin_parse.specs.Tags.{IsTag, LeavesSession, LeavesTag, ReadsSession, ReadsTag, after_tag, is_at, is_session, named_by, rest_by, session_first, tag_first, tag_in}
 use Rattle.gremlin_parse.specs.declared.stop.Stop.{Stop}
 use Rattle.gremlin_parse.specs.declared.stop.Stop.TheVariants as stops
 use Rattle.gremlin_parse.proofs.Runs.{EndsRun-first_byte, first_and_rest}

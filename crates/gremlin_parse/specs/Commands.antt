@@ -74,8 +74,8 @@ parts_of (commands.Levels from to direction label) =
 parts_of (commands.Query query) = []
 parts_of (commands.Mutate reading mutation) = []
 
--- The command is spelled by its parts; a query is spelled from place to place, and no line spells
--- one that mutates yet.
+-- The command is spelled by its parts; a query is spelled from place to place, and so is one that
+-- changes the graph.
 abbrev pub IsCommand : Command → Type 0
 IsCommand (commands.Query query) = ⊥
 IsCommand (commands.Mutate reading mutation) = ⊥
@@ -205,7 +205,7 @@ command_of heads.Path contents label =
     commands.Path contents.1.0 contents.1.1.1.0 (direction_named contents.1.1.1.1.1.0) label
 command_of heads.Levels contents label =
     commands.Levels contents.1.0 contents.1.1.1.0 (direction_named contents.1.1.1.1.1.0) label
-command_of heads.Query contents query = commands.Query query
+command_of heads.Query contents command = command
 
 -- the command of a first word and of what a line has after it
 unfoldable pub built : Head → Givens → Last → Command
@@ -267,8 +267,10 @@ IsTail command bytes =
 
 -- What was read of the command is within its bounds.
 abbrev pub KeepsTail : Command → List ℕ → Type 0
-KeepsTail (commands.Query query) bytes = Then (Exactly (codes "g")) (IsKeptQuery query) bytes
-KeepsTail (commands.Mutate reading mutation) bytes = ⊥
+KeepsTail (commands.Query query) bytes =
+    Then (Exactly (codes "g")) (IsKeptQuery (commands.Query query)) bytes
+KeepsTail (commands.Mutate reading mutation) bytes =
+    Then (Exactly (codes "g")) (IsKeptQuery (commands.Mutate reading mutation)) bytes
 KeepsTail command bytes = KeepsBounds command
 
 -- no command that needs no memory

@@ -1,9 +1,10 @@
 -- What stands after a command's arguments, to the line's end: nothing, pairs, a name or none, or a
--- query.
+-- query, which may change the graph.
 use Rattle.std.specs.Prelude.{ℕ, Bool, true, false, Option, Some, None, List, [], ◌∷◌}
 use Rattle.std.specs.Borrow.{Bor}
+use Rattle.plain_graph.specs.declared.command.Command.{Command}
+use Rattle.plain_graph.specs.declared.command.Command.TheVariants as commands
 use Rattle.plain_graph.specs.declared.pairs.Pair.{Pair}
-use Rattle.plain_graph.specs.declared.query.Query.{Query}
 use Rattle.gremlin_parse.specs.Grammar.{Part, Blanks, IsMadeOf, pairs_to_end, name_to_end}
 use Rattle.gremlin_parse.specs.Stopping.{Bads, BadInOne}
 use Rattle.gremlin_parse.specs.Queries.{QueryTo, BadQuery}
@@ -20,7 +21,7 @@ abbrev pub LastContentOf : LastPart → Type 0
 LastContentOf lasts.End = Unit {0}
 LastContentOf lasts.Pairs = List Pair
 LastContentOf lasts.MaybeName = Option (List ℕ)
-LastContentOf lasts.Query = Query
+LastContentOf lasts.Query = Command
 
 abbrev pub now_of : Option (Bor (List ℕ)) → Option (List ℕ)
 now_of None = None
@@ -31,17 +32,17 @@ abbrev pub last_content : (kind : LastPart) → Last → LastContentOf kind
 last_content lasts.End last = tt
 last_content lasts.Pairs last = last.pairs
 last_content lasts.MaybeName last = now_of last.name
-last_content lasts.Query last = record { edges = false; ids = []; steps = [] }
+last_content lasts.Query last = commands.Blank
 
 abbrev pub last_parts : (kind : LastPart) → LastContentOf kind → List Part
 last_parts lasts.End last = Blanks ∷ []
 last_parts lasts.Pairs pairs = pairs_to_end pairs
 last_parts lasts.MaybeName name = name_to_end name
-last_parts lasts.Query query = []
+last_parts lasts.Query command = []
 
 -- the bytes are this content, to the line's end
 abbrev pub LastIs : (kind : LastPart) → LastContentOf kind → List ℕ → Type 0
-LastIs lasts.Query query rest = QueryTo query rest
+LastIs lasts.Query command rest = QueryTo command rest
 LastIs kind last rest = IsMadeOf (last_parts kind last) rest
 
 abbrev pub SomeLast : LastPart → List ℕ → Type 0

@@ -12,7 +12,6 @@ pub mod Pairs
 pub mod OrderKeys
 pub mod Stages
 pub mod Queries
-pub mod MutationPlaces
 pub mod Comparisons
 pub mod Orders
 pub mod Arguments

@@ -29,14 +29,16 @@ AfterG Language bytes = Then (Exactly (codes "g")) Language bytes
 
 -- the bytes spell the command but for the bounds, from its first letter
 abbrev pub IsLooseTail : Command → List ℕ → Type 0
-IsLooseTail (commands.Query query) bytes = AfterG (QueryTo query) bytes
-IsLooseTail (commands.Mutate reading mutation) bytes = ⊥
+IsLooseTail (commands.Query query) bytes = AfterG (QueryTo (commands.Query query)) bytes
+IsLooseTail (commands.Mutate reading mutation) bytes =
+    AfterG (QueryTo (commands.Mutate reading mutation)) bytes
 IsLooseTail command bytes = IsMadeOf (parts_of command) bytes
 
 -- the bytes spell the command, from its first letter
 abbrev pub IsKeptTail : Command → List ℕ → Type 0
-IsKeptTail (commands.Query query) bytes = AfterG (IsKeptQuery query) bytes
-IsKeptTail (commands.Mutate reading mutation) bytes = ⊥
+IsKeptTail (commands.Query query) bytes = AfterG (IsKeptQuery (commands.Query query)) bytes
+IsKeptTail (commands.Mutate reading mutation) bytes =
+    AfterG (IsKeptQuery (commands.Mutate reading mutation)) bytes
 IsKeptTail command bytes = IsMadeOf (parts_of command) bytes × KeepsBounds command
 
 -- A token with such a fault stands whole `left` bytes from the end, where the grammar has it.

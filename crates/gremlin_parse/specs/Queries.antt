@@ -1,12 +1,18 @@
--- Queries: what may stand at each place, and the query that what stands before it makes.
+-- Queries: what may stand at each place, and the query and the change that what stands before it
+-- makes.
 use Rattle.std.specs.Prelude.{◌≡◌, ◌≢◌, ℕ, ◌+◌, ◌-◌, Bool, true, false, cond, Option, Some, None}
 use Rattle.std.specs.Prelude.{unwrap_or, List, [], ◌∷◌, ◌++◌, length, take, map, codes}
+use Rattle.plain_graph.specs.declared.command.Command.{Command}
+use Rattle.plain_graph.specs.declared.command.Command.TheVariants as commands
 use Rattle.plain_graph.specs.declared.direction.Direction.{Direction}
 use Rattle.plain_graph.specs.declared.direction.Direction.TheVariants as directions
 use Rattle.plain_graph.specs.declared.filter.Filter.{Filter}
 use Rattle.plain_graph.specs.declared.filter.Filter.TheVariants as filters
 use Rattle.plain_graph.specs.declared.filter.Relation.{Relation}
 use Rattle.plain_graph.specs.declared.filter.Relation.TheVariants as relations
+use Rattle.plain_graph.specs.declared.mutation.Mutation.{Mutation}
+use Rattle.plain_graph.specs.declared.mutation.Mutation.TheVariants as mutations
+use Rattle.plain_graph.specs.declared.pairs.Pair.{Pair}
 use Rattle.plain_graph.specs.declared.query.BodyStep.{BodyStep}
 use Rattle.plain_graph.specs.declared.query.BodyStep.TheVariants as bodies
 use Rattle.plain_graph.specs.declared.query.Query.{Query}
@@ -25,6 +31,9 @@ use Rattle.gremlin_parse.specs.declared.step_word.BareStep.{BareStep}
 use Rattle.gremlin_parse.specs.declared.step_word.BareStep.TheVariants as bare
 use Rattle.gremlin_parse.specs.declared.step_word.BodyWord.{BodyWord}
 use Rattle.gremlin_parse.specs.declared.step_word.BodyWord.TheVariants as of_body
+use Rattle.gremlin_parse.specs.declared.source.SourceKind.{SourceKind}
+use Rattle.gremlin_parse.specs.declared.source.SourceKind.TheVariants as sources
+use Rattle.gremlin_parse.specs.declared.step_word.ChangeWord.TheVariants as changes
 use Rattle.gremlin_parse.specs.declared.step_word.NamesStep.{NamesStep}
 use Rattle.gremlin_parse.specs.declared.step_word.NamesStep.TheVariants as of_names
 use Rattle.gremlin_parse.specs.declared.step_word.StepWord.{StepWord}
@@ -46,7 +55,9 @@ step_words =
     ∷ (codes "id", words.Bare bare.Id) ∷ (codes "label", words.Bare bare.Label)
     ∷ (codes "dedup", words.Bare bare.Dedup) ∷ (codes "count", words.Bare bare.Count)
     ∷ (codes "limit", words.Limit) ∷ (codes "order", words.Order)
-    ∷ (codes "repeat", words.Repeat) ∷ []
+    ∷ (codes "repeat", words.Repeat) ∷ (codes "addE", words.Change changes.AddE)
+    ∷ (codes "property", words.Change changes.Property)
+    ∷ (codes "drop", words.Change changes.Drop) ∷ []
 
 -- what may stand after the dot after an order without a `by`
 abbrev pub ordered_words : List (Entry StepWord)
@@ -55,6 +66,10 @@ ordered_words = (codes "by", words.By) ∷ step_words
 -- the names that may stand after the dot, after such an order or not
 abbrev pub words_after : Bool → List (Entry StepWord)
 words_after is_ordered = cond is_ordered ordered_words step_words
+
+-- the name that may stand after the dot after a step that changes the graph
+abbrev pub property_words : List (Entry StepWord)
+property_words = (codes "property", words.Change changes.Property) ∷ []
 
 -- whether the order is descending, by the words for it
 abbrev pub sort_words : List (Entry Bool)
@@ -148,12 +163,22 @@ needs_name (OfStep query step) = false
 needs_name (OfHop into direction) = false
 needs_name (OfLabels into) = true
 
--- What a name between quotes is read for: one of the names of a step, or the key of `has` or of an
--- order.
+-- What properties are written for: a new vertex, a new edge from each vertex of a query to this
+-- one, or each element of a query.
+pub data Subject : Type 0 where
+  NewVertex : (label : List ℕ) → Subject
+  NewEdges : (query : Query) → (label : List ℕ) → (to : ℕ) → Subject
+  Elements : (query : Query) → Subject
+
+-- What a name between quotes is read for: one of the names of a step, the key of `has` or of an
+-- order, the label of a new vertex, the type of new edges, or the key of a property after others.
 pub data Quoted : Type 0 where
   OneName : (purpose : NamesFor) → (names : List (List ℕ)) → Quoted
   Key : (into : Into) → Quoted
   OrderKey : (query : Query) → Quoted
+  VertexLabel : Quoted
+  EdgeType : (query : Query) → Quoted
+  PropertyKey : (subject : Subject) → (pairs : List Pair) → Quoted
 
 -- A place of a query, with what was read before it.
 pub data Place : Type 0 where
@@ -199,6 +224,28 @@ pub data Place : Type 0 where
   TimesWord : (query : Query) → (body : List BodyStep) → Place
   OpensTimes : (query : Query) → (body : List BodyStep) → Place
   TimesOf : (query : Query) → (body : List BodyStep) → Place
+  OpensVertex : Place
+  VertexCloses : (label : List ℕ) → Place
+  TypeCloses : (query : Query) → (label : List ℕ) → Place
+  AfterType : (query : Query) → (label : List ℕ) → Place
+  ToWord : (query : Query) → (label : List ℕ) → Place
+  OpensTo : (query : Query) → (label : List ℕ) → Place
+  ToFirst : (query : Query) → (label : List ℕ) → Place
+  ToUnderscore : (query : Query) → (label : List ℕ) → Place
+  ToAnonymous : (query : Query) → (label : List ℕ) → Place
+  ToVertex : (query : Query) → (label : List ℕ) → Place
+  OpensId : (query : Query) → (label : List ℕ) → Place
+  ToId : (query : Query) → (label : List ℕ) → Place
+  IdCloses : (query : Query) → (label : List ℕ) → (to : ℕ) → Place
+  ToCloses : (query : Query) → (label : List ℕ) → (to : ℕ) → Place
+  DropCloses : (query : Query) → Place
+  Dropped : (query : Query) → Place
+  Changed : (subject : Subject) → (pairs : List Pair) → Place
+  PropertyName : (subject : Subject) → (pairs : List Pair) → Place
+  OpensProperty : (subject : Subject) → (pairs : List Pair) → Place
+  AfterPropertyKey : (subject : Subject) → (pairs : List Pair) → (key : List ℕ) → Place
+  PropertyValue : (subject : Subject) → (pairs : List Pair) → (key : List ℕ) → Place
+  PropertyCloses : (subject : Subject) → (pairs : List Pair) → Place
 
 abbrev pub query_from : Bool → List ℕ → Query
 query_from edges ids = record { edges = edges; ids = ids; steps = [] }
@@ -253,6 +300,44 @@ reordered query key descending = record {
   steps = replace_last query.steps (steps.Order key descending);
 }
 
+-- the query whose elements a change is for, if it begins with one
+abbrev pub reading_of : Subject → Option Query
+reading_of (NewVertex label) = None
+reading_of (NewEdges query label to) = Some query
+reading_of (Elements query) = Some query
+
+-- the change that has these properties
+abbrev pub mutation_of : Subject → List Pair → Mutation
+mutation_of (NewVertex label) pairs = mutations.AddV label pairs
+mutation_of (NewEdges query label to) pairs = mutations.AddE label to pairs
+mutation_of (Elements query) pairs = mutations.Property pairs
+
+-- what a line with these properties asks for
+abbrev pub changed : Subject → List Pair → Command
+changed subject pairs = commands.Mutate (reading_of subject) (mutation_of subject pairs)
+
+-- How many steps are before the first property: `addV` and `to` are no steps.
+abbrev pub steps_before : Subject → ℕ
+steps_before (NewVertex label) = 0
+steps_before (NewEdges query label to) = steps_in query.steps + 1
+steps_before (Elements query) = steps_in query.steps
+
+-- the pairs with one more
+abbrev pub with_pair : List Pair → List ℕ → Value → List Pair
+with_pair pairs key value = pairs ++ record { key = key; value = value } ∷ []
+
+-- after what a query begins with
+abbrev pub opens_source : SourceKind → Place
+opens_source sources.Vertices = Opening false
+opens_source sources.Edges = Opening true
+opens_source sources.NewVertex = OpensVertex
+
+-- after its parenthesis
+abbrev pub opened_source : SourceKind → Place
+opened_source sources.Vertices = FirstId false
+opened_source sources.Edges = FirstId true
+opened_source sources.NewVertex = Quote VertexLabel
+
 -- after the parenthesis of a step, or of the `by` of an order
 abbrev pub opened : Query → StepWord → Place
 opened query (words.Bare bare) = Closing query (bare_step bare)
@@ -262,6 +347,9 @@ opened query words.Limit = Most query
 opened query words.Order = OrderCloses query
 opened query words.By = ByFirst query
 opened query words.Repeat = BodyFirst query
+opened query (words.Change changes.AddE) = Quote (EdgeType query)
+opened query (words.Change changes.Property) = Quote (PropertyKey (Elements query) [])
+opened query (words.Change changes.Drop) = DropCloses query
 
 -- how many steps are before the next one of a body: those of the query, the repeat and the body's
 abbrev pub count_before : Query → List BodyStep → ℕ
@@ -272,6 +360,9 @@ abbrev pub after_quoted : Quoted → List ℕ → Place
 after_quoted (OneName purpose names) name = AfterName purpose (names ++ name ∷ [])
 after_quoted (Key into) name = AfterKey into name
 after_quoted (OrderKey query) name = AfterOrderKey query name
+after_quoted VertexLabel name = VertexCloses name
+after_quoted (EdgeType query) name = TypeCloses query name
+after_quoted (PropertyKey subject pairs) name = AfterPropertyKey subject pairs name
 
 abbrev pub value_filter : List ℕ → Value → Filter
 value_filter key value = filters.HasValue key relations.Eq value
@@ -281,7 +372,7 @@ abbrev pub relation_filter : List ℕ → Relation → Value → Filter
 relation_filter key relation value = filters.HasValue key relation value
 
 -- one of these signs alone
-abbrev pub one_of : List (ℕ × Place) → Turn StepWord Place Query
+abbrev pub one_of : List (ℕ × Place) → Turn StepWord Place Command
 one_of signs = record { ends = None; signs = signs; other = Nothing }
 
 -- a direction of an order: one of its two words, alone or after Order and a dot
@@ -299,9 +390,14 @@ body_name query body =
 
 -- What may stand at each place. The signs are . (46), V (86), E (69), P (80), ( (40), ) (41),
 -- , (44), _ (95) and the two quotes (39 and 34).
-abbrev pub turn : Place → Turn StepWord Place Query
+abbrev pub turn : Place → Turn StepWord Place Command
 turn Start = one_of ((46, Source) ∷ [])
-turn Source = one_of ((86, Opening false) ∷ (69, Opening true) ∷ [])
+turn Source =
+    record {
+      ends = None;
+      signs = (86, Opening false) ∷ (69, Opening true) ∷ [];
+      other = Token (Sign (codes "addV")) (λ _. OpensVertex);
+    }
 turn (Opening edges) = one_of ((40, FirstId edges) ∷ [])
 turn (FirstId edges) =
     record {
@@ -318,7 +414,11 @@ turn (NextId edges ids) =
       other = Token (AnyNumber most_id) (λ id. AfterId edges (ids ++ id ∷ []));
     }
 turn (Steps query) =
-    record { ends = Some query; signs = (46, StepName query) ∷ []; other = Nothing }
+    record {
+      ends = Some (commands.Query query);
+      signs = (46, StepName query) ∷ [];
+      other = Nothing;
+    }
 turn (StepName query) =
     record {
       ends = None;
@@ -368,7 +468,11 @@ turn (Most query) =
     }
 turn (OrderCloses query) = one_of ((41, Ordered (with_step query plain_order)) ∷ [])
 turn (Ordered query) =
-    record { ends = Some query; signs = (46, OrderedName query) ∷ []; other = Nothing }
+    record {
+      ends = Some (commands.Query query);
+      signs = (46, OrderedName query) ∷ [];
+      other = Nothing;
+    }
 turn (OrderedName query) =
     record {
       ends = None;
@@ -422,26 +526,83 @@ turn (TimesOf query body) =
       signs = [];
       other = Token AnyTimes (λ times. Closing query (steps.Repeat body times));
     }
+turn OpensVertex = one_of ((40, Quote VertexLabel) ∷ [])
+turn (VertexCloses label) = one_of ((41, Changed (NewVertex label) []) ∷ [])
+turn (TypeCloses query label) = one_of ((41, AfterType query label) ∷ [])
+turn (AfterType query label) = one_of ((46, ToWord query label) ∷ [])
+turn (ToWord query label) =
+    record {
+      ends = None;
+      signs = [];
+      other = Token (Sign (codes "to")) (λ _. OpensTo query label);
+    }
+turn (OpensTo query label) = one_of ((40, ToFirst query label) ∷ [])
+turn (ToFirst query label) =
+    one_of ((95, ToUnderscore query label) ∷ (86, OpensId query label) ∷ [])
+turn (ToUnderscore query label) = one_of ((95, ToAnonymous query label) ∷ [])
+turn (ToAnonymous query label) = one_of ((46, ToVertex query label) ∷ [])
+turn (ToVertex query label) = one_of ((86, OpensId query label) ∷ [])
+turn (OpensId query label) = one_of ((40, ToId query label) ∷ [])
+turn (ToId query label) =
+    record {
+      ends = None;
+      signs = [];
+      other = Token (AnyNumber most_id) (λ to. IdCloses query label to);
+    }
+turn (IdCloses query label to) = one_of ((41, ToCloses query label to) ∷ [])
+turn (ToCloses query label to) = one_of ((41, Changed (NewEdges query label to) []) ∷ [])
+turn (DropCloses query) = one_of ((41, Dropped query) ∷ [])
+turn (Dropped query) =
+    record {
+      ends = Some (commands.Mutate (Some query) mutations.Drop);
+      signs = [];
+      other = Nothing;
+    }
+turn (Changed subject pairs) =
+    record {
+      ends = Some (changed subject pairs);
+      signs = (46, PropertyName subject pairs) ∷ [];
+      other = Nothing;
+    }
+turn (PropertyName subject pairs) =
+    record {
+      ends = None;
+      signs = [];
+      other =
+          Words property_words (λ _ _. late_fault (steps_before subject + length pairs))
+          (λ _. OpensProperty subject pairs);
+    }
+turn (OpensProperty subject pairs) = one_of ((40, Quote (PropertyKey subject pairs)) ∷ [])
+turn (AfterPropertyKey subject pairs key) =
+    one_of ((44, PropertyValue subject pairs key) ∷ [])
+turn (PropertyValue subject pairs key) =
+    record {
+      ends = None;
+      signs = [];
+      other = Token AnyValue (λ value. PropertyCloses subject (with_pair pairs key value));
+    }
+turn (PropertyCloses subject pairs) = one_of ((41, Changed subject pairs) ∷ [])
 
 -- Blanks may stand before all but a name between quotes, its closing quote, and the second of two
 -- underscores.
 abbrev pub is_loose : Place → Bool
 is_loose (InQuotes quoted double) = false
 is_loose (Underscore query) = false
+is_loose (ToUnderscore query label) = false
 is_loose _ = true
 
--- the bytes after g are some query
+-- the bytes after g are some query, or one that changes the graph
 abbrev pub IsQuery : List ℕ → Type 0
 IsQuery bytes = Loosely turn is_loose (LineFrom turn is_loose) Start bytes
 
--- so many tokens lead from the place to the end of this query
-abbrev pub LineTo : Query → Place → List ℕ → Type 0
-LineTo query place bytes =
-    (n : ℕ) × Leads turn is_loose (λ _. Unit {0}) query n place bytes
+-- so many tokens lead from the place to the end of what asks for this
+abbrev pub LineTo : Command → Place → List ℕ → Type 0
+LineTo command place bytes =
+    (n : ℕ) × Leads turn is_loose (λ _. Unit {0}) command n place bytes
 
--- the bytes after g are this query but for the bounds
-abbrev pub QueryTo : Query → List ℕ → Type 0
-QueryTo query bytes = Loosely turn is_loose (LineTo query) Start bytes
+-- the bytes after g ask for this, but for the bounds
+abbrev pub QueryTo : Command → List ℕ → Type 0
+QueryTo command bytes = Loosely turn is_loose (LineTo command) Start bytes
 
 -- Reading stops, from this place on.
 abbrev pub StopsFrom : Place → List ℕ → Stop → Type 0
@@ -455,6 +616,11 @@ LeadsTo place bytes next rest = Reaches turn is_loose place bytes next rest
 -- the place after steps, the last of them an order without a `by` or not
 abbrev pub steps_place : Bool → Query → Place
 steps_place is_ordered query = cond is_ordered (Ordered query) (Steps query)
+
+-- It is the name of a step that changes the graph.
+abbrev pub is_change : StepWord → Bool
+is_change (words.Change word) = true
+is_change _ = false
 
 -- It is an order, after which its `by` may stand.
 abbrev pub is_order : StepWord → Bool
@@ -494,9 +660,9 @@ pub record QuotesAt (place : Place) (quoted : Quoted) (bytes : List ℕ) : Type 
   pub double : sign_at (turn place).signs 34 ≡ Some (InQuotes quoted true)
   pub stops : (stop : Stop) → LeavesBoth 34 39 bytes stop → StopsFrom place bytes stop
 
--- the bytes after g are this query, within its bounds
-abbrev pub IsKeptQuery : Query → List ℕ → Type 0
-IsKeptQuery query bytes = Loosely turn is_loose (KeptFrom turn is_loose query) Start bytes
+-- the bytes after g ask for this, within its bounds
+abbrev pub IsKeptQuery : Command → List ℕ → Type 0
+IsKeptQuery command bytes = Loosely turn is_loose (KeptFrom turn is_loose command) Start bytes
 
 -- a bad token of a query, after g
 abbrev pub BadQuery : Bads

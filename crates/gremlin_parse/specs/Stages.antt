@@ -12,6 +12,7 @@ use Rattle.gremlin_parse.specs.declared.stage.Items.TheVariants as items
 use Rattle.gremlin_parse.specs.declared.stage.Stage.{Stage}
 use Rattle.gremlin_parse.specs.declared.step_word.BareStep.TheVariants as bare
 use Rattle.gremlin_parse.specs.declared.step_word.BodyWord.TheVariants as of_body
+use Rattle.gremlin_parse.specs.declared.step_word.ChangeWord.TheVariants as changes
 use Rattle.gremlin_parse.specs.declared.step_word.NamesStep.TheVariants as of_names
 use Rattle.gremlin_parse.specs.declared.step_word.StepWord.{StepWord}
 use Rattle.gremlin_parse.specs.declared.step_word.StepWord.TheVariants as words
@@ -40,6 +41,9 @@ fits these (words.Body of_body.Has) bytes = are_elements these
 fits these (words.Names (of_names.Incident direction)) bytes = are_vertices these
 fits these (words.Names of_names.Values) bytes = are_elements these
 fits these words.Repeat bytes = are_vertices these
+fits these (words.Change changes.AddE) bytes = are_vertices these
+fits these (words.Change changes.Property) bytes = are_elements these
+fits these (words.Change changes.Drop) bytes = are_elements these
 fits these (words.Bare bare.OutV) bytes = are_edges these
 fits these (words.Bare bare.InV) bytes = are_edges these
 fits these (words.Bare bare.Id) bytes = are_elements these

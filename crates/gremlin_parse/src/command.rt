@@ -29,8 +29,8 @@ pub(crate) fn parse_tail(alloc: Global, bytes: &[u8]) -> Result<Command, Stop>
         let command = parse_command(alloc, head, rest)?;
         return Ok(command);
     }
-    let query = read_query(alloc, rest)?;
-    Ok(Command::Query(query))
+    let asked = read_query(alloc, rest)?;
+    Ok(asked)
 }
 
 /// The command of the first word, whose arguments and last part follow.

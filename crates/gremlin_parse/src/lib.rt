@@ -11,6 +11,7 @@ mod head;
 mod keyword;
 mod last;
 mod line_fault;
+mod mutation;
 mod number;
 mod order;
 mod pair;

@@ -50,7 +50,7 @@ fn read_pair(bytes: &[u8]) -> Result<(&[u8], WrittenValue<'_>, &[u8]), Stop>
 }
 
 /// Adds the pair after the others.
-fn push_pair(
+pub(crate) fn push_pair(
     alloc: Global,
     pairs: &mut Vec<Pair>,
     key: &[u8],

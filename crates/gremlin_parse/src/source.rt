@@ -2,30 +2,53 @@ ghost use Rattle.std.specs.Prelude.{◌≡◌, ◌≢◌, ◌<◌, ◌++◌, ◌
 ghost use Rattle.std.specs.Prelude.{IfOk, IfErr, OnOk};
 ghost use Rattle.gremlin_parse.specs.Grammar.{most_id};
 ghost use Rattle.gremlin_parse.specs.Reading.{first_byte};
-ghost use Rattle.gremlin_parse.specs.Queries.{Start, FirstId, Steps, LeadsTo, StopsFrom};
-ghost use Rattle.gremlin_parse.specs.Queries.{query_from};
+ghost use Rattle.gremlin_parse.specs.Queries.{Start, Source, FirstId, Steps, LeadsTo, StopsFrom};
+ghost use Rattle.gremlin_parse.specs.Queries.{opens_source, opened_source, query_from};
 ghost use Rattle.gremlin_parse.specs.Symbols.{ReadsId, Leaves, AnyNumber};
 
 use crate::number::read_number;
 use crate::parts::{read_token, skip_blanks};
-use crate::quoted_name::{read_close, read_comma, read_either};
+use crate::quoted_name::{read_close, read_comma, read_first};
 use crate::stop::Stop;
 use plain_graph::Ids;
 use std::alloc::Global;
 
-/// Whether the query begins with edges, and the bytes after the opening parenthesis.
+/// What a query begins with.
+#[derive(Clone, Copy)]
+pub(crate) enum SourceKind {
+    Vertices,
+    Edges,
+    /// A new vertex: `addV`.
+    NewVertex,
+}
+
+/// What the query begins with, and the bytes after the opening parenthesis.
 ///
 /// # Errors
 /// A fault of syntax if no query goes on so.
-pub(crate) fn read_source(bytes: &[u8]) -> Result<(bool, &[u8]), Stop>
-    ensures ok { IfOk result (λ r. LeadsTo Start bytes.now (FirstId r.0) r.1.now) }
+pub(crate) fn read_source(bytes: &[u8]) -> Result<(SourceKind, &[u8]), Stop>
+    ensures ok { IfOk result (λ r. LeadsTo Start bytes.now (opened_source r.0) r.1.now) }
     ensures err { IfErr result (StopsFrom Start bytes.now) }
 {
     let at_kind = read_token(bytes, b".")?;
-    let (edges, after_kind) = read_either(at_kind, b'E', b'V')?;
-    let at_open = skip_blanks(after_kind);
+    let (kind, at_open) = read_kind(at_kind)?;
     let rest = read_token(at_open, b"(")?;
-    Ok((edges, rest))
+    Ok((kind, rest))
+}
+
+/// The word for what a query begins with, and the bytes after it and any blanks.
+fn read_kind(bytes: &[u8]) -> Result<(SourceKind, &[u8]), Stop>
+    ensures ok { IfOk result (λ r. LeadsTo Source bytes.now (opens_source r.0) r.1.now) }
+    ensures err { IfErr result (StopsFrom Source bytes.now) }
+{
+    if let Some(rest) = read_first(bytes, b'V') {
+        return Ok((SourceKind::Vertices, rest));
+    }
+    if let Some(rest) = read_first(bytes, b'E') {
+        return Ok((SourceKind::Edges, rest));
+    }
+    let rest = read_token(bytes, b"addV")?;
+    Ok((SourceKind::NewVertex, rest))
 }
 
 /// The identifiers up to the closing parenthesis, and the bytes after it.
@@ -65,7 +88,10 @@ fn read_some_ids(alloc: Global, bytes: &[u8]) -> Result<(Ids, &[u8]), Stop>
 }
 
 /// The identifier at the head, and the bytes after it and any blanks.
-fn read_id(bytes: &[u8]) -> Result<(u32, &[u8]), Stop>
+///
+/// # Errors
+/// A fault of syntax if no number begins here, and `WideNumber`.
+pub(crate) fn read_id(bytes: &[u8]) -> Result<(u32, &[u8]), Stop>
     ensures ok { IfOk result (λ r. ReadsId r.0 bytes.now r.1.now) }
     ensures less { IfOk result (λ r. length r.1.now < length bytes.now) }
     ensures err { IfErr result (Leaves (AnyNumber most_id) bytes.now) }

@@ -4,10 +4,10 @@ ghost use Rattle.gremlin_parse.specs.Stages.{added_count, late_fault, step_count
 
 use crate::bad_token::BadToken;
 use crate::order::has_key;
-use crate::step_word::{BareStep, BodyWord, NamesStep, StepWord};
+use crate::step_word::{BareStep, BodyWord, ChangeWord, NamesStep, StepWord};
 use plain_graph::Step;
 
-/// How many steps a query has at most, with those of its bodies.
+/// How many steps a query has at most, with those of its bodies and those that change the graph.
 const MOST_STEPS: usize = 32;
 
 /// What comes to a step.
@@ -102,11 +102,13 @@ fn fits(items: Items, word: StepWord, bytes: &[u8]) -> bool
     match word {
         StepWord::Body(BodyWord::Neighbours(_))
         | StepWord::Names(NamesStep::Incident(_))
+        | StepWord::Change(ChangeWord::AddE)
         | StepWord::Repeat => matches!(items, Items::Vertices),
         StepWord::Bare(BareStep::OutV | BareStep::InV) => matches!(items, Items::Edges),
         StepWord::Body(BodyWord::HasLabel | BodyWord::Has)
         | StepWord::Names(NamesStep::Values)
-        | StepWord::Bare(BareStep::Id | BareStep::Label) => {
+        | StepWord::Bare(BareStep::Id | BareStep::Label)
+        | StepWord::Change(ChangeWord::Property | ChangeWord::Drop) => {
             matches!(items, Items::Vertices | Items::Edges)
         }
         StepWord::Bare(BareStep::Dedup | BareStep::Count) | StepWord::Limit | StepWord::By => true,

@@ -1,4 +1,5 @@
-ghost use Rattle.std.specs.Prelude.{◌≡◌, ◌≢◌, ◌≤◌, ◌<◌, ◌+◌, ◌++◌, ◌∷◌, [], length, true};
+ghost use Rattle.std.specs.Prelude.{◌≡◌, ◌≢◌, ◌≤◌, ◌<◌, ◌+◌, ◌++◌, ◌∷◌, [], length};
+ghost use Rattle.std.specs.Prelude.{false, true};
 ghost use Rattle.std.specs.Prelude.{IfOk, IfErr, OnOk};
 ghost use Rattle.plain_graph.specs.declared.query.Query.{Query};
 ghost use Rattle.plain_graph.specs.declared.query.Step.TheVariants as steps;
@@ -7,7 +8,7 @@ ghost use Rattle.gremlin_parse.specs.Queries.{LeadsTo, StopsFrom, opened, opened
 ghost use Rattle.gremlin_parse.specs.Queries.{opened_names, after_filter, after_names, after_step};
 ghost use Rattle.gremlin_parse.specs.Queries.{steps_place, after_word, plain_order, IsOrderStep};
 ghost use Rattle.gremlin_parse.specs.Queries.{with_step, bare_step, names_step, step_of};
-ghost use Rattle.gremlin_parse.specs.Queries.{needs_name, QuotesAt, Place};
+ghost use Rattle.gremlin_parse.specs.Queries.{needs_name, QuotesAt, Place, is_change};
 ghost use Rattle.gremlin_parse.specs.Stages.{stage_of, name_count, added_count};
 ghost use Rattle.gremlin_parse.specs.declared.step_word.StepWord.TheVariants as words;
 
@@ -24,36 +25,15 @@ use crate::value::value_of;
 use plain_graph::{BodyStep, Filter, Hop, Step, Text, Texts};
 use std::alloc::Global;
 
-/// The step after its dot with the word for it, and the bytes after it. A `by` gives the order that
-/// stands before it, with its key and its direction.
+/// The name of a step after its dot, and the bytes after the opening parenthesis.
 ///
 /// # Errors
-/// A fault of syntax if no step goes on so, another fault of its name, names and values, or
-/// `Memory`.
-pub(crate) fn read_step(
-    alloc: Global,
+/// A fault of syntax if no step goes on so, `UnfitStep` and `LateStep`.
+pub(crate) fn read_opening(
     stage: Stage,
     is_ordered: bool,
     bytes: &[u8],
-) -> Result<(StepWord, Step, &[u8]), Stop>
-    requires some { bytes.now ≢ [] }
-    requires early { stage.steps ≤ 32 }
-    ensures ok { IfOk result (λ r. (query : Query) → stage_of query ≡ stage →
-        LeadsTo (steps_place is_ordered query) bytes.now (after_word r.0 query r.1) r.2.now) }
-    ensures by { IfOk result (λ r. r.0 ≡ words.By → is_ordered ≡ true) }
-    ensures order { IfOk result (λ r. IsOrderStep r.0 r.1) }
-    ensures few { IfOk result (λ r. stage.steps + added_count r.0 r.1 ≤ 32) }
-    ensures less { IfOk result (λ r. length r.2.now < length bytes.now) }
-    ensures err { IfErr result (λ stop. (query : Query) → stage_of query ≡ stage →
-        StopsFrom (steps_place is_ordered query) bytes.now stop) }
-{
-    let (word, at_arguments) = read_opening(stage, is_ordered, bytes)?;
-    let (step, rest) = read_arguments(alloc, stage, word, at_arguments)?;
-    Ok((word, step, rest))
-}
-
-/// The name of a step after its dot, and the bytes after the opening parenthesis.
-fn read_opening(stage: Stage, is_ordered: bool, bytes: &[u8]) -> Result<(StepWord, &[u8]), Stop>
+) -> Result<(StepWord, &[u8]), Stop>
     requires some { bytes.now ≢ [] }
     requires early { stage.steps ≤ 32 }
     ensures ok { IfOk result (λ r. (query : Query) → stage_of query ≡ stage →
@@ -71,14 +51,20 @@ fn read_opening(stage: Stage, is_ordered: bool, bytes: &[u8]) -> Result<(StepWor
     Ok((word, rest))
 }
 
-/// The step of the word with its arguments up to the closing parenthesis, and the bytes after it.
-fn read_arguments(
+/// The step of the word with its arguments up to the closing parenthesis, and the bytes after it. A
+/// `by` gives the order that stands before it, with its key and its direction.
+///
+/// # Errors
+/// A fault of syntax if no step of the word goes on so, another fault of its names and values, or
+/// `Memory`.
+pub(crate) fn read_arguments(
     alloc: Global,
     stage: Stage,
     word: StepWord,
     bytes: &[u8],
 ) -> Result<(Step, &[u8]), Stop>
-    requires { stage.steps + name_count word ≤ 32 }
+    requires few { stage.steps + name_count word ≤ 32 }
+    requires reads { is_change word ≡ false }
     ensures ok { IfOk result (λ r. (query : Query) → stage_of query ≡ stage →
         LeadsTo (opened query word) bytes.now (after_word word query r.0) r.1.now) }
     ensures order { IfOk result (λ r. IsOrderStep word r.0) }
@@ -116,6 +102,7 @@ fn read_arguments(
             let (step, rest) = read_repeat(alloc, stage.steps, bytes)?;
             Ok((step, rest))
         }
+        StepWord::Change(_) => unreachable!(),
     }
 }
 

@@ -37,12 +37,21 @@ pub(crate) enum BodyWord {
     Has,
 }
 
+/// A step that changes the graph. `addV` is none of them: it begins a line.
+#[derive(Clone, Copy)]
+pub(crate) enum ChangeWord {
+    AddE,
+    Property,
+    Drop,
+}
+
 /// What the name of a step stands for.
 #[derive(Clone, Copy)]
 pub(crate) enum StepWord {
     Bare(BareStep),
     Names(NamesStep),
     Body(BodyWord),
+    Change(ChangeWord),
     Limit,
     Order,
     By,
@@ -50,7 +59,7 @@ pub(crate) enum StepWord {
 }
 
 /// `by`, which may follow an order alone, and the names of steps.
-const WORDS: [(&[u8], StepWord); 19] = [
+const WORDS: [(&[u8], StepWord); 22] = [
     (b"by", StepWord::By),
     (
         b"out",
@@ -88,6 +97,9 @@ const WORDS: [(&[u8], StepWord); 19] = [
     (b"limit", StepWord::Limit),
     (b"order", StepWord::Order),
     (b"repeat", StepWord::Repeat),
+    (b"addE", StepWord::Change(ChangeWord::AddE)),
+    (b"property", StepWord::Change(ChangeWord::Property)),
+    (b"drop", StepWord::Change(ChangeWord::Drop)),
 ];
 
 /// The name of a step, or `by` after an order without one, and the bytes after it.

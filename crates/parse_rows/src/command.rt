@@ -1,3 +1,4 @@
+use crate::mutation::put_mutation;
 use crate::query::put_query;
 use crate::text::{put, put_number, put_value, word_of};
 use plain_graph::{Command, Direction, Pairs, Target, Text};
@@ -47,6 +48,7 @@ pub(crate) fn put_command(out: &mut Vec<u8>, command: &Command) -> Result<(), Al
         | Command::Path { .. }
         | Command::Levels { .. } => put_question(out, command),
         Command::Query(query) => put_query(out, query),
+        Command::Mutate { reading, mutation } => put_mutation(out, reading, mutation),
     }
 }
 

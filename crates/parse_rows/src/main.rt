@@ -7,6 +7,7 @@
 
 mod command;
 mod fault;
+mod mutation;
 mod query;
 mod text;
 mod words;

@@ -1,5 +1,5 @@
 use crate::text::{put, put_number};
-use console_words::{Asked, WordsFault, read_words};
+use console_words::{Asked, SampleOptions, WordsFault, read_words};
 use itoa::Buffer;
 use std::alloc::{AllocError, Global};
 
@@ -31,10 +31,13 @@ fn put_options(out: &mut Vec<u8>, asked: Asked) -> Result<(), AllocError> {
             }
             Ok(())
         }
-        Asked::Sample(options) => {
-            let mut digits = Buffer::new();
-            put(out, &[b"sample ", digits.format(options.seed).as_bytes()])?;
-            put_number(out, b" ", options.count)
-        }
+        Asked::Sample(options) => put_sample(out, b"sample ", options),
+        Asked::Follow(options) => put_sample(out, b"follow ", options),
     }
+}
+
+fn put_sample(out: &mut Vec<u8>, word: &[u8], options: SampleOptions) -> Result<(), AllocError> {
+    let mut digits = Buffer::new();
+    put(out, &[word, digits.format(options.seed).as_bytes()])?;
+    put_number(out, b" ", options.count)
 }

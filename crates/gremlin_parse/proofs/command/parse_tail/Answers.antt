@@ -1,6 +1,5 @@
 use Rattle.std.proofs.Common.{refl, subst}
 use Rattle.std.proofs.lemmas.Result.{err_from_is_err_and}
-use Rattle.plain_graph.specs.declared.command.Command.TheVariants as commands
 use Rattle.gremlin_parse.specs.Keywords.{TakesWord}
 use Rattle.gremlin_parse.specs.Commands.{head_words, Asks, LacksMemory}
 use Rattle.gremlin_parse.specs.declared.head.Head.{Head}
@@ -26,15 +25,15 @@ returns-in_err-command-clause-err c =
     let some = not_empty bytes c.is_empty.result c.is_empty.ensures c.if-is_empty.false in
     rw (p.1, p.2) (tail_after_word (LacksMemory bytes) (Asks head) bytes rest head c.in_err-command.field-0.0 some (λ asks. lacks_asked head asks bytes rest some c.in_ok-head.ensures.ok) c.in_ok-head.ensures.ok c.in_err-command.ensures.err)
 
-pub returns-in_err-query-clause-err : goal.returns-in_err-query-clause-err
-returns-in_err-query-clause-err c =
-    let p = err_from_is_err_and c.from_residual-in_err-query.result c.from_residual-in_err-query.ensures.1 in
+pub returns-in_err-asked-clause-err : goal.returns-in_err-asked-clause-err
+returns-in_err-asked-clause-err c =
+    let p = err_from_is_err_and c.from_residual-in_err-asked.result c.from_residual-in_err-asked.ensures.1 in
     let bytes = c.args.bytes.now in
     let rest = c.in_ok-head.rest.now in
     let some = not_empty bytes c.is_empty.result c.is_empty.ensures c.if-is_empty.false in
     let query = query_head c.in_ok-head.head (is_not _ c.is_plain.result c.is_plain.ensures c.if-is_plain.false) in
     let takes = subst (λ (h : Head). TakesWord head_words bytes h rest) query c.in_ok-head.ensures.ok in
-    rw (p.1, p.2) (tail_after_word (LacksMemory bytes) (Unit {0}) bytes rest heads.Query c.in_err-query.field-0.0 some (λ lack. lacks_asked heads.Query tt bytes rest some takes) takes (stops_in_some rest c.in_err-query.field-0.0 c.in_err-query.ensures.err))
+    rw (p.1, p.2) (tail_after_word (LacksMemory bytes) (Unit {0}) bytes rest heads.Query c.in_err-asked.field-0.0 some (λ lack. lacks_asked heads.Query tt bytes rest some takes) takes (stops_in_some rest c.in_err-asked.field-0.0 c.in_err-asked.ensures.err))
 
 pub returns-then-is_plain-clause-ok : goal.returns-then-is_plain-clause-ok
 returns-then-is_plain-clause-ok c = tail_of_word c.in_ok-command.command c.in_ok-head.head c.args.bytes.now c.in_ok-head.rest.now c.in_ok-head.ensures.ok c.in_ok-command.ensures.ok
@@ -48,7 +47,7 @@ returns-clause-ok c =
     let rest = c.in_ok-head.rest.now in
     let query = query_head c.in_ok-head.head (is_not _ c.is_plain.result c.is_plain.ensures c.if-is_plain.false) in
     let takes = subst (λ (h : Head). TakesWord head_words bytes h rest) query c.in_ok-head.ensures.ok in
-    tail_of_word (commands.Query c.in_ok-query.query) heads.Query bytes rest takes (c.in_ok-query.query, refl, query_of_kept c.in_ok-query.query rest c.in_ok-query.ensures.ok)
+    tail_of_word c.in_ok-asked.asked heads.Query bytes rest takes (c.in_ok-asked.asked, refl, query_of_kept c.in_ok-asked.asked rest c.in_ok-asked.ensures.ok)
 
 pub returns-clause-bounds : goal.returns-clause-bounds
 returns-clause-bounds c =
@@ -56,7 +55,7 @@ returns-clause-bounds c =
     let rest = c.in_ok-head.rest.now in
     let query = query_head c.in_ok-head.head (is_not _ c.is_plain.result c.is_plain.ensures c.if-is_plain.false) in
     let takes = subst (λ (h : Head). TakesWord head_words bytes h rest) query c.in_ok-head.ensures.ok in
-    query_spelled c.in_ok-query.query bytes rest takes c.in_ok-query.ensures.ok
+    query_spelled c.in_ok-asked.asked bytes rest takes c.in_ok-asked.ensures.ok
 
 pub parse_command-requires : goal.parse_command-requires
 parse_command-requires c = is_so _ c.is_plain.result c.is_plain.ensures c.if-is_plain.true

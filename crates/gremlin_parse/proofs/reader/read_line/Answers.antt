@@ -1,4 +1,4 @@
-use Rattle.std.proofs.Common.{◌≡◌, ap, ◌∙◌, ℕ, Option, unwrap_or}
+use Rattle.std.proofs.Common.{ap, ◌∙◌, ℕ, Option, unwrap_or}
 use Rattle.std.proofs.lemmas.Result.{err_from_is_err_and}
 use Rattle.gremlin_parse.specs.Lines.{NeedsMemory}
 use Rattle.gremlin_parse.proofs.Lines.{spells_of_tail, stop_in_tag, stop_of_line}

@@ -43,7 +43,7 @@ returns-in_ok-rest-in-Bare-clause-ok c = λ query same.
     subst (λ (w : StepWord). LeadsTo (opened query w) c.args.bytes.now (after_word w query c.bare_step.result) rest) (sym c.in-Bare.is) read
 
 pub returns-in_ok-rest-in-Bare-clause-few : goal.returns-in_ok-rest-in-Bare-clause-few
-returns-in_ok-rest-in-Bare-clause-few c = one_more c.args.stage.steps c.args.word c.bare_step.result (ap (λ (s : Step). step_count s) c.bare_step.ensures ∙ one_bare c.in-Bare.bare) c.requires
+returns-in_ok-rest-in-Bare-clause-few c = one_more c.args.stage.steps c.args.word c.bare_step.result (ap (λ (s : Step). step_count s) c.bare_step.ensures ∙ one_bare c.in-Bare.bare) c.requires.few
 
 pub returns-in_ok-names-in-Names-clause-ok : goal.returns-in_ok-names-in-Names-clause-ok
 returns-in_ok-names-in-Names-clause-ok c = λ query same.
@@ -52,7 +52,7 @@ returns-in_ok-names-in-Names-clause-ok c = λ query same.
     subst (λ (w : StepWord). LeadsTo (opened query w) c.args.bytes.now (after_word w query c.names_step.result) rest) (sym c.in-Names.is) read
 
 pub returns-in_ok-names-in-Names-clause-few : goal.returns-in_ok-names-in-Names-clause-few
-returns-in_ok-names-in-Names-clause-few c = one_more c.args.stage.steps c.args.word c.names_step.result (ap (λ (s : Step). step_count s) c.names_step.ensures ∙ one_with_names c.in-Names.step c.in_ok-names-in-Names.names) c.requires
+returns-in_ok-names-in-Names-clause-few c = one_more c.args.stage.steps c.args.word c.names_step.result (ap (λ (s : Step). step_count s) c.names_step.ensures ∙ one_with_names c.in-Names.step c.in_ok-names-in-Names.names) c.requires.few
 
 pub returns-in_ok-step-in-Body-clause-ok : goal.returns-in_ok-step-in-Body-clause-ok
 returns-in_ok-step-in-Body-clause-ok c = λ query same.
@@ -61,7 +61,7 @@ returns-in_ok-step-in-Body-clause-ok c = λ query same.
     subst (λ (w : StepWord). LeadsTo (opened query w) c.args.bytes.now (after_word w query c.step_of.result) rest) (sym c.in-Body.is) read
 
 pub returns-in_ok-step-in-Body-clause-few : goal.returns-in_ok-step-in-Body-clause-few
-returns-in_ok-step-in-Body-clause-few c = one_more c.args.stage.steps c.args.word c.step_of.result (ap (λ (s : Step). step_count s) c.step_of.ensures ∙ one_of_body c.in_ok-step-in-Body.step) c.requires
+returns-in_ok-step-in-Body-clause-few c = one_more c.args.stage.steps c.args.word c.step_of.result (ap (λ (s : Step). step_count s) c.step_of.ensures ∙ one_of_body c.in_ok-step-in-Body.step) c.requires.few
 
 pub returns-in_ok-step-in-Repeat-clause-ok : goal.returns-in_ok-step-in-Repeat-clause-ok
 returns-in_ok-step-in-Repeat-clause-ok c = λ query same.
@@ -84,7 +84,7 @@ returns-in_err-key-in-By-clause-err c =
     rw (p.1, p.2) (λ query same. subst (λ (w : StepWord). StopsFrom (opened query w) c.args.bytes.now c.in_err-key-in-By.field-0.0) (sym c.in-By.is) (c.in_err-key-in-By.ensures.err query))
 
 pub returns-in_ok-rest-in-Order-clause-few : goal.returns-in_ok-rest-in-Order-clause-few
-returns-in_ok-rest-in-Order-clause-few c = one_more c.args.stage.steps c.args.word c.plain_order.result (ap (λ (s : Step). step_count s) c.plain_order.ensures) c.requires
+returns-in_ok-rest-in-Order-clause-few c = one_more c.args.stage.steps c.args.word c.plain_order.result (ap (λ (s : Step). step_count s) c.plain_order.ensures) c.requires.few
 
 pub returns-in_ok-step-in-Repeat-clause-few : goal.returns-in_ok-step-in-Repeat-clause-few
 returns-in_ok-step-in-Repeat-clause-few c = repeat_few c.args.stage.steps c.args.word c.in_ok-step-in-Repeat.step c.in-Repeat.is c.in_ok-step-in-Repeat.ensures.few

@@ -1,4 +1,5 @@
 use Rattle.std.proofs.lemmas.Result.{err_from_is_err_and}
+use Rattle.gremlin_parse.specs.Queries.{words_after}
 use Rattle.gremlin_parse.proofs.QueryReads.{stop_at_dot, stop_at_step_name, stop_at_opening, opening_read, opening_shorter, by_is_ordered}
 use Rattle.gremlin_parse.proofs.RepeatReads.{early_step}
 use Rattle.gremlin_parse.proofs.step.read_opening.Goals as goal
@@ -22,7 +23,7 @@ pub returns-clause-ok : goal.returns-clause-ok
 returns-clause-ok c = opening_read c.args.stage c.args.is_ordered c.args.bytes.now c.in_ok-at_name.at_name.now c.in_ok-word.after_name.now c.skip_blanks-at_open.result.now c.in_ok-rest.rest.now c.in_ok-word.word c.in_ok-at_name.ensures.ok c.in_ok-word.ensures.no_fault c.in_ok-word.ensures.ok c.skip_blanks-at_open.ensures c.in_ok-rest.ensures.ok
 
 pub returns-clause-less : goal.returns-clause-less
-returns-clause-less c = opening_shorter c.args.is_ordered c.args.bytes.now c.in_ok-at_name.at_name.now c.in_ok-word.after_name.now c.skip_blanks-at_open.result.now c.in_ok-rest.rest.now c.in_ok-word.word c.in_ok-at_name.ensures.ok c.in_ok-word.ensures.ok c.skip_blanks-at_open.ensures c.in_ok-rest.ensures.ok
+returns-clause-less c = opening_shorter (words_after c.args.is_ordered) c.args.bytes.now c.in_ok-at_name.at_name.now c.in_ok-word.after_name.now c.skip_blanks-at_open.result.now c.in_ok-rest.rest.now c.in_ok-word.word c.in_ok-at_name.ensures.ok c.in_ok-word.ensures.ok c.skip_blanks-at_open.ensures c.in_ok-rest.ensures.ok
 
 pub returns-clause-by : goal.returns-clause-by
 returns-clause-by c = by_is_ordered c.args.is_ordered c.in_ok-at_name.at_name.now c.in_ok-word.after_name.now c.in_ok-word.word c.in_ok-word.ensures.ok

@@ -1,0 +1,5 @@
+use Rattle.gremlin_parse.proofs.MutationReads.{property_in_time}
+use Rattle.gremlin_parse.proofs.mutation.read_property_word.Goals as goal
+
+pub returns-clause-no_fault : goal.returns-clause-no_fault
+returns-clause-no_fault c = property_in_time c.args.before c.args.bytes.now c.in_ok-word.rest.now c.in_ok-word.word c.in_default.ensures.none c.in_ok-word.ensures.ok
