@@ -1,3 +1,4 @@
+pub mod AllItems
 pub mod Asked
 pub mod Begins
 pub mod HeldRows

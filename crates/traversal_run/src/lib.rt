@@ -13,6 +13,7 @@ mod feeding;
 mod finding;
 mod hopping;
 mod id_set;
+mod items;
 mod kept;
 mod key_values;
 mod lookups;
@@ -30,4 +31,5 @@ mod stop;
 mod text_set;
 mod waiting;
 
+pub use items::items_of;
 pub use run::{Next, Run};

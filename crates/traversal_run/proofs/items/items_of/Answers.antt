@@ -1,0 +1,21 @@
+use Rattle.std.proofs.Common.{List, sym, subst}
+use Rattle.plain_graph.specs.declared.item.Item.{Item}
+use Rattle.traversal_run.proofs.AllItems.{IsTaking, taking-first, taking-on}
+use Rattle.traversal_run.proofs.items.items_of.Goals as goal
+
+pub loop-init : goal.loop-init
+loop-init g c =
+    let names = c.args.names.now.names in
+    let query = c.args.query.now in
+    let space = c.args.space.now in
+    subst (λ (found : List Item). IsTaking g.R.Reads names query space space found c.in-Ok.run') (sym c.new-items.ensures.items)
+    (taking-first g.R.Reads names query g.met.R.Reads.stays_onward space c.in-Ok.run' c.in-Ok.ensures.begins c.in-Ok.ensures.stopped)
+
+pub loop-preserved : goal.loop-preserved
+loop-preserved g c =
+    let names = c.args.names.now.names in
+    let query = c.args.query.now in
+    let found = c.loop.items.items in
+    let next = c.in-Item.ensures in
+    subst (λ (list : List Item). IsTaking g.R.Reads names query c.args.space.now c.next.new.space list c.next.new.self) (sym c.in_ok-push-in-Item.ensures.items)
+    (taking-on g.R.Reads names query g.met.R.Reads.further_onward c.args.space.now c.loop.space found c.loop.run c.loop.invariant c.next.new.space c.next.ensures.read c.next.new.self c.in-Item.item next.item next.shown next.stops)
