@@ -26,7 +26,7 @@ use Rattle.chain_edit.specs.Links.{IsLinkDamage, backed, next_set, number_set, p
 use Rattle.chain_edit.specs.Links.IsLinkDamage.{LeadsNowhere, HighMark}
 use Rattle.chain_edit.specs.Unlinking.{alone, led, unlinked}
 use Rattle.chain_edit.proofs.Broken.{next_breaks, prev_breaks}
-use Rattle.chain_edit.proofs.ChainSteps.{on_test}
+use Rattle.store_rules.proofs.ChainSteps.{on_test}
 use Rattle.chain_edit.proofs.LinkLaws.{field-set_other, rel_rec, set_at}
 use Rattle.prop_store.specs.Touching.{LeavesElement}
 use Rattle.group_store.specs.Counting.{one_less, tallied}

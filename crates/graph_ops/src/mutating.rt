@@ -1,6 +1,7 @@
 ghost use Rattle.std.specs.Prelude.{◌≡◌, ◌++◌, ◌+◌, ◌<◌, ◌≤◌, [], ◌∷◌, ℕ, List, min, IfErr, IfOk};
 ghost use Rattle.std.specs.Prelude.{OnOk};
-ghost use Rattle.plain_graph.specs.Forms.{ArePairs, HasMutationForm};
+ghost use Rattle.std.specs.List.{AllByRecursion};
+ghost use Rattle.plain_graph.specs.Forms.{ArePairs, HasMutationForm, IsShown};
 ghost use Rattle.plain_graph.specs.Names.{IsShortName};
 ghost use Rattle.plain_graph.specs.declared.command.Command.TheVariants as commands;
 ghost use Rattle.store_rules.specs.Writes.{WritesAtMost};
@@ -50,6 +51,9 @@ pub fn mutate<S: Space>(
     ensures refused { S.tells → IsStore (S.state space.old) names.old.names
         → IfErr result (IsListRefusal (S.state space.old).shape.limit
         (graph_in (S.state space.old)) (changes_of mutation.now items.items)) }
+    // What it shows has a line where the results have.
+    ensures shown { AllByRecursion IsShown items.items
+        → IfOk result (λ mutated. AllByRecursion IsShown mutated.items.items) }
     ensures few { IfOk result (λ mutated. mutated.weight ≤ 4096) }
     ensures writes { IfOk result (λ mutated. mutated.weight < 4096
         → WritesAtMost mutated.weight (S.state space.old) (S.state space.new)) }
@@ -122,6 +126,8 @@ fn told_weight(weight: u32) -> u32
 /// Adds an element to those that are shown.
 fn show(shown: &mut Vec<Item>, item: Item) -> Result<(), ChangeFault>
     ensures shown { OnOk result (shown.new.items ≡ shown.old.items ++ item ∷ []) }
+    ensures lines { AllByRecursion IsShown shown.old.items → IsShown item
+        → OnOk result (AllByRecursion IsShown shown.new.items) }
     ensures memory { IfErr result (λ fault. fault ≡ ChangeFault.Memory) }
 {
     match shown.push(item) {
@@ -296,6 +302,8 @@ fn add_vertex<S: Space>(
         (λ replies. shown.new.items ≡ shown.old.items
         ++ new_elements (commands.Node label.now pairs.now ∷ []) replies)
         weight (S.state space.old) (S.state space.new) names.old.names names.new.names) }
+    ensures lines { AllByRecursion IsShown shown.old.items
+        → OnOk result (AllByRecursion IsShown shown.new.items) }
     ensures refused { S.tells → IsStore (S.state space.old) names.old.names
         → IfErr result (IsRefusal (S.state space.old).shape.limit
         (graph_in (S.state space.old)) (commands.Node label.now pairs.now)) }
@@ -326,6 +334,8 @@ fn add_edges<S: Space>(
         (λ replies. shown.new.items ≡ shown.old.items
         ++ new_elements (changes_of (mutations.AddE label.now to pairs.now) items.now) replies)
         weight (S.state space.old) (S.state space.new) names.old.names names.new.names) }
+    ensures lines { AllByRecursion IsShown shown.old.items
+        → OnOk result (AllByRecursion IsShown shown.new.items) }
     ensures refused { S.tells → IsStore (S.state space.old) names.old.names
         → IfErr result (IsListRefusal (S.state space.old).shape.limit
         (graph_in (S.state space.old))
@@ -362,6 +372,8 @@ fn add_edge_from<S: Space>(
         ++ new_elements (changes_of (mutations.AddE label.now to pairs.now) (item.now ∷ []))
         replies)
         weight (S.state space.old) (S.state space.new) names.old.names names.new.names) }
+    ensures lines { AllByRecursion IsShown shown.old.items
+        → OnOk result (AllByRecursion IsShown shown.new.items) }
     ensures refused { S.tells → IsStore (S.state space.old) names.old.names
         → IfErr result (IsListRefusal (S.state space.old).shape.limit
         (graph_in (S.state space.old))
@@ -394,6 +406,8 @@ fn add_one_edge<S: Space>(
         (λ replies. shown.new.items ≡ shown.old.items
         ++ new_elements (commands.Edge from label.now to pairs.now ∷ []) replies)
         weight (S.state space.old) (S.state space.new) names.old.names names.new.names) }
+    ensures lines { AllByRecursion IsShown shown.old.items
+        → OnOk result (AllByRecursion IsShown shown.new.items) }
     ensures refused { S.tells → IsStore (S.state space.old) names.old.names
         → IfErr result (IsRefusal (S.state space.old).shape.limit
         (graph_in (S.state space.old)) (commands.Edge from label.now to pairs.now)) }

@@ -1,5 +1,6 @@
 use crate::call::Call;
 use crate::fault::RowFault;
+use crate::mutations;
 use crate::names::name_in;
 use crate::properties::value_in;
 use crate::spelling::spell;
@@ -18,12 +19,13 @@ pub(crate) fn answer(
 ) -> Result<String, RowFault> {
     match (call.verb, call.count()) {
         (b"add_node", 0) => node(alloc, space, names, call),
+        (b"add_nodes", 1) => nodes(alloc, space, names, call),
         (b"add_edge", 2) => edge(alloc, space, names, call),
         (b"delete_node", 1) => spell(alloc, &delete_node(space, names, call.at(0))),
         (b"delete_edge", 1) => spell(alloc, &delete_edge(space, names, call.at(0))),
         (b"set", 2) => set_one(alloc, space, names, call),
         (b"unset", 2) => unset_one(alloc, space, names, call),
-        _ => Err(RowFault::Malformed),
+        _ => mutations::answer(alloc, space, names, call),
     }
 }
 
@@ -37,6 +39,23 @@ fn node(
     let label = Text::new(Vec::from_slice(alloc, name_in(call)?)?);
     let no_pairs = Pairs::new(Vec::new(alloc));
     spell(alloc, &add_node(space, names, &label, &no_pairs))
+}
+
+/// Adds so many nodes without properties. Their number is answered.
+fn nodes(
+    alloc: Global,
+    space: &mut MapSpace,
+    names: &mut Names,
+    call: &Call,
+) -> Result<String, RowFault> {
+    for _ in 0..call.at(0) {
+        let label = Text::new(Vec::from_slice(alloc, name_in(call)?)?);
+        let no_pairs = Pairs::new(Vec::new(alloc));
+        if add_node(space, names, &label, &no_pairs).is_err() {
+            return Err(RowFault::Malformed);
+        }
+    }
+    spell(alloc, &call.at(0))
 }
 
 /// Adds an edge without properties from one node to another.

@@ -14,7 +14,7 @@ use Rattle.graph_ops.proofs.mutating.add_edges.Goals as goal
 
 pub returns-in_err-more-clause-refused : goal.returns-in_err-more-clause-refused
 returns-in_err-more-clause-refused g c told store =
-    let inv = c.loop-item.invariant in
+    let inv = c.loop-item.invariant.making in
     let label = c.args.label.now in
     let pairs = c.args.pairs.now in
     let item = c.item-item.result in
@@ -23,7 +23,7 @@ returns-in_err-more-clause-refused g c told store =
 
 pub loop-item-preserved : goal.loop-item-preserved
 loop-item-preserved g c =
-    let inv = c.loop-item.invariant in
+    let inv = c.loop-item.invariant.making in
     let label = c.args.label.now in
     let pairs = c.args.pairs.now in
     let item = c.item-item.result in
@@ -34,13 +34,16 @@ loop-item-preserved g c =
     let results = c.args.items.now in
     let i = c.loop-item.item-index in
     let start = c.args.shown.now.items in
-    making_more of spread results i item item c.loop-item-test.true c.item-item.is c.loop-item.weight c.in_ok-more.more c.in_ok-both.both s t (g.S.Reads.state c.add_edge_from.new.space) c.args.names.now.names c.loop-item.names.names c.add_edge_from.new.names.names (g.S.Reads.faults c.args.space.now)
-    (g.S.Reads.faults c.loop-item.space) (g.S.Reads.faults c.add_edge_from.new.space) c.in_ok-both.ensures.sum c.in_ok-both.ensures.few inv c.in_ok-more.ensures.part c.add_edge_from.ensures.prefix (g.met.S.Reads.onward_shape _ _ c.add_edge_from.ensures.onward)
-    (g.met.S.Reads.further_onward c.args.space.now c.loop-item.space c.add_edge_from.new.space inv.onward_is c.add_edge_from.ensures.onward) c.add_edge_from.ensures.cause.later
-    (λ rs ts total a each b.
-    b ∙ ap (λ (l : List Item). l ++ new_elements (of (item ∷ [])) ts) a ∙ append_assoc start (new_elements (of (take i results)) rs) (new_elements (of (item ∷ [])) ts)
-    ∙ ap (λ (l : List Item). start ++ l)
-    (sym (elements_then s.shape.limit s.shape.threshold (graph_in s) (graph_in t) (of (take i results)) (of (item ∷ [])) rs ts total each) ∙ ap (λ (cs : List Command). new_elements cs (rs ++ ts)) (sym (up_to of spread results i item item c.loop-item-test.true c.item-item.is))))
+    record {
+      making = making_more of spread results i item item c.loop-item-test.true c.item-item.is c.loop-item.weight c.in_ok-more.more c.in_ok-both.both s t (g.S.Reads.state c.add_edge_from.new.space) c.args.names.now.names c.loop-item.names.names c.add_edge_from.new.names.names (g.S.Reads.faults c.args.space.now)
+          (g.S.Reads.faults c.loop-item.space) (g.S.Reads.faults c.add_edge_from.new.space) c.in_ok-both.ensures.sum c.in_ok-both.ensures.few inv c.in_ok-more.ensures.part c.add_edge_from.ensures.prefix (g.met.S.Reads.onward_shape _ _ c.add_edge_from.ensures.onward)
+          (g.met.S.Reads.further_onward c.args.space.now c.loop-item.space c.add_edge_from.new.space inv.onward_is c.add_edge_from.ensures.onward) c.add_edge_from.ensures.cause.later
+          (λ rs ts total a each b.
+          b ∙ ap (λ (l : List Item). l ++ new_elements (of (item ∷ [])) ts) a ∙ append_assoc start (new_elements (of (take i results)) rs) (new_elements (of (item ∷ [])) ts)
+          ∙ ap (λ (l : List Item). start ++ l)
+          (sym (elements_then s.shape.limit s.shape.threshold (graph_in s) (graph_in t) (of (take i results)) (of (item ∷ [])) rs ts total each) ∙ ap (λ (cs : List Command). new_elements cs (rs ++ ts)) (sym (up_to of spread results i item item c.loop-item-test.true c.item-item.is))));
+      lines = λ shown. c.in_ok-more.ensures.lines (c.loop-item.invariant.lines shown);
+    }
 
 pub returns-clause-part : goal.returns-clause-part
 returns-clause-part g c =
@@ -48,4 +51,4 @@ returns-clause-part g c =
     subst
     (λ (results : List Item). MakesPart g.S.Reads.tells (changes_of mutation results) (λ (replies : List Reply). c.loop-item.shown.items ≡ c.args.shown.now.items ++ new_elements (changes_of mutation results) replies) c.loop-item.weight (g.S.Reads.state c.args.space.now) (g.S.Reads.state c.loop-item.space)
     c.args.names.now.names c.loop-item.names.names)
-    (take_all c.loop-item.item-index c.args.items.now c.loop-item-test.false) c.loop-item.invariant.part
+    (take_all c.loop-item.item-index c.args.items.now c.loop-item-test.false) c.loop-item.invariant.making.part
