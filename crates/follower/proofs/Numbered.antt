@@ -1,119 +1,29 @@
 -- A follower's records are a well-formed store with the sender's graph, as the sender's are.
-use Rattle.std.proofs.Common.{◌≡◌, ◌≢◌, ◌∙◌, ap, sym, subst, inl, inr, ⊎_elim, ℕ, zero, suc, ◌+◌, ◌<◌, ◌≤◌, Bool, true, false, cond, List, [], ◌∷◌, Option, None, Some, length, refl, arith}
+use Rattle.std.proofs.Common.{◌≡◌, ◌≢◌, ◌∙◌, ap, sym, subst, inl, inr, ℕ, zero, suc, ◌+◌, ◌<◌, ◌≤◌, Bool, true, false, cond, List, [], ◌∷◌, Option, None, Some, length, refl, arith}
 use mathlib.Core.Bool.{false≢true}
-use Rattle.std.specs.List.{list_all, slice_get}
+use Rattle.std.specs.List.{slice_get}
 use Rattle.rec_bytes.specs.declared.key.Key.{Key}
 use Rattle.rec_bytes.specs.declared.record.Rec.{Rec}
 use Rattle.rec_bytes.specs.declared.shape.Shape.{Shape}
-use Rattle.rec_bytes.specs.Format.{meta_file, taken_id, taken_rest}
-use Rattle.rec_bytes.specs.Meta.{IsMetaInRange, meta_of}
+use Rattle.rec_bytes.specs.Format.{taken_rest}
 use Rattle.rec_bytes.specs.Pairs.{Pairs, find_pair}
-use Rattle.rec_bytes.specs.Record.{as_64, field, with_bytes, with_field, zeros, zeros_from}
-use Rattle.rec_bytes.specs.RecordFiles.{is_meta_file, meta_key_of}
-use Rattle.rec_bytes.specs.Shape.{shape_of_record, version_of}
-use Rattle.rec_bytes.specs.Space.{blank_records, put}
+use Rattle.rec_bytes.specs.Record.{as_64, with_bytes, with_field, zeros, zeros_from}
+use Rattle.rec_bytes.specs.Space.{blank_records}
 use Rattle.rec_bytes.proofs.KeyLaws.{key_eq-other}
-use Rattle.rec_bytes.proofs.RecordFiles.{is_meta_file-not_meta, is_meta_file-not_taken}
-use Rattle.rec_bytes.proofs.Spaces.{laid_over-other, put_other, put_other_file, put_same}
-use Rattle.store_rules.specs.Graph.{graph_of}
-use Rattle.store_rules.specs.Ranges.{AreFormed, Fits, is_indexed, is_reused}
-use Rattle.store_rules.specs.RuleList.{AreSame, IsSameFile, IsSplitFile, KeepsAll, Slack, reads}
-use Rattle.store_rules.specs.RuleList.Rule.{Counts, Degrees, Grouped, Labels, Linked, Names, Properties, Ranges, Split, Unindexed}
+use Rattle.rec_bytes.proofs.Spaces.{laid_over-other}
 use Rattle.store_rules.specs.Rules.{IsWellFormed}
-use Rattle.store_rules.specs.Views.{Records, high, rec_at}
 use Rattle.store_rules.proofs.NewStores.{new_store_empty}
-use Rattle.store_rules.proofs.NumberLaws.{and_parts, nat_cases}
-use Rattle.store_rules.proofs.RuleStays.{all_of, by_name, stays}
-use Rattle.store_rules.proofs.ViewLaws.{fits_more}
+use Rattle.store_rules.proofs.NumberedStores.{graph-numbered, well_numbered}
 use Rattle.follower.specs.Sent.{HoldsSent, IsSent, StandsFor, sent_graph}
-use Rattle.follower.specs.Shipment.{Ascend, is_shipped, taken_key, writes_of}
+use Rattle.txn_core.specs.Shipped.{is_shipped, taken_key}
+use Rattle.follower.specs.Shipment.{Ascend, writes_of}
 use Rattle.follower.specs.Taken.{follower_records, number_record, sender_records}
 use Rattle.follower.proofs.Taking.{sender_records-more}
-
--- ---- records with a number
-
--- the number that no transaction has given
-blank_high : field 4 zeros 0 ≡ 0
-unfolding field
-blank_high = refl
 
 -- zeros stand behind a number
 number_rest : (number : ℕ) → zeros_from taken_rest (number_record number) ≡ true
 unfolding zeros_from with_field with_bytes as_64
 number_rest number = refl
-
-module _ (records : Records) (number : Rec) where
-  abbrev numbered : Records
-  numbered = put records taken_key number
-
-  -- each file of records is the same, with its meta record
-  meta_kept : (file : ℕ) → file ≢ taken_id → numbered (meta_key_of file) ≡ records (meta_key_of file)
-  meta_kept file other = put_other records taken_key number (meta_key_of file) (λ e. other (ap (λ (key : Key). key.id) e))
-
-  same_file : (file : ℕ) → is_meta_file file ≡ true → IsSameFile records numbered file
-  same_file file is = record {
-    records = λ i x. put_other_file records taken_key number (record { file = file; id = x }) (is_meta_file-not_meta file is) i;
-    meta = meta_kept file (is_meta_file-not_taken file is);
-  }
-
-  all_same : (files : List ℕ) → list_all is_meta_file files ≡ true → AreSame records numbered files
-  all_same [] are = tt
-  all_same (file ∷ files) are = let both = and_parts (is_meta_file file) (list_all is_meta_file files) are in (same_file file both.0, all_same files both.1)
-
-  -- no mark is smaller where there was no number
-  marks : records taken_key ≡ zeros → (file : ℕ) → high records file ≤ high numbered file
-  marks blank file = ⊎_elim
-      (λ (same : file ≡ taken_id).
-      let none : high records taken_id ≡ 0 = ap (λ (r : Rec). (meta_of r).high) blank ∙ blank_high in
-      subst (λ (f : ℕ). high records f ≤ high numbered f) (sym same) (omega (arith, none)))
-      (λ (other : file ≢ taken_id). let same : high numbered file ≡ high records file = ap (λ (r : Rec). (meta_of r).high) (meta_kept file other) in omega (arith, same))
-      (nat_cases file taken_id)
-
-  not_taken : meta_file ≢ taken_id
-  not_taken e = omega (arith, e)
-
-  formed : (shape : Shape) → records taken_key ≡ zeros → zeros_from taken_rest number ≡ true → AreFormed records shape → AreFormed numbered shape
-  formed shape blank rest are = record {
-    own = ap shape_of_record (meta_kept meta_file not_taken) ∙ are.own;
-    newest = ap version_of (meta_kept meta_file not_taken) ∙ are.newest;
-    taken = ap (zeros_from taken_rest) (put_same records taken_key number) ∙ rest;
-    metas = λ file is. subst (IsMetaInRange shape file) (sym (meta_kept file (is_meta_file-not_taken file is))) (are.metas file is);
-    fit = λ file x is low used.
-        let same = same_file file is in
-        let here : rec_at numbered file x ≡ rec_at records file x = ap (λ (recs : ℕ → Rec). recs x) same.records in
-        subst (Fits (high numbered) file) (sym here)
-        (fits_more (high records) (high numbered) file (rec_at records file x) (marks blank)
-        (are.fit file x is (subst (λ (r : Rec). x < (meta_of r).high) same.meta low) (subst (λ (r : Rec). is_indexed file r ≡ false) here used)));
-  }
-
-  reused_meta : (file : ℕ) → is_reused file ≡ true → is_meta_file file ≡ true
-  reused_meta file is = (and_parts (is_meta_file file) _ is).0
-
-  split_stays : (file : ℕ) (shape : Shape) (slack : Slack) → IsSplitFile records file → IsSplitFile numbered file
-  split_stays file shape slack has = record {
-    split = λ is. (stays records numbered (Split file) shape slack refl (same_file file (reused_meta file is), tt) has).split is;
-    kept = λ is not. (stays records numbered (Split file) shape slack refl (same_file file is, tt) has).kept is not;
-  }
-
-  rules_stay : (shape : Shape) (slack : Slack) → records taken_key ≡ zeros → zeros_from taken_rest number ≡ true → KeepsAll records shape slack → KeepsAll numbered shape slack
-  rules_stay shape slack blank rest all Ranges = formed shape blank rest (all Ranges)
-  rules_stay shape slack blank rest all (Split file) = split_stays file shape slack (all (Split file))
-  rules_stay shape slack blank rest all Linked = stays records numbered Linked shape slack refl (all_same (reads Linked) refl) (all Linked)
-  rules_stay shape slack blank rest all Grouped = stays records numbered Grouped shape slack refl (all_same (reads Grouped) refl) (all Grouped)
-  rules_stay shape slack blank rest all Counts = stays records numbered Counts shape slack refl (all_same (reads Counts) refl) (all Counts)
-  rules_stay shape slack blank rest all Properties = stays records numbered Properties shape slack refl (all_same (reads Properties) refl) (all Properties)
-  rules_stay shape slack blank rest all Labels = stays records numbered Labels shape slack refl (all_same (reads Labels) refl) (all Labels)
-  rules_stay shape slack blank rest all Names = stays records numbered Names shape slack refl (all_same (reads Names) refl) (all Names)
-  rules_stay shape slack blank rest all Degrees = stays records numbered Degrees shape slack refl (all_same (reads Degrees) refl) (all Degrees)
-  rules_stay shape slack blank rest all Unindexed = stays records numbered Unindexed shape slack refl (all_same (reads Unindexed) refl) (all Unindexed)
-
-  well_numbered : (shape : Shape) → records taken_key ≡ zeros → zeros_from taken_rest number ≡ true → IsWellFormed records shape → IsWellFormed numbered shape
-  well_numbered shape blank rest well =
-      let slack : Slack = record { most = shape.threshold; empty = [] } in
-      all_of numbered shape slack (rules_stay shape slack blank rest (by_name records shape shape.threshold [] well))
-
-  graph-numbered : graph_of numbered ≡ graph_of records
-  graph-numbered = refl
 
 -- ---- the sender's store has no number
 

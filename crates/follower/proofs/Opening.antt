@@ -17,7 +17,7 @@ use Rattle.txn_core.specs.Store.{committed, drafted}
 use Rattle.txn_core.specs.declared.config.Config.{Config}
 use Rattle.txn_core.specs.declared.store.Store.{Store}
 use Rattle.txn_core.specs.declared.open_fault.OpenFault.TheVariants as opening
-use Rattle.follower.specs.Shipment.{taken_key}
+use Rattle.txn_core.specs.Shipped.{taken_key}
 use Rattle.follower.specs.Follower.{IsOpened, IsUnopened, LeavesByOpening}
 use Rattle.follower.specs.Taken.{number_in}
 use Rattle.txn_core.proofs.Finding.{opens-recoverable}

@@ -14,7 +14,8 @@ use Rattle.rec_bytes.specs.Shape.{is_allowed}
 use Rattle.rec_bytes.specs.Space.{laid_over, put}
 use Rattle.rec_bytes.proofs.KeyLaws.{key_eq_true}
 use Rattle.rec_bytes.proofs.PairLaws.{below_all, below_out}
-use Rattle.follower.specs.Shipment.{Ascend, IsShipment, count_of, is_shipped, number_of, taken_key, write_in, writes_in, writes_of}
+use Rattle.txn_core.specs.Shipped.{is_shipped, taken_key}
+use Rattle.follower.specs.Shipment.{Ascend, IsShipment, count_of, number_of, write_in, writes_in, writes_of}
 use Rattle.follower.specs.Taken.{number_record, taken}
 use Rattle.follower.proofs.Reading.{length-writes_in}
 use Rattle.follower.proofs.Slots.{shipped_key}

@@ -12,7 +12,8 @@ use Rattle.rec_bytes.specs.Shape.{is_allowed}
 use Rattle.rec_bytes.proofs.RecordFiles.{IsKey-room_of, room_of-most}
 use Rattle.redo_log.specs.Reading.{IsAbove}
 use Rattle.follower.specs.declared.slot.Slot.{Slot}
-use Rattle.follower.specs.Shipment.{is_kept_back, is_shipped, key_at}
+use Rattle.txn_core.specs.Shipped.{is_kept_back, is_shipped}
+use Rattle.follower.specs.Shipment.{key_at}
 use Rattle.follower.specs.Slot.{
   BeginsIn,
   BeginsKey,

@@ -14,7 +14,8 @@ use Rattle.rec_bytes.specs.Record.{as_64, field, with_bytes, with_field, zeros}
 use Rattle.rec_bytes.specs.Space.{laid_over, put}
 use Rattle.rec_bytes.proofs.Numbers.{field-with_field_same}
 use Rattle.rec_bytes.proofs.Spaces.{put_held, put_same}
-use Rattle.follower.specs.Shipment.{number_of, taken_key, writes_of}
+use Rattle.txn_core.specs.Shipped.{taken_key}
+use Rattle.follower.specs.Shipment.{number_of, writes_of}
 use Rattle.follower.specs.Taken.{follower_records, laid_all, number_in, number_record, sender_records, taken}
 
 -- one shipment more

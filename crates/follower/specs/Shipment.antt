@@ -10,12 +10,7 @@ use Rattle.std.specs.Prelude.{
   ◌*◌,
   ◌≤◌,
   ◌<◌,
-  Bool,
   true,
-  not,
-  nat_lt,
-  ◌&&◌,
-  ◌||◌,
   List,
   [],
   ◌∷◌,
@@ -33,12 +28,9 @@ use Rattle.byteorder.specs.Endian.{little_from}
 use Rattle.rec_bytes.specs.declared.key.Key.{Key}
 use Rattle.rec_bytes.specs.declared.record.Rec.{Rec}
 use Rattle.rec_bytes.specs.declared.shape.Shape.{Shape}
-use Rattle.rec_bytes.specs.Creation.{own_key}
-use Rattle.rec_bytes.specs.Format.{taken_id}
-use Rattle.rec_bytes.specs.Key.{key_eq}
 use Rattle.rec_bytes.specs.Pairs.{Pairs}
-use Rattle.rec_bytes.specs.RecordFiles.{meta_key_of, room_of}
 use Rattle.redo_log.specs.Reading.{IsAbove}
+use Rattle.txn_core.specs.Shipped.{is_shipped}
 
 -- how many records a shipment may have
 abbrev pub most_shipped : ℕ
@@ -51,10 +43,6 @@ head_bytes = 10
 -- a record with its file and its number in the file
 abbrev pub shipped_bytes : ℕ
 shipped_bytes = 69
-
--- the key of the record that has the number of the last shipment that was applied
-abbrev pub taken_key : Key
-taken_key = meta_key_of taken_id
 
 -- the number of a shipment
 abbrev pub number_of : List ℕ → ℕ
@@ -85,15 +73,6 @@ writes_of bytes = writes_in bytes head_bytes (count_of bytes)
 -- how many bytes a shipment of so many records has
 abbrev pub shipment_length : ℕ → ℕ
 shipment_length count = head_bytes + shipped_bytes * count
-
--- the store's own record, or the one with the number
-abbrev pub is_kept_back : Key → Bool
-is_kept_back key = key_eq key own_key || key_eq key taken_key
-
--- a shipment may have the record: its file has room for it in a store of this shape, and it isn't
--- kept back
-abbrev pub is_shipped : Shape → Key → Bool
-is_shipped shape key = nat_lt key.id (room_of shape key.file) && not (is_kept_back key)
 
 -- a shipment may have the record after that of the last key, where there is one
 pub record IsNext (shape : Shape) (last : Option Key) (key : Key) : Type 0 where

@@ -27,7 +27,8 @@ use Rattle.rec_bytes.specs.declared.shape.Shape.{Shape}
 use Rattle.rec_bytes.specs.Format.{index_file, names_file}
 use Rattle.rec_bytes.specs.RecordFiles.{room_of}
 use Rattle.follower.specs.declared.slot.Slot.{Slot}
-use Rattle.follower.specs.Shipment.{IsNext, is_kept_back, shipped_bytes}
+use Rattle.txn_core.specs.Shipped.{is_kept_back}
+use Rattle.follower.specs.Shipment.{IsNext, shipped_bytes}
 
 -- how many keys of this file come after a key
 abbrev pub keys_in_after : Shape → ℕ → Key → ℕ

@@ -8,7 +8,8 @@ use Rattle.rec_bytes.specs.Creation.{new_records}
 use Rattle.rec_bytes.specs.Format.{taken_number}
 use Rattle.rec_bytes.specs.Record.{field, with_field, zeros}
 use Rattle.rec_bytes.specs.Space.{laid_over, put}
-use Rattle.follower.specs.Shipment.{number_of, taken_key, writes_of}
+use Rattle.txn_core.specs.Shipped.{taken_key}
+use Rattle.follower.specs.Shipment.{number_of, writes_of}
 
 -- the record with a follower's number, and zeros behind it
 abbrev pub number_record : ℕ → Rec

@@ -8,11 +8,11 @@ ghost use Rattle.follower.specs.Taken.{number_in};
 
 use crate::Accept;
 use crate::applying::apply_shipment;
-use crate::shipment::{TAKEN_KEY, check_shipment, number_of};
+use crate::shipment::{check_shipment, number_of};
 use disk_model::Disk;
 use rec_bytes::{Reads, Shape, SpaceFault, TAKEN_NUMBER};
 use std::alloc::Global;
-use txn_core::{AgainFault, Config, Health, NotOpened, OpenFault, Store};
+use txn_core::{AgainFault, Config, Health, NotOpened, OpenFault, Store, TAKEN_KEY};
 
 /// How far the number of the next shipment lies above that of the last one.
 const STEP: u64 = 1;

@@ -15,5 +15,4 @@ mod taken;
 pub use accept::Accept;
 pub use follower::Follower;
 pub use running::keeps_to_what_was_sent;
-pub use shipment::TAKEN_KEY;
-pub use shipping::reads_back;
+pub use shipping::{reads_back, write_shipment};

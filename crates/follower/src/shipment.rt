@@ -14,7 +14,7 @@ ghost use Rattle.follower.specs.Slot.{MayStand, StopsInRecord};
 
 use crate::slot::Slot;
 use byteorder::{ByteOrder, LittleEndian};
-use rec_bytes::{Key, META, RECORD_BYTES, Rec, Shape, TAKEN};
+use rec_bytes::{Key, RECORD_BYTES, Rec, Shape};
 
 /// How many records a shipment may have.
 const MOST_SHIPPED: u16 = 2_047;
@@ -30,12 +30,6 @@ const KEY_BYTES: usize = 5;
 
 /// How many of these are its number.
 const ID_BYTES: usize = 4;
-
-/// The key of the record that has the number of the last shipment that was applied.
-pub const TAKEN_KEY: Key = Key {
-    file: META,
-    id: TAKEN,
-};
 
 // The number of a shipment.
 pub(crate) fn number_of(bytes: &[u8]) -> u64

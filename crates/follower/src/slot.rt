@@ -1,7 +1,7 @@
 ghost use Rattle.std.specs.Prelude.{◌≡◌, ◌≤◌, ◌<◌, ◌^◌, ◌↔◌, IsTrue, true};
 ghost use Rattle.rec_bytes.specs.Format.{most_ids};
 ghost use Rattle.rec_bytes.specs.Shape.{is_allowed};
-ghost use Rattle.follower.specs.Shipment.{IsNext, is_kept_back, is_shipped};
+ghost use Rattle.follower.specs.Shipment.{IsNext};
 ghost use Rattle.follower.specs.Slot.{
   BeginsIn,
   IsLeastFrom,
@@ -13,7 +13,8 @@ ghost use Rattle.follower.specs.Slot.{
   keys_in_after,
 };
 
-use rec_bytes::{INDEX, Key, META, NAMES, OWN_KEY, Shape, TAKEN, room_of};
+use rec_bytes::{INDEX, Key, NAMES, Shape, room_of};
+use txn_core::{is_kept_back, is_shipped};
 
 /// The slot of a key in a shipment: the key before it, and how many records come after it.
 #[derive(Drop)]
@@ -55,20 +56,6 @@ fn is_next(shape: Shape, last: Option<Key>, key: Key) -> bool
     ensures { IsTrue result ↔ IsNext shape last key }
 {
     is_shipped(shape, key) && last.is_none_or(|last| last < key)
-}
-
-// Whether a shipment may have the record of this key.
-fn is_shipped(shape: Shape, key: Key) -> bool
-    ensures { result ≡ is_shipped shape key }
-{
-    (key.id as u64) < room_of(key.file, shape) && !is_kept_back(key.file, key.id as u64)
-}
-
-// Whether it is the key of the store's own record, or of the one with the number.
-fn is_kept_back(file: u8, id: u64) -> bool
-    ensures { result ≡ is_kept_back (record { file = file; id = id }) }
-{
-    file == META && (id == OWN_KEY.id as u64 || id == TAKEN as u64)
 }
 
 // How many keys of the names and of the index come after the key.

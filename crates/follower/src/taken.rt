@@ -4,8 +4,9 @@ ghost use Rattle.rec_bytes.specs.Space.{HasCause};
 ghost use Rattle.follower.specs.Shipment.{IsShipment};
 ghost use Rattle.follower.specs.Taken.{number_record, taken};
 
-use crate::shipment::{TAKEN_KEY, count_of, number_of, place_of, write_in};
+use crate::shipment::{count_of, number_of, place_of, write_in};
 use rec_bytes::{Rec, Shape, Space, SpaceFault, TAKEN_NUMBER};
+use txn_core::TAKEN_KEY;
 
 /// Puts the records of a shipment into a space, and its number.
 pub(crate) fn put_shipment<S: Space>(

@@ -73,8 +73,8 @@ fn leaves_each_image_after_the_faults_of_a_plan(rt: HostRuntime) -> Result<(), F
     Ok(())
 }
 
-// What is read after a poke between pending bytes and a later write, and what this loss of power then
-// leaves. Of the calls that are kept, no more has room.
+// What is read after a poke between pending bytes and a later write, and what this loss of power
+// then leaves. Of the calls that are kept, no more has room.
 fn fronts_after_poke(
     rt: &impl Abort,
     alloc: Global,

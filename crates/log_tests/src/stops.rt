@@ -34,7 +34,8 @@ fn changed_records(rt: &impl Abort, alloc: Global) -> Result<WriteSet, AllocErro
     Ok(changed)
 }
 
-/// Whether a recovery finds the store, and each loss of power after it leaves what the entries said.
+/// Whether a recovery finds the store, and each loss of power after it leaves what the entries
+/// said.
 fn recovers(rt: &impl Abort, alloc: Global, disk: &mut QuietDisk) -> Result<bool, Fail> {
     let is_found = recover(disk) == Ok(Found::Made(SHAPE));
     let mut old = left_of(alloc, disk, Crash::Old, None)?;

@@ -4,5 +4,6 @@ pub mod Kept
 pub mod Making
 pub mod Raising
 pub mod Sets
+pub mod Shipped
 pub mod States
 pub mod StoreRecords

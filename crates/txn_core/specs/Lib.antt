@@ -6,6 +6,7 @@ pub mod Kept
 pub mod OnlyReading
 pub mod Opening
 pub mod Outcomes
+pub mod Shipped
 pub mod Sights
 pub mod Store
 pub mod Unique

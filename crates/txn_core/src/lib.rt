@@ -19,6 +19,7 @@ mod opening;
 mod recovering_again;
 mod space;
 mod store;
+mod tapping;
 mod transacting;
 
 pub use again_fault::AgainFault;
@@ -28,3 +29,4 @@ pub use health::Health;
 pub use not_opened::NotOpened;
 pub use open_fault::OpenFault;
 pub use store::Store;
+pub use tapping::{TAKEN_KEY, is_kept_back, is_shipped};
