@@ -156,21 +156,33 @@ module _ {D : Type 0} {g : DiskGhosts D} {line : InputLine} {state : SharedState
       by zero = uses-none only view.session.disk
       by (suc reader) = only_reads_none g view.session.disk only
 
+-- a line is answered with this reply
+abbrev pub AnswersWith : {D K : Type 0} → DiskGhosts D → SinkGhosts K → InputLine → Terminal D K → Terminal D K → Turn → Reply → Type 0
+AnswersWith disk sink line old new turn reply = (answers : AnswersLine disk sink line old new turn) × (answers.reply ≡ reply)
+
 module _ {D K : Type 0} {g : DiskGhosts D} {sink : SinkGhosts K} {line : InputLine} {old new : Terminal D K} {turn : Turn} where
   -- the reply of a settled line was given to the sink
+  pub given-with : (reply : Reply) → Gives sink (marked_text (mark_in line) reply) old.output new.output turn → ¬ IsQuit line → Onward g old.session new.session
+      → (HasNoDraft old.session → MayStepAs g (session_in line) line (shared_in old) reply (shared_in new))
+      → ((known : Bool) (state : SharedState) → IsSharedAt (as_known known g) (shared_in old) state → SettlesLine (as_known known g) line (shared_in old) (shared_in new) state reply) → AnswersWith g sink line old new turn reply
+  given-with reply gives runs onward may settles = (
+    record {
+      reply = reply;
+      text = gives.delivers;
+      quit = (λ e. absurd (gives.goes e), λ h. absurd (runs h));
+      may = may;
+      settles = settles;
+      cause = gives.cause;
+      later = gives.later;
+      onward = onward;
+    },
+    refl,
+  )
+
   pub answers-given : (reply : Reply) → Gives sink (marked_text (mark_in line) reply) old.output new.output turn → ¬ IsQuit line → Onward g old.session new.session
       → (HasNoDraft old.session → MayStepAs g (session_in line) line (shared_in old) reply (shared_in new))
       → ((known : Bool) (state : SharedState) → IsSharedAt (as_known known g) (shared_in old) state → SettlesLine (as_known known g) line (shared_in old) (shared_in new) state reply) → AnswersLine g sink line old new turn
-  answers-given reply gives runs onward may settles = record {
-    reply = reply;
-    text = gives.delivers;
-    quit = (λ e. absurd (gives.goes e), λ h. absurd (runs h));
-    may = may;
-    settles = settles;
-    cause = gives.cause;
-    later = gives.later;
-    onward = onward;
-  }
+  answers-given reply gives runs onward may settles = (given-with reply gives runs onward may settles).0
 
 -- a turn without a fault of the sink delivers nothing
 delivers-nothing : (turn : Turn) (text : List ℕ) → turn ≢ SinkFault → Delivers turn text text []
@@ -194,9 +206,15 @@ module _ {D K : Type 0} {g : DiskGhosts D} (only : OnlyNow g) {sink : SinkGhosts
   }
 
   -- it gets one, and changes nothing
+  pub unchanged-with : {session : SessionView D} {held : Snapshots} {before after : K} {turn : Turn} (reply : Reply) → told_fault reply ≡ 0 → Gives sink (marked_text (mark_in line) reply) before after turn → ¬ IsQuit line
+      → MayStepAs g (session_in line) line (record { session = session; held = held }) reply (record { session = session; held = held })
+      → ((known : Bool) (state : SharedState) → IsSharedAt (as_known known g) (record { session = session; held = held }) state → SharedStep state (exchange line false reply) state)
+      → AnswersWith g sink line (record { session = session; held = held; output = before }) (record { session = session; held = held; output = after }) turn reply
+  unchanged-with reply quiet gives runs may step =
+      given-with {line = line} reply gives runs (onward-none only) (λ none. may) (λ known state at. settles-unchanged {g = as_known known g} only at quiet (step known state at))
+
   pub answers-unchanged : {session : SessionView D} {held : Snapshots} {before after : K} {turn : Turn} (reply : Reply) → told_fault reply ≡ 0 → Gives sink (marked_text (mark_in line) reply) before after turn → ¬ IsQuit line
       → MayStepAs g (session_in line) line (record { session = session; held = held }) reply (record { session = session; held = held })
       → ((known : Bool) (state : SharedState) → IsSharedAt (as_known known g) (record { session = session; held = held }) state → SharedStep state (exchange line false reply) state)
       → AnswersLine g sink line (record { session = session; held = held; output = before }) (record { session = session; held = held; output = after }) turn
-  answers-unchanged reply quiet gives runs may step =
-      answers-given {line = line} reply gives runs (onward-none only) (λ none. may) (λ known state at. settles-unchanged {g = as_known known g} only at quiet (step known state at))
+  answers-unchanged reply quiet gives runs may step = (unchanged-with reply quiet gives runs may step).0

@@ -14,7 +14,7 @@ use Rattle.graph_session.specs.Console.{HasNoDraft, SessionView}
 use Rattle.graph_session.specs.Drafting.{IsStopped}
 use Rattle.graph_session.specs.Effects.{Stays}
 use Rattle.graph_session.specs.MayStep.{HasFailedChange, IsServed, MayAnswer, MayAnswerKind, MayBound, MayChange, MayKeep, MayRead, MayStep, TellsMade}
-use Rattle.graph_session.specs.ReaderAnswers.{MayEnd, MayServeReader, MayStepAs}
+use Rattle.graph_session.specs.ReaderAnswers.{AsksQuestion, MayEnd, MayServeReader, MayStepAs}
 use Rattle.graph_session.specs.Refusals.{SpellsOnly}
 use Rattle.graph_session.specs.SharedExchange.{AsksForSnapshot}
 use Rattle.graph_session.specs.SnapshotEffects.{KeepsBound, KeepsFor, KeepsKind, KeepsOlds, SharedView}
@@ -30,6 +30,7 @@ made-good (commands.Edge from label to pairs) reply tells = subst IsGood (sym te
 made-good (commands.Set target key value) reply tells = subst IsGood (sym tells) tt
 made-good (commands.Unset target key) reply tells = subst IsGood (sym tells) tt
 made-good (commands.Delete target) reply tells = subst IsGood (sym tells) tt
+made-good (commands.Mutate reading mutation) reply tells = subst IsGood (sym tells.1) tt
 made-good _ reply tells = absurd tells
 
 module _ {D : Type 0} (g : Ghosts D) (old : SessionView D) (reply : Reply) (new : SessionView D) where
@@ -66,6 +67,7 @@ module _ {D : Type 0} {g : Ghosts D} {old new : SessionView D} (command : Comman
   may-stopped answers.Done stopped stays fault = absurd stopped
   may-stopped (answers.NodeMade id) stopped stays fault = absurd stopped
   may-stopped (answers.EdgeMade id) stopped stays fault = absurd stopped
+  may-stopped (answers.Results results) stopped stays fault = absurd stopped
   may-stopped (answers.Refused why) stopped stays fault = inr (inl ((why, refl), stays (λ e. cc)))
   may-stopped answers.NoMemory stopped stays fault = inr (inr (inl (refl, stays (λ e. cc))))
   may-stopped answers.DiskFailed stopped stays fault = let failed = fault refl stopped in inr (inr (inr (inr ((refl, failed.0), failed.1))))
@@ -131,29 +133,33 @@ module _ {D : Type 0} (g : Ghosts D) (old : SessionView D) (reply : Reply) (new 
 
 module _ {D : Type 0} {g : Ghosts D} {reply : Reply} (old new : SharedView D) where
   -- snapshots end only by a line that ends a transaction
-  pub keeps-end : (command : Command) → KeepsOlds g command old reply new → MayEnd g old reply new
-  keeps-end command keeps = by (kind_of command) command keeps.held
+  pub keeps-end : {line : List ℕ} {command : Command} → SpellsOnly line command → KeepsOlds g command old reply new → MayEnd g old reply new (Whole line)
+  keeps-end {line = line} {command = command} only keeps = by (kind_of command) refl keeps.held
     where
-      kept : (weight : ℕ) → KeepsFor g old reply new weight → MayEnd g old reply new
-      kept weight done = inr (done.ends, weight, done.held)
+      -- a line of another kind asks no question
+      unasked : ¬ IsQuestion command → ¬ AsksQuestion (Whole line)
+      unasked none (c, spelled, asks) = none (subst IsQuestion (only.only c spelled) asks)
 
-      bound : (c : Command) → KeepsBound g old reply new c → MayEnd g old reply new
-      bound commands.Commit (inl (same, closed)) = inl same
-      bound commands.Commit (inr (opened, done)) = kept (length old.session.console.written) (done (length old.session.console.written) (omega arith))
-      bound c same = inl same
+      kept : ¬ IsQuestion command → (weight : ℕ) → KeepsFor g old reply new weight → MayEnd g old reply new (Whole line)
+      kept none weight done = inr (done.ends, unasked none, weight, done.held)
 
-      by : (kind : Kind) (c : Command) → KeepsKind g old reply new kind c → MayEnd g old reply new
-      by Blanks c same = inl same
-      by Ending c same = inl same
-      by Bound c done = bound c done
-      by Upkeep c same = inl same
-      by Sight c same = inl same
-      by Change c (inl (same, none)) = inl same
-      by Change c (inr (closed, more, done, weighs)) = kept (start_weight + more) done
-      by Question c same = inl same
+      bound : (c : Command) → ¬ IsQuestion command → KeepsBound g old reply new c → MayEnd g old reply new (Whole line)
+      bound commands.Commit none (inl (same, closed)) = inl same
+      bound commands.Commit none (inr (opened, done)) = kept none (length old.session.console.written) (done (length old.session.console.written) (omega arith))
+      bound c none same = inl same
+
+      by : (kind : Kind) → kind_of command ≡ kind → KeepsKind g old reply new kind command → MayEnd g old reply new (Whole line)
+      by Blanks is same = inl same
+      by Ending is same = inl same
+      by Bound is done = bound command (λ asks. subst AreQuestions is asks) done
+      by Upkeep is same = inl same
+      by Sight is same = inl same
+      by Change is (inl (same, none)) = inl same
+      by Change is (inr (closed, more, done, weighs)) = kept (λ asks. subst AreQuestions is asks) (start_weight + more) done
+      by Question is same = inl same
 
   -- a line of the session that writes, which asks for no snapshot
-  pub may-write : {line : InputLine} (session : ℕ) → session ≡ 0 → ¬ AsksForSnapshot line → MayStep g line old.session reply new.session → MayEnd g old reply new → MayStepAs g session line old reply new
+  pub may-write : {line : InputLine} (session : ℕ) → session ≡ 0 → ¬ AsksForSnapshot line → MayStep g line old.session reply new.session → MayEnd g old reply new line → MayStepAs g session line old reply new
   may-write {line = line} session writes apart may ends = subst (λ (n : ℕ). MayStepAs g n line old reply new) (sym writes) (inr (apart, may, ends))
 
 shared_none : {D : Type 0} (old new : SharedView D) → HasNoDraft old.session → new ≡ old → HasNoDraft new.session

@@ -6,9 +6,10 @@ use Rattle.disk_model.specs.Spans.{AtEachMoment}
 use Rattle.disk_model.specs.declared.disk.Disk.{Ghosts}
 use Rattle.disk_model.proofs.Spans.{at_each_moment_on}
 use Rattle.stream_io.specs.Lines.{Whole}
-use Rattle.plain_graph.specs.Changes.{Changes, IsChange, Weighs}
+use Rattle.plain_graph.specs.Changes.{IsChange}
 use Rattle.plain_graph.specs.Graph.{Graph}
 use Rattle.plain_graph.specs.Kinds.{AreChanges, Blanks, Bound, Change, Ending, Kind, Question, Sight, Upkeep}
+use Rattle.plain_graph.specs.LineChanges.{LineChanges, LineWeighs}
 use Rattle.plain_graph.specs.Lines.{kind_of}
 use Rattle.plain_graph.specs.Reply.{DiskFailed, Faulted, Reply}
 use Rattle.plain_graph.specs.declared.command.Command.{Command}
@@ -125,7 +126,7 @@ module _ {D : Type 0} {g : Ghosts D} {old new : SessionView D} {state : State} (
     -- a change in the open transaction
     pub settles-kept : {line : List ℕ} {command : Command} → SpellsOnly line command → IsChange command → (reply : Reply) → IsGood reply → (weight : ℕ) → Keeps g old new weight
         → (g.tells_reads → IsGrown state new.console.working new.console.names) → (g.tells_reads → IsAccepted state (Whole line))
-        → (g.tells_reads → Changes state.shape.limit transaction.graph command reply (graph_of new.console.working)) → (g.tells_reads → Weighs state.shape.threshold transaction.graph command weight)
+        → (g.tells_reads → LineChanges state.shape.limit transaction.graph command reply (graph_of new.console.working)) → (g.tells_reads → LineWeighs state.shape.limit state.shape.threshold transaction.graph command weight)
         → Settles g (Whole line) old new state reply
     settles-kept {line = line} {command = command} only change reply good weight keeps grown accepted changes weighs =
         let after = with_change state (graph_of new.console.working) (transaction.weight + weight) in
@@ -187,7 +188,7 @@ module _ {D : Type 0} {g : Ghosts D} {old new : SessionView D} {state : State} (
 
       -- a change alone is committed
       pub settles-alone : {line : List ℕ} {command : Command} → SpellsOnly line command → IsChange command → (reply : Reply) → IsGood reply → CommitsFrom g old new now → CommitsAlone g old new now
-          → (g.tells_reads → IsGrown state now new.console.names) → (g.tells_reads → IsAccepted state (Whole line)) → (g.tells_reads → Changes state.shape.limit state.committed command reply (graph_of now))
+          → (g.tells_reads → IsGrown state now new.console.names) → (g.tells_reads → IsAccepted state (Whole line)) → (g.tells_reads → LineChanges state.shape.limit state.committed command reply (graph_of now))
           → Settles g (Whole line) old new state reply
       settles-alone {line = line} {command = command} only change reply good from commits grown accepted changes =
           let after = changed state (graph_of now) in
@@ -218,7 +219,7 @@ module _ {D : Type 0} {g : Ghosts D} {old new : SessionView D} {state : State} (
 
       -- the disk failed as a change alone was committed
       pub settles-alone_fault : {line : List ℕ} {command : Command} → SpellsOnly line command → IsChange command → (reply : Reply) → CommitsFrom g old new now → IsAloneInDoubt g old new now
-          → (g.tells_reads → IsGrown state now new.console.names) → (g.tells_reads → IsAccepted state (Whole line)) → (g.tells_reads → Changes state.shape.limit state.committed command reply (graph_of now))
+          → (g.tells_reads → IsGrown state now new.console.names) → (g.tells_reads → IsAccepted state (Whole line)) → (g.tells_reads → LineChanges state.shape.limit state.committed command reply (graph_of now))
           → Rose (g.faults old.disk) (g.faults new.disk) → Settles g (Whole line) old new state (Faulted [] DiskFailed)
       settles-alone_fault {line = line} {command = command} only change reply from left grown accepted changes rose =
           let after = in_doubt state (graph_of now) in

@@ -1,21 +1,22 @@
 -- Which of the conditions of a refusal hold.
-use Rattle.std.proofs.Common.{◌≡◌, ◌≢◌, ◌⊎◌, ◌+◌, ◌<◌, ◌≤◌, ◌∙◌, ℕ, Some, None, List, [], ◌∷◌, ◌++◌, inl, inr, refl, sym, subst, arith}
+use Rattle.std.proofs.Common.{◌≡◌, ◌≢◌, ◌⊎◌, ◌+◌, ◌<◌, ◌≤◌, ℕ, Some, List, [], ◌∷◌, ◌++◌, inl, inr, refl, sym, subst, arith}
 use Rattle.stream_io.specs.Lines.{Long, Whole}
-use Rattle.plain_graph.specs.Changes.{IsChange, Weighs, most_weight}
+use Rattle.plain_graph.specs.Changes.{IsChange, most_weight}
 use Rattle.plain_graph.specs.Graph.{empty_graph}
+use Rattle.plain_graph.specs.LineChanges.{LineWeighs, line_reasons}
 use Rattle.plain_graph.specs.Refusals.{FirstReason, NoReason, Reason, change_reasons}
 use Rattle.plain_graph.specs.declared.command.Command.{Command}
 use Rattle.plain_graph.specs.declared.command.Command.TheVariants as commands
 use Rattle.plain_graph.specs.declared.refusal.Refusal.{Refusal}
 use Rattle.plain_graph.specs.declared.refusal.Refusal.TheVariants as refusals
+use Rattle.plain_graph.proofs.LineLaws.{change_first, change_free}
 use Rattle.gremlin_parse.specs.Lines.{IsLeftmostFault}
 use Rattle.gremlin_parse.specs.declared.line_fault.LineFault.{LineFault}
-use Rattle.graph_session.specs.Refusals.{Condition, FirstHolds, IsAccepted, IsReached, IsRefused, NoneHolds, SpellsOnly, conditions_of, early_order, grammar_fault, late_order, line_too_long, no_transaction, refusal_of, store_failed, transaction_full, transaction_open}
-use Rattle.graph_session.specs.State.{IsFailed, IsOpen, SpellsLine, State, Transaction, seen}
-use Rattle.graph_session.proofs.Reasons.{unchanging-free}
+use Rattle.graph_session.specs.Refusals.{Condition, FirstHolds, IsAccepted, IsReached, IsRefused, NoneHolds, SpellsOnly, conditions_of, early_order, grammar_fault, late_order, line_too_long, no_transaction, refusal_of, store_failed, transaction_full, transaction_open, weight_before}
+use Rattle.graph_session.specs.State.{IsFailed, IsOpen, SpellsLine, State, seen}
+use Rattle.graph_session.proofs.Reasons.{unchanging-free, unchanging-unrefused}
 use Rattle.graph_session.proofs.Spelling.{IsMute, silent-mute, spells-same}
-use Rattle.graph_session.proofs.States.{same_one}
-use Rattle.graph_session.proofs.Weights.{Weighs-change, Weighs-only}
+use Rattle.graph_session.proofs.Weights.{LineWeighs-change}
 
 -- the condition doesn't hold, whatever it would tell
 abbrev pub Fails : Condition → State → List ℕ → Type 0
@@ -61,10 +62,17 @@ whole state line why h = cc
 pub fault-refused : (state : State) (line : List ℕ) (fault : LineFault) (why : Refusal) → IsLeftmostFault line fault → refusal_of fault ≡ Some why → IsRefused state (Whole line) why
 fault-refused state line fault why leftmost told = inr (whole state line, inl (line, refl, fault, leftmost, told))
 
--- the command fits into the open transaction, where there is one
+-- what the command weighs in the graph that the line sees
+abbrev pub WeighsIn : State → Command → ℕ → Type 0
+WeighsIn state command weight = LineWeighs state.shape.limit state.shape.threshold (seen state) command weight
+
+-- the command fits into the transaction: the open one, or one by itself
 abbrev pub IsLight : State → Command → Type 0
-IsLight state command =
-    (transaction : Transaction) → state.open_one ≡ Some transaction → (weight : ℕ) → Weighs state.shape.threshold transaction.graph command weight → transaction.weight + weight ≤ most_weight
+IsLight state command = (weight : ℕ) → WeighsIn state command weight → weight_before state.open_one + weight ≤ most_weight
+
+-- it does, by the one number that the command weighs
+pub weight-light : (state : State) (command : Command) (weight : ℕ) → ((other : ℕ) → WeighsIn state command other → other ≡ weight) → weight_before state.open_one + weight ≤ most_weight → IsLight state command
+weight-light state command weight one fits other weighs = let same = one other weighs in omega (arith, same, fits)
 
 -- No reason holds of a line of blanks, and none of another command that neither changes the graph nor names a node of it.
 pub idle_reasons : NoReason change_reasons 0 empty_graph commands.Blank
@@ -132,50 +140,38 @@ module _ (state : State) {line : List ℕ} {command : Command} (only : SpellsOnl
   first-spelled (reason ∷ later) why (inl h) = inl (command, only.spelled, h)
   first-spelled (reason ∷ later) why (inr h) = inr (λ other k. h.0 other (reason-spelled reason k.0 other k.1 k.2), first-spelled later why h.1)
 
-  -- a light command's line has room in the open transaction
+  -- a light command's line has room in the transaction
   light-spelled : IsLight state command → Fails transaction_full state line
-  light-spelled light why (other, spelled, transaction, is, weight, weighs, more, told) =
-      let fits : transaction.weight + weight ≤ most_weight =
-      light transaction is weight (subst (λ (c : Command). Weighs state.shape.threshold transaction.graph c weight) (sym (spells-same only other spelled)) weighs) in
+  light-spelled light why (other, spelled, weight, weighs, more, told) =
+      let fits : weight_before state.open_one + weight ≤ most_weight = light weight (subst (λ (c : Command). WeighsIn state c weight) (sym (spells-same only other spelled)) weighs) in
       absurd (omega (arith, fits, more))
 
   -- no reason refuses the command, so no condition refuses the line
-  pub accepted : IsReached state (Whole line) → NoReason change_reasons state.shape.limit (seen state) command → IsLight state command → IsAccepted state (Whole line)
+  pub accepted : IsReached state (Whole line) → NoReason line_reasons state.shape.limit (seen state) command → IsLight state command → IsAccepted state (Whole line)
   accepted reach free light =
       none_both early_order late_order state line reach
-      (none_both (conditions_of change_reasons) (transaction_full ∷ []) state line (none-spelled change_reasons free) (light-spelled light, tt))
+      (none_both (conditions_of line_reasons) (transaction_full ∷ []) state line (none-spelled line_reasons free) (light-spelled light, tt))
 
   -- the first reason refuses the line
-  pub refused : IsReached state (Whole line) → (why : Refusal) → FirstReason change_reasons state.shape.limit (seen state) command why → IsRefused state (Whole line) why
+  pub refused : IsReached state (Whole line) → (why : Refusal) → FirstReason line_reasons state.shape.limit (seen state) command why → IsRefused state (Whole line) why
   refused reach why first =
       first_after early_order late_order state line why reach
-      (first_front (conditions_of change_reasons) (transaction_full ∷ []) state line why (first-spelled change_reasons why first))
+      (first_front (conditions_of line_reasons) (transaction_full ∷ []) state line why (first-spelled line_reasons why first))
 
-  -- the open transaction has not the weight, and no other reason holds
-  pub heavy-refused : NoReason change_reasons state.shape.limit (seen state) command → IsReached state (Whole line) → (transaction : Transaction) → state.open_one ≡ Some transaction
-      → (weight : ℕ) → Weighs state.shape.threshold transaction.graph command weight → most_weight < transaction.weight + weight → IsRefused state (Whole line) refusals.TransactionFull
-  heavy-refused none reach transaction is weight weighs more =
+  -- and so does the first reason of a line that is no mutating query
+  pub single-refused : IsReached state (Whole line) → (why : Refusal) → FirstReason change_reasons state.shape.limit (seen state) command why → IsRefused state (Whole line) why
+  single-refused reach why first = refused reach why (change_first state.shape.limit (seen state) command why first)
+
+  -- the transaction has no room for the weight, and no other reason holds
+  pub heavy-refused : NoReason line_reasons state.shape.limit (seen state) command → IsReached state (Whole line) → (weight : ℕ) → WeighsIn state command weight → most_weight < weight_before state.open_one + weight
+      → IsRefused state (Whole line) refusals.TransactionFull
+  heavy-refused none reach weight weighs more =
       first_after early_order late_order state line refusals.TransactionFull reach
-      (first_after (conditions_of change_reasons) (transaction_full ∷ []) state line refusals.TransactionFull (none-spelled change_reasons none)
-      (inl (command, only.spelled, transaction, is, weight, weighs, more, refl)))
+      (first_after (conditions_of line_reasons) (transaction_full ∷ []) state line refusals.TransactionFull (none-spelled line_reasons none)
+      (inl (command, only.spelled, weight, weighs, more, refl)))
 
   -- a command that is no change is accepted where the graph is looked at, and refuses it for no reason
   pub idle-accepted : ¬ IsChange command → NoReason change_reasons state.shape.limit (seen state) command → IsReached state (Whole line) → IsAccepted state (Whole line)
   idle-accepted idle free reach =
-      accepted reach free (λ transaction is weight weighs. absurd (idle (Weighs-change state.shape.threshold transaction.graph command weight weighs)))
-
--- the open transaction, by what the change weighs
-pub weight-light : (state : State) (command : Command) (transaction : Transaction) → state.open_one ≡ Some transaction → (weight : ℕ) → Weighs state.shape.threshold transaction.graph command weight → transaction.weight + weight ≤ most_weight
-    → IsLight state command
-weight-light state command transaction is weight weighs fits other also count counts =
-    let one : transaction ≡ other = same_one transaction other (sym is ∙ also) in
-    let same : count ≡ weight = Weighs-only state.shape.threshold transaction.graph command count weight (subst (λ (t : Transaction). Weighs state.shape.threshold t.graph command count) (sym one) counts) weighs in
-    let low : transaction.weight + count ≤ most_weight = omega (arith, same, fits) in
-    subst (λ (t : Transaction). t.weight + count ≤ most_weight) one low
-
--- no transaction is open
-pub alone-light : (state : State) (command : Command) → state.open_one ≡ None → IsLight state command
-alone-light state command none transaction is = absurd (clash none is)
-  where
-    clash : state.open_one ≡ None → state.open_one ≡ Some transaction → ⊥
-    clash a b = cc
+      accepted reach (change_free state.shape.limit (seen state) command (unchanging-unrefused command idle state.shape.limit (seen state)) free)
+      (λ weight weighs. absurd (idle (LineWeighs-change state.shape.limit state.shape.threshold (seen state) command weight weighs)))

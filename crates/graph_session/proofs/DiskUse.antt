@@ -16,7 +16,7 @@ use Rattle.graph_session.specs.State.{IsSpared, State}
 use Rattle.graph_session.proofs.Spelling.{spells-same}
 
 -- the first of conditions of which none holds
-none-first : (conditions : List Condition) (state : State) (line : InputLine) (why : Refusal) → NoneHolds conditions state line → ¬ FirstHolds conditions state line why
+pub none-first : (conditions : List Condition) (state : State) (line : InputLine) (why : Refusal) → NoneHolds conditions state line → ¬ FirstHolds conditions state line why
 none-first [] state line why none first = first
 none-first (condition ∷ later) state line why none (inl holds) = none.0 why holds
 none-first (condition ∷ later) state line why none (inr more) = none-first later state line why none.1 more.1

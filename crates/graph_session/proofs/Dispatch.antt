@@ -28,7 +28,7 @@ use Rattle.graph_session.specs.declared.health.Health.TheVariants as healths
 use Rattle.graph_session.specs.declared.turn.Turn.{Turn}
 use Rattle.graph_session.specs.declared.turn.Turn.TheVariants as turns
 use Rattle.graph_session.proofs.Anyhow.{keeps-end, may-served, may-write}
-use Rattle.graph_session.proofs.Answering.{answers-given, answers-silent, answers-unchanged, settles-written}
+use Rattle.graph_session.proofs.Answering.{AnswersWith, answers-silent, answers-unchanged, given-with, settles-written, unchanged-with}
 use Rattle.graph_session.proofs.AtOnce.{apart-only, asks-only, may-silent, may-turn_away, may-unanswered, may-writer, step-fault, step-memory, step-refused, step-silent, step-writer}
 use Rattle.graph_session.proofs.Conditions.{failed-refused, long-refused}
 use Rattle.graph_session.proofs.SharedSettling.{settles-shared}
@@ -70,13 +70,13 @@ given-marked {sink = sink} parsed {before = before} {after = after} {turn = turn
 
 module _ {D K : Type 0} {g : DiskGhosts D} {sink : SinkGhosts K} {line : List ℕ} {session : ℕ} {command : Command} {mark : List ℕ} (parsed : IsParsed line session command mark) where
   -- a command that was settled, and whose reply was given
-  pub answers-settled : {old new : Terminal D K} {turn : Turn} (reply : Reply) → session ≡ 0 → IsLoud command → ¬ IsOfSnapshots command → IsServed old.session.console command → SettlesCommand g command old.session new.session reply
-      → KeepsOlds g command (shared_in old) reply (shared_in new) → Gives sink (marked_text mark reply) old.output new.output turn → AnswersLine g sink (Whole line) old new turn
-  answers-settled {old = old} {new = new} reply writes loud apart served settles keeps gives =
+  pub settled-with : {old new : Terminal D K} {turn : Turn} (reply : Reply) → session ≡ 0 → IsLoud command → ¬ IsOfSnapshots command → IsServed old.session.console command → SettlesCommand g command old.session new.session reply
+      → KeepsOlds g command (shared_in old) reply (shared_in new) → Gives sink (marked_text mark reply) old.output new.output turn → AnswersWith g sink (Whole line) old new turn reply
+  settled-with {old = old} {new = new} reply writes loud apart served settles keeps gives =
       let first = parsed.session_is ∙ writes in
       let none = apart-only parsed.only apart in
-      answers-given {line = Whole line} reply (given-marked parsed reply gives) (quit-only parsed.only (λ e. loud-not_mute command loud (inr e))) settles.onward
-      (λ free. may-write (shared_in old) (shared_in new) (session_of line) first none (may-served parsed.only served (settles.may free)) (keeps-end (shared_in old) (shared_in new) command keeps))
+      given-with {line = Whole line} reply (given-marked parsed reply gives) (quit-only parsed.only (λ e. loud-not_mute command loud (inr e))) settles.onward
+      (λ free. may-write (shared_in old) (shared_in new) (session_of line) first none (may-served parsed.only served (settles.may free)) (keeps-end (shared_in old) (shared_in new) parsed.only keeps))
       (λ known state at.
       let done = settles.settles known line state.writer parsed.only served at.writer in
       settles-written {line = Whole line} first none done.uses (settles-shared known parsed.only at served done (settles.may at.writer.no_draft) keeps))
@@ -84,14 +84,14 @@ module _ {D K : Type 0} {g : DiskGhosts D} {sink : SinkGhosts K} {line : List �
 module _ {D K : Type 0} (g : DiskGhosts D) (only_now : OnlyNow g) (sink : SinkGhosts K) {session : SessionView D} {held : Snapshots} {before after : K} {turn : Turn} {line : List ℕ} {named : ℕ} {command : Command} {mark : List ℕ}
     (parsed : IsParsed line named command mark) (writes : named ≡ 0) (loud : IsLoud command) where
   -- the disk has failed the session
-  pub answers-failed : session.console.health ≡ healths.Failed → ¬ IsOfSnapshots command → command ≢ commands.Reopen → Gives sink (marked_text mark (Refused refusals.Failed)) before after turn
-      → AnswersLine g sink (Whole line) (record { session = session; held = held; output = before }) (record { session = session; held = held; output = after }) turn
-  answers-failed failed apart again gives =
+  pub failed-with : session.console.health ≡ healths.Failed → ¬ IsOfSnapshots command → command ≢ commands.Reopen → Gives sink (marked_text mark (Refused refusals.Failed)) before after turn
+      → AnswersWith g sink (Whole line) (record { session = session; held = held; output = before }) (record { session = session; held = held; output = after }) turn (Refused refusals.Failed)
+  failed-with failed apart again gives =
       let only = parsed.only in
       let mute = loud-not_mute command loud in
       let first = parsed.session_is ∙ writes in
       let none = apart-only only apart in
-      answers-unchanged {g = g} only_now {line = Whole line} (Refused refusals.Failed) refl (given-marked parsed (Refused refusals.Failed) gives) (quit-only only (λ e. mute (inr e)))
+      unchanged-with {g = g} only_now {line = Whole line} (Refused refusals.Failed) refl (given-marked parsed (Refused refusals.Failed) gives) (quit-only only (λ e. mute (inr e)))
       (may-turn_away g (record { session = session; held = held }) (session_of line) first (Whole line) (Refused refusals.Failed) none
       (inr (inr (refl, failed, (λ silent. mute (silent-mute only silent)), λ spells. again (spells-same only commands.Reopen spells)))))
       (λ known state at. step-refused (session_of line) first state (Whole line) none refusals.Failed (failed-refused state.writer only (is_failed at.writer failed) mute again))
@@ -148,21 +148,21 @@ module _ {D K : Type 0} (g : DiskGhosts D) (only_now : OnlyNow g) (sink : SinkGh
 
     module _ (line : List ℕ) (fault : LineFault) (none : fault ≢ faults.Memory → (command : Command) → ¬ Spells line command) (memory : fault ≡ faults.Memory → (command : Command) → NeedsNoMemory command → ¬ Spells line command) where
       -- the line spells no command
-      pub answers-fault : (fault ≢ faults.Memory → IsLeftmostFault line fault) → Gives sink (marked_text (mark_in (Whole line)) (reply_of (told_of fault))) before after turn
-          → AnswersLine g sink (Whole line) (record { session = session; held = held; output = before }) (record { session = session; held = held; output = after }) turn
-      answers-fault leftmost gives = by (refusal_of fault) refl gives
+      pub fault-with : (fault ≢ faults.Memory → IsLeftmostFault line fault) → Gives sink (marked_text (mark_in (Whole line)) (reply_of (told_of fault))) before after turn
+          → AnswersWith g sink (Whole line) (record { session = session; held = held; output = before }) (record { session = session; held = held; output = after }) turn (reply_of (told_of fault))
+      fault-with leftmost gives = by (refusal_of fault) refl gives
         where
           by : (told : Option Refusal) → refusal_of fault ≡ told → Gives sink (marked_text (mark_in (Whole line)) (reply_of (told_by told))) before after turn
-              → AnswersLine g sink (Whole line) (record { session = session; held = held; output = before }) (record { session = session; held = held; output = after }) turn
+              → AnswersWith g sink (Whole line) (record { session = session; held = held; output = before }) (record { session = session; held = held; output = after }) turn (reply_of (told_by told))
           by None is given =
               let lacks = lacks-memory line (memory (memory-only fault is)) in
               let apart = fault-apart line (spells-none line fault none memory) in
-              answers-unchanged {g = g} only_now {line = Whole line} (Faulted [] NoMemory) refl given (spells-none line fault none memory commands.Quit tt)
+              unchanged-with {g = g} only_now {line = Whole line} (Faulted [] NoMemory) refl given (spells-none line fault none memory commands.Quit tt)
               (may-unanswered g (record { session = session; held = held }) (session_of line) (Whole line) (Faulted [] NoMemory) apart (inr (refl, lacks)))
               (λ known state at. step-memory (session_of line) state (Whole line) apart lacks)
           by (Some why) is given =
               let first = leftmost (refused-other fault why is) in
               let apart = fault-apart line (spells-none line fault none memory) in
-              answers-unchanged {g = g} only_now {line = Whole line} (Refused why) refl given (spells-none line fault none memory commands.Quit tt)
+              unchanged-with {g = g} only_now {line = Whole line} (Refused why) refl given (spells-none line fault none memory commands.Quit tt)
               (may-unanswered g (record { session = session; held = held }) (session_of line) (Whole line) (Refused why) apart (inl (why, refl, inr (line, refl, fault, first, is))))
               (λ known state at. step-fault (session_of line) state line apart fault why first is)

@@ -4,7 +4,6 @@ use Rattle.fault_count.specs.Cause.{Rose}
 use Rattle.disk_model.specs.Spans.{AtEachMoment, OnlyReads}
 use Rattle.disk_model.specs.declared.disk.Disk.{Ghosts}
 use Rattle.plain_graph.specs.Graph.{Graph}
-use Rattle.plain_graph.specs.declared.command.Command.{Command}
 use Rattle.rec_bytes.specs.declared.key.Key.{Key}
 use Rattle.rec_bytes.specs.declared.record.Rec.{Rec}
 use Rattle.rec_bytes.specs.declared.shape.Shape.{Shape}
@@ -19,11 +18,8 @@ use Rattle.txn_core.specs.Store as store
 use Rattle.txn_core.proofs.StoreRecords.{committed-beneath}
 use Rattle.snap_store.specs.Keeping.{KeepsHeld}
 use Rattle.snap_store.specs.Snaps.{Snapshots}
-use Rattle.graph_ops.specs.Change.{IsRefusal}
 use Rattle.graph_ops.specs.Store.{graph_in}
-use Rattle.graph_ops.specs.declared.change_fault.ChangeFault.{ChangeFault}
-use Rattle.graph_ops.specs.declared.change_fault.ChangeFault.TheVariants as faults
-use Rattle.graph_session.specs.Drafting.{Closes, CommitsRecords, DoubtsRecords, DropsRecords, EndsCommit, HasStore, IsStopped, TriesCommit, answer_for}
+use Rattle.graph_session.specs.Drafting.{Closes, CommitsRecords, DoubtsRecords, DropsRecords, EndsCommit, TriesCommit}
 use Rattle.graph_session.specs.State.{State, seen}
 use Rattle.graph_session.specs.declared.answer.Answer.{Answer}
 use Rattle.graph_session.specs.declared.health.Health.TheVariants as healths
@@ -44,10 +40,9 @@ pub record Sees (space : Space) (state : State) : Type 0 where
   pub shape : state.shape ≡ space.shape
   pub graph : seen state ≡ graph_in space
 
--- what is said of the space's limit and graph is said of those that the line sees
-pub sees-as : {space : Space} {state : State} → Sees space state → (P : ℕ → Graph → Type 0) → P space.shape.limit (graph_in space) → P state.shape.limit (seen state)
-sees-as {space = space} {state = state} sees P h =
-    subst (λ (shape : Shape). P shape.limit (seen state)) (sym sees.shape) (subst (λ (graph : Graph). P space.shape.limit graph) (sym sees.graph) h)
+-- what is said of the space's shape and graph is said of those that the line sees
+pub sees-as : {space : Space} {state : State} → Sees space state → (P : Shape → Graph → Type 0) → P space.shape (graph_in space) → P state.shape (seen state)
+sees-as {space = space} {state = state} sees P h = subst (λ (shape : Shape). P shape (seen state)) (sym sees.shape) (subst (λ (graph : Graph). P space.shape graph) (sym sees.graph) h)
 
 module _ {D : Type 0} {g : Ghosts D} where
   stored-same : (disk : D) (a b : Key → Rec) → a ≡ b → IsOnDisk g disk (λ left. Redoes left a) → IsOnDisk g disk (λ left. Redoes left b)
@@ -117,21 +112,3 @@ module _ {D : Type 0} {g : Ghosts D} where
       → HasFailedCommit old.store.base new.store.base → DropsRecords old new ⊎ DoubtsRecords (store.working old.store) old new
   records-failed old new closes health names rose (inl dropped) = inl (record { closes = closes; health = health; names = names; disk = dropped.reads; rose = rose })
   records-failed old new closes health names rose (inr doubt) = inr (record { closes = closes; health = health; names = names; stored = doubt.stored; rose = rose })
-
-  -- why no change was drafted, by the fault of its call
-  pub fault-stopped : (command : Command) (old : Session D g) (now : D) (fault : ChangeFault)
-      → (g.tells_reads → HasStore old → IsRefusal (store.state_of old.store).shape.limit (graph_in (store.state_of old.store)) command fault)
-      → (fault ≡ faults.Disk → Rose (g.faults old.store.base.disk.now) (g.faults now)) → (answer : Answer) → answer ≡ answer_for fault → IsStopped command old now answer
-  fault-stopped command old now fault why rose answer is = subst (λ (a : Answer). IsStopped command old now a) (sym is) (by fault why rose)
-    where
-      by : (fault : ChangeFault) → (g.tells_reads → HasStore old → IsRefusal (store.state_of old.store).shape.limit (graph_in (store.state_of old.store)) command fault)
-          → (fault ≡ faults.Disk → Rose (g.faults old.store.base.disk.now) (g.faults now)) → IsStopped command old now (answer_for fault)
-      by (faults.NoNode id) why rose = why
-      by (faults.NoEdge id) why rose = why
-      by (faults.HasRelationships id degree) why rose = why
-      by (faults.Full file live) why rose = why
-      by (faults.NamesFull count) why rose = why
-      by (faults.PropsFull count) why rose = why
-      by faults.Memory why rose = tt
-      by faults.Disk why rose = rose refl
-      by (faults.Damaged damage) why rose = why

@@ -4,9 +4,10 @@ use Rattle.fault_count.specs.Cause.{Rose}
 use Rattle.disk_model.specs.Spans.{OnlyReads}
 use Rattle.disk_model.specs.declared.disk.Disk.{Ghosts}
 use Rattle.stream_io.specs.Lines.{Whole}
-use Rattle.plain_graph.specs.Changes.{Changes, IsChange, Weighs, most_weight}
+use Rattle.plain_graph.specs.Changes.{IsChange, most_weight}
 use Rattle.plain_graph.specs.Graph.{Graph}
-use Rattle.plain_graph.specs.Refusals.{FirstReason, NoReason, change_reasons}
+use Rattle.plain_graph.specs.LineChanges.{LineChanges, LineWeighs, line_reasons}
+use Rattle.plain_graph.specs.Refusals.{FirstReason, NoReason}
 use Rattle.plain_graph.specs.Reply.{DiskFailed, Faulted, NoMemory, Reply}
 use Rattle.plain_graph.specs.declared.command.Command.{Command}
 use Rattle.plain_graph.specs.declared.refusal.Refusal.TheVariants as refusals
@@ -27,7 +28,7 @@ use Rattle.graph_session.specs.Drafting.{Discards, Drafts, Finishes, HasDraft, H
 use Rattle.graph_session.specs.Effects.{Keeps, Stays}
 use Rattle.graph_session.specs.Known.{as_known}
 use Rattle.graph_session.specs.MayStep.{MayAnswer}
-use Rattle.graph_session.specs.Refusals.{SpellsOnly}
+use Rattle.graph_session.specs.Refusals.{SpellsOnly, weight_before}
 use Rattle.graph_session.specs.Session.{view}
 use Rattle.graph_session.specs.Settling.{SettlesCommand}
 use Rattle.graph_session.specs.State.{State, Transaction, seen}
@@ -39,7 +40,7 @@ use Rattle.graph_session.specs.declared.session.Session.{Session}
 use Rattle.graph_session.proofs.Anyhow.{made-good, may-change, may-stopped}
 use Rattle.graph_session.proofs.Answering.{settles-damaged, settles-memory, settles-refused}
 use Rattle.graph_session.proofs.Changes.{change-reached, settles-change_fault, settles-kept}
-use Rattle.graph_session.proofs.Conditions.{accepted, heavy-refused, refused, weight-light}
+use Rattle.graph_session.proofs.Conditions.{WeighsIn, accepted, heavy-refused, refused, weight-light}
 use Rattle.graph_session.proofs.DiskUse.{change-needs, uses-reads}
 use Rattle.graph_session.proofs.Drafts.{Sees, sees-as}
 use Rattle.graph_session.proofs.Held.{held, names-working, seen_open, take-brought}
@@ -47,6 +48,7 @@ use Rattle.graph_session.proofs.Knowing.{keeps-known, stays-known, told_of}
 use Rattle.graph_session.proofs.Spelling.{change-spared, spared-only}
 use Rattle.graph_session.proofs.States.{is_open}
 use Rattle.graph_session.proofs.Staying.{comes-stays}
+use Rattle.graph_session.proofs.Weights.{told-least, told-whole}
 
 module _ {D : Type 0} {g : Ghosts D} where
   -- a change that was not made
@@ -80,8 +82,9 @@ module _ {D : Type 0} {g : Ghosts D} where
     settles-stopped answers.Done stopped stays fault = absurd stopped
     settles-stopped (answers.NodeMade id) stopped stays fault = absurd stopped
     settles-stopped (answers.EdgeMade id) stopped stays fault = absurd stopped
+    settles-stopped (answers.Results results) stopped stays fault = absurd stopped
     settles-stopped (answers.Refused why) stopped stays fault =
-        settles-refused at (stays-known known (stays (λ e. cc))) why (λ told. refused state spelled (change-reached at live spelled change) why (sees-as (sees told) (λ limit graph. FirstReason change_reasons limit graph command why) (stopped (told_of known g told) (has told))))
+        settles-refused at (stays-known known (stays (λ e. cc))) why (λ told. refused state spelled (change-reached at live spelled change) why (sees-as (sees told) (λ shape graph. FirstReason line_reasons shape.limit graph command why) (stopped (told_of known g told) (has told))))
         (unmade-uses at live spelled change (stays-known known (stays (λ e. cc))))
     settles-stopped answers.NoMemory stopped stays fault = unmade-memory at live spelled change (stays-known known (stays (λ e. cc)))
     settles-stopped answers.DiskFailed stopped stays fault = fault refl stopped
@@ -131,21 +134,27 @@ module _ {D : Type 0} {g : Ghosts D} where
       same-graph : (as_known known g).tells_reads → graph_in (state_of old.store) ≡ transaction.graph
       same-graph told = sym (has-sees known old at live told).graph ∙ seen_open state transaction is
 
-      weighs-it : (as_known known g).tells_reads → Weighs state.shape.threshold transaction.graph command made.weight
-      weighs-it told =
-          subst (λ (threshold : ℕ). Weighs threshold transaction.graph command made.weight) (ap (λ (shape : Shape). shape.threshold) (sym at.shape))
-          (subst (λ (graph : Graph). Weighs old.store.base.shape.threshold graph command made.weight) (same-graph told) (has-draft told).weighs)
+      -- what the line weighs in the graph that it sees, and no other number
+      weighs-it : (told : (as_known known g).tells_reads) → WeighsIn state command (has-draft told).total
+      weighs-it told = sees-as (has-sees known old at live told) (λ shape graph. LineWeighs shape.limit shape.threshold graph command (has-draft told).total) (has-draft told).weighs
+
+      weighs-only : (told : (as_known known g).tells_reads) (other : ℕ) → WeighsIn state command other → other ≡ (has-draft told).total
+      weighs-only told = sees-as (has-sees known old at live told) (λ shape graph. (other : ℕ) → LineWeighs shape.limit shape.threshold graph command other → other ≡ (has-draft told).total) (has-draft told).only
 
       -- no reason refuses the change in the graph that the line sees
-      is-free : (as_known known g).tells_reads → NoReason change_reasons state.shape.limit (seen state) command
-      is-free told = sees-as (has-sees known old at live told) (λ limit graph. NoReason change_reasons limit graph command) (has-draft told).free
+      is-free : (as_known known g).tells_reads → NoReason line_reasons state.shape.limit (seen state) command
+      is-free told = sees-as (has-sees known old at live told) (λ shape graph. NoReason line_reasons shape.limit graph command) (has-draft told).free
+
+      -- what the open transaction weighs
+      before-it : weight_before state.open_one ≡ mid.weight
+      before-it = ap weight_before is ∙ sym (at.weight transaction is) ∙ sym only.weight
 
       settles-full : Stays g (view old) (view new) → most_weight < mid.weight + made.weight → Settles (as_known known g) (Whole line) (view old) (view new) state (reply_of (answers.Refused refusals.TransactionFull))
       settles-full stays more =
           settles-refused at (stays-known known stays) refusals.TransactionFull
           (λ told.
-          heavy-refused state spelled (is-free told) (change-reached at live spelled change) transaction is made.weight (weighs-it told)
-          (let a = at.weight transaction is in let b = only.weight in omega (arith, a, b, more)))
+          heavy-refused state spelled (is-free told) (change-reached at live spelled change) (has-draft told).total (weighs-it told)
+          (let a = before-it in let least = told-least (has-draft told).total made.weight (has-draft told).told in omega (arith, a, least, more)))
           (unmade-uses at live spelled change (stays-known known stays))
 
       settles-made : TellsChange command made.answer → KeepsDraft made.weight mid new → Settles (as_known known g) (Whole line) (view old) (view new) state (reply_of made.answer)
@@ -159,13 +168,18 @@ module _ {D : Type 0} {g : Ghosts D} where
           })
           (λ told.
           accepted state spelled (change-reached at live spelled change) (is-free told)
-          (weight-light state command transaction is made.weight (weighs-it told)
-          (let a = at.weight transaction is in let b = only.weight in let fits = kept.fits in omega (arith, a, b, fits))))
+          (weight-light state command (has-draft told).total (weighs-only told) (let a = before-it in let same = whole told in let fits = kept.fits in omega (arith, a, same, fits))))
           (λ told.
-          subst (λ (limit : ℕ). Changes limit transaction.graph command (reply_of made.answer) (graph_of (working new.store))) (ap (λ (shape : Shape). shape.limit) (sym at.shape))
-          (subst (λ (graph : Graph). Changes old.store.base.shape.limit graph command (reply_of made.answer) (graph_of (working new.store))) (same-graph told)
-          (subst (λ (records : Key → Rec). Changes old.store.base.shape.limit (graph_in (state_of old.store)) command (reply_of made.answer) (graph_of records)) (sym kept.working) (has-draft told).changes)))
-          weighs-it
+          subst (λ (limit : ℕ). LineChanges limit transaction.graph command (reply_of made.answer) (graph_of (working new.store))) (ap (λ (shape : Shape). shape.limit) (sym at.shape))
+          (subst (λ (graph : Graph). LineChanges old.store.base.shape.limit graph command (reply_of made.answer) (graph_of (working new.store))) (same-graph told)
+          (subst (λ (records : Key → Rec). LineChanges old.store.base.shape.limit (graph_in (state_of old.store)) command (reply_of made.answer) (graph_of records)) (sym kept.working) (has-draft told).changes)))
+          (λ told.
+          subst (λ (weight : ℕ). LineWeighs state.shape.limit state.shape.threshold transaction.graph command weight) (whole told)
+          (subst (λ (graph : Graph). LineWeighs state.shape.limit state.shape.threshold graph command (has-draft told).total) (seen_open state transaction is) (weighs-it told)))
+        where
+          -- a weight that fits is told whole
+          whole : (told : (as_known known g).tells_reads) → (has-draft told).total ≡ made.weight
+          whole told = told-whole (has-draft told).total made.weight (has-draft told).told (let fits = kept.fits in omega (arith, fits))
 
     later-on : (disk : D) → disk ≡ mid.store.base.disk.now → g.faults old.store.base.disk.now ≤ g.faults disk
     later-on disk same = subst (λ (now : D). g.faults old.store.base.disk.now ≤ g.faults now) (sym same) only.later

@@ -1,15 +1,17 @@
 -- A change that is a transaction by itself, from its draft to its reply.
-use Rattle.std.proofs.Common.{◌≡◌, ◌⊎◌, ◌∙◌, ◌≤◌, ℕ, Bool, false, Ok, Err, Result, List, [], ◌++◌, length, take, inl, inr, true≢false, refl, sym, ap, subst, arith}
+use Rattle.std.proofs.Common.{◌≡◌, ◌⊎◌, ◌∙◌, ◌+◌, ◌<◌, ◌≤◌, ℕ, Bool, false, Ok, Err, Result, List, [], ◌++◌, length, take, inl, inr, true≢false, refl, sym, ap, subst, arith}
 use Rattle.std.proofs.lemmas.List.{nil_from_length}
 use Rattle.fault_count.specs.Cause.{Rose}
 use Rattle.disk_model.specs.Spans.{AtEachMoment, OnlyReads}
 use Rattle.disk_model.specs.declared.disk.Disk.{Ghosts}
 use Rattle.disk_model.proofs.Spans.{only_reads_on}
 use Rattle.stream_io.specs.Lines.{Whole}
-use Rattle.plain_graph.specs.Changes.{Changes, IsChange}
+use Rattle.plain_graph.specs.Changes.{IsChange, most_weight, start_weight}
 use Rattle.plain_graph.specs.Graph.{Graph}
-use Rattle.plain_graph.specs.Refusals.{NoReason, change_reasons}
+use Rattle.plain_graph.specs.LineChanges.{LineChanges, LineWeighs, line_reasons}
+use Rattle.plain_graph.specs.Refusals.{NoReason}
 use Rattle.plain_graph.specs.declared.command.Command.{Command}
+use Rattle.plain_graph.specs.declared.refusal.Refusal.TheVariants as refusals
 use Rattle.rec_bytes.specs.Pairs.{merged}
 use Rattle.rec_bytes.specs.declared.key.Key.{Key}
 use Rattle.rec_bytes.specs.declared.record.Rec.{Rec}
@@ -27,25 +29,27 @@ use Rattle.graph_session.specs.Drafting.{Closes, CommitsRecords, DoubtsRecords, 
 use Rattle.graph_session.specs.Effects.{CommitsAlone, CommitsFrom, Ends, FailsDrafted, FailsRead, IsAloneInDoubt, Stays}
 use Rattle.graph_session.specs.Known.{as_known}
 use Rattle.graph_session.specs.MayStep.{HasFailedChange, MayAnswer, TellsDiskFault}
-use Rattle.graph_session.specs.Refusals.{IsAccepted, SpellsOnly}
+use Rattle.graph_session.specs.Refusals.{IsAccepted, SpellsOnly, weight_before}
 use Rattle.graph_session.specs.Session.{view}
 use Rattle.graph_session.specs.Settling.{SettlesCommand}
-use Rattle.graph_session.specs.State.{State}
+use Rattle.graph_session.specs.State.{State, seen}
 use Rattle.graph_session.specs.declared.answer.Answer.{Answer}
 use Rattle.graph_session.specs.declared.answer.Answer.TheVariants as answers
 use Rattle.graph_session.specs.declared.changing.Drafted.{Drafted}
 use Rattle.graph_session.specs.declared.health.Health.TheVariants as healths
 use Rattle.graph_session.specs.declared.session.Session.{Session}
 use Rattle.graph_session.proofs.Changes.{change-reached, settles-alone, settles-alone_fault, settles-alone_read_fault}
-use Rattle.graph_session.proofs.Conditions.{accepted, alone-light}
+use Rattle.graph_session.proofs.Conditions.{WeighsIn, accepted, heavy-refused, weight-light}
 use Rattle.graph_session.proofs.Drafts.{Sees, sees-as, stored-either}
 use Rattle.graph_session.proofs.Anyhow.{made-good, may-change, may-stopped}
+use Rattle.graph_session.proofs.Answering.{settles-refused}
 use Rattle.graph_session.proofs.FailedReads.{fails-drafted}
-use Rattle.graph_session.proofs.Finishing.{settles-stopped, unmade-memory}
+use Rattle.graph_session.proofs.Finishing.{settles-stopped, unmade-memory, unmade-uses}
 use Rattle.graph_session.proofs.Held.{held, seen_closed, take-brought}
 use Rattle.graph_session.proofs.Knowing.{alone_in_doubt-known, commits_alone-known, fails_drafted-known, fails_read-known, from-known, stays-known, told_of}
 use Rattle.graph_session.proofs.States.{is_closed}
 use Rattle.graph_session.proofs.Streams.{Rose-from}
+use Rattle.graph_session.proofs.Weights.{told-least, told-whole}
 
 module _ {D : Type 0} {g : Ghosts D} {begun mid : Session D g} (old new : Session D g) (live : old.health ≡ healths.Live) (closed : old.store.base.in_transaction ≡ false) (idle : length old.store.base.own.pairs ≡ 0)
     (same : SameBeneath old.store.base begun.store.base) (own : begun.store.base.own.pairs ≡ []) (draft : begun.store.draft.pairs ≡ []) (names : begun.names.names ≡ old.names.names) (health : begun.health ≡ old.health)
@@ -136,7 +140,41 @@ module _ {D : Type 0} {g : Ghosts D} {begun mid : Session D g} (old new : Sessio
         settles-stopped known at live spelled change begun mid.store.base.disk.now (has-begun known at) (sees-begun known at) answer stopped stays-dropped
         (λ is rose. settles-alone_read_fault at live closed spelled change (fails-drafted (fails_read-known known (fails-dropped is))) (rose-dropped rose))
 
-  module _ (made : Drafted) (answer : Answer) (tries : TriesCommit (drafted mid.store) (merged mid.store.base.own.pairs mid.store.draft.pairs) mid new made.answer answer) where
+  -- a drafted change in the graph that the line sees
+  module _ (made : Drafted) (known : Bool) {command : Command} (change : IsChange command) (has : g.tells_reads → HasStore begun → HasDraft command begun mid made) {line : List ℕ} {state : State} (spelled : SpellsOnly line command)
+      (at : IsAt (as_known known g) (view old) state) where
+    alone-draft : (as_known known g).tells_reads → HasDraft command begun mid made
+    alone-draft told = has (told_of known g told) (has-begun known at told)
+
+    -- what the line weighs, and no other number
+    alone-weighs : (told : (as_known known g).tells_reads) → WeighsIn state command (alone-draft told).total
+    alone-weighs told = sees-as (sees-begun known at told) (λ shape graph. LineWeighs shape.limit shape.threshold graph command (alone-draft told).total) (alone-draft told).weighs
+
+    alone-only : (told : (as_known known g).tells_reads) (other : ℕ) → WeighsIn state command other → other ≡ (alone-draft told).total
+    alone-only told = sees-as (sees-begun known at told) (λ shape graph. (other : ℕ) → LineWeighs shape.limit shape.threshold graph command other → other ≡ (alone-draft told).total) (alone-draft told).only
+
+    alone-free : (as_known known g).tells_reads → NoReason line_reasons state.shape.limit (seen state) command
+    alone-free told = sees-as (sees-begun known at told) (λ shape graph. NoReason line_reasons shape.limit graph command) (alone-draft told).free
+
+    alone-before : weight_before state.open_one ≡ start_weight
+    alone-before = ap weight_before (is_closed at closed)
+
+    -- it weighs more than a transaction may
+    full-alone : Stays g (view old) (view new) → most_weight < start_weight + made.weight → Settles (as_known known g) (Whole line) (view old) (view new) state (reply_of (answers.Refused refusals.TransactionFull))
+    full-alone stays more =
+        settles-refused at (stays-known known stays) refusals.TransactionFull
+        (λ told.
+        heavy-refused state spelled (alone-free told) (change-reached at live spelled change) (alone-draft told).total (alone-weighs told)
+        (let a = alone-before in let least = told-least (alone-draft told).total made.weight (alone-draft told).told in omega (arith, a, least, more)))
+        (unmade-uses at live spelled change (stays-known known stays))
+
+    fits-alone : start_weight + made.weight ≤ most_weight → (as_known known g).tells_reads → IsAccepted state (Whole line)
+    fits-alone fits told =
+        accepted state spelled (change-reached at live spelled change) (alone-free told)
+        (weight-light state command (alone-draft told).total (alone-only told) (let a = alone-before in let whole = told-whole (alone-draft told).total made.weight (alone-draft told).told (omega (arith, fits)) in omega (arith, a, whole, fits)))
+
+  module _ (made : Drafted) (answer : Answer) (fits : start_weight + made.weight ≤ most_weight)
+      (tries : TriesCommit (drafted mid.store) (merged mid.store.base.own.pairs mid.store.draft.pairs) mid new made.answer answer) where
     from-mid : CommitsFrom g (view old) (view new) (drafted mid.store)
     from-mid = record {
       mid = mid.store.base.disk.now;
@@ -200,56 +238,65 @@ module _ {D : Type 0} {g : Ghosts D} {begun mid : Session D g} (old new : Sessio
 
     module _ (known : Bool) {command : Command} (change : IsChange command) (tells : TellsChange command made.answer) (has : g.tells_reads → HasStore begun → HasDraft command begun mid made) {line : List ℕ} {state : State}
         (spelled : SpellsOnly line command) (at : IsAt (as_known known g) (view old) state) where
-      alone-draft : (as_known known g).tells_reads → HasDraft command begun mid made
-      alone-draft told = has (told_of known g told) (has-begun known at told)
+      draft-told : (as_known known g).tells_reads → HasDraft command begun mid made
+      draft-told = alone-draft made known change has spelled at
 
       alone-store : (as_known known g).tells_reads → IsWellFormed (drafted mid.store) state.shape
-      alone-store told = subst (λ (shape : Shape). IsWellFormed (drafted mid.store) shape) (shape-mid ∙ sym at.shape) (alone-draft told).store.store
+      alone-store told = subst (λ (shape : Shape). IsWellFormed (drafted mid.store) shape) (shape-mid ∙ sym at.shape) (draft-told told).store.store
 
-      alone-changes : (as_known known g).tells_reads → Changes state.shape.limit state.committed command (reply_of made.answer) (graph_of (drafted mid.store))
+      alone-changes : (as_known known g).tells_reads → LineChanges state.shape.limit state.committed command (reply_of made.answer) (graph_of (drafted mid.store))
       alone-changes told =
-          subst (λ (limit : ℕ). Changes limit state.committed command (reply_of made.answer) (graph_of (drafted mid.store))) (ap (λ (shape : Shape). shape.limit) (same.shape ∙ sym at.shape))
-          (subst (λ (graph : Graph). Changes begun.store.base.shape.limit graph command (reply_of made.answer) (graph_of (drafted mid.store))) (begun-graph known at told) (alone-draft told).changes)
+          subst (λ (limit : ℕ). LineChanges limit state.committed command (reply_of made.answer) (graph_of (drafted mid.store))) (ap (λ (shape : Shape). shape.limit) (same.shape ∙ sym at.shape))
+          (subst (λ (graph : Graph). LineChanges begun.store.base.shape.limit graph command (reply_of made.answer) (graph_of (drafted mid.store))) (begun-graph known at told) (draft-told told).changes)
 
       settles-tried : Settles (as_known known g) (Whole line) (view old) (view new) state (reply_of answer)
       settles-tried = by tries.ends
         where
           is_accepted : (as_known known g).tells_reads → IsAccepted state (Whole line)
-          is_accepted told =
-              accepted state spelled (change-reached at live spelled change) (sees-as (sees-begun known at told) (λ limit graph. NoReason change_reasons limit graph command) (alone-draft told).free) (alone-light state command (is_closed at closed))
+          is_accepted = fits-alone made known change has spelled at fits
 
           by : EndsCommit (drafted mid.store) mid new made.answer answer → Settles (as_known known g) (Whole line) (view old) (view new) state (reply_of answer)
           by (inl (is, commits)) =
               subst (λ (a : Answer). Settles (as_known known g) (Whole line) (view old) (view new) state (reply_of a)) (sym is)
               (settles-alone at live closed (drafted mid.store) spelled change (reply_of made.answer) (made-good command (reply_of made.answer) tells) (from-known known from-mid) (commits_alone-known known (commits-mid commits))
-              (λ told. record { store = alone-store told; named = commits.names ∙ (alone-draft told).store.names }) is_accepted alone-changes)
+              (λ told. record { store = alone-store told; named = commits.names ∙ (draft-told told).store.names }) is_accepted alone-changes)
           by (inr (is, inl drops)) =
               subst (λ (a : Answer). Settles (as_known known g) (Whole line) (view old) (view new) state (reply_of a)) (sym is)
               (settles-alone_read_fault at live closed spelled change (fails_drafted-known known (drops-mid drops)) (rose-mid drops.rose))
           by (inr (is, inr doubts)) =
               subst (λ (a : Answer). Settles (as_known known g) (Whole line) (view old) (view new) state (reply_of a)) (sym is)
               (settles-alone_fault at live closed (drafted mid.store) spelled change (reply_of made.answer) (from-known known from-mid) (alone_in_doubt-known known (doubts-mid doubts))
-              (λ told. record { store = alone-store told; named = doubts.names ∙ (alone-draft told).store.names }) is_accepted alone-changes
+              (λ told. record { store = alone-store told; named = doubts.names ∙ (draft-told told).store.names }) is_accepted alone-changes
               (rose-mid doubts.rose))
 
   module _ {command : Command} (change : IsChange command) (count : ℕ) (counts : count ≡ length old.names.names) where
     pub settles-finish_alone : (result : Result Drafted Answer) (answer : Answer) → Drafts command begun mid result → FinishesAlone result count mid new answer
         → SettlesCommand g command (view old) (view new) (reply_of answer)
-    settles-finish_alone (Ok made) answer drafts (inl tries) = record {
-      settles = λ known line state spelled served at. settles-tried made answer tries known change drafts.0 drafts.1 spelled at;
-      may = λ none. may-tried made answer tries command change drafts.0;
-      onward = record { disk_later = later-tried made answer tries };
+    settles-finish_alone (Ok made) answer drafts (inl (fits, tries)) = record {
+      settles = λ known line state spelled served at. settles-tried made answer fits tries known change drafts.0 drafts.1 spelled at;
+      may = λ none. may-tried made answer fits tries command change drafts.0;
+      onward = record { disk_later = later-tried made answer fits tries };
     }
-    settles-finish_alone (Ok made) answer drafts (inr (is, drops)) = record {
-      settles = λ known line state spelled served at.
-          subst (λ (a : Answer). Settles (as_known known g) (Whole line) (view old) (view new) state (reply_of a)) (sym is)
-          (unmade-memory at live spelled change (stays-known known (stays-dropped count counts answer drops (λ failed. let clash : answers.NoMemory ≡ answers.DiskFailed = sym is ∙ failed in cc))));
-      may = λ none.
-          subst (λ (a : Answer). MayAnswer g command (view old) (reply_of a) (view new)) (sym is)
-          (may-change g (view old) (reply_of answers.NoMemory) (view new) command change
-          (inr (inr (inl (refl, stays-dropped count counts answer drops (λ failed. let clash : answers.NoMemory ≡ answers.DiskFailed = sym is ∙ failed in cc))))));
-      onward = record { disk_later = later-dropped count counts answer drops };
-    }
+    settles-finish_alone (Ok made) answer drafts (inr (inl (is, more), drops)) =
+        let stays = stays-dropped count counts answer drops (λ failed. let clash : answers.Refused refusals.TransactionFull ≡ answers.DiskFailed = sym is ∙ failed in cc) in
+        record {
+          settles = λ known line state spelled served at.
+              subst (λ (a : Answer). Settles (as_known known g) (Whole line) (view old) (view new) state (reply_of a)) (sym is) (full-alone made known change drafts.1 spelled at stays more);
+          may = λ none.
+              subst (λ (a : Answer). MayAnswer g command (view old) (reply_of a) (view new)) (sym is)
+              (may-change g (view old) (reply_of (answers.Refused refusals.TransactionFull)) (view new) command change (inr (inl ((refusals.TransactionFull, refl), stays))));
+          onward = record { disk_later = later-dropped count counts answer drops };
+        }
+    settles-finish_alone (Ok made) answer drafts (inr (inr is, drops)) =
+        let stays = stays-dropped count counts answer drops (λ failed. let clash : answers.NoMemory ≡ answers.DiskFailed = sym is ∙ failed in cc) in
+        record {
+          settles = λ known line state spelled served at.
+              subst (λ (a : Answer). Settles (as_known known g) (Whole line) (view old) (view new) state (reply_of a)) (sym is) (unmade-memory at live spelled change (stays-known known stays));
+          may = λ none.
+              subst (λ (a : Answer). MayAnswer g command (view old) (reply_of a) (view new)) (sym is)
+              (may-change g (view old) (reply_of answers.NoMemory) (view new) command change (inr (inr (inl (refl, stays)))));
+          onward = record { disk_later = later-dropped count counts answer drops };
+        }
     settles-finish_alone (Err why) answer drafts (is, drops) = record {
       settles = λ known line state spelled served at.
           unmade-alone count counts answer drops known change spelled at (subst (λ (a : Answer). IsStopped command begun mid.store.base.disk.now a) (sym is) drafts);

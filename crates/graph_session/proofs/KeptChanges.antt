@@ -1,8 +1,9 @@
 -- What a change leaves of the old records that are kept for snapshots.
-use Rattle.std.proofs.Common.{◌≡◌, ◌⊎◌, ◌∙◌, ℕ, ◌+◌, ◌≤◌, true, false, Ok, Err, Result, is_some, [], length, inl, inr, true≢false, refl, sym, ap, subst}
+use Rattle.std.proofs.Common.{◌≡◌, ◌⊎◌, ◌∙◌, ℕ, ◌+◌, ◌≤◌, true, false, Ok, Err, Result, is_some, [], length, inl, inr, true≢false, refl, sym, ap, subst, arith}
 use Rattle.disk_model.specs.declared.disk.Disk.{Ghosts}
-use Rattle.plain_graph.specs.Changes.{IsChange, Weighs, start_weight}
+use Rattle.plain_graph.specs.Changes.{IsChange, most_weight, start_weight}
 use Rattle.plain_graph.specs.Kinds.{AreChanges, AreQuestions, Blanks, Bound, Change, Ending, Kind, Question, Sight, Upkeep}
+use Rattle.plain_graph.specs.LineChanges.{LineWeighs}
 use Rattle.plain_graph.specs.Lines.{IsQuestion, kind_of}
 use Rattle.plain_graph.specs.Reply.{DiskFailed, Faulted, Reply}
 use Rattle.plain_graph.specs.declared.command.Command.{Command}
@@ -18,7 +19,7 @@ use Rattle.snap_store.specs.Snaps.{Snapshots}
 use Rattle.txn_core.specs.Base.{SameBeneath}
 use Rattle.txn_core.specs.Store.{committed, drafted, state_of}
 use Rattle.graph_session.specs.Answering.{reply_of}
-use Rattle.graph_session.specs.Drafting.{BeginsChange, Drafts, EndsChange, EndsCommit, Finishes, FinishesAlone, HasStore, IsStopped, OnlyDrafts, TriesCommit}
+use Rattle.graph_session.specs.Drafting.{BeginsChange, Drafts, EndsChange, EndsCommit, Finishes, FinishesAlone, HasStore, IsStopped, IsUnkeptAlone, OnlyDrafts, TriesCommit}
 use Rattle.graph_session.specs.MayStep.{TellsMade}
 use Rattle.graph_session.specs.Session.{shared_view}
 use Rattle.graph_session.specs.SnapshotEffects.{AreWeighed, Confirms, KeepsChange, KeepsKind, KeepsOlds, SharedView}
@@ -31,6 +32,7 @@ use Rattle.graph_session.specs.declared.session.Session.{Session}
 use Rattle.graph_session.proofs.Drafts.{sights-as}
 use Rattle.graph_session.proofs.FinishingAlone.{committed-mid, disk-dropped, drafted-begun}
 use Rattle.graph_session.proofs.Weighing.{length-weighed, weighed-kept, weighed-start}
+use Rattle.graph_session.proofs.Weights.{told-whole}
 
 -- what is said of a change by its kind
 keeps-kind : {D : Type 0} (g : Ghosts D) (old : SharedView D) (reply : Reply) (new : SharedView D) (command : Command) → IsChange command → KeepsChange g old reply new command
@@ -64,22 +66,28 @@ keeps-read {g = g} {command = command} {reply = reply} old new asks same opened 
     by Change is = absurd is
     by Question is = same
 
-made-confirmed : (command : Command) (reply : Reply) → TellsMade command reply → Confirms reply
+pub made-confirmed : (command : Command) (reply : Reply) → TellsMade command reply → Confirms reply
 made-confirmed (commands.Node label pairs) reply tells = subst Confirms (sym tells.1) tt
 made-confirmed (commands.Edge from label to pairs) reply tells = subst Confirms (sym tells.1) tt
 made-confirmed (commands.Set target key value) reply tells = subst Confirms (sym tells) tt
 made-confirmed (commands.Unset target key) reply tells = subst Confirms (sym tells) tt
 made-confirmed (commands.Delete target) reply tells = subst Confirms (sym tells) tt
+made-confirmed (commands.Mutate reading mutation) reply tells = subst Confirms (sym tells.1) tt
 made-confirmed _ reply tells = absurd tells
 
-stopped-unconfirmed : {D : Type 0} {g : Ghosts D} (command : Command) (base : Session D g) (now : D) (why : Answer) → IsStopped command base now why → ¬ Confirms (reply_of why)
+pub stopped-unconfirmed : {D : Type 0} {g : Ghosts D} (command : Command) (base : Session D g) (now : D) (why : Answer) → IsStopped command base now why → ¬ Confirms (reply_of why)
 stopped-unconfirmed command base now answers.Done stopped = absurd stopped
 stopped-unconfirmed command base now (answers.NodeMade id) stopped = absurd stopped
 stopped-unconfirmed command base now (answers.EdgeMade id) stopped = absurd stopped
+stopped-unconfirmed command base now (answers.Results results) stopped = absurd stopped
 stopped-unconfirmed command base now (answers.Refused why) stopped = λ confirms. confirms
 stopped-unconfirmed command base now answers.NoMemory stopped = λ confirms. confirms
 stopped-unconfirmed command base now answers.DiskFailed stopped = λ confirms. confirms
 stopped-unconfirmed command base now (answers.Damaged damage) stopped = λ confirms. confirms
+
+pub unkept-unconfirmed : (weight : ℕ) (answer : Answer) → IsUnkeptAlone weight answer → ¬ Confirms (reply_of answer)
+unkept-unconfirmed weight answer (inl (is, heavy)) = subst (λ (a : Answer). ¬ Confirms (reply_of a)) (sym is) (λ confirms. confirms)
+unkept-unconfirmed weight answer (inr is) = subst (λ (a : Answer). ¬ Confirms (reply_of a)) (sym is) (λ confirms. confirms)
 
 -- a draft leaves what the transaction has written
 own-mid : {D : Type 0} {g : Ghosts D} {old mid : Session D g} → OnlyDrafts old mid → mid.store.base.own.pairs ≡ old.store.base.own.pairs
@@ -104,7 +112,7 @@ module _ {D : Type 0} {g : Ghosts D} {command : Command} (change : IsChange comm
           subst (λ n. AreWeighed new.store.base.own.pairs n) (sym (kept.weight ∙ ap (λ n. n + made.weight) only.weight))
           (subst (λ (written : Pairs). AreWeighed written (old.weight + made.weight)) (sym (kept.own ∙ ap (λ (written : Pairs). merged written mid.store.draft.pairs) (own-mid only)))
           (weighed-kept old.store.base.own.pairs mid.store.draft.pairs old.weight made.weight (state_of old.store) (state_of mid.store) (weighed opened)
-          (λ key. ap (λ (pairs : Pairs). is_some (find_pair pairs key)) none) (λ key. refl) drafts.2));
+          (λ key. ap (λ (pairs : Pairs). is_some (find_pair pairs key)) none) (λ key. refl) (drafts.2 (let fits = kept.fits in omega (arith, fits)))));
     }
     keeps-finish count (Ok made) answer drafts (inr (unkept, drops)) = keeps-dropped answer drops.snaps drops.own drops.weight
     keeps-finish count (Err why) answer drafts (is, drops) = keeps-dropped answer drops.snaps drops.own drops.weight
@@ -113,27 +121,31 @@ module _ {D : Type 0} {g : Ghosts D} {command : Command} (change : IsChange comm
   module _ {begun mid : Session D g} (old new : Session D g) (live : old.health ≡ healths.Live) (closed : old.store.base.in_transaction ≡ false) (idle : length old.store.base.own.pairs ≡ 0)
       (same : SameBeneath old.store.base begun.store.base) (own : begun.store.base.own.pairs ≡ []) (draft : begun.store.draft.pairs ≡ []) (names : begun.names.names ≡ old.names.names) (health : begun.health ≡ old.health)
       (snaps : begun.snaps ≡ old.snaps) (only : OnlyDrafts begun mid) where
-    weighs-alone : (made : Drafted) → Drafts command begun mid (Ok made) → g.tells_reads → IsWellFormed (committed old.store) old.store.base.shape → old.names.names ≡ names_of (committed old.store)
-        → Weighs old.store.base.shape.threshold (graph_of (committed old.store)) command made.weight
-    weighs-alone made drafts told store named =
+    weighs-alone : (made : Drafted) → start_weight + made.weight ≤ most_weight → Drafts command begun mid (Ok made) → g.tells_reads → IsWellFormed (committed old.store) old.store.base.shape
+        → old.names.names ≡ names_of (committed old.store) → LineWeighs old.store.base.shape.limit old.store.base.shape.threshold (graph_of (committed old.store)) command made.weight
+    weighs-alone made light drafts told store named =
         let is = drafted-begun old new live closed idle same own draft names health only in
         let has : HasStore begun = record {
           store = subst (λ (shape : Shape). IsWellFormed (drafted begun.store) shape) (sym same.shape) (subst (λ (records : Key → Rec). IsWellFormed records old.store.base.shape) (sym is) store);
           names = names ∙ named ∙ ap names_of (sym is);
         } in
-        let weighs = (drafts.1 told has).weighs in
-        subst (λ (shape : Shape). Weighs shape.threshold (graph_of (committed old.store)) command made.weight) same.shape
-        (subst (λ (records : Key → Rec). Weighs begun.store.base.shape.threshold (graph_of records) command made.weight) is weighs)
+        let made_line = drafts.1 told has in
+        let weighs =
+        subst (λ (weight : ℕ). LineWeighs begun.store.base.shape.limit begun.store.base.shape.threshold (graph_of (drafted begun.store)) command weight)
+        (told-whole made_line.total made.weight made_line.told (omega (arith, light))) made_line.weighs in
+        subst (λ (shape : Shape). LineWeighs shape.limit shape.threshold (graph_of (committed old.store)) command made.weight) same.shape
+        (subst (λ (records : Key → Rec). LineWeighs begun.store.base.shape.limit begun.store.base.shape.threshold (graph_of records) command made.weight) is weighs)
 
-    few-alone : (made : Drafted) → Drafts command begun mid (Ok made) → length (merged mid.store.base.own.pairs mid.store.draft.pairs) ≤ start_weight + made.weight
-    few-alone made drafts =
+    few-alone : (made : Drafted) → start_weight + made.weight ≤ most_weight → Drafts command begun mid (Ok made) → length (merged mid.store.base.own.pairs mid.store.draft.pairs) ≤ start_weight + made.weight
+    few-alone made light drafts =
         length-weighed (merged mid.store.base.own.pairs mid.store.draft.pairs) (start_weight + made.weight)
         (subst (λ (written : Pairs). AreWeighed (merged written mid.store.draft.pairs) (start_weight + made.weight)) (sym (own-mid only ∙ own))
-        (weighed-kept [] mid.store.draft.pairs start_weight made.weight (state_of begun.store) (state_of mid.store) weighed-start (λ key. ap (λ (pairs : Pairs). is_some (find_pair pairs key)) draft) (λ key. refl) drafts.2))
+        (weighed-kept [] mid.store.draft.pairs start_weight made.weight (state_of begun.store) (state_of mid.store) weighed-start (λ key. ap (λ (pairs : Pairs). is_some (find_pair pairs key)) draft) (λ key. refl)
+        (drafts.2 (omega (arith, light)))))
 
-    keeps-tried : (made : Drafted) (answer : Answer) → Drafts command begun mid (Ok made) → TriesCommit (drafted mid.store) (merged mid.store.base.own.pairs mid.store.draft.pairs) mid new made.answer answer
+    keeps-tried : (made : Drafted) (answer : Answer) → start_weight + made.weight ≤ most_weight → Drafts command begun mid (Ok made) → TriesCommit (drafted mid.store) (merged mid.store.base.own.pairs mid.store.draft.pairs) mid new made.answer answer
         → KeepsOlds g command (shared_view old) (reply_of answer) (shared_view new)
-    keeps-tried made answer drafts tries = record {
+    keeps-tried made answer light drafts tries = record {
       held = keeps-kind g (shared_view old) (reply_of answer) (shared_view new) command change (inr (
         closed,
         made.weight,
@@ -141,9 +153,9 @@ module _ {D : Type 0} {g : Ghosts D} {command : Command} (change : IsChange comm
           ends = ends tries.ends;
           sights = sights-as g new.store.base.disk.now (committed mid.store) (committed old.store) mid.snaps old.snaps new.snaps
               (committed-mid old new live closed idle same own draft names health only) (only.snaps ∙ snaps) tries.sights;
-          held = subst (λ (held : Snapshots). KeepsHeld (start_weight + made.weight) held new.snaps) (only.snaps ∙ snaps) (tries.held (start_weight + made.weight) (few-alone made drafts));
+          held = subst (λ (held : Snapshots). KeepsHeld (start_weight + made.weight) held new.snaps) (only.snaps ∙ snaps) (tries.held (start_weight + made.weight) (few-alone made light drafts));
         },
-        λ told store named. weighs-alone made drafts told store named,
+        λ told store named. weighs-alone made light drafts told store named,
       ));
       weighed = λ none weighed opened. absurd (true≢false (sym opened ∙ closes tries.ends));
     }
@@ -159,13 +171,13 @@ module _ {D : Type 0} {g : Ghosts D} {command : Command} (change : IsChange comm
 
     pub keeps-finish_alone : (count : ℕ) → count ≡ length old.names.names → (result : Result Drafted Answer) (answer : Answer) → Drafts command begun mid result → FinishesAlone result count mid new answer
         → KeepsOlds g command (shared_view old) (reply_of answer) (shared_view new)
-    keeps-finish_alone count counts (Ok made) answer drafts (inl tries) = keeps-tried made answer drafts tries
-    keeps-finish_alone count counts (Ok made) answer drafts (inr (is, drops)) = record {
+    keeps-finish_alone count counts (Ok made) answer drafts (inl (light, tries)) = keeps-tried made answer light drafts tries
+    keeps-finish_alone count counts (Ok made) answer drafts (inr (unkept, drops)) = record {
       held = keeps-kind g (shared_view old) (reply_of answer) (shared_view new) command change
           (inl (
             drops.snaps ∙ only.snaps ∙ snaps,
             inr (
-              subst (λ (a : Answer). ¬ Confirms (reply_of a)) (sym is) (λ confirms. confirms),
+              unkept-unconfirmed made.weight answer unkept,
               disk-dropped old new live closed idle same own draft names health only count counts answer drops,
             ),
           ));

@@ -19,10 +19,13 @@ pub mod Judging
 pub mod Knowing
 pub mod KeptChanges
 pub mod Known
+pub mod LineMoves
 pub mod Lifting
+pub mod LineDrafts
 pub mod ListedLines
 pub mod Moves
 pub mod NodeQuestions
+pub mod OneCommand
 pub mod Openings
 pub mod PartCounts
 pub mod ReaderAnswers
@@ -36,6 +39,7 @@ pub mod Spelling
 pub mod Stands
 pub mod States
 pub mod Staying
+pub mod SentRecords
 pub mod SessionNumbers
 pub mod SharedDisks
 pub mod SharedNames
@@ -46,6 +50,7 @@ pub mod SnapshotTaking
 pub mod Storage
 pub mod StoreRecords
 pub mod Streams
+pub mod Taps
 pub mod Transactions
 pub mod Versions
 pub mod Weighing

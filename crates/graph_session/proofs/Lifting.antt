@@ -27,7 +27,7 @@ use Rattle.graph_session.specs.State.{IsSpared, State, seen}
 use Rattle.graph_session.specs.declared.health.Health.TheVariants as healths
 use Rattle.graph_session.specs.declared.turn.Turn.{Turn}
 use Rattle.graph_session.proofs.Answering.{settles-done, settles-fault, settles-given, settles-refused}
-use Rattle.graph_session.proofs.Conditions.{NeedsNone, NeedsOne, idle-accepted, reached, refused}
+use Rattle.graph_session.proofs.Conditions.{NeedsNone, NeedsOne, idle-accepted, reached, single-refused}
 use Rattle.graph_session.proofs.DiskUse.{asks-needs, uses-reads, uses-same}
 use Rattle.graph_session.proofs.Held.{held, names-working}
 use Rattle.graph_session.proofs.Spelling.{asks-unchanging, spared-only}
@@ -112,7 +112,7 @@ module _ {D : Type 0} {g : DiskGhosts D} {old new : SessionView D} {state : Stat
   settles-reading (Faulted lines (DamagedRecord file id)) form rose means =
       settles-given {line = Whole line} {before = state} (Faulted lines (DamagedRecord file id)) state (comes-stays at stays) refl (λ told. absurd (means told)) (asks-uses (Faulted lines (DamagedRecord file id)))
   settles-reading (Refused why) form rose means =
-      settles-refused {line = Whole line} at stays why (λ told. refused state only asks-reached why (means told state.shape.limit)) (asks-uses (Refused why))
+      settles-refused {line = Whole line} at stays why (λ told. single-refused state only asks-reached why (means told state.shape.limit)) (asks-uses (Refused why))
 
 -- the records that a live session sees are those of a store with its names
 pub named-working : {D : Type 0} {g : DiskGhosts D} {session : SessionView D} {state : State} → IsAt g session state → session.console.health ≡ healths.Live → g.tells_reads

@@ -10,6 +10,7 @@ use Rattle.plain_graph.specs.Reply.{DamagedRecord, DiskFailed, Faulted, NoMemory
 use Rattle.plain_graph.specs.declared.command.Command.{Command}
 use Rattle.plain_graph.specs.declared.command.Command.TheVariants as commands
 use Rattle.plain_graph.specs.declared.refusal.Refusal.TheVariants as refusals
+use Rattle.plain_graph.proofs.LineLaws.{change_first}
 use Rattle.rec_bytes.specs.declared.damage.Damage.{Damage}
 use Rattle.rec_bytes.specs.declared.space.Reads.{Ghosts as SpaceGhosts}
 use Rattle.store_rules.specs.Graph.{graph_of}
@@ -61,7 +62,8 @@ module _ {command : Command} (asks : AsksNodes command) where
   pub asks-refusable : IsRefusable command
   asks-refusable =
       let missing = empty-lacks (nodes_of command) asks.some in
-      (0, empty_graph, refusals.NoNode missing.0, unchanging-refused command asks-idle 0 empty_graph missing.0 missing.1)
+      let why = refusals.NoNode missing.0 in
+      (0, empty_graph, why, change_first 0 empty_graph command why (unchanging-refused command asks-idle 0 empty_graph missing.0 missing.1))
 
 -- ---- faults
 

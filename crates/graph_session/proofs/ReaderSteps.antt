@@ -25,7 +25,7 @@ use Rattle.graph_session.specs.SnapshotEffects.{SharedView}
 use Rattle.graph_session.specs.Snapshots.{SeesAmong, SharedState, Snapshot}
 use Rattle.graph_session.specs.State.{State, seen}
 use Rattle.graph_session.specs.declared.health.Health.TheVariants as healths
-use Rattle.graph_session.proofs.Conditions.{idle-accepted, refused}
+use Rattle.graph_session.proofs.Conditions.{idle-accepted, single-refused}
 use Rattle.graph_session.proofs.Lifting.{carries-told, leaves-same}
 use Rattle.graph_session.proofs.SnapshotLaws.{begin-on}
 use Rattle.graph_session.proofs.SnapshotLists.{all_both, open-any, same_number}
@@ -53,7 +53,7 @@ module _ (state : State) {line : List ℕ} {command : Command} (only : SpellsOnl
   asked-step failed (Faulted lines DiskFailed) form blames means =
       (blames (λ e. absurd (omega (arith, e))), reach, command, only.spelled, means, leaves-same state line command asks)
   asked-step failed (Faulted lines (DamagedRecord file id)) form blames means = absurd means
-  asked-step failed (Refused why) form blames means = (refused state only reach why (means state.shape.limit), refl)
+  asked-step failed (Refused why) form blames means = (single-refused state only reach why (means state.shape.limit), refl)
 
 -- ---- the reader's snapshot
 

@@ -2,6 +2,7 @@
 use Rattle.std.proofs.Common.{◌≡◌, ◌⊎◌, ◌∙◌, ℕ, false, true, true≢false, inl, inr, refl, sym, ap}
 use Rattle.plain_graph.specs.Changes.{IsChange}
 use Rattle.plain_graph.specs.Graph.{Graph, empty_graph, has_node}
+use Rattle.plain_graph.specs.LineChanges.{first_refused}
 use Rattle.plain_graph.specs.Lines.{At, Between, Nodes, Nowhere, nodes_of}
 use Rattle.plain_graph.specs.Refusals.{FirstReason, NoReason, change_reasons, lacks_only, lacks_source, lacks_target}
 use Rattle.plain_graph.specs.declared.command.Command.{Command}
@@ -70,6 +71,11 @@ unchanging-free (commands.Delete target) idle limit graph has = absurd (idle tt)
 unchanging-free command idle limit graph has =
     let asked : Nodes = nodes_of command in
     (λ _ h. h, (has_source graph asked has, (has_target graph asked has, (λ _ h. h, (has_only graph asked has, (λ _ h. h, (λ _ h. h, (λ _ h. h, (λ _ h. h, (λ _ h. h, (λ _ h. h, tt)))))))))))
+
+-- it is no mutating query, of whose changes one could be refused
+pub unchanging-unrefused : (command : Command) → ¬ IsChange command → (limit : ℕ) (graph : Graph) (why : Refusal) → ¬ first_refused limit graph command why
+unchanging-unrefused (commands.Mutate reading mutation) idle limit graph why refused = idle tt
+unchanging-unrefused command idle limit graph why refused = refused
 
 -- the reason that holds first of all
 lifted : (command : Command) → ¬ IsChange command → (limit : ℕ) (graph : Graph) (why : Refusal) → FirstOfNodes graph (nodes_of command) why → FirstReason change_reasons limit graph command why

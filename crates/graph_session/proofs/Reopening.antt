@@ -133,6 +133,7 @@ module _ {D : Type 0} {g : Ghosts D} where
       }
       named_again healthier weigher named (answers.NodeMade id) takes = absurd takes
       named_again healthier weigher named (answers.EdgeMade id) takes = absurd takes
+      named_again healthier weigher named (answers.Results results) takes = absurd takes
       named_again healthier weigher named (answers.Refused why) takes = absurd takes
       named_again healthier weigher named answers.NoMemory takes = absurd takes
       named_again healthier weigher named answers.DiskFailed takes = record {

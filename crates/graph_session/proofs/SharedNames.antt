@@ -5,7 +5,9 @@ use Rattle.stream_io.specs.Lines.{Whole}
 use Rattle.plain_graph.specs.Changes.{Changes}
 use Rattle.plain_graph.specs.Graph.{Graph, UsesName}
 use Rattle.plain_graph.specs.Kinds.{Blanks, Bound, Change, Ending, Kind, Question, Sight, Upkeep}
+use Rattle.plain_graph.specs.LineChanges.{LineChanges, asked_changes}
 use Rattle.plain_graph.specs.Lines.{kind_of}
+use Rattle.plain_graph.specs.Mutations.{ChangesEach}
 use Rattle.plain_graph.specs.Properties.{keys_in}
 use Rattle.plain_graph.specs.Reply as replies
 use Rattle.plain_graph.specs.Reply.{Fault, Reply}
@@ -18,6 +20,7 @@ use Rattle.graph_session.specs.Exchange.{CarriesKind, ConsoleStep, IsDone, Keeps
 use Rattle.graph_session.specs.Refusals.{SpellsOnly}
 use Rattle.graph_session.specs.State.{Admits, Live, State, Transaction, admitted, graphs_from}
 use Rattle.graph_session.proofs.Known.{begin-all}
+use Rattle.graph_session.proofs.SnapshotLaws.{begin-on}
 use Rattle.graph_session.proofs.Stands.{admits-own}
 
 uses-begins : (old : List (List ℕ)) (name : List ℕ) (new : List (List ℕ)) → UsesName old name new → BeginWith new old
@@ -25,7 +28,7 @@ uses-begins old name new (inl known) = ([], known.1 ∙ sym (append-nil old))
 uses-begins old name new (inr fresh) = (name ∷ [], fresh.1)
 
 -- a change brings names, and takes none away
-pub changes-begins : (limit : ℕ) (old : Graph) (command : Command) (reply : Reply) (new : Graph) → Changes limit old command reply new → BeginWith new.names old.names
+changes-begins : (limit : ℕ) (old : Graph) (command : Command) (reply : Reply) (new : Graph) → Changes limit old command reply new → BeginWith new.names old.names
 changes-begins limit old (commands.Node label pairs) reply new (id, is, adds) = uses_prefix old.names (label ∷ keys_in pairs) new.names adds.names
 changes-begins limit old (commands.Edge from label to pairs) reply new (id, is, adds) = uses_prefix old.names (label ∷ keys_in pairs) new.names adds.names
 changes-begins limit old (commands.Set target key value) reply new (is, sets) = uses-begins old.names key new.names sets.names
@@ -33,6 +36,17 @@ changes-begins limit old (commands.Unset target key) reply new (is, unsets) = be
 changes-begins limit old (commands.Delete (targets.Node id)) reply new (is, removes) = begin-all new.names old.names removes.names
 changes-begins limit old (commands.Delete (targets.Edge id)) reply new (is, removes) = begin-all new.names old.names removes.names
 changes-begins limit old command reply new never = absurd never
+
+-- and so do changes one after the other
+each-begins : (limit : ℕ) (old : Graph) (commands : List Command) (replies : List Reply) (new : Graph) → ChangesEach limit old commands replies new → BeginWith new.names old.names
+each-begins limit old [] replies new each = begin-all new.names old.names (ap (λ (graph : Graph). graph.names) each.1)
+each-begins limit old (command ∷ later) replies new (reply, rest, between, are, changes, more) =
+    begin-on new.names between.names old.names (each-begins limit between later rest new more) (changes-begins limit old command reply between changes)
+
+-- and the line
+line-begins : (limit : ℕ) (old : Graph) (command : Command) (reply : Reply) (new : Graph) → LineChanges limit old command reply new → BeginWith new.names old.names
+line-begins limit old (commands.Mutate reading mutation) reply new (replies, is, each) = each-begins limit old (asked_changes old reading mutation) replies new each
+line-begins limit old command reply new changes = changes-begins limit old command reply new changes
 
 -- The shape stays, and each graph that is admitted has first the names of one that was.
 pub record GoesOn (old new : State) : Type 0 where
@@ -115,7 +129,7 @@ module _ (old : State) (line : List ℕ) (command : Command) (only : SpellsOnly 
   change-goes c reply is kind (inl (transaction, opened, graph, weight, changes, weighs, same)) =
       subst (GoesOn old) (sym same) (record { shape = refl; names = λ found admits. (found, admits, begin-all found.names found.names refl) })
   change-goes c reply is kind (inr (closed, graph, changes, same)) =
-      on-commit old (change-live c is kind) graph old.open_one (changes-begins old.shape.limit old.committed c reply graph changes) same
+      on-commit old (change-live c is kind) graph old.open_one (line-begins old.shape.limit old.committed c reply graph changes) same
 
   carries-goes : (kind : Kind) (c : Command) (reply : Reply) → c ≡ command → kind_of c ≡ kind → CarriesKind kind old c reply new → GoesOn old new
   carries-goes Blanks c reply is kind never = absurd never
@@ -143,7 +157,7 @@ module _ (old : State) (line : List ℕ) (command : Command) (only : SpellsOnly 
   left-change c is kind (inl (transaction, opened, same)) = on-same old same
   left-change c is kind (inr (closed, inl left)) = on-failing old (change-live c is kind) left
   left-change c is kind (inr (closed, inr (accepted, reply, graph, changes, left))) =
-      on-doubt old (change-live c is kind) graph (changes-begins old.shape.limit old.committed c reply graph changes) left
+      on-doubt old (change-live c is kind) graph (line-begins old.shape.limit old.committed c reply graph changes) left
 
   left-goes : (kind : Kind) (c : Command) → c ≡ command → kind_of c ≡ kind → LeavesKind kind old (Whole line) c new → GoesOn old new
   left-goes Blanks c is kind never = absurd never

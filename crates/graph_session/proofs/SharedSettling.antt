@@ -2,9 +2,10 @@
 use Rattle.std.proofs.Common.{◌≡◌, ◌⊎◌, ◌∙◌, ℕ, ◌+◌, Bool, true, false, Some, None, is_some, List, inl, inr, refl, sym, ap, subst}
 use Rattle.disk_model.specs.declared.disk.Disk.{Ghosts}
 use Rattle.stream_io.specs.Lines.{Whole}
-use Rattle.plain_graph.specs.Changes.{Weighs, start_weight}
+use Rattle.plain_graph.specs.Changes.{start_weight}
 use Rattle.plain_graph.specs.Graph.{Graph}
 use Rattle.plain_graph.specs.Kinds.{Blanks, Bound, Change, Ending, Kind, Question, Sight, Upkeep}
+use Rattle.plain_graph.specs.LineChanges.{LineWeighs}
 use Rattle.plain_graph.specs.Lines.{kind_of}
 use Rattle.plain_graph.specs.Reply.{Reply}
 use Rattle.plain_graph.specs.declared.command.Command.{Command}
@@ -36,13 +37,14 @@ use Rattle.graph_session.proofs.States.{is_closed, is_live, is_open}
 use Rattle.graph_session.proofs.Weighing.{length-weighed}
 
 -- only a change has a weight
-weighs-kind : (threshold : ℕ) (graph : Graph) (command : Command) (weight : ℕ) → Weighs threshold graph command weight → kind_of command ≡ Change
-weighs-kind threshold graph (commands.Node label pairs) weight weighs = refl
-weighs-kind threshold graph (commands.Edge from label to pairs) weight weighs = refl
-weighs-kind threshold graph (commands.Set target key value) weight weighs = refl
-weighs-kind threshold graph (commands.Unset target key) weight weighs = refl
-weighs-kind threshold graph (commands.Delete target) weight weighs = refl
-weighs-kind threshold graph command weight never = absurd never
+weighs-kind : (limit threshold : ℕ) (graph : Graph) (command : Command) (weight : ℕ) → LineWeighs limit threshold graph command weight → kind_of command ≡ Change
+weighs-kind limit threshold graph (commands.Node label pairs) weight weighs = refl
+weighs-kind limit threshold graph (commands.Edge from label to pairs) weight weighs = refl
+weighs-kind limit threshold graph (commands.Set target key value) weight weighs = refl
+weighs-kind limit threshold graph (commands.Unset target key) weight weighs = refl
+weighs-kind limit threshold graph (commands.Delete target) weight weighs = refl
+weighs-kind limit threshold graph (commands.Mutate reading mutation) weight weighs = refl
+weighs-kind limit threshold graph command weight never = absurd never
 
 module _ {D : Type 0} {g : Ghosts D} (known : Bool) {line : List ℕ} {command : Command} (only : SpellsOnly line command) {old new : SharedView D} {state : SharedState} {reply : Reply}
     (at : IsSharedAt (as_known known g) old state) (served : IsServed old.session.console command) (settles : Settles (as_known known g) (Whole line) old.session new.session state.writer reply)
@@ -133,12 +135,12 @@ module _ {D : Type 0} {g : Ghosts D} (known : Bool) {line : List ℕ} {command :
   ends-none : ¬ (command ≡ commands.Commit) → ¬ (kind_of command ≡ Change) → (weight : ℕ) → EndsOfWeight state.writer (Whole line) weight → ¬ Confirms reply
   ends-none commits changes weight (inl (transaction, opened, spelled, is)) confirms = commits (sym (only.only commands.Commit spelled))
   ends-none commits changes weight (inr (closed, c, spelled, more, weighs, is)) confirms =
-      changes (ap kind_of (sym (only.only c spelled)) ∙ weighs-kind state.writer.shape.threshold state.writer.committed c more weighs)
+      changes (ap kind_of (sym (only.only c spelled)) ∙ weighs-kind state.writer.shape.limit state.writer.shape.threshold state.writer.committed c more weighs)
 
   ends-closed : old.session.console.is_open ≡ false → command ≡ commands.Commit → (weight : ℕ) → EndsOfWeight state.writer (Whole line) weight → ¬ Confirms reply
   ends-closed closed commit weight (inl (transaction, opened, spelled, is)) confirms = let clash : None ≡ Some transaction = sym (is_closed at.writer closed) ∙ opened in cc
   ends-closed closed commit weight (inr (none, c, spelled, more, weighs, is)) confirms =
-      let clash : Bound ≡ Change = ap kind_of (sym commit ∙ sym (only.only c spelled)) ∙ weighs-kind state.writer.shape.threshold state.writer.committed c more weighs in cc
+      let clash : Bound ≡ Change = ap kind_of (sym commit ∙ sym (only.only c spelled)) ∙ weighs-kind state.writer.shape.limit state.writer.shape.threshold state.writer.committed c more weighs in cc
 
   ends-open : old.session.console.is_open ≡ true → kind_of command ≡ Change → (weight : ℕ) → EndsOfWeight state.writer (Whole line) weight → ¬ Confirms reply
   ends-open opened change weight (inl (transaction, is_one, spelled, is)) confirms = let clash : Bound ≡ Change = ap kind_of (only.only commands.Commit spelled) ∙ change in cc
@@ -176,14 +178,14 @@ module _ {D : Type 0} {g : Ghosts D} (known : Bool) {line : List ℕ} {command :
     where
       weighed-so : (told : (as_known known g).tells_reads) → old.session.console.health ≡ healths.Live → old.session.console.is_open ≡ false → (more : ℕ)
           → (IsWellFormed old.session.console.committed old.session.console.shape → old.session.console.names ≡ names_of old.session.console.committed
-          → Weighs old.session.console.shape.threshold (graph_of old.session.console.committed) command more)
-          → Weighs state.writer.shape.threshold state.writer.committed command more
+          → LineWeighs old.session.console.shape.limit old.session.console.shape.threshold (graph_of old.session.console.committed) command more)
+          → LineWeighs state.writer.shape.limit state.writer.shape.threshold state.writer.committed command more
       weighed-so told live closed more weighs =
           let had = held at.writer live told in
           let there = weighs (subst (λ (shape : Shape). IsWellFormed old.session.console.committed shape) at.writer.shape had.committed)
           (had.names ∙ ap (λ (graph : Graph). graph.names) (seen_closed state.writer (is_closed at.writer closed) ∙ sym had.committed_graph)) in
-          subst (λ (shape : Shape). Weighs shape.threshold state.writer.committed command more) (sym at.writer.shape)
-          (subst (λ (graph : Graph). Weighs old.session.console.shape.threshold graph command more) had.committed_graph there)
+          subst (λ (shape : Shape). LineWeighs shape.limit shape.threshold state.writer.committed command more) (sym at.writer.shape)
+          (subst (λ (graph : Graph). LineWeighs old.session.console.shape.limit old.session.console.shape.threshold graph command more) had.committed_graph there)
 
   pub settles-shared : SettlesShared SharedConsoleStep (as_known known g) (Whole line) old new state reply
   settles-shared = by (kind_of command) refl keeps.held may

@@ -1,11 +1,16 @@
 -- What a change weighs.
-use Rattle.std.proofs.Common.{◌≡◌, ◌+◌, ◌∙◌, ℕ, List, [], ◌∷◌, length, inl, inr, sym, ap, subst, arith}
+use Rattle.std.specs.Prelude.{min}
+use Rattle.std.proofs.Common.{◌≡◌, ◌+◌, ◌∙◌, ◌<◌, ◌≤◌, ℕ, Bool, true, false, nat_lt, List, [], ◌∷◌, length, inl, inr, refl, sym, ap, subst, arith}
+use Rattle.std.proofs.Math.Nat.{min-eq_left, min-eq_right, min-le_left}
+use Rattle.std.proofs.lemmas.Bool.Decides.{nat_tests}
 use Rattle.plain_graph.specs.Changes.{IsChange, Weighs, ends_weight, properties_weight}
 use Rattle.plain_graph.specs.Graph.{Graph, NeedsNames, UsesName, UsesNames, properties_at}
+use Rattle.plain_graph.specs.LineChanges.{LineWeighs}
 use Rattle.plain_graph.specs.Properties.{blocks_at, blocks_of, keys_in, no_properties, with_pairs}
 use Rattle.plain_graph.specs.declared.command.Command.{Command}
 use Rattle.plain_graph.specs.declared.command.Command.TheVariants as commands
 use Rattle.plain_graph.specs.declared.command.Target.TheVariants as targets
+use Rattle.graph_ops.specs.Mutating.{most_told}
 
 -- one name leaves one list of names
 UsesName-only : (old : List (List ℕ)) (name : List ℕ) (a b : List (List ℕ)) → UsesName old name a → UsesName old name b → a ≡ b
@@ -44,8 +49,26 @@ Weighs-only threshold graph (commands.Delete (targets.Node id)) a b h k = h ∙ 
 Weighs-only threshold graph (commands.Delete (targets.Edge id)) a b h k = h ∙ sym k
 Weighs-only threshold graph _ a b h k = absurd h
 
--- only changes weigh
-pub Weighs-change : (threshold : ℕ) (graph : Graph) (command : Command) (weight : ℕ) → Weighs threshold graph command weight → IsChange command
+-- ---- what is told of a weight
+
+-- it is no more than the weight
+pub told-least : (total weight : ℕ) → weight ≡ min total most_told → weight ≤ total
+told-least total weight told = let least = min-le_left total most_told in omega (arith, told, least)
+
+-- and it is the weight where it is less than the most that is told
+pub told-whole : (total weight : ℕ) → weight ≡ min total most_told → weight < most_told → total ≡ weight
+told-whole total weight told low = by (nat_lt total most_told) refl
+  where
+    by : (t : Bool) → nat_lt total most_told ≡ t → total ≡ weight
+    by true e = sym (told ∙ min-eq_left (let small : total < most_told = grind (arith, nat_tests) in omega (arith, small)))
+    by false e =
+        let large : most_told ≤ total = grind (arith, nat_tests) in
+        let is : min total most_told ≡ most_told = min-eq_right large in
+        absurd (omega (arith, is, told, low))
+
+-- ---- only changes weigh
+
+Weighs-change : (threshold : ℕ) (graph : Graph) (command : Command) (weight : ℕ) → Weighs threshold graph command weight → IsChange command
 Weighs-change threshold graph (commands.Node label pairs) weight h = tt
 Weighs-change threshold graph (commands.Edge from label to pairs) weight h = tt
 Weighs-change threshold graph (commands.Set target key value) weight h = tt
@@ -53,3 +76,7 @@ Weighs-change threshold graph (commands.Unset target key) weight h = tt
 Weighs-change threshold graph (commands.Delete (targets.Node id)) weight h = tt
 Weighs-change threshold graph (commands.Delete (targets.Edge id)) weight h = tt
 Weighs-change threshold graph _ weight h = absurd h
+
+pub LineWeighs-change : (limit threshold : ℕ) (graph : Graph) (command : Command) (weight : ℕ) → LineWeighs limit threshold graph command weight → IsChange command
+LineWeighs-change limit threshold graph (commands.Mutate reading mutation) weight h = tt
+LineWeighs-change limit threshold graph command weight h = Weighs-change threshold graph command weight h

@@ -1,11 +1,13 @@
 -- What the steps of a change say: its draft, and what becomes of that.
 use Rattle.std.specs.Prelude.{◌≡◌, ◌⊎◌, ℕ, ◌+◌, ◌<◌, ◌≤◌, IsTrue, true, false, Result, Ok, Err}
-use Rattle.std.specs.Prelude.{List, [], ◌++◌, length, take}
+use Rattle.std.specs.Prelude.{List, [], ◌++◌, length, min, take}
 use Rattle.fault_count.specs.Cause.{Rose}
 use Rattle.disk_model.specs.Spans.{AtEachMoment, OnlyReads}
 use Rattle.disk_model.specs.declared.disk.Disk.{Ghosts}
-use Rattle.plain_graph.specs.Changes.{most_weight}
-use Rattle.plain_graph.specs.Refusals.{FirstReason, change_reasons}
+use Rattle.plain_graph.specs.Changes.{most_weight, start_weight}
+use Rattle.plain_graph.specs.LineChanges.{LineChanges, LineWeighs, line_reasons}
+use Rattle.plain_graph.specs.Refusals.{FirstReason, NoReason}
+use Rattle.plain_graph.specs.Reply.{Reply}
 use Rattle.plain_graph.specs.declared.command.Command.{Command}
 use Rattle.plain_graph.specs.declared.refusal.Refusal.{Refusal}
 use Rattle.plain_graph.specs.declared.refusal.Refusal.TheVariants as refusals
@@ -13,6 +15,8 @@ use Rattle.rec_bytes.specs.declared.key.Key.{Key}
 use Rattle.rec_bytes.specs.declared.record.Rec.{Rec}
 use Rattle.rec_bytes.specs.Pairs.{Pairs, merged}
 use Rattle.rec_bytes.specs.Space.{State as Space}
+use Rattle.rec_bytes.specs.declared.fault.Fault.{Fault}
+use Rattle.rec_bytes.specs.declared.fault.Fault.TheVariants as read_faults
 use Rattle.record_file.specs.Redone.{Redoes}
 use Rattle.store_rules.specs.Writes.{WritesAtMost}
 use Rattle.snap_store.specs.Keeping.{KeepsHeld}
@@ -20,7 +24,8 @@ use Rattle.txn_core.specs.Base.{OnlyReadsBase, SameBeneath, SameStore}
 use Rattle.txn_core.specs.Kept.{IsOnDisk}
 use Rattle.txn_core.specs.Sights.{KeepsSights}
 use Rattle.txn_core.specs.Store.{committed, drafted, state_of, working}
-use Rattle.graph_ops.specs.Change.{MakesChange, full_of}
+use Rattle.graph_ops.specs.Change.{full_of}
+use Rattle.graph_ops.specs.Mutating.{most_told}
 use Rattle.graph_ops.specs.Store.{IsStore, graph_in}
 use Rattle.graph_ops.specs.declared.change_fault.ChangeFault.{ChangeFault}
 use Rattle.graph_ops.specs.declared.change_fault.ChangeFault.TheVariants as faults
@@ -45,6 +50,12 @@ answer_for faults.Memory = answers.NoMemory
 answer_for faults.Disk = answers.DiskFailed
 answer_for (faults.Damaged damage) = answers.Damaged damage
 
+-- the answer of one whose reading part was not read to its end
+abbrev pub answer_for_read : Fault → Answer
+answer_for_read read_faults.Memory = answers.NoMemory
+answer_for_read read_faults.Disk = answers.DiskFailed
+answer_for_read (read_faults.Damaged damage) = answers.Damaged damage
+
 -- the answer of a change that is made
 abbrev pub TellsChange : Command → Answer → Type 0
 TellsChange command answer = TellsMade command (reply_of answer)
@@ -52,7 +63,27 @@ TellsChange command answer = TellsMade command (reply_of answer)
 -- the command is refused so by the graph of the space
 abbrev pub Refuses : Command → Space → Refusal → Type 0
 Refuses command space why =
-    FirstReason change_reasons space.shape.limit (graph_in space) command why
+    FirstReason line_reasons space.shape.limit (graph_in space) command why
+
+-- The store has what the command changes, with this reply, and no reason refused it. What it weighs
+-- is told up to the greatest weight.
+pub record MakesLine (command : Command) (reply : Reply) (weight : ℕ) (old new : Space)
+    (names : List (List ℕ)) : Type 0 where
+  pub store : IsStore new names
+  pub changes : LineChanges old.shape.limit (graph_in old) command reply (graph_in new)
+  pub total : ℕ
+  pub weighs : LineWeighs old.shape.limit old.shape.threshold (graph_in old) command total
+  pub only : (other : ℕ)
+      → LineWeighs old.shape.limit old.shape.threshold (graph_in old) command other
+      → other ≡ total
+  pub told : weight ≡ min total most_told
+  pub free : NoReason line_reasons old.shape.limit (graph_in old) command
+
+-- why the draft of a change by itself is not kept
+abbrev pub IsUnkeptAlone : ℕ → Answer → Type 0
+IsUnkeptAlone weight answer =
+    ((answer ≡ answers.Refused refusals.TransactionFull) × (most_weight < start_weight + weight))
+    ⊎ (answer ≡ answers.NoMemory)
 
 module _ {D : Type 0} {g : Ghosts D} where
   -- the records with the draft are a well-formed store, whose names are those in memory
@@ -71,7 +102,7 @@ module _ {D : Type 0} {g : Ghosts D} where
   -- The draft has the change of this command, which gets this reply.
   abbrev pub HasDraft : Command → Session D g → Session D g → Drafted → Type 0
   HasDraft command old new made =
-      MakesChange command (reply_of made.answer) made.weight (state_of old.store)
+      MakesLine command (reply_of made.answer) made.weight (state_of old.store)
       (state_of new.store) new.names.names
 
   -- why no change was drafted, over the disk as it is then
@@ -79,6 +110,7 @@ module _ {D : Type 0} {g : Ghosts D} where
   IsStopped command old now answers.Done = ⊥
   IsStopped command old now (answers.NodeMade id) = ⊥
   IsStopped command old now (answers.EdgeMade id) = ⊥
+  IsStopped command old now (answers.Results results) = ⊥
   IsStopped command old now (answers.Refused why) = g.tells_reads → HasStore old
       → Refuses command (state_of old.store) why
   IsStopped command old now answers.NoMemory = Unit {0}
@@ -90,7 +122,8 @@ module _ {D : Type 0} {g : Ghosts D} where
   abbrev pub Drafts : Command → Session D g → Session D g → Result Drafted Answer → Type 0
   Drafts command old new (Ok made) = TellsChange command made.answer
       × (g.tells_reads → HasStore old → HasDraft command old new made)
-      × WritesAtMost made.weight (state_of old.store) (state_of new.store)
+      × (made.weight < most_told
+      → WritesAtMost made.weight (state_of old.store) (state_of new.store))
   Drafts command old new (Err why) = IsStopped command old new.store.base.disk.now why
 
   -- The draft was dropped, and the names cut back to so many. The transaction is as it was.
@@ -192,12 +225,13 @@ module _ {D : Type 0} {g : Ghosts D} where
     pub failed : answer ≡ answers.DiskFailed → new.health ≡ healths.Failed
     pub healthy : ¬ (answer ≡ answers.DiskFailed) → new.health ≡ old.health
 
-  -- what becomes of a draft that is a transaction by itself
+  -- what becomes of a draft that is a transaction by itself, which may not weigh more than one does
   abbrev pub FinishesAlone : Result Drafted Answer → ℕ → Session D g → Session D g → Answer → Type 0
   FinishesAlone (Ok made) count old new answer =
-      TriesCommit (drafted old.store)
-      (merged old.store.base.own.pairs old.store.draft.pairs) old new made.answer answer
-      ⊎ ((answer ≡ answers.NoMemory) × DropsAlone count old new answer)
+      ((start_weight + made.weight ≤ most_weight)
+      × TriesCommit (drafted old.store)
+      (merged old.store.base.own.pairs old.store.draft.pairs) old new made.answer answer)
+      ⊎ (IsUnkeptAlone made.weight answer × DropsAlone count old new answer)
   FinishesAlone (Err why) count old new answer = (answer ≡ why) × DropsAlone count old new answer
 
   -- A transaction was begun for a change by itself.

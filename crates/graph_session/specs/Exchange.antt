@@ -2,9 +2,10 @@
 use Rattle.std.specs.Prelude.{◌≡◌, ◌≢◌, ◌⊎◌, ℕ, ◌+◌, Bool, true, false, Option, Some, None, List}
 use Rattle.std.specs.Prelude.{[], ◌∷◌, ◌++◌}
 use Rattle.stream_io.specs.Lines.{InputLine}
-use Rattle.plain_graph.specs.Changes.{Changes, Weighs, start_weight}
+use Rattle.plain_graph.specs.Changes.{start_weight}
 use Rattle.plain_graph.specs.Graph.{Graph}
 use Rattle.plain_graph.specs.Kinds.{Blanks, Bound, Change, Ending, Kind, Question, Sight, Upkeep}
+use Rattle.plain_graph.specs.LineChanges.{LineChanges, LineWeighs}
 use Rattle.plain_graph.specs.Lines.{Reading, Shows, kind_of}
 use Rattle.plain_graph.specs.Reply.{DamagedRecord, DiskFailed, Done, EdgeMade, Fault, Faulted}
 use Rattle.plain_graph.specs.Reply.{NoMemory, NodeMade, PastCount, Refused, Reply, Silent, Told}
@@ -28,11 +29,11 @@ failing state graphs = record state { open_one = None; standing = Failed graphs 
 abbrev pub MakesChange : State → Command → Reply → State → Type 0
 MakesChange old command reply new =
     ((transaction : Transaction) × (old.open_one ≡ Some transaction) × (graph : Graph)
-    × (weight : ℕ) × Changes old.shape.limit transaction.graph command reply graph
-    × Weighs old.shape.threshold transaction.graph command weight
+    × (weight : ℕ) × LineChanges old.shape.limit transaction.graph command reply graph
+    × LineWeighs old.shape.limit old.shape.threshold transaction.graph command weight
     × (new ≡ opening old (Some (record { graph = graph; weight = transaction.weight + weight }))))
     ⊎ ((old.open_one ≡ None) × (graph : Graph)
-    × Changes old.shape.limit old.committed command reply graph
+    × LineChanges old.shape.limit old.committed command reply graph
     × (new ≡ record old { committed = graph }))
 
 -- the transaction begins or ends, with this reply
@@ -97,7 +98,7 @@ LeavesChange old line command new =
     ((transaction : Transaction) × (old.open_one ≡ Some transaction) × (new ≡ old))
     ⊎ ((old.open_one ≡ None) × ((new ≡ failing old (old.committed ∷ []))
     ⊎ (IsAccepted old line × (reply : Reply) × (graph : Graph)
-    × Changes old.shape.limit old.committed command reply graph
+    × LineChanges old.shape.limit old.committed command reply graph
     × (new ≡ failing old (old.committed ∷ graph ∷ [])))))
 
 -- A commit leaves open whether the transaction's graph is committed; where an old record that a

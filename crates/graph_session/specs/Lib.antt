@@ -16,6 +16,8 @@ pub mod Questions
 pub mod ReaderAnswers
 pub mod ReaderStep
 pub mod Refusals
+pub mod Results
+pub mod Sending
 pub mod Session
 pub mod Settling
 pub mod SharedAnswer
@@ -28,5 +30,7 @@ pub mod SnapshotEffects
 pub mod Snapshots
 pub mod Stands
 pub mod State
+pub mod TapEnds
+pub mod Tapping
 pub mod Verdicts
 pub mod Versions

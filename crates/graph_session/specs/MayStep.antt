@@ -8,11 +8,13 @@ use Rattle.plain_graph.specs.Changes.{most_weight}
 use Rattle.plain_graph.specs.Graph.{Graph}
 use Rattle.plain_graph.specs.Kinds.{Blanks, Bound, Change, Ending, Kind, Question, Sight, Upkeep}
 use Rattle.plain_graph.specs.Lines.{IsFormed, Reading, kind_of}
-use Rattle.plain_graph.specs.Refusals.{FirstReason, change_reasons}
+use Rattle.plain_graph.specs.LineChanges.{line_reasons, mutated_reply}
+use Rattle.plain_graph.specs.Refusals.{FirstReason}
 use Rattle.plain_graph.specs.Reply.{DamagedRecord, DiskFailed, Done, EdgeMade, Fault, Faulted}
 use Rattle.plain_graph.specs.Reply.{NoMemory, NodeMade, PastCount, Refused, Reply, Silent, Told}
 use Rattle.plain_graph.specs.declared.command.Command.{Command}
 use Rattle.plain_graph.specs.declared.command.Command.TheVariants as commands
+use Rattle.plain_graph.specs.declared.item.Item.{Item}
 use Rattle.plain_graph.specs.declared.refusal.Refusal.{Refusal}
 use Rattle.plain_graph.specs.declared.refusal.Refusal.TheVariants as refusals
 use Rattle.rec_bytes.specs.declared.key.Key.{Key}
@@ -33,13 +35,16 @@ use Rattle.graph_session.specs.declared.health.Health.TheVariants as healths
 abbrev pub IsServed : ConsoleView → Command → Type 0
 IsServed console command = (console.health ≡ healths.Live) ⊎ (command ≡ commands.Reopen)
 
--- the reply of a change that is made: only a new node and a new edge have an identifier
+-- the reply of a change that is made: only a new node and a new edge have an identifier, and only a
+-- mutating query has results
 abbrev pub TellsMade : Command → Reply → Type 0
 TellsMade (commands.Node label pairs) reply = (id : ℕ) × (reply ≡ NodeMade id)
 TellsMade (commands.Edge from label to pairs) reply = (id : ℕ) × (reply ≡ EdgeMade id)
 TellsMade (commands.Set target key value) reply = reply ≡ Done
 TellsMade (commands.Unset target key) reply = reply ≡ Done
 TellsMade (commands.Delete target) reply = reply ≡ Done
+TellsMade (commands.Mutate reading mutation) reply =
+    (results : List Item) × (reply ≡ mutated_reply results)
 TellsMade _ reply = ⊥
 
 -- the reply says that a record is damaged, and has no results
@@ -57,7 +62,7 @@ MayStop command reading (DamagedRecord file id) = command ≢ commands.Check
 abbrev pub IsRefusable : Command → Type 0
 IsRefusable command =
     (limit : ℕ) × (graph : Graph) × (why : Refusal)
-    × FirstReason change_reasons limit graph command why
+    × FirstReason line_reasons limit graph command why
 
 -- The reply to a line that reads: an answer of its form, or the first lines of one and a fault, or
 -- that a node is missing. What never lacks memory has no fault.

@@ -29,6 +29,7 @@ abbrev pub TakesNames : {D : Type 0} {g : Ghosts D} → Store D g → Store D g 
 TakesNames old new was names health answers.Done = IsNamed old names health
 TakesNames old new was names health (answers.NodeMade id) = ⊥
 TakesNames old new was names health (answers.EdgeMade id) = ⊥
+TakesNames old new was names health (answers.Results results) = ⊥
 TakesNames old new was names health (answers.Refused why) = ⊥
 TakesNames old new was names health answers.NoMemory = ⊥
 TakesNames {g = g} old new was names health answers.DiskFailed =

@@ -104,19 +104,23 @@ module _ {D : Type 0} (g : Ghosts D) (reader : ℕ) (old : SharedView D) (reply 
       × (new ≡ old))
       ⊎ (ServesReader reader old command × MayServeReader command)))
 
+-- the line asks for what is read of the graph
+abbrev pub AsksQuestion : InputLine → Type 0
+AsksQuestion line = (command : Command) × SpellsLine line command × IsQuestion command
+
 module _ {D : Type 0} (g : Ghosts D) (old : SharedView D) (reply : Reply) (new : SharedView D) where
   -- Snapshots end only by a line that ends a transaction, for old records that it keeps.
-  abbrev pub MayEnd : Type 0
-  MayEnd =
+  abbrev pub MayEnd : InputLine → Type 0
+  MayEnd line =
       (new.held ≡ old.held)
-      ⊎ ((Confirms reply ⊎ (reply ≡ Faulted [] DiskFailed))
+      ⊎ ((Confirms reply ⊎ (reply ≡ Faulted [] DiskFailed)) × (¬ AsksQuestion line)
       × (weight : ℕ) × KeepsHeld weight old.held new.held)
 
   -- A line of the session that writes.
   abbrev pub MayStepWriter : InputLine → Type 0
   MayStepWriter line =
       (AsksForSnapshot line × (reply ≡ Refused refusals.Writer) × (new ≡ old))
-      ⊎ ((¬ AsksForSnapshot line) × MayStep g line old.session reply new.session × MayEnd)
+      ⊎ ((¬ AsksForSnapshot line) × MayStep g line old.session reply new.session × MayEnd line)
 
 module _ {D : Type 0} (g : Ghosts D) where
   -- a line of the session of this number

@@ -1,8 +1,9 @@
 -- Why a line is refused: conditions in the order in which they count.
 use Rattle.std.specs.Prelude.{◌≡◌, ◌⊎◌, ℕ, ◌+◌, ◌<◌, Option, Some, None, List, [], ◌∷◌, ◌++◌}
 use Rattle.stream_io.specs.Lines.{InputLine, Whole, Long}
-use Rattle.plain_graph.specs.Changes.{Weighs, most_weight}
-use Rattle.plain_graph.specs.Refusals.{Reason, change_reasons}
+use Rattle.plain_graph.specs.Changes.{most_weight, start_weight}
+use Rattle.plain_graph.specs.LineChanges.{LineWeighs, line_reasons}
+use Rattle.plain_graph.specs.Refusals.{Reason}
 use Rattle.plain_graph.specs.declared.command.Command.{Command}
 use Rattle.plain_graph.specs.declared.command.Command.TheVariants as commands
 use Rattle.plain_graph.specs.declared.refusal.Refusal.{Refusal}
@@ -59,13 +60,18 @@ no_transaction state line why =
     (¬ IsOpen state) × (SpellsLine line commands.Commit ⊎ SpellsLine line commands.Rollback)
     × (why ≡ refusals.NoTransaction)
 
--- the open transaction would weigh more than 2,048
+-- what a transaction weighs before the line: the open one, or one by itself
+abbrev pub weight_before : Option Transaction → ℕ
+weight_before None = start_weight
+weight_before (Some transaction) = transaction.weight
+
+-- The transaction would weigh more than 2,048. Of changes by themselves only those of a mutating
+-- query come to that.
 abbrev pub transaction_full : Condition
 transaction_full state line why =
-    (command : Command) × SpellsLine line command × (transaction : Transaction)
-    × (state.open_one ≡ Some transaction) × (weight : ℕ)
-    × Weighs state.shape.threshold transaction.graph command weight
-    × (most_weight < transaction.weight + weight) × (why ≡ refusals.TransactionFull)
+    (command : Command) × SpellsLine line command × (weight : ℕ)
+    × LineWeighs state.shape.limit state.shape.threshold (seen state) command weight
+    × (most_weight < weight_before state.open_one + weight) × (why ≡ refusals.TransactionFull)
 
 -- the line spells a command that the graph that it sees refuses for this reason
 abbrev pub refused_by : Reason → Condition
@@ -83,7 +89,7 @@ early_order = line_too_long ∷ grammar_fault ∷ store_failed ∷ transaction_o
 
 -- those of changes and of a node whose edges are asked for, and of the transaction's weight
 abbrev pub late_order : List Condition
-late_order = conditions_of change_reasons ++ transaction_full ∷ []
+late_order = conditions_of line_reasons ++ transaction_full ∷ []
 
 -- the order in which they count
 abbrev pub refusal_order : List Condition

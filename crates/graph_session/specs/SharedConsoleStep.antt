@@ -1,7 +1,8 @@
 -- The step of the console of the session that writes, and what it leaves of the snapshots.
 use Rattle.std.specs.Prelude.{◌≡◌, ◌⊎◌, ◌+◌, ℕ, Some, None, []}
 use Rattle.stream_io.specs.Lines.{InputLine}
-use Rattle.plain_graph.specs.Changes.{Weighs, start_weight}
+use Rattle.plain_graph.specs.Changes.{start_weight}
+use Rattle.plain_graph.specs.LineChanges.{LineWeighs}
 use Rattle.plain_graph.specs.Reply.{DiskFailed, Faulted, Reply}
 use Rattle.plain_graph.specs.declared.command.Command.{Command}
 use Rattle.plain_graph.specs.declared.command.Command.TheVariants as commands
@@ -16,7 +17,7 @@ EndsOfWeight state line weight =
     ((transaction : Transaction) × (state.open_one ≡ Some transaction)
     × SpellsLine line commands.Commit × (weight ≡ transaction.weight))
     ⊎ ((state.open_one ≡ None) × (command : Command) × SpellsLine line command × (more : ℕ)
-    × Weighs state.shape.threshold state.committed command more
+    × LineWeighs state.shape.limit state.shape.threshold state.committed command more
     × (weight ≡ start_weight + more))
 
 -- What the readers have after a line: the snapshots that outlive the transaction that it ends; and

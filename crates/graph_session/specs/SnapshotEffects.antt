@@ -3,10 +3,11 @@ use Rattle.std.specs.Prelude.{◌≡◌, ◌⊎◌, ◌+◌, ◌≤◌, ℕ, tru
 use Rattle.std.specs.Prelude.{is_some}
 use Rattle.disk_model.specs.Spans.{OnlyReads}
 use Rattle.disk_model.specs.declared.disk.Disk.{Ghosts}
-use Rattle.plain_graph.specs.Changes.{Weighs, start_weight}
+use Rattle.plain_graph.specs.Changes.{start_weight}
 use Rattle.plain_graph.specs.Kinds.{Bound, Change, Kind}
+use Rattle.plain_graph.specs.LineChanges.{LineWeighs}
 use Rattle.plain_graph.specs.Lines.{kind_of}
-use Rattle.plain_graph.specs.Reply.{DiskFailed, Done, EdgeMade, Faulted, NodeMade, Reply}
+use Rattle.plain_graph.specs.Reply.{DiskFailed, Done, EdgeMade, Faulted, NodeMade, Reply, Told}
 use Rattle.plain_graph.specs.declared.command.Command.{Command}
 use Rattle.plain_graph.specs.declared.command.Command.TheVariants as commands
 use Rattle.rec_bytes.specs.Pairs.{IsOrdered, Pairs, find_pair}
@@ -37,11 +38,12 @@ pub record AreWeighed (written : Pairs) (weight : ℕ) : Type 0 where
 abbrev pub IsWeighed : ConsoleView → Type 0
 IsWeighed console = console.is_open ≡ true → AreWeighed console.written console.weight
 
--- the reply confirms what the line asked for
+-- the reply says that the line was carried out
 abbrev pub Confirms : Reply → Type 0
 Confirms Done = Unit {0}
 Confirms (NodeMade id) = Unit {0}
 Confirms (EdgeMade id) = Unit {0}
+Confirms (Told lines last) = Unit {0}
 Confirms _ = ⊥
 
 module _ {D : Type 0} (g : Ghosts D) (old : SharedView D) (reply : Reply) (new : SharedView D) where
@@ -69,8 +71,8 @@ module _ {D : Type 0} (g : Ghosts D) (old : SharedView D) (reply : Reply) (new :
       ⊎ ((old.session.console.is_open ≡ false) × (more : ℕ) × KeepsFor (start_weight + more)
       × (g.tells_reads → IsWellFormed old.session.console.committed old.session.console.shape
       → old.session.console.names ≡ names_of old.session.console.committed
-      → Weighs old.session.console.shape.threshold (graph_of old.session.console.committed)
-      command more))
+      → LineWeighs old.session.console.shape.limit old.session.console.shape.threshold
+      (graph_of old.session.console.committed) command more))
 
   abbrev pub KeepsBound : Command → Type 0
   KeepsBound commands.Commit = KeepsCommit

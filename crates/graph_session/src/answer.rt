@@ -1,8 +1,9 @@
+use crate::results::Results;
 use plain_graph::Refusal;
 use rec_bytes::Damage;
 
-/// What a line is answered with that reads nothing of the graph.
-#[derive(Clone, Copy)]
+/// What a line is answered with that is no question.
+#[derive(Drop)]
 pub(crate) enum Answer {
     /// It was carried out.
     Done,
@@ -10,6 +11,8 @@ pub(crate) enum Answer {
     NodeMade(u32),
     /// It made an edge of this identifier.
     EdgeMade(u32),
+    /// It was carried out, and has these results.
+    Results(Results),
     /// It is refused, and changes nothing.
     Refused(Refusal),
     /// There was no memory for it, and it changes nothing.

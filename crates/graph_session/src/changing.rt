@@ -1,24 +1,45 @@
-ghost use Rattle.std.specs.Prelude.{◌≡◌, IfErr, IsTrue, OnErr, OnOk};
+ghost use Rattle.std.specs.Prelude.{◌≡◌, [], IfErr, IfOk, IsTrue, OnErr, OnOk};
+ghost use Rattle.std.specs.List.{AllByRecursion};
+ghost use Rattle.plain_graph.specs.Forms.{IsShown};
+ghost use Rattle.plain_graph.specs.LineChanges.{read_items};
 ghost use Rattle.plain_graph.specs.Lines.{HasForm};
 ghost use Rattle.plain_graph.specs.declared.command.Command.TheVariants as commands;
 ghost use Rattle.plain_graph.specs.declared.command.Target.TheVariants as targets;
+ghost use Rattle.plain_graph.specs.declared.mutation.Mutation.{Mutation as AMutation};
+ghost use Rattle.rec_bytes.specs.Pairs.{merged};
+ghost use Rattle.rec_bytes.specs.Space.{SameButReads};
+ghost use Rattle.txn_core.specs.Base.{SameBeneath};
+ghost use Rattle.txn_core.specs.Shipped.{AllShip};
+ghost use Rattle.txn_core.specs.Store.{drafted, working};
 ghost use Rattle.graph_ops.specs.Change.{full_of};
+ghost use Rattle.graph_ops.specs.Store.{graph_in};
 ghost use Rattle.graph_session.specs.Answering.{reply_of};
-ghost use Rattle.graph_session.specs.Drafting.{answer_for};
+ghost use Rattle.graph_session.specs.Drafting.{answer_for, answer_for_read};
 ghost use Rattle.graph_session.specs.Settling.{SettlesCommand};
 ghost use Rattle.graph_session.specs.SnapshotEffects.{KeepsOlds};
+ghost use Rattle.graph_session.specs.Tapping.{HasRoom, Takes, TapsCommand};
 ghost use Rattle.graph_session.specs.declared.health.Health.TheVariants as healths;
 
 use crate::answer::Answer;
+use crate::results::Results;
+use crate::tapping::forget;
 use crate::{Health, Session};
 use disk_model::Disk;
 use fault_count::Failed;
-use graph_ops::{Added, ChangeFault, add_edge, add_node, delete_edge, delete_node, set, unset};
-use plain_graph::{MOST_WEIGHT, Pairs, Refusal, Target, Text, Value};
-use rec_bytes::{NODES, PROPERTIES, RELATIONSHIPS};
+use graph_ops::{
+    Added, ChangeFault, Mutated, add_edge, add_node, delete_edge, delete_node, mutate, set, unset,
+};
+use plain_graph::{
+    Item, MOST_WEIGHT, Mutation, Pairs, Query, Refusal, START_WEIGHT, Target, Text, Value,
+};
+use rec_bytes::{Fault, NODES, PROPERTIES, RELATIONSHIPS, WriteSet};
+use std::alloc::AllocError;
+use traversal_run::items_of;
+use txn_core::Store;
 
-/// A change that stands in the store's draft: its answer, and what it weighs.
-#[derive(Clone, Copy)]
+/// A change that stands in the store's draft: its answer, and what it weighs, or 4,096 where that
+/// is less.
+#[derive(Drop)]
 struct Drafted {
     answer: Answer,
     weight: u32,
@@ -34,7 +55,7 @@ struct Begun {
 }
 
 impl<'d, D: Disk> Session<'d, D> {
-    ghost use Rattle.txn_core.specs.Store.{working};
+    ghost use Rattle.txn_core.specs.Store.{state_of};
     ghost use Rattle.graph_session.specs.Drafting.{
       BeginsChange,
       Discards,
@@ -43,92 +64,156 @@ impl<'d, D: Disk> Session<'d, D> {
       EndsChange,
       Finishes,
       FinishesAlone,
+      HasStore,
+      IsStopped,
       IsUnkept,
       KeepsDraft,
       OnlyDrafts,
       TriesCommit,
     };
     ghost use Rattle.graph_session.specs.Session.{HaveSameDisk, shared_view, view};
+    ghost use Rattle.graph_session.specs.TapEnds.{TapsAlone, TapsChange, TapsCommit};
 
     /// Makes a node, in the open transaction or else as a transaction by itself.
-    pub(crate) fn make_node(&mut self, label: &Text, pairs: &Pairs) -> Answer
+    pub(crate) fn make_node(
+        &mut self,
+        label: &Text,
+        pairs: &Pairs,
+        tap: &mut Option<WriteSet>,
+    ) -> Answer
         requires form { HasForm (commands.Node label.now pairs.now) }
+        requires room { HasRoom tap.old }
         requires live { self.old.health ≡ healths.Live }
         ensures settles { SettlesCommand D.Disk (commands.Node label.now pairs.now)
             (view self.old) (view self.new) (reply_of result) }
         ensures keeps { KeepsOlds D.Disk (commands.Node label.now pairs.now)
             (shared_view self.old) (reply_of result) (shared_view self.new) }
+        ensures taps { Takes (TapsCommand D.Disk (commands.Node label.now pairs.now)
+            (view self.old) (reply_of result) (view self.new)) tap.old tap.new }
         ensures same_disk { HaveSameDisk self.old self.new }
     {
         let begun = self.begin_change();
         let drafted = self.draft_node(label, pairs);
-        self.end_change(begun, drafted)
+        self.end_change(begun, drafted, tap)
     }
 
     /// Makes an edge, as `make_node` makes a node.
-    pub(crate) fn make_edge(&mut self, from: u32, label: &Text, to: u32, pairs: &Pairs) -> Answer
+    pub(crate) fn make_edge(
+        &mut self,
+        from: u32,
+        label: &Text,
+        to: u32,
+        pairs: &Pairs,
+        tap: &mut Option<WriteSet>,
+    ) -> Answer
         requires form { HasForm (commands.Edge from label.now to pairs.now) }
+        requires room { HasRoom tap.old }
         requires live { self.old.health ≡ healths.Live }
         ensures settles { SettlesCommand D.Disk (commands.Edge from label.now to pairs.now)
             (view self.old) (view self.new) (reply_of result) }
         ensures keeps { KeepsOlds D.Disk (commands.Edge from label.now to pairs.now)
             (shared_view self.old) (reply_of result) (shared_view self.new) }
+        ensures taps { Takes (TapsCommand D.Disk (commands.Edge from label.now to pairs.now)
+            (view self.old) (reply_of result) (view self.new)) tap.old tap.new }
         ensures same_disk { HaveSameDisk self.old self.new }
     {
         let begun = self.begin_change();
         let drafted = self.draft_edge(from, label, to, pairs);
-        self.end_change(begun, drafted)
+        self.end_change(begun, drafted, tap)
     }
 
     /// Gives an element a value for a key.
-    pub(crate) fn set_value(&mut self, target: Target, key: &Text, value: &Value) -> Answer
+    pub(crate) fn set_value(
+        &mut self,
+        target: Target,
+        key: &Text,
+        value: &Value,
+        tap: &mut Option<WriteSet>,
+    ) -> Answer
         requires form { HasForm (commands.Set target key.now value.now) }
+        requires room { HasRoom tap.old }
         requires live { self.old.health ≡ healths.Live }
         ensures settles { SettlesCommand D.Disk (commands.Set target key.now value.now)
             (view self.old) (view self.new) (reply_of result) }
         ensures keeps { KeepsOlds D.Disk (commands.Set target key.now value.now)
             (shared_view self.old) (reply_of result) (shared_view self.new) }
+        ensures taps { Takes (TapsCommand D.Disk (commands.Set target key.now value.now)
+            (view self.old) (reply_of result) (view self.new)) tap.old tap.new }
         ensures same_disk { HaveSameDisk self.old self.new }
     {
         let begun = self.begin_change();
         let drafted = self.draft_value(target, key, value);
-        self.end_change(begun, drafted)
+        self.end_change(begun, drafted, tap)
     }
 
     /// Takes the value of a key from an element.
-    pub(crate) fn unset_value(&mut self, target: Target, key: &Text) -> Answer
+    pub(crate) fn unset_value(
+        &mut self,
+        target: Target,
+        key: &Text,
+        tap: &mut Option<WriteSet>,
+    ) -> Answer
+        requires room { HasRoom tap.old }
         requires live { self.old.health ≡ healths.Live }
         ensures settles { SettlesCommand D.Disk (commands.Unset target key.now)
             (view self.old) (view self.new) (reply_of result) }
         ensures keeps { KeepsOlds D.Disk (commands.Unset target key.now)
             (shared_view self.old) (reply_of result) (shared_view self.new) }
+        ensures taps { Takes (TapsCommand D.Disk (commands.Unset target key.now)
+            (view self.old) (reply_of result) (view self.new)) tap.old tap.new }
         ensures same_disk { HaveSameDisk self.old self.new }
     {
         let begun = self.begin_change();
         let drafted = self.draft_no_value(target, key);
-        self.end_change(begun, drafted)
+        self.end_change(begun, drafted, tap)
     }
 
     /// Deletes a node or an edge.
-    pub(crate) fn delete(&mut self, target: Target) -> Answer
+    pub(crate) fn delete(&mut self, target: Target, tap: &mut Option<WriteSet>) -> Answer
+        requires room { HasRoom tap.old }
         requires live { self.old.health ≡ healths.Live }
         ensures settles { SettlesCommand D.Disk (commands.Delete target)
             (view self.old) (view self.new) (reply_of result) }
         ensures keeps { KeepsOlds D.Disk (commands.Delete target)
             (shared_view self.old) (reply_of result) (shared_view self.new) }
+        ensures taps { Takes (TapsCommand D.Disk (commands.Delete target)
+            (view self.old) (reply_of result) (view self.new)) tap.old tap.new }
         ensures same_disk { HaveSameDisk self.old self.new }
     {
         let begun = self.begin_change();
         match target {
             Target::Node(id) => {
                 let drafted = self.draft_deletion(id);
-                self.end_change(begun, drafted)
+                self.end_change(begun, drafted, tap)
             }
             Target::Edge(id) => {
                 let drafted = self.draft_edge_deletion(id);
-                self.end_change(begun, drafted)
+                self.end_change(begun, drafted, tap)
             }
         }
+    }
+
+    /// Makes the changes of a mutating query, as `make_node` makes a node.
+    pub(crate) fn mutate(
+        &mut self,
+        reading: &Option<Query>,
+        mutation: &Mutation,
+        tap: &mut Option<WriteSet>,
+    ) -> Answer
+        requires form { HasForm (commands.Mutate reading.now mutation.now) }
+        requires room { HasRoom tap.old }
+        requires live { self.old.health ≡ healths.Live }
+        ensures settles { SettlesCommand D.Disk (commands.Mutate reading.now mutation.now)
+            (view self.old) (view self.new) (reply_of result) }
+        ensures keeps { KeepsOlds D.Disk (commands.Mutate reading.now mutation.now)
+            (shared_view self.old) (reply_of result) (shared_view self.new) }
+        ensures taps { Takes (TapsCommand D.Disk (commands.Mutate reading.now mutation.now)
+            (view self.old) (reply_of result) (view self.new)) tap.old tap.new }
+        ensures same_disk { HaveSameDisk self.old self.new }
+    {
+        let begun = self.begin_change();
+        let drafted = self.draft_mutation(reading, mutation);
+        self.end_change(begun, drafted, tap)
     }
 
     // Begins a transaction for a change where none is open.
@@ -145,13 +230,21 @@ impl<'d, D: Disk> Session<'d, D> {
     }
 
     // Takes a drafted change into the transaction, or commits it where it is one by itself.
-    fn end_change(&mut self, begun: Begun, drafted: Result<Drafted, Answer>) -> Answer
+    fn end_change(
+        &mut self,
+        begun: Begun,
+        drafted: Result<Drafted, Answer>,
+        tap: &mut Option<WriteSet>,
+    ) -> Answer
         requires opened { IsTrue self.old.store.base.in_transaction }
         requires live { IsTrue self.old.store.base.live }
-        ensures { EndsChange begun drafted self.old self.new result }
+        requires room { HasRoom tap.old }
+        ensures ends { EndsChange begun drafted self.old self.new result }
+        ensures taps { TapsChange D.Disk begun drafted (view self.old) (view self.new) result
+            tap.old tap.new }
     {
         if begun.alone {
-            self.finish_alone(drafted, begun.names)
+            self.finish_alone(drafted, begun.names, tap)
         } else {
             self.finish(drafted, begun.names)
         }
@@ -252,6 +345,55 @@ impl<'d, D: Disk> Session<'d, D> {
         }
     }
 
+    // The changes of a mutating query in the draft. Its reading part is made whole before them.
+    fn draft_mutation(
+        &mut self,
+        reading: &Option<Query>,
+        mutation: &Mutation,
+    ) -> Result<Drafted, Answer>
+        requires { HasForm (commands.Mutate reading.now mutation.now) }
+        ensures only { OnlyDrafts self.old self.new }
+        ensures drafts { Drafts (commands.Mutate reading.now mutation.now)
+            self.old self.new result }
+    {
+        let items = self.read_items(reading)?;
+        match mutate(
+            self.alloc,
+            &mut self.store,
+            &mut self.names,
+            items,
+            mutation,
+        ) {
+            Ok(Mutated { items, weight }) => Ok(Drafted {
+                answer: Answer::Results(Results::new(items)),
+                weight,
+            }),
+            Err(fault) => Err(answer_of(fault)),
+        }
+    }
+
+    // The results of the reading part, in the graph that the line sees.
+    fn read_items(&mut self, reading: &Option<Query>) -> Result<Vec<Item>, Answer>
+        ensures only { OnlyDrafts self.old self.new }
+        ensures names { self.new.names.names ≡ self.old.names.names }
+        ensures same { SameButReads (state_of self.old.store) (state_of self.new.store) }
+        ensures items { D.tells_reads → HasStore self.old
+            → IfOk result (λ items. items.items
+            ≡ read_items (graph_in (state_of self.old.store)) reading.now) }
+        ensures shown { IfOk result (λ items. AllByRecursion IsShown items.items) }
+        ensures stopped { IfErr result (λ why. (mutation : AMutation)
+            → IsStopped (commands.Mutate reading.now mutation) self.old
+            self.new.store.base.disk.now why) }
+    {
+        match reading {
+            None => Ok(Vec::new(self.alloc)),
+            Some(query) => match items_of(self.alloc, &mut self.store, &self.names, query) {
+                Ok(items) => Ok(items),
+                Err(fault) => Err(answer_of_read(fault)),
+            },
+        }
+    }
+
     // Takes a drafted change into the open transaction, or drops it with the names that it brought.
     fn finish(&mut self, drafted: Result<Drafted, Answer>, names: u32) -> Answer
         requires { IsTrue self.old.store.base.in_transaction }
@@ -281,7 +423,7 @@ impl<'d, D: Disk> Session<'d, D> {
             self.drop_draft(names);
             return Err(Answer::Refused(Refusal::TransactionFull));
         }
-        match self.store.keep() {
+        match keep(&mut self.store) {
             Ok(()) => {
                 self.weight += weight;
                 Ok(())
@@ -301,32 +443,50 @@ impl<'d, D: Disk> Session<'d, D> {
         self.names.cut(names);
     }
 
-    // Commits a drafted change that is a transaction by itself.
-    fn finish_alone(&mut self, drafted: Result<Drafted, Answer>, names: u32) -> Answer
+    // Commits a drafted change that is a transaction by itself, unless it weighs more than one may.
+    fn finish_alone(
+        &mut self,
+        drafted: Result<Drafted, Answer>,
+        names: u32,
+        tap: &mut Option<WriteSet>,
+    ) -> Answer
         requires opened { IsTrue self.old.store.base.in_transaction }
         requires live { IsTrue self.old.store.base.live }
-        ensures { FinishesAlone drafted names self.old self.new result }
+        requires room { HasRoom tap.old }
+        ensures finishes { FinishesAlone drafted names self.old self.new result }
+        ensures taps { TapsAlone D.Disk drafted (view self.old) (view self.new) result
+            tap.old tap.new }
     {
         match drafted {
-            Ok(Drafted { answer, .. }) => match self.store.keep() {
-                Ok(()) => self.commit_alone(answer),
-                Err(_) => self.drop_alone(Answer::NoMemory, names),
-            },
+            Ok(Drafted { answer, weight }) => {
+                if weight > MOST_WEIGHT - START_WEIGHT {
+                    return self.drop_alone(Answer::Refused(Refusal::TransactionFull), names);
+                }
+                match keep(&mut self.store) {
+                    Ok(()) => self.commit_alone(answer, tap),
+                    Err(_) => self.drop_alone(Answer::NoMemory, names),
+                }
+            }
             Err(answer) => self.drop_alone(answer, names),
         }
     }
 
     // Commits the change, or leaves open whether it is on the disk. What it replaces is kept for the
     // snapshots first; where that can't be read, nothing is committed.
-    fn commit_alone(&mut self, answer: Answer) -> Answer
+    fn commit_alone(&mut self, answer: Answer, tap: &mut Option<WriteSet>) -> Answer
         requires opened { IsTrue self.old.store.base.in_transaction }
         requires live { IsTrue self.old.store.base.live }
-        ensures { TriesCommit (working self.old.store) self.old.store.base.own.pairs
+        requires room { HasRoom tap.old }
+        ensures tries { TriesCommit (working self.old.store) self.old.store.base.own.pairs
             self.old self.new answer result }
+        ensures taps { TapsCommit D.Disk (view self.old) (view self.new) answer result
+            tap.old tap.new }
     {
+        self.fill(tap);
         match self.store.commit_kept(&mut self.snaps) {
             Ok(()) => answer,
             Err(Failed) => {
+                forget(tap);
                 self.health = Health::Failed;
                 Answer::DiskFailed
             }
@@ -348,6 +508,26 @@ impl<'d, D: Disk> Session<'d, D> {
     }
 }
 
+// Takes the draft into the open transaction, where a shipment may have each of its records. Another
+// one is refused like a lack of memory.
+fn keep<D: Disk>(store: &mut Store<'_, D>) -> Result<(), AllocError>
+    requires in_transaction { IsTrue store.old.base.in_transaction }
+    requires ships { AllShip store.old.base.shape store.old.base.own.pairs }
+    ensures own { OnOk result (store.new.base.own.pairs
+        ≡ merged store.old.base.own.pairs store.old.draft.pairs) }
+    ensures working { OnOk result (working store.new ≡ drafted store.old) }
+    ensures draft { OnOk result (store.new.draft.pairs ≡ []) }
+    ensures refused { OnErr result (store.new.base.own.pairs ≡ store.old.base.own.pairs) }
+    ensures ships { AllShip store.new.base.shape store.new.base.own.pairs }
+    ensures in_transaction { IsTrue store.new.base.in_transaction }
+    ensures same { SameBeneath store.old.base store.new.base }
+{
+    if !store.draft_ships() {
+        return Err(AllocError);
+    }
+    store.keep()
+}
+
 // The answer of a change that is refused.
 fn answer_of(fault: ChangeFault) -> Answer
     ensures { result ≡ answer_for fault }
@@ -364,6 +544,17 @@ fn answer_of(fault: ChangeFault) -> Answer
             Answer::Refused(Refusal::HasRelationships { id })
         }
         ChangeFault::Damaged(damage) => Answer::Damaged(damage),
+    }
+}
+
+// The answer of a change whose reading part was not read to its end.
+fn answer_of_read(fault: Fault) -> Answer
+    ensures { result ≡ answer_for_read fault }
+{
+    match fault {
+        Fault::Memory => Answer::NoMemory,
+        Fault::Disk => Answer::DiskFailed,
+        Fault::Damaged(damage) => Answer::Damaged(damage),
     }
 }
 

@@ -10,7 +10,7 @@ use fault_count::Failed;
 use plain_graph::{damaged, disk_fault, done, edge_made, no_memory, node_made, refused};
 use stream_io::Sink;
 
-/// Gives an answer to the sink, in one piece. It takes no memory.
+/// Gives an answer to the sink, in one piece but for its results. It takes no memory.
 pub(crate) fn give_answer<K: Sink>(output: &mut K, mark: &[u8], answer: Answer) -> Turn
     ensures { Gives K.Sink (marked_text mark.now (reply_of answer)) output.old output.new result }
 {
@@ -18,6 +18,7 @@ pub(crate) fn give_answer<K: Sink>(output: &mut K, mark: &[u8], answer: Answer) 
         Answer::Done => give_line(output, mark, done()),
         Answer::NodeMade(id) => give_line(output, mark, node_made(id).as_bytes()),
         Answer::EdgeMade(id) => give_line(output, mark, edge_made(id).as_bytes()),
+        Answer::Results(results) => results.give(output, mark),
         Answer::Refused(why) => give_line(output, mark, refused(why).as_bytes()),
         Answer::NoMemory => give_line(output, mark, no_memory()),
         Answer::DiskFailed => give_line(output, mark, disk_fault()),

@@ -3,6 +3,7 @@ ghost use Rattle.rec_bytes.specs.Shape.{is_allowed};
 ghost use Rattle.record_file.specs.Redone.{Redoes};
 ghost use Rattle.snap_store.specs.Snaps.{no_snapshots};
 ghost use Rattle.txn_core.specs.Config.{shape_of};
+ghost use Rattle.txn_core.specs.Opening.{Opens as OpensStore};
 ghost use Rattle.graph_session.specs.Opening.{IsUnopened, Opens, unloaded};
 
 use crate::{Health, NotOpened, Session};
@@ -29,6 +30,10 @@ impl<'d, D: Disk> Session<'d, D> {
         ensures no_snapshots { IfOk result (λ session. session.snaps ≡ no_snapshots) }
         ensures stored { D.tells_reads → IfOk result (λ session.
             Redoes (D.reads (view session).disk) (view session).console.committed) }
+        // These are the records of the store that the disk has, or of a new one.
+        ensures records { D.tells_reads → IfOk result (λ session.
+            OpensStore (D.reads disk.old) config (view session).console.shape
+            (view session).console.committed) }
         ensures unopened { IfErr result (λ refusal.
             IsUnopened D.Disk config disk.old refusal.disk.now refusal.why) }
         ensures same_disk { IfOk result (λ session.

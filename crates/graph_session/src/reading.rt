@@ -131,6 +131,7 @@ fn is_of_readers(command: &Command) -> bool
         Command::Checkpoint | Command::Reopen => false,
         Command::Node { .. } | Command::Edge { .. } => false,
         Command::Set { .. } | Command::Unset { .. } | Command::Delete(_) => false,
+        Command::Mutate { .. } => false,
         _ => true,
     }
 }

@@ -1,4 +1,17 @@
-ghost use Rattle.std.specs.Prelude.{◌≡◌, ◌≢◌, ◌≤◌, ◌↔◌, IfNone, IfSome, IsTrue, List, OnSome, false, ℕ};
+ghost use Rattle.std.specs.Prelude.{
+  ◌≡◌,
+  ◌≢◌,
+  ◌≤◌,
+  ◌↔◌,
+  [],
+  IfNone,
+  IfSome,
+  IsTrue,
+  List,
+  OnSome,
+  false,
+  ℕ,
+};
 ghost use Rattle.stream_io.specs.Lines.{Long, Whole};
 ghost use Rattle.recovery.specs.Finding.{IsCareful};
 ghost use Rattle.graph_session.specs.Answer.{AnswersLine};
@@ -9,9 +22,11 @@ ghost use Rattle.graph_session.specs.Settling.{IsLoud, IsParsed, SettlesCommand,
 ghost use Rattle.graph_session.specs.SharedExchange.{IsOfSnapshots};
 ghost use Rattle.graph_session.specs.SnapshotEffects.{KeepsOlds};
 ghost use Rattle.graph_session.specs.State.{mark_in};
+ghost use Rattle.graph_session.specs.Tapping.{AllShip-prop, HasRoom, Takes, TapsAnswer, TapsCommand, TapsLine};
 ghost use Rattle.graph_session.specs.Verdicts.{Judges, SeesRecords, seen_records};
 ghost use Rattle.store_rules.specs.Views.{Records};
 ghost use Rattle.snap_store.specs.Snaps.{IsReader};
+ghost use Rattle.txn_core.specs.Shipped.{AllShip};
 ghost use Rattle.gremlin_parse.specs.Tags.{session_of};
 ghost use Rattle.gremlin_parse.specs.Lines.{Spells};
 ghost use Rattle.plain_graph.specs.Lines.{HasForm, IsQuestion};
@@ -26,8 +41,10 @@ use disk_model::Disk;
 use gremlin_parse::{LineFault, Parsed, named_session, parse_line};
 use name_store::Names;
 use plain_graph::{Command, Refusal, mark_of};
+use rec_bytes::WriteSet;
 use snap_store::Snaps;
 use std::alloc::Global;
+use std::mem::replace;
 use stream_io::Sink;
 use txn_core::Store;
 
@@ -48,6 +65,10 @@ pub struct Session<'d, D: Disk> {
     pub(crate) alloc: Global,
     ghost light: { weight ≤ 2048 },
     ghost standing: { health ≡ healths.Live → IsTrue store.base.live },
+
+    // A shipment may have each record that the open transaction has written.
+    ghost ships: { AllShip store.base.shape store.base.own.pairs } by { AllShip-prop
+        store.base.shape store.base.own.pairs },
 }
 
 impl<'d, D: Disk> Session<'d, D> {
@@ -72,12 +93,35 @@ impl<'d, D: Disk> Session<'d, D> {
         ensures no_draft { HasNoDraft (view self.old) → HasNoDraft (view self.new) }
         ensures same_disk { HaveSameDisk self.old self.new }
     {
-        let mark = mark_of(named_session(line));
-        match parse_line(self.alloc, line) {
-            Ok(Parsed { session, command }) => {
-                self.answer(session, &command, mark.as_bytes(), output)
+        self.answer_line(line, output, &mut None)
+    }
+
+    /// Answers a line as `step` does, and puts into an empty set what the line's transaction has
+    /// written, if its reply acknowledges one. That takes no memory: the set has room for 2,048
+    /// records.
+    pub fn step_tapped<K: Sink>(&mut self, line: &[u8], output: &mut K, tap: &mut WriteSet) -> Turn
+        requires empty { tap.old.pairs ≡ [] }
+        requires room { 2048 ≤ tap.old.room }
+        ensures answers { TapsLine D.Disk K.Sink (Whole line.now) (with_sink self.old output.old)
+            (with_sink self.new output.new) result tap.new.pairs }
+        ensures judges { Spells line.now commands.Check → self.old.health ≡ healths.Live
+            → (records : Records)
+            → SeesRecords (shared_view self.old) (session_of line.now) records
+            → Judges D.tells_reads K.Sink (mark_in (Whole line.now)) records
+            (view self.old).console.shape output.old output.new result }
+        ensures careful { Spells line.now commands.Reopen
+            → IsCareful D.Disk (view self.old).disk (view self.new).disk }
+        ensures no_draft { HasNoDraft (view self.old) → HasNoDraft (view self.new) }
+        ensures same_disk { HaveSameDisk self.old self.new }
+    {
+        let mut taken = Some(replace(tap, WriteSet::new(self.alloc)));
+        let turn = self.answer_line(line, output, &mut taken);
+        match taken {
+            Some(set) => {
+                *tap = set;
+                turn
             }
-            Err(fault) => give_answer(output, mark.as_bytes(), answer_of(fault)),
+            None => turn,
         }
     }
 
@@ -107,6 +151,36 @@ impl<'d, D: Disk> Session<'d, D> {
         self.health
     }
 
+    // Answers a line, and fills the set, if there is one, as `step_tapped` does.
+    fn answer_line<K: Sink>(
+        &mut self,
+        line: &[u8],
+        output: &mut K,
+        tap: &mut Option<WriteSet>,
+    ) -> Turn
+        requires room { HasRoom tap.old }
+        ensures answers { TapsAnswer D.Disk K.Sink (Whole line.now)
+            (with_sink self.old output.old) (with_sink self.new output.new) result
+            tap.old tap.new }
+        ensures judges { Spells line.now commands.Check → self.old.health ≡ healths.Live
+            → (records : Records)
+            → SeesRecords (shared_view self.old) (session_of line.now) records
+            → Judges D.tells_reads K.Sink (mark_in (Whole line.now)) records
+            (view self.old).console.shape output.old output.new result }
+        ensures careful { Spells line.now commands.Reopen
+            → IsCareful D.Disk (view self.old).disk (view self.new).disk }
+        ensures no_draft { HasNoDraft (view self.old) → HasNoDraft (view self.new) }
+        ensures same_disk { HaveSameDisk self.old self.new }
+    {
+        let mark = mark_of(named_session(line));
+        match parse_line(self.alloc, line) {
+            Ok(Parsed { session, command }) => {
+                self.answer(session, &command, mark.as_bytes(), output, tap)
+            }
+            Err(fault) => give_answer(output, mark.as_bytes(), answer_of(fault)),
+        }
+    }
+
     // Answers a line of a session that spells this command. The mark stands before each line of its
     // reply.
     fn answer<K: Sink>(
@@ -115,12 +189,15 @@ impl<'d, D: Disk> Session<'d, D> {
         command: &Command,
         mark: &[u8],
         output: &mut K,
+        tap: &mut Option<WriteSet>,
     ) -> Turn
+        requires room { HasRoom tap.old }
         requires form { HasForm command.now }
         requires session { session ≤ 7 }
         ensures answers { (line : List ℕ) → IsParsed line session command.now mark.now
-            → AnswersLine D.Disk K.Sink (Whole line)
-            (with_sink self.old output.old) (with_sink self.new output.new) result }
+            → TapsAnswer D.Disk K.Sink (Whole line)
+            (with_sink self.old output.old) (with_sink self.new output.new) result
+            tap.old tap.new }
         ensures judges { command.now ≡ commands.Check → self.old.health ≡ healths.Live
             → (records : Records) → SeesRecords (shared_view self.old) session records
             → Judges D.tells_reads K.Sink mark.now records (view self.old).console.shape
@@ -132,7 +209,7 @@ impl<'d, D: Disk> Session<'d, D> {
         match command {
             Command::Blank => Turn::Go,
             Command::Quit => Turn::Quit,
-            other => self.serve(session, other, mark, output),
+            other => self.serve(session, other, mark, output, tap),
         }
     }
 
@@ -143,13 +220,16 @@ impl<'d, D: Disk> Session<'d, D> {
         command: &Command,
         mark: &[u8],
         output: &mut K,
+        tap: &mut Option<WriteSet>,
     ) -> Turn
+        requires room { HasRoom tap.old }
         requires form { HasForm command.now }
         requires loud { IsLoud command.now }
         requires session { session ≤ 7 }
         ensures answers { (line : List ℕ) → IsParsed line session command.now mark.now
-            → AnswersLine D.Disk K.Sink (Whole line)
-            (with_sink self.old output.old) (with_sink self.new output.new) result }
+            → TapsAnswer D.Disk K.Sink (Whole line)
+            (with_sink self.old output.old) (with_sink self.new output.new) result
+            tap.old tap.new }
         ensures judges { command.now ≡ commands.Check → self.old.health ≡ healths.Live
             → (records : Records) → SeesRecords (shared_view self.old) session records
             → Judges D.tells_reads K.Sink mark.now records (view self.old).console.shape
@@ -159,19 +239,27 @@ impl<'d, D: Disk> Session<'d, D> {
         ensures same_disk { HaveSameDisk self.old self.new }
     {
         if session == WRITER {
-            self.serve_writer(command, mark, output)
+            self.serve_writer(command, mark, output, tap)
         } else {
             self.serve_reader(session, command, mark, output)
         }
     }
 
     // Answers it for the session that writes.
-    fn serve_writer<K: Sink>(&mut self, command: &Command, mark: &[u8], output: &mut K) -> Turn
+    fn serve_writer<K: Sink>(
+        &mut self,
+        command: &Command,
+        mark: &[u8],
+        output: &mut K,
+        tap: &mut Option<WriteSet>,
+    ) -> Turn
+        requires room { HasRoom tap.old }
         requires form { HasForm command.now }
         requires loud { IsLoud command.now }
         ensures answers { (line : List ℕ) → IsParsed line 0 command.now mark.now
-            → AnswersLine D.Disk K.Sink (Whole line)
-            (with_sink self.old output.old) (with_sink self.new output.new) result }
+            → TapsAnswer D.Disk K.Sink (Whole line)
+            (with_sink self.old output.old) (with_sink self.new output.new) result
+            tap.old tap.new }
         ensures judges { command.now ≡ commands.Check → self.old.health ≡ healths.Live
             → Judges D.tells_reads K.Sink mark.now (seen_records (view self.old).console)
             (view self.old).console.shape output.old output.new result }
@@ -185,7 +273,7 @@ impl<'d, D: Disk> Session<'d, D> {
         if self.refuses(command) {
             return give_answer(output, mark, Answer::Refused(Refusal::Failed));
         }
-        match self.settle(command) {
+        match self.settle(command, tap) {
             Some(answer) => give_answer(output, mark, answer),
             None => answer_question(
                 self.alloc,
@@ -209,7 +297,8 @@ impl<'d, D: Disk> Session<'d, D> {
 
     // Carries out a command that is no question; of one it is none, and nothing is done. It has no
     // sink: what is said of the disk at its return holds before a byte of the reply is given.
-    fn settle(&mut self, command: &Command) -> Option<Answer>
+    fn settle(&mut self, command: &Command, tap: &mut Option<WriteSet>) -> Option<Answer>
+        requires room { HasRoom tap.old }
         requires served { IsServed (view self.old).console command.now }
         requires form { HasForm command.now }
         requires loud { IsLoud command.now }
@@ -218,6 +307,9 @@ impl<'d, D: Disk> Session<'d, D> {
             (view self.old) (view self.new) (reply_of answer)) }
         ensures keeps { IfSome result (λ answer. KeepsOlds D.Disk command.now
             (shared_view self.old) (reply_of answer) (shared_view self.new)) }
+        ensures taps { IfSome result (λ answer. Takes (TapsCommand D.Disk command.now
+            (view self.old) (reply_of answer) (view self.new)) tap.old tap.new) }
+        ensures untapped { IfNone result (tap.new ≡ tap.old) }
         ensures told { OnSome result (¬ IsQuestion command.now) }
         ensures asked { IfNone result (IsQuestion command.now × (self.new ≡ self.old)) }
         ensures careful { command.now ≡ commands.Reopen
@@ -226,20 +318,21 @@ impl<'d, D: Disk> Session<'d, D> {
     {
         match command {
             Command::Begin => Some(self.begin()),
-            Command::Commit => Some(self.commit()),
+            Command::Commit => Some(self.commit(tap)),
             Command::Rollback => Some(self.rollback()),
             Command::Checkpoint => Some(self.checkpoint()),
             Command::Reopen => Some(self.reopen()),
-            Command::Node { label, pairs } => Some(self.make_node(label, pairs)),
+            Command::Node { label, pairs } => Some(self.make_node(label, pairs, tap)),
             Command::Edge {
                 from,
                 label,
                 to,
                 pairs,
-            } => Some(self.make_edge(*from, label, *to, pairs)),
-            Command::Set { target, key, value } => Some(self.set_value(*target, key, value)),
-            Command::Unset { target, key } => Some(self.unset_value(*target, key)),
-            Command::Delete(target) => Some(self.delete(*target)),
+            } => Some(self.make_edge(*from, label, *to, pairs, tap)),
+            Command::Set { target, key, value } => Some(self.set_value(*target, key, value, tap)),
+            Command::Unset { target, key } => Some(self.unset_value(*target, key, tap)),
+            Command::Delete(target) => Some(self.delete(*target, tap)),
+            Command::Mutate { reading, mutation } => Some(self.mutate(reading, mutation, tap)),
             _ => None,
         }
     }

@@ -1,7 +1,11 @@
-use Rattle.std.proofs.Common.{Err, ap}
+use Rattle.std.proofs.Common.{Err, ap, refl}
+use Rattle.plain_graph.specs.Reply.{Done}
 use Rattle.plain_graph.specs.declared.command.Command.TheVariants as commands
-use Rattle.graph_session.proofs.Drafts.{fault-stopped}
+use Rattle.graph_session.proofs.LineDrafts.{change-drafts, fault-stopped}
 use Rattle.graph_session.proofs.session.Session.draft_no_value.Goals as goal
+
+pub returns-in-Ok-clause-drafts : goal.returns-in-Ok-clause-drafts
+returns-in-Ok-clause-drafts g c = change-drafts (commands.Unset c.args.target c.args.key.now) Done refl (λ told has. c.in-Ok.ensures.made told has) c.in-Ok.ensures.light c.in-Ok.ensures.writes
 
 pub returns-in-Err-clause-drafts : goal.returns-in-Err-clause-drafts
 returns-in-Err-clause-drafts g c =

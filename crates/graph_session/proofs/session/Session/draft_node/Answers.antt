@@ -1,7 +1,11 @@
-use Rattle.std.proofs.Common.{Err, ap}
+use Rattle.std.proofs.Common.{Err, ap, refl}
+use Rattle.plain_graph.specs.Reply.{NodeMade}
 use Rattle.plain_graph.specs.declared.command.Command.TheVariants as commands
-use Rattle.graph_session.proofs.Drafts.{fault-stopped}
+use Rattle.graph_session.proofs.LineDrafts.{change-drafts, fault-stopped}
 use Rattle.graph_session.proofs.session.Session.draft_node.Goals as goal
+
+pub returns-in-Ok-clause-drafts : goal.returns-in-Ok-clause-drafts
+returns-in-Ok-clause-drafts g c = change-drafts (commands.Node c.args.label.now c.args.pairs.now) (NodeMade c.in-Ok.field-0.id) (c.in-Ok.field-0.id, refl) (λ told has. c.in-Ok.ensures.made told has) c.in-Ok.ensures.light c.in-Ok.ensures.writes
 
 pub returns-in-Err-clause-drafts : goal.returns-in-Err-clause-drafts
 returns-in-Err-clause-drafts g c =

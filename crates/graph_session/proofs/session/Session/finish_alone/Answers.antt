@@ -1,6 +1,17 @@
-use Rattle.std.proofs.Common.{inl, refl}
+use Rattle.std.proofs.Common.{◌∙◌, ◌+◌, ◌≤◌, arith, inl, inr, refl}
+use Rattle.plain_graph.specs.Changes.{most_weight, start_weight}
+use Rattle.txn_core.proofs.StoreRecords.{committed-beneath}
+use Rattle.graph_session.specs.Session.{view}
 use Rattle.graph_session.proofs.Drafts.{tries-kept}
+use Rattle.graph_session.proofs.Taps.{commit-from, takes-nothing}
 use Rattle.graph_session.proofs.session.Session.finish_alone.Goals as goal
 
-pub returns-in-Ok-keep : goal.returns-in-Ok-keep
-returns-in-Ok-keep g c = rw c.in-Ok.is (inl (tries-kept c.in-Ok-keep.ensures.same c.in-Ok-keep.ensures.working refl refl c.in-Ok-keep.ensures.own refl c.in-Ok.field-0.answer c.commit_alone.result c.commit_alone.ensures))
+pub returns-in-Ok-keep-clause-finishes : goal.returns-in-Ok-keep-clause-finishes
+returns-in-Ok-keep-clause-finishes g c =
+    let fits : start_weight + c.in-Ok.field-0.weight ≤ most_weight = omega arith in
+    rw c.in-Ok.is (inl (fits, tries-kept c.in-Ok-keep.ensures.same c.in-Ok-keep.ensures.working refl refl c.in-Ok-keep.ensures.own refl c.in-Ok.field-0.answer c.commit_alone.result c.commit_alone.ensures.tries))
+
+pub returns-in-Ok-keep-clause-taps : goal.returns-in-Ok-keep-clause-taps
+returns-in-Ok-keep-clause-taps g c =
+    let s = c.args.self.now in
+    rw c.in-Ok.is (inl (commit-from g.D.Disk (view s) _ (view c.commit_alone.new.self) c.in-Ok.field-0.answer c.commit_alone.result c.args.tap.now c.commit_alone.new.tap (committed-beneath s.store.base c.keep.new.store.base c.in-Ok-keep.ensures.same) c.commit_alone.ensures.taps))

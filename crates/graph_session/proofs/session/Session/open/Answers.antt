@@ -1,8 +1,10 @@
 use Rattle.std.proofs.Common.{Err, ap, inl, refl, subst, sym}
 use Rattle.rec_bytes.specs.declared.key.Key.{Key}
 use Rattle.rec_bytes.specs.declared.record.Rec.{Rec}
+use Rattle.rec_bytes.specs.declared.shape.Shape.{Shape}
 use Rattle.record_file.specs.Redone.{Redoes}
 use Rattle.record_file.proofs.Redone.{Redoes-kept}
+use Rattle.txn_core.specs.Opening.{Opens}
 use Rattle.txn_core.specs.Store.{committed}
 use Rattle.txn_core.proofs.StoreRecords.{committed-read}
 use Rattle.name_store.specs.declared.names.Names.{Names}
@@ -79,3 +81,11 @@ returns-in-Ok-load-clause-stored g c = λ told.
     let loaded = c.load.new.space in
     subst (λ (records : Key → Rec). Redoes (d.reads loaded.base.disk.now) records) (sym (committed-read opened.base loaded.base c.load.ensures.onward))
     (Redoes-kept (committed opened) (d.reads opened.base.disk.now) (d.reads loaded.base.disk.now) (c.in-Ok.ensures.stored.read told) c.load.ensures.onward.disk.keeps)
+
+-- these are the records of the store that was opened
+pub returns-in-Ok-load-clause-records : goal.returns-in-Ok-load-clause-records
+returns-in-Ok-load-clause-records g c = λ told.
+    let opened = c.in-Ok.store in
+    let loaded = c.load.new.space in
+    subst (λ (shape : Shape). Opens (g.D.Disk.reads c.args.disk.now) c.args.config shape (committed loaded)) (sym c.load.ensures.onward.shape)
+    (subst (λ (records : Key → Rec). Opens (g.D.Disk.reads c.args.disk.now) c.args.config opened.base.shape records) (sym (committed-read opened.base loaded.base c.load.ensures.onward)) (c.in-Ok.ensures.opened told))

@@ -1,0 +1,36 @@
+-- What the end of a change leaves in the set that takes the records of its transaction.
+use Rattle.std.specs.Prelude.{◌≡◌, ◌⊎◌, true, false, Option, Result, Ok, Err}
+use Rattle.disk_model.specs.declared.disk.Disk.{Ghosts}
+use Rattle.rec_bytes.specs.Pairs.{Held}
+use Rattle.graph_session.specs.Console.{SessionView}
+use Rattle.graph_session.specs.Drafting.{IsUnkeptAlone}
+use Rattle.graph_session.specs.Tapping.{IsEmpty, IsTapped, Takes}
+use Rattle.graph_session.specs.declared.answer.Answer.{Answer}
+use Rattle.graph_session.specs.declared.answer.Answer.TheVariants as answers
+use Rattle.graph_session.specs.declared.changing.Begun.{Begun}
+use Rattle.graph_session.specs.declared.changing.Drafted.{Drafted}
+
+-- a commit that was to be answered so ended, with what was committed, or else with nothing
+abbrev pub TapsCommit :
+    {D : Type 0} → Ghosts D → SessionView D → SessionView D → Answer → Answer → Option Held
+    → Option Held → Type 0
+TapsCommit g old new made answer was tap =
+    ((answer ≡ made) × Takes (IsTapped g old new) was tap)
+    ⊎ ((answer ≡ answers.DiskFailed) × Takes IsEmpty was tap)
+
+-- a change that is a transaction by itself
+abbrev pub TapsAlone :
+    {D : Type 0} → Ghosts D → Result Drafted Answer → SessionView D → SessionView D → Answer
+    → Option Held → Option Held → Type 0
+TapsAlone g (Ok made) old new answer was tap =
+    TapsCommit g old new made.answer answer was tap
+    ⊎ (IsUnkeptAlone made.weight answer × Takes IsEmpty was tap)
+TapsAlone g (Err why) old new answer was tap = (answer ≡ why) × Takes IsEmpty was tap
+
+-- a change, in the open transaction or by itself
+abbrev pub TapsChange :
+    {D : Type 0} → Ghosts D → Begun → Result Drafted Answer → SessionView D → SessionView D
+    → Answer → Option Held → Option Held → Type 0
+TapsChange g begun drafted old new answer was tap =
+    ((begun.alone ≡ false) × Takes IsEmpty was tap)
+    ⊎ ((begun.alone ≡ true) × TapsAlone g drafted old new answer was tap)

@@ -1,0 +1,44 @@
+ghost use Rattle.std.specs.Prelude.{◌≡◌};
+ghost use Rattle.std.specs.List.{AllByRecursion};
+ghost use Rattle.plain_graph.specs.Forms.{IsShown};
+ghost use Rattle.plain_graph.specs.LineChanges.{mutated_reply};
+ghost use Rattle.plain_graph.specs.Reply.{marked_text};
+ghost use Rattle.graph_session.specs.Answer.{Gives};
+ghost use Rattle.graph_session.specs.Results.{AreShown-prop};
+
+use crate::Turn;
+use crate::line_buffer::LineBuffer;
+use plain_graph::{Item, end_of_results};
+use stream_io::Sink;
+
+/// The results of a change, which are kept until it is on the disk. Each has a line.
+#[derive(Drop)]
+pub(crate) struct Results {
+    items: Vec<Item>,
+    ghost shown: { AllByRecursion IsShown items.items } by { AreShown-prop items.items },
+}
+
+impl Results {
+    /// These results.
+    pub(crate) fn new(items: Vec<Item>) -> Results
+        requires { AllByRecursion IsShown items.items }
+        ensures { result.items ≡ items }
+    {
+        Results { items }
+    }
+
+    /// Gives a line for each result to the sink, and the end. It takes no memory.
+    pub(crate) fn give<K: Sink>(&self, output: &mut K, mark: &[u8]) -> Turn
+        ensures { Gives K.Sink (marked_text mark.now (mutated_reply self.now.items.items))
+            output.old output.new result }
+    {
+        let mut lines = LineBuffer::new(mark);
+        for item in &self.items {
+            match lines.add_result(output, item) {
+                Turn::Go => {}
+                turn => return turn,
+            }
+        }
+        lines.finish(output, end_of_results())
+    }
+}
