@@ -18,15 +18,15 @@ use Rattle.clap.specs.declared.error.kind.ErrorKind.TheVariants.{OutOfMemory}
 use Rattle.clap.proofs.WalkLemmas.{list_any-map, one_text-rows}
 use Rattle.console_words.specs.Command.{program_app}
 use Rattle.console_words.specs.Numbers.{ReadsNumber, ReadsSample}
-use Rattle.console_words.specs.Words.{AsksFor, AsksForRun, AsksForSample}
+use Rattle.console_words.specs.Words.{AsksFor, AsksForLines, AsksForRun}
 use Rattle.console_words.specs.declared.asked.Asked.{Asked}
-use Rattle.console_words.specs.declared.asked.Asked.TheVariants.{Run, Sample}
+use Rattle.console_words.specs.declared.asked.Asked.TheVariants.{Follow, Run, Sample}
 use Rattle.console_words.specs.declared.words_fault.WordsFault.{WordsFault}
 use Rattle.console_words.specs.declared.run_options.RunOptions.{RunOptions}
 use Rattle.console_words.specs.declared.sample_options.SampleOptions.{SampleOptions}
 use Rattle.console_words.proofs.Turns.{escape, idle_at}
 use Rattle.console_words.proofs.Reading.{LacksEscape, LacksEscape-words_of, Reads, back, end_of, level_back, level_from, reads, words_of}
-use Rattle.console_words.proofs.Program.{begins_sub, leaf_of, no_words, sub_back, sub_from, sub_name, sub_rows, subcommand_at}
+use Rattle.console_words.proofs.Program.{Sub, begins_sub, follows, leaf_of, no_words, runs, samples, sub_back, sub_from, sub_name, sub_rows, subcommand_at}
 use Rattle.console_words.proofs.Asks.{RunAnswers, asks_back, asks_for}
 use Rattle.console_words.proofs.Sampling.{sample_from}
 use Rattle.console_words.proofs.Sampled.{SampleAnswers, asks_for_sample, sample_asked, sample_is_read}
@@ -54,7 +54,7 @@ escape_of_texts f (x ∷ xs) =
 
 -- what the words ask for, as the level of a subcommand
 record SubBack (words : List Text) : Type 0 where
-  which : Bool
+  which : Sub
   name : Text
   rest : List Text
   words_are : words ≡ name ∷ sub_name which ∷ rest
@@ -66,7 +66,7 @@ sub_back_of words (Run options) a =
     let b = asks_back words options a in
     let rest = back b.passes.uses [] None refl b.passes.pass in
     record {
-      which = true;
+      which = runs;
       name = b.name;
       rest = words_of b.passes.uses;
       words_are = b.words_are ∙ ap (λ ws. b.name ∷ codes "run" ∷ ws) b.passes.words_are;
@@ -74,8 +74,11 @@ sub_back_of words (Run options) a =
       level = level_back (words_of b.passes.uses) rest;
     }
 sub_back_of words (Sample options) a =
-    let b = sample_asked words options a in
-    record { which = false; name = b.name; rest = b.rest; words_are = b.words_are; lacks = b.lacks; level = b.level }
+    let b = sample_asked (codes "sample") 20000 (omega arith) words options a in
+    record { which = samples; name = b.name; rest = b.rest; words_are = b.words_are; lacks = b.lacks; level = b.level }
+sub_back_of words (Follow options) a =
+    let b = sample_asked (codes "follow") 2000 (omega arith) words options a in
+    record { which = follows; name = b.name; rest = b.rest; words_are = b.words_are; lacks = b.lacks; level = b.level }
 
 -- words with a `--` behind the name ask for nothing
 pub escape_asks_nothing : (words : List Text) → list_any (λ w. bytes_eq w escape) (drop 1 words) ≡ true → (asked : Asked) → AsksFor words asked → ⊥
@@ -87,9 +90,10 @@ escape_asks_nothing words e asked a =
     let both : true ≡ false = sym e ∙ none in
     cc
   where
-    no_escape : (which : Bool) → bytes_eq (sub_name which) escape ≡ false
-    no_escape true = refl
-    no_escape false = refl
+    no_escape : (which : Sub) → bytes_eq (sub_name which) escape ≡ false
+    no_escape runs = refl
+    no_escape samples = refl
+    no_escape follows = refl
 
 -- what is asked for is taken
 pub asked_is_taken : (words : List Text) (asked : Asked) → AsksFor words asked → fault_of program_app words ≡ []
@@ -139,7 +143,7 @@ same_sub (Some p) name rows e f =
 
 -- the words as the level of a subcommand
 record SubTaken (words : List Text) (sub : Option (Text × List Row)) : Type 0 where
-  which : Bool
+  which : Sub
   name : Text
   rest : List Text
   words_are : words ≡ name ∷ sub_name which ∷ rest
@@ -165,22 +169,28 @@ sub_taken (name ∷ ws) sub t =
 
 -- no other subcommand is met
 pub no_other_sub : (words : List Text) (sub : Option (Text × List Row)) → IsTaken words sub
-    → (name_in sub ≡ Some (codes "run") → ⊥) → (name_in sub ≡ Some (codes "sample") → ⊥) → ⊥
-no_other_sub words sub t no_run no_sample = go s.which (ap name_in s.sub_is)
+    → (name_in sub ≡ Some (codes "run") → ⊥) → (name_in sub ≡ Some (codes "sample") → ⊥) → (name_in sub ≡ Some (codes "follow") → ⊥) → ⊥
+no_other_sub words sub t no_run no_sample no_follow = go s.which (ap name_in s.sub_is)
   where
     s : SubTaken words sub
     s = sub_taken words sub t
 
-    go : (which : Bool) → name_in sub ≡ Some (sub_name which) → ⊥
-    go true e = no_run e
-    go false e = no_sample e
+    go : (which : Sub) → name_in sub ≡ Some (sub_name which) → ⊥
+    go runs e = no_run e
+    go samples e = no_sample e
+    go follows e = no_follow e
 
 -- the names of the subcommands differ
-one_name : (a b : Bool) → sub_name a ≡ sub_name b → a ≡ b
-one_name true true e = refl
-one_name true false e = let same : true ≡ false = ap (λ n. bytes_eq n (codes "run")) e in cc
-one_name false true e = let same : true ≡ false = ap (λ n. bytes_eq n (codes "sample")) e in cc
-one_name false false e = refl
+one_name : (a b : Sub) → sub_name a ≡ sub_name b → a ≡ b
+one_name runs runs e = refl
+one_name runs samples e = let same : true ≡ false = ap (λ n. bytes_eq n (codes "run")) e in cc
+one_name runs follows e = let same : true ≡ false = ap (λ n. bytes_eq n (codes "run")) e in cc
+one_name samples runs e = let same : true ≡ false = ap (λ n. bytes_eq n (codes "sample")) e in cc
+one_name samples samples e = refl
+one_name samples follows e = let same : true ≡ false = ap (λ n. bytes_eq n (codes "sample")) e in cc
+one_name follows runs e = let same : true ≡ false = ap (λ n. bytes_eq n (codes "follow")) e in cc
+one_name follows samples e = let same : true ≡ false = ap (λ n. bytes_eq n (codes "follow")) e in cc
+one_name follows follows e = refl
 
 pair_parts : (a b : Text × List Row) → Some a ≡ Some b → (a.0 ≡ b.0) × (a.1 ≡ b.1)
 pair_parts a b e =
@@ -192,11 +202,11 @@ module _ (words : List Text) (sub : Option (Text × List Row)) (t : IsTaken word
   s = sub_taken words sub t
 
   -- the subcommand of the name, in place of the one that was taken
-  abbrev IsThat : Bool → Type 0
+  abbrev IsThat : Sub → Type 0
   IsThat which = (rows ≡ sub_rows which s.rest) × (words ≡ s.name ∷ sub_name which ∷ s.rest)
       × (level_fault (leaf_of which) [] nothing_held s.rest false [] ≡ [])
 
-  is_that : (which : Bool) → name_in sub ≡ Some (sub_name which) → IsThat which
+  is_that : (which : Sub) → name_in sub ≡ Some (sub_name which) → IsThat which
   is_that which name_is = subst IsThat same_which (parts.1, s.words_are, s.level)
     where
       parts : (sub_name which ≡ sub_name s.which) × (rows ≡ sub_rows s.which s.rest)
@@ -208,23 +218,35 @@ module _ (words : List Text) (sub : Option (Text × List Row)) (t : IsTaken word
 
   pub run_asks : name_in sub ≡ Some (codes "run") → (options : RunOptions) → RunAnswers rows options → AsksFor words (Run options)
   run_asks name_is options answers =
-      let run = is_that true name_is in
+      let run = is_that runs name_is in
       let r : Reads [] None s.rest (end_of (idle_at [] None) s.rest) = (reads s.rest s.lacks).0 [] None (level_from s.rest run.2) in
       let asks = asks_for s.name r.uses options r.pass (subst (λ (rows : List Row). RunAnswers rows options) (run.0 ∙ r.ends) answers) in
       subst (λ (words : List Text). AsksForRun words options) (sym (run.1 ∙ ap (λ t. s.name ∷ codes "run" ∷ t) r.words_are)) asks
 
   pub sample_asks : name_in sub ≡ Some (codes "sample") → (options : SampleOptions) → SampleAnswers rows (Some options) → AsksFor words (Sample options)
   sample_asks name_is options answers =
-      let sample = is_that false name_is in
-      let asks = asks_for_sample s.rest (sample_from s.rest s.lacks sample.2) s.name options
+      let sample = is_that samples name_is in
+      let asks = asks_for_sample (codes "sample") 20000 (omega arith) s.rest (sample_from (codes "sample") 20000 s.rest s.lacks sample.2) s.name options
       (subst (λ (rows : List Row). SampleAnswers rows (Some options)) sample.0 answers) in
-      subst (λ (words : List Text). AsksForSample words options) (sym sample.1) asks
+      subst (λ (words : List Text). AsksForLines (codes "sample") 20000 words options) (sym sample.1) asks
+
+  pub follow_asks : name_in sub ≡ Some (codes "follow") → (options : SampleOptions) → SampleAnswers rows (Some options) → AsksFor words (Follow options)
+  follow_asks name_is options answers =
+      let follow = is_that follows name_is in
+      let asks = asks_for_sample (codes "follow") 2000 (omega arith) s.rest (sample_from (codes "follow") 2000 s.rest s.lacks follow.2) s.name options
+      (subst (λ (rows : List Row). SampleAnswers rows (Some options)) follow.0 answers) in
+      subst (λ (words : List Text). AsksForLines (codes "follow") 2000 words options) (sym follow.1) asks
 
   -- the numbers of a sample that was taken are there
   pub sample_is_given : name_in sub ≡ Some (codes "sample") → SampleAnswers rows None → ⊥
   sample_is_given name_is answers =
-      let sample = is_that false name_is in
-      sample_is_read s.rest (sample_from s.rest s.lacks sample.2) (subst (λ (rows : List Row). SampleAnswers rows None) sample.0 answers)
+      let sample = is_that samples name_is in
+      sample_is_read (codes "sample") 20000 (omega arith) s.rest (sample_from (codes "sample") 20000 s.rest s.lacks sample.2) (subst (λ (rows : List Row). SampleAnswers rows None) sample.0 answers)
+
+  pub follow_is_given : name_in sub ≡ Some (codes "follow") → SampleAnswers rows None → ⊥
+  follow_is_given name_is answers =
+      let follow = is_that follows name_is in
+      sample_is_read (codes "follow") 2000 (omega arith) s.rest (sample_from (codes "follow") 2000 s.rest s.lacks follow.2) (subst (λ (rows : List Row). SampleAnswers rows None) follow.0 answers)
 
 pub same_error : (a b : WordsFault) → IsErrOf {T = Asked} (Err a) b → a ≡ b
 same_error a b e = cc

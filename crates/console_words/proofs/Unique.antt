@@ -3,9 +3,9 @@ use Rattle.std.proofs.Common.{◌≡◌, ◌∙◌, ◌<◌, ℕ, Bool, true, fa
 use Rattle.std.specs.Str.Parse.{digits_value, without_leading_plus}
 use Rattle.clap.specs.Walk.{Row, Text, one_of}
 use Rattle.console_words.specs.Numbers.{ReadsNumber}
-use Rattle.console_words.specs.Words.{AsksFor, AsksForRun, AsksForSample, IsNumber}
+use Rattle.console_words.specs.Words.{AsksFor, AsksForLines, AsksForRun, IsNumber}
 use Rattle.console_words.specs.declared.asked.Asked.{Asked}
-use Rattle.console_words.specs.declared.asked.Asked.TheVariants.{Run, Sample}
+use Rattle.console_words.specs.declared.asked.Asked.TheVariants.{Follow, Run, Sample}
 use Rattle.console_words.specs.declared.run_options.RunOptions.{RunOptions}
 use Rattle.console_words.specs.declared.sample_options.SampleOptions.{SampleOptions}
 use Rattle.console_words.proofs.Turns.{name_of}
@@ -101,24 +101,44 @@ run_one words a b p q =
 one_number : (text text2 : Text) (m n : ℕ) → IsNumber text m → IsNumber text2 n → text ≡ text2 → m ≡ n
 one_number text text2 m n p q e = sym p.1 ∙ (ap (λ t. digits_value 10 (without_leading_plus t)) e ∙ q.1)
 
-sample_one : (words : List Text) (a b : SampleOptions) → AsksForSample words a → AsksForSample words b → a ≡ b
-sample_one words a b p q =
-    let whole : p.name ∷ codes "sample" ∷ p.seed_text ∷ p.count_text ∷ [] ≡ q.name ∷ codes "sample" ∷ q.seed_text ∷ q.count_text ∷ [] = sym p.are ∙ q.are in
+lines_one : (word : Text) (most : ℕ) (words : List Text) (a b : SampleOptions) → AsksForLines word most words a → AsksForLines word most words b → a ≡ b
+lines_one word most words a b p q =
+    let whole : p.name ∷ word ∷ p.seed_text ∷ p.count_text ∷ [] ≡ q.name ∷ word ∷ q.seed_text ∷ q.count_text ∷ [] = sym p.are ∙ q.are in
     let seed_text : p.seed_text ≡ q.seed_text = cc in
     let count_text : p.count_text ≡ q.count_text = cc in
     let seed : a.seed ≡ b.seed = one_number p.seed_text q.seed_text a.seed b.seed p.seed.number q.seed.number seed_text in
     let count : a.count ≡ b.count = one_number p.count_text q.count_text a.count b.count p.count.number q.count.number count_text in
     ap₂ (λ (m n : ℕ). record { seed = m; count = n }) seed count
 
-run_is_no_sample : (words : List Text) (a : RunOptions) (b : SampleOptions) → AsksForRun words a → AsksForSample words b → ⊥
+-- the word after the name is not `run`
+run_is_no_sample : (word : Text) (most : ℕ) → (byte_at 0 word ≡ 114 → ⊥) → (words : List Text) (a : RunOptions) (b : SampleOptions) → AsksForRun words a → AsksForLines word most words b → ⊥
 unfolding byte_of byte_at
-run_is_no_sample words a b p q =
+run_is_no_sample word most other words a b p q =
     let run = asks_back words a p in
-    let whole : run.name ∷ codes "run" ∷ run.rest ≡ q.name ∷ codes "sample" ∷ q.seed_text ∷ q.count_text ∷ [] = sym run.words_are ∙ q.are in
-    differ 114 115 (omega arith) (ap (λ ws. byte_of 0 (drop 1 ws)) whole)
+    let whole : run.name ∷ codes "run" ∷ run.rest ≡ q.name ∷ word ∷ q.seed_text ∷ q.count_text ∷ [] = sym run.words_are ∙ q.are in
+    other (sym (ap (λ ws. byte_of 0 (drop 1 ws)) whole))
+
+sample_no_run : byte_at 0 (codes "sample") ≡ 114 → ⊥
+unfolding byte_at
+sample_no_run e = differ 114 115 (omega arith) (sym e)
+
+follow_no_run : byte_at 0 (codes "follow") ≡ 114 → ⊥
+unfolding byte_at
+follow_no_run e = differ 102 114 (omega arith) e
+
+sample_is_no_follow : (words : List Text) (a b : SampleOptions) → AsksForLines (codes "sample") 20000 words a → AsksForLines (codes "follow") 2000 words b → ⊥
+unfolding byte_of byte_at
+sample_is_no_follow words a b p q =
+    let whole : p.name ∷ codes "sample" ∷ p.seed_text ∷ p.count_text ∷ [] ≡ q.name ∷ codes "follow" ∷ q.seed_text ∷ q.count_text ∷ [] = sym p.are ∙ q.are in
+    differ 102 115 (omega arith) (sym (ap (λ ws. byte_of 0 (drop 1 ws)) whole))
 
 pub asks_one : (words : List Text) (a b : Asked) → AsksFor words a → AsksFor words b → a ≡ b
 asks_one words (Run a) (Run b) p q = ap Run (run_one words a b p q)
-asks_one words (Run a) (Sample b) p q = absurd (run_is_no_sample words a b p q)
-asks_one words (Sample a) (Run b) p q = absurd (run_is_no_sample words b a q p)
-asks_one words (Sample a) (Sample b) p q = ap Sample (sample_one words a b p q)
+asks_one words (Run a) (Sample b) p q = absurd (run_is_no_sample (codes "sample") 20000 sample_no_run words a b p q)
+asks_one words (Run a) (Follow b) p q = absurd (run_is_no_sample (codes "follow") 2000 follow_no_run words a b p q)
+asks_one words (Sample a) (Run b) p q = absurd (run_is_no_sample (codes "sample") 20000 sample_no_run words b a q p)
+asks_one words (Sample a) (Sample b) p q = ap Sample (lines_one (codes "sample") 20000 words a b p q)
+asks_one words (Sample a) (Follow b) p q = absurd (sample_is_no_follow words a b p q)
+asks_one words (Follow a) (Run b) p q = absurd (run_is_no_sample (codes "follow") 2000 follow_no_run words b a q p)
+asks_one words (Follow a) (Sample b) p q = absurd (sample_is_no_follow words b a q p)
+asks_one words (Follow a) (Follow b) p q = ap Follow (lines_one (codes "follow") 2000 words a b p q)

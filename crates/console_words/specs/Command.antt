@@ -1,5 +1,5 @@
--- The command as `clap` reads it: `run` with its two options, `sample` with its two numbers, and
--- nothing of clap's own.
+-- The command as `clap` reads it: `run` with its two options, `sample` and `follow` with their two
+-- numbers, and nothing of clap's own.
 use Rattle.std.specs.Prelude.{ℕ, pos, true, Some, codes}
 use Rattle.clap.specs.Words.{App, Rule, Text, new_app, new_rule, with_rule, with_subcommand}
 use Rattle.clap.specs.declared.builder.action.ArgAction.TheVariants.{Set}
@@ -38,13 +38,21 @@ number_word name parser = record (new_rule name) {
 abbrev pub seed_word : Rule
 seed_word = number_word (codes "seed") (parsers.Unsigned 0 18446744073709551615)
 
--- the second word of a sample
-abbrev pub count_word : Rule
-count_word = number_word (codes "count") (parsers.Signed (pos 1) (pos 20000))
+-- the second word of a sample of at most so many lines
+abbrev pub count_word : ℕ → Rule
+count_word most = number_word (codes "count") (parsers.Signed (pos 1) (pos most))
+
+-- a subcommand of this name with both, as it is made
+abbrev pub lines_app : Text → ℕ → App
+lines_app name most = with_rule (with_rule (new_app name) seed_word) (count_word most)
 
 -- `sample`, as it is made
 abbrev pub sample_app : App
-sample_app = with_rule (with_rule (new_app (codes "sample")) seed_word) count_word
+sample_app = lines_app (codes "sample") 20000
+
+-- `follow`, as it is made
+abbrev pub follow_app : App
+follow_app = lines_app (codes "follow") 2000
 
 -- the program's command before its subcommands
 abbrev pub empty_app : App
@@ -58,4 +66,6 @@ empty_app = record (new_app (codes "graph")) {
 
 -- the program's command
 abbrev pub program_app : App
-program_app = with_subcommand (with_subcommand empty_app run_app.top) sample_app.top
+program_app =
+    with_subcommand (with_subcommand (with_subcommand empty_app run_app.top) sample_app.top)
+    follow_app.top

@@ -2,7 +2,7 @@
 use Rattle.std.specs.Prelude.{◌≡◌, ◌⊎◌, ◌≤◌, ℕ, List, [], ◌∷◌, ◌++◌, Option, Some, None, codes}
 use Rattle.std.specs.Str.Parse.{IsNumeral, digits_value, without_leading_plus}
 use Rattle.console_words.specs.declared.asked.Asked.{Asked}
-use Rattle.console_words.specs.declared.asked.Asked.TheVariants.{Run, Sample}
+use Rattle.console_words.specs.declared.asked.Asked.TheVariants.{Follow, Run, Sample}
 use Rattle.console_words.specs.declared.run_options.RunOptions.{RunOptions}
 use Rattle.console_words.specs.declared.sample_options.SampleOptions.{SampleOptions}
 
@@ -38,16 +38,27 @@ pub record AsksForRun (words : List (List ℕ)) (options : RunOptions) : Type 0 
   pub are : (words ≡ name ∷ codes "run" ∷ threshold_words ++ limit_words)
       ⊎ (words ≡ name ∷ codes "run" ∷ limit_words ++ threshold_words)
 
--- The words are the program's name, `sample`, and the two numbers, the seed first.
-pub record AsksForSample (words : List (List ℕ)) (options : SampleOptions) : Type 0 where
+-- The words are the program's name, the word, and the two numbers of a sample of at most so many
+-- lines, the seed first.
+pub record AsksForLines (word : List ℕ) (most_lines : ℕ) (words : List (List ℕ))
+    (options : SampleOptions) : Type 0 where
   pub name : List ℕ
   pub seed_text : List ℕ
   pub count_text : List ℕ
   pub seed : IsNumberFrom 0 18446744073709551615 options.seed seed_text
-  pub count : IsNumberFrom 1 20000 options.count count_text
-  pub are : words ≡ name ∷ codes "sample" ∷ seed_text ∷ count_text ∷ []
+  pub count : IsNumberFrom 1 most_lines options.count count_text
+  pub are : words ≡ name ∷ word ∷ seed_text ∷ count_text ∷ []
 
--- the words ask for this run, or for this sample
+-- the words are those of a sample
+abbrev pub AsksForSample : List (List ℕ) → SampleOptions → Type 0
+AsksForSample = AsksForLines (codes "sample") 20000
+
+-- the words are those of a sample that a follower takes over
+abbrev pub AsksForFollow : List (List ℕ) → SampleOptions → Type 0
+AsksForFollow = AsksForLines (codes "follow") 2000
+
+-- the words ask for this run, for this sample, or for one that a follower takes over
 abbrev pub AsksFor : List (List ℕ) → Asked → Type 0
 AsksFor words (Run options) = AsksForRun words options
 AsksFor words (Sample options) = AsksForSample words options
+AsksFor words (Follow options) = AsksForFollow words options

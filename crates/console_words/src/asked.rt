@@ -7,4 +7,6 @@ pub enum Asked {
     Run(RunOptions),
     /// A sample: lines drawn from a seed, over a store in memory.
     Sample(SampleOptions),
+    /// A sample whose lines a follower takes over.
+    Follow(SampleOptions),
 }

@@ -1,23 +1,27 @@
-ghost use Rattle.std.specs.Prelude.{◌≡◌, IfOk, false};
+ghost use Rattle.std.specs.Prelude.{◌≡◌, ℕ, IfOk, false, pos};
 ghost use Rattle.clap.specs.Words.{app_of};
 ghost use Rattle.clap.specs.declared.builder.command.Command.TheViews.{out-Command};
-ghost use Rattle.console_words.specs.Command.{program_app, run_app, sample_app};
+ghost use Rattle.clap.specs.declared.builder.value_parser.ValueParser.TheVariants.{Signed};
+ghost use Rattle.console_words.specs.Command.{lines_app, program_app, run_app};
 
+use clap::builder::ValueParser;
 use clap::{Arg, ArgAction, Command, value_parser};
 use std::alloc::{AllocError, Global};
 
-/// The command of the words: the subcommands `run` and `sample`, and no help or version.
+/// The command of the words: the subcommands `run`, `sample` and `follow`, and no help or version.
 pub(crate) fn command<'a>(alloc: Global) -> Result<Command<'a>, AllocError>
     ensures { IfOk result (λ c. app_of c ≡ program_app) }
 {
     let run = run_command(alloc)?;
-    let sample = sample_command(alloc)?;
+    let sample = lines_command(alloc, "sample", value_parser!(u32).range(1..=20_000))?;
+    let follow = lines_command(alloc, "follow", value_parser!(u32).range(1..=2_000))?;
     Command::new(alloc, "graph")
         .disable_help_flag(true)
         .disable_help_subcommand(true)
         .subcommand_required(true)
         .subcommand(run)?
-        .subcommand(sample)
+        .subcommand(sample)?
+        .subcommand(follow)
 }
 
 /// `run`, with its two options.
@@ -36,9 +40,15 @@ fn run_command<'a>(alloc: Global) -> Result<Command<'a>, AllocError>
     Command::new(alloc, "run").arg(threshold)?.arg(limit)
 }
 
-/// `sample`, with its two numbers, which stand in this order.
-fn sample_command<'a>(alloc: Global) -> Result<Command<'a>, AllocError>
-    ensures app { IfOk result (λ c. app_of c ≡ sample_app) }
+/// A subcommand with the two numbers of a sample, which stand in this order; the parser takes the
+/// second one.
+fn lines_command<'a>(
+    alloc: Global,
+    name: &'a str,
+    counts: ValueParser<'a>,
+) -> Result<Command<'a>, AllocError>
+    ensures app { IfOk result (λ c. (most : ℕ) → counts.entry ≡ Signed (pos 1) (pos most)
+        → app_of c ≡ lines_app name.entry.now most) }
     ensures globals { IfOk result (λ c. (out-Command c).has_globals ≡ false) }
 {
     let seed = Arg::new(alloc, "seed")
@@ -48,6 +58,6 @@ fn sample_command<'a>(alloc: Global) -> Result<Command<'a>, AllocError>
     let count = Arg::new(alloc, "count")
         .required(true)
         .action(ArgAction::Set)
-        .value_parser(value_parser!(u32).range(1..=20_000));
-    Command::new(alloc, "sample").arg(seed)?.arg(count)
+        .value_parser(counts);
+    Command::new(alloc, name).arg(seed)?.arg(count)
 }

@@ -36,11 +36,17 @@ pub fn read_words(alloc: Global, words: &[String]) -> Result<Asked, WordsFault>
     if let Some(run) = matches.subcommand_matches("run") {
         return Ok(Asked::Run(run_options(run)));
     }
-    let Some(sample) = matches.subcommand_matches("sample") else {
+    if let Some(sample) = matches.subcommand_matches("sample") {
+        let Some(options) = sample_options(sample) else {
+            return Err(WordsFault::Usage);
+        };
+        return Ok(Asked::Sample(options));
+    }
+    let Some(follow) = matches.subcommand_matches("follow") else {
         return Err(WordsFault::Usage);
     };
-    match sample_options(sample) {
-        Some(options) => Ok(Asked::Sample(options)),
+    match sample_options(follow) {
+        Some(options) => Ok(Asked::Follow(options)),
         None => Err(WordsFault::Usage),
     }
 }
@@ -74,7 +80,7 @@ fn run_options(run: &ArgMatches) -> RunOptions
     }
 }
 
-/// The numbers of `sample`, if both were given.
+/// The numbers of `sample` or `follow`, if both were given.
 fn sample_options(sample: &ArgMatches) -> Option<SampleOptions>
     ensures { ReadsSample (one_text (found_of sample.now) (codes "seed"))
         (one_text (found_of sample.now) (codes "count")) result }

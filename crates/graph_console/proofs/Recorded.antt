@@ -1,7 +1,6 @@
--- Each run has the list of its transactions: a line spells one command, and a console that failed holds the committed graph and at most one more.
-use Rattle.std.proofs.Common.{◌≡◌, ◌≢◌, ◌⊎◌, ⊎_elim, ◌∙◌, ℕ, zero, suc, Bool, Some, None, List, [], ◌∷◌, ◌++◌, Contains, take, drop, inl, inr, refl, sym, ap, subst, arith}
-use Rattle.std.specs.List.{prefix_len}
-use Rattle.stream_io.specs.Lines.{InputLine, Long, Whole}
+-- Each run has the list of its transactions: a console that failed holds the committed graph and at most one more.
+use Rattle.std.proofs.Common.{◌≡◌, ◌≢◌, ◌⊎◌, ⊎_elim, ◌∙◌, ℕ, zero, suc, Bool, true, false, is_some, List, [], ◌∷◌, ◌++◌, Contains, inl, inr, refl, sym, ap, subst, arith}
+use Rattle.stream_io.specs.Lines.{InputLine}
 use Rattle.plain_graph.specs.Changes.{IsChange}
 use Rattle.plain_graph.specs.Graph.{Graph}
 use Rattle.plain_graph.specs.Kinds.{AreChanges, Blanks, Bound, Change, Ending, Kind, Question, Sight, Upkeep}
@@ -11,35 +10,16 @@ use Rattle.plain_graph.specs.Reply.{Fault, Reply}
 use Rattle.plain_graph.specs.declared.command.Command.{Command}
 use Rattle.plain_graph.specs.declared.command.Command.TheVariants as commands
 use Rattle.plain_graph.specs.declared.refusal.Refusal.TheVariants as refusals
-use Rattle.gremlin_parse.specs.Grammar.{is_blank}
-use Rattle.gremlin_parse.specs.Lines.{Spells}
-use Rattle.gremlin_parse.specs.Symbols.{AnyBlanks, Takes}
-use Rattle.gremlin_parse.specs.Tags.{after_tag}
-use Rattle.gremlin_parse.proofs.Leftmost.{only_command}
-use Rattle.gremlin_parse.proofs.Lines.{spelled_loosely, tail_after}
-use Rattle.gremlin_parse.proofs.Runs.{cut_run}
 use Rattle.graph_session.specs.Exchange.{CarriesKind, CarriesOut, ConsoleStep, Exchange, KeepsStore, LeavesBound, LeavesChange, LeavesKind, LeavesOpen, LeavesStore, MakesChange, MovesBound, Stops}
 use Rattle.graph_session.specs.Refusals.{IsAccepted}
 use Rattle.graph_session.specs.SharedExchange.{SharedStep}
+use Rattle.graph_session.specs.SnapshotEffects.{Confirms}
 use Rattle.graph_session.specs.Snapshots.{SharedState}
 use Rattle.graph_session.specs.State.{Failed, IsFailed, IsSilent, Live, SpellsLine, Standing, State, graphs_from}
-use Rattle.graph_console.specs.History.{Acknowledges, Adds, FindsSecond, IsOfWriter, IsSecondOf, TellsDone, Transactions}
+use Rattle.graph_session.proofs.OneCommand.{line_agrees}
+use Rattle.graph_console.specs.History.{AcknowledgesFrom, Adds, FindsSecond, IsOfWriter, IsSecondOf, Transactions}
 use Rattle.graph_console.specs.Run.{Run}
 use Rattle.graph_console.proofs.SharedSteps.{writes_or_stays}
-
--- ---- a line spells one command
-
-spells_agree : (line : List ℕ) (one two : Command) → Spells line one → Spells line two → two ≡ one
-spells_agree line one two first second =
-    let rest : List ℕ = after_tag line in
-    let count : ℕ = prefix_len is_blank rest in
-    let cut = cut_run is_blank rest in
-    let takes : Takes AnyBlanks tt rest (drop count rest) = record { prefix = take count rest; bytes_are = cut.bytes_are; is = cut.passes; ends = cut.ends } in
-    only_command line rest (drop count rest) one refl takes (tail_after one rest (drop count rest) takes (spelled_loosely line one first)) two second
-
-line_agrees : (line : InputLine) (one two : Command) → SpellsLine line one → SpellsLine line two → two ≡ one
-line_agrees (Whole bytes) one two first second = spells_agree bytes one two first second
-line_agrees Long one two first second = absurd first
 
 -- ---- what a console that failed holds
 
@@ -90,18 +70,18 @@ module _ (old : State) (well : IsWell old) (line : InputLine) (own : IsOfWriter 
   replied reply = record { line = line; disk_failed = disk_failed; reply = reply }
 
   -- no transaction is acknowledged, and the committed graph stays
-  quiet : {mid : State} (reply : Reply) → ¬ Acknowledges old (replied reply) → new ≡ mid → mid.committed ≡ old.committed → IsWell mid → Goes old (replied reply) new
+  quiet : {mid : State} (reply : Reply) → ¬ AcknowledgesFrom old (replied reply) → new ≡ mid → mid.committed ≡ old.committed → IsWell mid → Goes old (replied reply) new
   quiet {mid} reply none is committed mid_well = record {
     graphs = [];
     adds = inr (inr (none, ap (λ (s : State). s.committed) is ∙ committed, refl));
     well = subst IsWell (sym is) mid_well;
   }
 
-  acknowledged : {mid : State} (reply : Reply) → Acknowledges old (replied reply) → new ≡ mid → IsWell mid → Goes old (replied reply) new
+  acknowledged : {mid : State} (reply : Reply) → AcknowledgesFrom old (replied reply) → new ≡ mid → IsWell mid → Goes old (replied reply) new
   acknowledged {mid} reply told is mid_well = record { graphs = new.committed ∷ []; adds = inl (told, refl); well = subst IsWell (sym is) mid_well }
 
   -- a reply that doesn't say that a line was carried out
-  untold : (reply : Reply) → ¬ TellsDone reply → ¬ Acknowledges old (replied reply)
+  untold : (reply : Reply) → ¬ Confirms reply → ¬ AcknowledgesFrom old (replied reply)
   untold reply none = λ acknowledges. none acknowledges.1
 
   module _ (command : Command) (spelled : SpellsLine line command) where
@@ -110,10 +90,10 @@ module _ (old : State) (well : IsWell old) (line : InputLine) (own : IsOfWriter 
     apart other differ = λ spells. differ (sym (ap kind_of (line_agrees line command other spelled spells)))
 
     -- a line that spells no commit, and no change outside a transaction
-    other : (reply : Reply) → ¬ SpellsLine line commands.Commit → (old.open_one ≡ None → ¬ IsChange command) → ¬ Acknowledges old (replied reply)
+    other : (reply : Reply) → ¬ SpellsLine line commands.Commit → (is_some old.open_one ≡ false → ¬ IsChange command) → ¬ AcknowledgesFrom old (replied reply)
     other reply no_commit no_change = λ acknowledges. ⊎_elim
         (λ (commit : SpellsLine line commands.Commit). no_commit commit)
-        (λ (change : (old.open_one ≡ None) × (c : Command) × IsChange c × SpellsLine line c).
+        (λ (change : (is_some old.open_one ≡ false) × (c : Command) × IsChange c × SpellsLine line c).
         no_change change.0 (subst IsChange (line_agrees line command change.1 spelled change.3) change.2))
         acknowledges.2
 
@@ -126,18 +106,18 @@ module _ (old : State) (well : IsWell old) (line : InputLine) (own : IsOfWriter 
         not_silent (inl blank) = apart commands.Blank no_blanks blank
         not_silent (inr quit) = apart commands.Quit no_end quit
 
-    change_goes : (reply : Reply) → kind_of command ≡ Change → IsAccepted old line → TellsDone reply → MakesChange old command reply new → Goes old (replied reply) new
+    change_goes : (reply : Reply) → kind_of command ≡ Change → IsAccepted old line → Confirms reply → MakesChange old command reply new → Goes old (replied reply) new
     change_goes reply is accepted told (inl (transaction, opened, graph, weight, changes, weighs, same)) =
-        quiet reply (other reply (apart commands.Commit (λ e. let clash : Change ≡ Bound = sym is ∙ e in cc)) (λ closed change. let clash : None ≡ Some transaction = sym closed ∙ opened in cc)) same refl well
+        quiet reply (other reply (apart commands.Commit (λ e. let clash : Change ≡ Bound = sym is ∙ e in cc)) (λ closed change. let clash : false ≡ true = sym closed ∙ ap is_some opened in cc)) same refl well
     change_goes reply is accepted told (inr (closed, graph, changes, same)) =
         let live = live_at accepted (λ e. let clash : Change ≡ Blanks = sym is ∙ e in cc) (λ e. let clash : Change ≡ Ending = sym is ∙ e in cc) (λ e. let clash : Change ≡ Upkeep = sym is ∙ e in cc) in
-        acknowledged reply (own, told, inr (closed, command, subst AreChanges (sym is) tt, spelled)) same (subst (OpensWith graph) (sym live) tt)
+        acknowledged reply (own, told, inr (ap is_some closed, command, subst AreChanges (sym is) tt, spelled)) same (subst (OpensWith graph) (sym live) tt)
 
     question_goes : (reply : Reply) → kind_of command ≡ Question → new ≡ old → Goes old (replied reply) new
     question_goes reply is same =
         quiet reply (other reply (apart commands.Commit (λ e. let clash : Question ≡ Bound = sym is ∙ e in cc)) (λ closed change. let clash : AreChanges Question = subst AreChanges is change in absurd clash)) same refl well
 
-  bound_goes : (command : Command) (reply : Reply) → SpellsLine line command → IsAccepted old line → TellsDone reply → MovesBound old command reply new → Goes old (replied reply) new
+  bound_goes : (command : Command) (reply : Reply) → SpellsLine line command → IsAccepted old line → Confirms reply → MovesBound old command reply new → Goes old (replied reply) new
   bound_goes commands.Begin reply spelled accepted told done =
       quiet reply (other commands.Begin spelled reply (λ commit. let clash : commands.Commit ≡ commands.Begin = line_agrees line commands.Begin commands.Commit spelled commit in cc) (λ closed change. change)) done.1 refl well
   bound_goes commands.Commit reply spelled accepted told done =
@@ -148,9 +128,9 @@ module _ (old : State) (well : IsWell old) (line : InputLine) (own : IsOfWriter 
   bound_goes command reply spelled accepted told never = absurd never
 
   -- `reopen` finds the committed graph, or the second that was left open
-  reopen_goes : (reply : Reply) → SpellsLine line commands.Reopen → TellsDone reply → KeepsStore old commands.Reopen reply new → Goes old (replied reply) new
+  reopen_goes : (reply : Reply) → SpellsLine line commands.Reopen → Confirms reply → KeepsStore old commands.Reopen reply new → Goes old (replied reply) new
   reopen_goes reply spelled told (done, graph, admits, is) =
-      let none : ¬ Acknowledges old (replied reply) = other commands.Reopen spelled reply (apart commands.Reopen spelled commands.Commit (λ e. cc)) (λ closed change. change) in
+      let none : ¬ AcknowledgesFrom old (replied reply) = other commands.Reopen spelled reply (apart commands.Reopen spelled commands.Commit (λ e. cc)) (λ closed change. change) in
       ⊎_elim
       (λ (first : graph ≡ old.committed). quiet reply none is first tt)
       (λ (second : IsSecondOf old.standing graph).
@@ -159,13 +139,13 @@ module _ (old : State) (well : IsWell old) (line : InputLine) (own : IsOfWriter 
       goes)
       (first_or_second graph old.committed old.standing well admits)
 
-  upkeep_goes : (command : Command) (reply : Reply) → SpellsLine line command → TellsDone reply → KeepsStore old command reply new → Goes old (replied reply) new
+  upkeep_goes : (command : Command) (reply : Reply) → SpellsLine line command → Confirms reply → KeepsStore old command reply new → Goes old (replied reply) new
   upkeep_goes commands.Checkpoint reply spelled told done =
       quiet reply (other commands.Checkpoint spelled reply (apart commands.Checkpoint spelled commands.Commit (λ e. cc)) (λ closed change. change)) done.1 refl well
   upkeep_goes commands.Reopen reply spelled told done = reopen_goes reply spelled told done
   upkeep_goes command reply spelled told never = absurd never
 
-  done_goes : (command : Command) (reply : Reply) → IsAccepted old line → SpellsLine line command → TellsDone reply → CarriesOut old command reply new → Goes old (replied reply) new
+  done_goes : (command : Command) (reply : Reply) → IsAccepted old line → SpellsLine line command → Confirms reply → CarriesOut old command reply new → Goes old (replied reply) new
   done_goes command reply accepted spelled told done = by (kind_of command) refl done
     where
       by : (kind : Kind) → kind_of command ≡ kind → CarriesKind kind old command reply new → Goes old (replied reply) new
@@ -178,10 +158,10 @@ module _ (old : State) (well : IsWell old) (line : InputLine) (own : IsOfWriter 
       by Question is here = question_goes command spelled reply is here.4
 
   -- what a failed disk leaves
-  leaves_goes : (command : Command) (reply : Reply) → ¬ TellsDone reply → LeavesOpen old line command new → Goes old (replied reply) new
+  leaves_goes : (command : Command) (reply : Reply) → ¬ Confirms reply → LeavesOpen old line command new → Goes old (replied reply) new
   leaves_goes command reply none leaves = by (kind_of command) leaves
     where
-      stays : ¬ Acknowledges old (replied reply)
+      stays : ¬ AcknowledgesFrom old (replied reply)
       stays = untold reply none
 
       bound : (c : Command) → LeavesBound old c new → Goes old (replied reply) new

@@ -20,12 +20,12 @@ use Rattle.graph_console.specs.declared.exit.Exit.TheVariants.{NoMemory, OutputF
 use Rattle.graph_console.proofs.Runs.{run_lines_on, run_on, run_text_on}
 
 -- one turn more
-turns_on : (first middle last : SampleState) (run : List Exchange) (x : Exchange) → TakesTurns first run middle → TakesTurn middle x last → TakesTurns first (run ++ x ∷ []) last
+pub turns_on : (first middle last : SampleState) (run : List Exchange) (x : Exchange) → TakesTurns first run middle → TakesTurn middle x last → TakesTurns first (run ++ x ∷ []) last
 turns_on first middle last [] x turns one = (last, subst (λ (s : SampleState). TakesTurn s x last) turns one, refl)
 turns_on first middle last (y ∷ run) x turns one = (turns.0, turns.1, turns_on turns.0 middle last run x turns.2 one)
 
 -- no turn was taken
-pub no_turns : {D : Type 0} (disk : DiskGhosts D) (options : SampleOptions) (now : SharedView D) → IsSharedAt disk now (sample_store options) → TookTurns disk options 0 (sample_start options.seed) now
+unfoldable pub no_turns : {D : Type 0} (disk : DiskGhosts D) (options : SampleOptions) (now : SharedView D) → IsSharedAt disk now (sample_store options) → TookTurns disk options 0 (sample_start options.seed) now
 no_turns disk options now is_at = record {
   run = [];
   last = sample_store options;
@@ -36,7 +36,7 @@ no_turns disk options now is_at = record {
 }
 
 -- a turn was taken, whose line was answered well
-pub turn_more : {D : Type 0} (disk : DiskGhosts D) (options : SampleOptions) (turns : ℕ) (sample next : SampleState) (old new : SharedView D) (text : List ℕ) → TookTurns disk options turns sample old
+unfoldable pub turn_more : {D : Type 0} (disk : DiskGhosts D) (options : SampleOptions) (turns : ℕ) (sample next : SampleState) (old new : SharedView D) (text : List ℕ) → TookTurns disk options turns sample old
     → ((state : SharedState) → IsSharedAt disk old state → AnswersWell disk (turn sample).line text state new) → Adds text (turn sample).after next → TookTurns disk options (turns + 1) next new
 turn_more disk options turns sample next old new text took answers adds =
     let a : AnswersWell disk (turn sample).line text took.last new = answers took.last took.is_at in

@@ -5,9 +5,10 @@ use Rattle.plain_graph.specs.Reply.{Reply}
 use Rattle.graph_session.specs.Exchange.{ConsoleStep, Exchange}
 use Rattle.graph_session.specs.ReaderStep.{ReaderStep}
 use Rattle.graph_session.specs.SharedExchange.{SharedStep, step_of}
+use Rattle.graph_session.specs.SnapshotEffects.{Confirms}
 use Rattle.graph_session.specs.Snapshots.{SharedState}
 use Rattle.graph_session.specs.State.{session_in}
-use Rattle.graph_console.specs.History.{Acknowledges, IsOfWriter, TellsDone}
+use Rattle.graph_console.specs.History.{AcknowledgesFrom, IsOfWriter}
 
 module _ (old : SharedState) (x : Exchange) (new : SharedState) where
   same_writer : new ≡ old → new.writer ≡ old.writer
@@ -27,11 +28,11 @@ module _ (old : SharedState) (x : Exchange) (new : SharedState) where
       by (replies.Refused why) s = same_writer s.1
 
   -- The session that writes takes a step of its console, in a line of its own; or its console stays, and no transaction is acknowledged.
-  pub writes_or_stays : SharedStep old x new → (IsOfWriter x.line × ConsoleStep old.writer x new.writer) ⊎ ((¬ Acknowledges old.writer x) × (new.writer ≡ old.writer))
+  pub writes_or_stays : SharedStep old x new → (IsOfWriter x.line × ConsoleStep old.writer x new.writer) ⊎ ((¬ AcknowledgesFrom old.writer x) × (new.writer ≡ old.writer))
   writes_or_stays step = by (session_in x.line) refl step
     where
-      by : (session : ℕ) → session_in x.line ≡ session → step_of session old x new → (IsOfWriter x.line × ConsoleStep old.writer x new.writer) ⊎ ((¬ Acknowledges old.writer x) × (new.writer ≡ old.writer))
-      by zero own (inl refused) = inr (λ acknowledges. subst TellsDone refused.1 acknowledges.1, same_writer refused.2)
+      by : (session : ℕ) → session_in x.line ≡ session → step_of session old x new → (IsOfWriter x.line × ConsoleStep old.writer x new.writer) ⊎ ((¬ AcknowledgesFrom old.writer x) × (new.writer ≡ old.writer))
+      by zero own (inl refused) = inr (λ acknowledges. subst Confirms refused.1 acknowledges.1, same_writer refused.2)
       by zero own (inr writes) = inl (own, writes.1.0)
       by (suc reader) other reads = inr (
         λ acknowledges. let own : session_in x.line ≡ 0 = acknowledges.0 in omega (arith, own, other),

@@ -1,4 +1,6 @@
 pub mod Exit
+pub mod Follow
+pub mod Following
 pub mod History
 pub mod Lives
 pub mod Program

@@ -10,7 +10,7 @@ use Rattle.stream_io.specs.declared.streams.Source.{Ghosts as SourceGhosts}
 use Rattle.plain_graph.specs.Reply.{NoMemory as WantOfMemory, fault_line, text_line}
 use Rattle.console_words.specs.Words.{AsksFor}
 use Rattle.console_words.specs.declared.asked.Asked.{Asked}
-use Rattle.console_words.specs.declared.asked.Asked.TheVariants.{Sample}
+use Rattle.console_words.specs.declared.asked.Asked.TheVariants.{Follow, Sample}
 use Rattle.console_words.specs.declared.run_options.RunOptions.{RunOptions}
 use Rattle.console_words.specs.declared.sample_options.SampleOptions.{SampleOptions}
 use Rattle.txn_core.specs.declared.config.Config.{Config}
@@ -36,16 +36,18 @@ use Rattle.graph_console.specs.declared.exit.Exit.TheVariants.{InputTooLong}
 abbrev pub AskForNothing : List (List ℕ) → Type 0
 AskForNothing words = (asked : Asked) → ¬ AsksFor words asked
 
--- the words ask for a sample
+-- the words ask for a sample, or for one that a follower takes over
 abbrev pub AskForSample : List (List ℕ) → Type 0
-AskForSample words = (options : SampleOptions) × AsksFor words (Sample options)
+AskForSample words =
+    (options : SampleOptions) × (AsksFor words (Sample options) ⊎ AsksFor words (Follow options))
 
 -- the store that the options ask for
 abbrev pub config_for : RunOptions → Config
 config_for options = record { threshold = options.threshold; limit = options.limit }
 
 abbrev pub usage_line : List ℕ
-usage_line = text_line (codes "usage: run [--threshold N] [--limit N] | sample SEED COUNT")
+usage_line =
+    text_line (codes "usage: run [--threshold N] [--limit N] | sample SEED COUNT | follow SEED COUNT")
 
 abbrev pub memory_line : List ℕ
 memory_line = fault_line WantOfMemory

@@ -3,6 +3,7 @@
 #![tactic(auto)]
 
 mod exit;
+mod follow;
 mod lives;
 mod program;
 mod sample;

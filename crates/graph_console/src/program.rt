@@ -11,6 +11,7 @@ ghost use Rattle.recovery.specs.Finding.{IsCareful};
 ghost use Rattle.graph_session.specs.Known.{as_known};
 ghost use Rattle.graph_session.specs.Opening.{IsUnopened, LeavesRefused, StandsForOne};
 ghost use Rattle.graph_session.specs.Stands.{Stands};
+ghost use Rattle.graph_console.specs.Follow.{Follows};
 ghost use Rattle.graph_console.specs.Program.{AskForNothing, AskForSample, EndsWithLine};
 ghost use Rattle.graph_console.specs.Program.{HasStreamCause, HoldsGraph, Refuses, ServesOn};
 ghost use Rattle.graph_console.specs.Program.{Writes, config_for, memory_line, streams, terms_for};
@@ -18,6 +19,7 @@ ghost use Rattle.graph_console.specs.Sample.{IsSampleExit, Samples};
 ghost use Rattle.graph_console.specs.Unopened.{EndsUnopened, IsUnopenedExit, exit_of, line_of};
 
 use crate::Exit;
+use crate::follow::follow;
 use crate::sample::sample;
 use crate::serve::serve;
 use console_words::{Asked, RunOptions, WordsFault, read_words};
@@ -29,11 +31,13 @@ use std::alloc::Global;
 use stream_io::{LineReader, Sink, Source};
 
 /// What is written for words that ask for nothing that the program does.
-const USAGE: &[u8] = b"usage: run [--threshold N] [--limit N] | sample SEED COUNT\n";
+const USAGE: &[u8] =
+    b"usage: run [--threshold N] [--limit N] | sample SEED COUNT | follow SEED COUNT\n";
 
 /// The program: `run` opens the store of the disk, or makes one, serves the lines of the input on
 /// its graph, and gives each reply to the output. `sample` does so with generated lines on a store
-/// of its own. `words` are the program's words, its name first.
+/// of its own, and `follow` has a follower take them over. `words` are the program's words, its name
+/// first.
 pub fn graph_main<S: Source, K: Sink, D: Disk>(
     alloc: Global,
     words: Vec<String>,
@@ -83,6 +87,12 @@ pub fn graph_main<S: Source, K: Sink, D: Disk>(
     ensures samples { (options : SampleOptions)
         → AsksFor (map string_bytes words.items) (Asked.Sample options) → K.tells
         → Writes (K.taken output.old) (K.taken output.new) (Samples (Unit {0}) options result) }
+
+    // A follower takes such lines over, a shipment of each, and what comes of the deliveries is a
+    // function of their numbers. Then the follower has the graph of the run.
+    ensures follows { (options : SampleOptions)
+        → AsksFor (map string_bytes words.items) (Asked.Follow options) → K.tells
+        → Writes (K.taken output.old) (K.taken output.new) (Follows (Unit {0}) options result) }
     ensures sampled { AskForSample (map string_bytes words.items) → IsSampleExit result }
 
     // Words that are no command get the usage line.
@@ -121,6 +131,7 @@ pub fn graph_main<S: Source, K: Sink, D: Disk>(
     match asked {
         Asked::Run(options) => run(alloc, options, input, output, disk),
         Asked::Sample(options) => sample(alloc, options, output),
+        Asked::Follow(options) => follow(alloc, options, output),
     }
 }
 
@@ -213,8 +224,8 @@ fn end_unopened<K: Sink>(output: &mut K, why: OpenFault) -> Exit
     }
 }
 
-/// Ends the program with a line of its own.
-fn end_with_line<K: Sink>(output: &mut K, line: &[u8], exit: Exit) -> Exit
+/// Ends the program with bytes of its own.
+pub(crate) fn end_with_line<K: Sink>(output: &mut K, line: &[u8], exit: Exit) -> Exit
     ensures { EndsWithLine K.Sink line.now exit output.old output.new result }
 {
     match output.put(line) {

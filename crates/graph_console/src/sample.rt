@@ -11,11 +11,11 @@ use graph_session::{Config, Session};
 use std::alloc::Global;
 use stream_io::Sink;
 
-mod asking;
-mod generator;
+pub(crate) mod asking;
+pub(crate) mod generator;
 mod last_lines;
 mod made;
-mod sampler;
+pub(crate) mod sampler;
 mod turns;
 
 /// The program `sample`: it makes a store on a disk in memory, runs generated lines on it, and then
@@ -40,7 +40,7 @@ pub(crate) fn sample<K: Sink>(alloc: Global, options: SampleOptions, output: &mu
 }
 
 /// The store that a sample asks for.
-fn config_of(options: SampleOptions) -> Config
+pub(crate) fn config_of(options: SampleOptions) -> Config
     requires { options.count ≤ 20000 }
     ensures { result ≡ sample_config options }
 {

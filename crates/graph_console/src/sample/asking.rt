@@ -1,13 +1,15 @@
-ghost use Rattle.std.specs.Prelude.{◌≡◌, IfOk};
+ghost use Rattle.std.specs.Prelude.{◌≡◌, ◌≤◌, [], IfOk};
 ghost use Rattle.graph_session.specs.SharedConsole.{IsSharedAt};
 ghost use Rattle.graph_session.specs.Snapshots.{SharedState};
 ghost use Rattle.graph_console.specs.Sample.{tells_failure};
+ghost use Rattle.graph_console.specs.Following.{AnswersTapped};
 ghost use Rattle.graph_console.specs.Sampling.{AnswersWell};
 ghost use Rattle.graph_session.specs.Session.{shared_view};
 
 use disk_model::Disk;
-use graph_session::{Session, Turn};
+use graph_session::{Session, Turn, sends_what_it_commits};
 use plain_graph::{disk_fault, no_memory};
+use rec_bytes::WriteSet;
 use std::alloc::{AllocError, Global};
 use stream_io::Page;
 
@@ -29,6 +31,29 @@ pub(crate) fn ask<D: Disk>(
 {
     let mut page = Page::new(alloc, REPLY_BYTES, Vec::new(alloc))?;
     if let Turn::SinkFault = session.step(line, &mut page) {
+        return Err(AllocError);
+    }
+    if tells_failure(page.taken()) {
+        return Err(AllocError);
+    }
+    Ok(page)
+}
+
+/// The same, where the records that the line's transaction wrote are put into a set.
+pub(crate) fn ask_tapped<D: Disk>(
+    alloc: Global,
+    session: &mut Session<'_, D>,
+    line: &[u8],
+    tap: &mut WriteSet,
+) -> Result<Page, AllocError>
+    requires empty { tap.old.pairs ≡ [] }
+    requires room { 2048 ≤ tap.old.room }
+    ensures { IfOk result (λ page. AnswersTapped D.Disk line.now page.taken
+        (shared_view session.old) (shared_view session.new) tap.new.pairs) }
+{
+    sends_what_it_commits::<D, Page>();
+    let mut page = Page::new(alloc, REPLY_BYTES, Vec::new(alloc))?;
+    if let Turn::SinkFault = session.step_tapped(line, &mut page, tap) {
         return Err(AllocError);
     }
     if tells_failure(page.taken()) {

@@ -45,6 +45,14 @@ impl Sampler {
         }
     }
 
+    /// Ends the sample, and hands the generator over.
+    pub(crate) fn into_generator(self) -> Generator
+        ensures { result ≡ self.x }
+    {
+        let Sampler { generator, .. } = self;
+        generator
+    }
+
     /// Draws the line of the next turn.
     #[tactic(auto, unfolding(crate::specs::Sample::turn_of))]
     pub(crate) fn next_line(&mut self) -> SampleLine

@@ -1,6 +1,6 @@
 use Rattle.std.proofs.Common.{None, Some, map, refl, string_bytes, sym, true≢false, ◌∙◌}
 use Rattle.clap.specs.Words.{found_of}
-use Rattle.console_words.proofs.Answered.{escape_asks_nothing, escape_of_texts, names_of_rows, no_other_sub, refused_asks_nothing, run_asks, run_found, same_error, sample_asks, sample_found, sample_is_given, taken_by}
+use Rattle.console_words.proofs.Answered.{escape_asks_nothing, escape_of_texts, follow_asks, follow_is_given, names_of_rows, no_other_sub, refused_asks_nothing, run_asks, run_found, same_error, sample_asks, sample_found, sample_is_given, taken_by}
 use Rattle.console_words.proofs.Unique.{asks_one}
 use Rattle.console_words.proofs.words.read_words.Goals as goal
 
@@ -27,17 +27,18 @@ pub returns-in-Some-clause-only : goal.returns-in-Some-clause-only
 returns-in-Some-clause-only c = λ other asks.
     asks_one (map string_bytes c.args.words.now) other _ asks (returns-in-Some-clause-taken c)
 
-pub returns-in_default-subcommand_matches-2-clause-usage : goal.returns-in_default-subcommand_matches-2-clause-usage
-returns-in_default-subcommand_matches-2-clause-usage c = λ is asked asks.
+pub returns-in_default-subcommand_matches-3-clause-usage : goal.returns-in_default-subcommand_matches-3-clause-usage
+returns-in_default-subcommand_matches-3-clause-usage c = λ is asked asks.
     let words = map string_bytes c.args.words.now in
     let taken = taken_by words (sym (escape_of_texts string_bytes c.args.words.now) ∙ (sym c.has_escape.ensures ∙ c.if-has_escape.false))
     _ c.in_ok-command.ensures c.in-Ok.ensures.kinds _ _ c.in-Ok.ensures.matches in
     let names = names_of_rows c.in-Ok.matches in
     no_other_sub words _ taken (λ e. true≢false (sym (c.in_default-subcommand_matches.ensures.found.1 (names ∙ e))))
     (λ e. true≢false (sym (c.in_default-subcommand_matches-2.ensures.found.1 (names ∙ e))))
+    (λ e. true≢false (sym (c.in_default-subcommand_matches-3.ensures.found.1 (names ∙ e))))
 
-pub returns-in-Some-sample_options-clause-taken : goal.returns-in-Some-sample_options-clause-taken
-returns-in-Some-sample_options-clause-taken c =
+pub returns-in-Some-subcommand_matches-clause-taken : goal.returns-in-Some-subcommand_matches-clause-taken
+returns-in-Some-subcommand_matches-clause-taken c =
     let words = map string_bytes c.args.words.now in
     let taken = taken_by words (sym (escape_of_texts string_bytes c.args.words.now) ∙ (sym c.has_escape.ensures ∙ c.if-has_escape.false))
     _ c.in_ok-command.ensures c.in-Ok.ensures.kinds _ _ c.in-Ok.ensures.matches in
@@ -45,15 +46,37 @@ returns-in-Some-sample_options-clause-taken c =
     sample_asks words _ taken _ c.in-Some-subcommand_matches.ensures.rows named c.in-Some-sample_options.options
     (sample_found (found_of c.in-Some-subcommand_matches.sample.now) (Some c.in-Some-sample_options.options) c.in-Some-sample_options.ensures)
 
-pub returns-in-Some-sample_options-clause-only : goal.returns-in-Some-sample_options-clause-only
-returns-in-Some-sample_options-clause-only c = λ other asks.
-    asks_one (map string_bytes c.args.words.now) other _ asks (returns-in-Some-sample_options-clause-taken c)
+pub returns-in-Some-subcommand_matches-clause-only : goal.returns-in-Some-subcommand_matches-clause-only
+returns-in-Some-subcommand_matches-clause-only c = λ other asks.
+    asks_one (map string_bytes c.args.words.now) other _ asks (returns-in-Some-subcommand_matches-clause-taken c)
+
+pub returns-in_default-sample_options-clause-usage : goal.returns-in_default-sample_options-clause-usage
+returns-in_default-sample_options-clause-usage c = λ is asked asks.
+    let words = map string_bytes c.args.words.now in
+    let taken = taken_by words (sym (escape_of_texts string_bytes c.args.words.now) ∙ (sym c.has_escape.ensures ∙ c.if-has_escape.false))
+    _ c.in_ok-command.ensures c.in-Ok.ensures.kinds _ _ c.in-Ok.ensures.matches in
+    let named = sym (names_of_rows c.in-Ok.matches) ∙ c.in-Some-subcommand_matches.ensures.found.0 refl in
+    sample_is_given words _ taken _ c.in-Some-subcommand_matches.ensures.rows named
+    (sample_found (found_of c.in-Some-subcommand_matches.sample.now) None c.in_default-sample_options.ensures)
+
+pub returns-in-Some-sample_options-2-clause-taken : goal.returns-in-Some-sample_options-2-clause-taken
+returns-in-Some-sample_options-2-clause-taken c =
+    let words = map string_bytes c.args.words.now in
+    let taken = taken_by words (sym (escape_of_texts string_bytes c.args.words.now) ∙ (sym c.has_escape.ensures ∙ c.if-has_escape.false))
+    _ c.in_ok-command.ensures c.in-Ok.ensures.kinds _ _ c.in-Ok.ensures.matches in
+    let named = sym (names_of_rows c.in-Ok.matches) ∙ c.in-Some-subcommand_matches-2.ensures.found.0 refl in
+    follow_asks words _ taken _ c.in-Some-subcommand_matches-2.ensures.rows named c.in-Some-sample_options-2.options
+    (sample_found (found_of c.in-Some-subcommand_matches-2.follow.now) (Some c.in-Some-sample_options-2.options) c.in-Some-sample_options-2.ensures)
+
+pub returns-in-Some-sample_options-2-clause-only : goal.returns-in-Some-sample_options-2-clause-only
+returns-in-Some-sample_options-2-clause-only c = λ other asks.
+    asks_one (map string_bytes c.args.words.now) other _ asks (returns-in-Some-sample_options-2-clause-taken c)
 
 pub returns-clause-usage : goal.returns-clause-usage
 returns-clause-usage c = λ is asked asks.
     let words = map string_bytes c.args.words.now in
     let taken = taken_by words (sym (escape_of_texts string_bytes c.args.words.now) ∙ (sym c.has_escape.ensures ∙ c.if-has_escape.false))
     _ c.in_ok-command.ensures c.in-Ok.ensures.kinds _ _ c.in-Ok.ensures.matches in
-    let named = sym (names_of_rows c.in-Ok.matches) ∙ c.in-Some-subcommand_matches.ensures.found.0 refl in
-    sample_is_given words _ taken _ c.in-Some-subcommand_matches.ensures.rows named
-    (sample_found (found_of c.in-Some-subcommand_matches.sample.now) None c.in-None.ensures)
+    let named = sym (names_of_rows c.in-Ok.matches) ∙ c.in-Some-subcommand_matches-2.ensures.found.0 refl in
+    follow_is_given words _ taken _ c.in-Some-subcommand_matches-2.ensures.rows named
+    (sample_found (found_of c.in-Some-subcommand_matches-2.follow.now) None c.in-None.ensures)

@@ -1,16 +1,8 @@
-use Rattle.std.proofs.Common.{◌≡◌, ◌≢◌, ◌∙◌, List, ℕ, true, false, [], ◌++◌, ap, refl, sym, subst}
+use Rattle.std.proofs.Common.{◌≡◌, ◌∙◌, List, ℕ, true, false, refl, sym, subst}
 use Rattle.stream_io.specs.Lines.{Whole}
-use Rattle.graph_session.specs.Answer.{Delivers}
-use Rattle.graph_session.specs.declared.turn.Turn.{Turn}
-use Rattle.graph_session.specs.declared.turn.Turn.TheVariants.{Go, Quit, SinkFault}
 use Rattle.graph_console.specs.Sample.{tells_failure}
+use Rattle.graph_console.proofs.Delivered.{delivered}
 use Rattle.graph_console.proofs.sample.asking.ask.Goals as goal
-
--- what was delivered to an empty sink that did not fail is the text
-delivered : (turn : Turn) (old new text : List ℕ) → turn ≢ SinkFault → old ≡ [] → Delivers turn old new text → text ≡ new
-delivered Go old new text goes none is = sym (is ∙ ap (λ (taken : List ℕ). taken ++ text) none)
-delivered Quit old new text goes none is = sym (is ∙ ap (λ (taken : List ℕ). taken ++ text) none)
-delivered SinkFault old new text goes none is = absurd (goes refl)
 
 pub returns : goal.returns
 returns g c = λ state at.
