@@ -108,7 +108,7 @@ def what_is_answered(folder):
         assert asks(address, "ask", line="stats")[1]["reply"].startswith("nodes 3 edges 3")
         assert asks(address, "around", id=2)[1]["count"] == 2
         assert asks(address, "edge", id=0)[1]["edges"][0]["properties"] == {"since": 2009}
-        for line in ("node a", "delete edge 0", "begin", "checkpoint", "quit", "@1 quit", "g.V()\nnode a", "", "x" * 9_000):
+        for line in ("node a", "delete edge 0", "g.E().drop()", "g . addV('a')", "begin", "checkpoint", "quit", "@1 quit", "g.V()\nnode a", "", "x" * 9_000):
             status, found = asks(address, "ask", line=line)
             assert status == 400 and found["fault"], f"{line}: {found}"
         for words in ({"ids": [-1]}, {"ids": "0"}, {"ids": [True]}, {}):
@@ -122,6 +122,8 @@ def what_is_written(folder):
     with served(folder, "--write") as address:
         assert "no session" in asks(address, "ask", line="@1 g.V()")[1]["fault"]
         assert asks(address, "ask", line="node person nick='Z'")[1]["reply"] == "node 3"
+        assert asks(address, "ask", line="g.V(3).property('nick','Z')")[1]["rows"] == [{"node": 3}]
+        assert "relationships" in asks(address, "ask", line="g.V().drop()")[1]["reply"]
         assert asks(address, "ask", line="g.V(3)")[1]["graph"]["nodes"][0]["properties"] == {"nick": "Z"}
         asks(address, "ask", line="begin")
         assert asks(address, "ask", line="set node 3 fresh 1")[1]["reply"] == "ok"

@@ -367,7 +367,7 @@ def wrong_words(folder):
     exports_not(folder, ["--nodes", "x", "--edges", "./x"], WRONG_WORDS, "each form goes to a file of its own")
     exports_not(folder, ["--jsonl", "-", "--steps", "2"], WRONG_WORDS, "--steps and --types go with --from")
     exports_not(folder, ["--jsonl", "-", "--from", "g.V()", "--steps", "-1"], WRONG_WORDS, "--steps takes a number")
-    for query in ("delete node 0", "", "g.V()\ndelete node 0", "quit"):
+    for query in ("delete node 0", "", "g.V()\ndelete node 0", "quit", "g.addV('a')", "g.V(0).drop()"):
         exports_not(folder, ["--jsonl", "-", "--from", query], WRONG_WORDS, "--from takes a query")
     exports_not(folder, ["--jsonl", "-", "--keys", "a b"], WRONG_WORDS, "'a b' is no name")
     exports_not(folder, ["--jsonl", "-", "--keys", "x" * 49], WRONG_WORDS, "has 49 bytes")

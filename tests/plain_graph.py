@@ -23,6 +23,8 @@ KINDS = {"node": 0, "edge": 1}
 TAG = re.compile(r"[ \t]*@([0-7])[ \t](.*)", re.S)
 QUESTIONS = ("stats", "check", "expand", "degree", "path", "levels", "g")
 OF_SNAPSHOTS = ("snapshot", "release")
+# The steps with which a query changes the graph.
+MUTATING = ("addV", "addE", "property", "drop")
 # The directions of edges, each with the one that leads back.
 BACK = {"out": "in", "in": "out", "both": "both"}
 
@@ -140,6 +142,33 @@ class Tokens:
             found[key] = self.value()
         return found
 
+    def properties(self, is_named=False):
+        """The pairs of steps `property` up to the line's end; the name of the first one may be taken already."""
+        found = {}
+        while is_named or self.has("."):
+            if not is_named:
+                self.take("property")
+            self.take("(")
+            key = self.name()
+            self.take(",")
+            found[key] = self.value()
+            self.take(")")
+            is_named = False
+        return found
+
+    def target(self):
+        """The identifier in a step `to`."""
+        for token in (".", "to", "("):
+            self.take(token)
+        if self.has("__"):
+            self.take(".")
+        for token in ("V", "("):
+            self.take(token)
+        id = int(self.take("number"))
+        for token in (")", ")"):
+            self.take(token)
+        return id
+
     def end(self):
         if self.held:
             raise Syntax
@@ -244,12 +273,26 @@ class PlainGraph:
     # --- changes
 
     def make(self, kind, label, properties, ends=()):
+        for end in ends:
+            self.find("node", end)
         id = self.free[kind].pop() if self.free[kind] else self.next[kind]
         self.next[kind] = max(self.next[kind], id + 1)
-        self.elements[kind][id] = Element(id, label, properties, ends)
+        made = self.elements[kind][id] = Element(id, label, dict(properties), ends)
         self.names |= {label, *properties}
         self.leaving = None
-        return f"{'edge' if kind else 'node'} {id}"
+        return made
+
+    def set(self, it, properties):
+        it.properties |= properties
+        self.names |= set(properties)
+
+    def delete(self, it):
+        if not it.ends and any(it.id in edge.ends for edge in self.elements[1].values()):
+            raise Refused(f"error node {it.id} has relationships")
+        kind = 1 if it.ends else 0
+        del self.elements[kind][it.id]
+        self.leaving = None
+        self.free[kind].append(it.id)
 
     def find(self, kind, id):
         if id not in self.elements[KINDS[kind]]:
@@ -261,31 +304,24 @@ class PlainGraph:
         return kind, self.find(kind, int(tokens.take("number")))
 
     def line_node(self, tokens):
-        return self.make(0, tokens.take("word"), tokens.pairs())
+        return f"node {self.make(0, tokens.take('word'), tokens.pairs()).id}"
 
     def line_edge(self, tokens):
         source, label, target = int(tokens.take("number")), tokens.take("word"), int(tokens.take("number"))
-        properties = tokens.pairs()
-        self.find("node", source), self.find("node", target)
-        return self.make(1, label, properties, (source, target))
+        return f"edge {self.make(1, label, tokens.pairs(), (source, target)).id}"
 
     def line_set(self, tokens):
         _, it = self.element(tokens)
         key = tokens.take("word")
-        it.properties[key] = tokens.value()
-        self.names.add(key)
+        self.set(it, {key: tokens.value()})
 
     def line_unset(self, tokens):
         _, it = self.element(tokens)
         it.properties.pop(tokens.take("word"), None)
 
     def line_delete(self, tokens):
-        kind, it = self.element(tokens)
-        if kind == "node" and any(it.id in edge.ends for edge in self.elements[1].values()):
-            raise Refused(f"error node {it.id} has relationships")
-        del self.elements[KINDS[kind]][it.id]
-        self.leaving = None
-        self.free[KINDS[kind]].append(it.id)
+        _, it = self.element(tokens)
+        self.delete(it)
 
     # --- edges at a node, and walks
 
@@ -332,15 +368,49 @@ class PlainGraph:
 
     def query(self, tokens):
         tokens.take(".")
+        if tokens.has("addV"):
+            return self.mutated(tokens, "addV", [])
         kind = "VE".index(tokens.take("V", "E"))
         tokens.take("(")
         ids = tokens.numbers()
         elements = self.elements[kind]
         items = [elements[it] for it in sorted({it for it in ids if it in elements} if ids else elements)]
         while tokens.has("."):
-            items = self.step(tokens, tokens.take("word"))(items)
+            word = tokens.take("word")
+            if word in MUTATING:
+                return self.mutated(tokens, word, items)
+            items = self.step(tokens, word)(items)
         tokens.end()
         return items
+
+    def mutated(self, tokens, word, items):
+        """The results after this step and the rest of the line, whose changes are all made or none."""
+        change = self.mutation(tokens, word)
+        tokens.end()
+        before = self.state()
+        try:
+            return change(elements(items))
+        except Refused:
+            self.restore(before)
+            raise
+
+    def mutation(self, tokens, word):
+        """What the step and those after it make of elements. Its parentheses come next."""
+        if word == "property":
+            pairs = tokens.properties(True)
+            return lambda items: [self.set(it, pairs) or it for it in items]
+        tokens.take("(")
+        if word == "drop":
+            tokens.take(")")
+            return lambda items: [it for it in dict.fromkeys(items) if self.delete(it)]
+        label = tokens.name()
+        tokens.take(")")
+        if word == "addV":
+            pairs = tokens.properties()
+            return lambda items: [self.make(0, label, pairs)]
+        target = tokens.target()
+        pairs = tokens.properties()
+        return lambda items: [self.make(1, label, pairs, (it.id, target)) for it in items]
 
     def index(self):
         """The edges that leave and that enter each node, by ascending identifier."""
@@ -469,7 +539,8 @@ class Sessions:
             return None
         word = held[0][1]
         is_of_snapshots = word in OF_SNAPSHOTS and len(held) == 1
-        if not is_of_snapshots and word not in QUESTIONS:
+        mutates = any(kind == "word" and it in MUTATING for kind, it in held)
+        if mutates or not is_of_snapshots and word not in QUESTIONS:
             return "error read only"
         if word == "snapshot":
             return self.snap(session)

@@ -7,7 +7,7 @@ sys.dont_write_bytecode = True
 from driver import ROOT, SOUND, answer, call, stats, wants
 
 sys.path.append(str(ROOT / "tools"))
-from nipakeel_tools.lines import completions
+from nipakeel_tools.lines import State, completions, mutates
 
 SHELL, BACKUP, EXPORT = ROOT / "tools/shell", ROOT / "tools/backup", ROOT / "tools/export"
 DONE, REFUSED, WRONG_WORDS, BAD_FILES = 0, 1, 2, 3
@@ -112,10 +112,49 @@ def drop(folder):
     assert says(folder, ".drop 0", "stats") == "node 0 and 3 edges are deleted\n" + stats(2, 10, properties=4).decode()
     assert says(folder, ".drop 7", status=REFUSED) == "delete node 7 is answered: error no node 7; nothing is changed\n"
     assert says(folder, "edge 1 t 2", "begin", ".drop 1", "rollback", "g.E().count()").endswith("ok\n==>1\nend\n")
+    # In an open transaction a refusal leaves it as it was before the line that was refused.
+    kept = says(folder, "begin", ".drop 7", "commit", "g.E().count()", status=REFUSED).splitlines()
+    assert kept[1].endswith("the open transaction has its edges deleted; rollback drops that") and kept[2:] == ["ok", "==>1", "end"]
     many = "begin\n" + "edge 1 t 2\n" * 200 + "commit\n"
     graph(folder, many)
     full = says(folder, ".drop 1", "g.E().count()", status=REFUSED)
     assert "error transaction full; nothing is changed" in full and full.endswith("==>201\nend\n"), full
+
+
+def queries_that_change(folder):
+    """A query that changes the graph is sent once, whatever the mode is, and the prompt follows it."""
+    graph(folder)
+    made = "g.addV('city').property('name','Oslo')"
+    assert says(folder, made, ".mode table", made, ".mode json", "g.V(3,4).addE('in').to(V(2))") == (
+        "==>v[3]\nend\nnode\n----\n   4\n"
+        + '{"edge": 3, "from": 3, "type": "in", "to": 2}\n{"edge": 4, "from": 4, "type": "in", "to": 2}\n'
+    )
+    assert says(folder, ".mode table", "g.V(2).drop()", "g.V().count()", status=REFUSED) == (
+        "error node 2 has relationships\nvalue\n-----\n    5\n"
+    )
+    for line, changes in CHANGING:
+        assert mutates(line.encode()) == changes, line
+    state = State()
+    for line, reply, now in ((b"begin", b"ok", "open"), (b"g.V().drop()", b"fault disk", "open"), (b"rollback", b"ok", "live")):
+        state.follows(line, reply)
+        assert state.now == now, f"{line}"
+    for line, now in ((b"g.V()", "live"), (b"g . V ( ) . drop ( )", "failed")):
+        state.follows(line, b"fault disk")
+        assert state.now == now, f"{line}"
+
+
+CHANGING = (
+    ("g.V()", False),
+    ("g.V().has('name','.drop()')", False),
+    ("g.V().has('name',\"it's.addV('a')\")", False),
+    ("g.V().has('it\\'s .drop()')", False),
+    ("set node 0 a '.drop()'", False),
+    ("g.addV('a')", True),
+    (" g . addV('a')", True),
+    ("g.V().has('name','it\\'s').property('a',1)", True),
+    ("g.V().\tdrop ()", True),
+    ("g.V().addE('a').to(V(0))", True),
+)
 
 
 def dump_and_read(folder):
@@ -186,7 +225,9 @@ def backup(folder):
 
 COMPLETED = (
     ("", "no", ["node"]),
-    ("", "g", ["g.V()", "g.E()"]),
+    ("", "g", ["g.V()", "g.E()", "g.addV("]),
+    ("g.V().", "ad", ["addE(", "addV("]),
+    ("g.V(0).", "dr", ["drop("]),
     (".", "ti", ["timer"]),
     ("g.V().", "ha", ["has(", "hasLabel("]),
     ("g.V().repeat(", "ou", ["out(", "outE(", "outV("]),
@@ -200,7 +241,7 @@ COMPLETED = (
     ("", "pa", ["path"]),
     ("degree ", "i", ["in"]),
     ("", "sn", ["snapshot"]),
-    ("@1 ", "g", ["g.V()", "g.E()"]),
+    ("@1 ", "g", ["g.V()", "g.E()", "g.addV("]),
     (" @1 g.V().", "ha", ["has(", "hasLabel("]),
 )
 
@@ -216,6 +257,7 @@ CASES = {
     "shell: results as a table, as CSV and as JSON": modes,
     "shell: names": names,
     "shell: a node with its edges": drop,
+    "shell: queries that change the graph": queries_that_change,
     "shell: dump and read": dump_and_read,
     "shell: sessions": sessions,
     "shell: what is of a session": tools_of_a_session,

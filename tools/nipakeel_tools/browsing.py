@@ -18,7 +18,7 @@ from typing import Any, Dict, List, Optional, Sequence
 
 from nipakeel_tools.client import Ended, NotAnswered
 from nipakeel_tools.limits import MOST_LINE
-from nipakeel_tools.lines import LISTS, State, place_of
+from nipakeel_tools.lines import LISTS, State, mutates, place_of
 from nipakeel_tools.names import keys_of_store, names_in
 from nipakeel_tools.query import Asking, Element, Unfit, pages
 from nipakeel_tools.showing import header_of, keyed, keyed_rows, rows_of
@@ -76,12 +76,14 @@ class Browsing:
             raise Wrong("it is no line")
         if word.startswith("@"):
             raise Wrong("the page's lines name no session")
-        if not self.writes and not word.startswith("g") and word not in QUESTIONS:
+        changes = mutates(given) or not word.startswith("g") and word not in QUESTIONS
+        if changes and not self.writes:
             raise Wrong("the page was begun without --write, and takes no line that may change something")
         begun = time.monotonic()
         try:
             found = self.results(line) if word.startswith("g") or word in LISTS else self.reply(given)
         except NotAnswered as error:
+            self.state.follows(given, error.reply)
             found = {"reply": error.reply.decode(errors="replace"), "place": place_of(error.reply)}
         return {**found, "seconds": time.monotonic() - begun}
 

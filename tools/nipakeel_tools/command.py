@@ -13,10 +13,11 @@ from typing import Any, Callable, Iterable, Iterator, List, Optional, Sequence, 
 from nipakeel_tools import INTERRUPTED
 from nipakeel_tools.client import NIPAKEEL, Ended, NotAnswered, Program
 from nipakeel_tools.journal import BadJournal
+from nipakeel_tools.lines import mutates
 from nipakeel_tools.query import DIRECTIONS, Asking, Element, Unfit
 from nipakeel_tools.readers import Choices, CsvTable, Source
 from nipakeel_tools.rows import Refused
-from nipakeel_tools.values import Bad, name
+from nipakeel_tools.values import Bad, name, to_bytes
 
 DONE, REFUSED, WRONG_WORDS, BAD_FILES, PROGRAM_FAILED = range(5)
 # Replies to a query that blame the program's disk or memory, and no line of the user.
@@ -83,12 +84,12 @@ def fits_part(reader: argparse.ArgumentParser, options: Options) -> None:
     if options.steps < 0:
         reader.error("--steps takes a number from 0 on")
     if options.query is not None and not is_query(options.query):
-        reader.error("--from takes a query, such as g.V().has('name','Ada')")
+        reader.error("--from takes a query that changes nothing, such as g.V().has('name','Ada')")
 
 
 def is_query(line: str) -> bool:
-    """Whether it is one line with a query. A line of another word might change the store."""
-    return line.strip(" \t").startswith("g") and "\n" not in line
+    """Whether it is one line with a query that changes nothing. A line of another word might change the store."""
+    return line.strip(" \t").startswith("g") and "\n" not in line and not mutates(to_bytes(line))
 
 
 def names_of(word: str) -> List[str]:

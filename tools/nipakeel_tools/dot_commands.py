@@ -120,26 +120,25 @@ def drop(shell: Any, identifier: str) -> None:
     """Deletes a node with its edges, all or none, in the transaction that is open or in one of its own."""
     if not identifier.isdecimal():
         raise Wrong("it is .drop ID, with the identifier of a node")
-    edges = [it.decode() for it in shell.program.results(f"g.V({identifier}).bothE().dedup().id()".encode())]
+    edges = f"g.V({identifier}).bothE()"
+    (count,) = shell.program.results(f"{edges}.dedup().count()".encode())
     own = shell.state.now != "open"
-    lines = [*(f"delete edge {it}" for it in edges), f"delete node {identifier}"]
-    if own:
-        lines = ["begin", *lines]
+    lines = [*["begin"] * own, f"{edges}.drop()", f"delete node {identifier}"]
     for at, line in enumerate(lines):
         reply = shell.program.ask(line.encode())
-        if reply != b"ok":
+        if reply not in (b"ok", b"end"):
             undone = "nothing is changed"
             if own and at:
                 shell.program.ask(b"rollback")
             elif at:
-                undone = "the open transaction has some of it; rollback drops that"
+                undone = "the open transaction has its edges deleted; rollback drops that"
             raise Wrong(f"{line} is answered: {reply.decode()}; {undone}")
     if own:
         reply = shell.program.ask(b"commit")
         shell.state.follows(b"commit", reply)
         if reply != b"ok":
             raise NotAnswered(b"commit", reply)
-    shell.shows_lines([f"node {identifier} and {len(edges)} edges are deleted"])
+    shell.shows_lines([f"node {identifier} and {count.decode()} edges are deleted"])
 
 
 def leave(shell: Any) -> None:

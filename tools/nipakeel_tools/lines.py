@@ -10,6 +10,9 @@ SHOWN_STATES = {"live": "", "open": " (open)", "failed": " (failed)"}
 # Faults that have a place, which is the last word of the reply.
 PLACED = re.compile(rb"error (?:syntax|name length|text length|number range|step kind|too many steps|times range) ([0-9]+)")
 CHANGES = (b"node", b"edge", b"set", b"unset", b"delete")
+# A text between quotes, and what makes a query one that changes the graph, once there are no such texts in it.
+QUOTED = re.compile(rb"""'(?:[^'\\]|\\.)*'|"(?:[^"\\]|\\.)*\"""", re.S)
+MUTATES = re.compile(rb"\.[ \t]*(?:addV|addE|property|drop)\b")
 # How a typed line begins that names its session.
 NAMED = re.compile(r"^[ \t]*@[0-7][ \t]+")
 HELP = [
@@ -42,6 +45,10 @@ HELP = [
     (".repeat(out()).times(N)", "the steps between the parentheses N times, 1 to 16"),
     (".limit(N)", "the first N of them"),
     (".count()", "how many there are"),
+    ("g.addV('LABEL')", "makes a node; .property('KEY',VALUE) may follow, once for each key"),
+    (".addE('TYPE').to(V(ID))", "makes an edge from each node that was found to node ID; .property may follow"),
+    (".property('KEY',VALUE)", "gives the key of each element that was found a value; .property may follow"),
+    (".drop()", "deletes each element that was found; a node has to have no edges"),
     ("stats", "counts nodes, edges, properties, blocks and names"),
     ("check", "tests the whole store: sound, or a record that breaks a rule"),
     ("checkpoint", "empties the redo log"),
@@ -93,12 +100,18 @@ class State:
         elif word == b"reopen" and (reply == b"ok" or reply == b"fault disk" or reply.startswith(b"damaged")):
             self.now = "live" if reply == b"ok" else "failed"
         elif reply == b"fault disk":
-            if word in (b"commit", b"checkpoint") or word in CHANGES and self.now == "live":
+            changes = word in CHANGES or mutates(line)
+            if word in (b"commit", b"checkpoint") or changes and self.now == "live":
                 self.now = "failed"
         elif reply == b"ok" and word in (b"begin", b"commit", b"rollback"):
             self.now = "open" if word == b"begin" else "live"
         elif reply == b"error transaction open":
             self.now = "open"
+
+
+def mutates(line: bytes) -> bool:
+    """Whether it is a query with a step that changes the graph."""
+    return line.lstrip().startswith(b"g") and bool(MUTATES.search(QUOTED.sub(b"''", line)))
 
 
 def help_lines(word: str) -> List[str]:
@@ -159,7 +172,7 @@ def completions(before: str, begun: str, names: Sequence[str]) -> List[str]:
     if is_in_quotes(before):
         found = list(names)
     elif not first:
-        found = sorted({NAMED.sub("", line).split()[0] for line, _ in HELP if line[0] != "."})
+        found = sorted({NAMED.sub("", line).split()[0].split("'")[0] for line, _ in HELP if line[0] != "."})
     elif first == ".":
         found = [line.split()[0][1:] for line, _ in DOTS]
     elif first.startswith("g"):
