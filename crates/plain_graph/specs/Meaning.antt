@@ -4,6 +4,7 @@ use Rattle.std.specs.Prelude.{◌||◌, Option, Some, None, List, [], ◌∷◌,
 use Rattle.std.specs.Prelude.{take}
 use Rattle.std.specs.FinMap as maps
 use Rattle.std.specs.List.{filter, filter_map, flat_map, list_any}
+use Rattle.std.specs.Option.{option_map, option_to_list}
 use Rattle.std.specs.Ordering.{is_eq, is_lt}
 use Rattle.plain_graph.specs.Graph.{Edge, Graph, Node, node_number, properties_at}
 use Rattle.plain_graph.specs.Properties.{Properties, no_properties}
@@ -97,17 +98,15 @@ properties_of graph (items.Vertex id) = properties_at graph (targets.Node id)
 properties_of graph (items.Edge id label from to) = properties_at graph (targets.Edge id)
 properties_of graph (items.Value value) = no_properties
 
-abbrev pub node_label : Option Node → List ℕ
-node_label None = []
-node_label (Some node) = node.label
-
-abbrev pub label_of : Graph → Item → List ℕ
+-- the label of a node, the type of an edge; a value has none, and no vertex that is no node
+abbrev pub label_of : Graph → Item → Option (List ℕ)
 label_of graph (items.Vertex id) =
-    node_label (find (λ node. nat_eq (node_number node) id) graph.nodes)
-label_of graph (items.Edge id label from to) = label
-label_of graph (items.Value value) = []
+    option_map (λ (node : Node). node.label)
+    (find (λ node. nat_eq (node_number node) id) graph.nodes)
+label_of graph (items.Edge id label from to) = Some label
+label_of graph (items.Value value) = None
 
-abbrev pub is_some_and : Option Value → (Value → Bool) → Bool
+abbrev pub is_some_and : {A : Type 0} → Option A → (A → Bool) → Bool
 is_some_and None test = false
 is_some_and (Some value) test = test value
 
@@ -119,7 +118,7 @@ passes graph (filters.HasValue key relation written) item =
     is_some_and (maps.get (properties_of graph item) key)
     (λ value. is_related relation value written)
 passes graph (filters.HasLabel labels) item =
-    list_any (λ label. is_text label (label_of graph item)) labels
+    is_some_and (label_of graph item) (λ own. list_any (λ label. is_text label own) labels)
 
 -- texts, each once, where it first stands
 abbrev pub texts_once : List (List ℕ) → List (List ℕ) → List (List ℕ)
@@ -142,8 +141,9 @@ identifier (items.Vertex id) = items.Value (values.Int (pos id)) ∷ []
 identifier (items.Edge id label from to) = items.Value (values.Int (pos id)) ∷ []
 identifier (items.Value value) = []
 
-abbrev pub label_value : Graph → Item → Item
-label_value graph item = items.Value (values.Text (label_of graph item))
+abbrev pub label_value : Graph → Item → List Item
+label_value graph item =
+    map (λ text. items.Value (values.Text text)) (option_to_list (label_of graph item))
 
 -- ---- what a step makes of the whole list
 
@@ -218,7 +218,7 @@ after_step graph steps.InV before = flat_map in_vertex before
 after_step graph (steps.Filter test) before = filter (passes graph test) before
 after_step graph (steps.Values keys) before = flat_map (key_values graph keys) before
 after_step graph steps.Id before = flat_map identifier before
-after_step graph steps.Label before = map (label_value graph) before
+after_step graph steps.Label before = flat_map (label_value graph) before
 after_step graph steps.Dedup before = unseen [] before
 after_step graph steps.Count before = items.Value (values.Int (pos (length before))) ∷ []
 after_step graph (steps.Limit most) before = take most before

@@ -10,14 +10,14 @@ use Rattle.plain_graph.specs.declared.query.BodyStep.TheVariants as bodies
 use Rattle.plain_graph.specs.declared.query.Step.{Step}
 use Rattle.plain_graph.specs.declared.query.Step.TheVariants as steps
 use Rattle.plain_graph.specs.declared.filter.Filter.{Filter}
-use Rattle.plain_graph.specs.Meaning.{after_step, after_steps, after_body, after_bodies, label_value, passes, repeated, counts_past as step_past, counts_past_in}
+use Rattle.plain_graph.specs.Meaning.{after_step, after_steps, after_body, after_bodies, passes, repeated, counts_past as step_past, counts_past_in}
 use Rattle.traversal_run.specs.declared.row.Row.{Row}
 use Rattle.traversal_run.specs.Row.{Stream, after_row, through}
 use Rattle.traversal_run.specs.Stage.{after_stage, counts_past}
 use Rattle.traversal_run.specs.declared.stage.Stage.{Stage}
 use Rattle.traversal_run.specs.declared.stage.Stage.TheVariants as stages
 use Rattle.traversal_run.specs.declared.mapping.Mapping.TheVariants as mappings
-use Rattle.traversal_run.specs.Mapping.{filtered, mapped}
+use Rattle.traversal_run.specs.Mapping.{filtered}
 use Rattle.traversal_run.specs.Starting.{fresh, body_row, repeat_rows, rows_of_step, rows_of}
 
 or_false : (p : Bool) → p || false ≡ p
@@ -47,10 +47,6 @@ filtered_all graph test (item ∷ list) = by (passes graph test item) ∙ ap (λ
     by true = refl
     by false = refl
 
-labels_all : (graph : Graph) (list : List Item) → flat_map (mapped graph mappings.Label) list ≡ map (label_value graph) list
-labels_all graph [] = refl
-labels_all graph (item ∷ list) = ap (λ rest. label_value graph item ∷ rest) (labels_all graph list)
-
 through_body : (graph : Graph) (body : List BodyStep) (coming : Stream) → through graph (map body_row body) coming ≡ changed (after_bodies graph body) coming
 through_body graph [] coming = refl
 through_body graph (bodies.Neighbours hop ∷ body) coming = ap (through graph (map body_row body)) (no_count graph (stages.Mapped (mappings.Neighbours hop)) coming refl) ∙ through_body graph body (changed (after_body graph (bodies.Neighbours hop)) coming)
@@ -78,8 +74,6 @@ through_step graph (steps.Values []) coming = refl
 through_step graph (steps.Values (key ∷ keys)) coming = refl
 through_step graph (steps.Filter test) coming = quiet_step graph (steps.Filter test) coming (through graph (rows_of_step (steps.Filter test)) coming)
     (no_count graph (stages.Mapped (mappings.Filter test)) coming refl ∙ (λ i. record { items = filtered_all graph test coming.items i; past = coming.past })) refl
-through_step graph steps.Label coming = quiet_step graph steps.Label coming (through graph (rows_of_step steps.Label) coming)
-    (no_count graph (stages.Mapped mappings.Label) coming refl ∙ (λ i. record { items = labels_all graph coming.items i; past = coming.past })) refl
 through_step graph steps.Count coming = let len : 0 + length coming.items ≡ length coming.items = zero-add (length coming.items) in λ i. record { items = items.Value (values.Int (pos (len i))) ∷ []; past = coming.past || nat_lt 9223372036854775807 (len i) }
 through_step graph step coming = refl
 

@@ -35,11 +35,11 @@ use Rattle.traversal_run.specs.Naming.{name_count}
 -- ---- rows that are loaded
 
 node_breaks : (s : State) (id : ℕ) (d : Damage) → IsRowDamage format.nodes_file s id d → Breaks s.records s.shape d
-node_breaks s id d (UnknownKind low none) = RecordRange format.nodes_file id refl low refl (λ fits. let is = fits.is in cc)
+node_breaks s id d (UnknownKind low none) = RecordRange format.nodes_file id refl low (λ fits. let is = fits.is in cc)
 node_breaks s id d (HighMark above) = WrongMeta format.nodes_file (omega arith) (λ meta. let right = meta.high in omega arith)
 
 rel_breaks : (s : State) (id : ℕ) (d : Damage) → IsRowDamage format.relationships_file s id d → Breaks s.records s.shape d
-rel_breaks s id d (UnknownKind low none) = RecordRange format.relationships_file id refl low refl (λ fits. let is = fits.is in cc)
+rel_breaks s id d (UnknownKind low none) = RecordRange format.relationships_file id refl low (λ fits. let is = fits.is in cc)
 rel_breaks s id d (HighMark above) = WrongMeta format.relationships_file (omega arith) (λ meta. let right = meta.high in omega arith)
 
 pub node_blamed : (s : State) (id : ℕ) (fault : RowFault) → nodes.IsNodeFault s id fault → BlamesBroken s.records s.shape (of_row fault)

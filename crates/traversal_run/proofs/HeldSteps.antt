@@ -1,16 +1,18 @@
 -- What a step that keeps nothing gives for one item.
-use Rattle.std.proofs.Common.{◌≡◌, inl, inr, ◌≤◌, ℕ, ◌*◌, suc, zero, nat_eq, Bool, true, false, ◌||◌, cond, List, [], ◌∷◌, ◌++◌, length, map, take, refl, sym, ap, ◌∙◌, subst, arith}
+use Rattle.std.proofs.Common.{◌≡◌, inl, inr, ◌≤◌, ℕ, ◌*◌, suc, zero, nat_eq, Bool, true, false, ◌||◌, cond, Option, None, Some, List, [], ◌∷◌, ◌++◌, length, map, take, refl, sym, ap, ◌∙◌, subst, arith}
 use Rattle.std.specs.FinMap as maps
 use Rattle.std.specs.List.{filter, filter_map}
+use Rattle.std.specs.Option.{option_to_list}
 use Rattle.std.proofs.lemmas.Bool.{and_parts}
 use Rattle.std.proofs.lemmas.List.{append-nil, length-append, length-map}
 use Rattle.plain_graph.specs.Graph.{Edge, Graph, degree_in, has_node, is_at}
-use Rattle.plain_graph.specs.Meaning.{edge_item, edges_at, enters_by, incident, is_named, leaves_by, neighbours_at, passes, properties_of}
+use Rattle.plain_graph.specs.Meaning.{edge_item, edges_at, enters_by, incident, is_named, label_of, leaves_by, neighbours_at, passes, properties_of}
 use Rattle.plain_graph.specs.declared.direction.Direction.{Direction}
 use Rattle.plain_graph.specs.declared.direction.Direction.TheVariants as directions
 use Rattle.plain_graph.specs.declared.item.Item.{Item}
 use Rattle.plain_graph.specs.declared.item.Item.TheVariants as items
 use Rattle.plain_graph.specs.declared.value.Value.{Value}
+use Rattle.plain_graph.specs.declared.value.Value.TheVariants as values
 use Rattle.rec_bytes.specs.declared.shape.Shape.{Shape}
 use Rattle.store_rules.specs.Graph.{graph_of}
 use Rattle.store_rules.specs.Rules.{IsWellFormed}
@@ -139,7 +141,11 @@ module _ (graph : Graph) (d : ℕ) (few : AreFewAt graph d) where
   mapped_batch mappings.Id (items.Vertex id) = inr (omega arith)
   mapped_batch mappings.Id (items.Edge id label from to) = inr (omega arith)
   mapped_batch mappings.Id (items.Value value) = inr (omega arith)
-  mapped_batch mappings.Label item = inr (omega arith)
+  mapped_batch mappings.Label item = inr (one_label (label_of graph item))
+    where
+      one_label : (label : Option (List ℕ)) → length (map (λ (text : List ℕ). items.Value (values.Text text)) (option_to_list label) ++ []) ≤ 1
+      one_label None = omega arith
+      one_label (Some text) = omega arith
 
   stage_batch : (stage : Stage) (item : Item) → is_plain stage ≡ true → IsBatch d (is_hop stage) (after_stage graph stage (item ∷ []))
   stage_batch (stages.Mapped mapping) item plain = mapped_batch mapping item

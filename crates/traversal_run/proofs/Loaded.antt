@@ -1,10 +1,11 @@
 -- What a load of an element says of its item.
 use Rattle.std.proofs.Common.{◌≡◌, ◌≢◌, ◌⊎◌, ◌<◌, ℕ, Bool, true, false, ◌||◌, cond, nat_eq, None, Some, List, [], ◌∷◌, find, inl, inr, refl, sym, ap, ◌∙◌, subst, ⊎_elim}
 use Rattle.std.specs.List.{list_any}
+use Rattle.std.specs.Option.{option_map}
 use Rattle.std.specs.FinMap as maps
 use Rattle.std.specs.FinMap.{get-empty}
-use Rattle.plain_graph.specs.Graph.{edge_number, edge_properties, node_number, node_properties, properties_at}
-use Rattle.plain_graph.specs.Meaning.{label_of, node_label, properties_of}
+use Rattle.plain_graph.specs.Graph.{Node, edge_number, edge_properties, node_number, node_properties, properties_at}
+use Rattle.plain_graph.specs.Meaning.{label_of, properties_of}
 use Rattle.plain_graph.specs.Properties.{no_properties}
 use Rattle.plain_graph.specs.Values.{is_text}
 use Rattle.plain_graph.specs.declared.command.Target.TheVariants as targets
@@ -90,15 +91,15 @@ edge_owned s id label from to row found =
     let is = rel_rows.kind-row_at-Some s.records id row (sym found) in
     record { used = is.0; are = refl; first = sym (ap (λ (r : RelRow). r.property) is.1) }
 
-pub no_node_label : (s : Records) (id : ℕ) → None ≡ nodes.row_at s id → label_of (graph_of s) (items.Vertex id) ≡ []
-no_node_label s id none = ap node_label (node_not_found s id (node_rows.kind-row_at-None s id (sym none)))
+pub no_node_label : (s : Records) (id : ℕ) → None ≡ nodes.row_at s id → label_of (graph_of s) (items.Vertex id) ≡ None
+no_node_label s id none = ap (option_map (λ (node : Node). node.label)) (node_not_found s id (node_rows.kind-row_at-None s id (sym none)))
 
 -- the label of a node in use is the name of its record's number
-pub node_label-is : (s : Records) (id : ℕ) (row : NodeRow) → Some row ≡ nodes.row_at s id → label_of (graph_of s) (items.Vertex id) ≡ name_at s row.label
+pub node_label-is : (s : Records) (id : ℕ) (row : NodeRow) → Some row ≡ nodes.row_at s id → label_of (graph_of s) (items.Vertex id) ≡ Some (name_at s row.label)
 node_label-is s id row found =
     let is = node_rows.kind-row_at-Some s id row (sym found) in
-    ap node_label (find_collect node_number (node_of s) (high s format.nodes_file) id (nodes_numbered s) (kind_below (high s format.nodes_file) (rec_at s format.nodes_file id) id is.0) ∙ node_used s id is.0)
-    ∙ ap (λ (r : NodeRow). name_at s r.label) (sym is.1)
+    ap (option_map (λ (node : Node). node.label)) (find_collect node_number (node_of s) (high s format.nodes_file) id (nodes_numbered s) (kind_below (high s format.nodes_file) (rec_at s format.nodes_file id) id is.0) ∙ node_used s id is.0)
+    ∙ ap (λ (r : NodeRow). Some (name_at s r.label)) (sym is.1)
 
 -- whose number is a name's in a store
 pub label_known : (s : Records) (shape : Shape) → IsWellFormed s shape → (id : ℕ) (row : NodeRow) → Some row ≡ nodes.row_at s id → row.label < name_count s

@@ -30,7 +30,7 @@ mapped graph mappings.InV item = in_vertex item
 mapped graph (mappings.Filter test) item = filtered graph test item
 mapped graph (mappings.Values keys) item = distinct_values graph keys item
 mapped graph mappings.Id item = identifier item
-mapped graph mappings.Label item = label_value graph item ∷ []
+mapped graph mappings.Label item = label_value graph item
 
 -- it gives neighbours or edges
 abbrev pub gives_edges : Mapping → Bool

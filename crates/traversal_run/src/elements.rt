@@ -1,4 +1,6 @@
-ghost use Rattle.std.specs.Prelude.{◌≡◌, ◌≤◌, IfErr, IfOk, IfSome, length};
+ghost use Rattle.std.specs.Prelude.{ℕ, ◌≡◌, ◌≤◌, IfErr, IfOk, IfSome, List, length};
+ghost use Rattle.std.specs.Borrow.{Bor};
+ghost use Rattle.std.specs.Option.{option_map};
 ghost use Rattle.std.specs.FinMap as maps;
 ghost use Rattle.plain_graph.specs.Forms.{IsKept, IsShown};
 ghost use Rattle.plain_graph.specs.Meaning.{label_of, properties_of};
@@ -105,63 +107,64 @@ pub(crate) fn owner_of<R: Reads>(
     }
 }
 
-/// The label of an item; an empty one where it is a value or a vertex that isn't in use.
+/// The label of an item; none where it is a value or a vertex that isn't in use.
 pub(crate) fn label_of<'a, R: Reads>(
     space: &mut R,
     names: &'a Names,
     item: &'a Item,
     row: &Option<NodeRow>,
-) -> Result<&'a [u8], Fault>
+) -> Result<Option<&'a [u8]>, Fault>
     requires row { IsRowOf R.tells (R.state space.old).records item.now row.now }
     ensures found { R.tells
         → IsNamedStore (R.state space.old).records (R.state space.old).shape names.now.names
-        → IfOk result (λ label. label.now
+        → IfOk result (λ label. option_map (λ (text : Bor (List ℕ)). text.now) label
         ≡ label_of (graph_of (R.state space.old).records) item.now) }
     ensures sound { R.tells
         → IsNamedStore (R.state space.old).records (R.state space.old).shape names.now.names
         → NotDamaged result }
     ensures damaged { R.tells → IfErr result
         (BlamesBroken (R.state space.old).records (R.state space.old).shape) }
-    ensures short { IsShown item.now → IfOk result (λ label. length label.now ≤ 48) }
+    ensures short { IsShown item.now
+        → IfOk result (λ label. IfSome label (λ text. length text.now ≤ 48)) }
     ensures read { IsRead R.Reads space.old space.new }
     ensures cause { HasFaultCause (R.faults space.old) (R.faults space.new) result }
 {
     match item {
         Item::Vertex(id) => vertex_label(space, names, *id, row),
-        Item::Edge { label, .. } => Ok(label.as_bytes()),
-        Item::Value(_) => Ok(&[]),
+        Item::Edge { label, .. } => Ok(Some(label.as_bytes())),
+        Item::Value(_) => Ok(None),
     }
 }
 
-/// The label of a vertex; an empty one where it isn't in use.
+/// The label of a vertex; none where it isn't in use.
 fn vertex_label<'a, R: Reads>(
     space: &mut R,
     names: &'a Names,
     id: u32,
     row: &Option<NodeRow>,
-) -> Result<&'a [u8], Fault>
+) -> Result<Option<&'a [u8]>, Fault>
     requires row { IsRowOf R.tells (R.state space.old).records (items.Vertex id) row.now }
     ensures found { R.tells
         → IsNamedStore (R.state space.old).records (R.state space.old).shape names.now.names
-        → IfOk result (λ label. label.now
+        → IfOk result (λ label. option_map (λ (text : Bor (List ℕ)). text.now) label
         ≡ label_of (graph_of (R.state space.old).records) (items.Vertex id)) }
     ensures sound { R.tells
         → IsNamedStore (R.state space.old).records (R.state space.old).shape names.now.names
         → NotDamaged result }
     ensures damaged { R.tells → IfErr result
         (BlamesBroken (R.state space.old).records (R.state space.old).shape) }
-    ensures short { IfOk result (λ label. length label.now ≤ 48) }
+    ensures short { IfOk result (λ label. IfSome label (λ text. length text.now ≤ 48)) }
     ensures read { IsRead R.Reads space.old space.new }
     ensures cause { HasFaultCause (R.faults space.old) (R.faults space.new) result }
 {
     let mark = name_mark(space);
     let Some(row) = row_of(space, id, row)? else {
-        return Ok(&[]);
+        return Ok(None);
     };
     if row.label >= mark {
         return Err(unnamed(NODES, id));
     }
-    Ok(text_of(names, row.label))
+    Ok(Some(text_of(names, row.label)))
 }
 
 /// The value of a key of an item. A key that is no name of the store has none.

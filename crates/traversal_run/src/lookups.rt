@@ -73,10 +73,10 @@ pub(crate) fn passes<R: Reads>(
             Some(own) => Ok(is_related(*relation, &own, value)),
             None => Ok(false),
         },
-        Filter::HasLabel(labels) => {
-            let label = label_of(space, names, item, row)?;
-            Ok(is_among(label, labels.as_slice()))
-        }
+        Filter::HasLabel(labels) => match label_of(space, names, item, row)? {
+            Some(label) => Ok(is_among(label, labels.as_slice())),
+            None => Ok(false),
+        },
     }
 }
 
@@ -145,7 +145,7 @@ fn one_value<R: Reads>(
     }
 }
 
-/// The label of an item.
+/// The label of an item, where it has one.
 pub(crate) fn label_value<R: Reads>(
     alloc: Global,
     space: &mut R,
@@ -157,7 +157,7 @@ pub(crate) fn label_value<R: Reads>(
     ensures found { R.tells
         → IsNamedStore (R.state space.old).records (R.state space.old).shape names.now.names
         → IfOk result (λ outs. outs
-        ≡ label_value (graph_of (R.state space.old).records) item.now ∷ []) }
+        ≡ label_value (graph_of (R.state space.old).records) item.now) }
     ensures sound { R.tells
         → IsNamedStore (R.state space.old).records (R.state space.old).shape names.now.names
         → NotDamaged result }
@@ -166,7 +166,9 @@ pub(crate) fn label_value<R: Reads>(
     ensures read { IsRead R.Reads space.old space.new }
     ensures cause { HasFaultCause (R.faults space.old) (R.faults space.new) result }
 {
-    let label = label_of(space, names, item.as_item(), row)?;
+    let Some(label) = label_of(space, names, item.as_item(), row)? else {
+        return Ok(Waiting::new(alloc));
+    };
     let bytes = Vec::from_slice(alloc, label)?;
     let label = Shown::value(Value::Text(Text::new(bytes)));
     Ok(Waiting::one(alloc, label))

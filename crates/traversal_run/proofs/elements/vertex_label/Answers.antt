@@ -1,4 +1,4 @@
-use Rattle.std.proofs.Common.{◌∙◌, sym, subst, arith}
+use Rattle.std.proofs.Common.{Some, ap, ◌∙◌, sym, subst, arith}
 use Rattle.std.proofs.lemmas.Result.{err_from_is_err_and}
 use Rattle.prop_store.specs.Fault.{BlamesBroken}
 use Rattle.traversal_run.proofs.Broken.{node_blamed, node_unnamed}
@@ -34,7 +34,7 @@ pub returns-clause-found : goal.returns-clause-found
 returns-clause-found g c = λ tells store.
     let s = g.R.Reads.state c.args.space.now in
     let row = sym c.in-Some.is ∙ c.in_ok-row.ensures.found tells in
-    c.text_of.ensures.is s.records s.shape store (label_known s.records s.shape store.store c.args.id c.in-Some.row row)
+    ap Some (c.text_of.ensures.is s.records s.shape store (label_known s.records s.shape store.store c.args.id c.in-Some.row row))
     ∙ sym (node_label-is s.records c.args.id c.in-Some.row row)
 
 pub returns-in_err-row-clause-cause : goal.returns-in_err-row-clause-cause
