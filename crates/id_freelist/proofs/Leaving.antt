@@ -28,7 +28,7 @@ use Rattle.id_freelist.specs.Giving.{HasGiven}
 
 -- ---- the record of a free identifier
 
-byte_of_zeros : (i : ℕ) → i < 64 → field 1 zeros i ≡ 0
+pub byte_of_zeros : (i : ℕ) → i < 64 → field 1 zeros i ≡ 0
 byte_of_zeros i lt = let z : get_or zeros.bytes i 0 ≡ 0 = get_or-replicate 64 i 0 0 lt in sym (byte-is zeros i (omega arith)) ∙ z
 
 free_byte : (next i : ℕ) → i < 64 → (i < 4) ⊎ (8 ≤ i) → field 1 (free_record next) i ≡ 0

@@ -17,7 +17,7 @@ use Rattle.rec_bytes.proofs.RecordFiles.{is_meta_file-record, is_record_file-low
 use Rattle.store_rules.specs.Breaking.{Breaks, HasFreeList, IsOnFreeList}
 use Rattle.store_rules.specs.Breaking.Breaks.{FreeList, OffFreeList, RecordRange, WrongMeta}
 use Rattle.store_rules.specs.Chains.{In, IsWalk}
-use Rattle.store_rules.specs.Ranges.{Fits, Layout, all_point, bytes_of, free_layout, is_indexed, is_reused, layout_by, may}
+use Rattle.store_rules.specs.Ranges.{Fits, Layout, all_point, bytes_of, free_layout, is_reused, layout_by, may}
 use Rattle.store_rules.specs.Rules.{next_free}
 use Rattle.store_rules.specs.Views.{Records, high, is_live, kind_at, rec_at}
 use Rattle.store_rules.proofs.Counts.{ids_all, ids_fewer, length-ids}
@@ -81,13 +81,6 @@ module _ (records : Records) (file : ℕ) where
     kind_is : field 1 (rec_at records file x) format.kind ≡ format.free_kind
     kind_is = sym (kind_low (high records file) (rec_at records file x) x unused.low) ∙ unused.free
 
-    not_indexed : is_indexed file (rec_at records file x) ≡ false
-    not_indexed = ap (λ b. nat_eq file format.index_file && b) (live_false (field 1 (rec_at records file x) format.kind) kind_is) ∙ right (nat_eq file format.index_file)
-      where
-        right : (a : Bool) → (a && false) ≡ false
-        right true = refl
-        right false = refl
-
     abbrev free_table : Layout
     free_table = record { pointers = may format.free_next file ∷ []; used = bytes_of format.free_next 4 ∷ [] }
 
@@ -123,7 +116,7 @@ breaks_of s file is d (Undercounted none lt used) = FreeList file is (λ k. let 
 breaks_of s file is d (Overcounted le more) = FreeList file is (λ k. never_over s.records file k le more)
 breaks_of s file is d (InUse some used) = FreeList file is (λ k. used (first_free s.records file k some))
 breaks_of s file is d (BadNext ne unused some le) =
-    RecordRange file (meta_of s file).free (meta_of_reused file is) unused.low (not_indexed s.records file (meta_of s file).free is unused) (low_next s.records file (meta_of s file).free is unused some le)
+    RecordRange file (meta_of s file).free (meta_of_reused file is) unused.low (low_next s.records file (meta_of s file).free is unused some le)
 
 pub blames_broken : (s : State) (file : ℕ) → is_reused file ≡ true → (r : Result ℕ TakeFault) → IfErr r (IsTakeFault s file) → IfErr r (BlamesBroken s.records s.shape)
 blames_broken s file is (Ok id) why = tt

@@ -1,7 +1,7 @@
 -- A meta record that is written twice.
 use Rattle.std.specs.Prelude.{replicate}
 use Rattle.std.specs.List.{list_all}
-use Rattle.std.proofs.Common.{◌≡◌, ℕ, ◌+◌, ◌-◌, ◌≤◌, Bool, true, false, cond, nat_eq, List, [], ◌++◌, length, drop, sym, ap, ◌∙◌, arith, refl}
+use Rattle.std.proofs.Common.{◌≡◌, ℕ, ◌+◌, ◌-◌, ◌≤◌, Bool, true, false, cond, nat_eq, List, [], ◌++◌, length, drop, take, sym, ap, ◌∙◌, arith, refl}
 use Rattle.std.proofs.lemmas.List.{drop_at, drop-drop, length-append, length-drop, length-replicate, length-take-le, append_assoc}
 use Rattle.std.proofs.Math.Seq.{drop-append-add, take-append_seam}
 use Rattle.byteorder.specs.Endian.{little_bytes}
@@ -87,6 +87,26 @@ zeros_from-with_meta at r m behind zeros =
     ∙ ap (list_all (λ b. nat_eq b 0)) (drop-with_meta (at - 12) r m)
     ∙ ap (λ n. list_all (λ b. nat_eq b 0) (drop n (as_64 r.bytes))) split
     ∙ zeros
+
+-- zeros behind a number that is written stay
+pub zeros_from-with_field : (n : ℕ) (r : Rec) (at value place : ℕ) → at + n ≤ place → place ≤ 64 → zeros_from place r ≡ true → zeros_from place (with_field n r at value) ≡ true
+unfolding zeros_from with_field
+zeros_from-with_field n r at value place behind inside zeros =
+    let xs = as_64 r.bytes in
+    let bs = little_bytes n value in
+    let long : length xs ≡ 64 = length-as_64 r.bytes in
+    let lb : length bs ≡ n = length-bytes_low_first 0 n value in
+    let front = take at xs ++ bs in
+    let la : length front ≡ at + n = omega (arith, length-append (take at xs) bs, length-take-le at xs (omega (arith, long, behind, inside)), lb) in
+    let is : with_bytes xs at bs ≡ front ++ drop (at + n) xs
+    = with_bytes-is xs at bs (omega (arith, lb, long, behind, inside)) ∙ ap (λ k. take at xs ++ (bs ++ drop (at + k) xs)) lb ∙ sym (append_assoc (take at xs) bs (drop (at + n) xs)) in
+    let whole : length (front ++ drop (at + n) xs) ≡ 64 = omega (arith, length-append front (drop (at + n) xs), la, length-drop (at + n) xs, long, behind, inside) in
+    let split : at + n + (place - (at + n)) ≡ place = omega (arith, behind) in
+    let same : drop place (as_64 (with_bytes xs at bs)) ≡ drop place xs
+    = ap (λ ys. drop place (as_64 ys)) is ∙ ap (drop place) (as_64-whole (front ++ drop (at + n) xs) whole)
+    ∙ ap (λ k. drop k (front ++ drop (at + n) xs)) (sym (ap (λ k. k + (place - (at + n))) la ∙ split))
+    ∙ drop-append-add front (drop (at + n) xs) (place - (at + n)) ∙ drop-drop (place - (at + n)) (at + n) xs ∙ ap (λ k. drop k xs) split in
+    ap (list_all (λ b. nat_eq b 0)) same ∙ zeros
 
 pub rest_of-behind : (file : ℕ) → 12 ≤ rest_of file
 rest_of-behind file = pick (has_definition file)

@@ -7,6 +7,7 @@ use Rattle.rec_bytes.proofs.Numbers.{field-with_field_other, field-with_field_sa
 use Rattle.store_rules.specs.Rules.{HasCounts, IsEnd, count_of, is_into, is_loop_of, is_out_of, passes}
 use Rattle.store_rules.specs.Views.{GroupRow, RelRow}
 use Rattle.store_rules.proofs.Counts.{ids_kept, ids_with}
+use Rattle.store_rules.proofs.GroupPlaces.{IsAtPlace}
 use Rattle.store_rules.proofs.NumberLaws.{eq_false, eq_true, nat_cases}
 
 -- one where a test holds
@@ -29,8 +30,7 @@ more_one n v b e is = is ∙ ap (λ c. n + one_if c) (sym e)
 
 -- where a relationship stands at one of the group's heads: the place of the head's first link, and the direction
 abbrev pub IsSide : ℕ → GroupRow → RelRow → Type 0
-IsSide at group row = ((at ≡ format.group_first_out) × (row.from ≡ group.owner) × (row.to ≢ group.owner))
-    ⊎ (((at ≡ format.group_first_in) × (row.from ≢ group.owner) × (row.to ≡ group.owner)) ⊎ ((at ≡ format.group_first_loop) × (row.from ≡ group.owner) × (row.to ≡ group.owner)))
+IsSide at group row = IsAtPlace at row.from row.to group.owner
 
 -- the number that stands twelve bytes after the first link becomes one more
 module _ (r : Rec) (group : GroupRow) (row : RelRow) (v : ℕ) (typed : row.label ≡ group.label) (small : v < 2 ^ 32) where

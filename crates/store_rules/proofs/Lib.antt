@@ -1,10 +1,12 @@
 pub mod BlockLists
 pub mod BucketChange
 pub mod ChainLaws
+pub mod ChainRules
 pub mod ChainSteps
 pub mod Changes
 pub mod CountLaws
 pub mod Counts
+pub mod DefinitionMade
 pub mod EdgeChange
 pub mod EdgeGone
 pub mod EdgeMade
@@ -15,8 +17,11 @@ pub mod FilledGroups
 pub mod Frames
 pub mod GraphRows
 pub mod GroupLaws
+pub mod GroupPlaces
 pub mod HeldChange
 pub mod IndexFrames
+pub mod IndexParts
+pub mod IndexRules
 pub mod LinkFits
 pub mod Made
 pub mod MemberLaws
@@ -32,6 +37,7 @@ pub mod NodeMade
 pub mod NodeStores
 pub mod NumberLaws
 pub mod NumberedStores
+pub mod OneHead
 pub mod OnceLaws
 pub mod PropertyCounts
 pub mod PropertyFrames
@@ -44,7 +50,6 @@ pub mod PropertyRules
 pub mod PropertyStays
 pub mod PropertySteps
 pub mod PropertyWalks
-pub mod RangeLaws
 pub mod Relinks
 pub mod RowChange
 pub mod RowLaws

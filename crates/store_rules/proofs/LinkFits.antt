@@ -1,5 +1,5 @@
 -- A link or a degree that is set in a record that fits.
-use Rattle.std.proofs.Common.{◌≡◌, ◌⊎◌, ℕ, ◌+◌, ◌<◌, ◌≤◌, ◌^◌, nat_lt, nat_eq, Bool, true, false, ◌&&◌, ◌||◌, Some, List, [], ◌∷◌, sym, ap, ◌∙◌, subst, inl, inr, ⊎_elim, arith, refl}
+use Rattle.std.proofs.Common.{◌≡◌, ◌≢◌, ◌⊎◌, ℕ, zero, suc, ◌+◌, ◌*◌, ◌<◌, ◌≤◌, ◌^◌, nat_lt, nat_eq, Bool, true, false, ◌&&◌, ◌||◌, Some, List, [], ◌∷◌, sym, ap, ◌∙◌, subst, inl, inr, ⊎_elim, arith, refl}
 use Rattle.std.specs.List.{list_any}
 use Rattle.std.proofs.lemmas.Bool.{cases_lt}
 use Rattle.std.proofs.lemmas.Bool.Decides.{nat_tests}
@@ -7,15 +7,22 @@ use Rattle.rec_bytes.specs.declared.record.Rec.{Rec}
 use Rattle.rec_bytes.specs.Format as format
 use Rattle.rec_bytes.specs.Record.{field, with_field}
 use Rattle.rec_bytes.proofs.Numbers.{field-with_field_other, field-with_field_same}
-use Rattle.store_rules.specs.Ranges.{Fits, IsBlankOutside, Layout, Pointer, all_point, bytes_of, is_in, layout_by, layout_of, may, must, points}
+use Rattle.store_rules.specs.Ranges.{Fits, IsBlankOutside, Layout, Pointer, all_point, bytes_of, is_in, layout_by, layout_of, may, must, pointers_from, points}
 use Rattle.store_rules.specs.Views.{is_group_kind}
 use Rattle.store_rules.proofs.GroupLaws.{IsFirstPlace}
-use Rattle.store_rules.proofs.NumberLaws.{and_parts, eq_true, lt_true}
+use Rattle.store_rules.proofs.NumberLaws.{and_parts, eq_true, lt_true, nat_cases}
 use Rattle.store_rules.proofs.ViewLaws.{group_kinds}
 
 -- none, or below a mark
 abbrev pub IsLow : ℕ → ℕ → Type 0
 IsLow mark link = (link ≡ format.nil) ⊎ (link < mark)
+
+pub low_points : (n mark : ℕ) → IsLow mark n → (nat_lt n mark || (true && nat_eq n format.nil)) ≡ true
+low_points n mark low = ⊎_elim (λ (e : n ≡ format.nil). rw (eq_true n format.nil e) (right (nat_lt n mark))) (λ (lt : n < mark). rw (lt_true n mark lt) refl) low
+  where
+    right : (a : Bool) → (a || true) ≡ true
+    right true = refl
+    right false = refl
 
 -- the place is a link's
 abbrev pub IsLink : ℕ → Type 0
@@ -45,6 +52,18 @@ group_layout_is size = record {
       ∷ may format.group_first_out format.relationships_file ∷ may format.group_first_in format.relationships_file
       ∷ may format.group_first_loop format.relationships_file ∷ [];
   used = bytes_of format.kind 1 ∷ bytes_of format.group_type size ∷ [];
+}
+
+abbrev entry_layout_is : Layout
+entry_layout_is = record {
+  pointers = must format.indexed_node format.nodes_file ∷ may format.indexed_previous format.index_file ∷ may format.indexed_next format.index_file ∷ [];
+  used = bytes_of format.kind 1 ∷ bytes_of format.indexed_node 20 ∷ [];
+}
+
+abbrev heads_layout_is : Layout
+heads_layout_is = record {
+  pointers = pointers_from format.heads_count (λ place. may place format.index_file) format.heads_first;
+  used = bytes_of format.kind 1 ∷ bytes_of format.heads_first 60 ∷ [];
 }
 
 inner : (a b : Layout) → Some a ≡ Some b → a ≡ b
@@ -119,6 +138,24 @@ module _ (marks : ℕ → ℕ) (r : Rec) (at to : ℕ) (low : 4 ≤ at) (fits : 
 
   count_as : at + 4 ≤ 44 → PointRight (group_layout_is 40).pointers → field 1 r format.kind ≡ format.counted → Fits marks format.groups_file r → Fits marks format.groups_file now
   count_as inside right kind = fits_as format.groups_file 40 (group_layout_is 40) refl inside right (ap (layout_by format.groups_file r) kind) (ap (layout_by format.groups_file now) (kind_same ∙ kind))
+
+  entry_as : at + 4 ≤ 24 → PointRight entry_layout_is.pointers → field 1 r format.kind ≡ format.indexed → Fits marks format.index_file r → Fits marks format.index_file now
+  entry_as inside right kind = fits_as format.index_file 20 entry_layout_is refl inside right (ap (layout_by format.index_file r) kind) (ap (layout_by format.index_file now) (kind_same ∙ kind))
+
+  -- links from a place on, four bytes apart, of which the place is one or none
+  links_right : (into n a b : ℕ) → at ≡ 4 * a → b + n ≤ 16 → IsLow (marks into) to → PointRight (pointers_from n (λ place. may place into) (4 * b))
+  links_right into zero a b is inside low = tt
+  links_right into (suc n) a b is inside low = (
+    ⊎_elim (λ (p : b ≡ a). inr (omega arith, refl, low)) (λ (ne : b ≢ a). inl (omega arith, aside (cases_lt b a) ne)) (nat_cases b a),
+    subst (λ place. PointRight (pointers_from n (λ place. may place into) place)) (omega arith) (links_right into n a (b + 1) is (omega arith) low),
+  )
+    where
+      aside : (b < a) ⊎ (a ≤ b) → b ≢ a → (4 * b + 4 ≤ at) ⊎ (at + 4 ≤ 4 * b)
+      aside (inl lt) ne = inl (omega arith)
+      aside (inr le) ne = inr (let less : a < b = omega arith in omega arith)
+
+  heads_as : (a : ℕ) → at ≡ 4 * a → IsLow (marks format.index_file) to → field 1 r format.kind ≡ format.heads → Fits marks format.index_file r → Fits marks format.index_file now
+  heads_as a is low kind = fits_as format.index_file 60 heads_layout_is refl fits (links_right format.index_file format.heads_count a 1 is (omega arith) low) (ap (layout_by format.index_file r) kind) (ap (layout_by format.index_file now) (kind_same ∙ kind))
 
 -- the place of a number of relationships
 abbrev pub IsCountPlace : ℕ → Type 0
@@ -212,3 +249,19 @@ fits_group_next marks r to small low = group_as marks r format.group_next to (om
 pub fits_dense_first : (marks : ℕ → ℕ) (r : Rec) (to : ℕ) → to < 2 ^ 32 → IsLow (marks format.groups_file) to → field 1 r format.kind ≡ format.dense → Fits marks format.nodes_file r
     → Fits marks format.nodes_file (with_field 4 r format.node_first_link to)
 fits_dense_first marks r to small low = dense_as marks r format.node_first_link to (omega arith) (omega arith) small (omega arith) (inr (refl, refl, low), (inl (omega arith, inr (omega arith)), tt))
+
+-- the links of an entry
+pub fits_entry_previous : (marks : ℕ → ℕ) (r : Rec) (to : ℕ) → to < 2 ^ 32 → IsLow (marks format.index_file) to → field 1 r format.kind ≡ format.indexed → Fits marks format.index_file r
+    → Fits marks format.index_file (with_field 4 r format.indexed_previous to)
+fits_entry_previous marks r to small low = entry_as marks r format.indexed_previous to (omega arith) (omega arith) small (omega arith)
+    (inl (omega arith, inl (omega arith)), (inr (refl, refl, low), (inl (omega arith, inr (omega arith)), tt)))
+
+pub fits_entry_next : (marks : ℕ → ℕ) (r : Rec) (to : ℕ) → to < 2 ^ 32 → IsLow (marks format.index_file) to → field 1 r format.kind ≡ format.indexed → Fits marks format.index_file r
+    → Fits marks format.index_file (with_field 4 r format.indexed_next to)
+fits_entry_next marks r to small low = entry_as marks r format.indexed_next to (omega arith) (omega arith) small (omega arith)
+    (inl (omega arith, inl (omega arith)), (inl (omega arith, inl (omega arith)), (inr (refl, refl, low), tt)))
+
+-- the first entry of a bucket
+pub fits_head : (marks : ℕ → ℕ) (r : Rec) (place to : ℕ) → place < 15 → to < 2 ^ 32 → IsLow (marks format.index_file) to → field 1 r format.kind ≡ format.heads → Fits marks format.index_file r
+    → Fits marks format.index_file (with_field 4 r (format.heads_first + 4 * place) to)
+fits_head marks r place to low_place small low = heads_as marks r (format.heads_first + 4 * place) to (omega arith) (omega arith) small (place + 1) (omega arith) low

@@ -129,6 +129,7 @@ module _ (s t : Records) (shape : Shape) (rec : Rec) (text : List ℕ) (made : I
       degrees = un.degrees s t format.names_file count made.change refl most
           (λ n some. ap (λ r. field 4 r format.node_degree) (nodes_same.each n) ∙ well.degrees.each n (λ z. some (ap (λ (k : ℕ → ℕ). k n) kinds ∙ z)))
           (λ n d. subst (λ m. m ≤ most) (sym (ap (λ r. field 4 r format.node_degree) (nodes_same.each n))) (well.degrees.few n (sym (ap (λ (k : ℕ → ℕ). k n) kinds) ∙ d)));
+      unindexed = ch.unindexed s t format.names_file count made.change (λ e. omega arith) well.unindexed;
     }
 
     files_stay : property_records t ≡ property_records s

@@ -145,6 +145,7 @@ module _ (before : Records) (shape : Shape) where
       each = λ n some. absurd (some (none_used format.nodes_file n refl));
       few = λ n d. absurd (let z = sym (none_used format.nodes_file n refl) ∙ d in omega arith);
     };
+    unindexed = λ x. none_used format.index_file x refl;
   }
 
   pub new_store_empty : graph_of new ≡ empty_graph

@@ -13,7 +13,7 @@ use Rattle.rec_bytes.specs.Space.{put}
 use Rattle.rec_bytes.proofs.RecordFiles.{is_meta_file-not_meta, is_meta_file-not_taken}
 use Rattle.rec_bytes.proofs.Spaces.{put_other, put_other_file, put_same}
 use Rattle.store_rules.specs.Graph.{graph_of}
-use Rattle.store_rules.specs.Ranges.{AreFormed, Fits, is_indexed, is_reused}
+use Rattle.store_rules.specs.Ranges.{AreInRange, Fits, is_reused}
 use Rattle.store_rules.specs.RuleList.{AreSame, IsSameFile, IsSplitFile, KeepsAll, Slack, reads}
 use Rattle.store_rules.specs.RuleList.Rule.{Counts, Degrees, Grouped, Labels, Linked, Names, Properties, Ranges, Split, Unindexed}
 use Rattle.store_rules.specs.Rules.{IsWellFormed}
@@ -61,18 +61,18 @@ module _ (records : Records) (number : Rec) where
   not_taken : meta_file ≢ taken_id
   not_taken e = omega (arith, e)
 
-  formed : (shape : Shape) → records number_key ≡ zeros → zeros_from taken_rest number ≡ true → AreFormed records shape → AreFormed numbered shape
-  formed shape blank rest are = record {
+  in_range : (shape : Shape) → records number_key ≡ zeros → zeros_from taken_rest number ≡ true → AreInRange records shape → AreInRange numbered shape
+  in_range shape blank rest are = record {
     own = ap shape_of_record (meta_kept meta_file not_taken) ∙ are.own;
     newest = ap version_of (meta_kept meta_file not_taken) ∙ are.newest;
     taken = ap (zeros_from taken_rest) (put_same records number_key number) ∙ rest;
     metas = λ file is. subst (IsMetaInRange shape file) (sym (meta_kept file (is_meta_file-not_taken file is))) (are.metas file is);
-    fit = λ file x is low used.
+    fit = λ file x is low.
         let same = same_file file is in
         let here : rec_at numbered file x ≡ rec_at records file x = ap (λ (recs : ℕ → Rec). recs x) same.records in
         subst (Fits (high numbered) file) (sym here)
         (fits_more (high records) (high numbered) file (rec_at records file x) (marks blank)
-        (are.fit file x is (subst (λ (r : Rec). x < (meta_of r).high) same.meta low) (subst (λ (r : Rec). is_indexed file r ≡ false) here used)));
+        (are.fit file x is (subst (λ (r : Rec). x < (meta_of r).high) same.meta low)));
   }
 
   reused_meta : (file : ℕ) → is_reused file ≡ true → is_meta_file file ≡ true
@@ -85,7 +85,7 @@ module _ (records : Records) (number : Rec) where
   }
 
   rules_stay : (shape : Shape) (slack : Slack) → records number_key ≡ zeros → zeros_from taken_rest number ≡ true → KeepsAll records shape slack → KeepsAll numbered shape slack
-  rules_stay shape slack blank rest all Ranges = formed shape blank rest (all Ranges)
+  rules_stay shape slack blank rest all Ranges = in_range shape blank rest (all Ranges)
   rules_stay shape slack blank rest all (Split file) = split_stays file shape slack (all (Split file))
   rules_stay shape slack blank rest all Linked = stays records numbered Linked shape slack refl (all_same (reads Linked) refl) (all Linked)
   rules_stay shape slack blank rest all Grouped = stays records numbered Grouped shape slack refl (all_same (reads Grouped) refl) (all Grouped)

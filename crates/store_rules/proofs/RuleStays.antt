@@ -1,4 +1,4 @@
--- A rule stays where what it reads stays, and all rules are the ten parts that they were.
+-- A rule stays where what it reads stays, and all rules are the parts that they were.
 use Rattle.std.proofs.Common.{◌≡◌, ◌≢◌, ◌⊎◌, ⊎_elim, inl, inr, ℕ, Bool, true, false, List, Option, nat_eq, sym, ap, ◌∙◌, subst, refl, ◌<◌, length}
 use Rattle.std.specs.Prelude.{not}
 use Rattle.store_rules.specs.Rows.{ids}
@@ -15,7 +15,6 @@ use Rattle.store_rules.specs.Rules.{AllListed, AreCounted, AreExact, AreNamed, A
 use Rattle.store_rules.specs.RuleList.{AreSame, IsSameFile, IsSplitFile, KeepsAll, Rule, Slack, holds, is_local, reads}
 use Rattle.store_rules.specs.RuleList.Rule.{Counts, Degrees, Grouped, Labels, Linked, Names, Properties, Ranges, Split, Unindexed}
 use Rattle.store_rules.specs.Views.{GroupRow, NodeRow, Records, RelRow, degree, first_link, group_at, group_in, high, is_live, kind_at, kind_in, node_at, node_in, rec_at, rel_at, rel_in, row_if}
-use Rattle.store_rules.proofs.RangeLaws.{formed_of, ranges_of, unindexed_of}
 
 module _ (s t : Records) where
   -- ---- the views of a file
@@ -129,7 +128,7 @@ module _ (s t : Records) where
 -- ---- all rules, as one record and by name
 
 pub by_name : (records : Records) (shape : Shape) (most : ℕ) (empty : List ℕ) → KeepsRules records shape most empty → KeepsAll records shape (record { most = most; empty = empty })
-by_name records shape most empty well Ranges = formed_of records shape well.ranges
+by_name records shape most empty well Ranges = well.ranges
 by_name records shape most empty well (Split file) = record { split = well.split file; kept = well.kept file }
 by_name records shape most empty well Linked = well.linked
 by_name records shape most empty well Grouped = well.grouped
@@ -138,11 +137,11 @@ by_name records shape most empty well Properties = well.properties
 by_name records shape most empty well Labels = well.named
 by_name records shape most empty well Names = well.names
 by_name records shape most empty well Degrees = well.degrees
-by_name records shape most empty well Unindexed = unindexed_of records shape well.ranges
+by_name records shape most empty well Unindexed = well.unindexed
 
 pub all_of : (records : Records) (shape : Shape) (slack : Slack) → KeepsAll records shape slack → KeepsRules records shape slack.most slack.empty
 all_of records shape slack all = record {
-  ranges = ranges_of records shape (all Ranges) (all Unindexed);
+  ranges = all Ranges;
   split = λ file is. (all (Split file)).split is;
   kept = λ file is not. (all (Split file)).kept is not;
   linked = all Linked;
@@ -152,4 +151,5 @@ all_of records shape slack all = record {
   named = all Labels;
   names = all Names;
   degrees = all Degrees;
+  unindexed = all Unindexed;
 }

@@ -11,7 +11,7 @@ use Rattle.rec_bytes.specs.Record.{field}
 use Rattle.rec_bytes.specs.Shape.{shape_of_record, version_of}
 use Rattle.rec_bytes.specs.Space.{meta_in}
 use Rattle.store_rules.specs.Chains.{In, IsChain, IsWalk, next_in, prev_in}
-use Rattle.store_rules.specs.Ranges.{AreFormed, Fits, is_indexed, is_reused}
+use Rattle.store_rules.specs.Ranges.{AreInRange, Fits, is_reused}
 use Rattle.store_rules.specs.Rows.{ids}
 use Rattle.store_rules.specs.Rules as rules
 use Rattle.store_rules.specs.Views.{GroupRow, RelRow, Records, degree, first_link, group_at, high}
@@ -40,25 +40,6 @@ pub record AreProperties (records : Records) : Type 0 where
   pub properties : rules.HaveProperties (rules.property_files records) (node_at records)
       (rel_at records) (high records format.names_file)
   pub named : rules.AreNamed (node_at records) (rel_at records) (high records format.names_file)
-
--- the rule of this number
-abbrev pub Keeps : Records → Shape → ℕ → Type 0
-Keeps records shape zero = Unit {0}
-Keeps records shape (suc zero) = AreFormed records shape
-Keeps records shape (suc (suc zero)) = AreSplit records
-Keeps records shape (suc (suc (suc zero))) =
-    rules.IsLinked records (kind_at records format.nodes_file) (rel_at records) (group_at records)
-Keeps records shape (suc (suc (suc (suc zero)))) =
-    AreGroups records
-Keeps records shape (suc (suc (suc (suc (suc zero))))) = AreProperties records
-Keeps records shape (suc (suc (suc (suc (suc (suc zero)))))) =
-    rules.AreNames (rec_at records format.names_file) (high records format.names_file)
-Keeps records shape (suc (suc (suc (suc (suc (suc (suc zero))))))) =
-    rules.AreCounted (kind_at records format.nodes_file) (degree records) (rel_at records)
-    (high records format.relationships_file) shape.threshold
-Keeps records shape (suc (suc (suc (suc (suc (suc (suc (suc zero)))))))) =
-    rules.HasNoIndex records
-Keeps records shape (suc (suc (suc (suc (suc (suc (suc (suc (suc n))))))))) = Unit {0}
 
 -- ---- what each rule says of one record
 
@@ -116,34 +97,44 @@ pub record NodeKeeps (records : Records) (n : ℕ) : Type 0 where
 abbrev pub group_head : ℕ → ℕ → rules.Head
 group_head g place = record { key = key_in format.groups_file g; field = place }
 
-abbrev pub IsFirstPlace : ℕ → Type 0
-IsFirstPlace place =
-    (place ≡ format.group_first_out)
-    ⊎ ((place ≡ format.group_first_in) ⊎ (place ≡ format.group_first_loop))
-
--- two groups in use of one type at one dense node
-pub record AreTwins (records : Records) (g k : ℕ) : Type 0 where
-  pub row : GroupRow
-  pub other : GroupRow
-  pub group : group_at records g ≡ Some row
-  pub twin : group_at records k ≡ Some other
-  pub dense : kind_at records format.nodes_file row.owner ≡ format.dense
-  pub owner : other.owner ≡ row.owner
-  pub label : other.label ≡ row.label
-
--- The third rule of a group: if it is in use at a dense node, it has its chains. Each relationship
--- of its type there is to be in them, so another group of the type has the same ones. That there
--- is no such group the fourth rule says.
+-- the third rule of a group: if it is in use at a dense node, it has its chains
 pub record GroupKeeps (records : Records) (g : ℕ) : Type 0 where
   pub chains : (place n : ℕ) → IsGroupHeadOf records (group_head g place) n
       → (members : List ℕ) × IsHeadChain records (group_head g place) n members
-  pub alike : (k place : ℕ) → AreTwins records g k → IsFirstPlace place
-      → rules.first_of records (group_head g place) ≡ rules.first_of records (group_head k place)
+
+-- the record of a group is in use, and the node owns it
+pub record IsOwnedBy (records : Records) (node g : ℕ) : Type 0 where
+  pub used : kind_at records format.groups_file g ≢ format.free_kind
+  pub owner : field 4 (rec_at records format.groups_file g) format.group_owner ≡ node
+
+-- The group is on the group chain of the dense node. That chain begins at the node's first link,
+-- and goes on as long as it leads to groups in use that the node owns.
+pub data IsOnChain (records : Records) (n : ℕ) : ℕ → Type 0 where
+  First : (g : ℕ) → kind_at records format.nodes_file n ≡ format.dense
+      → first_link records n ≡ g → IsOwnedBy records n g → IsOnChain records n g
+  Next : (g k : ℕ) → IsOnChain records n g
+      → field 4 (rec_at records format.groups_file g) format.group_next ≡ k
+      → IsOwnedBy records n k → IsOnChain records n k
+
+-- the group is on the group chain of its owner
+abbrev pub IsOnOwnChain : Records → ℕ → Type 0
+IsOnOwnChain records g = (n : ℕ) × IsOnChain records n g
+
+-- a head in a group that is on the group chain of the node
+pub record ChainedHead (records : Records) (head : rules.Head) (n : ℕ) : Type 0 where
+  pub own : IsGroupHeadOf records head n
+  pub on : IsOnChain records n own.row.id
+
+-- A chain of the node begins at the head: its own where it is sparse, where it is dense one of the
+-- groups on its group chain.
+abbrev pub IsChainHead : Records → rules.Head → ℕ → Type 0
+IsChainHead records head n =
+    rules.SparseHead (kind_at records format.nodes_file) head n ⊎ ChainedHead records head n
 
 -- the relationship is in a chain of the node
 pub record IsInChain (records : Records) (n x : ℕ) : Type 0 where
   pub head : rules.Head
-  pub owns : IsHeadOf records head n
+  pub owns : IsChainHead records head n
   pub members : List ℕ
   pub chain : IsHeadChain records head n members
   pub member : In x members
@@ -153,16 +144,24 @@ HasChains records n =
     (kind_at records format.nodes_file n ≡ format.sparse)
     ⊎ (kind_at records format.nodes_file n ≡ format.dense)
 
--- the third rule of one end of a relationship: it is a node, and the relationship is in its chain,
--- or in one of a group of the type
+-- the third rule of one end of a relationship: it is a node, and the relationship is in one of its
+-- chains
 pub record EndKeeps (records : Records) (n x : ℕ) : Type 0 where
   pub node : kind_at records format.nodes_file n ≢ format.free_kind
   pub chain : HasChains records n → IsInChain records n x
+  pub once : (one other : IsInChain records n x) → one.head ≡ other.head
 
 -- the third rule of a record of a relationship: if it is in use, its ends keep it
 pub record RelKeeps (records : Records) (x : ℕ) : Type 0 where
   pub from : (row : RelRow) → rel_at records x ≡ Some row → EndKeeps records row.from x
   pub to : (row : RelRow) → rel_at records x ≡ Some row → EndKeeps records row.to x
+
+-- The third rule: nodes have their chains, and so have the groups on their group chains. Each
+-- relationship is in one chain of each end.
+pub record AreChained (records : Records) : Type 0 where
+  pub nodes : (n : ℕ) → NodeKeeps records n
+  pub groups : (g : ℕ) → IsOnOwnChain records g → GroupKeeps records g
+  pub rels : (x : ℕ) → RelKeeps records x
 
 abbrev pub group_label : Records → ℕ → ℕ
 group_label records g = field 4 (rec_at records format.groups_file g) format.group_type
@@ -311,6 +310,28 @@ pub record DegreeKeeps (records : Records) (threshold n : ℕ) : Type 0 where
       ≡ rules.degree_of (rel_at records) (high records format.relationships_file) n
   pub few : kind_at records format.nodes_file n ≡ format.sparse → degree records n ≤ threshold
 
+-- ---- the rules by their numbers
+
+-- the rule of this number
+abbrev pub Keeps : Records → Shape → ℕ → Type 0
+Keeps records shape zero = Unit {0}
+Keeps records shape (suc zero) = AreInRange records shape
+Keeps records shape (suc (suc zero)) = AreSplit records
+Keeps records shape (suc (suc (suc zero))) = AreChained records
+Keeps records shape (suc (suc (suc (suc zero)))) =
+    AreGroups records
+Keeps records shape (suc (suc (suc (suc (suc zero))))) = AreProperties records
+Keeps records shape (suc (suc (suc (suc (suc (suc zero)))))) =
+    rules.AreNames (rec_at records format.names_file) (high records format.names_file)
+Keeps records shape (suc (suc (suc (suc (suc (suc (suc zero))))))) =
+    rules.AreCounted (kind_at records format.nodes_file) (degree records) (rel_at records)
+    (high records format.relationships_file) shape.threshold
+Keeps records shape (suc (suc (suc (suc (suc (suc (suc (suc zero)))))))) =
+    rules.HasNoIndex records
+Keeps records shape (suc (suc (suc (suc (suc (suc (suc (suc (suc n))))))))) = Unit {0}
+
+-- ---- the records that break them
+
 abbrev pub damage : ℕ → ℕ → ℕ → Damage
 damage file id rule = record { file = file; id = id; rule = rule }
 
@@ -321,7 +342,6 @@ pub data Breaks (records : Records) (shape : Shape) : Damage → Type 0 where
   WrongMeta : (id : ℕ) → id < format.meta_records → ¬ IsMetaKept records shape id
       → Breaks records shape (damage format.meta_file id 1)
   RecordRange : (file x : ℕ) → is_meta_file file ≡ true → x < high records file
-      → is_indexed file (rec_at records file x) ≡ false
       → ¬ Fits (high records) file (rec_at records file x)
       → Breaks records shape (damage file x 1)
   FreeList : (file : ℕ) → is_reused file ≡ true → ¬ HasFreeList records file

@@ -1,12 +1,13 @@
 -- A change of the value that one key has at one node, and the entries that go with it.
-use Rattle.std.specs.Prelude.{◌≡◌, ◌≢◌, ◌⊎◌, ℕ, ◌<◌, ◌≤◌, ◌^◌, Option, None, Some}
+use Rattle.std.specs.Prelude.{◌≡◌, ◌≢◌, ◌⊎◌, ℕ, ◌+◌, ◌*◌, ◌<◌, ◌≤◌, ◌^◌, Option, None, Some}
 use Rattle.plain_graph.specs.declared.value.Value.{Value}
 use Rattle.rec_bytes.specs.Format as format
 use Rattle.rec_bytes.specs.Record.{field, with_field}
 use Rattle.store_rules.specs.Hashes.{hash_of}
-use Rattle.store_rules.specs.Indexes.{Entries, entry_hash, entry_node, first_definition, index_rec}
-use Rattle.store_rules.specs.Indexes.{next_entry, node_value, previous_entry, with_entry}
-use Rattle.store_rules.specs.Indexes.{without_entry}
+use Rattle.store_rules.specs.Indexes.{Entries, entry_hash, entry_node, first_definition, has_hash}
+use Rattle.store_rules.specs.Indexes.{heads_of, index_rec, indexed_key, indexed_label}
+use Rattle.store_rules.specs.Indexes.{next_definition, next_entry, node_value, previous_entry}
+use Rattle.store_rules.specs.Indexes.{with_entry, without_entry}
 use Rattle.store_rules.specs.Views.{Records, high, kind_at}
 
 -- the entries without that of a value, and with that of one, where there is one
@@ -19,6 +20,12 @@ abbrev pub with_value : Entries → ℕ → ℕ → ℕ → Option Value → Ent
 with_value wanted label key n None = wanted
 with_value wanted label key n (Some value) =
     with_entry wanted (record { label = label; key = key; node = n; hash = hash_of value })
+
+-- of these entries, the node has the one of this value for the key, if any, and no other
+abbrev pub WantsValue : Entries → ℕ → ℕ → ℕ → Option Value → Type 0
+WantsValue wanted label key n value =
+    (hash : ℕ) → wanted (record { label = label; key = key; node = n; hash = hash })
+    ≡ has_hash hash value
 
 -- A node of this label had this value of the key, if any, and has that one. No other value of a
 -- node changed.
@@ -67,3 +74,23 @@ pub record IsEntryGone (s t : Records) (x hid place : ℕ) : Type 0 where
       → index_rec t hid ≡ with_field 4 (index_rec s hid) place (next_entry s x)
   pub others : (y : ℕ) → y ≢ x → y ≢ next_entry s x → y ≢ previous_entry s x
       → (previous_entry s x ≡ format.nil → y ≢ hid) → index_rec t y ≡ index_rec s y
+
+-- A definition of the pair came in front of the others, with twelve records of heads whose buckets
+-- are empty. These thirteen records were free, and no other record of the indexes changed.
+pub record IsDefinitionMade (s t : Records) (d label key : ℕ) : Type 0 where
+  pub fresh : kind_at s format.index_file d ≡ format.free_kind
+  pub kind : kind_at t format.index_file d ≡ format.definition
+  pub label_is : indexed_label t d ≡ label
+  pub key_is : indexed_key t d ≡ key
+  pub first : first_definition t ≡ d
+  pub next : next_definition t d ≡ first_definition s
+  pub heads_fresh : (c : ℕ) → c < 12
+      → kind_at s format.index_file (heads_of t d c) ≡ format.free_kind
+  pub heads : (c : ℕ) → c < 12 → kind_at t format.index_file (heads_of t d c) ≡ format.heads
+  pub heads_once : (c k : ℕ) → c < 12 → k < 12 → heads_of t d c ≡ heads_of t d k → c ≡ k
+  pub empty : (c place : ℕ) → c < 12 → place < 15
+      → field 4 (index_rec t (heads_of t d c)) (format.heads_first + 4 * place) ≡ format.nil
+  pub kinds : (y : ℕ) → y ≢ d → ((c : ℕ) → c < 12 → y ≢ heads_of t d c)
+      → kind_at t format.index_file y ≡ kind_at s format.index_file y
+  pub others : (y : ℕ) → y ≢ d → ((c : ℕ) → c < 12 → y ≢ heads_of t d c)
+      → index_rec t y ≡ index_rec s y

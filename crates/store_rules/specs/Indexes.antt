@@ -15,7 +15,7 @@ use Rattle.store_rules.specs.Chains.{In, IsChain, IsWalk}
 use Rattle.store_rules.specs.Hashes.{bucket_of, hash_of}
 use Rattle.store_rules.specs.Properties.{Property, PropertyRecords, property_at, property_ids}
 use Rattle.store_rules.specs.Properties.{property_records}
-use Rattle.store_rules.specs.Rules.{IsWellFormed}
+use Rattle.store_rules.specs.RuleList.{KeepsButIndex}
 use Rattle.store_rules.specs.Views.{NodeRow, Records, is_live, kind_at, node_at, rec_at}
 
 -- ---- what the records of the indexes say
@@ -184,5 +184,5 @@ has_value value (Some other) = is_eq (value_cmp other value)
 
 -- the records of a store of this shape, with indexes of what its nodes have
 pub record IsIndexed (records : Records) (shape : Shape) : Type 0 where
-  pub store : IsWellFormed records shape
+  pub rules : KeepsButIndex records shape
   pub indexes : AreIndexed records (wanted_in records)

@@ -3,6 +3,7 @@ pub mod Chains
 pub mod Ends
 pub mod Graph
 pub mod Hashes
+pub mod IndexBreaking
 pub mod IndexChange
 pub mod Indexes
 pub mod Properties

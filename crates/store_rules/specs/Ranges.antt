@@ -1,7 +1,7 @@
 -- The first rule: each record is of a known kind, its numbers are ones that may stand there, and
 -- its other bytes are zero.
 use Rattle.std.specs.Prelude.{◌≡◌, ℕ, zero, suc, ◌+◌, ◌<◌, nat_eq, nat_le, nat_lt, Bool, true}
-use Rattle.std.specs.Prelude.{false, ◌&&◌, ◌||◌, cond, not, Option, None, Some, List, [], ◌∷◌}
+use Rattle.std.specs.Prelude.{false, ◌&&◌, ◌||◌, cond, Option, None, Some, List, [], ◌∷◌}
 use Rattle.std.specs.List.{list_any}
 use Rattle.rec_bytes.specs.declared.record.Rec.{Rec}
 use Rattle.rec_bytes.specs.declared.shape.Shape.{Shape}
@@ -162,7 +162,7 @@ used_layout file r kind =
     (cond (nat_eq kind format.block) (block_layout (field 1 r format.block_length)) None)
     (cond (nat_eq file format.names_file)
     (cond (nat_eq kind format.named) (name_layout (field 1 r format.name_length)) None)
-    None)))))
+    (cond (nat_eq file format.index_file) (index_layout kind) None))))))
 
 -- records of this file are given back and used again; names are not
 abbrev pub is_reused : ℕ → Bool
@@ -201,26 +201,9 @@ pub record Fits (marks : ℕ → ℕ) (file : ℕ) (r : Rec) : Type 0 where
   pub point : all_point marks r layout.pointers ≡ true
   pub blank : IsBlankOutside layout.used r
 
--- a record of the index that is in use
-abbrev pub is_indexed : ℕ → Rec → Bool
-is_indexed file r =
-    nat_eq file format.index_file && not (nat_eq (field 1 r format.kind) format.free_kind)
-
 -- The store's own record says this shape and the newest version, the record of the last transaction
 -- that was taken over has its number alone, and each file's meta record and each record below its
--- mark fits, but for those in use of the index.
-pub record AreFormed (records : Records) (shape : Shape) : Type 0 where
-  pub own : shape_of_record (records (meta_key_of format.meta_file)) ≡ Some shape
-  pub newest : version_of (records (meta_key_of format.meta_file)) ≡ format.newest_version
-  pub taken : zeros_from format.taken_rest (records (meta_key_of format.taken_id)) ≡ true
-  pub metas : (file : ℕ) → is_meta_file file ≡ true
-      → IsMetaInRange shape file (records (meta_key_of file))
-  pub fit : (file x : ℕ) → is_meta_file file ≡ true → x < high records file
-      → is_indexed file (rec_at records file x) ≡ false
-      → Fits (high records) file (rec_at records file x)
-
--- The same of each record. No record of the index that is in use fits, so this is the eighth rule
--- too.
+-- mark fits.
 pub record AreInRange (records : Records) (shape : Shape) : Type 0 where
   pub own : shape_of_record (records (meta_key_of format.meta_file)) ≡ Some shape
   pub newest : version_of (records (meta_key_of format.meta_file)) ≡ format.newest_version

@@ -5,9 +5,10 @@ use Rattle.std.specs.Prelude.{[], ◌∷◌}
 use Rattle.rec_bytes.specs.declared.shape.Shape.{Shape}
 use Rattle.rec_bytes.specs.Format as format
 use Rattle.rec_bytes.specs.RecordFiles.{is_meta_file, meta_key_of}
-use Rattle.store_rules.specs.Ranges.{AreFormed, is_reused}
+use Rattle.store_rules.specs.Ranges.{AreInRange, is_reused}
 use Rattle.store_rules.specs.Rules.{AreAllLive, AreCounted, AreExact, AreNamed, AreNames}
-use Rattle.store_rules.specs.Rules.{HasNoIndex, HaveProperties, IsGrouped, IsLinked, IsSplit, property_files}
+use Rattle.store_rules.specs.Rules.{HasNoIndex, HaveProperties, IsGrouped, IsLinked, IsSplit}
+use Rattle.store_rules.specs.Rules.{property_files}
 use Rattle.store_rules.specs.Views.{Records, degree, first_link, group_at, high, is_live, kind_at}
 use Rattle.store_rules.specs.Views.{node_at, rec_at, rel_at}
 
@@ -51,7 +52,7 @@ pub record IsSplitFile (records : Records) (file : ℕ) : Type 0 where
 
 -- what a rule says
 abbrev pub holds : Rule → Records → Shape → Slack → Type 0
-holds Ranges records shape slack = AreFormed records shape
+holds Ranges records shape slack = AreInRange records shape
 holds (Split file) records shape slack = IsSplitFile records file
 holds Linked records shape slack =
     IsLinked records (kind_at records format.nodes_file) (rel_at records) (group_at records)
@@ -81,6 +82,24 @@ KeepsThose those records shape slack =
 -- all rules
 abbrev pub KeepsAll : Records → Shape → Slack → Type 0
 KeepsAll records shape slack = (rule : Rule) → holds rule records shape slack
+
+-- all but the eighth
+abbrev pub but_index : Rule → Bool
+but_index Ranges = true
+but_index (Split file) = true
+but_index Linked = true
+but_index Grouped = true
+but_index Counts = true
+but_index Properties = true
+but_index Labels = true
+but_index Names = true
+but_index Degrees = true
+but_index Unindexed = false
+
+-- the records of a store of this shape keep all rules but the eighth
+abbrev pub KeepsButIndex : Records → Shape → Type 0
+KeepsButIndex records shape =
+    KeepsThose but_index records shape (record { most = shape.threshold; empty = [] })
 
 -- ---- what a rule reads
 

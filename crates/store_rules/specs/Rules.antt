@@ -317,7 +317,7 @@ HasNoIndex records = (x : ℕ) → kind_at records format.index_file x ≡ forma
 -- ---- all of them
 
 -- The rules of a store of this shape. So many relationships a sparse node may have, and these
--- groups may be empty. What is said of the ranges is the first rule and the eighth.
+-- groups may be empty.
 pub record KeepsRules (records : Records) (shape : Shape) (most : ℕ) (empty : List ℕ)
     : Type 0 where
   pub ranges : AreInRange records shape
@@ -337,6 +337,7 @@ pub record KeepsRules (records : Records) (shape : Shape) (most : ℕ) (empty : 
   pub names : AreNames (rec_at records format.names_file) (high records format.names_file)
   pub degrees : AreCounted (kind_at records format.nodes_file) (degree records) (rel_at records)
       (high records format.relationships_file) most
+  pub unindexed : HasNoIndex records
 
 -- the records of a well-formed store of this shape
 abbrev pub IsWellFormed : Records → Shape → Type 0
