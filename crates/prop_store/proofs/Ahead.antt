@@ -1,6 +1,6 @@
 -- The properties that the records lead through from one on, after so many others.
 use Rattle.std.specs.Prelude.{nat_eq}
-use Rattle.std.proofs.Common.{◌≡◌, ◌≢◌, ◌<◌, ◌≤◌, ◌+◌, ◌-◌, ◌∙◌, ◌++◌, ◌⊎◌, ⊎_elim, append_assoc, append-nil, ℕ, suc, List, [], ◌∷◌, Option, Some, true, false, map, ap, sym, arith, refl}
+use Rattle.std.proofs.Common.{◌≡◌, ◌≢◌, ◌<◌, ◌≤◌, ◌+◌, ◌-◌, ◌∙◌, ◌++◌, ◌⊎◌, ⊎_elim, append_assoc, append-nil, ℕ, suc, List, [], ◌∷◌, Option, Some, true, false, length, map, ap, sym, arith, refl}
 use Rattle.std.specs.Option.{option_map}
 use Rattle.plain_graph.specs.declared.value.Value.{Value}
 use Rattle.rec_bytes.specs.declared.record.Rec.{Rec}
@@ -57,6 +57,17 @@ pub all_answered : (records : Records) (props whole : List Prop) (at count : ℕ
 all_answered records props whole at count end before =
     let none : ahead records at count ≡ [] = ⊎_elim (λ e. ahead_none records at count e) (λ le. ahead_over records at count le) end in
     sym (ap (λ es. props ++ map prop_of es) none ∙ append-nil props) ∙ before
+
+-- ---- how many were passed
+
+pub passed_one : (records : Records) (at count to : ℕ) (rec : Rec) → at ≢ format.nil → count < 32 → rec ≡ rec_at records format.properties_file at → to ≡ field 4 rec format.property_next
+    → count + 1 + length (ahead records to (count + 1)) ≡ count + length (ahead records at count)
+passed_one records at count to rec some few rec_is to_is =
+    let e = ap (λ (es : List Property). length es) (ahead_one records at count to rec some few rec_is to_is) in
+    omega (arith, e)
+
+pub all_passed : (count : ℕ) (es : List Property) → es ≡ [] → count ≡ count + length es
+all_passed count es none = let e = ap (λ (ps : List Property). length ps) none in omega (arith, e)
 
 -- ---- a search for a key
 

@@ -24,7 +24,6 @@ use Rattle.store_rules.specs.Breaking.Breaks.{RecordRange, WrongElement, WrongMe
 use Rattle.store_rules.specs.Chains.{In, IsWalk}
 use Rattle.store_rules.specs.Properties.{AreOnce, Inline, Long, Number, Truth}
 use Rattle.store_rules.specs.PropertyChange.{property_from}
-use Rattle.store_rules.specs.Ranges.{is_indexed}
 use Rattle.store_rules.specs.Rules as rules
 use Rattle.store_rules.specs.Rules.{ArePieces, property_owner}
 use Rattle.store_rules.specs.Views.{Records, high, is_live, key_in, kind_at, node_at, node_in, rec_at, rel_at, rel_in}
@@ -103,7 +102,7 @@ holder_more file key (x ∷ xs) at = holder_more file (key_in file x) xs at
 
 next_breaks : (s : State) (p : ℕ) → IsThere s.records p → LinkBreaks s (key_in format.properties_file p) format.properties_file (next_property s.records p)
 next_breaks s p there le some =
-    RecordRange format.properties_file p refl (kind_below (high s.records format.properties_file) (rec_at s.records format.properties_file p) p there.used) refl
+    RecordRange format.properties_file p refl (kind_below (high s.records format.properties_file) (rec_at s.records format.properties_file p) p there.used)
     (λ fits. none_past (high s.records format.properties_file) (next_property s.records p) le some (next_low (high s.records) (rec_at s.records format.properties_file p) (used_kind s.records format.properties_file p there.used) fits))
 
 past_breaks : (s : State) (key : Key) (from : ℕ) (ps : List ℕ) (at : ℕ) → ArePast s.records from ps at → LinkBreaks s key format.properties_file from → LinkBreaks s (holder_of format.properties_file key ps) format.properties_file at
@@ -165,15 +164,12 @@ module _ (s : State) (owner : Owner) (is : IsOwner owner) (used : IsInUse s.reco
   element : is_element_file file ≡ true
   element = ⊎_elim (λ (e : file ≡ format.nodes_file). subst (λ f. is_element_file f ≡ true) (sym e) refl) (λ (e : file ≡ format.relationships_file). subst (λ f. is_element_file f ≡ true) (sym e) refl) is.file
 
-  not_indexed : is_indexed file (rec_at s.records file x) ≡ false
-  not_indexed = ⊎_elim (λ (e : file ≡ format.nodes_file). subst (λ f. is_indexed f (rec_at s.records file x) ≡ false) (sym e) refl) (λ (e : file ≡ format.relationships_file). subst (λ f. is_indexed f (rec_at s.records file x) ≡ false) (sym e) refl) is.file
-
   -- it has no list of properties
   pub element_breaks : ((members : List ℕ) → IsPropertyList s.records (first_of s.records owner) members → ⊥) → Breaks s.records s.shape (damage file x 5)
   element_breaks none = WrongElement file x element low (λ k. let l = k.list (first_of s.records owner) owned in none l.0 l.1)
 
   first_breaks : LinkBreaks s owner.key format.properties_file (first_of s.records owner)
-  first_breaks le some = RecordRange file x (meta_of_element file is.file) low not_indexed (λ fits. none_past (high s.records format.properties_file) (first_of s.records owner) le some
+  first_breaks le some = RecordRange file x (meta_of_element file is.file) low (λ fits. none_past (high s.records format.properties_file) (first_of s.records owner) le some
       (subst (IsLow (high s.records format.properties_file)) (sym (first_of-is s.records owner is)) (element_low (high s.records) file (rec_at s.records file x) is.file (used_kind s.records file x used) fits)))
 
   module _ (from : Key) (at count : ℕ) (r : Reached s.records owner from at count) (some : at ≢ format.nil) where
@@ -215,7 +211,7 @@ module _ (s : State) (owner : Owner) (is : IsOwner owner) (used : IsInUse s.reco
     row_blames (Damaged d) (rows.BadLink _ (HighMark over)) = properties_mark s over
     row_blames (Damaged d) (rows.Unused e) = element_breaks (λ members list. used_of_live s.records format.properties_file at (on_list members list).0 e)
     row_blames (Damaged d) (rows.Unknown there none) =
-        RecordRange format.properties_file at refl (kind_below (high s.records format.properties_file) (rec_at s.records format.properties_file at) at there) refl
+        RecordRange format.properties_file at refl (kind_below (high s.records format.properties_file) (rec_at s.records format.properties_file at) at there)
         (λ fits. none (content_if_fits (high s.records) (rec_at s.records format.properties_file at) (used_kind s.records format.properties_file at there) fits))
 
 -- a walk along the blocks of a property's text came to this one, to which this record leads, with so many bytes left
@@ -231,7 +227,7 @@ text_begins records p from first size is from_is = record { blocks = []; passed 
 
 block_breaks : (s : State) (b size : ℕ) → IsBlockOf s.records b size → LinkBreaks s (key_in format.strings_file b) format.strings_file (next_block s.records b)
 block_breaks s b size here le some =
-    RecordRange format.strings_file b refl (kind_below (high s.records format.strings_file) (rec_at s.records format.strings_file b) b here.used) refl
+    RecordRange format.strings_file b refl (kind_below (high s.records format.strings_file) (rec_at s.records format.strings_file b) b here.used)
     (λ fits. none_past (high s.records format.strings_file) (next_block s.records b) le some (next_block_low (high s.records) (rec_at s.records format.strings_file b) (used_kind s.records format.strings_file b here.used) fits))
 
 passed_breaks : (s : State) (key : Key) (from size : ℕ) (bs : List ℕ) (at left : ℕ) → ArePassed s.records from size bs at left → LinkBreaks s key format.strings_file from → LinkBreaks s (holder_of format.strings_file key bs) format.strings_file at
@@ -289,7 +285,7 @@ module _ (s : State) (p : ℕ) (long : IsLong s.records p) where
 
   first_block_breaks : LinkBreaks s (key_in format.properties_file p) format.strings_file (first_block s.records p)
   first_block_breaks le some =
-      RecordRange format.properties_file p refl property_low refl
+      RecordRange format.properties_file p refl property_low
       (λ fits. none_past (high s.records format.strings_file) (first_block s.records p) le some (first_low (high s.records) (rec_at s.records format.properties_file p) (used_kind s.records format.properties_file p in_use) fits
       (sym (kind_low (high s.records format.properties_file) (rec_at s.records format.properties_file p) p property_low) ∙ long)))
 
@@ -324,7 +320,7 @@ module _ (s : State) (p : ℕ) (long : IsLong s.records p) where
   text_damage d (NoBlock bs at left _ passed more (blocks.BadLink _ some (HighMark over))) = strings_mark s over
   text_damage d (NoBlock bs at left _ passed more (blocks.Unknown unknown)) =
       let there : kind_at s.records format.strings_file at ≢ format.free_kind = λ e. unknown (inl e) in
-      RecordRange format.strings_file at refl (kind_below (high s.records format.strings_file) (rec_at s.records format.strings_file at) at there) refl
+      RecordRange format.strings_file at refl (kind_below (high s.records format.strings_file) (rec_at s.records format.strings_file at) at there)
       (λ fits. unknown (inr (kind_low (high s.records format.strings_file) (rec_at s.records format.strings_file at) at (kind_below (high s.records format.strings_file) (rec_at s.records format.strings_file at) at there)
       ∙ block_if_fits (high s.records) (rec_at s.records format.strings_file at) (used_kind s.records format.strings_file at there) fits)))
   text_damage d (NoBlock bs at left _ passed more (NotSuch not)) = text_breaks (λ members list. not (such bs at left passed more members list))

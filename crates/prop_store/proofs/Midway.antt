@@ -26,8 +26,8 @@ use Rattle.id_freelist.specs.declared.take_fault.TakeFault.{TakeFault}
 use Rattle.id_freelist.specs.declared.take_fault.TakeFault.TheVariants as takes
 use Rattle.prop_store.specs.Fault.{BlamesBroken}
 use Rattle.prop_store.specs.FileChange.{IsSameBeside}
-use Rattle.prop_store.specs.SetFault.{HasSetCause, IsExact, IsExactTake, of_fault, of_space, of_take}
-use Rattle.prop_store.specs.Setting.{BlamesSet, BlamesTaken, BreaksMidway}
+use Rattle.prop_store.specs.SetFault.{HasSetCause, IsFullFile, IsSetCause, IsTextCause, of_fault, of_space, of_take}
+use Rattle.prop_store.specs.Setting.{BlamesSet, BlamesStill, BlamesTaken, BreaksMidway}
 use Rattle.prop_store.specs.Touching.{TouchesProperties}
 use Rattle.prop_store.specs.declared.set_fault.SetFault.{SetFault}
 use Rattle.prop_store.specs.declared.set_fault.SetFault.TheVariants.{Damaged, Disk, Full, Memory, PropsFull}
@@ -97,30 +97,91 @@ take_has {T} P r fault h has = let p = err_from_is_err_and r h in subst (λ (z :
 
 -- ---- what a refusal carries
 
-pub exact_take : (s : State) (file : ℕ) (fault : TakeFault) → IsTakeFault s file fault → IsExactTake s.shape fault
-exact_take s file (takes.Full full live) why = why.2 ∙ sym (ap (room_of s.shape) why.0)
-exact_take s file takes.Memory why = tt
-exact_take s file takes.Disk why = tt
-exact_take s file (takes.Damaged d) why = tt
+pub full_read : (s t : State) (file live : ℕ) → SameButReads s t → IsFullFile s file live → IsFullFile t file live
+full_read s t file live same full = subst (λ (z : State). IsFullFile z file live) (sym same) (full.0, full.1)
 
-pub exact_take_of_space : (shape : Shape) (fault : SpaceFault) → IsExactTake shape (take_faults.of_space fault)
-exact_take_of_space shape spaces.Memory = tt
-exact_take_of_space shape spaces.Disk = tt
+pub take_full : (s t : State) (file full live : ℕ) → IsTakeFault s file (takes.Full full live) → SameButReads s t → IsFullFile t full live
+take_full s t file full live why same =
+    full_read s t full live same (why.1 ∙ ap (λ f. (meta_of s f).live) (sym why.0), why.2 ∙ sym (ap (room_of s.shape) why.0))
 
-pub exact_of_take : (shape : Shape) (fault : TakeFault) → IsExactTake shape fault → IsExact shape (of_take fault)
-exact_of_take shape (takes.Full file live) why = why
-exact_of_take shape takes.Memory why = tt
-exact_of_take shape takes.Disk why = tt
-exact_of_take shape (takes.Damaged d) why = tt
+-- of a block
+pub text_caused : (s t : State) (fault : TakeFault) → IsTakeFault s format.strings_file fault → SameButReads s t → IsTextCause t 1 fault
+text_caused s t (takes.Full full live) why same = (take_full s t format.strings_file full live why same, (why.0, omega arith))
+text_caused s t takes.Memory why same = tt
+text_caused s t takes.Disk why same = tt
+text_caused s t (takes.Damaged d) why same = tt
 
-pub exact_of_space : (shape : Shape) (fault : SpaceFault) → IsExact shape (of_space fault)
-exact_of_space shape spaces.Memory = tt
-exact_of_space shape spaces.Disk = tt
+pub text_caused_space : (t : State) (blocks : ℕ) (fault : SpaceFault) → IsTextCause t blocks (take_faults.of_space fault)
+text_caused_space t blocks spaces.Memory = tt
+text_caused_space t blocks spaces.Disk = tt
 
-pub exact_of_fault : (shape : Shape) (fault : Fault) → IsExact shape (of_fault fault)
-exact_of_fault shape faults.Memory = tt
-exact_of_fault shape faults.Disk = tt
-exact_of_fault shape (faults.Damaged d) = tt
+-- one of them was needed
+pub text_caused_more : (t : State) (blocks : ℕ) → 0 < blocks → (fault : TakeFault) → IsTextCause t 1 fault → IsTextCause t blocks fault
+text_caused_more t blocks some (takes.Full full live) why = (why.0, (why.1.0, some))
+text_caused_more t blocks some takes.Memory why = tt
+text_caused_more t blocks some takes.Disk why = tt
+text_caused_more t blocks some (takes.Damaged d) why = tt
+
+-- so it is of a value
+pub set_caused_text : (crowded new : Type 0) (t : State) (blocks : ℕ) (fault : TakeFault) → IsTextCause t blocks fault → IsSetCause crowded new blocks t (of_take fault)
+set_caused_text crowded new t blocks (takes.Full file live) why = (why.0, inr why.1)
+set_caused_text crowded new t blocks takes.Memory why = tt
+set_caused_text crowded new t blocks takes.Disk why = tt
+set_caused_text crowded new t blocks (takes.Damaged d) why = tt
+
+pub set_caused_take : (crowded new : Type 0) (s t : State) (blocks : ℕ) (fault : TakeFault) → ((meta_of s format.properties_file).live ≡ room_of s.shape format.properties_file → new) → IsTakeFault s format.properties_file fault → SameButReads s t
+    → IsSetCause crowded new blocks t (of_take fault)
+set_caused_take crowded new s t blocks (takes.Full file live) full why same = (take_full s t format.properties_file file live why same, inl (why.0, full (sym why.1 ∙ why.2)))
+set_caused_take crowded new s t blocks takes.Memory full why same = tt
+set_caused_take crowded new s t blocks takes.Disk full why same = tt
+set_caused_take crowded new s t blocks (takes.Damaged d) full why same = tt
+
+pub set_caused_space : (crowded new : Type 0) (t : State) (blocks : ℕ) (fault : SpaceFault) → IsSetCause crowded new blocks t (of_space fault)
+set_caused_space crowded new t blocks spaces.Memory = tt
+set_caused_space crowded new t blocks spaces.Disk = tt
+
+pub set_caused_fault : (crowded new : Type 0) (t : State) (blocks : ℕ) (fault : Fault) → IsSetCause crowded new blocks t (of_fault fault)
+set_caused_fault crowded new t blocks faults.Memory = tt
+set_caused_fault crowded new t blocks faults.Disk = tt
+set_caused_fault crowded new t blocks (faults.Damaged d) = tt
+
+-- where the element isn't crowded, and a property is new only so
+pub set_caused_more : (crowded new then : Type 0) → (new → then) → (t : State) (blocks : ℕ) (fault : SetFault) → IsSetCause ⊥ new blocks t fault → IsSetCause crowded then blocks t fault
+set_caused_more crowded new then to t blocks (PropsFull count) why = absurd why.1
+set_caused_more crowded new then to t blocks (Full file live) why = (why.0, ⊎_elim (λ k. inl (k.0, to k.1)) (λ k. inr k) why.1)
+set_caused_more crowded new then to t blocks Memory why = tt
+set_caused_more crowded new then to t blocks Disk why = tt
+set_caused_more crowded new then to t blocks (Damaged d) why = tt
+
+-- ---- what is blamed is broken still
+
+pub still_read : (s t : State) (d : Damage) → SameButReads s t → Breaks s.records s.shape d → Breaks t.records t.shape d
+still_read s t d same broken = subst (λ (z : State). Breaks z.records z.shape d) (sym same) broken
+
+pub take_still : (s t : State) (fault : TakeFault) → take_faults.BlamesBroken s.records s.shape fault → SameButReads s t → take_faults.BlamesBroken t.records t.shape fault
+take_still s t (takes.Full file live) why same = tt
+take_still s t takes.Memory why same = tt
+take_still s t takes.Disk why same = tt
+take_still s t (takes.Damaged d) why same = still_read s t d same why
+
+pub take_still_space : (t : State) (fault : SpaceFault) → take_faults.BlamesBroken t.records t.shape (take_faults.of_space fault)
+take_still_space t spaces.Memory = tt
+take_still_space t spaces.Disk = tt
+
+pub set_still_take : (t : State) (fault : TakeFault) → take_faults.BlamesBroken t.records t.shape fault → BlamesStill t (of_take fault)
+set_still_take t (takes.Full file live) why = tt
+set_still_take t takes.Memory why = tt
+set_still_take t takes.Disk why = tt
+set_still_take t (takes.Damaged d) why = why
+
+pub set_still_space : (t : State) (fault : SpaceFault) → BlamesStill t (of_space fault)
+set_still_space t spaces.Memory = tt
+set_still_space t spaces.Disk = tt
+
+pub set_still_fault : (s t : State) (fault : Fault) → BlamesBroken s.records s.shape fault → SameButReads s t → BlamesStill t (of_fault fault)
+set_still_fault s t faults.Memory why same = tt
+set_still_fault s t faults.Disk why same = tt
+set_still_fault s t (faults.Damaged d) why same = still_read s t d same why
 
 -- ---- a take of a property's identifier, after blocks were written
 
@@ -154,6 +215,10 @@ module _ (s a : State) (beside : IsSameBeside format.strings_file s.records a.re
       subst (λ z. Breaks s.records s.shape (record_damage file z 1)) (sym free_stays)
       (breaks_of s file refl (record_damage file (meta_of s file).free 1) (BadNext (λ e. ne (free_stays ∙ e)) (unused_stays (meta_of s file).free (subst (IsUnused a.records file) free_stays unused)) (λ e. some (next ∙ e))
       (let mark : high a.records file ≡ high s.records file = ap (λ (m : Meta). m.high) meta_stays in omega (arith, mark, next, le))))
+
+  -- a file that is full now was full before
+  pub full_before : (meta_of a file).live ≡ room_of a.shape file → (meta_of s file).live ≡ room_of s.shape file
+  full_before full = sym (ap (λ (m : Meta). m.live) meta_stays) ∙ full ∙ ap (λ (h : Shape). room_of h file) shape
 
   -- what it blames was broken before
   pub property_take : (tells : Type 0) (n : ℕ) (fault : TakeFault) → IsTakeFault a file fault → BlamesSet tells n s (of_take fault)

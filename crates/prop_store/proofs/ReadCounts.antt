@@ -42,6 +42,9 @@ costs_after n m a b c (Err e) le one more = tt
 
 -- ---- what stays
 
+pub same_then : (a b c : State) → SameButReads a b → SameButReads b c → SameButReads a c
+same_then a b c h k = k ∙ ap (λ (z : State). record z { reads = c.reads }) h
+
 pub reads_same : (n : ℕ) (a b : State) → ReadsAtMost n a b → SameButReads a b
 reads_same n a b h = subst (SameButReads a) (sym h.is) (same-after_gets h.count a)
 

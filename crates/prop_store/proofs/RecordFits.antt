@@ -16,8 +16,9 @@ use Rattle.rec_bytes.specs.Record.{field, with_field, with_text, zeros}
 use Rattle.rec_bytes.proofs.Numbers.{Apart, byte-is, field-with_field_other, field-with_field_same}
 use Rattle.rec_bytes.proofs.Texts.{field-with_text_other}
 use Rattle.store_rules.specs.Ranges.{Fits, Layout, Range, all_point, block_layout, bytes_of, free_layout, is_in, laid, layout_by, may, next_property, points, property_layout}
-use Rattle.store_rules.proofs.LinkFits.{IsLow}
+use Rattle.store_rules.proofs.LinkFits.{IsLow, low_points}
 use Rattle.store_rules.proofs.NumberLaws.{and_parts, eq_false, eq_true, lt_true}
+use Rattle.id_freelist.proofs.Leaving.{byte_of_zeros}
 use Rattle.prop_store.specs.BlockRecord.{block_record}
 use Rattle.prop_store.specs.PropertyRecord.{keyed, property_body, property_record}
 use Rattle.prop_store.proofs.BlockRecords.{kind-block_record, next-block_record, size-block_record}
@@ -51,9 +52,6 @@ byte_stays n r at value i from size lt out low high blank = field-with_field_oth
 text_stays : (r : Rec) (at : ℕ) (text : List ℕ) (i : ℕ) → i < 64 → (i < at) ⊎ (at + length text ≤ i) → field 1 r i ≡ 0 → field 1 (with_text r at text) i ≡ 0
 text_stays r at text i lt out blank = field-with_text_other r at text 1 i (omega arith) (⊎_elim (λ (h : i < at). inl (omega arith)) (λ h. inr h) out) ∙ blank
 
-byte_of_zeros : (i : ℕ) → i < 64 → field 1 zeros i ≡ 0
-byte_of_zeros i lt = let z : get_or zeros.bytes i 0 ≡ 0 = get_or-replicate 64 i 0 0 lt in sym (byte-is zeros i (omega arith)) ∙ z
-
 -- the kind and the key are written alone
 byte_of_keyed : (kind key i : ℕ) → i < 64 → (i < 0) ⊎ (1 ≤ i) → (i < 4) ⊎ (8 ≤ i) → field 1 (keyed kind key) i ≡ 0
 byte_of_keyed kind key i lt first out = byte_stays 4 (with_field 1 zeros format.kind kind) format.property_key key i 4 4 lt out (omega arith) (omega arith) (byte_stays 1 zeros format.kind kind i 0 1 lt first (omega arith) (omega arith) (byte_of_zeros i lt))
@@ -67,13 +65,6 @@ within_out : (i : ℕ) → (i < 2) ⊎ (12 ≤ i) → (i < 4) ⊎ (8 ≤ i)
 within_out i out = ⊎_elim (λ (h : i < 2). inl (omega arith)) (λ (h : 12 ≤ i). inr (omega arith)) out
 
 -- ---- numbers that name records
-
-low_points : (n mark : ℕ) → IsLow mark n → (nat_lt n mark || (true && nat_eq n format.nil)) ≡ true
-low_points n mark low = ⊎_elim (λ (e : n ≡ format.nil). rw (eq_true n format.nil e) (right (nat_lt n mark))) (λ (lt : n < mark). rw (lt_true n mark lt) refl) low
-  where
-    right : (a : Bool) → (a || true) ≡ true
-    right true = refl
-    right false = refl
 
 all_low : (marks : ℕ → ℕ) (r : Rec) (next : ℕ) → field 4 r format.property_next ≡ next → IsLow (marks format.properties_file) next → all_point marks r (next_property ∷ []) ≡ true
 all_low marks r next is low = rw (is, low_points next (marks format.properties_file) low) refl

@@ -62,10 +62,20 @@ pub record MetAt (records : Records) (owner : Owner) (key : ℕ) (spot : Spot) :
   pub is : property_of (properties_met records owner) key
       ≡ Some (property_at (property_records records) spot.row.id)
 
--- so it was found, or they lead to none with the key
+-- they lead to none with the key
+abbrev pub LacksMet : Records → Owner → ℕ → Type 0
+LacksMet records owner key = property_of (properties_met records owner) key ≡ None
+
+-- so it was found, or they lead to none, and to so many others
 abbrev pub IsMet : Records → Owner → ℕ → Search → Type 0
 IsMet records owner key (Found spot) = MetAt records owner key spot
-IsMet records owner key (Absent count) = property_of (properties_met records owner) key ≡ None
+IsMet records owner key (Absent count) =
+    LacksMet records owner key × (count ≡ length (properties_met records owner))
+
+-- they lead to as many as an element may have, none of which has the key
+abbrev pub IsCrowded : Records → Owner → ℕ → Type 0
+IsCrowded records owner key =
+    LacksMet records owner key × (length (properties_met records owner) ≡ 32)
 
 -- what was found is what the records say
 abbrev pub IsReadAt : Records → Search → Type 0

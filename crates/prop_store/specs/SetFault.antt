@@ -1,9 +1,9 @@
 -- Why a property is not set.
-use Rattle.std.specs.Prelude.{◌≡◌, ◌⊎◌, ℕ, Result}
+use Rattle.std.specs.Prelude.{◌≡◌, ◌⊎◌, ◌<◌, ℕ, Result}
 use Rattle.rec_bytes.specs.Cause.{HasDiskCause}
 use Rattle.rec_bytes.specs.Format as format
 use Rattle.rec_bytes.specs.RecordFiles.{room_of}
-use Rattle.rec_bytes.specs.declared.shape.Shape.{Shape}
+use Rattle.rec_bytes.specs.Space.{State, meta_of}
 use Rattle.rec_bytes.specs.declared.space.SpaceFault.{SpaceFault}
 use Rattle.rec_bytes.specs.declared.space.SpaceFault.TheVariants as spaces
 use Rattle.id_freelist.specs.declared.take_fault.TakeFault.{TakeFault}
@@ -35,32 +35,31 @@ of_take (takes.Damaged damage) = Damaged damage
 abbrev pub HasSetCause : {T : Type 0} → ℕ → ℕ → Result T SetFault → Type 0
 HasSetCause before now result = HasDiskCause Disk before now result
 
--- where a file is full, it is this one
-abbrev pub IsFullOf : ℕ → TakeFault → Type 0
-IsFullOf file (takes.Full full live) = full ≡ file
-IsFullOf file takes.Memory = Unit {0}
-IsFullOf file takes.Disk = Unit {0}
-IsFullOf file (takes.Damaged damage) = Unit {0}
+-- so many records of the file are live as it has room for
+abbrev pub IsFullFile : State → ℕ → ℕ → Type 0
+IsFullFile t file live = (live ≡ (meta_of t file).live) × (live ≡ room_of t.shape file)
 
--- where a file is full, it is that of properties or that of strings
-abbrev pub IsOwnRoom : SetFault → Type 0
-IsOwnRoom (PropsFull count) = Unit {0}
-IsOwnRoom (Full file live) = (file ≡ format.properties_file) ⊎ (file ≡ format.strings_file)
-IsOwnRoom Memory = Unit {0}
-IsOwnRoom Disk = Unit {0}
-IsOwnRoom (Damaged damage) = Unit {0}
+-- Why so many blocks aren't taken, by the space as it is left: some are needed, and their file is
+-- full.
+abbrev pub IsTextCause : State → ℕ → TakeFault → Type 0
+IsTextCause t blocks (takes.Full file live) =
+    IsFullFile t file live × ((file ≡ format.strings_file) × (0 < blocks))
+IsTextCause t blocks takes.Memory = Unit {0}
+IsTextCause t blocks takes.Disk = Unit {0}
+IsTextCause t blocks (takes.Damaged damage) = Unit {0}
 
--- a full file is told with as many records as it has room for
-abbrev pub IsExactTake : Shape → TakeFault → Type 0
-IsExactTake shape (takes.Full file live) = live ≡ room_of shape file
-IsExactTake shape takes.Memory = Unit {0}
-IsExactTake shape takes.Disk = Unit {0}
-IsExactTake shape (takes.Damaged damage) = Unit {0}
+-- a record of the file is needed: one of a property that is new, or one of so many blocks
+abbrev pub IsNeeded : Type 0 → ℕ → ℕ → Type 0
+IsNeeded new blocks file = ((file ≡ format.properties_file) × new)
+    ⊎ ((file ≡ format.strings_file) × (0 < blocks))
 
--- and so is an element with as many properties as it may have
-abbrev pub IsExact : Shape → SetFault → Type 0
-IsExact shape (PropsFull count) = count ≡ 32
-IsExact shape (Full file live) = live ≡ room_of shape file
-IsExact shape Memory = Unit {0}
-IsExact shape Disk = Unit {0}
-IsExact shape (Damaged damage) = Unit {0}
+-- Why a value isn't set, over any records, by the space as it is left: the element is crowded, or a
+-- file is full of which a record is needed. A record that is called damaged has a clause of its
+-- own.
+abbrev pub IsSetCause : Type 0 → Type 0 → ℕ → State → SetFault → Type 0
+IsSetCause crowded new blocks t (PropsFull count) = (count ≡ 32) × crowded
+IsSetCause crowded new blocks t (Full file live) =
+    IsFullFile t file live × IsNeeded new blocks file
+IsSetCause crowded new blocks t Memory = Unit {0}
+IsSetCause crowded new blocks t Disk = Unit {0}
+IsSetCause crowded new blocks t (Damaged damage) = Unit {0}

@@ -58,6 +58,14 @@ BlamesTaken tells blocks s takes.Memory = Unit {0}
 BlamesTaken tells blocks s takes.Disk = Unit {0}
 BlamesTaken tells blocks s (takes.Damaged d) = BreaksMidway tells blocks s d
 
+-- a record that is blamed breaks the rule
+abbrev pub BlamesStill : State → SetFault → Type 0
+BlamesStill t (Full file live) = Unit {0}
+BlamesStill t Memory = Unit {0}
+BlamesStill t Disk = Unit {0}
+BlamesStill t (PropsFull count) = Unit {0}
+BlamesStill t (Damaged d) = Breaks t.records t.shape d
+
 -- a record that is blamed breaks the rule in the store as it was, or when a block was taken
 abbrev pub BlamesSet : Type 0 → ℕ → State → SetFault → Type 0
 BlamesSet tells blocks s (Full file live) = Unit {0}

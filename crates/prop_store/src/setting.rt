@@ -17,16 +17,18 @@ ghost use Rattle.prop_store.specs.Changing.{HasKey, IsSetRefusal, SetsValue, pro
 ghost use Rattle.prop_store.specs.Changing.{text_at};
 ghost use Rattle.prop_store.specs.Dropping.{IsHeld};
 ghost use Rattle.prop_store.specs.FileChange.{KeepsFile};
+ghost use Rattle.prop_store.specs.Finding.{IsCrowded, LacksMet};
 ghost use Rattle.prop_store.specs.Owner.{IsInUse, IsOwner};
 ghost use Rattle.prop_store.specs.PropertyRow.{IsReadRow, IsRow};
-ghost use Rattle.prop_store.specs.SetFault.{HasSetCause, IsExact, IsOwnRoom};
-ghost use Rattle.prop_store.specs.Setting.{BlamesSet, IsPutFault, MayLead, PutsProperty};
+ghost use Rattle.prop_store.specs.SetFault.{HasSetCause, IsSetCause};
+ghost use Rattle.prop_store.specs.Setting.{BlamesSet, BlamesStill, IsPutFault, MayLead};
+ghost use Rattle.prop_store.specs.Setting.{PutsProperty};
 ghost use Rattle.prop_store.specs.Touching.{TouchesProperties};
 ghost use Rattle.rec_bytes.specs.Format.{properties_file, property_key, property_next};
 ghost use Rattle.rec_bytes.specs.Format.{strings_file};
 ghost use Rattle.rec_bytes.specs.Record.{field};
 ghost use Rattle.rec_bytes.specs.RecordFiles.{room_of};
-ghost use Rattle.rec_bytes.specs.Space.{meta_of};
+ghost use Rattle.rec_bytes.specs.Space.{SameButReads, meta_of};
 ghost use Rattle.store_rules.specs.Properties.{Property, long_text};
 
 use crate::block_writing::write_text;
@@ -70,8 +72,10 @@ pub fn add<S: Space>(space: &mut S, owner: Owner, key: u32, value: &Value) -> Re
         (S.state space.old) (S.state space.new)) }
     ensures touches { TouchesProperties S.tells (owner.key ∷ []) 1 (blocks_of value.now)
         (S.state space.old) (S.state space.new) }
-    ensures full { S.tells → IfErr result IsOwnRoom }
-    ensures exact { S.tells → IfErr result (IsExact (S.state space.old).shape) }
+    ensures caused { S.tells → IfErr result (IsSetCause ⊥
+        (SameButReads (S.state space.old) (S.state space.new)) (blocks_of value.now)
+        (S.state space.new)) }
+    ensures still { S.tells → IfErr result (BlamesStill (S.state space.new)) }
     ensures damaged { S.tells
         → IfErr result (BlamesSet S.tells (blocks_of value.now) (S.state space.old)) }
     ensures onward { S.onward space.old space.new }
@@ -112,8 +116,14 @@ pub fn set<S: Space>(space: &mut S, owner: Owner, key: u32, value: &Value) -> Re
         1 (blocks_of value.now + released) (S.state space.old) (S.state space.new)) }
     ensures at_most { TouchesProperties S.tells (owner.key ∷ []) 1 (22 + blocks_of value.now)
         (S.state space.old) (S.state space.new) }
-    ensures full { S.tells → IfErr result IsOwnRoom }
-    ensures exact { S.tells → IfErr result (IsExact (S.state space.old).shape) }
+    ensures caused { S.tells → IfErr result (IsSetCause
+        (IsCrowded (S.state space.old).records owner key
+        × SameButReads (S.state space.old) (S.state space.new))
+        (LacksMet (S.state space.old).records owner key
+        × SameButReads (S.state space.old) (S.state space.new)) (blocks_of value.now)
+        (S.state space.new)) }
+    ensures still { S.tells → IsInUse (S.state space.old).records owner
+        → IfErr result (BlamesStill (S.state space.new)) }
     ensures damaged { S.tells → IsInUse (S.state space.old).records owner
         → IfErr result (BlamesSet S.tells (22 + blocks_of value.now) (S.state space.old)) }
     ensures onward { S.onward space.old space.new }
@@ -164,8 +174,11 @@ fn put_new<S: Space>(space: &mut S, key: u32, value: &Value, next: u32) -> Resul
         → IfErr result (IsPutFault (S.state space.old) 0 (blocks_of value.now)) }
     ensures touches { TouchesProperties S.tells [] 1 (blocks_of value.now)
         (S.state space.old) (S.state space.new) }
-    ensures full { S.tells → IfErr result IsOwnRoom }
-    ensures exact { S.tells → IfErr result (IsExact (S.state space.old).shape) }
+    ensures caused { S.tells → IfErr result (IsSetCause ⊥
+        ((meta_of (S.state space.old) properties_file).live
+        ≡ room_of (S.state space.old).shape properties_file) (blocks_of value.now)
+        (S.state space.new)) }
+    ensures still { S.tells → IfErr result (BlamesStill (S.state space.new)) }
     ensures damaged { S.tells
         → IfErr result (BlamesSet S.tells (blocks_of value.now) (S.state space.old)) }
     ensures onward { S.onward space.old space.new }
@@ -199,8 +212,10 @@ fn put_again<S: Space>(space: &mut S, row: &PropertyRow, value: &Value) -> Resul
         1 (blocks_of value.now + released) (S.state space.old) (S.state space.new)) }
     ensures at_most { TouchesProperties S.tells [] 1 (22 + blocks_of value.now)
         (S.state space.old) (S.state space.new) }
-    ensures full { S.tells → IfErr result IsOwnRoom }
-    ensures exact { S.tells → IfErr result (IsExact (S.state space.old).shape) }
+    ensures caused { S.tells
+        → IfErr result (IsSetCause ⊥ ⊥ (blocks_of value.now) (S.state space.new)) }
+    ensures still { S.tells → IsReadRow (S.state space.old).records row.now
+        → IfErr result (BlamesStill (S.state space.new)) }
     ensures damaged { S.tells → IsReadRow (S.state space.old).records row.now
         → IfErr result (BlamesSet S.tells (22 + blocks_of value.now) (S.state space.old)) }
     ensures onward { S.onward space.old space.new }

@@ -2,9 +2,10 @@ use Rattle.std.proofs.Common.{[], arith, refl}
 use Rattle.std.proofs.lemmas.Result.{err_from_is_err_and}
 use Rattle.rec_bytes.specs.Format.{strings_file}
 use Rattle.prop_store.proofs.BlockSteps.{beside_put, block_written, cannot_take}
-use Rattle.prop_store.specs.SetFault.{IsExactTake}
+use Rattle.id_freelist.specs.TakeFault.{BlamesBroken}
+use Rattle.prop_store.specs.SetFault.{IsTextCause}
 use Rattle.prop_store.specs.Setting.{BlamesTaken}
-use Rattle.prop_store.proofs.Midway.{exact_take, exact_take_of_space, take_blames, take_has, take_of_space}
+use Rattle.prop_store.proofs.Midway.{take_blames, take_has, take_of_space, take_still, take_still_space, text_caused, text_caused_space}
 use Rattle.prop_store.proofs.Touches.{touches_reads, touches_block, touches_block_taken, touches_more, touches_same, touches_then}
 use Rattle.prop_store.proofs.block_writing.write_block.Goals as goal
 
@@ -45,12 +46,24 @@ returns-in_err-put-clause-damaged g c tells =
     let s = g.S.Reads.state c.args.space.now in
     take_has (BlamesTaken g.S.Reads.tells 0 s) c.from_residual-in_err-put.result _ c.from_residual-in_err-put.ensures.1 (take_of_space g.S.Reads.tells 0 s c.in_err-put.field-0.0)
 
-pub returns-in_err-id-clause-exact : goal.returns-in_err-id-clause-exact
-returns-in_err-id-clause-exact g c tells =
+pub returns-in_err-id-clause-caused : goal.returns-in_err-id-clause-caused
+returns-in_err-id-clause-caused g c tells =
     let s = g.S.Reads.state c.args.space.now in
-    take_has (IsExactTake s.shape) c.from_residual.result c.in_err-id.field-0.0 c.from_residual.ensures.1 (exact_take s strings_file c.in_err-id.field-0.0 (c.in_err-id.ensures.refused tells))
+    let t = g.S.Reads.state c.take.new.space in
+    take_has (IsTextCause t 1) c.from_residual.result c.in_err-id.field-0.0 c.from_residual.ensures.1 (text_caused s t c.in_err-id.field-0.0 (c.in_err-id.ensures.refused tells) c.in_err-id.ensures.err)
 
-pub returns-in_err-put-clause-exact : goal.returns-in_err-put-clause-exact
-returns-in_err-put-clause-exact g c tells =
+pub returns-in_err-id-clause-still : goal.returns-in_err-id-clause-still
+returns-in_err-id-clause-still g c tells =
     let s = g.S.Reads.state c.args.space.now in
-    take_has (IsExactTake s.shape) c.from_residual-in_err-put.result _ c.from_residual-in_err-put.ensures.1 (exact_take_of_space s.shape c.in_err-put.field-0.0)
+    let t = g.S.Reads.state c.take.new.space in
+    take_has (BlamesBroken t.records t.shape) c.from_residual.result c.in_err-id.field-0.0 c.from_residual.ensures.1 (take_still s t c.in_err-id.field-0.0 (c.in_err-id.ensures.damaged tells) c.in_err-id.ensures.err)
+
+pub returns-in_err-put-clause-still : goal.returns-in_err-put-clause-still
+returns-in_err-put-clause-still g c tells =
+    let t = g.S.Reads.state c.put.new.self in
+    take_has (BlamesBroken t.records t.shape) c.from_residual-in_err-put.result _ c.from_residual-in_err-put.ensures.1 (take_still_space t c.in_err-put.field-0.0)
+
+pub returns-in_err-put-clause-caused : goal.returns-in_err-put-clause-caused
+returns-in_err-put-clause-caused g c tells =
+    let t = g.S.Reads.state c.put.new.self in
+    take_has (IsTextCause t 1) c.from_residual-in_err-put.result _ c.from_residual-in_err-put.ensures.1 (text_caused_space t 1 c.in_err-put.field-0.0)

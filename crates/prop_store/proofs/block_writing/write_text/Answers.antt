@@ -1,14 +1,14 @@
-use Rattle.std.proofs.Common.{◌<◌, ◌-◌, ◌*◌, [], length, drop, ap, arith, refl, rules, length-drop, subst}
+use Rattle.std.proofs.Common.{◌<◌, ◌-◌, ◌*◌, [], length, drop, ap, arith, refl, rules, length-drop}
 use Rattle.std.proofs.lemmas.Result.{err_from_is_err_and}
 use Rattle.std.proofs.lemmas.List.{drop_all}
 use Rattle.rec_bytes.specs.Format.{strings_file}
 use Rattle.prop_store.specs.FileChange.{blocks_for}
 use Rattle.prop_store.proofs.BlockSteps.{blocks_are, drop-piece, keeps_now, length-numbered_piece, may_follow, no_room, nothing_stands, one_written}
 use Rattle.prop_store.proofs.FileSteps.{beside_none, beside_then}
-use Rattle.rec_bytes.specs.declared.shape.Shape.{Shape}
-use Rattle.prop_store.specs.SetFault.{IsExactTake}
+use Rattle.id_freelist.specs.TakeFault.{BlamesBroken}
+use Rattle.prop_store.specs.SetFault.{IsTextCause}
 use Rattle.prop_store.specs.Setting.{BlamesTaken}
-use Rattle.prop_store.proofs.Midway.{later_take, take_has}
+use Rattle.prop_store.proofs.Midway.{later_take, take_has, text_caused_more}
 use Rattle.prop_store.proofs.Touches.{touches_more, touches_reads, touches_then}
 use Rattle.prop_store.proofs.block_writing.write_text.Goals as goal
 
@@ -90,9 +90,16 @@ returns-in_err-first-clause-damaged g c tells =
     take_has (BlamesTaken g.S.Reads.tells count old) c.from_residual.result c.in_err-first.field-0.0 c.from_residual.ensures.1
     (later_take g.S.Reads.tells (count - c.loop-left.left) 0 count old now c.in_err-first.field-0.0 (omega arith) (g.met.S.Reads.onward_shape _ _ c.loop-left.invariant.onward) c.loop-left.invariant.touches (c.in_err-first.ensures.damaged tells))
 
-pub returns-in_err-first-clause-exact : goal.returns-in_err-first-clause-exact
-returns-in_err-first-clause-exact g c tells =
-    let old = g.S.Reads.state c.args.space.now in
-    let fault = c.in_err-first.field-0.0 in
-    take_has (IsExactTake old.shape) c.from_residual.result fault c.from_residual.ensures.1
-    (subst (λ (h : Shape). IsExactTake h fault) (g.met.S.Reads.onward_shape _ _ c.loop-left.invariant.onward) (c.in_err-first.ensures.exact tells))
+pub returns-in_err-first-clause-caused : goal.returns-in_err-first-clause-caused
+returns-in_err-first-clause-caused g c tells =
+    let t = g.S.Reads.state c.write_block.new.space in
+    let count = blocks_for (length c.args.text.now) in
+    let few = c.loop-left.invariant.few in
+    let some = c.loop-left-test.true in
+    take_has (IsTextCause t count) c.from_residual.result c.in_err-first.field-0.0 c.from_residual.ensures.1
+    (text_caused_more t count (omega arith) c.in_err-first.field-0.0 (c.in_err-first.ensures.caused tells))
+
+pub returns-in_err-first-clause-still : goal.returns-in_err-first-clause-still
+returns-in_err-first-clause-still g c tells =
+    let t = g.S.Reads.state c.write_block.new.space in
+    take_has (BlamesBroken t.records t.shape) c.from_residual.result c.in_err-first.field-0.0 c.from_residual.ensures.1 (c.in_err-first.ensures.still tells)

@@ -1,4 +1,4 @@
-use Rattle.std.proofs.Common.{arith, ap, sym, ◌∙◌, ◌≡◌, ◌≢◌, ◌<◌, ℕ, refl, inl, inr, subst}
+use Rattle.std.proofs.Common.{length, zero-add, arith, ap, sym, ◌∙◌, ◌≡◌, ◌≢◌, ◌<◌, ℕ, refl, inl, inr, subst}
 use Rattle.std.proofs.lemmas.Result.{err_from_is_err_and}
 use Rattle.rec_bytes.specs.Format.{free_kind, most_ids, properties_file, property_key, property_next}
 use Rattle.rec_bytes.specs.Record.{field}
@@ -10,7 +10,7 @@ use Rattle.prop_store.specs.Fault.{BlamesBroken}
 use Rattle.prop_store.specs.Finding.{property_of}
 use Rattle.prop_store.specs.PropertyRow.{IsReadRow}
 use Rattle.prop_store.specs.declared.link.Link.{Link}
-use Rattle.prop_store.proofs.Ahead.{ahead, ahead_none, ahead_over, met_here, passed_by}
+use Rattle.prop_store.proofs.Ahead.{ahead, ahead_none, ahead_over, all_passed, met_here, passed_by, passed_one}
 use Rattle.prop_store.proofs.Breaches.{reached_first, reached_next, row_blames, row_fault_same, too_many}
 use Rattle.prop_store.proofs.Exits.{same_has}
 use Rattle.prop_store.proofs.ElementSteps.{meta_of_element}
@@ -25,6 +25,7 @@ pub loop-count-init : goal.loop-count-init
 loop-count-init g c = record {
   told = λ tells es are. walk_begins _ _ _ es _ (c.requires.first tells) are (c.of-link.ensures, λ i. i);
   met = λ tells. ap (λ z. property_of (ahead (g.R.Reads.state c.args.space.now).records z 0) c.args.key) (c.requires.first tells);
+  passed = λ tells. zero-add _ ∙ ap (λ z. length (ahead (g.R.Reads.state c.args.space.now).records z 0)) (c.requires.first tells);
   reached = λ tells. reached_first (g.R.Reads.state c.args.space.now).records c.args.owner c.of-link.result.key c.args.first (ap (λ (z : Link). z.key) c.of-link.ensures) (c.requires.first tells);
   link = subst IsLink (sym c.of-link.ensures) (record { key = c.requires.owner.key; own = meta_of_element c.args.owner.key.file c.requires.owner.file; place = place_within c.args.owner c.requires.owner });
   from = subst (IsLinkOf c.args.owner) (sym c.of-link.ensures) (inl refl);
@@ -36,7 +37,8 @@ loop-count-init g c = record {
 pub returns-then-at-clause-met : goal.returns-then-at-clause-met
 returns-then-at-clause-met g c tells =
     let old = g.R.Reads.state c.args.space.now in
-    sym (c.loop-count.invariant.met tells) ∙ ap (λ es. property_of es c.args.key) (ahead_none old.records c.loop-count.at c.loop-count.count c.if-at.true)
+    let none = ahead_none old.records c.loop-count.at c.loop-count.count c.if-at.true in
+    (sym (c.loop-count.invariant.met tells) ∙ ap (λ es. property_of es c.args.key) none, all_passed c.loop-count.count (ahead old.records c.loop-count.at c.loop-count.count) none ∙ c.loop-count.invariant.passed tells)
 
 pub returns-then-at-clause-found : goal.returns-then-at-clause-found
 returns-then-at-clause-found g c tells es are =
@@ -94,6 +96,9 @@ loop-count-preserved g c =
           passed_by old.records c.args.key c.loop-count.at c.loop-count.count c.number-at.result c.property_at.new.row.rec _ c.if-at.false (omega arith)
           (c.in_ok-property_at.ensures.got tells ∙ ap (λ r. rec_at r properties_file c.loop-count.at) (reads_records _ old now c.loop-count.invariant.reads)) c.number-at.ensures
           (λ e. c.if-number-key.false (c.number.ensures ∙ e)) (c.loop-count.invariant.met tells);
+      passed = λ tells.
+          passed_one old.records c.loop-count.at c.loop-count.count c.number-at.result c.property_at.new.row.rec c.if-at.false (omega arith)
+          (c.in_ok-property_at.ensures.got tells ∙ ap (λ r. rec_at r properties_file c.loop-count.at) (reads_records _ old now c.loop-count.invariant.reads)) c.number-at.ensures ∙ c.loop-count.invariant.passed tells;
       reached = λ tells.
           let same = reads_records _ old now c.loop-count.invariant.reads in
           let rec_is = c.in_ok-property_at.ensures.got tells ∙ ap (λ r. rec_at r properties_file c.loop-count.at) same in
@@ -117,7 +122,9 @@ returns-clause-found g c tells es are =
 pub returns-clause-met : goal.returns-clause-met
 returns-clause-met g c tells =
     let old = g.R.Reads.state c.args.space.now in
-    sym (c.loop-count.invariant.met tells) ∙ ap (λ es. property_of es c.args.key) (ahead_over old.records c.loop-count.at c.loop-count.count (omega arith))
+    let none = ahead_over old.records c.loop-count.at c.loop-count.count (omega arith) in
+    let all : 32 ≡ c.loop-count.count = omega (arith, c.loop-count.auto.count-end) in
+    (sym (c.loop-count.invariant.met tells) ∙ ap (λ es. property_of es c.args.key) none, all ∙ all_passed c.loop-count.count (ahead old.records c.loop-count.at c.loop-count.count) none ∙ c.loop-count.invariant.passed tells)
 
 -- ---- which record is blamed
 

@@ -1,4 +1,4 @@
-use Rattle.std.proofs.Common.{◌≡◌, ◌≢◌, ◌<◌, [], length, ap, sym, subst, ◌∙◌, arith, ◌+◌, ◌∷◌, refl}
+use Rattle.std.proofs.Common.{◌≡◌, ◌≢◌, ◌<◌, [], length, ap, sym, subst, ◌∙◌, inl, arith, ◌+◌, ◌∷◌, refl}
 use Rattle.std.proofs.lemmas.Result.{IfErr-weaker, err_from_is_err_and}
 use Rattle.std.specs.FinMap as maps
 use Rattle.plain_graph.specs.Properties.{blocks_of}
@@ -6,17 +6,17 @@ use Rattle.rec_bytes.specs.declared.meta.Meta.{Meta}
 use Rattle.rec_bytes.specs.declared.shape.Shape.{Shape}
 use Rattle.rec_bytes.specs.Format.{properties_file, strings_file}
 use Rattle.rec_bytes.specs.RecordFiles.{room_of}
-use Rattle.rec_bytes.specs.Space.{State, meta_of}
+use Rattle.rec_bytes.specs.Space.{SameButReads, State, meta_of}
 use Rattle.prop_store.specs.Changing.{HasKey, properties_of}
 use Rattle.prop_store.specs.FileChange.{KeepsFile}
 use Rattle.prop_store.specs.Owner.{IsOwner}
-use Rattle.prop_store.specs.SetFault.{IsExact}
-use Rattle.prop_store.specs.Setting.{BlamesSet, IsPutFault, MayLead}
+use Rattle.prop_store.specs.SetFault.{IsSetCause}
+use Rattle.prop_store.specs.Setting.{BlamesSet, BlamesStill, IsPutFault, MayLead}
 use Rattle.prop_store.specs.declared.owner.Owner.{Owner}
 use Rattle.prop_store.specs.declared.set_fault.SetFault.TheVariants.{Full}
 use Rattle.prop_store.proofs.ElementGraphs.{count_is, lacks_key, listed_at, owns_listed, refusal_graph, sets_graph}
 use Rattle.prop_store.proofs.ElementSets.{first_leads, keeps_properties, keeps_strings, no_new_blocks, no_property, puts_read, value_added}
-use Rattle.prop_store.proofs.Midway.{exact_of_space, set_has, set_of_space, set_read}
+use Rattle.prop_store.proofs.Midway.{set_caused_more, set_caused_space, set_has, set_of_space, set_read, set_still_space}
 use Rattle.prop_store.proofs.ReadCounts.{reads_one, reads_same}
 use Rattle.prop_store.proofs.Touches.{touches_after, touches_beside, touches_owner, touches_reads, touches_then}
 use Rattle.prop_store.proofs.WriteCounts.{touched_beside}
@@ -135,25 +135,52 @@ returns-in_err-set_number-clause-damaged g c tells =
 
 -- ---- what a refusal carries
 
-pub returns-then-meta-room_of-clause-exact : goal.returns-then-meta-room_of-clause-exact
-returns-then-meta-room_of-clause-exact g c tells = c.if-meta-room_of.true ∙ c.room_of.ensures ∙ ap (λ (h : Shape). room_of h properties_file) c.shape.ensures.is
+pub returns-then-meta-room_of-clause-caused : goal.returns-then-meta-room_of-clause-caused
+returns-then-meta-room_of-clause-caused g c tells =
+    ((ap (λ (m : Meta). m.live) c.meta-meta.ensures, c.if-meta-room_of.true ∙ c.room_of.ensures ∙ ap (λ (h : Shape). room_of h properties_file) c.shape.ensures.is), inl (refl, refl))
 
-pub returns-in_err-next-clause-exact : goal.returns-in_err-next-clause-exact
-returns-in_err-next-clause-exact g c tells =
+pub returns-in_err-next-clause-caused : goal.returns-in_err-next-clause-caused
+returns-in_err-next-clause-caused g c tells =
     let s = g.S.Reads.state c.args.space.now in
-    set_has (IsExact s.shape) c.from_residual.result _ c.from_residual.ensures.1 (exact_of_space s.shape c.in_err-next.field-0.0)
+    let t = g.S.Reads.state c.first.new.space in
+    let n = blocks_of c.args.value.now in
+    set_has (IsSetCause ⊥ (SameButReads s t) n t) c.from_residual.result _ c.from_residual.ensures.1 (set_caused_space ⊥ (SameButReads s t) t n c.in_err-next.field-0.0)
 
-pub returns-in_err-id-clause-exact : goal.returns-in_err-id-clause-exact
-returns-in_err-id-clause-exact g c tells =
+pub returns-in_err-id-clause-caused : goal.returns-in_err-id-clause-caused
+returns-in_err-id-clause-caused g c tells =
     let s = g.S.Reads.state c.args.space.now in
+    let z = g.S.Reads.state c.first.new.space in
+    let t = g.S.Reads.state c.put_new.new.space in
+    let n = blocks_of c.args.value.now in
     let fault = c.in_err-id.field-0.0 in
-    set_has (IsExact s.shape) c.from_residual-in_err-id.result fault c.from_residual-in_err-id.ensures.1
-    (subst (λ (y : State). IsExact y.shape fault) c.first.ensures.state (c.in_err-id.ensures.exact tells))
+    let full = (meta_of z properties_file).live ≡ room_of z.shape properties_file in
+    let none : full → ⊥ = λ is. c.if-meta-room_of.false (ap (λ (m : Meta). m.live) c.meta-meta.ensures ∙ subst (λ (y : State). (meta_of y properties_file).live ≡ room_of y.shape properties_file) (c.first.ensures.state) is ∙ sym (c.room_of.ensures ∙ ap (λ (y : Shape). y.limit) c.shape.ensures.is)) in
+    set_has (IsSetCause ⊥ (SameButReads s t) n t) c.from_residual-in_err-id.result _ c.from_residual-in_err-id.ensures.1
+    (set_caused_more ⊥ full (SameButReads s t) (λ is. absurd (none is)) t n fault (c.in_err-id.ensures.caused tells))
 
-pub returns-in_err-set_number-clause-exact : goal.returns-in_err-set_number-clause-exact
-returns-in_err-set_number-clause-exact g c tells =
+pub returns-in_err-set_number-clause-caused : goal.returns-in_err-set_number-clause-caused
+returns-in_err-set_number-clause-caused g c tells =
     let s = g.S.Reads.state c.args.space.now in
-    set_has (IsExact s.shape) c.from_residual-in_err-set_number.result _ c.from_residual-in_err-set_number.ensures.1 (exact_of_space s.shape c.in_err-set_number.field-0.0)
+    let t = g.S.Reads.state c.set_number.new.space in
+    let n = blocks_of c.args.value.now in
+    set_has (IsSetCause ⊥ (SameButReads s t) n t) c.from_residual-in_err-set_number.result _ c.from_residual-in_err-set_number.ensures.1 (set_caused_space ⊥ (SameButReads s t) t n c.in_err-set_number.field-0.0)
+
+-- ---- what is blamed is broken still
+
+pub returns-in_err-next-clause-still : goal.returns-in_err-next-clause-still
+returns-in_err-next-clause-still g c tells =
+    let t = g.S.Reads.state c.first.new.space in
+    set_has (BlamesStill t) c.from_residual.result _ c.from_residual.ensures.1 (set_still_space t c.in_err-next.field-0.0)
+
+pub returns-in_err-id-clause-still : goal.returns-in_err-id-clause-still
+returns-in_err-id-clause-still g c tells =
+    let t = g.S.Reads.state c.put_new.new.space in
+    set_has (BlamesStill t) c.from_residual-in_err-id.result c.in_err-id.field-0.0 c.from_residual-in_err-id.ensures.1 (c.in_err-id.ensures.still tells)
+
+pub returns-in_err-set_number-clause-still : goal.returns-in_err-set_number-clause-still
+returns-in_err-set_number-clause-still g c tells =
+    let t = g.S.Reads.state c.set_number.new.space in
+    set_has (BlamesStill t) c.from_residual-in_err-set_number.result _ c.from_residual-in_err-set_number.ensures.1 (set_still_space t c.in_err-set_number.field-0.0)
 
 pub returns-in_err-id-clause-cause : goal.returns-in_err-id-clause-cause
 returns-in_err-id-clause-cause g c =

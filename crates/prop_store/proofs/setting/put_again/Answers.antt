@@ -1,21 +1,19 @@
-use Rattle.std.proofs.Common.{◌∙◌, ◌+◌, ℕ, List, [], length, ap, arith, subst, sym}
+use Rattle.std.proofs.Common.{◌∙◌, ◌+◌, ℕ, List, [], length, ap, arith, refl, subst, sym}
 use Rattle.std.proofs.lemmas.Result.{err_from_is_err_and}
 use Rattle.plain_graph.specs.Properties.{blocks_of}
 use Rattle.rec_bytes.specs.Format.{property_key, property_next}
 use Rattle.rec_bytes.specs.Record.{field}
 use Rattle.rec_bytes.specs.Space.{State}
 use Rattle.prop_store.proofs.DropSteps.{blocks_given_out}
-use Rattle.rec_bytes.specs.declared.shape.Shape.{Shape}
 use Rattle.rec_bytes.specs.Format.{strings_file}
 use Rattle.rec_bytes.specs.Meta.{IsLinkBelow}
 use Rattle.rec_bytes.specs.Space.{meta_in}
-use Rattle.rec_bytes.specs.declared.fault.Fault.{Fault}
 use Rattle.store_rules.specs.Views.{Records}
 use Rattle.prop_store.specs.Fault.{BlamesBroken}
-use Rattle.prop_store.specs.SetFault.{IsExact, IsExactTake, IsOwnRoom, of_fault}
-use Rattle.prop_store.specs.Setting.{BlamesSet, BlamesTaken}
+use Rattle.prop_store.specs.SetFault.{IsSetCause, IsTextCause}
+use Rattle.prop_store.specs.Setting.{BlamesSet, BlamesStill, BlamesTaken}
 use Rattle.prop_store.proofs.Breaches.{strings_free, text_blames}
-use Rattle.prop_store.proofs.Midway.{set_cause, exact_of_fault, exact_of_space, exact_of_take, later_take, set_has, set_of_fault, set_of_space, set_of_take}
+use Rattle.prop_store.proofs.Midway.{later_take, set_cause, set_caused_fault, set_caused_space, set_caused_text, set_has, set_of_fault, set_of_space, set_of_take, set_still_fault, set_still_space, set_still_take}
 use Rattle.prop_store.proofs.PutSteps.{blocks_needed, again_put, again_text_fault, read_put_fault, space_put_fault}
 use Rattle.prop_store.proofs.PutTouches.{touches_new, touches_texts}
 use Rattle.prop_store.proofs.ReadCounts.{reads_records, reads_same}
@@ -123,43 +121,74 @@ returns-in_err-put-clause-damaged g c tells read =
 
 -- ---- what a refusal carries
 
-pub returns-in_err-blocks-clause-exact : goal.returns-in_err-blocks-clause-exact
-returns-in_err-blocks-clause-exact g c tells =
-    let s = g.S.Reads.state c.args.space.now in
-    set_has (IsExact s.shape) c.from_residual.result _ c.from_residual.ensures.1 (exact_of_fault s.shape c.in_err-blocks.field-0.0)
+pub returns-in_err-blocks-clause-caused : goal.returns-in_err-blocks-clause-caused
+returns-in_err-blocks-clause-caused g c tells =
+    let t = g.S.Reads.state c.value_blocks.new.space in
+    let n = blocks_of c.args.value.now in
+    set_has (IsSetCause ⊥ ⊥ n t) c.from_residual.result _ c.from_residual.ensures.1 (set_caused_fault ⊥ ⊥ t n c.in_err-blocks.field-0.0)
 
-pub returns-in_err-release-clause-exact : goal.returns-in_err-release-clause-exact
-returns-in_err-release-clause-exact g c tells =
-    let s = g.S.Reads.state c.args.space.now in
-    set_has (IsExact s.shape) c.from_residual-in_err-release.result _ c.from_residual-in_err-release.ensures.1 (exact_of_space s.shape c.in_err-release.field-0.0)
+pub returns-in_err-release-clause-caused : goal.returns-in_err-release-clause-caused
+returns-in_err-release-clause-caused g c tells =
+    let t = g.S.Reads.state c.release.new.space in
+    let n = blocks_of c.args.value.now in
+    set_has (IsSetCause ⊥ ⊥ n t) c.from_residual-in_err-release.result _ c.from_residual-in_err-release.ensures.1 (set_caused_space ⊥ ⊥ t n c.in_err-release.field-0.0)
 
-pub returns-in_err-first-clause-exact : goal.returns-in_err-first-clause-exact
-returns-in_err-first-clause-exact g c tells =
-    let s = g.S.Reads.state c.args.space.now in
-    let a = g.S.Reads.state c.value_blocks.new.space in
+pub returns-in_err-first-clause-caused : goal.returns-in_err-first-clause-caused
+returns-in_err-first-clause-caused g c tells =
+    let t = g.S.Reads.state c.write_text.new.space in
+    let n = blocks_of c.args.value.now in
     let fault = c.in_err-first.field-0.0 in
-    let shape = g.met.S.Reads.onward_shape _ _ c.release.ensures.onward ∙ ap (λ (z : State). z.shape) (reads_same 22 s a c.value_blocks.ensures.at_most) in
-    set_has (IsExact s.shape) c.from_residual-in_err-first.result _ c.from_residual-in_err-first.ensures.1
-    (exact_of_take s.shape fault (subst (λ (h : Shape). IsExactTake h fault) shape (c.in_err-first.ensures.exact tells)))
+    set_has (IsSetCause ⊥ ⊥ n t) c.from_residual-in_err-first.result _ c.from_residual-in_err-first.ensures.1
+    (set_caused_text ⊥ ⊥ t n fault (subst (λ m. IsTextCause t m fault) (blocks_needed c.args.value.now c.long_bytes.result.now c.long_bytes.ensures.is) (c.in_err-first.ensures.caused tells)))
 
-pub returns-in_err-put-clause-exact : goal.returns-in_err-put-clause-exact
-returns-in_err-put-clause-exact g c tells =
+pub returns-in_err-put-clause-caused : goal.returns-in_err-put-clause-caused
+returns-in_err-put-clause-caused g c tells =
+    let t = g.S.Reads.state c.put.new.self in
+    let n = blocks_of c.args.value.now in
+    set_has (IsSetCause ⊥ ⊥ n t) c.from_residual-in_err-put.result _ c.from_residual-in_err-put.ensures.1 (set_caused_space ⊥ ⊥ t n c.in_err-put.field-0.0)
+
+-- ---- what is blamed is broken still
+
+pub returns-in_err-blocks-clause-still : goal.returns-in_err-blocks-clause-still
+returns-in_err-blocks-clause-still g c tells read =
     let s = g.S.Reads.state c.args.space.now in
-    set_has (IsExact s.shape) c.from_residual-in_err-put.result _ c.from_residual-in_err-put.ensures.1 (exact_of_space s.shape c.in_err-put.field-0.0)
+    let t = g.S.Reads.state c.value_blocks.new.space in
+    let fault = c.in_err-blocks.field-0.0 in
+    set_has (BlamesStill t) c.from_residual.result _ c.from_residual.ensures.1 (set_still_fault s t fault (text_blames s c.args.row.now.id fault (c.in_err-blocks.ensures.damaged tells read)) (reads_same 22 s t c.value_blocks.ensures.at_most))
+
+pub returns-in_err-test_free-clause-still : goal.returns-in_err-test_free-clause-still
+returns-in_err-test_free-clause-still g c tells read =
+    let s = g.S.Reads.state c.args.space.now in
+    let t = g.S.Reads.state c.value_blocks.new.space in
+    let fault = c.in_err-test_free.field-0.0 in
+    set_has (BlamesStill t) c.from_residual-in_err-test_free.result _ c.from_residual-in_err-test_free.ensures.1
+    (set_still_fault t t fault (subst (BlamesBroken t.records t.shape) (sym c.in_err-test_free.ensures.named) (strings_free t c.in_err-test_free.ensures.broken)) refl)
+
+pub returns-in_err-release-clause-still : goal.returns-in_err-release-clause-still
+returns-in_err-release-clause-still g c tells read =
+    let t = g.S.Reads.state c.release.new.space in
+    set_has (BlamesStill t) c.from_residual-in_err-release.result _ c.from_residual-in_err-release.ensures.1 (set_still_space t c.in_err-release.field-0.0)
+
+pub returns-in_err-first-clause-still : goal.returns-in_err-first-clause-still
+returns-in_err-first-clause-still g c tells read =
+    let t = g.S.Reads.state c.write_text.new.space in
+    set_has (BlamesStill t) c.from_residual-in_err-first.result _ c.from_residual-in_err-first.ensures.1 (set_still_take t c.in_err-first.field-0.0 (c.in_err-first.ensures.still tells))
+
+pub returns-in_err-put-clause-still : goal.returns-in_err-put-clause-still
+returns-in_err-put-clause-still g c tells read =
+    let t = g.S.Reads.state c.put.new.self in
+    set_has (BlamesStill t) c.from_residual-in_err-put.result _ c.from_residual-in_err-put.ensures.1 (set_still_space t c.in_err-put.field-0.0)
 
 -- ---- the first free block can't stand there
 
 pub returns-in_err-test_free-clause-at_most : goal.returns-in_err-test_free-clause-at_most
 returns-in_err-test_free-clause-at_most g c = touches_reads [] 1 _ _ _ (reads_same 22 _ _ c.value_blocks.ensures.at_most)
 
-pub returns-in_err-test_free-clause-full : goal.returns-in_err-test_free-clause-full
-returns-in_err-test_free-clause-full g c tells =
-    set_has IsOwnRoom c.from_residual-in_err-test_free.result _ c.from_residual-in_err-test_free.ensures.1 (subst (λ (f : Fault). IsOwnRoom (of_fault f)) (sym c.in_err-test_free.ensures.named) tt)
-
-pub returns-in_err-test_free-clause-exact : goal.returns-in_err-test_free-clause-exact
-returns-in_err-test_free-clause-exact g c tells =
-    let s = g.S.Reads.state c.args.space.now in
-    set_has (IsExact s.shape) c.from_residual-in_err-test_free.result _ c.from_residual-in_err-test_free.ensures.1 (exact_of_fault s.shape c.in_err-test_free.field-0.0)
+pub returns-in_err-test_free-clause-caused : goal.returns-in_err-test_free-clause-caused
+returns-in_err-test_free-clause-caused g c tells =
+    let t = g.S.Reads.state c.value_blocks.new.space in
+    let n = blocks_of c.args.value.now in
+    set_has (IsSetCause ⊥ ⊥ n t) c.from_residual-in_err-test_free.result _ c.from_residual-in_err-test_free.ensures.1 (set_caused_fault ⊥ ⊥ t n c.in_err-test_free.field-0.0)
 
 pub returns-in_err-test_free-clause-damaged : goal.returns-in_err-test_free-clause-damaged
 returns-in_err-test_free-clause-damaged g c tells read =

@@ -1,11 +1,12 @@
-use Rattle.std.proofs.Common.{[], arith, subst}
+use Rattle.std.proofs.Common.{◌≡◌, [], arith, subst}
 use Rattle.std.proofs.lemmas.Result.{err_from_is_err_and}
 use Rattle.plain_graph.specs.Properties.{blocks_of}
 use Rattle.rec_bytes.specs.Format.{properties_file}
-use Rattle.rec_bytes.specs.declared.shape.Shape.{Shape}
-use Rattle.prop_store.specs.SetFault.{IsExact, IsExactTake}
-use Rattle.prop_store.specs.Setting.{BlamesSet, BlamesTaken}
-use Rattle.prop_store.proofs.Midway.{exact_of_space, exact_of_take, exact_take, set_has, set_of_space, set_of_take, property_take}
+use Rattle.rec_bytes.specs.RecordFiles.{room_of}
+use Rattle.rec_bytes.specs.Space.{meta_of}
+use Rattle.prop_store.specs.SetFault.{IsSetCause, IsTextCause}
+use Rattle.prop_store.specs.Setting.{BlamesSet, BlamesStill, BlamesTaken}
+use Rattle.prop_store.proofs.Midway.{full_before, set_caused_space, set_caused_take, set_caused_text, set_has, set_still_space, set_still_take, take_still, set_of_space, set_of_take, property_take}
 use Rattle.prop_store.proofs.PutSteps.{blocks_needed, property_put, take_put_fault}
 use Rattle.prop_store.proofs.PutTouches.{touches_new, touches_text, touches_text_taken}
 use Rattle.prop_store.proofs.Touches.{touches_more, touches_same}
@@ -74,23 +75,52 @@ returns-in_err-put-clause-damaged g c tells =
 
 -- ---- what a refusal carries
 
-pub returns-in_err-first-clause-exact : goal.returns-in_err-first-clause-exact
-returns-in_err-first-clause-exact g c tells =
+pub returns-in_err-first-clause-caused : goal.returns-in_err-first-clause-caused
+returns-in_err-first-clause-caused g c tells =
     let s = g.S.Reads.state c.args.space.now in
-    set_has (IsExact s.shape) c.from_residual.result _ c.from_residual.ensures.1 (exact_of_take s.shape c.in_err-first.field-0.0 (c.in_err-first.ensures.exact tells))
+    let t = g.S.Reads.state c.write_text.new.space in
+    let n = blocks_of c.args.value.now in
+    let fault = c.in_err-first.field-0.0 in
+    let full = (meta_of s properties_file).live ≡ room_of s.shape properties_file in
+    set_has (IsSetCause ⊥ full n t) c.from_residual.result _ c.from_residual.ensures.1
+    (set_caused_text ⊥ full t n fault (subst (λ m. IsTextCause t m fault) (blocks_needed c.args.value.now c.long_bytes.result.now c.long_bytes.ensures.is) (c.in_err-first.ensures.caused tells)))
 
-pub returns-in_err-id-clause-exact : goal.returns-in_err-id-clause-exact
-returns-in_err-id-clause-exact g c tells =
+pub returns-in_err-id-clause-caused : goal.returns-in_err-id-clause-caused
+returns-in_err-id-clause-caused g c tells =
     let s = g.S.Reads.state c.args.space.now in
     let a = g.S.Reads.state c.write_text.new.space in
-    let fault = c.in_err-id.field-0.0 in
-    set_has (IsExact s.shape) c.from_residual-in_err-id.result _ c.from_residual-in_err-id.ensures.1
-    (exact_of_take s.shape fault (subst (λ (h : Shape). IsExactTake h fault) (g.met.S.Reads.onward_shape _ _ c.in_ok-first.ensures.onward) (exact_take a properties_file fault (c.in_err-id.ensures.refused tells))))
+    let t = g.S.Reads.state c.take.new.space in
+    let n = blocks_of c.args.value.now in
+    let full = (meta_of s properties_file).live ≡ room_of s.shape properties_file in
+    set_has (IsSetCause ⊥ full n t) c.from_residual-in_err-id.result _ c.from_residual-in_err-id.ensures.1
+    (set_caused_take ⊥ full a t n c.in_err-id.field-0.0 (full_before s a (c.in_ok-first.ensures.beside tells) (g.met.S.Reads.onward_shape _ _ c.in_ok-first.ensures.onward)) (c.in_err-id.ensures.refused tells) c.in_err-id.ensures.err)
 
-pub returns-in_err-put-clause-exact : goal.returns-in_err-put-clause-exact
-returns-in_err-put-clause-exact g c tells =
+pub returns-in_err-put-clause-caused : goal.returns-in_err-put-clause-caused
+returns-in_err-put-clause-caused g c tells =
     let s = g.S.Reads.state c.args.space.now in
-    set_has (IsExact s.shape) c.from_residual-in_err-put.result _ c.from_residual-in_err-put.ensures.1 (exact_of_space s.shape c.in_err-put.field-0.0)
+    let t = g.S.Reads.state c.put.new.self in
+    let n = blocks_of c.args.value.now in
+    let full = (meta_of s properties_file).live ≡ room_of s.shape properties_file in
+    set_has (IsSetCause ⊥ full n t) c.from_residual-in_err-put.result _ c.from_residual-in_err-put.ensures.1 (set_caused_space ⊥ full t n c.in_err-put.field-0.0)
+
+-- ---- what is blamed is broken still
+
+pub returns-in_err-first-clause-still : goal.returns-in_err-first-clause-still
+returns-in_err-first-clause-still g c tells =
+    let t = g.S.Reads.state c.write_text.new.space in
+    set_has (BlamesStill t) c.from_residual.result _ c.from_residual.ensures.1 (set_still_take t c.in_err-first.field-0.0 (c.in_err-first.ensures.still tells))
+
+pub returns-in_err-id-clause-still : goal.returns-in_err-id-clause-still
+returns-in_err-id-clause-still g c tells =
+    let a = g.S.Reads.state c.write_text.new.space in
+    let t = g.S.Reads.state c.take.new.space in
+    let fault = c.in_err-id.field-0.0 in
+    set_has (BlamesStill t) c.from_residual-in_err-id.result _ c.from_residual-in_err-id.ensures.1 (set_still_take t fault (take_still a t fault (c.in_err-id.ensures.damaged tells) c.in_err-id.ensures.err))
+
+pub returns-in_err-put-clause-still : goal.returns-in_err-put-clause-still
+returns-in_err-put-clause-still g c tells =
+    let t = g.S.Reads.state c.put.new.self in
+    set_has (BlamesStill t) c.from_residual-in_err-put.result _ c.from_residual-in_err-put.ensures.1 (set_still_space t c.in_err-put.field-0.0)
 
 pub returns-in_err-put-clause-cause : goal.returns-in_err-put-clause-cause
 returns-in_err-put-clause-cause g c =

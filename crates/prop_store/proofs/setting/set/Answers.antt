@@ -11,10 +11,9 @@ use Rattle.prop_store.specs.Alone.{IsKnownKey, IsSetRefusalAlone, OwnsProperties
 use Rattle.store_rules.specs.Views.{Records}
 use Rattle.prop_store.specs.Dropping.{IsHeld}
 use Rattle.prop_store.specs.PropertyRow.{IsReadRow}
-use Rattle.prop_store.specs.Finding.{FoundAt, IsPlaced, IsReadAt, IsSought}
-use Rattle.rec_bytes.specs.declared.shape.Shape.{Shape}
-use Rattle.prop_store.specs.SetFault.{IsExact}
-use Rattle.prop_store.specs.Setting.{BlamesSet, IsPutFault, PutsProperty}
+use Rattle.prop_store.specs.Finding.{FoundAt, IsCrowded, IsMet, IsPlaced, IsReadAt, IsSought, LacksMet}
+use Rattle.prop_store.specs.SetFault.{IsSetCause}
+use Rattle.prop_store.specs.Setting.{BlamesSet, BlamesStill, IsPutFault, PutsProperty}
 use Rattle.prop_store.specs.Touching.{TouchesProperties}
 use Rattle.prop_store.specs.declared.set_fault.SetFault.{SetFault}
 use Rattle.prop_store.specs.declared.set_fault.SetFault.TheVariants.{PropsFull}
@@ -23,8 +22,8 @@ use Rattle.prop_store.proofs.ElementChanges.{has_properties, owns_read}
 use Rattle.prop_store.proofs.ElementGraphs.{owns_listed, refusal_graph, sets_graph}
 use Rattle.prop_store.proofs.ElementParts.{held_same, held_spot}
 use Rattle.prop_store.proofs.ElementSets.{next_leads, no_other_blocks, put_read_fault, puts_read, read_refusal, refusal_read, sets_read, value_replaced}
-use Rattle.prop_store.proofs.Midway.{exact_of_fault, set_has, set_of_fault, set_read}
-use Rattle.prop_store.proofs.ReadCounts.{reads_records, reads_same}
+use Rattle.prop_store.proofs.Midway.{set_caused_fault, set_caused_more, set_has, set_of_fault, set_read, set_still_fault}
+use Rattle.prop_store.proofs.ReadCounts.{reads_records, reads_same, same_then}
 use Rattle.prop_store.proofs.Touches.{touches_after, touches_beside, touches_more, touches_reads}
 use Rattle.prop_store.proofs.WriteCounts.{beside_writes, touched_beside}
 use Rattle.prop_store.proofs.SetCauses.{set_cause_passed}
@@ -240,29 +239,64 @@ returns-in-Found-clause-damaged g c tells used =
 
 -- ---- what a refusal carries
 
-pub returns-in_err-count-clause-exact : goal.returns-in_err-count-clause-exact
-returns-in_err-count-clause-exact g c tells =
+pub returns-in_err-count-clause-caused : goal.returns-in_err-count-clause-caused
+returns-in_err-count-clause-caused g c tells =
     let s = g.S.Reads.state c.args.space.now in
-    set_has (IsExact s.shape) c.from_residual.result _ c.from_residual.ensures.1 (exact_of_fault s.shape c.in_err-count.field-0.0)
+    let t = g.S.Reads.state c.find.new.space in
+    let n = blocks_of c.args.value.now in
+    let crowded = IsCrowded s.records c.args.owner c.args.key × SameButReads s t in
+    let lacks = LacksMet s.records c.args.owner c.args.key × SameButReads s t in
+    set_has (IsSetCause crowded lacks n t) c.from_residual.result _ c.from_residual.ensures.1 (set_caused_fault crowded lacks t n c.in_err-count.field-0.0)
 
-pub returns-then-count-ge-MOST_PROPERTIES-clause-exact : goal.returns-then-count-ge-MOST_PROPERTIES-clause-exact
-returns-then-count-ge-MOST_PROPERTIES-clause-exact g c tells =
+pub returns-then-count-ge-MOST_PROPERTIES-clause-caused : goal.returns-then-count-ge-MOST_PROPERTIES-clause-caused
+returns-then-count-ge-MOST_PROPERTIES-clause-caused g c tells =
+    let s = g.S.Reads.state c.args.space.now in
     let few = subst (IsPlaced c.args.owner c.args.key) c.in-Absent.is c.in_ok-count.ensures.placed in
-    omega (arith, few, c.if-count-ge-MOST_PROPERTIES.true)
+    let met = subst (IsMet s.records c.args.owner c.args.key) c.in-Absent.is (c.in_ok-count.ensures.met tells) in
+    let all : c.in-Absent.count ≡ 32 = omega (arith, few, c.if-count-ge-MOST_PROPERTIES.true) in
+    (all, ((met.0, sym met.1 ∙ all), reads_same 33 s (g.S.Reads.state c.find.new.space) c.find.ensures.at_most))
 
-pub returns-in_err-add-in-Absent-clause-exact : goal.returns-in_err-add-in-Absent-clause-exact
-returns-in_err-add-in-Absent-clause-exact g c tells =
+pub returns-in_err-add-in-Absent-clause-caused : goal.returns-in_err-add-in-Absent-clause-caused
+returns-in_err-add-in-Absent-clause-caused g c tells =
     let s = g.S.Reads.state c.args.space.now in
     let z = g.S.Reads.state c.find.new.space in
+    let t = g.S.Reads.state c.add.new.space in
+    let n = blocks_of c.args.value.now in
+    let crowded = IsCrowded s.records c.args.owner c.args.key × SameButReads s t in
+    let lacks = LacksMet s.records c.args.owner c.args.key × SameButReads s t in
+    let met = subst (IsMet s.records c.args.owner c.args.key) c.in-Absent.is (c.in_ok-count.ensures.met tells) in
     let fault = c.in_err-add-in-Absent.field-0.0 in
-    set_has (IsExact s.shape) c.from_residual-in_err-add-in-Absent.result fault c.from_residual-in_err-add-in-Absent.ensures.1
-    (subst (λ (h : Shape). IsExact h fault) (ap (λ (y : State). y.shape) (reads_same 33 s z c.find.ensures.at_most)) (c.in_err-add-in-Absent.ensures.exact tells))
+    set_has (IsSetCause crowded lacks n t) c.from_residual-in_err-add-in-Absent.result fault c.from_residual-in_err-add-in-Absent.ensures.1
+    (set_caused_more crowded (SameButReads z t) lacks (λ same. (met.0, same_then s z t (reads_same 33 s z c.find.ensures.at_most) same)) t n fault (c.in_err-add-in-Absent.ensures.caused tells))
 
-pub returns-in-Found-clause-exact : goal.returns-in-Found-clause-exact
-returns-in-Found-clause-exact g c tells =
+pub returns-in-Found-clause-caused : goal.returns-in-Found-clause-caused
+returns-in-Found-clause-caused g c tells =
+    let s = g.S.Reads.state c.args.space.now in
+    let t = g.S.Reads.state c.put_again.new.space in
+    let n = blocks_of c.args.value.now in
+    let crowded = IsCrowded s.records c.args.owner c.args.key × SameButReads s t in
+    let lacks = LacksMet s.records c.args.owner c.args.key × SameButReads s t in
+    IfErr-weaker c.put_again.result (IsSetCause ⊥ ⊥ n t) (IsSetCause crowded lacks n t) (λ fault why. set_caused_more crowded ⊥ lacks (λ none. absurd none) t n fault why) (c.put_again.ensures.caused tells)
+
+-- ---- what is blamed is broken still
+
+pub returns-in_err-count-clause-still : goal.returns-in_err-count-clause-still
+returns-in_err-count-clause-still g c tells used =
+    let s = g.S.Reads.state c.args.space.now in
+    let t = g.S.Reads.state c.find.new.space in
+    set_has (BlamesStill t) c.from_residual.result _ c.from_residual.ensures.1 (set_still_fault s t c.in_err-count.field-0.0 (c.in_err-count.ensures.damaged tells used) (reads_same 33 s t c.find.ensures.at_most))
+
+pub returns-in_err-add-in-Absent-clause-still : goal.returns-in_err-add-in-Absent-clause-still
+returns-in_err-add-in-Absent-clause-still g c tells used =
+    let t = g.S.Reads.state c.add.new.space in
+    set_has (BlamesStill t) c.from_residual-in_err-add-in-Absent.result c.in_err-add-in-Absent.field-0.0 c.from_residual-in_err-add-in-Absent.ensures.1 (c.in_err-add-in-Absent.ensures.still tells)
+
+pub returns-in-Found-clause-still : goal.returns-in-Found-clause-still
+returns-in-Found-clause-still g c tells used =
     let s = g.S.Reads.state c.args.space.now in
     let z = g.S.Reads.state c.find.new.space in
-    IfErr-weaker c.put_again.result (IsExact z.shape) (IsExact s.shape) (λ fault why. subst (λ (h : Shape). IsExact h fault) (ap (λ (y : State). y.shape) (same g c)) why) (c.put_again.ensures.exact tells)
+    let read = subst (λ (r : Records). IsReadRow r c.in-Found.spot.row) (sym (reads_records 33 s z c.find.ensures.at_most)) (subst (IsReadAt s.records) c.in-Found.is (c.in_ok-count.ensures.read tells)) in
+    c.put_again.ensures.still tells read
 
 pub returns-in_err-add-in-Absent-clause-cause : goal.returns-in_err-add-in-Absent-clause-cause
 returns-in_err-add-in-Absent-clause-cause g c =
