@@ -50,7 +50,7 @@ link_breaks s x link row damage live low (LeadsNowhere some above) =
     let r = rec_at s.records format.relationships_file x in
     let used = (some_row (kind_at s.records format.relationships_file x) (rel_in r x) row live).0 in
     let lt : x < rel_mark s = kind_below (rel_mark s) r x used in
-    RecordRange format.relationships_file x refl lt refl (λ fits. not_low (rel_mark s) link some above (low (λ e. used (kind_low (rel_mark s) r x lt ∙ e)) fits))
+    RecordRange format.relationships_file x refl lt (λ fits. not_low (rel_mark s) link some above (low (λ e. used (kind_low (rel_mark s) r x lt ∙ e)) fits))
 link_breaks s x link row damage live low (HighLink above) = mark_breaks s above
 
 pub prev_breaks : (s : State) (x n : ℕ) (row : RelRow) (damage : Damage) → rel_at s.records x ≡ Some row → IsLinkDamage s (prev_of s.records n x) (range_damage x) damage → Breaks s.records s.shape damage
@@ -83,7 +83,7 @@ head_breaks s head n damage (inl o) (LeadsNowhere some above) = subst At (sym o.
         let r = rec_at s.records format.nodes_file n in
         let lt = kind_below (high s.records format.nodes_file) r n (λ e. absurd (let k = o.sparse in omega arith)) in
         let kind : field 1 r format.kind ≡ format.sparse = sym (kind_low (high s.records format.nodes_file) r n lt) ∙ o.sparse in
-        RecordRange format.nodes_file n refl lt refl (λ fits. not_low (rel_mark s) (field 4 r format.node_first_link) some above (sparse_low (high s.records) r kind fits))
+        RecordRange format.nodes_file n refl lt (λ fits. not_low (rel_mark s) (field 4 r format.node_first_link) some above (sparse_low (high s.records) r kind fits))
 head_breaks s head n damage (inr o) (LeadsNowhere some above) = subst At (sym (group_head_is head o.row.id o.key)) here o some above
   where
     At : Head → Type 0
@@ -95,7 +95,7 @@ head_breaks s head n damage (inr o) (LeadsNowhere some above) = subst At (sym (g
         let r = rec_at s.records format.groups_file g in
         let live = group_live s n g head.field own in
         let used : field 1 r format.kind ≢ 0 = λ e. live.0 (kind_low (high s.records format.groups_file) r g live.1 ∙ e) in
-        RecordRange format.groups_file g refl live.1 refl (λ fits. not_low (rel_mark s) (field 4 r head.field) some above (group_low (high s.records) r head.field own.field used fits))
+        RecordRange format.groups_file g refl live.1 (λ fits. not_low (rel_mark s) (field 4 r head.field) some above (group_low (high s.records) r head.field own.field used fits))
 
 -- ---- the third rule
 

@@ -1,4 +1,4 @@
--- The heads that nodes own: each is a place of one node, and a relationship at a node stands at one of its heads.
+-- The heads that nodes own: each is a place of one node.
 use Rattle.std.proofs.Common.{◌≡◌, ◌≢◌, ◌⊎◌, ℕ, cond, Option, Some, List, [], ◌∷◌, sym, ap, ◌∙◌, subst, inl, inr, ⊎_elim, arith, refl}
 use Rattle.rec_bytes.specs.declared.key.Key.{Key}
 use Rattle.rec_bytes.specs.declared.record.Rec.{Rec}
@@ -10,6 +10,7 @@ use Rattle.store_rules.specs.Rules.{GroupHead, HasGroup, Head, IsEnd, IsGrouped,
 use Rattle.store_rules.specs.Views.{GroupRow, Records, RelRow, first_link, group_at, group_in, key_in, kind_at, rec_at, rel_at, rel_in}
 use Rattle.store_rules.proofs.GroupLaws.{same_group}
 use Rattle.store_rules.proofs.NumberLaws.{eq_false, eq_true, nat_cases}
+use Rattle.store_rules.proofs.OneHead.{end_on, only_head}
 use Rattle.store_rules.proofs.ViewLaws.{some_row}
 use Rattle.chain_edit.specs.Heads.{IsPlace}
 use Rattle.chain_edit.specs.Listed.{AreHeads}
@@ -36,10 +37,6 @@ ends_differ r n m a b ne = ⊎_elim
 -- the record of a relationship in use names the ends of its row
 pub end_in : (s : Records) (x n : ℕ) (row : RelRow) → rel_at s x ≡ Some row → IsEnd n row → IsEndOf (rec_at s format.relationships_file x) n
 end_in s x n row live end = subst (IsEnd n) (sym (some_row (kind_at s format.relationships_file x) (rel_in (rec_at s format.relationships_file x) x) row live).1) end
-
--- two heads in one record are one where their places are
-head_is : (h k : Head) → h.key ≡ k.key → h.field ≡ k.field → h ≡ k
-head_is h k key place = ap (λ z. record { key = z; field = h.field }) key ∙ ap (λ z. record { key = k.key; field = z }) place
 
 module _ (kind : ℕ → ℕ) (groups : ℕ → Option GroupRow) where
   head_file : (h : Head) (n : ℕ) → Owns kind groups h n → (h.key.file ≡ format.nodes_file) ⊎ (h.key.file ≡ format.groups_file)
@@ -86,31 +83,6 @@ module _ (kind : ℕ → ℕ) (groups : ℕ → Option GroupRow) where
   other_record h n m (inl o) ne e = ne (ap (λ (z : Key). z.id) e ∙ ap (λ (z : Head). z.key.id) o.is)
   other_record h n m (inr o) ne e = let f = ap (λ (z : Key). z.file) (e ∙ o.key) in omega arith
 
-  -- what is on a head of a group has the group's type, and the direction at the owner that the place says
-  on_group : (h : Head) (n : ℕ) (row : RelRow) (o : GroupHead kind groups h n) → IsOn groups h row
-      → (row.label ≡ o.row.label) × (((h.field ≡ format.group_first_out) × (row.from ≡ n) × (row.to ≢ n))
-      ⊎ (((h.field ≡ format.group_first_in) × (row.from ≢ n) × (row.to ≡ n)) ⊎ ((h.field ≡ format.group_first_loop) × (row.from ≡ n) × (row.to ≡ n))))
-  on_group h n row o (inl b) = absurd (let f = b.0 in let k = ap (λ (z : Key). z.file) o.key in omega arith)
-  on_group h n row o (inr b) =
-      let same : b.1.row ≡ o.row = same_group b.1.row o.row (sym b.1.group ∙ ap (λ (z : Key). groups z.id) o.key ∙ o.group) in
-      let owner : b.1.row.owner ≡ n = ap (λ (r : GroupRow). r.owner) same ∙ o.owner in (
-        b.1.label ∙ ap (λ (r : GroupRow). r.label) same,
-        subst (λ m. ((h.field ≡ format.group_first_out) × (row.from ≡ m) × (row.to ≢ m))
-            ⊎ (((h.field ≡ format.group_first_in) × (row.from ≢ m) × (row.to ≡ m)) ⊎ ((h.field ≡ format.group_first_loop) × (row.from ≡ m) × (row.to ≡ m)))) owner b.1.side,
-      )
-
-  -- what is on a head is at its node
-  pub end_on : (h : Head) (n : ℕ) (row : RelRow) → Owns kind groups h n → IsOn groups h row → IsEnd n row
-  end_on h n row (inl o) on = ⊎_elim
-      (λ (b : (h.key.file ≡ format.nodes_file) × IsEnd h.key.id row). subst (λ k. IsEnd k row) (ap (λ (z : Head). z.key.id) o.is) b.1)
-      (λ (b : (h.key.file ≡ format.groups_file) × IsInGroup groups h row). absurd (let f = b.0 in let k = ap (λ (z : Head). z.key.file) o.is in omega arith)) on
-  end_on h n row (inr o) on = ⊎_elim (λ k. inl k.1) (λ k. ⊎_elim (λ j. inr j.2) (λ j. inl j.1) k) (on_group h n row o on).1
-
-  -- a dense node whose head a relationship is on has a group of its type
-  pub on_has_group : (h : Head) (n : ℕ) (row : RelRow) → Owns kind groups h n → IsOn groups h row → kind n ≡ format.dense → HasGroup groups n row.label
-  on_has_group h n row (inl o) on dense = absurd (let p = o.sparse in omega arith)
-  on_has_group h n row (inr o) on dense = record { row = o.row; group = o.group; owner = o.owner; label = sym (on_group h n row o on).0 }
-
   -- the group of a head has what is on the head
   pub in_head_group : (h : Head) (n : ℕ) (row : RelRow) → Owns kind groups h n → IsOn groups h row → (g : ℕ) → In g (group_of_head h) → (at : ℕ) × IsInGroup groups (record { key = key_in format.groups_file g; field = at }) row
   in_head_group h n row o on g i = by (nat_cases h.key.file format.groups_file)
@@ -122,42 +94,12 @@ module _ (kind : ℕ → ℕ) (groups : ℕ → Option GroupRow) where
           let key : h.key ≡ key_in format.groups_file g = ap (λ f. record { file = f; id = h.key.id }) e ∙ ap (key_in format.groups_file) (sym same) in
           (h.field, ⊎_elim (λ k. absurd (let f = k.0 in omega arith)) (λ k. subst (λ z. IsInGroup groups (record { key = z; field = h.field }) row) key k.1) on)
 
--- a node has one head where a relationship of a row stands
 module _ (s : Records) (empty : List ℕ) (grouped : IsGrouped (kind_at s format.nodes_file) (first_link s) (rec_at s format.groups_file) (group_at s) empty) where
   abbrev Own : Head → ℕ → Type 0
   Own = Owns (kind_at s format.nodes_file) (group_at s)
-
-  type_is : (row : GroupRow) → group_at s row.id ≡ Some row → field 4 (rec_at s format.groups_file row.id) format.group_type ≡ row.label
-  type_is row is = ap (λ (r : GroupRow). r.label) (some_row (kind_at s format.groups_file row.id) (group_in (rec_at s format.groups_file row.id) row.id) row is).1
-
-  one_field : (h k : Head) (n : ℕ) (row : RelRow)
-      → ((h.field ≡ format.group_first_out) × (row.from ≡ n) × (row.to ≢ n)) ⊎ (((h.field ≡ format.group_first_in) × (row.from ≢ n) × (row.to ≡ n)) ⊎ ((h.field ≡ format.group_first_loop) × (row.from ≡ n) × (row.to ≡ n)))
-      → ((k.field ≡ format.group_first_out) × (row.from ≡ n) × (row.to ≢ n)) ⊎ (((k.field ≡ format.group_first_in) × (row.from ≢ n) × (row.to ≡ n)) ⊎ ((k.field ≡ format.group_first_loop) × (row.from ≡ n) × (row.to ≡ n)))
-      → h.field ≡ k.field
-  one_field h k n row (inl a) (inl b) = a.0 ∙ sym b.0
-  one_field h k n row (inl a) (inr (inl b)) = absurd (b.1 a.1)
-  one_field h k n row (inl a) (inr (inr b)) = absurd (a.2 b.2)
-  one_field h k n row (inr (inl a)) (inl b) = absurd (a.1 b.1)
-  one_field h k n row (inr (inl a)) (inr (inl b)) = a.0 ∙ sym b.0
-  one_field h k n row (inr (inl a)) (inr (inr b)) = absurd (a.1 b.1)
-  one_field h k n row (inr (inr a)) (inl b) = absurd (b.2 a.2)
-  one_field h k n row (inr (inr a)) (inr (inl b)) = absurd (b.1 a.1)
-  one_field h k n row (inr (inr a)) (inr (inr b)) = a.0 ∙ sym b.0
-
-  pub only_head : (h k : Head) (n : ℕ) (row : RelRow) → Own h n → Own k n → IsOn (group_at s) h row → IsOn (group_at s) k row → h ≡ k
-  only_head h k n row (inl a) (inl b) on at = a.is ∙ sym b.is
-  only_head h k n row (inl a) (inr b) on at = absurd (let p = a.sparse in let q = b.dense in omega (arith, p, q))
-  only_head h k n row (inr a) (inl b) on at = absurd (let p = b.sparse in let q = a.dense in omega (arith, p, q))
-  only_head h k n row (inr a) (inr b) on at =
-      let has = grouped.each n a.dense in
-      let p = on_group (kind_at s format.nodes_file) (group_at s) h n row a on in
-      let q = on_group (kind_at s format.nodes_file) (group_at s) k n row b at in
-      let group : a.row.id ≡ b.row.id = has.once a.row.id b.row.id (has.all a.row.id a.row a.group a.owner) (has.all b.row.id b.row b.group b.owner)
-      (type_is a.row a.group ∙ sym p.0 ∙ q.0 ∙ sym (type_is b.row b.group)) in
-      head_is h k (a.key ∙ ap (key_in format.groups_file) group ∙ sym b.key) (one_field h k n row p.1 q.1)
 
   -- chains of two heads use different links of a relationship that is on both
   pub heads_differ : (h k : Head) (n m : ℕ) (row : RelRow) (r : Rec) → Own h n → Own k m → h ≢ k → IsOn (group_at s) h row → IsOn (group_at s) k row
       → (IsEnd n row → IsEndOf r n) → (IsEnd m row → IsEndOf r m) → place_of r n ≢ place_of r m
   heads_differ h k n m row r a b ne on at of_n of_m = ends_differ r n m (of_n (end_on _ _ h n row a on)) (of_m (end_on _ _ k m row b at))
-      (λ same. ne (only_head h k n row a (subst (Own k) (sym same) b) on at))
+      (λ same. ne (only_head s empty grouped h k n row a (subst (Own k) (sym same) b) on at))

@@ -66,7 +66,7 @@ group_fault s row is (group.Damaged damage) told = by damage told
     by damage (NoList none) = OwnerGroups row.id below (λ keeps.
         let chain = keeps.groups is.dense in
         none chain.0 (subst (λ first. IsOwnedList s.records row.id first chain.0) (sym is.first) (owned_groups s.records row.id chain.0 chain.1)))
-    by damage (UnknownGroup g none low unknown) = RecordRange format.groups_file g refl low refl (λ fits. let layout = fits.is in cc)
+    by damage (UnknownGroup g none low unknown) = RecordRange format.groups_file g refl low (λ fits. let layout = fits.is in cc)
     by damage (HighMark above) = WrongMeta format.groups_file (omega arith) (λ meta. let right = meta.high in omega arith)
 
 -- the rows of a walk of groups are those of groups that can be walked

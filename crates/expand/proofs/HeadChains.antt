@@ -11,7 +11,7 @@ use Rattle.store_rules.specs.Views.{Records, RelRow, group_at, kind_at, rel_at}
 use Rattle.store_rules.proofs.ChainLaws.{walk_of_chain}
 use Rattle.store_rules.proofs.OnceLaws.{in_left, in_parts, in_right, once_both, once_walk}
 use Rattle.chain_edit.specs.Chains.{next_of}
-use Rattle.chain_edit.proofs.OwnedHeads.{only_head}
+use Rattle.store_rules.proofs.OneHead.{only_head}
 use Rattle.expand.specs.Walking.{AreWalks}
 use Rattle.store_rules.proofs.Members.{contains_cases, contains_first, contains_later, pairs_first, pairs_rest}
 

@@ -287,7 +287,7 @@ row_fault s n (row.Damaged damage) told = by damage told
   where
     by : (damage : Damage) → IsNodeDamage s n damage → Breaks s.records s.shape damage
     by damage (HighRow above) = WrongMeta format.nodes_file (omega arith) (λ meta. let right = meta.high in omega arith)
-    by damage (UnknownKind lt none) = RecordRange format.nodes_file n refl lt refl (λ fits. let is = fits.is in cc)
+    by damage (UnknownKind lt none) = RecordRange format.nodes_file n refl lt (λ fits. let is = fits.is in cc)
 
 -- ---- at most one read
 

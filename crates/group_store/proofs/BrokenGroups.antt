@@ -12,28 +12,28 @@ use Rattle.rec_bytes.specs.RecordFiles.{meta_key_of}
 use Rattle.rec_bytes.specs.Space.{SameButReads, State}
 use Rattle.id_freelist.proofs.TakeBreaches.{breaks_of}
 use Rattle.store_rules.specs.Breaking as breaking
-use Rattle.store_rules.specs.Breaking.{Breaks, IsHeadOf, MemberKeeps}
+use Rattle.store_rules.specs.Breaking.{Breaks, IsHeadOf, IsOwnedBy}
 use Rattle.store_rules.specs.Breaking.Breaks.{OwnerGroups, RecordRange, RelEnds, WrongMeta}
-use Rattle.store_rules.specs.Chains.{In, IsWalk}
+use Rattle.store_rules.specs.Chains.{In}
 use Rattle.store_rules.specs.Ranges.{Fits, Layout, Pointer, all_point, free_layout, group_layout, layout_by, may, must, node_layout, points}
 use Rattle.store_rules.specs.Rules.{Head, IsEnd, StandsAt}
 use Rattle.store_rules.specs.Views as views
 use Rattle.store_rules.specs.Views.{Records, RelRow, first_link, group_at, group_in, high, key_in, kind_at, rec_at, rel_at, rel_in}
 use Rattle.store_rules.proofs.ChainLaws.{walk_of_chain}
-use Rattle.store_rules.proofs.GroupLaws.{same_group}
+use Rattle.store_rules.proofs.ChainRules.{on_walk, same_rel}
+use Rattle.store_rules.proofs.GroupPlaces.{on_group}
 use Rattle.store_rules.proofs.LinkFits.{IsLow}
 use Rattle.store_rules.proofs.NumberLaws.{and_parts, eq_false}
 use Rattle.store_rules.proofs.ViewLaws.{kind_below, kind_low, some_row}
 use Rattle.chain_edit.specs.Breaks.{IsBreakFault}
 use Rattle.chain_edit.proofs.InRange.{low_points}
-use Rattle.chain_edit.proofs.Walks.{walk_is}
 use Rattle.node_store.specs.Loading.{IsNodeDamage}
 use Rattle.row_store.specs.Loading.IsRowDamage.{HighMark as HighNodes, UnknownKind}
 use Rattle.group_store.specs.Dropping.{IsDropDamage, IsDropFault}
 use Rattle.group_store.specs.Dropping.IsDropDamage.{BadMember, BadNext, BadPrevious}
 use Rattle.group_store.specs.Finding.{IsFindFault}
 use Rattle.group_store.specs.FirstGroup.{IsNodeFault}
-use Rattle.group_store.specs.GroupChain.{IsDense, IsOwnedBy, IsOwnedList, next_group, previous_group}
+use Rattle.group_store.specs.GroupChain.{IsDense, IsOwnedList, next_group, previous_group}
 use Rattle.group_store.specs.GroupRecord.{range_damage}
 use Rattle.group_store.specs.Links.{IsLinkDamage}
 use Rattle.group_store.specs.Links.IsLinkDamage.{LeadsNowhere, HighLink}
@@ -62,7 +62,7 @@ mark_breaks s above = WrongMeta format.groups_file (omega arith)
 pub node_breaks : (s : State) (n : ℕ) (damage : Damage) → IsNodeDamage s n damage → Breaks s.records s.shape damage
 node_breaks s n damage (HighNodes above) = WrongMeta format.nodes_file (omega arith)
     (λ (kept : IsMetaInRange s.shape format.nodes_file (s.records (meta_key_of format.nodes_file))). let few = kept.high in omega arith)
-node_breaks s n damage (UnknownKind low unknown) = RecordRange format.nodes_file n refl low refl (λ fits. let layout = fits.is in cc)
+node_breaks s n damage (UnknownKind low unknown) = RecordRange format.nodes_file n refl low (λ fits. let layout = fits.is in cc)
 
 pub node_fault_breaks : (s : State) (n : ℕ) (fault : Fault) → IsNodeFault s n fault → IsBreakFault s fault
 node_fault_breaks s n Memory told = tt
@@ -118,7 +118,7 @@ owned_groups records n members groups = record {
 
 pub walk_breaks : (s : State) (n : ℕ) → IsDense s.records n → (damage : Damage) → IsWalkDamage s n (first_link s.records n) damage → Breaks s.records s.shape damage
 walk_breaks s n dense damage (NoList none) = OwnerGroups n (dense_below s n dense) (λ keeps. let chain = keeps.groups dense in none chain.0 (owned_groups s.records n chain.0 chain.1))
-walk_breaks s n dense damage (UnknownGroup g none low unknown) = RecordRange format.groups_file g refl low refl (λ fits. let layout = fits.is in cc)
+walk_breaks s n dense damage (UnknownGroup g none low unknown) = RecordRange format.groups_file g refl low (λ fits. let layout = fits.is in cc)
 walk_breaks s n dense damage (HighMark above) = mark_breaks s above
 
 pub find_breaks : (s : State) (n : ℕ) → IsDense s.records n → (fault : Fault) → IsFindFault s n fault → IsBreakFault s fault
@@ -133,7 +133,7 @@ first_breaks s n dense damage (LeadsNowhere some above) =
     let r = rec_at s.records format.nodes_file n in
     let lt = dense_below s n dense in
     let kind : field 1 r format.kind ≡ format.dense = sym (kind_low (high s.records format.nodes_file) r n lt) ∙ dense in
-    RecordRange format.nodes_file n refl lt refl (λ fits. not_low (group_mark s) (first_link s.records n) some above (dense_low (high s.records) r kind fits))
+    RecordRange format.nodes_file n refl lt (λ fits. not_low (group_mark s) (first_link s.records n) some above (dense_low (high s.records) r kind fits))
 first_breaks s n dense damage (HighLink above) = mark_breaks s above
 
 pub make_breaks : (s : State) (n : ℕ) → IsDense s.records n → (fault : Fault) → IsMakeFault s n fault → IsOpenFault s fault
@@ -175,12 +175,12 @@ module _ (s : State) (n g : ℕ) (row : views.GroupRow) (is : group_at s.records
   used e = found.0 (kind_low (high s.records format.groups_file) (rec_at s.records format.groups_file g) g below ∙ e)
 
   link_breaks : (link : ℕ) (damage : Damage) → (Fits (high s.records) format.groups_file (rec_at s.records format.groups_file g) → IsLow (group_mark s) link) → IsLinkDamage s link (range_damage g) damage → Breaks s.records s.shape damage
-  link_breaks link damage low (LeadsNowhere some above) = RecordRange format.groups_file g refl below refl (λ fits. not_low (group_mark s) link some above (low fits))
+  link_breaks link damage low (LeadsNowhere some above) = RecordRange format.groups_file g refl below (λ fits. not_low (group_mark s) link some above (low fits))
   link_breaks link damage low (HighLink above) = mark_breaks s above
 
   member_breaks : (damage : Damage) → IsMemberDamage s n g damage → Breaks s.records s.shape damage
   member_breaks damage (NoMember none) = absurd (none owned)
-  member_breaks damage (UnknownMember low unknown) = RecordRange format.groups_file g refl low refl (λ fits. let layout = fits.is in cc)
+  member_breaks damage (UnknownMember low unknown) = RecordRange format.groups_file g refl low (λ fits. let layout = fits.is in cc)
   member_breaks damage (HighMember above) = mark_breaks s above
 
   drop_by : (damage : Damage) → IsDropDamage s n g damage → Breaks s.records s.shape damage
@@ -200,38 +200,25 @@ close_breaks s head n (inr o) file fault told = drop_breaks s n head.key.id o.ro
 
 -- ---- a relationship with no group
 
--- a relationship of a type of which the node has no group breaks the third rule, where each group is on its owner's chain
-pub no_group_breaks : (s : State) (n rel label : ℕ) (row : RelRow) → rel_at s.records rel ≡ Some row → IsEnd n row → row.label ≡ label → ((g : ℕ) → MemberKeeps s.records g) → LacksGroupOn s.records n label → Breaks s.records s.shape (end_damage rel)
-no_group_breaks s n rel label row live end typed members lacks =
+-- a relationship at a dense node with no group of its type on its chain breaks the third rule
+pub no_group_breaks : (s : State) (n rel label : ℕ) (row : RelRow) → rel_at s.records rel ≡ Some row → IsEnd n row → row.label ≡ label → LacksGroupOn s.records n label → Breaks s.records s.shape (end_damage rel)
+no_group_breaks s n rel label row live end typed lacks =
     RelEnds rel (kind_below (high s.records format.relationships_file) (rec_at s.records format.relationships_file rel) rel (some_row (kind_at s.records format.relationships_file rel) (rel_in (rec_at s.records format.relationships_file rel) rel) row live).0)
     (λ keeps. ⊎_elim (λ (e : row.from ≡ n). none (subst (λ m. breaking.EndKeeps s.records m rel) e (keeps.from row live))) (λ (e : row.to ≡ n). none (subst (λ m. breaking.EndKeeps s.records m rel) e (keeps.to row live))) end)
   where
     none : breaking.EndKeeps s.records n rel → ⊥
     none keeps =
         let chain = keeps.chain (inr lacks.dense) in
-        let stands = chain.chain.only rel chain.member in
-        by chain.head chain.owns stands
+        by chain.head chain.owns (chain.chain.only rel chain.member)
       where
-        by : (head : Head) → IsHeadOf s.records head n → StandsAt (rel_at s.records) (group_at s.records) head rel → ⊥
+        by : (head : Head) → breaking.IsChainHead s.records head n → StandsAt (rel_at s.records) (group_at s.records) head rel → ⊥
         by head (inl o) stands = let a = o.sparse in let b = lacks.dense in omega arith
-        by head (inr o) stands = ⊎_elim (λ k. absurd (let f = k.0 in let e = ap (λ (z : Key). z.file) o.key in omega arith))
-            (λ k.
-            let inside = k.1 in
-            let same : inside.row ≡ o.row = same_group inside.row o.row (sym inside.group ∙ ap (λ (z : Key). group_at s.records z.id) o.key ∙ o.group) in
-            let held = (members o.row.id).owner o.row o.group in
-            let walk = walk_of_chain _ _ format.nil (first_link s.records o.row.owner) held.members held.groups.chain in
-            let first : first_link s.records o.row.owner ≡ first_link s.records n = ap (first_link s.records) o.owner in
-            let is = walk_is (next_group s.records) (first_link s.records n) held.members lacks.members (subst (λ f. Walks f held.members) first walk) lacks.list.walk in
-            let row_is = (some_row (kind_at s.records format.groups_file o.row.id) (group_in (rec_at s.records format.groups_file o.row.id) o.row.id) o.row o.group).1 in
-            let live_row : stands.row ≡ row = same_rel stands.row row (sym stands.live ∙ live) in
-            lacks.lacks o.row.id (subst (λ xs. In o.row.id xs) is held.member)
-            (ap (λ (r : views.GroupRow). r.label) row_is ∙ sym (ap (λ (r : views.GroupRow). r.label) same) ∙ sym inside.label ∙ ap (λ (r : RelRow). r.label) live_row ∙ typed)) stands.on
-          where
-            Walks : ℕ → List ℕ → Type 0
-            Walks f xs = IsWalk (next_group s.records) f xs
-
-            same_rel : (a b : RelRow) → Some a ≡ Some b → a ≡ b
-            same_rel a b e = cc
+        by head (inr o) stands =
+            let row_is = (some_row (kind_at s.records format.groups_file o.own.row.id) (group_in (rec_at s.records format.groups_file o.own.row.id) o.own.row.id) o.own.row o.own.group).1 in
+            let live_row : stands.row ≡ row = same_rel s.records rel stands.row row stands.live live in
+            let here = (on_group (kind_at s.records format.nodes_file) (group_at s.records) head n o.own stands.row stands.on).0 in
+            lacks.lacks o.own.row.id (on_walk s.records n lacks.members lacks.list.walk o.own.row.id o.on)
+            (ap (λ (r : views.GroupRow). r.label) row_is ∙ sym here ∙ ap (λ (r : RelRow). r.label) live_row ∙ typed)
 
 -- ---- faults that are handed on
 

@@ -37,7 +37,7 @@ use Rattle.group_store.proofs.Regrouping.{IsFrame, others_stay, regroups_of}
 -- ---- the rules, in the words of what is left
 
 pub others_of : (records : Records) (shape : Shape) (most : ℕ) (empty : List ℕ) → KeepsRules records shape most empty → KeepsOthers records shape most
-others_of records shape most empty keeps = record { ranges = keeps.ranges; split = keeps.split; kept = keeps.kept; properties = keeps.properties; named = keeps.named; names = keeps.names; degrees = keeps.degrees }
+others_of records shape most empty keeps = record { ranges = keeps.ranges; split = keeps.split; kept = keeps.kept; properties = keeps.properties; named = keeps.named; names = keeps.names; degrees = keeps.degrees; unindexed = keeps.unindexed }
 
 -- ---- the record of the node
 
@@ -53,7 +53,7 @@ pub clear_kind : (r : Rec) → field 1 (clear_of r) format.kind ≡ format.dense
 clear_kind r = field-with_field_other 4 (with_field 1 r format.kind format.dense) format.node_first_link format.nil 1 format.kind (omega arith) (inr (omega arith))
     ∙ field-with_field_same 1 r format.kind format.dense (omega arith) (omega arith)
 
-clear_first : (r : Rec) → field 4 (clear_of r) format.node_first_link ≡ format.nil
+pub clear_first : (r : Rec) → field 4 (clear_of r) format.node_first_link ≡ format.nil
 clear_first r = field-with_field_same 4 (with_field 1 r format.kind format.dense) format.node_first_link format.nil (omega arith) (omega arith)
 
 abbrev layout_is : ℕ → Layout

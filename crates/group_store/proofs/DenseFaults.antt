@@ -42,10 +42,10 @@ can_of s n node most empty can = record { keeps = can.keeps; sparse = can.sparse
 
 -- ---- before anything is written
 
-pub broken_then : (s t : State) (node : ℕ) (fault : Fault) → IsBreakFault s fault → IsDenseFault s t node fault
-broken_then s t node Memory told = tt
-broken_then s t node Disk told = tt
-broken_then s t node (Damaged damage) told = inl told
+pub broken_then : (s t : State) (node : ℕ) (fault : Fault) → SameButReads s t → IsBreakFault s fault → IsDenseFault s t node fault
+broken_then s t node Memory same told = tt
+broken_then s t node Disk same told = tt
+broken_then s t node (Damaged damage) same told = inl (inl (inl (subst (λ (q : State). Breaks q.records q.shape damage) (sym same) told)))
 
 pub row_told : (s : State) (node before at : ℕ) (fault : RowFault) → rels.IsRelFault s at fault → IsStepFault s node before at (of_row fault)
 row_told s node before at rows.Disk told = tt
@@ -91,7 +91,7 @@ left_there s now node at count most empty came groups some left none = by left.r
 pub unmoved : (s now t : State) (node rel : ℕ) (fault : Fault) → IsMoveFault now t node rel fault → (rel_at now.records rel ≡ None → (most : ℕ) (empty : List ℕ) → ¬ CanBecomeDense s node most empty) → IsDenseFault s t node fault
 unmoved s now t node rel Memory told there = tt
 unmoved s now t node rel Disk told there = tt
-unmoved s now t node rel (Damaged damage) told there = ⊎_elim (λ late. inr (inl late)) (λ k. inr (inr (k.0, there k.1))) told
+unmoved s now t node rel (Damaged damage) told there = ⊎_elim (λ late. inl late) (λ k. inr (k.0, there k.1)) told
 
 -- ---- a group of a node that became dense
 
@@ -101,15 +101,14 @@ dense_read s z t node same Disk told = tt
 dense_read s z t node same (Damaged damage) told = by (subst (λ (q : State). IsDenseFault q t node (Damaged damage)) same told)
   where
     by : IsDenseFault (record s { reads = z.reads }) t node (Damaged damage) → IsDenseFault s t node (Damaged damage)
-    by (inl broken) = inl broken
-    by (inr (inl late)) = inr (inl late)
-    by (inr (inr k)) = inr (inr (k.0, λ most empty can. k.1 most empty (record { keeps = can.keeps; sparse = can.sparse })))
+    by (inl late) = inl late
+    by (inr k) = inr (k.0, λ most empty can. k.1 most empty (record { keeps = can.keeps; sparse = can.sparse }))
 
 pub not_opened : {T : Type 0} (s z t : State) (node : ℕ) (r : Result T Fault) → IfErr r (IsOpenFault z) → OnDamage r (SameButReads z t) → IfErr r (IsDenseFault s t node)
 not_opened s z t node (Ok x) told same = tt
 not_opened s z t node (Err Memory) told same = tt
 not_opened s z t node (Err Disk) told same = tt
-not_opened s z t node (Err (Damaged damage)) told same = inr (inl (inl (subst (λ (q : State). IsOpenFault q (Damaged damage)) (sym same) told)))
+not_opened s z t node (Err (Damaged damage)) told same = inl (inl (subst (λ (q : State). IsOpenFault q (Damaged damage)) (sym same) told))
 
 -- ---- what is told of an end, by the space as it is then
 

@@ -4,12 +4,13 @@ use Rattle.std.proofs.lemmas.Bool.{and_parts, eqb-true, true≢false}
 use Rattle.rec_bytes.specs.declared.record.Rec.{Rec}
 use Rattle.rec_bytes.specs.Format as format
 use Rattle.rec_bytes.specs.Record.{field}
+use Rattle.store_rules.specs.Breaking.{IsOwnedBy}
 use Rattle.store_rules.specs.Views.{Records, high, is_group_kind, kind_at, rec_at}
 use Rattle.store_rules.proofs.NumberLaws.{eq_true}
 use Rattle.store_rules.proofs.ViewLaws.{group_used, kind_below, kind_low}
 use Rattle.rec_bytes.specs.Space.{State}
 use Rattle.store_rules.specs.Ranges.{layout_by}
-use Rattle.group_store.specs.GroupChain.{IsGroupOf, IsOwnedBy, is_group_of}
+use Rattle.group_store.specs.GroupChain.{IsGroupOf, is_group_of}
 use Rattle.group_store.specs.GroupRecord.{range_damage}
 use Rattle.group_store.specs.Loading.{group_mark}
 use Rattle.group_store.specs.Walking.{IsMemberDamage, chain_damage, member_damage}

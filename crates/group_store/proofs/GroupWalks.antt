@@ -12,6 +12,7 @@ use Rattle.rec_bytes.specs.Format as format
 use Rattle.rec_bytes.specs.RecordFiles.{room_of}
 use Rattle.rec_bytes.specs.Space.{State, after_get, after_gets}
 use Rattle.rec_bytes.proofs.Spaces.{after_gets-zero, after_gets_more, records-after_gets}
+use Rattle.store_rules.specs.Breaking.{IsOwnedBy}
 use Rattle.store_rules.specs.Chains.{In, IsWalk}
 use Rattle.store_rules.specs.Views.{Records, high, rec_at}
 use Rattle.rec_bytes.specs.declared.record.Rec.{Rec}
@@ -22,7 +23,7 @@ use Rattle.rec_bytes.specs.declared.fault.Fault.{Fault}
 use Rattle.rec_bytes.specs.declared.fault.Fault.TheVariants.{Memory, Disk, Damaged}
 use Rattle.group_store.specs.declared.group_row.GroupRow.{GroupRow}
 use Rattle.rec_bytes.specs.Fault.{NotDamaged}
-use Rattle.group_store.specs.GroupChain.{IsGroupList, IsGroupOf, IsOwnedBy, IsOwnedList, next_group}
+use Rattle.group_store.specs.GroupChain.{IsGroupList, IsGroupOf, IsOwnedList, next_group}
 use Rattle.group_store.specs.Loading.{HasNoKind, group_mark, group_room}
 use Rattle.group_store.specs.Walking.{IsMemberDamage, IsMemberFault, IsWalkDamage, IsWalkFault, IsWalkable, group_row_at}
 use Rattle.group_store.specs.Walking.IsMemberDamage.{NoMember, UnknownMember, HighMember}

@@ -1,3 +1,5 @@
+pub mod Additions
+pub mod Arrivals
 pub mod BrokenGroups
 pub mod Causes
 pub mod ChainHeads
@@ -12,6 +14,7 @@ pub mod DroppedRules
 pub mod Drops
 pub mod ExactGroups
 pub mod FirstGroups
+pub mod Gathers
 pub mod GroupCounts
 pub mod GroupPuts
 pub mod GroupRecords

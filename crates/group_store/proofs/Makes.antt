@@ -127,7 +127,7 @@ taken_low : (free : List ℕ) (mark id : ℕ) → id ≡ first_of free mark → 
 taken_low [] mark id is low = omega arith
 taken_low (y ∷ later) mark id is low = let l = low y (inl refl) in omega arith
 
-rest_once : (next : ℕ → ℕ) (from mark id : ℕ) (free : List ℕ) → id ≡ first_of free mark → IsWalk next from free → In id (rest_of free) → ⊥
+pub rest_once : (next : ℕ → ℕ) (from mark id : ℕ) (free : List ℕ) → id ≡ first_of free mark → IsWalk next from free → In id (rest_of free) → ⊥
 rest_once next from mark id [] is walk i = elim i [ ]
 rest_once next from mark id (y ∷ later) is walk i = head_once next y later walk.1 walk.2 (subst (λ z. In z later) is i)
 
@@ -307,6 +307,7 @@ module _ (s u : State) (node label id : ℕ) (free xs : List ℕ)
   unfolding now first rec new
   has_made = record {
     is = refl;
+    first_free = taken.is;
     here = row_here;
     chain = chain_here;
     others = chain_other;
@@ -314,4 +315,5 @@ module _ (s u : State) (node label id : ℕ) (free xs : List ℕ)
     mark = mark;
     live = ap (λ r. (metas.meta_of r).live) (meta_stays u node first id rec) ∙ taken.live;
     stays = λ key a b c d. stays u node first id rec key b c d ∙ taken.others key a;
+    numbers = λ g n at fits ne apart. number g n at fits ne apart;
   }

@@ -31,7 +31,8 @@ use Rattle.chain_edit.proofs.AllPushed.{all_listed_pushed, all_listed_same, all_
 use Rattle.store_rules.proofs.ChainSteps.{first_in, on_test}
 use Rattle.chain_edit.proofs.Edits.{elsewhere-backed}
 use Rattle.chain_edit.proofs.LinkLaws.{elsewhere-set_next, elsewhere-set_prev, next_of-set_prev, place-set_prev, prev_of-set_prev_other, prev_of-set_prev_same}
-use Rattle.chain_edit.proofs.OwnedHeads.{end_in, end_on, ends_differ, only_head, owned_heads}
+use Rattle.store_rules.proofs.OneHead.{end_on, only_head}
+use Rattle.chain_edit.proofs.OwnedHeads.{end_in, ends_differ, owned_heads}
 use Rattle.chain_edit.proofs.Pushes.{has_pushed}
 use Rattle.group_store.specs.declared.side.Side.{Side}
 use Rattle.group_store.specs.declared.side.Side.TheVariants.{Out, In as Into, Loop}
@@ -66,7 +67,7 @@ at_side g node label row end = on_test (λ (side : Side). IsSide (sides.place_of
     (λ (e : row.from ≡ node). inl (refl, e, λ k. ne (e ∙ sym k)))
     (λ (a : row.from ≢ node). inr (inl (refl, a, ⊎_elim (λ e. absurd (a e)) (λ e. e) end))))
 
-in_group : (groups : ℕ → Option views.GroupRow) (g node label : ℕ) (row : RelRow) → groups g ≡ Some (record { id = g; label = label; owner = node }) → row.label ≡ label → IsEnd node row
+pub in_group : (groups : ℕ → Option views.GroupRow) (g node label : ℕ) (row : RelRow) → groups g ≡ Some (record { id = g; label = label; owner = node }) → row.label ≡ label → IsEnd node row
     → IsInGroup groups (group_head g (side_at node row.from row.to)) row
 in_group groups g node label row group typed end = record {
   row = record { id = g; label = label; owner = node };
@@ -117,7 +118,7 @@ pushed_stepped s m shape node rel g at h place grouped related first_kind =
     subst (λ (r : Rec). HasStepped s (put c.records (group_key g) (with_field 4 r at rel)) shape node) (group_same g)
     (step_chain s c.records shape node next g at rel place group_is rel_low)
 
-pushed_shape : (m : State) (h : Head) (node rel : ℕ) → (pushed m h node rel).shape ≡ m.shape
+pub pushed_shape : (m : State) (h : Head) (node rel : ℕ) → (pushed m h node rel).shape ≡ m.shape
 unfolding pushed backed
 pushed_shape m h node rel = on_test (λ (q : State). q.shape ≡ m.shape) (first_of m.records h) format.nil (after_get m) (prev_set (after_get m) node (first_of m.records h) rel) (λ _. refl) (λ _. refl)
 

@@ -35,6 +35,7 @@ may_be s shape most few many more well = record {
   named = well.named;
   names = well.names;
   degrees = well.degrees;
+  unindexed = well.unindexed;
 }
 
 -- one that isn't empty needn't be named
@@ -60,6 +61,7 @@ is_not s shape most g empty filled well = record {
   named = well.named;
   names = well.names;
   degrees = well.degrees;
+  unindexed = well.unindexed;
 }
 
 -- ---- spaces that differ in their reads alone

@@ -18,7 +18,7 @@ use Rattle.store_rules.specs.Rows.{collect, ids}
 use Rattle.store_rules.specs.Rules.{AreNamed, AreNames, HaveProperties, IsSplit, PropertyFiles, degree_of, next_free, property_files}
 use Rattle.store_rules.specs.Views.{GroupRow, NodeRow, Records, RelRow, degree, group_at, high, is_live, key_in, kind_at, kind_in, node_at, node_in, rec_at, rel_at, row_if, text_of}
 use Rattle.store_rules.proofs.ChainLaws.{walk_stays}
-use Rattle.store_rules.proofs.Frames.{IsSame, files_same, records_same, split_same}
+use Rattle.store_rules.proofs.Frames.{IsSame, files_same, kind_same, records_same, split_same}
 use Rattle.store_rules.proofs.MetaLaws.{meta_of_reused, not_meta_key}
 use Rattle.store_rules.proofs.NumberLaws.{nat_cases}
 use Rattle.store_rules.proofs.ViewLaws.{kind_by, live_true, row_some}
@@ -185,6 +185,7 @@ module _ (s t : Records) (node : ℕ) (h : IsFrame s t node) where
           ∙ ap (λ (r : ℕ → Option RelRow). degree_of r (high s format.relationships_file) n) (sym rels_same) ∙ ap (λ m. degree_of (rel_at t) m n) (sym (mark_same format.relationships_file (λ e. omega arith)));
       few = λ n is. let e = degree_same n in let b = old.degrees.few n (sparse_was n is) in omega arith;
     };
+    unindexed = λ x. kind_same s t format.index_file (file_same format.index_file refl (λ e. omega arith) (λ e. omega arith) (λ e. omega arith)) x ∙ old.unindexed x;
   }
 
 -- the groups of other nodes stay besides

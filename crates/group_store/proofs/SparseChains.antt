@@ -28,10 +28,11 @@ use Rattle.chain_edit.specs.Breaks.{IsBreakFault}
 use Rattle.chain_edit.specs.Chains.{next_of, prev_of}
 use Rattle.chain_edit.proofs.Broken.{no_chain}
 use Rattle.group_store.specs.Raising.{degree_damage}
-use Rattle.group_store.specs.SparseChain.{IsMet, IsSparseDamage, IsSparseFault, IsStepDamage, IsStepFault}
+use Rattle.group_store.specs.SparseChain.{AreReadable, IsMet, IsSparseDamage, IsSparseFault, IsStepDamage, IsStepFault}
 use Rattle.group_store.specs.SparseChain.IsStepDamage.{NotMet, BadRow}
 use Rattle.group_store.specs.SparseChain.IsSparseDamage.{NoChain, MoreThanSaid, BadRelationship}
 use Rattle.group_store.proofs.Clearing.{stands_true}
+use Rattle.group_store.proofs.GroupWalks.{IsUndamaged}
 
 -- ---- a row that was read
 
@@ -50,14 +51,22 @@ links_are records node at row links is of =
 
 -- ---- what is left of a chain
 
--- a part of the chain is left, from this one on, each of which stands at the node
-pub record HasTail (s : State) (node before at : ℕ) : Type 0 where
+-- All of the chain but the first so many is left, from this one on, and each stands at the node.
+pub record HasTail (s : State) (node before at n : ℕ) (xs : List ℕ) : Type 0 where
   pub left : List ℕ
   pub chain : IsChain (next_of s.records node) (prev_of s.records node) before at left
   pub only : (x : ℕ) → In x left → StandsAt (rel_at s.records) (group_at s.records) (node_head node) x
+  pub among : (x : ℕ) → In x left → In x xs
+  pub many : length left + n ≡ length xs
 
-pub tail_all : (s : State) (node first : ℕ) (xs : List ℕ) → first ≡ first_link s.records node → IsHeadChain s.records (node_head node) node xs → HasTail s node format.nil first
-tail_all s node first xs is c = record { left = xs; chain = subst (λ f. IsChain (next_of s.records node) (prev_of s.records node) format.nil f xs) (sym is) c.chain; only = c.only }
+pub tail_all : (s : State) (node first : ℕ) (xs : List ℕ) → first ≡ first_link s.records node → IsHeadChain s.records (node_head node) node xs → HasTail s node format.nil first 0 xs
+tail_all s node first xs is c = record {
+  left = xs;
+  chain = subst (λ f. IsChain (next_of s.records node) (prev_of s.records node) format.nil f xs) (sym is) c.chain;
+  only = c.only;
+  among = λ x i. i;
+  many = omega arith;
+}
 
 end_stands : (s : State) (node x : ℕ) → StandsAt (rel_at s.records) (group_at s.records) (node_head node) x → stands_in node (rel_at s.records x) ≡ true
 end_stands s node x a = ap (stands_in node) a.live ∙ stands_true node a.row (end_of a.on)
@@ -66,23 +75,32 @@ end_stands s node x a = ap (stands_in node) a.live ∙ stands_true node a.row (e
     end_of (inl k) = k.1
     end_of (inr k) = absurd (let z = k.0 in omega arith)
 
-pub tail_met : (s : State) (node before at : ℕ) → at ≢ format.nil → HasTail s node before at → IsMet s.records node before at
-tail_met s node before at some t = by t.left t.chain t.only
-  where
-    by : (ys : List ℕ) → IsChain (next_of s.records node) (prev_of s.records node) before at ys → ((x : ℕ) → In x ys → StandsAt (rel_at s.records) (group_at s.records) (node_head node) x) → IsMet s.records node before at
-    by [] chain only = absurd (some chain)
-    by (y ∷ ys) chain only = subst (λ z. IsMet s.records node before z) (sym chain.0) (record { stands = end_stands s node y (only y (inl refl)); back = chain.2 })
+module _ (s : State) (node before at n : ℕ) (xs : List ℕ) (some : at ≢ format.nil) (t : HasTail s node before at n xs) where
+  tail_first : {P : Type 0} → ((ys : List ℕ) → IsChain (next_of s.records node) (prev_of s.records node) before at (at ∷ ys) → ((x : ℕ) → In x (at ∷ ys) → In x t.left) → length ys + (n + 1) ≡ length xs → P) → P
+  tail_first {P} found = by t.left t.chain (λ x i. i) t.many
+    where
+      by : (ys : List ℕ) → IsChain (next_of s.records node) (prev_of s.records node) before at ys → ((x : ℕ) → In x ys → In x t.left) → length ys + n ≡ length xs → P
+      by [] chain from many = absurd (some chain)
+      by (y ∷ ys) chain from many = found ys (subst (λ z. IsChain (next_of s.records node) (prev_of s.records node) before at (z ∷ ys)) (sym chain.0) chain)
+          (λ x i. from x (subst (λ z. In x (z ∷ ys)) chain.0 i)) (omega arith)
 
-pub tail_next : (s : State) (node before at next : ℕ) → at ≢ format.nil → next_of s.records node at ≡ next → HasTail s node before at → HasTail s node at next
-tail_next s node before at next some link t = by t.left t.chain t.only
-  where
-    by : (ys : List ℕ) → IsChain (next_of s.records node) (prev_of s.records node) before at ys → ((x : ℕ) → In x ys → StandsAt (rel_at s.records) (group_at s.records) (node_head node) x) → HasTail s node at next
-    by [] chain only = absurd (some chain)
-    by (y ∷ ys) chain only =
-        let nexts = next_of s.records node in
-        let prevs = prev_of s.records node in
-        let on : IsChain nexts prevs at (nexts at) ys = subst (λ z. IsChain nexts prevs z (nexts z) ys) (sym chain.0) chain.3 in
-        record { left = ys; chain = subst (λ z. IsChain nexts prevs at z ys) link on; only = λ x i. only x (inr i) }
+  pub tail_in : In at xs
+  tail_in = tail_first (λ ys chain from many. t.among at (from at (inl refl)))
+
+  pub tail_low : n < length xs
+  tail_low = tail_first (λ ys chain from many. omega arith)
+
+  pub tail_met : IsMet s.records node before at
+  tail_met = tail_first (λ ys chain from many. record { stands = end_stands s node at (t.only at (from at (inl refl))); back = chain.2 })
+
+  pub tail_next : (next : ℕ) → next_of s.records node at ≡ next → HasTail s node at next (n + 1) xs
+  tail_next next link = tail_first (λ ys chain from many. record {
+    left = ys;
+    chain = subst (λ z. IsChain (next_of s.records node) (prev_of s.records node) at z ys) link chain.3;
+    only = λ x i. t.only x (from x (inr i));
+    among = λ x i. t.among x (from x (inr i));
+    many = many;
+  })
 
 -- ---- what was met
 
@@ -125,21 +143,35 @@ row_read s n x damage (HighMark above) = HighMark above
 row_read s n x damage (UnknownKind low unknown) = UnknownKind low unknown
 
 -- a step that fails
-pub step_told : (s z : State) (node count before at : ℕ) → SameButReads s z → at ≢ format.nil → ((xs : List ℕ) → IsHeadChain s.records (node_head node) node xs → HasTail s node before at)
+pub step_told : (s z : State) (node count before at n : ℕ) → SameButReads s z → at ≢ format.nil → ((xs : List ℕ) → IsHeadChain s.records (node_head node) node xs → HasTail s node before at n xs)
     → (fault : Fault) → IsStepFault z node before at fault → IsSparseFault s node count fault
-step_told s z node count before at same some tail Memory told = tt
-step_told s z node count before at same some tail Disk told = tt
-step_told s z node count before at same some tail (Damaged damage) told = by damage (subst (λ (q : State). IsStepDamage q node before at damage) same told)
+step_told s z node count before at n same some tail Memory told = tt
+step_told s z node count before at n same some tail Disk told = tt
+step_told s z node count before at n same some tail (Damaged damage) told = by damage (subst (λ (q : State). IsStepDamage q node before at damage) same told)
   where
     by : (damage : Damage) → IsStepDamage (record s { reads = z.reads }) node before at damage → IsSparseDamage s node count damage
-    by damage (NotMet lacks) = NoChain (λ xs c. lacks (tail_met s node before at some (tail xs c)))
+    by damage (NotMet lacks) = NoChain (λ xs c. lacks (tail_met s node before at n xs some (tail xs c)))
     by damage (BadRow d bad) = BadRelationship at d (row_read s z.reads at d bad)
+
+-- none does in a chain of relationships that can be read
+pub step_sound : (s z : State) (node before at n : ℕ) (xs : List ℕ) → SameButReads s z → at ≢ format.nil → AreReadable s xs → HasTail s node before at n xs → (fault : Fault) → IsStepFault z node before at fault → IsUndamaged fault
+step_sound s z node before at n xs same some readable tail Memory told = tt
+step_sound s z node before at n xs same some readable tail Disk told = tt
+step_sound s z node before at n xs same some readable tail (Damaged damage) told = by damage (subst (λ (q : State). IsStepDamage q node before at damage) same told)
+  where
+    row : (d : Damage) → IsRowDamage format.relationships_file (record s { reads = z.reads }) at d → ⊥
+    row d (HighMark above) = let few = (readable at (tail_in s node before at n xs some tail)).mark in omega arith
+    row d (UnknownKind low unknown) = (readable at (tail_in s node before at n xs some tail)).kind low unknown
+
+    by : (damage : Damage) → IsStepDamage (record s { reads = z.reads }) node before at damage → ⊥
+    by damage (NotMet lacks) = lacks (tail_met s node before at n xs some tail)
+    by damage (BadRow d bad) = row d bad
 
 -- a relationship that can't be read
 pub rel_breaks : (s : State) (x : ℕ) (damage : Damage) → IsRowDamage format.relationships_file s x damage → Breaks s.records s.shape damage
 rel_breaks s x damage (HighMark above) = WrongMeta format.relationships_file (omega arith)
     (λ (kept : IsMetaInRange s.shape format.relationships_file (s.records (meta_key_of format.relationships_file))). let few = kept.high in omega arith)
-rel_breaks s x damage (UnknownKind low unknown) = RecordRange format.relationships_file x refl low refl (λ fits. let layout = fits.is in cc)
+rel_breaks s x damage (UnknownKind low unknown) = RecordRange format.relationships_file x refl low (λ fits. let layout = fits.is in cc)
 
 module _ (s : State) (node : ℕ) (sparse : kind_at s.records format.nodes_file node ≡ format.sparse) where
   used : kind_at s.records format.nodes_file node ≢ 0

@@ -1,6 +1,6 @@
 -- What a changed number of a head's relationships leaves, and that it counts one more, or one less.
 use Rattle.std.proofs.Common.{◌≡◌, ◌≢◌, ◌⊎◌, ℕ, ◌+◌, ◌-◌, ◌<◌, ◌≤◌, ◌^◌, nat_eq, Bool, true, false, cond, sym, ap, ◌∙◌, subst, inl, inr, ⊎_elim, arith, refl}
-use Rattle.std.proofs.lemmas.Bool.{eqb-true, eqb-false}
+use Rattle.std.proofs.lemmas.Bool.{eqb-true, eqb-false, true≢false}
 use Rattle.rec_bytes.specs.declared.key.Key.{Key}
 use Rattle.rec_bytes.specs.declared.record.Rec.{Rec}
 use Rattle.rec_bytes.specs.Format as format
@@ -56,7 +56,7 @@ key_cases a b = ⊎_elim
     (λ (i : a.id ≢ b.id). inr (λ e. i (ap (λ (k : Key). k.id) e))) (nat_cases a.id b.id))
     (λ (f : a.file ≢ b.file). inr (λ e. f (ap (λ (k : Key). k.file) e))) (nat_cases a.file b.file)
 
-count_high : (at : ℕ) → (32 ≤ count_place at) × (count_place at + 4 ≤ 44) × IsCountPlace (count_place at)
+pub count_high : (at : ℕ) → (32 ≤ count_place at) × (count_place at + 4 ≤ 44) × IsCountPlace (count_place at)
 count_high at = by (nat_eq at 20) (nat_eq at 24)
   where
     by : (a b : Bool) → (32 ≤ cond a 32 (cond b 36 40)) × (cond a 32 (cond b 36 40) + 4 ≤ 44) × IsCountPlace (cond a 32 (cond b 36 40))
@@ -76,6 +76,29 @@ field-tallied change t head key n at low = tally_cases change t head (λ z. fiel
     (λ _ _. ⊎_elim
     (λ (e : key ≡ head.key). ap (λ k. field n (put t.records head.key (t.records head.key) k) at) e ∙ ap (λ r. field n r at) (put_same t.records head.key (t.records head.key)) ∙ ap (λ k. field n (t.records k) at) (sym e))
     (λ (ne : key ≢ head.key). ap (λ r. field n r at) (put_other t.records head.key (t.records head.key) key ne)) (key_cases key head.key))
+
+-- and each number that stands apart from the one of the head
+pub apart-tallied : (change : ℕ → ℕ) (t : State) (head : Head) (key : Key) (n at : ℕ) → at + n ≤ 64 → (key ≡ head.key → (at + n ≤ count_place head.field) ⊎ (count_place head.field + 4 ≤ at))
+    → field n ((tallied change t head).records key) at ≡ field n (t.records key) at
+apart-tallied change t head key n at inside apart = tally_cases change t head (λ z. field n (z.records key) at ≡ field n (t.records key) at) (λ _. refl)
+    (λ _ _. by (with_field 4 (t.records head.key) (count_place head.field) (change (field 4 (t.records head.key) (count_place head.field))))
+    (λ e. field-with_field_other 4 (t.records head.key) (count_place head.field) (change (field 4 (t.records head.key) (count_place head.field))) n at inside (⊎_elim (λ low. inr low) (λ high. inl high) (apart e))))
+    (λ _ _. by (t.records head.key) (λ _. refl))
+  where
+    by : (r : Rec) → (key ≡ head.key → field n r at ≡ field n (t.records head.key) at) → field n (put t.records head.key r key) at ≡ field n (t.records key) at
+    by r same = ⊎_elim
+        (λ (e : key ≡ head.key). ap (λ k. field n (put t.records head.key r k) at) e ∙ ap (λ q. field n q at) (put_same t.records head.key r) ∙ same e ∙ ap (λ k. field n (t.records k) at) (sym e))
+        (λ (ne : key ≢ head.key). ap (λ q. field n q at) (put_other t.records head.key r key ne)) (key_cases key head.key)
+
+-- the number itself, of a counted group
+pub count-tallied : (change : ℕ → ℕ) (t : State) (head : Head) → head.key.file ≡ format.groups_file → is_counted (t.records head.key) ≡ true → change (field 4 (t.records head.key) (count_place head.field)) < 2 ^ 32
+    → field 4 ((tallied change t head).records head.key) (count_place head.field) ≡ change (field 4 (t.records head.key) (count_place head.field))
+count-tallied change t head file counted small =
+    let n = change (field 4 (t.records head.key) (count_place head.field)) in
+    tally_cases change t head (λ z. field 4 (z.records head.key) (count_place head.field) ≡ n) (λ other. absurd (other file))
+    (λ _ _. ap (λ r. field 4 r (count_place head.field)) (put_same t.records head.key (with_field 4 (t.records head.key) (count_place head.field) n))
+    ∙ field-with_field_same 4 (t.records head.key) (count_place head.field) n (let b = (count_high head.field).1 in omega arith) small)
+    (λ _ plain. absurd (true≢false (sym counted ∙ plain)))
 
 -- ---- as a step among links and degrees
 

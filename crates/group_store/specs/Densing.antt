@@ -7,13 +7,15 @@ use Rattle.rec_bytes.specs.Format as format
 use Rattle.rec_bytes.specs.RecordFiles.{room_of}
 use Rattle.rec_bytes.specs.Space.{State, meta_of}
 use Rattle.store_rules.specs.Ends.{Regroups}
-use Rattle.store_rules.specs.Breaking.{Breaks}
-use Rattle.store_rules.specs.Rules.{Head, KeepsRules}
-use Rattle.store_rules.specs.Views.{Records, degree, kind_at, rel_at}
+use Rattle.store_rules.specs.Breaking.{IsHeadChain}
+use Rattle.store_rules.specs.Chains.{In}
+use Rattle.store_rules.specs.Rules.{Head, KeepsRules, node_head}
+use Rattle.store_rules.specs.Views.{Records, degree, high, kind_at, rel_at}
 use Rattle.chain_edit.specs.Pushing.{IsPushFault}
-use Rattle.group_store.specs.Leaving.{LeavesOthers}
+use Rattle.group_store.specs.GroupChain.{IsGroupOf}
+use Rattle.group_store.specs.Leaving.{LeavesApart, LeavesOthers}
 use Rattle.group_store.specs.Opening.{IsOpenFault}
-use Rattle.group_store.specs.Spreading.{HasCountedGroups, rels_damage}
+use Rattle.group_store.specs.Spreading.{CanTakeEach, HasCountedGroups, HasSpread, rels_damage}
 use Rattle.group_store.specs.Walking.{chain_damage}
 
 -- The node is sparse, in a store that keeps the rules, but that these groups may be empty.
@@ -41,6 +43,37 @@ pub record HasDenseRoom (s : State) (node threshold : ℕ) (empty : List ℕ) : 
 abbrev pub IsSparse : Records → ℕ → Type 0
 IsSparse records node = kind_at records format.nodes_file node ≡ format.sparse
 
+-- The sparse node has these relationships on its own chain and no group, and groups can be made.
+pub record CanSpread (s : State) (node : ℕ) (members free : List ℕ) : Type 0 where
+  pub sparse : IsSparse s.records node
+  pub chain : IsHeadChain s.records (node_head node) node members
+  pub none : (g : ℕ) → ¬ IsGroupOf s.records node g
+  pub take : CanTakeEach s free
+
+-- The degree of the node is the number of these relationships and at most so many. There is room
+-- for all nodes and relationships that were given out, and for a group for each of these, which are
+-- of the kind that relationships have.
+pub record HasSpreadRoom (s : State) (node threshold : ℕ) (members : List ℕ) : Type 0 where
+  pub exact : degree s.records node ≡ length members
+  pub few : length members ≤ threshold
+  pub nodes : high s.records format.nodes_file ≤ room_of s.shape format.nodes_file
+  pub rels : high s.records format.relationships_file
+      ≤ room_of s.shape format.relationships_file
+  pub known : (x : ℕ) → In x members
+      → kind_at s.records format.relationships_file x ≡ format.related
+  pub room : (meta_of s format.groups_file).live + length members
+      ≤ room_of s.shape format.groups_file
+
+-- The node is dense, and its relationships are in the chains of its groups: each in just one, that
+-- of its type and its side. The groups were made of records that weren't in use. Of relationships
+-- and groups only these changed, and of relationships only their links for the node.
+pub record SpreadsChain (s t : State) (node : ℕ) (members : List ℕ) : Type 0 where
+  pub groups : List ℕ
+  pub spread : HasSpread t.records node groups members
+  pub fresh : (g : ℕ) → In g groups
+      → kind_at s.records format.groups_file g ≡ format.free_kind
+  pub leaves : LeavesApart s.records t.records node members groups
+
 -- What is told while the relationships come into groups, of the space as it is then. The record
 -- that is said to be damaged breaks the rule, or it is a group whose first link leads nowhere, or
 -- the file of groups is full.
@@ -56,17 +89,17 @@ IsMoveFault s t node rel Disk = Unit {0}
 IsMoveFault s t node rel (Damaged damage) =
     IsLateDamage t damage ⊎ ((damage ≡ rels_damage node) × (rel_at s.records rel ≡ None))
 
--- Why a sparse node doesn't become dense. The record that is said to be damaged breaks the rule in
--- the space as it was: all of the node's own chain is read then. Or it is told later, of the space
--- as it is. That the node's relationships aren't those that were read may be told later only where
--- the store broke some rule.
+-- What is told where a node in use doesn't become dense, by the space as it is then. That its
+-- relationships aren't those that were read is told only where the store broke some rule.
+abbrev pub IsDenseDamage : State → State → ℕ → Damage → Type 0
+IsDenseDamage s t node damage =
+    IsLateDamage t damage ⊎ ((damage ≡ rels_damage node)
+    × ((most : ℕ) (empty : List ℕ) → ¬ CanBecomeDense s node most empty))
+
 abbrev pub IsDenseFault : State → State → ℕ → Fault → Type 0
 IsDenseFault s t node Memory = Unit {0}
 IsDenseFault s t node Disk = Unit {0}
-IsDenseFault s t node (Damaged damage) =
-    Breaks s.records s.shape damage ⊎ (IsLateDamage t damage
-    ⊎ ((damage ≡ rels_damage node)
-    × ((most : ℕ) (empty : List ℕ) → ¬ CanBecomeDense s node most empty)))
+IsDenseFault s t node (Damaged damage) = IsDenseDamage s t node damage
 
 -- What is told where no head is found or made for an end, by the space as it is then. It is so, or
 -- the node's relationships aren't those that were read. Or the node isn't in use.

@@ -3,6 +3,7 @@ use Rattle.std.specs.Prelude.{◌≡◌, ◌≢◌, ℕ, nat_eq, Bool, true, ◌
 use Rattle.rec_bytes.specs.declared.record.Rec.{Rec}
 use Rattle.rec_bytes.specs.Format as format
 use Rattle.rec_bytes.specs.Record.{field}
+use Rattle.store_rules.specs.Breaking.{IsOwnedBy}
 use Rattle.store_rules.specs.Chains.{In, IsChain, IsWalk}
 use Rattle.store_rules.specs.Views.{Records, first_link, is_group_kind, kind_at, rec_at}
 
@@ -27,11 +28,6 @@ IsDense records node = kind_at records format.nodes_file node ≡ format.dense
 -- a group in use that the node owns
 pub record IsGroupOf (records : Records) (node g : ℕ) : Type 0 where
   pub kind : is_group_kind (kind_at records format.groups_file g) ≡ true
-  pub owner : group_field records format.group_owner g ≡ node
-
--- a record in use, of whatever kind, that the node owns
-pub record IsOwnedBy (records : Records) (node g : ℕ) : Type 0 where
-  pub used : kind_at records format.groups_file g ≢ format.free_kind
   pub owner : group_field records format.group_owner g ≡ node
 
 -- the record says so, by its kind and its owner

@@ -1,5 +1,5 @@
 -- What a change of a node's groups leaves of all other records.
-use Rattle.std.specs.Prelude.{◌≡◌, ◌≢◌, ◌⊎◌, ℕ, ◌+◌, ◌≤◌, Some}
+use Rattle.std.specs.Prelude.{◌≡◌, ◌≢◌, ◌⊎◌, ℕ, ◌+◌, ◌≤◌, List, Some}
 use Rattle.rec_bytes.specs.declared.key.Key.{Key}
 use Rattle.rec_bytes.specs.declared.record.Rec.{Rec}
 use Rattle.rec_bytes.specs.Format as format
@@ -7,7 +7,7 @@ use Rattle.rec_bytes.specs.Record.{field}
 use Rattle.rec_bytes.specs.RecordFiles.{meta_key_of}
 use Rattle.rec_bytes.specs.Space.{State}
 use Rattle.store_rules.specs.Breaking.{IsHeadOf}
-use Rattle.store_rules.specs.Chains.{place_of}
+use Rattle.store_rules.specs.Chains.{In, place_of}
 use Rattle.store_rules.specs.Rules.{Head}
 use Rattle.store_rules.specs.Views.{GroupRow, Records, group_at, is_group_kind, kind_at, rec_at}
 use Rattle.node_store.specs.NodeRecord.{node_key}
@@ -60,6 +60,20 @@ pub record LeavesBeside (s t : Records) (node : ℕ) : Type 0 where
       ⊎ (format.relationship_first_property ≤ at)
       → field n (rec_at t format.relationships_file x) at
       ≡ field n (rec_at s format.relationships_file x) at
+
+-- Whatever the records are: of relationships only these are other, and of them only the two links
+-- that a chain of the node uses. Of groups only those are.
+pub record LeavesApart (s t : Records) (node : ℕ) (rels groups : List ℕ) : Type 0 where
+  pub others : (x n at : ℕ) → x ≢ format.nil → ¬ In x rels → at + n ≤ format.record_bytes
+      → field n (rec_at t format.relationships_file x) at
+      ≡ field n (rec_at s format.relationships_file x) at
+  pub links : (x n at : ℕ) → at + n ≤ format.record_bytes
+      → (at + n ≤ place_of (rec_at s format.relationships_file x) node)
+      ⊎ (place_of (rec_at s format.relationships_file x) node + 8 ≤ at)
+      → field n (rec_at t format.relationships_file x) at
+      ≡ field n (rec_at s format.relationships_file x) at
+  pub groups_stay : (g n at : ℕ) → g ≢ format.nil → ¬ In g groups → at + n ≤ format.record_bytes
+      → field n (rec_at t format.groups_file g) at ≡ field n (rec_at s format.groups_file g) at
 
 -- Whatever the records are: of a group only its kind and its numbers are other, and each is in use
 -- as it was. No record of another file is other.

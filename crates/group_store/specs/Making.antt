@@ -1,19 +1,20 @@
 -- A group that is made, first on the chain of its node.
-use Rattle.std.specs.Prelude.{◌≡◌, ◌≢◌, ℕ, ◌+◌, true, List, [], ◌∷◌}
+use Rattle.std.specs.Prelude.{◌≡◌, ◌≢◌, ◌⊎◌, ℕ, ◌+◌, ◌≤◌, true, List, [], ◌∷◌}
 use Rattle.id_freelist.specs.FreeLists.{IsFreeList}
 use Rattle.id_freelist.specs.Taking as taking
-use Rattle.id_freelist.specs.Taking.{CanTake, IsTakeDamage, mark_after, rest_of, taken_id}
+use Rattle.id_freelist.specs.Taking.{CanTake, IsTakeDamage, first_of, mark_after, rest_of}
+use Rattle.id_freelist.specs.Taking.{taken_id}
 use Rattle.node_store.specs.Loading.{IsNodeDamage}
 use Rattle.node_store.specs.NodeRecord.{node_key}
 use Rattle.rec_bytes.specs.declared.damage.Damage.{Damage}
 use Rattle.rec_bytes.specs.declared.key.Key.{Key}
 use Rattle.rec_bytes.specs.declared.record.Rec.{Rec}
 use Rattle.rec_bytes.specs.Format as format
-use Rattle.rec_bytes.specs.Record.{zeros}
+use Rattle.rec_bytes.specs.Record.{field, zeros}
 use Rattle.rec_bytes.specs.RecordFiles.{meta_key_of}
 use Rattle.rec_bytes.specs.Space.{State, after_get, after_put, after_set, meta_in, meta_of}
 use Rattle.rec_bytes.specs.Tables.{Fields, with_fields}
-use Rattle.store_rules.specs.Views.{Records, first_link, high}
+use Rattle.store_rules.specs.Views.{Records, first_link, high, rec_at}
 use Rattle.rec_bytes.specs.declared.fault.Fault.{Fault}
 use Rattle.rec_bytes.specs.declared.fault.Fault.TheVariants.{Memory, Disk, Damaged}
 use Rattle.group_store.specs.declared.group_row.GroupRow.{GroupRow}
@@ -71,10 +72,11 @@ pub record CanMake (s : State) (node label : ℕ) (free xs : List ℕ) : Type 0 
 
 -- The node's chain has the empty group in front, and each other node's chain is as it was. The
 -- identifier was taken, and no record changed but the file's meta record, the node's, the group's
--- and that of the group that stood first.
+-- and that of the group that stood first, of which only the link to the group before it did.
 pub record HasMade (old new : Records) (node label : ℕ) (row : GroupRow) (free xs : List ℕ)
     : Type 0 where
   pub is : row ≡ empty_row row.id label
+  pub first_free : row.id ≡ first_of free (high old format.groups_file)
   pub here : group_row_at new row.id ≡ row
   pub chain : IsGroupChain new node (row.id ∷ xs)
   pub others : (m : ℕ) (ys : List ℕ) → m ≢ node → IsGroupChain old m ys → IsGroupChain new m ys
@@ -83,6 +85,9 @@ pub record HasMade (old new : Records) (node label : ℕ) (row : GroupRow) (free
   pub live : (meta_in new format.groups_file).live ≡ (meta_in old format.groups_file).live + 1
   pub stays : (key : Key) → key ≢ meta_key_of format.groups_file → key ≢ node_key node
       → key ≢ group_key row.id → key ≢ group_key (first_link old node) → new key ≡ old key
+  pub numbers : (g n at : ℕ) → at + n ≤ format.record_bytes → g ≢ row.id
+      → (g ≡ first_link old node → (at + n ≤ format.group_previous) ⊎ (format.group_next ≤ at))
+      → field n (rec_at new format.groups_file g) at ≡ field n (rec_at old format.groups_file g) at
 
 -- the first link of a node leads nowhere
 abbrev pub link_damage : ℕ → Damage

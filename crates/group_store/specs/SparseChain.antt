@@ -5,8 +5,10 @@ use Rattle.rec_bytes.specs.declared.fault.Fault.{Fault}
 use Rattle.rec_bytes.specs.declared.fault.Fault.TheVariants.{Memory, Disk, Damaged}
 use Rattle.rec_bytes.specs.Format as format
 use Rattle.rec_bytes.specs.Space.{State}
+use Rattle.rel_store.specs.Loading as rels
 use Rattle.row_store.specs.Loading.{IsRowDamage}
 use Rattle.store_rules.specs.Breaking.{IsHeadChain}
+use Rattle.store_rules.specs.Chains.{In}
 use Rattle.store_rules.specs.Rules.{degree_of, node_head, stands_in}
 use Rattle.store_rules.specs.Views.{Records, high, rel_at}
 use Rattle.chain_edit.specs.Chains.{next_of, prev_of}
@@ -34,12 +36,17 @@ IsStepFault s node before at Memory = Unit {0}
 IsStepFault s node before at Disk = Unit {0}
 IsStepFault s node before at (Damaged damage) = IsStepDamage s node before at damage
 
+-- each of these relationships can be read
+abbrev pub AreReadable : State → List ℕ → Type 0
+AreReadable s xs = (x : ℕ) → In x xs → rels.IsReadable s x
+
 -- The sparse node has no right chain, or more relationships than this, or a record of one can't be
 -- read.
 pub data IsSparseDamage (s : State) (node count : ℕ) : Damage → Type 0 where
   NoChain : ((members : List ℕ) → ¬ IsHeadChain s.records (node_head node) node members)
       → IsSparseDamage s node count (rels_damage node)
-  MoreThanSaid : count < degree_of (rel_at s.records) (high s.records format.relationships_file) node
+  MoreThanSaid : count
+      < degree_of (rel_at s.records) (high s.records format.relationships_file) node
       → IsSparseDamage s node count (degree_damage node)
   BadRelationship : (x : ℕ) (damage : Damage)
       → IsRowDamage format.relationships_file s x damage → IsSparseDamage s node count damage

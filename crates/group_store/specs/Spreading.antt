@@ -5,19 +5,26 @@ use Rattle.std.specs.Prelude.{Some, List, length}
 use Rattle.std.specs.List.{list_any}
 use Rattle.chain_edit.specs.Chains.{next_of}
 use Rattle.node_store.specs.NodeRecord.{node_key}
+use Rattle.group_store.specs.declared.side.Side.{Side}
+use Rattle.group_store.specs.Counting.{count_place}
+use Rattle.group_store.specs.GroupChain.{IsDense, IsGroupChain, type_of}
 use Rattle.group_store.specs.Leaving.{LeavesOthers}
+use Rattle.group_store.specs.Opening.{IsAt}
+use Rattle.group_store.specs.Sides.{group_head, place_of}
+use Rattle.id_freelist.specs.Taking.{CanTake}
 use Rattle.rec_bytes.specs.declared.damage.Damage.{Damage}
 use Rattle.rec_bytes.specs.declared.shape.Shape.{Shape}
 use Rattle.rec_bytes.specs.Format as format
-use Rattle.rec_bytes.specs.Record.{with_field}
+use Rattle.rec_bytes.specs.Record.{field, with_field}
 use Rattle.rec_bytes.specs.RecordFiles.{is_meta_file, room_of}
 use Rattle.rec_bytes.specs.Space.{State, after_get, after_put, meta_of}
+use Rattle.store_rules.specs.Breaking.{IsHeadChain}
 use Rattle.store_rules.specs.Chains.{In, IsWalk}
 use Rattle.store_rules.specs.Ends.{Regroups}
 use Rattle.store_rules.specs.Ranges.{AreInRange, is_reused}
 use Rattle.store_rules.specs.Rules.{AllListed, AreAllLive, AreCounted, AreNamed, AreNames, HasEnds}
-use Rattle.store_rules.specs.Rules.{HasGroup, HaveProperties, Head, IsEnd, IsGrouped, IsSplit, Owns}
-use Rattle.store_rules.specs.Rules.{HasCounts, StandsAt, property_files}
+use Rattle.store_rules.specs.Rules.{HasGroup, HasNoIndex, HaveProperties, Head, IsEnd, IsGrouped}
+use Rattle.store_rules.specs.Rules.{HasCounts, IsSplit, Owns, StandsAt, property_files}
 use Rattle.store_rules.specs.Views.{GroupRow, Records, RelRow, degree, first_link, group_at, high}
 use Rattle.store_rules.specs.Views.{is_live, kind_at, node_at, rec_at, rel_at}
 
@@ -36,6 +43,7 @@ pub record KeepsOthers (records : Records) (shape : Shape) (most : ℕ) : Type 0
   pub names : AreNames (rec_at records format.names_file) (high records format.names_file)
   pub degrees : AreCounted (kind_at records format.nodes_file) (degree records) (rel_at records)
       (high records format.relationships_file) most
+  pub unindexed : HasNoIndex records
 
 -- the head is that of a chain of one of the node's groups
 pub record IsHeadOf (groups : ℕ → Option GroupRow) (node : ℕ) (h : Head) : Type 0 where
@@ -130,6 +138,54 @@ cleared s node =
     let rec = s.records (node_key node) in
     after_put (after_get s) (node_key node)
     (with_field 4 (with_field 1 rec format.kind format.dense) format.node_first_link format.nil)
+
+-- ---- the same by what the node has alone, whatever other records are
+
+-- a relationship in use at the node, of the type and on the side
+pub record IsMember (records : Records) (node label : ℕ) (side : Side) (x : ℕ) : Type 0 where
+  pub row : RelRow
+  pub live : rel_at records x ≡ Some row
+  pub at : IsAt node label side row
+
+-- The chain on one side of the group has just those of these relationships that are of its type and
+-- on that side, and the group says how many.
+pub record HasSide (records : Records) (node : ℕ) (came : List ℕ) (g : ℕ) (side : Side)
+    : Type 0 where
+  pub members : List ℕ
+  pub list : IsHeadChain records (group_head g side) node members
+  pub are : (x : ℕ) → In x members
+      → In x came × IsMember records node (type_of records g) side x
+  pub all : (x : ℕ) → In x came → IsMember records node (type_of records g) side x → In x members
+  pub count : field 4 (rec_at records format.groups_file g) (count_place (place_of side))
+      ≡ length members
+
+-- The node is dense and has just these groups, linked both ways, each counted and with a type of
+-- its own, which one of these relationships has. Each of them is in a chain of its type's group.
+pub record HasSpread (records : Records) (node : ℕ) (groups came : List ℕ) : Type 0 where
+  pub dense : IsDense records node
+  pub chain : IsGroupChain records node groups
+  pub counted : (g : ℕ) → In g groups → kind_at records format.groups_file g ≡ format.counted
+  pub typed : (g : ℕ) → In g groups → (x : ℕ) × (side : Side)
+      × (In x came × IsMember records node (type_of records g) side x)
+  pub placed : (x : ℕ) → In x came → (g : ℕ) × (side : Side)
+      × (In g groups × IsMember records node (type_of records g) side x)
+  pub sides : (g : ℕ) → In g groups → (side : Side) → HasSide records node came g side
+
+-- A group can be made of each of the free identifiers, one after another: all others below the mark
+-- are counted.
+pub record CanTakeEach (s : State) (free : List ℕ) : Type 0 where
+  pub take : CanTake s format.groups_file free
+  pub exact : (meta_of s format.groups_file).live + length free ≡ high s.records format.groups_file
+
+-- These relationships came into these groups of the node, and its links lead through the rest from
+-- this one on.
+pub record IsSpreading (s : State) (node at : ℕ) (came rest groups free : List ℕ) : Type 0 where
+  pub spread : HasSpread s.records node groups came
+  pub take : CanTakeEach s free
+  pub walk : IsWalk (next_of s.records node) at rest
+  pub ends : (x : ℕ) → In x rest
+      → (row : RelRow) × (rel_at s.records x ≡ Some row) × IsEnd node row
+  pub apart : (x : ℕ) → In x rest → ¬ In x came
 
 -- the relationships of the node break the third rule
 abbrev pub rels_damage : ℕ → Damage

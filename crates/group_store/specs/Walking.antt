@@ -6,11 +6,12 @@ use Rattle.rec_bytes.specs.Format as format
 use Rattle.rec_bytes.specs.Format.{groups_file, nodes_file}
 use Rattle.rec_bytes.specs.Record.{field}
 use Rattle.rec_bytes.specs.Space.{State}
+use Rattle.store_rules.specs.Breaking.{IsOwnedBy}
 use Rattle.store_rules.specs.Views.{Records, rec_at}
 use Rattle.rec_bytes.specs.declared.fault.Fault.{Fault}
 use Rattle.rec_bytes.specs.declared.fault.Fault.TheVariants.{Memory, Disk, Damaged}
 use Rattle.group_store.specs.declared.group_row.GroupRow.{GroupRow}
-use Rattle.group_store.specs.GroupChain.{IsGroupList, IsOwnedBy, IsOwnedList}
+use Rattle.group_store.specs.GroupChain.{IsGroupList, IsOwnedList}
 use Rattle.group_store.specs.GroupRecord.{range_damage, row_of}
 use Rattle.group_store.specs.Loading.{HasNoKind, group_mark, group_room, mark_damage}
 

@@ -1,26 +1,32 @@
-ghost use Rattle.std.specs.Prelude.{◌≡◌, ◌≢◌, ◌⊎◌, ◌≤◌, ◌∷◌, [], ◌+◌, ◌*◌, ℕ, List, true, IfErr, IfOk, OnOk};
+ghost use Rattle.std.specs.Prelude.{◌≡◌, ◌≢◌, ◌⊎◌, ◌≤◌, ◌∷◌, [], ◌+◌, ◌*◌, ℕ, List, true};
+ghost use Rattle.std.specs.Prelude.{IfErr, IfOk, OnOk};
+ghost use Rattle.node_store.specs.Loading as nodes;
 ghost use Rattle.node_store.specs.NodeRecord.{node_key};
 ghost use Rattle.rec_bytes.specs.Key.{IsKey};
 ghost use Rattle.rec_bytes.specs.RecordFiles.{meta_key_of};
 ghost use Rattle.rec_bytes.specs.Format.{groups_file};
 ghost use Rattle.id_freelist.specs.Taking.{room};
 ghost use Rattle.rec_bytes.specs.Space.{HasCause, SameButReads, WritesOnly, meta_of};
+ghost use Rattle.rel_store.specs.Loading as rels;
 ghost use Rattle.rel_store.specs.RelRecord.{rel_key};
 ghost use Rattle.store_rules.specs.Ends.{Regroups};
 ghost use Rattle.store_rules.specs.Views.{degree};
 ghost use Rattle.store_rules.specs.Writes.{WritesBeside};
 ghost use Rattle.group_store.specs.Touching.{TouchesGroups};
 ghost use Rattle.chain_edit.specs.Links.{prev_set};
-ghost use Rattle.group_store.specs.Densing.{BecomesDense, CanBecomeDense, HasDenseRoom};
+ghost use Rattle.group_store.specs.Densing.{BecomesDense, CanBecomeDense, CanSpread, HasDenseRoom};
+ghost use Rattle.group_store.specs.Densing.{HasSpreadRoom, SpreadsChain};
 ghost use Rattle.group_store.specs.Densing.{IsDenseFault, IsEndFault, IsMoveFault, IsSparse};
-ghost use Rattle.group_store.specs.GroupChain.{IsDense};
+ghost use Rattle.group_store.specs.GroupChain.{IsDense, IsGroupChain};
 ghost use Rattle.rec_bytes.specs.Fault.{HasFaultCause, NotDamaged, OnDamage};
 ghost use Rattle.group_store.specs.GroupRecord.{group_key};
 ghost use Rattle.group_store.specs.Leaving.{LeavesBeside, LeavesOthers};
-ghost use Rattle.group_store.specs.Moving.{GrowsBy, IsOwnTurn, turn_keys};
+ghost use Rattle.group_store.specs.Moving.{ComesIn, GrowsBy, HasAdded, HasFound, IsOwnTurn};
+ghost use Rattle.group_store.specs.Moving.{turn_keys};
 ghost use Rattle.group_store.specs.Opening.{IsOpenFault};
 ghost use Rattle.group_store.specs.Raising.{IsGroupAt};
-ghost use Rattle.group_store.specs.Spreading.{HasEndRoom, HasOpened, IsSpread, KeepsBut, cleared};
+ghost use Rattle.group_store.specs.Spreading.{CanTakeEach, HasEndRoom, HasOpened, IsSpread};
+ghost use Rattle.group_store.specs.Spreading.{IsSpreading, KeepsBut, cleared};
 ghost use Rattle.group_store.specs.Walking.{group_row_at};
 
 use crate::Side;
@@ -51,6 +57,12 @@ pub fn make_dense<S: Space>(space: &mut S, node: u32, threshold: u32) -> Result<
     ensures sound { S.tells → (most : ℕ) (empty : List ℕ)
         → CanBecomeDense (S.state space.old) node most empty
         → HasDenseRoom (S.state space.old) node threshold empty → NotDamaged result }
+    ensures spread { S.tells → OnOk result ((members free : List ℕ)
+        → CanSpread (S.state space.old) node members free
+        → SpreadsChain (S.state space.old) (S.state space.new) node members) }
+    ensures never { S.tells → (members free : List ℕ)
+        → CanSpread (S.state space.old) node members free
+        → HasSpreadRoom (S.state space.old) node threshold members → NotDamaged result }
     ensures damaged { S.tells → IsSparse (S.state space.old).records node
         → (S.state space.old).shape.threshold ≤ threshold
         → IfErr result (IsDenseFault (S.state space.old) (S.state space.new) node) }
@@ -136,6 +148,14 @@ fn move_one<S: Space>(space: &mut S, node: u32, rel: u32) -> Result<Turn, Fault>
     ensures own { S.tells → IfOk result (λ turn. (rest : List ℕ) (most : ℕ) (empty : List ℕ)
         → IsSpread (S.state space.old) node rel (rel ∷ rest) most empty
         → IsOwnTurn (S.state space.old) (S.state space.new) node (rel ∷ rest) turn) }
+    ensures local { S.tells → IfOk result (λ turn. (came rest groups free : List ℕ)
+        → IsSpreading (S.state space.old) node rel came (rel ∷ rest) groups free
+        → ComesIn (S.state space.old) (S.state space.new) node rel came rest groups turn) }
+    ensures never { S.tells → (came rest groups free : List ℕ)
+        → IsSpreading (S.state space.old) node rel came (rel ∷ rest) groups free
+        → nodes.IsReadable (S.state space.old) node → rels.IsReadable (S.state space.old) rel
+        → (meta_of (S.state space.old) groups_file).live ≢ room (S.state space.old) groups_file
+        → NotDamaged result }
     ensures damaged { S.tells → IsDense (S.state space.old).records node
         → IfErr result (IsMoveFault (S.state space.old) (S.state space.new) node rel) }
     ensures dense { S.tells → IsDense (S.state space.old).records node
@@ -179,6 +199,17 @@ pub(crate) fn own_group<S: Space>(space: &mut S, node: u32, label: u32) -> Resul
     ensures sound { S.tells → (rest : List ℕ) (most : ℕ) (empty : List ℕ)
         → KeepsBut (S.state space.old).records (S.state space.old).shape node rest most empty
         → IsDense (S.state space.old).records node
+        → (meta_of (S.state space.old) groups_file).live ≢ room (S.state space.old) groups_file
+        → NotDamaged result }
+    ensures local { S.tells → IfOk result (λ own. (groups free : List ℕ)
+        → IsDense (S.state space.old).records node
+        → IsGroupChain (S.state space.old).records node groups
+        → CanTakeEach (S.state space.old) free
+        → HasFound (S.state space.old) (S.state space.new) label groups own
+        ⊎ HasAdded (S.state space.old) (S.state space.new) node label groups free own) }
+    ensures never { S.tells → (groups free : List ℕ) → IsDense (S.state space.old).records node
+        → IsGroupChain (S.state space.old).records node groups
+        → CanTakeEach (S.state space.old) free → nodes.IsReadable (S.state space.old) node
         → (meta_of (S.state space.old) groups_file).live ≢ room (S.state space.old) groups_file
         → NotDamaged result }
     ensures key { IfOk result (λ own. IsKey (group_key own.row.id)) }

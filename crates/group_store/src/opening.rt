@@ -7,7 +7,7 @@ ghost use Rattle.rec_bytes.specs.Format.{groups_file};
 ghost use Rattle.rec_bytes.specs.Key.{IsKey};
 ghost use Rattle.rec_bytes.specs.RecordFiles.{is_meta_file};
 ghost use Rattle.rec_bytes.specs.Space.{SameButReads, WritesOnly};
-ghost use Rattle.store_rules.specs.Breaking.{IsHeadOf, MemberKeeps};
+ghost use Rattle.store_rules.specs.Breaking.{IsHeadOf};
 ghost use Rattle.store_rules.specs.Views.{RelRow, rel_at};
 ghost use Rattle.store_rules.specs.Writes.{WritesBeside};
 ghost use Rattle.node_store.specs.Loading.{IsReadable};
@@ -77,8 +77,7 @@ pub fn open_head<S: Space>(
         → IsEndOf (S.state space.old) node label side most empty x row → NotDamaged result }
     ensures damaged { S.tells → IfErr result (IsHeadFault (S.state space.old) node rel label) }
     ensures breaks { S.tells → (row : RelRow) → rel_at (S.state space.old).records rel ≡ Some row
-        → IsAt node label side row → ((g : ℕ) → MemberKeeps (S.state space.old).records g)
-        → IfErr result (IsBreakFault (S.state space.old)) }
+        → IsAt node label side row → IfErr result (IsBreakFault (S.state space.old)) }
     ensures unwritten { OnDamage result (SameButReads (S.state space.old) (S.state space.new)) }
     ensures owns { S.tells → IsDense (S.state space.old).records node
         ⊎ IsSparse (S.state space.old).records node
@@ -171,6 +170,8 @@ pub fn open_chain<S: Space>(
         → HasGroupRoom (S.state space.old) empty → NotDamaged result }
     ensures damaged { S.tells → IsDense (S.state space.old).records node ⊎ (degree ≢ threshold)
         → IfErr result (IsOpenFault (S.state space.old)) }
+    ensures unwritten { S.tells → IsDense (S.state space.old).records node ⊎ (degree ≢ threshold)
+        → OnDamage result (SameButReads (S.state space.old) (S.state space.new)) }
     ensures blames { S.tells → IsDense (S.state space.old).records node
         ⊎ IsSparse (S.state space.old).records node
         → (S.state space.old).shape.threshold ≤ threshold

@@ -1,3 +1,5 @@
+use Rattle.store_rules.specs.Breaking.{IsHeadChain}
+use Rattle.store_rules.specs.Rules.{node_head}
 use Rattle.std.proofs.Common.{◌≡◌, ◌≢◌, ◌∙◌, ◌+◌, ◌*◌, length, ap, subst, sym, inl, inr, arith}
 use Rattle.rec_bytes.specs.declared.damage.Damage.{Damage}
 use Rattle.rec_bytes.specs.Fault.{of_row}
@@ -7,11 +9,12 @@ use Rattle.node_store.proofs.Rows.{kind-row_at-None as no_node_row, kind-row_at-
 use Rattle.store_rules.specs.Breaking.{Breaks}
 use Rattle.group_store.specs.Densing.{CanBecomeDense}
 use Rattle.group_store.specs.GroupChain.{IsDense}
+use Rattle.group_store.proofs.Arrivals.{members_read, part_all, part_known, part_next, part_none, readable_after, sparse_read, turn_over, turn_sound}
 use Rattle.group_store.proofs.BrokenGroups.{node_fault_breaks}
 use Rattle.group_store.proofs.ChainHeads.{same_twice}
 use Rattle.group_store.proofs.DenseFaults.{broken_then, can_of, end_broken, end_moved, left_there, none_unused, sparse_known, sparse_undamaged, unmoved}
 use Rattle.group_store.proofs.DenseStays.{dense_cleared}
-use Rattle.group_store.proofs.GroupWalks.{not_damaged}
+use Rattle.group_store.proofs.GroupWalks.{not_damaged, not_damaged_at}
 use Rattle.group_store.proofs.Raises.{breaks_read}
 use Rattle.group_store.proofs.Seeks.{dense_is, first_is}
 use Rattle.group_store.proofs.SparseChains.{many_break, sparse_breaks}
@@ -23,7 +26,7 @@ use Rattle.group_store.proofs.FirstGroups.{node_fault, only_loads_node}
 use Rattle.group_store.proofs.Comings.{come_beside, come_next, come_none, come_touches, one_longer}
 use Rattle.group_store.proofs.Touches.{node_touched, touches_beside, touches_more, touches_none, touches_then}
 use Rattle.group_store.proofs.Openings.{handed}
-use Rattle.group_store.proofs.Spreads.{left_all, left_first, left_next, left_none, none_over, not_dense_row, row_degree, turn_known}
+use Rattle.group_store.proofs.Spreads.{left_all, left_first, left_next, left_none, none_over, not_dense_row, row_degree, row_sound, turn_known}
 use Rattle.group_store.proofs.Causes.{cause_passed, later_on, row_cause_passed, space_cause_passed}
 use Rattle.group_store.proofs.LeftBeside.{beside_cleared, beside_read, beside_then, later_beside}
 use Rattle.group_store.proofs.MakeSteps.{on_damage}
@@ -39,6 +42,8 @@ loop-init g c =
     let moved = c.new-moved.ensures in
     record {
       left = λ tells most empty can. left_all s v t c.args.node c.in-Some.row most empty c.new-moved.result.relationships.items c.new-moved.result.groups.items same (sym c.in-Some.is ∙ c.in_ok-row.ensures.found tells) (c.in_ok-clear.ensures.ok tells)
+          moved.relationships moved.groups can;
+      part = λ tells members free can. part_all s v t c.args.node c.in-Some.row members free c.new-moved.result.relationships.items c.new-moved.result.groups.items same (sym c.in-Some.is ∙ c.in_ok-row.ensures.found tells) (c.in_ok-clear.ensures.ok tells)
           moved.relationships moved.groups can;
       dense = λ tells.
           let used = (node_row s.records c.args.node c.in-Some.row (sym (sym c.in-Some.is ∙ c.in_ok-row.ensures.found tells))).0 in
@@ -66,6 +71,7 @@ loop-preserved g c =
     record {
       left = λ tells most empty can. left_next s now end c.args.node c.loop.at c.loop.counter most empty came groups turn c.if-at.false (c.in_ok-turn.ensures.own tells) (was.left tells most empty can) xs ys
           c.note.ensures.relationships c.note.ensures.groups (c.in_ok-turn.ensures.moved tells);
+      part = λ tells members free can. part_next s now c.args.node c.loop.at c.loop.counter members came groups c.if-at.false (was.part tells members free can) end turn xs ys c.note.ensures.relationships c.note.ensures.groups (c.in_ok-turn.ensures.local tells);
       dense = λ tells. c.in_ok-turn.ensures.dense tells (was.dense tells);
       beside = λ tells. beside_then s.records now.records end.records c.args.node (was.beside tells) (c.in_ok-turn.ensures.beside tells);
       writes = come_next s now end c.args.node c.loop.at turn came groups xs ys was.writes c.in_ok-turn.ensures.wrote (c.note.ensures.known.0 c.if-not-note.false) c.note.ensures.relationships c.note.ensures.groups;
@@ -273,7 +279,7 @@ returns-in_err-row-clause-damaged g c = λ tells sparse le.
     let l = g.S.Reads.state c.load.new.space in
     let fault = of_row c.in_err-row.field-0.0 in
     let p = err_from_is_err_and c.from_residual.result c.from_residual.ensures.1 in
-    rw (p.1, p.2) (broken_then s l c.args.node fault (node_fault_breaks s c.args.node fault (node_fault s c.args.node c.in_err-row.field-0.0 (c.in_err-row.ensures.damaged tells))))
+    rw (p.1, p.2) (broken_then s l c.args.node fault (only_loads_node s l c.args.node c.load.ensures.state) (node_fault_breaks s c.args.node fault (node_fault s c.args.node c.in_err-row.field-0.0 (c.in_err-row.ensures.damaged tells))))
 
 pub returns-in_default-clause-damaged : goal.returns-in_default-clause-damaged
 returns-in_default-clause-damaged g c = λ tells sparse le.
@@ -287,8 +293,10 @@ returns-then-row-clause-damaged g c = λ tells sparse le.
 pub returns-then-row-threshold-clause-damaged : goal.returns-then-row-threshold-clause-damaged
 returns-then-row-threshold-clause-damaged g c = λ tells sparse le.
     let s = g.S.Reads.state c.args.space.now in
+    let same = only_loads_node s (g.S.Reads.state c.load.new.space) c.args.node c.load.ensures.state in
     let e = row_degree s c.args.node c.in-Some.row (sym c.in-Some.is ∙ c.in_ok-row.ensures.found tells) in
-    inl (subst (λ (d : Damage). Breaks s.records s.shape d) (sym c.degree_damage.ensures) (many_break s c.args.node sparse c.args.threshold le (omega (arith, c.if-row-threshold.true, e))))
+    inl (inl (inl (subst (λ (q : State). Breaks q.records q.shape c.degree_damage.result) (sym same)
+    (subst (λ (d : Damage). Breaks s.records s.shape d) (sym c.degree_damage.ensures) (many_break s c.args.node sparse c.args.threshold le (omega (arith, c.if-row-threshold.true, e)))))))
 
 pub returns-in_err-test_chain-clause-damaged : goal.returns-in_err-test_chain-clause-damaged
 returns-in_err-test_chain-clause-damaged g c = λ tells sparse le.
@@ -299,7 +307,7 @@ returns-in_err-test_chain-clause-damaged g c = λ tells sparse le.
     let found = sym c.in-Some.is ∙ c.in_ok-row.ensures.found tells in
     let fault = c.in_err-test_chain.field-0.0 in
     let p = err_from_is_err_and c.from_residual-in_err-test_chain.result c.from_residual-in_err-test_chain.ensures.1 in
-    rw (p.1, p.2) (broken_then s v c.args.node fault (breaks_read s l same fault (sparse_breaks l c.args.node (subst (λ (q : State). kind_at q.records nodes_file c.args.node ≡ sparse_kind) (sym same) sparse) c.in-Some.row.degree
+    rw (p.1, p.2) (broken_then s v c.args.node fault (same_twice s l v same c.test_chain.ensures.state) (breaks_read s l same fault (sparse_breaks l c.args.node (subst (λ (q : State). kind_at q.records nodes_file c.args.node ≡ sparse_kind) (sym same) sparse) c.in-Some.row.degree
     (subst (λ (q : State). c.in-Some.row.degree ≡ degree q.records c.args.node) (sym same) (row_degree s c.args.node c.in-Some.row found)) fault
     (c.in_err-test_chain.ensures.damaged tells (subst (λ (q : State). c.in-Some.row.first ≡ first_link q.records c.args.node) (sym same) (first_is s.records c.args.node c.in-Some.row found))))))
 
@@ -317,23 +325,82 @@ returns-then-not-note-clause-damaged g c = λ tells sparse le.
     let s = g.S.Reads.state c.args.space.now in
     let now = g.S.Reads.state c.loop.space in
     let end = g.S.Reads.state c.move_one.new.space in
-    inr (inr (
+    inr (
       c.rels_damage.ensures,
       λ most empty can.
           false≢true (sym c.if-not-note.true ∙ c.note.ensures.known.1 (turn_known s now end c.args.node c.loop.at c.loop.counter most empty c.loop.moved.relationships.items c.loop.moved.groups.items c.in_ok-turn.turn c.if-at.false
           (c.in_ok-turn.ensures.own tells) (c.loop.invariant.left tells most empty can))),
-    ))
+    )
 
 pub returns-then-at-2-clause-damaged : goal.returns-then-at-2-clause-damaged
 returns-then-at-2-clause-damaged g c = λ tells sparse le.
     let s = g.S.Reads.state c.args.space.now in
     let e = row_degree s c.args.node c.in-Some.row (sym c.in-Some.is ∙ c.in_ok-row.ensures.found tells) in
-    inr (inr (
+    inr (
       c.rels_damage-then-at-2.ensures,
       λ most empty can.
           none_over s (g.S.Reads.state c.loop.space) c.args.node c.loop.at c.loop.counter most empty c.loop.moved.relationships.items c.loop.moved.groups.items c.if-at-2.true
           (c.loop.invariant.left tells most empty can) (omega (arith, c.loop-test.false, e)),
-    ))
+    )
+
+-- ---- by what the node has alone
+
+pub returns-then-at-clause-spread : goal.returns-then-at-clause-spread
+returns-then-at-clause-spread g c = λ tells members free can.
+    part_none (g.S.Reads.state c.args.space.now) (g.S.Reads.state c.loop.space) c.args.node c.loop.at c.loop.counter members c.loop.moved.relationships.items c.loop.moved.groups.items c.if-at.true (c.loop.invariant.part tells members free can)
+
+pub returns-clause-spread : goal.returns-clause-spread
+returns-clause-spread g c = λ tells members free can.
+    part_none (g.S.Reads.state c.args.space.now) (g.S.Reads.state c.loop.space) c.args.node c.loop.at c.loop.counter members c.loop.moved.relationships.items c.loop.moved.groups.items c.if-at-2.false (c.loop.invariant.part tells members free can)
+
+pub returns-in_err-row-clause-never : goal.returns-in_err-row-clause-never
+returns-in_err-row-clause-never g c = λ tells members free can room.
+    let p = err_from_is_err_and c.from_residual.result c.from_residual.ensures.1 in
+    not_damaged_at c.from_residual.result p.0 (of_row c.in_err-row.field-0.0) p.1 p.2
+    (row_sound c.in_err-row.field-0.0 (c.in_err-row.ensures.sound tells (sparse_read (g.S.Reads.state c.args.space.now) c.args.node c.args.threshold members free can room)))
+
+pub returns-in_default-clause-never : goal.returns-in_default-clause-never
+returns-in_default-clause-never g c = λ tells members free can room.
+    none_unused (g.S.Reads.state c.args.space.now) c.args.node (sym c.in_default.is ∙ c.in_ok-row.ensures.found tells) (λ e. let z = sym e ∙ can.sparse in omega arith)
+
+pub returns-then-row-clause-never : goal.returns-then-row-clause-never
+returns-then-row-clause-never g c = λ tells members free can room.
+    let d = dense_is (g.S.Reads.state c.args.space.now).records c.args.node c.in-Some.row (sym c.in-Some.is ∙ c.in_ok-row.ensures.found tells) c.if-row.true in
+    let z = sym can.sparse ∙ d in omega arith
+
+pub returns-then-row-threshold-clause-never : goal.returns-then-row-threshold-clause-never
+returns-then-row-threshold-clause-never g c = λ tells members free can room.
+    let e = row_degree (g.S.Reads.state c.args.space.now) c.args.node c.in-Some.row (sym c.in-Some.is ∙ c.in_ok-row.ensures.found tells) in
+    omega (arith, c.if-row-threshold.true, e, room.few, room.exact)
+
+pub returns-in_err-test_chain-clause-never : goal.returns-in_err-test_chain-clause-never
+returns-in_err-test_chain-clause-never g c = λ tells members free can room.
+    let s = g.S.Reads.state c.args.space.now in
+    let l = g.S.Reads.state c.load.new.space in
+    let same = only_loads_node s l c.args.node c.load.ensures.state in
+    let found = sym c.in-Some.is ∙ c.in_ok-row.ensures.found tells in
+    let e = row_degree s c.args.node c.in-Some.row found in
+    let p = err_from_is_err_and c.from_residual-in_err-test_chain.result c.from_residual-in_err-test_chain.ensures.1 in
+    rw (p.1, p.2) (handed Unit Unit c.in_err-test_chain.field-0.0 (c.in_err-test_chain.ensures.sound tells (subst (λ (q : State). c.in-Some.row.first ≡ first_link q.records c.args.node) (sym same) (first_is s.records c.args.node c.in-Some.row found))
+    members (subst (λ (q : State). IsHeadChain q.records (node_head c.args.node) c.args.node members) (sym same) can.chain) (readable_after s l members same (members_read s c.args.node c.args.threshold members room)) (omega (arith, e, room.exact))))
+
+pub returns-in_err-turn-clause-never : goal.returns-in_err-turn-clause-never
+returns-in_err-turn-clause-never g c = λ tells members free can room.
+    let was = c.loop.invariant in
+    let p = err_from_is_err_and c.from_residual-in_err-turn.result c.from_residual-in_err-turn.ensures.1 in
+    rw (p.1, p.2) (handed Turn Unit c.in_err-turn.field-0.0 (turn_sound (g.S.Reads.state c.args.space.now) (g.S.Reads.state c.loop.space) c.args.node c.loop.at c.loop.counter c.args.threshold members c.loop.moved.relationships.items c.loop.moved.groups.items
+    c.if-at.false (was.part tells members free can) room (was.beside tells) (c.in_err-turn.ensures.never tells)))
+
+pub returns-then-not-note-clause-never : goal.returns-then-not-note-clause-never
+returns-then-not-note-clause-never g c = λ tells members free can room.
+    false≢true (sym c.if-not-note.true ∙ c.note.ensures.known.1 (part_known (g.S.Reads.state c.args.space.now) (g.S.Reads.state c.loop.space) c.args.node c.loop.at c.loop.counter members c.loop.moved.relationships.items c.loop.moved.groups.items
+    c.if-at.false (c.loop.invariant.part tells members free can) (g.S.Reads.state c.move_one.new.space) c.in_ok-turn.turn (c.in_ok-turn.ensures.local tells)))
+
+pub returns-then-at-2-clause-never : goal.returns-then-at-2-clause-never
+returns-then-at-2-clause-never g c = λ tells members free can room.
+    let s = g.S.Reads.state c.args.space.now in
+    let e = row_degree s c.args.node c.in-Some.row (sym c.in-Some.is ∙ c.in_ok-row.ensures.found tells) in
+    turn_over s (g.S.Reads.state c.loop.space) c.args.node c.loop.at c.loop.counter c.args.threshold members c.loop.moved.relationships.items c.loop.moved.groups.items c.if-at-2.true (c.loop.invariant.part tells members free can) room (omega (arith, c.loop-test.false, e))
 
 pub returns-then-at-clause-dense : goal.returns-then-at-clause-dense
 returns-then-at-clause-dense g c = λ tells. c.loop.invariant.dense tells

@@ -1,7 +1,8 @@
 use Rattle.std.proofs.Common.{◌≡◌, ◌+◌, ◌≤◌, ℕ, List, length}
-use Rattle.group_store.specs.Densing.{CanBecomeDense}
+use Rattle.group_store.specs.Densing.{CanBecomeDense, CanSpread}
 use Rattle.group_store.specs.GroupChain.{IsDense}
 use Rattle.group_store.specs.Leaving.{LeavesBeside}
+use Rattle.group_store.proofs.Arrivals.{HasPart}
 use Rattle.group_store.proofs.Comings.{WritesCome}
 use Rattle.group_store.proofs.Spreads.{HasLeft}
 use Rattle.group_store.proofs.densing.make_dense.Given as goal
@@ -12,6 +13,7 @@ invariant-loop g l =
     let s = g.S.Reads.state l.fn.space in
     record {
       left : g.S.Reads.tells → (most : ℕ) (empty : List ℕ) → CanBecomeDense s l.fn.node most empty → HasLeft s (g.S.Reads.state l.space) l.fn.node l.at l.counter most empty l.moved.relationships.items l.moved.groups.items;
+      part : g.S.Reads.tells → (members free : List ℕ) → CanSpread s l.fn.node members free → HasPart s (g.S.Reads.state l.space) l.fn.node l.at l.counter members l.moved.relationships.items l.moved.groups.items;
       dense : g.S.Reads.tells → IsDense (g.S.Reads.state l.space).records l.fn.node;
       beside : g.S.Reads.tells → LeavesBeside s.records (g.S.Reads.state l.space).records l.fn.node;
       writes : WritesCome s (g.S.Reads.state l.space) l.fn.node l.moved.relationships.items l.moved.groups.items;

@@ -1,7 +1,11 @@
-use Rattle.std.proofs.Common.{◌≡◌, ◌∷◌, [], ◌∙◌, ℕ, ap, subst, sym, inr, arith}
+use Rattle.std.specs.Prelude.{IfSome, Option}
+use Rattle.rec_bytes.specs.Key.{IsKey}
+use Rattle.rel_store.specs.declared.rel_row.RelRow.{RelRow}
+use Rattle.std.proofs.Common.{◌≡◌, ◌≢◌, ◌∷◌, [], ◌∙◌, ℕ, ap, subst, sym, inr, arith}
 use Rattle.rec_bytes.specs.Format.{groups_file}
 use Rattle.rec_bytes.specs.RecordFiles.{meta_key_of}
-use Rattle.rec_bytes.specs.Space.{State, WritesOnly}
+use Rattle.id_freelist.specs.Taking.{room}
+use Rattle.rec_bytes.specs.Space.{State, WritesOnly, meta_of}
 use Rattle.rel_store.specs.RelRecord.{rel_key}
 use Rattle.store_rules.specs.Rules.{Head}
 use Rattle.node_store.specs.NodeRecord.{node_key}
@@ -11,9 +15,11 @@ use Rattle.group_store.specs.GroupRecord.{group_key}
 use Rattle.group_store.specs.Sides.{group_head}
 use Rattle.std.proofs.lemmas.Result.{err_from_is_err_and}
 use Rattle.rel_store.proofs.Rows.{IsReadable-AreInRange, rel_at-None}
+use Rattle.group_store.proofs.Additions.{node_read, take_after}
+use Rattle.group_store.proofs.Arrivals.{comes_in, left_there, push_finds}
 use Rattle.group_store.proofs.DenseFaults.{no_own, no_push, unread}
 use Rattle.group_store.proofs.DenseStays.{dense_moved}
-use Rattle.group_store.specs.GroupChain.{IsDense}
+use Rattle.group_store.specs.GroupChain.{IsDense, IsGroupChain}
 use Rattle.rec_bytes.specs.Fault.{of_row}
 use Rattle.group_store.proofs.GroupWalks.{not_damaged_at}
 use Rattle.group_store.proofs.Touches.{four_touched, made_touched, touches_more, touches_none}
@@ -116,6 +122,48 @@ returns-clause-own g c = λ tells rest most empty spread.
     (c.in_ok-own.ensures.opened tells) rest most empty spread c.in_ok-own.own.first (c.in_ok-own.ensures.grows tells) (g.S.Reads.state c.free_previous.new.space) (g.S.Reads.state c.push_counted.new.space)
     (head_of c.group_head-head.result) c.in_ok-first.first c.end_links-next.result.1 (c.in_ok-free_previous.ensures.ok tells)
     (c.group_head-head.ensures.is ∙ ap (λ (side : Side). group_head c.in_ok-own.own.row.id side) c.at.ensures) (c.in_ok-first.ensures.ok tells) (c.in_ok-first.ensures.first tells)
+
+pub returns-clause-local : goal.returns-clause-local
+returns-clause-local g c = λ tells came rest groups free spreading.
+    let s = g.S.Reads.state c.args.space.now in
+    let l = g.S.Reads.state c.load.new.space in
+    let key = subst (λ (o : Option RelRow). IfSome o (λ _. IsKey (rel_key c.args.rel))) c.in-Some.is c.in_ok-row.ensures.key in
+    comes_in s l (g.S.Reads.state c.own_group.new.space) c.args.node c.args.rel c.in-Some.row c.in_ok-own.own (only_loads s l c.args.rel c.load.ensures.state) (sym c.in-Some.is ∙ c.in_ok-row.ensures.found tells)
+    (c.in_ok-own.ensures.local tells) (c.in_ok-own.ensures.dense tells) key.id came rest groups free spreading
+    (g.S.Reads.state c.free_previous.new.space) (g.S.Reads.state c.push_counted.new.space) (head_of c.group_head-head.result) c.in_ok-first.first c.end_links-next.result.1 (c.in_ok-free_previous.ensures.ok tells)
+    (c.group_head-head.ensures.is ∙ ap (λ (side : Side). group_head c.in_ok-own.own.row.id side) c.at.ensures) (c.in_ok-first.ensures.ok tells) (c.in_ok-first.ensures.first tells)
+    (λ rec is. ap (λ (p : ℕ × ℕ). p.1) (c.end_links-next.ensures.of_record rec is))
+
+pub returns-in_err-row-clause-never : goal.returns-in_err-row-clause-never
+returns-in_err-row-clause-never g c = λ tells came rest groups free spreading node readable full.
+    let p = err_from_is_err_and c.from_residual.result c.from_residual.ensures.1 in
+    not_damaged_at c.from_residual.result p.0 (of_row c.in_err-row.field-0.0) p.1 p.2 (row_sound c.in_err-row.field-0.0 (c.in_err-row.ensures.sound tells readable))
+
+pub returns-in_default-clause-never : goal.returns-in_default-clause-never
+returns-in_default-clause-never g c = λ tells came rest groups free spreading node readable full.
+    left_there (g.S.Reads.state c.args.space.now) c.args.node c.args.rel came rest groups free spreading (sym (c.in_ok-row.ensures.found tells) ∙ c.in_default.is)
+
+pub returns-in_err-own-clause-never : goal.returns-in_err-own-clause-never
+returns-in_err-own-clause-never g c = λ tells came rest groups free spreading node readable full.
+    let s = g.S.Reads.state c.args.space.now in
+    let l = g.S.Reads.state c.load.new.space in
+    let same = only_loads s l c.args.rel c.load.ensures.state in
+    let p = err_from_is_err_and c.from_residual-in_err-own.result c.from_residual-in_err-own.ensures.1 in
+    rw (p.1, p.2) (handed OwnGroup Turn c.in_err-own.field-0.0 (c.in_err-own.ensures.never tells groups free (subst (λ (q : State). IsDense q.records c.args.node) (sym same) spreading.spread.dense)
+    (subst (λ (q : State). IsGroupChain q.records c.args.node groups) (sym same) spreading.spread.chain) (take_after s l free same spreading.take) (node_read s l c.args.node same node)
+    (subst (λ (q : State). (meta_of q groups_file).live ≢ room q groups_file) (sym same) full)))
+
+pub returns-in_err-first-clause-never : goal.returns-in_err-first-clause-never
+returns-in_err-first-clause-never g c = λ tells came rest groups free spreading node readable full.
+    let s = g.S.Reads.state c.args.space.now in
+    let l = g.S.Reads.state c.load.new.space in
+    let t = g.S.Reads.state c.free_previous.new.space in
+    let key = subst (λ (o : Option RelRow). IfSome o (λ _. IsKey (rel_key c.args.rel))) c.in-Some.is c.in_ok-row.ensures.key in
+    let p = err_from_is_err_and c.from_residual-in_err-first.result c.from_residual-in_err-first.ensures.1 in
+    rw (p.1, p.2) (handed ℕ Turn c.in_err-first.field-0.0 (c.in_err-first.ensures.sound tells
+    (push_finds s l (g.S.Reads.state c.own_group.new.space) c.args.node c.args.rel c.in-Some.row c.in_ok-own.own (only_loads s l c.args.rel c.load.ensures.state) (sym c.in-Some.is ∙ c.in_ok-row.ensures.found tells)
+    (c.in_ok-own.ensures.local tells) (c.in_ok-own.ensures.dense tells) key.id came rest groups free spreading t (head_of c.group_head-head.result) (c.in_ok-free_previous.ensures.ok tells)
+    (c.group_head-head.ensures.is ∙ ap (λ (side : Side). group_head c.in_ok-own.own.row.id side) c.at.ensures) readable.mark)))
 
 pub returns-in_err-row-clause-sound : goal.returns-in_err-row-clause-sound
 returns-in_err-row-clause-sound g c = λ tells rest most empty spread room.

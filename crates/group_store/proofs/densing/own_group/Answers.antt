@@ -1,4 +1,4 @@
-use Rattle.std.proofs.Common.{arith, ◌≡◌, ◌≢◌, Option, Some, inr, ◌∷◌, [], ℕ, List, ap, subst, sym, ◌∙◌}
+use Rattle.std.proofs.Common.{arith, ◌≡◌, ◌≢◌, Option, Some, inl, inr, refl, ◌∷◌, [], ℕ, List, ap, subst, sym, ◌∙◌}
 use Rattle.rec_bytes.specs.RecordFiles.{meta_key_of}
 use Rattle.rec_bytes.specs.Format.{groups_file}
 use Rattle.rec_bytes.specs.Space.{SameButReads, State, WritesOnly, meta_of}
@@ -10,6 +10,7 @@ use Rattle.group_store.specs.GroupChain.{IsDense, LacksGroup}
 use Rattle.group_store.specs.GroupRecord.{group_key}
 use Rattle.group_store.specs.Making.{IsMakeFault, made}
 use Rattle.group_store.specs.Opening.{IsOpenFault}
+use Rattle.group_store.proofs.Additions.{can_walk as walkable, has_added, make_read, node_read}
 use Rattle.group_store.proofs.BrokenGroups.{find_breaks, if_err, make_breaks, only_breaks, open_read}
 use Rattle.group_store.specs.Spreading.{HasOpened, KeepsBut}
 use Rattle.group_store.specs.Walking.{group_row_at}
@@ -117,6 +118,43 @@ returns-in-None-clause-sound g c = λ tells rest most empty keeps dense full.
     c.make_own.ensures.sound tells (node_known now node rest most empty keeps_now dense_now) (free_ids now node rest most empty keeps_now dense_now) (chain_ids now node rest most empty keeps_now dense_now)
     (can_make now node rest most empty keeps_now dense_now c.args.label (subst (λ (t : State). LacksGroup t.records node c.args.label) (sym same) lacks)) dense_now
     (subst (λ (t : State). (meta_of t groups_file).live ≢ room t groups_file) (sym same) full)
+
+-- ---- by what the node has alone
+
+pub returns-in-Some-clause-local : goal.returns-in-Some-clause-local
+returns-in-Some-clause-local g c = λ tells groups free dense chain can.
+    let s = g.S.Reads.state c.args.space.now in
+    let found = subst (IsFound s.records c.args.node c.args.label) c.in-Some.is (c.in_ok-row.ensures.found tells) in
+    inl (record {
+      same = same_read _ s (g.S.Reads.state c.find_group.new.space) c.find_group.ensures.at_most;
+      member = chain.all c.in-Some.row.id found.1.member;
+      typed = sym (ap (λ (r : GroupRow). r.label) found.1.is) ∙ found.1.typed;
+      before = refl;
+    })
+
+pub returns-in-None-clause-local : goal.returns-in-None-clause-local
+returns-in-None-clause-local g c = λ tells.
+    let s = g.S.Reads.state c.args.space.now in
+    let now = g.S.Reads.state c.find_group.new.space in
+    has_added c.make_own.result s now (g.S.Reads.state c.make_own.new.space) c.args.node c.args.label (same_read _ s now c.find_group.ensures.at_most)
+    (λ dense xs chain. (c.in_ok-row.ensures.none tells dense xs chain).0 c.in-None.is)
+    (c.make_own.ensures.made tells) (c.make_own.ensures.first tells) (c.make_own.ensures.full tells) (c.make_own.ensures.shape tells)
+
+pub returns-in_err-row-clause-never : goal.returns-in_err-row-clause-never
+returns-in_err-row-clause-never g c = λ tells groups free dense chain can readable full.
+    let s = g.S.Reads.state c.args.space.now in
+    let p = err_from_is_err_and c.from_residual.result c.from_residual.ensures.1 in
+    rw (p.1, p.2) (handed (Option GroupRow) OwnGroup c.in_err-row.field-0.0 (c.in_err-row.ensures.sound tells readable groups (walkable s c.args.node groups free chain can)))
+
+pub returns-in-None-clause-never : goal.returns-in-None-clause-never
+returns-in-None-clause-never g c = λ tells groups free dense chain can readable full.
+    let s = g.S.Reads.state c.args.space.now in
+    let now = g.S.Reads.state c.find_group.new.space in
+    let same = same_read _ s now c.find_group.ensures.at_most in
+    let node = c.args.node in
+    let lacks = (c.in_ok-row.ensures.none tells dense groups chain).0 c.in-None.is in
+    c.make_own.ensures.sound tells (node_read s now node same readable) free groups (make_read s now node c.args.label groups free same chain (λ k i. lacks k (chain.only k i)) can)
+    (subst (λ (t : State). IsDense t.records node) (sym same) dense) (subst (λ (t : State). (meta_of t groups_file).live ≢ room t groups_file) (sym same) full)
 
 -- ---- the row
 

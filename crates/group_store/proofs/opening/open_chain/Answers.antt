@@ -11,6 +11,7 @@ use Rattle.rec_bytes.specs.Space.{SameButReads, State}
 use Rattle.node_store.specs.NodeRecord.{node_key}
 use Rattle.group_store.specs.Opening.{CanOpen, IsOpenFault, OpensChain, WritesOpened, moved_writes}
 use Rattle.group_store.proofs.BrokenGroups.{if_err, node_fault_breaks, only_breaks, open_read}
+use Rattle.group_store.proofs.ChainHeads.{same_twice}
 use Rattle.group_store.proofs.Openings.{handed}
 use Rattle.group_store.proofs.OwnGroups.{if_ok}
 use Rattle.group_store.proofs.GroupWrites.{opened_more, opened_none}
@@ -149,13 +150,33 @@ pub returns-clause-damaged : goal.returns-clause-damaged
 returns-clause-damaged g c = λ tells way.
     absurd (⊎_elim (λ d. false≢true (sym c.if-branch.false ∙ (c.in_ok-is_dense.ensures.is tells).1 d)) (λ ne. ne c.if-degree-threshold.false) way)
 
+-- nothing is written where the node doesn't become dense
+pub returns-in_err-is_dense-clause-unwritten : goal.returns-in_err-is_dense-clause-unwritten
+returns-in_err-is_dense-clause-unwritten g c = λ tells way. on_damage c.from_residual.result _ c.is_dense.ensures.state
+
+pub returns-then-branch-clause-unwritten : goal.returns-then-branch-clause-unwritten
+returns-then-branch-clause-unwritten g c = λ tells way.
+    let s = g.S.Reads.state c.args.space.now in
+    let z = g.S.Reads.state c.is_dense.new.space in
+    let t = g.S.Reads.state c.open_group.new.space in
+    let dense = subst (λ (q : State). IsDense q.records c.args.node) (sym c.in_ok-is_dense.ensures.state) ((c.in_ok-is_dense.ensures.is tells).0 c.if-branch.true) in
+    if_damage c.open_group.result (SameButReads z t) (SameButReads s t) (λ k. same_twice s z t c.in_ok-is_dense.ensures.state k) (c.open_group.ensures.unwritten tells dense)
+
+pub returns-in_err-make_dense-clause-unwritten : goal.returns-in_err-make_dense-clause-unwritten
+returns-in_err-make_dense-clause-unwritten g c = λ tells way.
+    absurd (⊎_elim (λ d. false≢true (sym c.if-branch.false ∙ (c.in_ok-is_dense.ensures.is tells).1 d)) (λ ne. ne c.if-degree-threshold.false) way)
+
+pub returns-clause-unwritten : goal.returns-clause-unwritten
+returns-clause-unwritten g c = λ tells way.
+    absurd (⊎_elim (λ d. false≢true (sym c.if-branch.false ∙ (c.in_ok-is_dense.ensures.is tells).1 d)) (λ ne. ne c.if-degree-threshold.false) way)
+
 pub returns-in_err-is_dense-clause-blames : goal.returns-in_err-is_dense-clause-blames
 returns-in_err-is_dense-clause-blames g c = λ tells way le.
     let s = g.S.Reads.state c.args.space.now in
     let z = g.S.Reads.state c.is_dense.new.space in
     let fault = c.in_err-is_dense.field-0.0 in
     let p = err_from_is_err_and c.from_residual.result c.from_residual.ensures.1 in
-    rw (p.1, p.2) (broken_then s z c.args.node fault (node_fault_breaks s c.args.node fault (c.in_err-is_dense.ensures.damaged tells)))
+    rw (p.1, p.2) (broken_then s z c.args.node fault c.is_dense.ensures.state (node_fault_breaks s c.args.node fault (c.in_err-is_dense.ensures.damaged tells)))
 
 pub returns-then-branch-clause-blames : goal.returns-then-branch-clause-blames
 returns-then-branch-clause-blames g c = λ tells way le.

@@ -153,7 +153,7 @@ returns-in_err-is_dense-clause-damaged g c = λ tells.
     rw (p.1, p.2) (head_only s c.args.node c.args.rel c.args.label c.in_err-is_dense.field-0.0 (node_fault_breaks s c.args.node c.in_err-is_dense.field-0.0 (c.in_err-is_dense.ensures.damaged tells)))
 
 pub returns-in_err-is_dense-clause-breaks : goal.returns-in_err-is_dense-clause-breaks
-returns-in_err-is_dense-clause-breaks g c = λ tells row live at members.
+returns-in_err-is_dense-clause-breaks g c = λ tells row live at.
     let s = g.S.Reads.state c.args.space.now in
     let p = err_from_is_err_and c.from_residual.result c.from_residual.ensures.1 in
     rw (p.1, p.2) (node_fault_breaks s c.args.node c.in_err-is_dense.field-0.0 (c.in_err-is_dense.ensures.damaged tells))
@@ -168,7 +168,7 @@ returns-in_err-group-clause-damaged g c = λ tells.
     rw (p.1, p.2) (head_only s c.args.node c.args.rel c.args.label c.in_err-group.field-0.0 (breaks_read s z same c.in_err-group.field-0.0 (find_breaks z c.args.node dense c.in_err-group.field-0.0 (c.in_err-group.ensures.damaged tells))))
 
 pub returns-in_err-group-clause-breaks : goal.returns-in_err-group-clause-breaks
-returns-in_err-group-clause-breaks g c = λ tells row live at members.
+returns-in_err-group-clause-breaks g c = λ tells row live at.
     let s = g.S.Reads.state c.args.space.now in
     let z = g.S.Reads.state c.is_dense.new.space in
     let same = c.in_ok-is_dense.ensures.state in
@@ -177,7 +177,7 @@ returns-in_err-group-clause-breaks g c = λ tells row live at members.
     rw (p.1, p.2) (breaks_read s z same c.in_err-group.field-0.0 (find_breaks z c.args.node dense c.in_err-group.field-0.0 (c.in_err-group.ensures.damaged tells)))
 
 pub returns-in_default-clause-breaks : goal.returns-in_default-clause-breaks
-returns-in_default-clause-breaks g c = λ tells row live at members.
+returns-in_default-clause-breaks g c = λ tells row live at.
     let s = g.S.Reads.state c.args.space.now in
     let z = g.S.Reads.state c.is_dense.new.space in
     let same = c.in_ok-is_dense.ensures.state in
@@ -185,7 +185,7 @@ returns-in_default-clause-breaks g c = λ tells row live at members.
     let found = subst (IsFound z.records c.args.node c.args.label) c.in_default.is (c.in_ok-group.ensures.found tells) dense in
     let lacks : LacksGroupOn z.records c.args.node c.args.label = record { dense = dense; members = found.0; list = found.1; lacks = found.2 } in
     subst (λ (d : Damage). Breaks s.records s.shape d) (sym c.end_damage.ensures)
-    (no_group_breaks s c.args.node c.args.rel c.args.label row live at.end at.typed members (subst (λ (r : Records). LacksGroupOn r c.args.node c.args.label) (same_records s z same) lacks))
+    (no_group_breaks s c.args.node c.args.rel c.args.label row live at.end at.typed (subst (λ (r : Records). LacksGroupOn r c.args.node c.args.label) (same_records s z same) lacks))
 
 pub returns-in_err-count_group-clause-damaged : goal.returns-in_err-count_group-clause-damaged
 returns-in_err-count_group-clause-damaged g c = λ tells.
@@ -199,7 +199,7 @@ returns-in_err-count_group-clause-damaged g c = λ tells.
     rw (p.1, p.2) (head_only s c.args.node c.args.rel c.args.label c.in_err-count_group.field-0.0 (breaks_read s y (same_twice s z y c.in_ok-is_dense.ensures.state same) c.in_err-count_group.field-0.0 (c.in_err-count_group.ensures.breaks tells at)))
 
 pub returns-in_err-count_group-clause-breaks : goal.returns-in_err-count_group-clause-breaks
-returns-in_err-count_group-clause-breaks g c = λ tells row live end members.
+returns-in_err-count_group-clause-breaks g c = λ tells row live end.
     let s = g.S.Reads.state c.args.space.now in
     let z = g.S.Reads.state c.is_dense.new.space in
     let y = g.S.Reads.state c.find_group.new.space in

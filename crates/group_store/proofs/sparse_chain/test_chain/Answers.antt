@@ -5,7 +5,8 @@ use Rattle.rec_bytes.specs.Space.{State}
 use Rattle.group_store.specs.SparseChain.{IsSparseDamage, IsStep}
 use Rattle.group_store.specs.SparseChain.IsSparseDamage.{MoreThanSaid}
 use Rattle.group_store.proofs.ChainHeads.{same_twice}
-use Rattle.group_store.proofs.SparseChains.{met_few, met_more, met_none, step_told, tail_all, tail_next}
+use Rattle.group_store.proofs.GroupWalks.{not_damaged}
+use Rattle.group_store.proofs.SparseChains.{met_few, met_more, met_none, step_sound, step_told, tail_all, tail_low, tail_next}
 use Rattle.group_store.proofs.sparse_chain.test_chain.Goals as goal
 
 pub loop-init : goal.loop-init
@@ -29,7 +30,7 @@ loop-preserved g c =
     let step = λ (tells : g.R.Reads.tells). subst (λ (q : State). IsStep q.records node c.loop.before c.loop.at c.in_ok-next.next) was.same (c.in_ok-next.ensures.met tells) in
     record {
       same = same_twice s now end was.same c.in_ok-next.ensures.state;
-      tail = λ tells is xs chain. tail_next s node c.loop.before c.loop.at c.in_ok-next.next c.if-at.false (step tells).on (was.tail tells is xs chain);
+      tail = λ tells is xs chain. tail_next s node c.loop.before c.loop.at c.loop.counter xs c.if-at.false (was.tail tells is xs chain) c.in_ok-next.next (step tells).on;
       met = λ tells. met_more s node c.loop.before c.loop.at c.loop.counter c.if-at.false (step tells).met (was.met tells);
       onward = g.met.R.Reads.further_onward c.args.space.now c.loop.space c.meet.new.space was.onward c.in_ok-next.ensures.onward;
       later = let cause = c.in_ok-next.ensures.cause in omega (arith, was.later, cause.later);
@@ -41,7 +42,7 @@ returns-in_err-next-clause-damaged g c = λ tells is.
     let now = g.R.Reads.state c.loop.space in
     let was = c.loop.invariant in
     let p = err_from_is_err_and c.from_residual.result c.from_residual.ensures.1 in
-    rw (p.1, p.2) (step_told s now c.args.node c.args.degree c.loop.before c.loop.at was.same c.if-at.false (was.tail tells is) c.in_err-next.field-0.0 (c.in_err-next.ensures.damaged tells))
+    rw (p.1, p.2) (step_told s now c.args.node c.args.degree c.loop.before c.loop.at c.loop.counter was.same c.if-at.false (was.tail tells is) c.in_err-next.field-0.0 (c.in_err-next.ensures.damaged tells))
 
 pub returns-in_err-next-clause-state : goal.returns-in_err-next-clause-state
 returns-in_err-next-clause-state g c = same_twice (g.R.Reads.state c.args.space.now) (g.R.Reads.state c.loop.space) (g.R.Reads.state c.meet.new.space) c.loop.invariant.same c.in_err-next.ensures.state
@@ -52,7 +53,7 @@ returns-in_err-meet-clause-damaged g c = λ tells is.
     let now = g.R.Reads.state c.loop.space in
     let was = c.loop.invariant in
     let p = err_from_is_err_and c.from_residual-in_err-meet.result c.from_residual-in_err-meet.ensures.1 in
-    rw (p.1, p.2) (step_told s now c.args.node c.args.degree c.loop.before c.loop.at was.same c.if-at-2.false (was.tail tells is) c.in_err-meet.field-0.0 (c.in_err-meet.ensures.damaged tells))
+    rw (p.1, p.2) (step_told s now c.args.node c.args.degree c.loop.before c.loop.at c.loop.counter was.same c.if-at-2.false (was.tail tells is) c.in_err-meet.field-0.0 (c.in_err-meet.ensures.damaged tells))
 
 pub returns-in_err-meet-clause-state : goal.returns-in_err-meet-clause-state
 returns-in_err-meet-clause-state g c = same_twice (g.R.Reads.state c.args.space.now) (g.R.Reads.state c.loop.space) (g.R.Reads.state c.meet-2.new.space) c.loop.invariant.same c.in_err-meet.ensures.state
@@ -68,3 +69,27 @@ returns-clause-damaged g c = λ tells is.
 
 pub returns-clause-state : goal.returns-clause-state
 returns-clause-state g c = same_twice (g.R.Reads.state c.args.space.now) (g.R.Reads.state c.loop.space) (g.R.Reads.state c.meet-2.new.space) c.loop.invariant.same c.in_ok-meet.ensures.state
+
+-- ---- none is told of a right chain
+
+pub returns-in_err-next-clause-sound : goal.returns-in_err-next-clause-sound
+returns-in_err-next-clause-sound g c = λ tells is members chain readable few.
+    let s = g.R.Reads.state c.args.space.now in
+    let was = c.loop.invariant in
+    let p = err_from_is_err_and c.from_residual.result c.from_residual.ensures.1 in
+    rw (p.1, p.2) (not_damaged Unit c.in_err-next.field-0.0
+    (step_sound s (g.R.Reads.state c.loop.space) c.args.node c.loop.before c.loop.at c.loop.counter members was.same c.if-at.false readable (was.tail tells is members chain) c.in_err-next.field-0.0 (c.in_err-next.ensures.damaged tells)))
+
+pub returns-in_err-meet-clause-sound : goal.returns-in_err-meet-clause-sound
+returns-in_err-meet-clause-sound g c = λ tells is members chain readable few.
+    let s = g.R.Reads.state c.args.space.now in
+    let was = c.loop.invariant in
+    let p = err_from_is_err_and c.from_residual-in_err-meet.result c.from_residual-in_err-meet.ensures.1 in
+    rw (p.1, p.2) (not_damaged Unit c.in_err-meet.field-0.0
+    (step_sound s (g.R.Reads.state c.loop.space) c.args.node c.loop.before c.loop.at c.loop.counter members was.same c.if-at-2.false readable (was.tail tells is members chain) c.in_err-meet.field-0.0 (c.in_err-meet.ensures.damaged tells)))
+
+pub returns-clause-sound : goal.returns-clause-sound
+returns-clause-sound g c = λ tells is members chain readable few.
+    let s = g.R.Reads.state c.args.space.now in
+    let low = tail_low s c.args.node c.loop.before c.loop.at c.loop.counter members c.if-at-2.false (c.loop.invariant.tail tells is members chain) in
+    omega (arith, low, few, c.loop-test.false, c.loop.auto.counter-end)
