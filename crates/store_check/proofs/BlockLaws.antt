@@ -6,10 +6,10 @@ use Rattle.rec_bytes.specs.Format as format
 use Rattle.store_rules.specs.Views.{Records, high, is_live, rec_at}
 use Rattle.store_rules.proofs.ViewLaws.{kind_below}
 use Rattle.store_rules.specs.Breaking.{HasBlock, IsBlockHeldOnce, IsBlockList, IsLong, TextKeeps}
-use Rattle.store_check.specs.Heads.{AmongHeads, AtHead, HeadKeeps, IsOnce, IsTwice}
+use Rattle.record_lists.specs.Heads.{AmongHeads, AtHead, HeadKeeps, IsOnce, IsTwice}
 use Rattle.store_check.specs.Holding.{AllTexts, AreTextsRight, IsBlockHeld}
-use Rattle.store_check.specs.Marks.{marked}
-use Rattle.store_check.proofs.LiveLaws.{live_below}
+use Rattle.record_lists.specs.Marks.{marked}
+use Rattle.record_lists.proofs.LiveLaws.{live_below}
 
 module _ (records : Records) where
   pub text_head : (p : ℕ) → TextKeeps records p → HeadKeeps (IsLong records) (IsBlockList records) p

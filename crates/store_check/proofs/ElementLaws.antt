@@ -5,21 +5,23 @@ use Rattle.std.proofs.lemmas.Bool.{cases_Bool, eqb-true, or_cases, true≢false}
 use Rattle.rec_bytes.specs.Format as format
 use Rattle.store_rules.specs.Rules as rules
 use Rattle.store_rules.specs.Views.{NodeRow, Records, RelRow, high, is_live, kind_at, node_at, node_in, rec_at, rel_at, rel_in}
+use Rattle.store_rules.proofs.PropertyOwners.{used_of_live}
 use Rattle.store_rules.proofs.ViewLaws.{row_some}
 use Rattle.store_check.specs.declared.elements.ElementHeads.{ElementHeads}
+use Rattle.store_rules.specs.PropertyChange.{property_from}
 use Rattle.store_rules.specs.Breaking.{ElementKeeps, HasProperty, IsPropertyList, Owns, is_element_file, label_of}
-use Rattle.store_check.specs.Elements.{AreItsProperties, IsInUse, first_of}
-use Rattle.store_check.specs.Heads.{AmongHeads, AtHead, HeadKeeps, IsOnce, IsTwice}
+use Rattle.store_check.specs.Elements.{AreItsProperties, IsInUse}
+use Rattle.record_lists.specs.Heads.{AmongHeads, AtHead, HeadKeeps, IsOnce, IsTwice}
 use Rattle.store_check.specs.Listing.{AreListed, IsHadTwice, IsOfFile}
-use Rattle.store_check.specs.Marks.{marked}
-use Rattle.store_check.proofs.LiveLaws.{live_below, live_some}
+use Rattle.record_lists.specs.Marks.{marked}
+use Rattle.record_lists.proofs.LiveLaws.{live_below}
 
 module _ (records : Records) (x : ℕ) where
   -- what an owner of properties is
   pub record IsOwner (file first : ℕ) : Type 0 where
     pub known : is_element_file file ≡ true
     pub live : is_live records file x ≡ true
-    pub first_is : first ≡ first_of records file x
+    pub first_is : first ≡ property_from records file x
 
   node_by : (b : Bool) (row : NodeRow) (first : ℕ) → rules.node_first (cond b None (Some row)) ≡ Some first → (not b ≡ true) × (first ≡ row.property)
   node_by true row first h = absurd cc
@@ -53,17 +55,17 @@ module _ (records : Records) (x : ℕ) where
       (cases_Bool (nat_eq file 2)))
       (cases_Bool (nat_eq file 1))
 
-  pub owner_of : (file : ℕ) → is_element_file file ≡ true → is_live records file x ≡ true → Owns records file x (first_of records file x)
+  pub owner_of : (file : ℕ) → is_element_file file ≡ true → is_live records file x ≡ true → Owns records file x (property_from records file x)
   owner_of file known live = ⊎_elim
-      (λ (t : nat_eq file 1 ≡ true). let e = eqb-true file 1 t in subst (λ f. Owns records f x (first_of records f x)) (sym e) (node (subst (λ f. is_live records f x ≡ true) e live)))
-      (λ (t : nat_eq file 2 ≡ true). let e = eqb-true file 2 t in subst (λ f. Owns records f x (first_of records f x)) (sym e) (rel (subst (λ f. is_live records f x ≡ true) e live)))
+      (λ (t : nat_eq file 1 ≡ true). let e = eqb-true file 1 t in subst (λ f. Owns records f x (property_from records f x)) (sym e) (node (subst (λ f. is_live records f x ≡ true) e live)))
+      (λ (t : nat_eq file 2 ≡ true). let e = eqb-true file 2 t in subst (λ f. Owns records f x (property_from records f x)) (sym e) (rel (subst (λ f. is_live records f x ≡ true) e live)))
       (or_cases (nat_eq file 1) (nat_eq file 2) known)
     where
-      node : is_live records 1 x ≡ true → Owns records 1 x (first_of records 1 x)
-      node l = ap rules.node_first (row_some (kind_at records 1 x) (node_in (rec_at records 1 x) x) (live_some records 1 x l))
+      node : is_live records 1 x ≡ true → Owns records 1 x (property_from records 1 x)
+      node l = ap rules.node_first (row_some (kind_at records 1 x) (node_in (rec_at records 1 x) x) (used_of_live records 1 x l))
 
-      rel : is_live records 2 x ≡ true → Owns records 2 x (first_of records 2 x)
-      rel l = ap rules.rel_first (row_some (kind_at records 2 x) (rel_in (rec_at records 2 x) x) (live_some records 2 x l))
+      rel : is_live records 2 x ≡ true → Owns records 2 x (property_from records 2 x)
+      rel l = ap rules.rel_first (row_some (kind_at records 2 x) (rel_in (rec_at records 2 x) x) (used_of_live records 2 x l))
 
 module _ (records : Records) (heads : ElementHeads) (known : is_element_file heads.file ≡ true) where
   abbrev pub Has : ℕ → Type 0
@@ -79,13 +81,13 @@ module _ (records : Records) (heads : ElementHeads) (known : is_element_file hea
       (l.0, subst (λ f. IsPropertyList records f l.0) (sym o.first_is) l.1)
 
   pub element_head : (x : ℕ) → ElementKeeps records heads.file x → HeadKeeps Has Lists x
-  element_head x k = record { list = λ live. k.list (first_of records heads.file x) (owner_of records x heads.file known live) }
+  element_head x k = record { list = λ live. k.list (property_from records heads.file x) (owner_of records x heads.file known live) }
 
   pub head_element : (x : ℕ) → HeadKeeps Has Lists x → (is_live records heads.file x ≡ true → label_of records heads.file x < high records format.names_file) → ElementKeeps records heads.file x
   head_element x h named = record { list = keeps_list x h; named = named }
 
   at_has : (x p : ℕ) → AtHead Has Lists x p → HasProperty records heads.file x p
-  at_has x p a = record { first = first_of records heads.file x; owns = owner_of records x heads.file known a.must; among = record { members = a.items; list = a.listed; member = a.member } }
+  at_has x p a = record { first = property_from records heads.file x; owns = owner_of records x heads.file known a.must; among = record { members = a.items; list = a.listed; member = a.member } }
 
   has_at : (x p : ℕ) → HasProperty records heads.file x p → AtHead Has Lists x p
   has_at x p h =
@@ -126,7 +128,7 @@ label_kept records file x known h live = ⊎_elim
     (or_cases (nat_eq file 1) (nat_eq file 2) known)
   where
     node : is_live records 1 x ≡ true → label_of records 1 x < high records format.names_file
-    node l = h.nodes_named x (node_in (rec_at records 1 x) x) (row_some (kind_at records 1 x) (node_in (rec_at records 1 x) x) (live_some records 1 x l))
+    node l = h.nodes_named x (node_in (rec_at records 1 x) x) (row_some (kind_at records 1 x) (node_in (rec_at records 1 x) x) (used_of_live records 1 x l))
 
     rel : is_live records 2 x ≡ true → label_of records 2 x < high records format.names_file
-    rel l = h.rels_named x (rel_in (rec_at records 2 x) x) (row_some (kind_at records 2 x) (rel_in (rec_at records 2 x) x) (live_some records 2 x l))
+    rel l = h.rels_named x (rel_in (rec_at records 2 x) x) (row_some (kind_at records 2 x) (rel_in (rec_at records 2 x) x) (used_of_live records 2 x l))

@@ -17,7 +17,7 @@ use Rattle.rec_bytes.specs.MetaForm.{IsMetaRight, IsRightAs, form_of}
 use Rattle.rec_bytes.specs.Record.{zeros_from}
 use Rattle.rec_bytes.specs.RecordFiles.{Rooms, is_meta_file, meta_files, meta_key_of, meta_rooms, rooms_of}
 use Rattle.rec_bytes.proofs.RecordFiles.{is_among-files, passes}
-use Rattle.store_rules.specs.Ranges.{AreFormed, is_reused}
+use Rattle.store_rules.specs.Ranges.{AreInRange, is_reused}
 use Rattle.store_rules.specs.Views.{Records}
 use Rattle.store_rules.proofs.NumberLaws.{and_parts, eq_false, eq_true, nat_cases}
 
@@ -140,7 +140,7 @@ pub in_range_of : (shape : Shape) (file : ℕ) (r : Rec) → is_meta_file file �
 in_range_of shape file r known = in_range_as (form_of file) shape file r (passes (λ f. counts (form_of f)) meta_files file refl known)
 
 -- where the store keeps the first rule each record of the meta file is right
-pub metas_right : (records : Records) (shape : Shape) → AreFormed records shape → (id : ℕ) → id < format.meta_records → IsMetaRight format.newest_version shape id (records (meta_key_of id))
+pub metas_right : (records : Records) (shape : Shape) → AreInRange records shape → (id : ℕ) → id < format.meta_records → IsMetaRight format.newest_version shape id (records (meta_key_of id))
 metas_right records shape h id lt = right_as (form_of id) shape id (records (meta_key_of id)) (λ c. h.metas id (file_of id lt c))
     (λ t. subst (λ k. zeros_from format.taken_rest (records (meta_key_of k)) ≡ true) (sym (taken_of id lt t)) h.taken)
 

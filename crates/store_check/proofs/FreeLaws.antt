@@ -1,36 +1,22 @@
 -- Free lists as lines, and counts of what is in use.
-use Rattle.std.proofs.Common.{◌≡◌, ◌≢◌, ℕ, suc, ◌+◌, ◌<◌, ◌≤◌, Bool, true, false, cond, Some, None, List, [], ◌∷◌, ◌++◌, length, nat_eq, sym, ap, ◌∙◌, subst, arith, refl}
+use Rattle.std.proofs.Common.{◌≡◌, ◌≢◌, ℕ, ◌<◌, ◌≤◌, Bool, true, false, List, length, nat_eq, sym, ap, ◌∙◌, subst, refl}
 use Rattle.std.proofs.lemmas.Bool.{eqb-true, true≢false}
 use Rattle.rec_bytes.specs.declared.record.Rec.{Rec}
 use Rattle.rec_bytes.specs.Format as format
 use Rattle.rec_bytes.specs.Record.{field}
 use Rattle.rec_bytes.specs.Space.{meta_in}
 use Rattle.store_rules.specs.Chains.{In}
-use Rattle.store_rules.specs.Rows.{ids, option_list}
+use Rattle.store_rules.specs.Rows.{ids}
 use Rattle.store_rules.specs.Rules as rules
 use Rattle.store_rules.specs.Views.{Records, high, is_live, kind_at, rec_at}
 use Rattle.store_rules.proofs.NumberLaws.{eq_true}
-use Rattle.store_rules.proofs.RowLaws.{append_none}
 use Rattle.store_rules.proofs.ViewLaws.{kind_low, live_false, live_true, not_live}
 use Rattle.store_check.specs.declared.free.Counted.{Counted}
 use Rattle.store_rules.specs.Breaking.{HasFreeList, IsFreeList, IsOnFreeList}
 use Rattle.store_check.specs.Free.{IsCounted, free_line}
-use Rattle.store_check.specs.Lines.{IsLineIn}
-use Rattle.store_check.specs.Marks.{is_among, marked}
-use Rattle.store_check.proofs.LineLaws.{among_from_in, below_in, in_from_among, line_of_walk, tested_in, walk_members, walk_of_line}
-
--- ---- counts
-
-length-more : (xs : List ℕ) (x : ℕ) → length (xs ++ x ∷ []) ≡ length xs + 1
-length-more [] x = omega arith
-length-more (y ∷ xs) x = let e = length-more xs x in omega arith
-
--- one more record is in use, or isn't
-pub count_more : (test : ℕ → Bool) (n m : ℕ) → m ≡ n + 1 → test n ≡ true → length (ids test m) ≡ length (ids test n) + 1
-count_more test n m e t = ap (λ k. length (ids test k)) (let s : m ≡ suc n = omega arith in s) ∙ ap (λ b. length (ids test n ++ option_list (cond b (Some n) None))) t ∙ length-more (ids test n) n
-
-pub count_same : (test : ℕ → Bool) (n m : ℕ) → m ≡ n + 1 → test n ≡ false → length (ids test m) ≡ length (ids test n)
-count_same test n m e t = ap (λ k. length (ids test k)) (let s : m ≡ suc n = omega arith in s) ∙ ap (λ b. length (ids test n ++ option_list (cond b (Some n) None))) t ∙ ap length (append_none (ids test n))
+use Rattle.record_lists.specs.Lines.{IsLineIn}
+use Rattle.record_lists.specs.Marks.{is_among, marked}
+use Rattle.record_lists.proofs.LineLaws.{among_from_in, below_in, in_from_among, line_of_walk, tested_in, walk_members, walk_of_line}
 
 module _ (records : Records) (file : ℕ) where
   -- what a record below the mark says of its use

@@ -7,12 +7,13 @@ use Rattle.store_rules.specs.Rules as rules
 use Rattle.store_rules.specs.Views.{NodeRow, Records, RelRow, high, is_live, kind_at, node_at, node_in, rec_at, rel_at, rel_in}
 use Rattle.store_rules.proofs.NumberLaws.{eq_true}
 use Rattle.store_rules.proofs.ViewLaws.{live_true, some_row}
+use Rattle.store_rules.proofs.PropertyWalks.{walk_is}
 use Rattle.store_rules.specs.Breaking.{AreProperties, HasBlock, HasProperty, IsBlockHeldOnce, IsBlockList, IsHeldOnce, IsLong, IsPropertyList, Owns, TextKeeps, first_block, next_block, next_property}
 use Rattle.store_check.specs.Holding.{AreElementsRight, AreTextsRight}
 use Rattle.store_check.proofs.BlockLaws.{long_low}
 use Rattle.store_check.proofs.ElementLaws.{owns_is}
-use Rattle.store_check.proofs.LiveLaws.{live_below}
-use Rattle.store_check.proofs.PropertyLaws.{properties_one, walk_one}
+use Rattle.record_lists.proofs.LiveLaws.{live_below}
+use Rattle.store_check.proofs.PropertyLaws.{properties_one}
 use Rattle.store_check.proofs.TextLaws.{blocks_one}
 
 -- lists of owners, from what each has
@@ -179,7 +180,7 @@ module _ (records : Records) where
     kept_in : (file x p : ℕ) (k : HasProperty records file x p) → In p (h.properties.held.lists file x)
     kept_in file x p k =
         let a = k.among in
-        subst (In p) (walk_one (next_property records) k.first a.members (h.properties.held.lists file x) a.list.walk (h.properties.held.walk file x k.first k.owns)) a.member
+        subst (In p) (walk_is (next_property records) k.first a.members (h.properties.held.lists file x) a.list.walk (h.properties.held.walk file x k.first k.owns)) a.member
 
     pub held_kept : (p : ℕ) → IsHeldOnce records p
     held_kept p = record {

@@ -1,8 +1,8 @@
 -- Laws of layouts.
-use Rattle.std.proofs.Common.{◌≡◌, ◌≢◌, ℕ, Bool, true, false, ◌||◌, ◌&&◌, map, Option, None, Some, List, [], ◌∷◌, sym, ap, ◌∙◌, subst, refl}
+use Rattle.std.proofs.Common.{◌≡◌, ◌≢◌, ⊎_elim, ℕ, zero, suc, ◌+◌, ◌*◌, ◌<◌, ◌≤◌, arith, Bool, true, false, ◌||◌, ◌&&◌, map, Option, None, Some, List, [], ◌∷◌, ◌++◌, sym, ap, ◌∙◌, subst, refl}
 use Rattle.std.specs.Bool.{Decides}
 use Rattle.std.specs.List.{list_all, list_any}
-use Rattle.std.proofs.lemmas.Bool.{true≢false}
+use Rattle.std.proofs.lemmas.Bool.{cases_lt, true≢false}
 use Rattle.rec_bytes.specs.declared.record.Rec.{Rec}
 use Rattle.rec_bytes.specs.Format as format
 use Rattle.rec_bytes.specs.Record.{field}
@@ -31,6 +31,55 @@ laid_by marks r ps rs b e d = (
 pub not_laid : (marks : ℕ → ℕ) (r : Rec) (ps : List Pointer) (rs : List Range) (b : Bool) → b ≡ list_all (is_right_in marks r) ps → b ≡ false → Decides b (HasLayoutOf marks r (ranges.laid (map pointer_of ps) (map range_of rs)))
 not_laid marks r ps rs b e f = ((λ t. absurd (true≢false (sym t ∙ f))), (λ h. e ∙ all_point-list marks r ps ∙ h.point))
 
+-- ---- numbers from a place on
+
+and_more : (a b c : Bool) → (a && (b && c)) ≡ ((a && b) && c)
+and_more true b c = refl
+and_more false b c = refl
+
+and_none : (a : Bool) → (a && false) ≡ false
+and_none true = refl
+and_none false = refl
+
+-- one more at their end
+pub from_more : (marks : ℕ → ℕ) (r : Rec) (pointer : ℕ → ranges.Pointer) (n place : ℕ)
+    → ranges.all_point marks r (ranges.pointers_from (suc n) pointer place) ≡ (ranges.all_point marks r (ranges.pointers_from n pointer place) && ranges.points marks r (pointer (place + 4 * n)))
+from_more marks r pointer zero place = by (ranges.points marks r (pointer place)) ∙ ap (λ p. ranges.points marks r (pointer p)) (omega arith)
+  where
+    by : (a : Bool) → (a && true) ≡ a
+    by true = refl
+    by false = refl
+from_more marks r pointer (suc n) place =
+    let next : place + 4 + 4 * n ≡ place + 4 * suc n = omega arith in
+    ap (λ b. ranges.points marks r (pointer place) && b) (from_more marks r pointer n (place + 4) ∙ ap (λ p. ranges.all_point marks r (ranges.pointers_from n pointer (place + 4)) && ranges.points marks r (pointer p)) next)
+    ∙ and_more (ranges.points marks r (pointer place)) (ranges.all_point marks r (ranges.pointers_from n pointer (place + 4))) (ranges.points marks r (pointer (place + 4 * suc n)))
+
+-- one that is not right
+pub from_wrong : (marks : ℕ → ℕ) (r : Rec) (pointer : ℕ → ranges.Pointer) (n k place : ℕ) → k < n → ranges.points marks r (pointer (place + 4 * k)) ≡ false → ranges.all_point marks r (ranges.pointers_from n pointer place) ≡ false
+from_wrong marks r pointer zero k place lt wrong = absurd (omega (arith, lt))
+from_wrong marks r pointer (suc n) k place lt wrong =
+    let before = ranges.all_point marks r (ranges.pointers_from n pointer place) in
+    let last = ranges.points marks r (pointer (place + 4 * n)) in
+    from_more marks r pointer n place ∙ ⊎_elim
+    (λ (here : k < n). ap (λ b. b && last) (from_wrong marks r pointer n k place here wrong))
+    (λ (there : n ≤ k). let same : k ≡ n = omega (arith, lt, there) in ap (λ b. before && b) (subst (λ m. ranges.points marks r (pointer (place + 4 * m)) ≡ false) same wrong) ∙ and_none before)
+    (cases_lt k n)
+
+-- those of two lists
+all_both : (marks : ℕ → ℕ) (r : Rec) (ps more : List ranges.Pointer) → ranges.all_point marks r (ps ++ more) ≡ (ranges.all_point marks r ps && ranges.all_point marks r more)
+all_both marks r [] more = refl
+all_both marks r (p ∷ ps) more = ap (λ b. ranges.points marks r p && b) (all_both marks r ps more) ∙ and_more (ranges.points marks r p) (ranges.all_point marks r ps) (ranges.all_point marks r more)
+
+-- a layout with more numbers: the record has it where it has the one without and these are right
+pub laid_and : (marks : ℕ → ℕ) (r : Rec) (ps more : List ranges.Pointer) (rs : List ranges.Range) (b : Bool) → HasLayoutOf marks r (ranges.laid ps rs) → b ≡ ranges.all_point marks r more → Decides b (HasLayoutOf marks r (ranges.laid (ps ++ more) rs))
+laid_and marks r ps more rs b h e = (
+  (λ t. record { point = both ∙ sym e ∙ t; blank = h.blank }),
+  (λ all. e ∙ sym both ∙ all.point),
+)
+  where
+    both : ranges.all_point marks r (ps ++ more) ≡ ranges.all_point marks r more
+    both = all_both marks r ps more ∙ ap (λ a. a && ranges.all_point marks r more) h.point
+
 -- a record fits exactly where it has the layout of its kind
 pub fits_of : (marks : ℕ → ℕ) (file : ℕ) (r : Rec) (l : Option ranges.Layout) → ranges.layout_of file r ≡ l → HasLayoutOf marks r l → ranges.Fits marks file r
 fits_of marks file r None e h = absurd h
@@ -48,8 +97,3 @@ free_is file r meta other e = rw (e, meta, eq_false file format.names_file other
 
 pub used_is : (file : ℕ) (r : Rec) → field 1 r format.kind ≢ 0 → ranges.layout_of file r ≡ ranges.used_layout file r (field 1 r format.kind)
 used_is file r ne = rw (eq_false (field 1 r format.kind) 0 ne) refl
-
--- a record that was to fit, and doesn't
-pub unfit : (b : Bool) (P : Type 0) → ¬ (b ≡ false → P) → (b ≡ false) × (¬ P)
-unfit true P bad = absurd (bad (λ e. absurd (true≢false e)))
-unfit false P bad = (refl, λ p. bad (λ _. p))

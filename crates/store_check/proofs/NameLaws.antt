@@ -9,21 +9,22 @@ use Rattle.store_rules.specs.Rules as rules
 use Rattle.store_rules.specs.Views.{Records, high, rec_at}
 use Rattle.name_store.specs.Loading.{IsNameDamage}
 use Rattle.name_store.specs.Loading.IsNameDamage.{HighMark, SameText, WrongForm, WrongText}
-use Rattle.store_rules.specs.Breaking.{NameKeeps}
+use Rattle.store_rules.specs.Breaking.{NameKeeps, damage}
 use Rattle.store_rules.specs.Breaking.Breaks.{WrongName}
-use Rattle.store_check.specs.Verdicts.{BreaksRule}
+use Rattle.record_lists.specs.Deciding.{BreaksRule}
+use Rattle.record_lists.proofs.DecidingLaws.{breaks_by}
 
-pub name_breaks : (records : Records) (shape : Shape) (d : Damage) → ranges.AreFormed records shape → IsNameDamage records d → BreaksRule records shape 6 d
+pub name_breaks : (records : Records) (shape : Shape) (d : Damage) → ranges.AreInRange records shape → IsNameDamage records d → BreaksRule records shape 6 d
 name_breaks records shape d keeps (HighMark past) = let meta = keeps.metas format.names_file refl in let low = meta.high in absurd (omega arith)
 name_breaks records shape d keeps (WrongForm x lt bad) =
-    let f = keeps.fit format.names_file x refl lt refl in
+    let f = keeps.fit format.names_file x refl lt in
     absurd (none_some f.layout (sym bad ∙ f.is))
   where
     none_some : (l : ranges.Layout) → None ≡ Some l → ⊥
     none_some l e = absurd cc
-name_breaks records shape d keeps (WrongText x lt form bad) = record { rule_is = refl; breaks = WrongName x lt (λ (k : NameKeeps records x). bad k.form) }
+name_breaks records shape d keeps (WrongText x lt form bad) = breaks_by records shape 6 _ (damage format.names_file x 6) refl refl refl (WrongName x lt (λ (k : NameKeeps records x). bad k.form))
 name_breaks records shape d keeps (SameText x earlier lt form below same) =
-    record { rule_is = refl; breaks = WrongName x lt (λ (k : NameKeeps records x). let e = k.alone earlier (omega arith) same in absurd (omega arith)) }
+    breaks_by records shape 6 _ (damage format.names_file x 6) refl refl refl (WrongName x lt (λ (k : NameKeeps records x). let e = k.alone earlier (omega arith) same in absurd (omega arith)))
 
 -- where the store keeps the rule each name does
 pub name_keeps : (records : Records) → rules.AreNames (rec_at records format.names_file) (high records format.names_file) → (x : ℕ) → x < high records format.names_file → NameKeeps records x

@@ -10,11 +10,12 @@ use Rattle.store_rules.specs.Properties.{AreOnce}
 use Rattle.store_rules.specs.Views.{Records, high}
 use Rattle.store_rules.proofs.NumberLaws.{and_parts, lt_true}
 use Rattle.store_rules.proofs.OnceLaws.{map_in, once_map, once_walk}
+use Rattle.store_rules.proofs.PropertyWalks.{walk_is}
 use Rattle.store_rules.specs.Breaking.{IsPropertyList, key_of, next_property}
 use Rattle.store_check.specs.Elements.{AreKeys, is_below, property_line}
-use Rattle.store_check.specs.Lines.{IsLineIn}
-use Rattle.store_check.proofs.LiveLaws.{line_from, live_from, walk_from}
-use Rattle.store_check.proofs.LineLaws.{apart_from}
+use Rattle.record_lists.specs.Lines.{IsLineIn}
+use Rattle.record_lists.proofs.LiveLaws.{line_from, live_from, walk_from}
+use Rattle.record_lists.proofs.LineLaws.{apart_from, in_map}
 
 -- ---- numbers none of which comes twice
 
@@ -32,11 +33,6 @@ distinct_of : (xs : List ℕ) → AreOnce xs → IsDistinct nat_eq xs
 unfolding IsDistinct
 distinct_of [] h = tt
 distinct_of (x ∷ xs) h = (apart_from x xs h.0, distinct_of xs h.1)
-
-in_map : (f : ℕ → ℕ) (x : ℕ) (xs : List ℕ) → In x xs → In (f x) (map f xs)
-in_map f x [] i = elim i [ ]
-in_map f x (y ∷ ys) (inl e) = inl (ap f e)
-in_map f x (y ∷ ys) (inr i) = inr (in_map f x ys i)
 
 -- what is told apart by its number
 once_apart : (f : ℕ → ℕ) (xs : List ℕ) → AreOnce (map f xs) → (p q : ℕ) → In p xs → In q xs → f p ≡ f q → p ≡ q
@@ -58,15 +54,6 @@ below_all : (mark : ℕ) (xs : List ℕ) → ((x : ℕ) → In x xs → x < mark
 below_all mark [] h = refl
 below_all mark (y ∷ ys) h = rw (lt_true y mark (h y (inl refl)), below_all mark ys (λ x i. h x (inr i))) refl
 
--- a walk is determined
-pub walk_one : (next : ℕ → ℕ) (f : ℕ) (xs ys : List ℕ) → IsWalk next f xs → IsWalk next f ys → xs ≡ ys
-walk_one next f [] [] h k = refl
-walk_one next f [] (y ∷ ys) h k = absurd (k.1 (sym k.0 ∙ h))
-walk_one next f (x ∷ xs) [] h k = absurd (h.1 (sym h.0 ∙ k))
-walk_one next f (x ∷ xs) (y ∷ ys) h k =
-    let same : y ≡ x = sym k.0 ∙ h.0 in
-    ap (λ z. z ∷ xs) (sym same) ∙ ap (λ zs. y ∷ zs) (walk_one next (next y) xs ys (subst (λ z. IsWalk next (next z) xs) (sym same) h.2) k.2)
-
 -- ---- the properties from one on
 
 module _ (records : Records) (first : ℕ) where
@@ -77,7 +64,7 @@ module _ (records : Records) (first : ℕ) where
   no_properties none xs h = none xs (line_from records format.properties_file format.property_next first xs h.walk h.live)
 
   pub properties_one : (xs ys : List ℕ) → IsPropertyList records first xs → IsPropertyList records first ys → xs ≡ ys
-  properties_one xs ys h k = walk_one (next_property records) first xs ys h.walk k.walk
+  properties_one xs ys h k = walk_is (next_property records) first xs ys h.walk k.walk
 
   module _ (room : high records format.properties_file ≤ format.most_ids) (xs : List ℕ) (it : IsIt xs) where
     its_walk : IsWalk (next_property records) first xs
@@ -94,7 +81,7 @@ module _ (records : Records) (first : ℕ) where
 
     pub keys_from : (ys : List ℕ) → IsPropertyList records first ys → (length xs ≤ 32) × AreKeys (high records format.names_file) (map (key_of records) xs)
     keys_from ys h =
-        let same : ys ≡ xs = walk_one (next_property records) first ys xs h.walk its_walk in
+        let same : ys ≡ xs = walk_is (next_property records) first ys xs h.walk its_walk in
         let l : IsPropertyList records first xs = subst (IsPropertyList records first) same h in (
           l.few,
           record {

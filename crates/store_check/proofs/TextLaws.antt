@@ -6,11 +6,11 @@ use Rattle.store_rules.specs.Chains.{IsWalk}
 use Rattle.store_rules.specs.Rules as rules
 use Rattle.store_rules.specs.Views.{Records, high}
 use Rattle.store_rules.specs.Breaking.{IsBlockList, block_size, first_block, next_block, text_size}
-use Rattle.store_check.specs.Lines.{IsLineIn}
+use Rattle.record_lists.specs.Lines.{IsLineIn}
 use Rattle.store_check.specs.Pieces.{AreLengths}
 use Rattle.store_check.specs.Texts.{block_line}
-use Rattle.store_check.proofs.LiveLaws.{line_from, live_from, walk_from}
-use Rattle.store_check.proofs.PropertyLaws.{walk_one}
+use Rattle.record_lists.proofs.LiveLaws.{line_from, live_from, walk_from}
+use Rattle.store_rules.proofs.PropertyWalks.{walk_is}
 
 fold_from : (a : ℕ) (xs : List ℕ) → fold ◌+◌ a xs ≡ a + fold ◌+◌ 0 xs
 fold_from a [] = omega arith
@@ -54,7 +54,7 @@ module _ (records : Records) (p : ℕ) where
   no_blocks none xs h = none xs (line_from records format.strings_file format.block_next (first_block records p) xs h.walk h.live)
 
   pub blocks_one : (xs ys : List ℕ) → IsBlockList records p xs → IsBlockList records p ys → xs ≡ ys
-  blocks_one xs ys h k = walk_one (next_block records) (first_block records p) xs ys h.walk k.walk
+  blocks_one xs ys h k = walk_is (next_block records) (first_block records p) xs ys h.walk k.walk
 
   module _ (room : high records format.strings_file ≤ format.most_ids) (xs : List ℕ) (it : IsIt xs) where
     its_walk : IsWalk (next_block records) (first_block records p) xs
@@ -69,5 +69,5 @@ module _ (records : Records) (p : ℕ) where
 
     pub wrong_blocks : ¬ AreLengths (text_size records p) (map (block_size records) xs) → (ys : List ℕ) → ¬ IsBlockList records p ys
     wrong_blocks bad ys h =
-        let same = walk_one (next_block records) (first_block records p) ys xs h.walk its_walk in
+        let same = walk_is (next_block records) (first_block records p) ys xs h.walk its_walk in
         bad (lengths_from (block_size records) (text_size records p) xs (subst (rules.ArePieces (block_size records) (text_size records p)) same h.pieces))

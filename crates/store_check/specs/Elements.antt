@@ -1,29 +1,18 @@
 -- The properties of elements, as a check meets them.
-use Rattle.std.specs.Prelude.{◌≡◌, ℕ, ◌<◌, ◌≤◌, Bool, true, nat_eq, nat_lt, cond, List, length}
+use Rattle.std.specs.Prelude.{◌≡◌, ℕ, ◌<◌, ◌≤◌, Bool, true, nat_eq, nat_lt, List}
 use Rattle.std.specs.List.{IsDistinct, list_all}
 use Rattle.rec_bytes.specs.Format as format
-use Rattle.rec_bytes.specs.Record.{field}
 use Rattle.rec_bytes.specs.RecordFiles.{is_record_file}
-use Rattle.store_rules.specs.Views.{Records, high, is_live, rec_at}
+use Rattle.store_rules.specs.Views.{Records, high, is_live}
 use Rattle.store_check.specs.declared.elements.ElementHeads.{ElementHeads}
 use Rattle.store_check.specs.declared.elements.Named.{Named}
-use Rattle.store_check.specs.declared.holding.Held.{Held}
+use Rattle.store_rules.specs.PropertyChange.{property_from}
 use Rattle.store_rules.specs.Breaking.{IsPropertyList, is_element_file, label_of}
-use Rattle.store_check.specs.Lines.{LineKind, live_line}
-use Rattle.store_check.specs.Marks.{marked}
+use Rattle.record_lists.specs.Lines.{LineKind, live_line}
 
 -- the properties from one on
 abbrev pub property_line : LineKind
 property_line = live_line format.properties_file format.property_next
-
--- the place of an element's first property
-abbrev pub first_place : ℕ → ℕ
-first_place file =
-    cond (nat_eq file format.nodes_file) format.node_first_property
-    format.relationship_first_property
-
-abbrev pub first_of : Records → ℕ → ℕ → ℕ
-first_of records file x = field 4 (rec_at records file x) (first_place file)
 
 abbrev pub is_below : ℕ → ℕ → Bool
 is_below mark n = nat_lt n mark
@@ -47,7 +36,7 @@ IsInUse heads records x = is_live records heads.file x ≡ true
 
 abbrev pub AreItsProperties : ElementHeads → Records → ℕ → List ℕ → Type 0
 AreItsProperties heads records x members =
-    IsPropertyList records (first_of records heads.file x) members
+    IsPropertyList records (property_from records heads.file x) members
 
 -- the mark is that of the records, and low
 pub record IsOnElements (sentence : Named) (records : Records) : Type 0 where
@@ -59,14 +48,3 @@ pub record IsOnElements (sentence : Named) (records : Records) : Type 0 where
 abbrev pub HasName : Named → Records → ℕ → Type 0
 HasName sentence records x = is_live records sentence.file x ≡ true
     → label_of records sentence.file x < high records format.names_file
-
--- there is a mark for each record
-pub record IsOnMarked (held : Held) (records : Records) : Type 0 where
-  pub file : is_record_file held.file ≡ true
-  pub records_are : length held.marks.now ≡ high records held.file
-  pub few : high records held.file ≤ format.most_ids
-
--- a record in use has its mark
-abbrev pub IsMarked : Held → Records → ℕ → Type 0
-IsMarked held records x =
-    is_live records held.file x ≡ true → marked held.marks.now x ≡ true

@@ -6,8 +6,8 @@ use Rattle.store_rules.specs.Rows.{ids}
 use Rattle.store_rules.specs.Views.{Records, high, is_live}
 use Rattle.store_check.specs.declared.free.Counted.{Counted}
 use Rattle.store_check.specs.declared.free.Counted.TheVariants.{Live, OffList}
-use Rattle.store_check.specs.Lines.{LineKind}
-use Rattle.store_check.specs.Marks.{marked}
+use Rattle.record_lists.specs.Lines.{LineKind}
+use Rattle.record_lists.specs.Marks.{marked}
 
 -- the free list of a file as a line
 abbrev pub free_line : ℕ → LineKind

@@ -5,7 +5,7 @@ use Rattle.rec_bytes.specs.Format as format
 use Rattle.store_rules.specs.Views.{Records, high}
 use Rattle.store_rules.specs.Breaking.{ElementKeeps, HasBlock, HasProperty, IsBlockHeldOnce}
 use Rattle.store_rules.specs.Breaking.{IsHeldOnce, TextKeeps, is_element_file}
-use Rattle.store_check.specs.Marks.{marked}
+use Rattle.record_lists.specs.Marks.{marked}
 
 -- an element has the property
 pub record IsHeld (records : Records) (p : ℕ) : Type 0 where

@@ -12,6 +12,10 @@ use Rattle.store_check.specs.declared.layout.Range.{Range}
 abbrev pub pointer_of : Pointer → ranges.Pointer
 pointer_of p = record { place = p.place; into = p.into; optional = p.optional }
 
+-- the same number at another place
+abbrev pub pointer_like : Pointer → ℕ → ranges.Pointer
+pointer_like p place = record { place = place; into = p.into; optional = p.optional }
+
 abbrev pub range_of : Range → ranges.Range
 range_of r = record { at = r.at; size = r.size }
 

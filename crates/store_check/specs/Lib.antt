@@ -1,17 +1,9 @@
-pub mod Counts
-pub mod Degrees
 pub mod Elements
 pub mod Fitting
 pub mod Free
-pub mod Groups
-pub mod Heads
 pub mod Holding
 pub mod Layouts
-pub mod Leading
-pub mod Lines
 pub mod Listing
-pub mod Marks
-pub mod NodeChains
 pub mod Pieces
 pub mod Texts
 pub mod Unused

@@ -5,7 +5,7 @@ use Rattle.rec_bytes.specs.declared.damage.Damage.{Damage}
 use Rattle.rec_bytes.specs.Format as format
 use Rattle.store_rules.specs.Views.{Records, high}
 use Rattle.store_rules.specs.Breaking.{ElementKeeps, HasProperty, damage}
-use Rattle.store_check.specs.Marks.{marked}
+use Rattle.record_lists.specs.Marks.{marked}
 
 -- a property of an element of the file
 pub record IsOfFile (records : Records) (file p : ℕ) : Type 0 where

@@ -3,7 +3,7 @@ use Rattle.std.specs.Prelude.{◌≡◌, ◌≤◌}
 use Rattle.rec_bytes.specs.Format as format
 use Rattle.store_rules.specs.Views.{Records, high}
 use Rattle.store_check.specs.declared.texts.TextHeads.{TextHeads}
-use Rattle.store_check.specs.Lines.{LineKind, live_line}
+use Rattle.record_lists.specs.Lines.{LineKind, live_line}
 
 -- the blocks from one on
 abbrev pub block_line : LineKind

@@ -1,23 +1,21 @@
 //! One rule after another: the first that is broken ends the check.
 
 ghost use Rattle.std.specs.Prelude.{◌≡◌, ◌<◌, ◌≤◌, IfNone, IfOk};
-ghost use Rattle.rec_bytes.specs.Format.{nodes_file};
 ghost use Rattle.rec_bytes.specs.RuleNumbers.{chain_rule, index_rule, range_rule};
 ghost use Rattle.rec_bytes.specs.Space.{HasCause, SameButReads};
-ghost use Rattle.store_rules.specs.Ranges.{AreFormed};
-ghost use Rattle.store_rules.specs.Rules.{IsLinked, IsWellFormed};
-ghost use Rattle.store_rules.specs.Views.{group_at, kind_at, rel_at};
-ghost use Rattle.store_check.specs.Verdicts.{AreMarksLow, BrokenIs, DecidesRule};
+ghost use Rattle.store_rules.specs.Ranges.{AreInRange};
+ghost use Rattle.store_rules.specs.Rules.{IsWellFormed};
+ghost use Rattle.store_rules.specs.Breaking.{AreChained};
+ghost use Rattle.record_lists.specs.Deciding.{AreMarksLow, DecidesRule};
+ghost use Rattle.store_check.specs.Verdicts.{BrokenIs};
 
 use crate::Verdict;
-use crate::chains::check_chains;
-use crate::degrees::check_degrees;
 use crate::free::check_split;
-use crate::groups::check_groups;
 use crate::index::check_index;
 use crate::names::check_names;
 use crate::properties::check_properties;
 use crate::ranges::check_ranges;
+use chain_check::{check_chains, check_degrees, check_groups};
 use rec_bytes::{
     CHAIN_RULE, DEGREE_RULE, Damage, GROUP_RULE, INDEX_RULE, NAME_RULE, PROPERTY_RULE, RANGE_RULE,
     Reads, SPLIT_RULE, SpaceFault,
@@ -31,10 +29,9 @@ fn decide<R: Reads>(alloc: Global, space: &mut R, rule: u8) -> Result<Option<Dam
     requires to { rule ≤ index_rule }
     requires low { range_rule < rule → AreMarksLow (R.state space.old).records }
     requires ranges { R.tells → range_rule < rule
-        → AreFormed (R.state space.old).records (R.state space.old).shape }
-    requires linked { R.tells → chain_rule < rule → IsLinked (R.state space.old).records
-        (kind_at (R.state space.old).records nodes_file) (rel_at (R.state space.old).records)
-        (group_at (R.state space.old).records) }
+        → AreInRange (R.state space.old).records (R.state space.old).shape }
+    requires chained { R.tells → chain_rule < rule
+        → AreChained (R.state space.old).records }
     ensures decided { R.tells → IfOk result
         (DecidesRule (R.state space.old).records (R.state space.old).shape rule) }
     ensures low { rule ≡ range_rule → IfOk result

@@ -1,17 +1,18 @@
 //! The fifth rule of nodes and relationships: their properties, and their labels.
 
-ghost use Rattle.std.specs.Prelude.{◌≡◌, ◌<◌, ◌≤◌, IfNone, IfOk, IfSome, List, false, length, map};
+ghost use Rattle.std.specs.Prelude.{◌≡◌, ◌<◌, ◌≤◌, IfNone, IfOk, IfSome, List, false, length};
 ghost use Rattle.std.specs.Prelude.{true, ℕ};
 ghost use Rattle.std.specs.Bool.{Decides};
 ghost use Rattle.std.specs.List.{All, list_all};
 ghost use Rattle.rec_bytes.specs.Format.{most_ids, names_file, properties_file};
 ghost use Rattle.rec_bytes.specs.Space.{HasCause};
+ghost use Rattle.store_rules.specs.PropertyChange.{property_place};
 ghost use Rattle.store_rules.specs.Views.{high};
-ghost use Rattle.store_rules.specs.Breaking.{IsPropertyList, damage, is_element_file, key_of};
+ghost use Rattle.store_rules.specs.Breaking.{IsPropertyList, is_element_file};
 ghost use Rattle.store_check.specs.Holding.{AreElementsRight};
 ghost use Rattle.store_check.specs.Listing.{AreListed, IsUnlisted};
-ghost use Rattle.store_check.specs.Marks.{marked};
-ghost use Rattle.store_check.specs.Verdicts.{AreMarksLow, BreaksRule};
+ghost use Rattle.record_lists.specs.Marks.{marked};
+ghost use Rattle.record_lists.specs.Deciding.{AreMarksLow, BreaksRule};
 ghost use Rattle.store_check.specs.Elements.{
   AreElements,
   AreItsProperties,
@@ -19,50 +20,20 @@ ghost use Rattle.store_check.specs.Elements.{
   HasName,
   IsInUse,
   IsOnElements,
-  first_place,
   is_below,
   property_line,
 };
 
-use crate::distinct::are_distinct;
-use crate::heads::{Broke, Found, Heads, list_heads};
-use crate::holding::find_unmarked;
-use crate::line::follow;
-use crate::live_line::LiveLine;
-use crate::marks::no_marks;
-use crate::sentence::{Sentence, find_false};
 use rec_bytes::{
-    Damage, FREE, KIND, Key, NAMES, NODE_FIRST_PROPERTY, NODE_LABEL, NODES, PROPERTIES,
-    PROPERTY_KEY, PROPERTY_NEXT, PROPERTY_RULE, RELATIONSHIP_FIRST_PROPERTY, RELATIONSHIPS, Reads,
-    Rec, SpaceFault,
+    Damage, FREE, KIND, Key, MOST_PROPERTIES, NAMES, NODE_FIRST_PROPERTY, NODE_LABEL, NODES,
+    PROPERTIES, PROPERTY_KEY, PROPERTY_NEXT, PROPERTY_RULE, RELATIONSHIP_FIRST_PROPERTY,
+    RELATIONSHIPS, Reads, Rec, SpaceFault,
+};
+use record_lists::{
+    Broke, Found, Heads, LiveLine, Sentence, are_distinct, broken, find_false, find_unmarked,
+    follow, list_heads, no_marks, numbers_of,
 };
 use std::alloc::Global;
-
-/// How many properties an element has at most.
-const MOST_PROPERTIES: usize = 32;
-
-/// The keys of these properties.
-fn keys_of<R: Reads>(alloc: Global, space: &mut R, ids: &[u32]) -> Result<Vec<u32>, SpaceFault>
-    requires { All (λ x. x < most_ids) ids.now }
-    ensures keys { R.tells → IfOk result
-        (λ keys. keys.items ≡ map (key_of (R.state space.old).records) ids.now) }
-    ensures same { (R.state space.new).records ≡ (R.state space.old).records }
-    ensures written { (R.state space.new).written ≡ (R.state space.old).written }
-    ensures onward { R.onward space.old space.new }
-    ensures cause { HasCause (R.faults space.old) (R.faults space.new) result }
-{
-    let mut keys = Vec::new(alloc);
-    for id in ids {
-        let rec = space.get(Key {
-            file: PROPERTIES,
-            id: *id,
-        })?;
-        let Ok(()) = keys.push(rec.number(PROPERTY_KEY)) else {
-            return Err(SpaceFault::Memory);
-        };
-    }
-    Ok(keys)
-}
 
 /// Whether these are all below a mark.
 fn are_below(numbers: &[u32], mark: u32) -> bool
@@ -102,17 +73,14 @@ fn property_list<R: Reads>(
     ensures onward { R.onward space.old space.new }
     ensures cause { HasCause (R.faults space.old) (R.faults space.new) result }
 {
-    let line = LiveLine {
-        number: PROPERTIES,
-        place: PROPERTY_NEXT,
-    };
+    let line = LiveLine::new(PROPERTIES, PROPERTY_NEXT);
     let Some(ids) = follow(alloc, space, &line, first, mark)? else {
         return Ok(None);
     };
-    if ids.len() > MOST_PROPERTIES {
+    if ids.len() > MOST_PROPERTIES as usize {
         return Ok(None);
     }
-    let mut keys = keys_of(alloc, space, &ids)?;
+    let mut keys = numbers_of(alloc, space, PROPERTIES, PROPERTY_KEY, &ids)?;
     if !are_keys(&mut keys, space.meta(NAMES).high) {
         return Ok(None);
     }
@@ -146,7 +114,7 @@ impl Heads for ElementHeads {
         if rec.byte(KIND) == FREE {
             return Ok(Found::Nothing);
         }
-        let first = rec.number(first_place(self.file));
+        let first = rec.number(property_place(self.file));
         match property_list(alloc, space, first, self.properties)? {
             Some(ids) => Ok(Found::Items(ids)),
             None => Ok(Found::Missing),
@@ -154,8 +122,9 @@ impl Heads for ElementHeads {
     }
 }
 
-fn first_place(file: u8) -> u8
-    ensures is { result ≡ first_place file }
+/// The place of an element's first property in its record.
+fn property_place(file: u8) -> u8
+    ensures is { result ≡ property_place file }
     ensures low { result ≤ 32 }
 {
     if file == NODES {
@@ -187,6 +156,7 @@ impl Sentence for Named {
         Ok(rec.byte(KIND) == FREE || rec.number(NODE_LABEL) < space.meta(NAMES).high)
     }
 }
+
 /// Finds a node or a relationship whose properties or whose label are wrong, or a property that two
 /// of them have. Where there is none, just the properties of elements are marked.
 fn check_file<R: Reads>(
@@ -216,23 +186,13 @@ fn check_file<R: Reads>(
         properties,
     };
     match list_heads(alloc, space, &heads, elements, marks)? {
-        Some(Broke::Head(id)) => return Ok(Some(broken(file, id))),
-        Some(Broke::Item(id)) => return Ok(Some(broken(PROPERTIES, id))),
+        Some(Broke::Head(id)) => return Ok(Some(broken(file, id, PROPERTY_RULE))),
+        Some(Broke::Item(id)) => return Ok(Some(broken(PROPERTIES, id, PROPERTY_RULE))),
         None => {}
     }
     match find_false(space, &Named { file, elements }, elements)? {
-        Some(id) => Ok(Some(broken(file, id))),
+        Some(id) => Ok(Some(broken(file, id, PROPERTY_RULE))),
         None => Ok(None),
-    }
-}
-
-fn broken(file: u8, id: u32) -> Damage
-    ensures { result ≡ damage file id 5 }
-{
-    Damage {
-        file,
-        id,
-        rule: PROPERTY_RULE,
     }
 }
 
@@ -262,7 +222,7 @@ fn check_marked<R: Reads>(
         return Ok(Some(damage));
     }
     match find_unmarked(space, PROPERTIES, marks)? {
-        Some(id) => Ok(Some(broken(PROPERTIES, id))),
+        Some(id) => Ok(Some(broken(PROPERTIES, id, PROPERTY_RULE))),
         None => Ok(None),
     }
 }

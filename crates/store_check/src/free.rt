@@ -8,13 +8,12 @@ ghost use Rattle.store_rules.specs.Ranges.{is_reused};
 ghost use Rattle.store_rules.specs.Rules.{IsSplit};
 ghost use Rattle.store_rules.specs.Views.{high, is_live};
 ghost use Rattle.store_check.specs.Free.{IsCounted, free_line};
-ghost use Rattle.store_check.specs.Verdicts.{AreMarksLow, BreaksRule, DecidesRule};
+ghost use Rattle.record_lists.specs.Deciding.{AreMarksLow, BreaksRule, DecidesRule};
 
-use crate::line::{Line, follow};
-use crate::marks::marks_of;
 use rec_bytes::{
     Damage, FREE, FREE_NEXT, KIND, Key, META, NAMES, Reads, Rec, RecordFile, SPLIT_RULE, SpaceFault,
 };
+use record_lists::{Line, follow, marks_of};
 use std::alloc::Global;
 
 /// The free list of a file.

@@ -3,10 +3,10 @@
 ghost use Rattle.std.specs.Prelude.{◌≡◌, IfOk};
 ghost use Rattle.rec_bytes.specs.Space.{HasCause};
 ghost use Rattle.store_check.specs.Unused.{IsOnIndex, IsUnused};
-ghost use Rattle.store_check.specs.Verdicts.{AreMarksLow, DecidesRule};
+ghost use Rattle.record_lists.specs.Deciding.{AreMarksLow, DecidesRule};
 
-use crate::sentence::{Sentence, find_false};
 use rec_bytes::{Damage, FREE, INDEX, INDEX_RULE, KIND, Key, Reads, SpaceFault};
+use record_lists::{Sentence, find_false};
 
 /// A record of the index isn't in use.
 #[derive(Drop)]

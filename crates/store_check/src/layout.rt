@@ -1,16 +1,22 @@
-ghost use Rattle.std.specs.Prelude.{◌≡◌, false, map, true};
+ghost use Rattle.std.specs.Prelude.{◌≡◌, ◌≤◌, ◌+◌, ◌*◌, false, map, true};
 ghost use Rattle.std.specs.Bool.{Decides};
 ghost use Rattle.std.specs.List.{list_all, list_any};
 ghost use Rattle.rec_bytes.specs.RecordFiles.{is_meta_file};
 ghost use Rattle.rec_bytes.specs.Record.{field};
 ghost use Rattle.store_rules.specs.Ranges.{
   Fits,
+  all_point,
   block_layout,
+  definition_layout,
+  entry_layout,
   free_layout,
   group_layout,
+  heads_layout,
+  index_layout,
   laid,
   name_layout,
   node_layout,
+  pointers_from,
   property_layout,
   relationship_layout,
   used_layout,
@@ -18,15 +24,18 @@ ghost use Rattle.store_rules.specs.Ranges.{
 ghost use Rattle.store_rules.specs.Views.{high};
 ghost use Rattle.store_check.specs.Layouts.{HasLayoutOf, IsBlankBut, has_place, is_placed};
 ghost use Rattle.store_check.specs.Layouts.{is_right_in};
-ghost use Rattle.store_check.specs.Layouts.{pointer_of, range_of};
+ghost use Rattle.store_check.specs.Layouts.{pointer_like, pointer_of, range_of};
 
 use rec_bytes::{
-    BLOCK, BLOCK_LENGTH, BLOCK_NEXT, BLOCK_TEXT, BOOL, COUNTED, DENSE, FREE, FREE_NEXT,
-    GROUP_FIRST_IN, GROUP_FIRST_LOOP, GROUP_FIRST_OUT, GROUP_NEXT, GROUP_OWNER, GROUP_PREVIOUS,
-    GROUP_TYPE, GROUPED, GROUPS, INT, KIND, NAME_LENGTH, NAME_TEXT, NAMED, NAMES, NIL,
-    NODE_FIRST_LINK, NODE_FIRST_PROPERTY, NODE_LABEL, NODES, PROPERTIES, PROPERTY_FIRST_BLOCK,
-    PROPERTY_KEY, PROPERTY_LENGTH, PROPERTY_NEXT, PROPERTY_NUMBER, PROPERTY_TEXT, PROPERTY_TRUTH,
-    RELATED, RELATIONSHIP_FIRST_PROPERTY, RELATIONSHIP_SOURCE, RELATIONSHIP_SOURCE_NEXT,
+    BLOCK, BLOCK_LENGTH, BLOCK_NEXT, BLOCK_TEXT, BLOCK_TEXT_BYTES, BOOL, COUNTED, DEFINITION,
+    DEFINITION_HEAD_COUNT, DEFINITION_HEADS, DEFINITION_LABEL, DEFINITION_NEXT, DENSE, FREE,
+    FREE_NEXT, GROUP_FIRST_IN, GROUP_FIRST_LOOP, GROUP_FIRST_OUT, GROUP_NEXT, GROUP_OWNER,
+    GROUP_PREVIOUS, GROUP_TYPE, GROUPED, GROUPS, HEADS, HEADS_COUNT, HEADS_FIRST, INDEX, INDEXED,
+    INDEXED_NEXT, INDEXED_NODE, INDEXED_PREVIOUS, INT, KIND, MOST_TEXT_BYTES, NAME_LENGTH,
+    NAME_TEXT, NAME_TEXT_BYTES, NAMED, NAMES, NIL, NODE_FIRST_LINK, NODE_FIRST_PROPERTY,
+    NODE_LABEL, NODES, PROPERTIES, PROPERTY_FIRST_BLOCK, PROPERTY_KEY, PROPERTY_LENGTH,
+    PROPERTY_NEXT, PROPERTY_NUMBER, PROPERTY_TEXT, PROPERTY_TEXT_BYTES, PROPERTY_TRUTH, RELATED,
+    RELATIONSHIP_FIRST_PROPERTY, RELATIONSHIP_SOURCE, RELATIONSHIP_SOURCE_NEXT,
     RELATIONSHIP_SOURCE_PREVIOUS, RELATIONSHIP_TARGET, RELATIONSHIP_TARGET_NEXT,
     RELATIONSHIP_TARGET_PREVIOUS, RELATIONSHIP_TYPE, RELATIONSHIPS, Reads, Rec, SPARSE, STRINGS,
     TEXT_IN_BLOCKS, TEXT_INLINE,
@@ -133,6 +142,25 @@ fn is_blank_outside(rec: &Rec, used: &[Range]) -> bool
     true
 }
 
+/// Whether so many numbers from this one on are right in a record.
+fn all_from<R: Reads>(space: &R, rec: &Rec, first: Pointer, count: u8) -> bool
+    requires place { first.place + 4 * count ≤ 64 }
+    requires file { is_meta_file first.into ≡ true }
+    ensures { result ≡ all_point (high (R.state space.now).records) rec.now
+        (pointers_from count (pointer_like first) first.place) }
+{
+    for number in 0..count {
+        let pointer = Pointer {
+            place: first.place + 4 * number,
+            ..first
+        };
+        if !pointer.is_right(space, rec) {
+            return false;
+        }
+    }
+    true
+}
+
 /// Whether these are right in a record, and the bytes that are not in use are zero.
 fn is_laid<R: Reads>(space: &R, rec: &Rec, pointers: &[Pointer], used: &[Range]) -> bool
     requires { list_all is_placed pointers.now ≡ true }
@@ -233,12 +261,12 @@ fn is_property<R: Reads>(space: &R, rec: &Rec) -> bool
             let truth = Range::of(PROPERTY_TRUTH, 1);
             is_laid(space, rec, &[next], &[kind, key, truth])
         }
-        TEXT_INLINE if size <= 40 => {
+        TEXT_INLINE if size as usize <= PROPERTY_TEXT_BYTES => {
             let length = Range::of(PROPERTY_LENGTH, 10);
             let text = Range::of(PROPERTY_TEXT, size as u8);
             is_laid(space, rec, &[next], &[kind, length, text])
         }
-        TEXT_IN_BLOCKS if 40 < size && size <= 1024 => {
+        TEXT_IN_BLOCKS if size as usize > PROPERTY_TEXT_BYTES && size <= MOST_TEXT_BYTES => {
             let length = Range::of(PROPERTY_LENGTH, 14);
             is_laid(space, rec, &[next, first], &[kind, length])
         }
@@ -253,7 +281,7 @@ fn is_block<R: Reads>(space: &R, rec: &Rec) -> bool
 {
     let size = rec.byte(BLOCK_LENGTH);
     size != 0
-        && size <= 48
+        && size as usize <= BLOCK_TEXT_BYTES
         && is_laid(
             space,
             rec,
@@ -273,13 +301,64 @@ fn is_name<R: Reads>(space: &R, rec: &Rec) -> bool
 {
     let size = rec.byte(NAME_LENGTH);
     size != 0
-        && size <= 48
+        && size as usize <= NAME_TEXT_BYTES
         && is_laid(
             space,
             rec,
             &[],
             &[Range::of(KIND, 2), Range::of(NAME_TEXT, size)],
         )
+}
+
+/// Whether a record is a definition of the index.
+fn is_definition<R: Reads>(space: &R, rec: &Rec) -> bool
+    ensures { Decides result
+        (HasLayoutOf (high (R.state space.now).records) rec.now definition_layout) }
+{
+    let next = Pointer::may(DEFINITION_NEXT, INDEX);
+    let heads = Pointer::must(DEFINITION_HEADS, INDEX);
+    let used = [Range::of(KIND, 1), Range::of(DEFINITION_LABEL, 60)];
+    is_laid(space, rec, &[next], &used) && all_from(space, rec, heads, DEFINITION_HEAD_COUNT)
+}
+
+/// Whether a record is one of heads of the index.
+fn is_heads<R: Reads>(space: &R, rec: &Rec) -> bool
+    ensures { Decides result
+        (HasLayoutOf (high (R.state space.now).records) rec.now heads_layout) }
+{
+    let firsts = Pointer::may(HEADS_FIRST, INDEX);
+    let used = [Range::of(KIND, 1), Range::of(HEADS_FIRST, 60)];
+    is_laid(space, rec, &[], &used) && all_from(space, rec, firsts, HEADS_COUNT)
+}
+
+/// Whether a record is an entry of the index.
+fn is_entry<R: Reads>(space: &R, rec: &Rec) -> bool
+    ensures { Decides result
+        (HasLayoutOf (high (R.state space.now).records) rec.now entry_layout) }
+{
+    is_laid(
+        space,
+        rec,
+        &[
+            Pointer::must(INDEXED_NODE, NODES),
+            Pointer::may(INDEXED_PREVIOUS, INDEX),
+            Pointer::may(INDEXED_NEXT, INDEX),
+        ],
+        &[Range::of(KIND, 1), Range::of(INDEXED_NODE, 20)],
+    )
+}
+
+/// Whether a record is one in use of the index.
+fn is_index_record<R: Reads>(space: &R, rec: &Rec) -> bool
+    ensures { Decides result (HasLayoutOf (high (R.state space.now).records) rec.now
+        (index_layout (field 1 rec.now 0))) }
+{
+    match rec.byte(KIND) {
+        DEFINITION => is_definition(space, rec),
+        HEADS => is_heads(space, rec),
+        INDEXED => is_entry(space, rec),
+        _ => false,
+    }
 }
 
 /// Whether a record is in use, and of a kind of its file.
@@ -297,6 +376,7 @@ fn is_used_record<R: Reads>(space: &R, file: u8, rec: &Rec) -> bool
         PROPERTIES => is_property(space, rec),
         STRINGS => kind == BLOCK && is_block(space, rec),
         NAMES => kind == NAMED && is_name(space, rec),
+        INDEX => is_index_record(space, rec),
         _ => false,
     }
 }

@@ -2,27 +2,15 @@
 //! the marks, each a few times, and keeps a few bytes for each.
 #![tactic(auto)]
 
-mod chains;
 mod checking;
-mod counts;
-mod degrees;
-mod distinct;
 mod elements;
 mod free;
-mod groups;
-mod heads;
-mod holding;
 mod index;
 mod layout;
-mod leaders;
-mod line;
-mod live_line;
-mod marks;
 mod names;
 mod pieces;
 mod properties;
 mod ranges;
-mod sentence;
 mod texts;
 mod verdict;
 

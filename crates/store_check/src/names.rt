@@ -2,8 +2,8 @@
 
 ghost use Rattle.std.specs.Prelude.{◌≡◌, IfOk};
 ghost use Rattle.rec_bytes.specs.Space.{HasCause};
-ghost use Rattle.store_rules.specs.Ranges.{AreFormed};
-ghost use Rattle.store_check.specs.Verdicts.{DecidesRule};
+ghost use Rattle.store_rules.specs.Ranges.{AreInRange};
+ghost use Rattle.record_lists.specs.Deciding.{DecidesRule};
 
 use name_store::{Fault, load};
 use rec_bytes::{Damage, Reads, SpaceFault};
@@ -14,7 +14,7 @@ pub(crate) fn check_names<R: Reads>(
     alloc: Global,
     space: &mut R,
 ) -> Result<Option<Damage>, SpaceFault>
-    requires { R.tells → AreFormed (R.state space.old).records (R.state space.old).shape }
+    requires { R.tells → AreInRange (R.state space.old).records (R.state space.old).shape }
     ensures decided { R.tells → IfOk result
         (DecidesRule (R.state space.old).records (R.state space.old).shape 6) }
     ensures same { (R.state space.new).records ≡ (R.state space.old).records }

@@ -2,7 +2,7 @@
 
 ghost use Rattle.std.specs.Prelude.{◌≡◌, IfOk};
 ghost use Rattle.rec_bytes.specs.Space.{HasCause};
-ghost use Rattle.store_check.specs.Verdicts.{AreMarksLow, DecidesRule};
+ghost use Rattle.record_lists.specs.Deciding.{AreMarksLow, DecidesRule};
 
 use crate::elements::check_elements;
 use crate::texts::check_texts;

@@ -1,22 +1,21 @@
 //! The first rule: each record is of a known kind, and its numbers are ones that may stand there.
 
-ghost use Rattle.std.specs.Prelude.{◌≡◌, ◌<◌, ◌≤◌, IfNone, IfOk, IfSome, false, true, ℕ};
+ghost use Rattle.std.specs.Prelude.{◌≡◌, ◌<◌, ◌≤◌, IfNone, IfOk, IfSome, true, ℕ};
 ghost use Rattle.std.specs.Bool.{Decides};
 ghost use Rattle.rec_bytes.specs.Format.{meta_records, most_ids};
 ghost use Rattle.rec_bytes.specs.RecordFiles.{is_meta_file, room_of};
 ghost use Rattle.rec_bytes.specs.Space.{HasCause};
-ghost use Rattle.store_rules.specs.Ranges.{Fits, is_indexed};
 ghost use Rattle.store_rules.specs.Views.{high};
 ghost use Rattle.store_rules.specs.Breaking.{IsMetaKept, IsOwnRight, damage};
-ghost use Rattle.store_check.specs.Fitting.{FitsUnused, IsFitting, IsOnFile};
-ghost use Rattle.store_check.specs.Verdicts.{AreMarksLow, DecidesRule};
+ghost use Rattle.store_check.specs.Fitting.{FitsAt, IsFitting, IsOnFile};
+ghost use Rattle.record_lists.specs.Deciding.{AreMarksLow, DecidesRule};
 
 use crate::layout::fits;
-use crate::sentence::{Sentence, find_false};
 use rec_bytes::{
-    Damage, FREE, INDEX, KIND, Key, META, META_RECORDS, OWN_KEY, RANGE_RULE, Reads, Rec,
-    RecordFile, Shape, SpaceFault, VERSION, is_meta_file, is_meta_right, room_of, version_of,
+    Damage, Key, META, META_RECORDS, OWN_KEY, RANGE_RULE, Reads, RecordFile, Shape, SpaceFault,
+    VERSION, is_meta_file, is_meta_right, room_of, version_of,
 };
+use record_lists::{Sentence, find_false};
 
 /// Whether the store's own record says the space's shape, and the newest version.
 fn is_own_right<R: Reads>(space: &mut R) -> Result<bool, SpaceFault>
@@ -61,26 +60,7 @@ fn is_meta_kept<R: Reads>(space: &mut R, id: u32) -> Result<bool, SpaceFault>
     )
 }
 
-/// Whether a record of a file is one in use of the index.
-fn is_indexed(file: u8, rec: &Rec) -> bool
-    ensures { result ≡ is_indexed file rec.now }
-{
-    file == INDEX && rec.byte(KIND) != FREE
-}
-
-/// Whether a record fits its file, if it isn't one in use of the index.
-fn fits_unused<R: Reads>(space: &R, file: u8, rec: &Rec) -> bool
-    requires { is_meta_file file ≡ true }
-    ensures { Decides result (is_indexed file rec.now ≡ false
-        → Fits (high (R.state space.now).records) file rec.now) }
-{
-    if is_indexed(file, rec) {
-        return true;
-    }
-    fits(space, file, rec)
-}
-
-/// A record fits its file, if it isn't one in use of the index.
+/// A record fits its file.
 #[derive(Drop)]
 pub struct Fitting {
     file: u8,
@@ -99,7 +79,7 @@ impl Sentence for Fitting {
             file: self.file,
             id,
         })?;
-        Ok(fits_unused(space, self.file, &rec))
+        Ok(fits(space, self.file, &rec))
     }
 }
 
@@ -109,10 +89,10 @@ fn find_wrong<R: Reads>(space: &mut R, file: u8) -> Result<Option<u32>, SpaceFau
     requires mark { high (R.state space.old).records file ≤ most_ids }
     ensures none { R.tells → IfOk result (λ found. IfNone found
         ((x : ℕ) → x < high (R.state space.old).records file
-        → FitsUnused (R.state space.old).records file x)) }
+        → FitsAt (R.state space.old).records file x)) }
     ensures found { R.tells → IfOk result (λ found. IfSome found
         (λ x. (x < high (R.state space.old).records file)
-        × (¬ FitsUnused (R.state space.old).records file x))) }
+        × (¬ FitsAt (R.state space.old).records file x))) }
     ensures same { (R.state space.new).records ≡ (R.state space.old).records }
     ensures written { (R.state space.new).written ≡ (R.state space.old).written }
     ensures onward { R.onward space.old space.new }
@@ -150,10 +130,10 @@ fn find_wrong_record<R: Reads>(space: &mut R) -> Result<Option<Key>, SpaceFault>
     requires { AreMarksLow (R.state space.old).records }
     ensures none { R.tells → IfOk result (λ found. IfNone found
         ((file x : ℕ) → is_meta_file file ≡ true → x < high (R.state space.old).records file
-        → FitsUnused (R.state space.old).records file x)) }
+        → FitsAt (R.state space.old).records file x)) }
     ensures found { R.tells → IfOk result (λ found. IfSome found
         (λ key. (key.id < high (R.state space.old).records key.file)
-        × (¬ FitsUnused (R.state space.old).records key.file key.id))) }
+        × (¬ FitsAt (R.state space.old).records key.file key.id))) }
     ensures file { IfOk result (λ found. IfSome found (λ key. is_meta_file key.file ≡ true)) }
     ensures same { (R.state space.new).records ≡ (R.state space.old).records }
     ensures written { (R.state space.new).written ≡ (R.state space.old).written }

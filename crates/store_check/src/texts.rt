@@ -4,22 +4,20 @@ ghost use Rattle.std.specs.Prelude.{◌≡◌, ◌≤◌, ◌<◌, IfNone, IfOk,
 ghost use Rattle.std.specs.List.{All};
 ghost use Rattle.rec_bytes.specs.Format.{most_ids, strings_file};
 ghost use Rattle.rec_bytes.specs.Space.{HasCause};
-ghost use Rattle.store_rules.specs.Breaking.{IsBlockList, IsLong, block_size, damage};
+ghost use Rattle.store_rules.specs.Breaking.{IsBlockList, IsLong, block_size};
 ghost use Rattle.store_check.specs.Holding.{AreTextsRight};
-ghost use Rattle.store_check.specs.Marks.{marked};
+ghost use Rattle.record_lists.specs.Marks.{marked};
 ghost use Rattle.store_check.specs.Texts.{AreTexts, block_line};
-ghost use Rattle.store_check.specs.Verdicts.{AreMarksLow, BreaksRule};
+ghost use Rattle.record_lists.specs.Deciding.{AreMarksLow, BreaksRule};
 ghost use Rattle.store_rules.specs.Views.{high};
 
-use crate::heads::{Broke, Found, Heads, list_heads};
-use crate::holding::find_unmarked;
-use crate::line::follow;
-use crate::live_line::LiveLine;
-use crate::marks::no_marks;
 use crate::pieces::are_pieces;
 use rec_bytes::{
     BLOCK_LENGTH, BLOCK_NEXT, Damage, FREE, KIND, Key, PROPERTIES, PROPERTY_FIRST_BLOCK,
     PROPERTY_LENGTH, PROPERTY_RULE, Reads, Rec, STRINGS, SpaceFault, TEXT_IN_BLOCKS,
+};
+use record_lists::{
+    Broke, Found, Heads, LiveLine, broken, find_unmarked, follow, list_heads, no_marks,
 };
 use std::alloc::Global;
 
@@ -73,10 +71,7 @@ impl Heads for TextHeads {
             return Ok(Found::Nothing);
         }
         let first = rec.number(PROPERTY_FIRST_BLOCK);
-        let line = LiveLine {
-            number: STRINGS,
-            place: BLOCK_NEXT,
-        };
+        let line = LiveLine::new(STRINGS, BLOCK_NEXT);
         let Some(ids) = follow(alloc, space, &line, first, self.blocks)? else {
             return Ok(Found::Missing);
         };
@@ -85,16 +80,6 @@ impl Heads for TextHeads {
             return Ok(Found::Missing);
         }
         Ok(Found::Items(ids))
-    }
-}
-
-fn broken(file: u8, id: u32) -> Damage
-    ensures { result ≡ damage file id 5 }
-{
-    Damage {
-        file,
-        id,
-        rule: PROPERTY_RULE,
     }
 }
 
@@ -121,12 +106,12 @@ fn check_marked<R: Reads>(
     let blocks = space.meta(STRINGS).high;
     let heads = TextHeads { properties, blocks };
     match list_heads(alloc, space, &heads, properties, marks)? {
-        Some(Broke::Head(id)) => return Ok(Some(broken(PROPERTIES, id))),
-        Some(Broke::Item(id)) => return Ok(Some(broken(STRINGS, id))),
+        Some(Broke::Head(id)) => return Ok(Some(broken(PROPERTIES, id, PROPERTY_RULE))),
+        Some(Broke::Item(id)) => return Ok(Some(broken(STRINGS, id, PROPERTY_RULE))),
         None => {}
     }
     match find_unmarked(space, STRINGS, marks)? {
-        Some(id) => Ok(Some(broken(STRINGS, id))),
+        Some(id) => Ok(Some(broken(STRINGS, id, PROPERTY_RULE))),
         None => Ok(None),
     }
 }

@@ -2,13 +2,12 @@ use Rattle.std.proofs.Common.{arith, ◌≡◌, ◌<◌, ◌≤◌, ◌∙◌, O
 use Rattle.std.proofs.lemmas.Bool.{cases_lt}
 use Rattle.rec_bytes.specs.declared.damage.Damage.{Damage}
 use Rattle.rec_bytes.specs.declared.shape.Shape.{Shape}
-use Rattle.store_rules.specs.Ranges.{AreFormed}
+use Rattle.store_rules.specs.Ranges.{AreInRange}
 use Rattle.store_rules.specs.Views.{Records}
-use Rattle.store_rules.specs.Breaking.{Keeps}
-use Rattle.store_check.specs.Verdicts.{AreMarksLow, BreaksRule, DecidesRule}
+use Rattle.store_rules.specs.Breaking.{AreChained, Keeps}
+use Rattle.record_lists.specs.Deciding.{AreMarksLow, BreaksRule, DecidesRule}
 use Rattle.store_check.proofs.BreachLaws.{is_store, not_kept, rules_of}
-use Rattle.store_check.proofs.HeadLaws.{one_more}
-use Rattle.store_check.proofs.LinkedLaws.{Linked}
+use Rattle.record_lists.proofs.HeadLaws.{one_more}
 use Rattle.store_check.proofs.checking.check.Goals as goal
 
 pub decide-requires-clause-ranges : goal.decide-requires-clause-ranges
@@ -16,15 +15,15 @@ decide-requires-clause-ranges g c = λ tells lt.
     let s = g.R.Reads.state c.args.space.now in
     let inv = c.loop-rule.invariant in
     let now = g.R.Reads.state c.loop-rule.space in
-    let kept : AreFormed s.records s.shape = inv.kept tells 1 (omega arith) lt in
-    subst (λ (r : Records). AreFormed r now.shape) (sym inv.same) (subst (λ (h : Shape). AreFormed s.records h) (sym (g.met.R.Reads.onward_shape _ _ inv.onward)) kept)
+    let kept : AreInRange s.records s.shape = inv.kept tells 1 (omega arith) lt in
+    subst (λ (r : Records). AreInRange r now.shape) (sym inv.same) (subst (λ (h : Shape). AreInRange s.records h) (sym (g.met.R.Reads.onward_shape _ _ inv.onward)) kept)
 
-pub decide-requires-clause-linked : goal.decide-requires-clause-linked
-decide-requires-clause-linked g c = λ tells lt.
+pub decide-requires-clause-chained : goal.decide-requires-clause-chained
+decide-requires-clause-chained g c = λ tells lt.
     let s = g.R.Reads.state c.args.space.now in
     let inv = c.loop-rule.invariant in
-    let kept : Linked s.records = inv.kept tells 3 (omega arith) lt in
-    subst Linked (sym inv.same) kept
+    let kept : AreChained s.records = inv.kept tells 3 (omega arith) lt in
+    subst AreChained (sym inv.same) kept
 
 pub returns-in-Some-clause-only : goal.returns-in-Some-clause-only
 returns-in-Some-clause-only g c = λ tells store.
@@ -36,7 +35,7 @@ returns-in-Some-clause-only g c = λ tells store.
     = subst (λ (r : Records). DecidesRule r s.shape rule found) inv.same
     (subst (λ (h : Shape). DecidesRule (g.R.Reads.state c.loop-rule.space).records h rule found) (g.met.R.Reads.onward_shape _ _ inv.onward) (c.in_ok-damage.ensures.decided tells)) in
     let breaks : BreaksRule s.records s.shape rule c.in-Some.damage = subst (λ (o : Option Damage). DecidesRule s.records s.shape rule o) c.in-Some.is decided in
-    absurd (not_kept s.records s.shape c.in-Some.damage breaks.breaks (rules_of s.records s.shape store c.in-Some.damage breaks.breaks))
+    absurd (not_kept s.records s.shape c.in-Some.damage breaks.breaks breaks.spoken (rules_of s.records s.shape store c.in-Some.damage breaks.breaks))
 
 pub loop-rule-preserved : goal.loop-rule-preserved
 loop-rule-preserved g c =

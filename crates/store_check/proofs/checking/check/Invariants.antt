@@ -1,6 +1,6 @@
 use Rattle.std.proofs.Common.{◌≡◌, ◌≤◌, ◌<◌, ℕ}
 use Rattle.store_rules.specs.Breaking.{Keeps}
-use Rattle.store_check.specs.Verdicts.{AreMarksLow}
+use Rattle.record_lists.specs.Deciding.{AreMarksLow}
 use Rattle.store_check.proofs.checking.check.Given as goal
 
 abbrev pub invariant-loop-rule : goal.invariant-loop-rule

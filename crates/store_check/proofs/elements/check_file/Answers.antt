@@ -4,12 +4,12 @@ use Rattle.rec_bytes.specs.declared.meta.Meta.{Meta}
 use Rattle.store_rules.specs.Views.{Records, high}
 use Rattle.store_check.specs.declared.elements.ElementHeads.{ElementHeads}
 use Rattle.store_check.specs.declared.elements.Named.{Named}
-use Rattle.store_check.specs.declared.heads.Broke.TheVariants.{Head, Item}
+use Rattle.record_lists.specs.declared.heads.Broke.TheVariants.{Head, Item}
 use Rattle.store_check.specs.Elements.{AreItsProperties, HasName, IsInUse}
-use Rattle.store_check.specs.Heads.{AmongHeads, AtHead, BrokeIs, HeadKeeps, IsOnce}
-use Rattle.store_check.specs.Marks.{marked}
+use Rattle.record_lists.specs.Heads.{AmongHeads, AtHead, BrokeIs, HeadKeeps, IsOnce}
+use Rattle.record_lists.specs.Marks.{marked}
 use Rattle.store_check.proofs.ElementLaws.{are_listed, element_head, had_twice}
-use Rattle.store_check.proofs.Causes.{cause_passed}
+use Rattle.record_lists.proofs.Causes.{cause_passed}
 use Rattle.store_check.proofs.elements.check_file.Goals as goal
 
 pub returns-in-Some-Head-clause-found : goal.returns-in-Some-Head-clause-found

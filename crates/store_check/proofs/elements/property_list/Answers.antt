@@ -5,9 +5,9 @@ use Rattle.rec_bytes.specs.Format.{names_file, properties_file}
 use Rattle.store_rules.specs.Views.{Records, high}
 use Rattle.store_rules.specs.Breaking.{key_of}
 use Rattle.store_check.specs.Elements.{AreKeys, property_line}
-use Rattle.store_check.specs.Lines.{IsLineIn}
+use Rattle.record_lists.specs.Lines.{IsLineIn}
 use Rattle.store_check.proofs.PropertyLaws.{IsIt, keys_from, no_properties, properties_of}
-use Rattle.store_check.proofs.Causes.{cause_passed}
+use Rattle.record_lists.proofs.Causes.{cause_passed}
 use Rattle.store_check.proofs.elements.property_list.Goals as goal
 
 pub returns-in_default-clause-none : goal.returns-in_default-clause-none
@@ -16,8 +16,8 @@ returns-in_default-clause-none g c = λ tells.
     let none : (xs : List ℕ) → ¬ IsLineIn property_line records c.args.mark c.args.first xs = search (rules, c.in_ok-ids.ensures.none tells) in
     no_properties records c.args.first (subst (λ m. (xs : List ℕ) → ¬ IsLineIn property_line records m c.args.first xs) c.requires.mark none)
 
-pub returns-then-len-gt-MOST_PROPERTIES-clause-none : goal.returns-then-len-gt-MOST_PROPERTIES-clause-none
-returns-then-len-gt-MOST_PROPERTIES-clause-none g c = λ tells xs h.
+pub returns-then-len-clause-none : goal.returns-then-len-clause-none
+returns-then-len-clause-none g c = λ tells xs h.
     let records = (g.R.Reads.state c.args.space.now).records in
     let ids = c.in-Some.ids.items in
     let found : IsLineIn property_line records c.args.mark c.args.first ids = search (rules, c.in_ok-ids.ensures.found tells) in
@@ -25,7 +25,7 @@ returns-then-len-gt-MOST_PROPERTIES-clause-none g c = λ tells xs h.
     let room : high records properties_file ≤ 33554432 = omega (arith, c.requires.mark, c.requires.low) in
     let few = (keys_from records c.args.first room ids it xs h).0 in
     let len : c.len.result ≡ length ids = search rules in
-    omega (arith, c.if-len-gt-MOST_PROPERTIES.true)
+    omega (arith, c.if-len.true)
 
 pub returns-then-not-are_keys-clause-none : goal.returns-then-not-are_keys-clause-none
 returns-then-not-are_keys-clause-none g c = λ tells xs h.
@@ -36,7 +36,7 @@ returns-then-not-are_keys-clause-none g c = λ tells xs h.
     let room : high records properties_file ≤ 33554432 = omega (arith, c.requires.mark, c.requires.low) in
     let same = c.in_ok-keys.ensures.same ∙ c.in_ok-ids.ensures.same in
     let names : c.meta.result.high ≡ high records names_file = ap (λ (m : Meta). m.high) c.meta.ensures ∙ ap (λ (r : Records). high r names_file) same in
-    let keys : c.deref_mut.result.now ≡ map (key_of records) ids = c.deref_mut.ensures.value ∙ c.in_ok-keys.ensures.keys tells ∙ ap (λ (r : Records). map (key_of r) c.deref.result.now) c.in_ok-ids.ensures.same ∙ ap (map (key_of records)) c.deref.ensures.value in
+    let keys : c.deref_mut.result.now ≡ map (key_of records) ids = c.deref_mut.ensures.value ∙ c.in_ok-keys.ensures.numbers tells ∙ ap (λ (r : Records). map (key_of r) c.deref.result.now) c.in_ok-ids.ensures.same ∙ ap (map (key_of records)) c.deref.ensures.value in
     let k = (keys_from records c.args.first room ids it xs h).1 in
     let no : c.are_keys.result ≡ false = search rules in
     let yes = c.are_keys.ensures.1 (subst (λ ks. AreKeys c.meta.result.high ks) (sym keys) (subst (λ n. AreKeys n (map (key_of records) ids)) (sym names) k)) in
@@ -51,10 +51,10 @@ returns-clause-found g c = λ tells.
     let room : high records properties_file ≤ 33554432 = omega (arith, c.requires.mark, c.requires.low) in
     let same = c.in_ok-keys.ensures.same ∙ c.in_ok-ids.ensures.same in
     let names : c.meta.result.high ≡ high records names_file = ap (λ (m : Meta). m.high) c.meta.ensures ∙ ap (λ (r : Records). high r names_file) same in
-    let keys : c.deref_mut.result.now ≡ map (key_of records) ids = c.deref_mut.ensures.value ∙ c.in_ok-keys.ensures.keys tells ∙ ap (λ (r : Records). map (key_of r) c.deref.result.now) c.in_ok-ids.ensures.same ∙ ap (map (key_of records)) c.deref.ensures.value in
+    let keys : c.deref_mut.result.now ≡ map (key_of records) ids = c.deref_mut.ensures.value ∙ c.in_ok-keys.ensures.numbers tells ∙ ap (λ (r : Records). map (key_of r) c.deref.result.now) c.in_ok-ids.ensures.same ∙ ap (map (key_of records)) c.deref.ensures.value in
     let yes : c.are_keys.result ≡ true = search rules in
     let len : c.len.result ≡ length ids = search rules in
-    let few : length ids ≤ 32 = omega (arith, c.if-len-gt-MOST_PROPERTIES.false) in
+    let few : length ids ≤ 32 = omega (arith, c.if-len.false) in
     properties_of records c.args.first room ids it few (subst (λ n. AreKeys n (map (key_of records) ids)) names (subst (λ ks. AreKeys c.meta.result.high ks) keys (c.are_keys.ensures.0 yes)))
 
 pub returns-in_err-ids-clause-cause : goal.returns-in_err-ids-clause-cause

@@ -2,9 +2,10 @@ use Rattle.std.proofs.Common.{rules, arith, ◌≡◌, ◌≢◌, ◌<◌, ◌+�
 use Rattle.rec_bytes.specs.declared.meta.Meta.{Meta}
 use Rattle.rec_bytes.specs.Record.{field}
 use Rattle.store_rules.specs.Views.{high, is_live, rec_at}
-use Rattle.store_check.specs.Marks.{marked}
-use Rattle.store_check.proofs.FreeLaws.{count_more, count_same, free_by, live_by}
-use Rattle.store_check.proofs.HeadLaws.{one_more}
+use Rattle.record_lists.specs.Marks.{marked}
+use Rattle.record_lists.proofs.CountLaws.{count_more, count_same}
+use Rattle.store_check.proofs.FreeLaws.{free_by, live_by}
+use Rattle.record_lists.proofs.HeadLaws.{one_more}
 use Rattle.store_check.proofs.free.count_live.Goals.{then-byte-ne-FREE, else-byte-ne-FREE+else-not-marks-id}
 use Rattle.std.proofs.lemmas.Bool.{true≢false}
 use Rattle.store_check.proofs.free.count_live.Goals as goal

@@ -1,7 +1,7 @@
 use Rattle.std.proofs.Common.{◌≡◌, ◌≤◌, ◌<◌, ℕ, true, false, length}
 use Rattle.store_rules.specs.Rows.{ids}
 use Rattle.store_rules.specs.Views.{is_live}
-use Rattle.store_check.specs.Marks.{marked}
+use Rattle.record_lists.specs.Marks.{marked}
 use Rattle.store_check.proofs.free.count_live.Given as goal
 
 abbrev pub invariant-loop-id : goal.invariant-loop-id

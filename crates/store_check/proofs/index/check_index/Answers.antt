@@ -6,7 +6,7 @@ use Rattle.store_rules.specs.Views.{high, kind_at, rec_at}
 use Rattle.store_rules.proofs.ViewLaws.{kind_high}
 use Rattle.store_rules.specs.Breaking.{damage}
 use Rattle.store_rules.specs.Breaking.Breaks.{UsedIndex}
-use Rattle.store_check.proofs.VerdictLaws.{breaks_by}
+use Rattle.record_lists.proofs.DecidingLaws.{breaks_by}
 use Rattle.store_check.proofs.index.check_index.Goals as goal
 
 pub returns-in-Some-clause-decided : goal.returns-in-Some-clause-decided
@@ -15,7 +15,7 @@ returns-in-Some-clause-decided g c = λ tells.
     let id = c.in-Some.id in
     let mark : c.meta-records.result.high ≡ high s.records index_file = ap (λ (m : Meta). m.high) c.meta-records.ensures in
     let bad : (id < c.meta-records.result.high) × (¬ (kind_at s.records index_file id ≡ free_kind)) = search (rules, c.in_ok-id.ensures.found tells) in
-    breaks_by s.records s.shape 8 _ (damage index_file id 8) refl refl (UsedIndex id (omega (arith, bad.0, mark)) bad.1)
+    breaks_by s.records s.shape 8 _ (damage index_file id 8) refl refl refl (UsedIndex id (omega (arith, bad.0, mark)) bad.1)
 
 pub returns-in-None-clause-decided : goal.returns-in-None-clause-decided
 returns-in-None-clause-decided g c = λ tells x.

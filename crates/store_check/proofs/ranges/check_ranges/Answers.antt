@@ -4,22 +4,20 @@ use Rattle.rec_bytes.specs.declared.shape.Shape.{Shape}
 use Rattle.rec_bytes.specs.Format.{meta_records, taken_id}
 use Rattle.rec_bytes.specs.RecordFiles.{is_meta_file, meta_key_of}
 use Rattle.rec_bytes.proofs.RecordFiles.{is_meta_file-record, is_record_file-low}
-use Rattle.store_rules.specs.Ranges.{Fits, is_indexed}
-use Rattle.store_rules.specs.Views.{Records, high, rec_at}
+use Rattle.store_rules.specs.Views.{Records, high}
 use Rattle.store_rules.specs.Breaking.{IsMetaKept, damage}
 use Rattle.store_rules.specs.Breaking.Breaks.{OwnRecord, RecordRange, WrongMeta}
-use Rattle.store_check.specs.Fitting.{FitsUnused}
+use Rattle.store_check.specs.Fitting.{FitsAt}
 use Rattle.store_check.proofs.FileLaws.{in_range_of, taken_right}
-use Rattle.store_check.proofs.LayoutLaws.{unfit}
-use Rattle.store_check.proofs.VerdictLaws.{breaks_by}
-use Rattle.store_check.proofs.Causes.{cause_passed}
+use Rattle.record_lists.proofs.DecidingLaws.{breaks_by}
+use Rattle.record_lists.proofs.Causes.{cause_passed}
 use Rattle.store_check.proofs.ranges.check_ranges.Goals as goal
 
 pub returns-then-not-branch-clause-decided : goal.returns-then-not-branch-clause-decided
 returns-then-not-branch-clause-decided g c = λ tells.
     let s = g.R.Reads.state c.args.space.now in
     let no : c.in_ok-is_own_right.field-0 ≡ false = search rules in
-    breaks_by s.records s.shape 1 c.broken.result (damage 0 0 1) c.broken.ensures refl (OwnRecord (λ h. true≢false (sym ((c.in_ok-is_own_right.ensures.right tells).1 h) ∙ no)))
+    breaks_by s.records s.shape 1 c.broken.result (damage 0 0 1) c.broken.ensures refl refl (OwnRecord (λ h. true≢false (sym ((c.in_ok-is_own_right.ensures.right tells).1 h) ∙ no)))
 
 pub returns-in-Some-clause-decided : goal.returns-in-Some-clause-decided
 returns-in-Some-clause-decided g c = λ tells.
@@ -30,18 +28,17 @@ returns-in-Some-clause-decided g c = λ tells.
     = subst (λ (r : Records). IfSome c.in_ok-id.field-0 (λ n. ¬ IsMetaKept r s.shape n)) c.in_ok-is_own_right.ensures.same
     (subst (λ (h : Shape). IfSome c.in_ok-id.field-0 (λ n. ¬ IsMetaKept (g.R.Reads.state c.is_own_right.new.space).records h n)) (g.met.R.Reads.onward_shape _ _ c.in_ok-is_own_right.ensures.onward) (c.in_ok-id.ensures.found tells)) in
     let bad : ¬ IsMetaKept s.records s.shape id = search (rules, found) in
-    breaks_by s.records s.shape 1 c.broken-in-Some.result (damage 0 id 1) c.broken-in-Some.ensures refl (WrongMeta id lt bad)
+    breaks_by s.records s.shape 1 c.broken-in-Some.result (damage 0 id 1) c.broken-in-Some.ensures refl refl (WrongMeta id lt bad)
 
 pub returns-in-Some-2-clause-decided : goal.returns-in-Some-2-clause-decided
 returns-in-Some-2-clause-decided g c = λ tells.
     let s = g.R.Reads.state c.args.space.now in
     let key = c.in-Some-2.key in
     let is : is_meta_file key.file ≡ true = search (rules, c.in_ok-key.ensures.file) in
-    let found : IfSome c.in_ok-key.field-0 (λ k. (k.id < high s.records k.file) × (¬ FitsUnused s.records k.file k.id))
-    = subst (λ (r : Records). IfSome c.in_ok-key.field-0 (λ k. (k.id < high r k.file) × (¬ FitsUnused r k.file k.id))) (c.in_ok-id.ensures.same ∙ c.in_ok-is_own_right.ensures.same) (c.in_ok-key.ensures.found tells) in
-    let bad : (key.id < high s.records key.file) × (¬ FitsUnused s.records key.file key.id) = search (rules, found) in
-    let wrong = unfit (is_indexed key.file (rec_at s.records key.file key.id)) (Fits (high s.records) key.file (rec_at s.records key.file key.id)) bad.1 in
-    breaks_by s.records s.shape 1 c.broken-in-Some-2.result (damage key.file key.id 1) c.broken-in-Some-2.ensures refl (RecordRange key.file key.id is bad.0 wrong.0 wrong.1)
+    let found : IfSome c.in_ok-key.field-0 (λ k. (k.id < high s.records k.file) × (¬ FitsAt s.records k.file k.id))
+    = subst (λ (r : Records). IfSome c.in_ok-key.field-0 (λ k. (k.id < high r k.file) × (¬ FitsAt r k.file k.id))) (c.in_ok-id.ensures.same ∙ c.in_ok-is_own_right.ensures.same) (c.in_ok-key.ensures.found tells) in
+    let bad : (key.id < high s.records key.file) × (¬ FitsAt s.records key.file key.id) = search (rules, found) in
+    breaks_by s.records s.shape 1 c.broken-in-Some-2.result (damage key.file key.id 1) c.broken-in-Some-2.ensures refl refl (RecordRange key.file key.id is bad.0 bad.1)
 
 pub returns-in-None-clause-decided : goal.returns-in-None-clause-decided
 returns-in-None-clause-decided g c = λ tells.
@@ -52,9 +49,9 @@ returns-in-None-clause-decided g c = λ tells.
     = subst (λ (r : Records). IfNone c.in_ok-id.field-0 ((n : ℕ) → n < meta_records → IsMetaKept r s.shape n)) c.in_ok-is_own_right.ensures.same
     (subst (λ (h : Shape). IfNone c.in_ok-id.field-0 ((n : ℕ) → n < meta_records → IsMetaKept (g.R.Reads.state c.is_own_right.new.space).records h n)) (g.met.R.Reads.onward_shape _ _ c.in_ok-is_own_right.ensures.onward) (c.in_ok-id.ensures.none tells)) in
     let metas : (n : ℕ) → n < meta_records → IsMetaKept s.records s.shape n = search (rules, right) in
-    let fitting : IfNone c.in_ok-key.field-0 ((f x : ℕ) → is_meta_file f ≡ true → x < high s.records f → FitsUnused s.records f x)
-    = subst (λ (r : Records). IfNone c.in_ok-key.field-0 ((f x : ℕ) → is_meta_file f ≡ true → x < high r f → FitsUnused r f x)) (c.in_ok-id.ensures.same ∙ c.in_ok-is_own_right.ensures.same) (c.in_ok-key.ensures.none tells) in
-    let fit : (f x : ℕ) → is_meta_file f ≡ true → x < high s.records f → FitsUnused s.records f x = search (rules, fitting) in
+    let fitting : IfNone c.in_ok-key.field-0 ((f x : ℕ) → is_meta_file f ≡ true → x < high s.records f → FitsAt s.records f x)
+    = subst (λ (r : Records). IfNone c.in_ok-key.field-0 ((f x : ℕ) → is_meta_file f ≡ true → x < high r f → FitsAt r f x)) (c.in_ok-id.ensures.same ∙ c.in_ok-is_own_right.ensures.same) (c.in_ok-key.ensures.none tells) in
+    let fit : (f x : ℕ) → is_meta_file f ≡ true → x < high s.records f → FitsAt s.records f x = search (rules, fitting) in
     record {
       own = own.own;
       newest = own.newest;

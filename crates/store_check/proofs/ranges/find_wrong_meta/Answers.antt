@@ -5,7 +5,7 @@ use Rattle.rec_bytes.specs.RecordFiles.{is_meta_file}
 use Rattle.rec_bytes.proofs.RecordFiles.{is_meta_file-record, is_record_file-low}
 use Rattle.store_rules.specs.Views.{Records, high}
 use Rattle.store_rules.specs.Breaking.{IsMetaKept}
-use Rattle.store_check.proofs.HeadLaws.{one_more}
+use Rattle.record_lists.proofs.HeadLaws.{one_more}
 use Rattle.store_check.proofs.ranges.find_wrong_meta.Goals as goal
 
 pub loop-id-init : goal.loop-id-init

@@ -3,7 +3,7 @@ use Rattle.rec_bytes.specs.declared.record_files.RecordFile.{RecordFile}
 use Rattle.rec_bytes.specs.declared.record_files.RecordRoom.TheVariants.{Fixed}
 use Rattle.rec_bytes.specs.Format.{most_ids}
 use Rattle.store_rules.specs.Views.{Records, high}
-use Rattle.store_check.specs.Fitting.{FitsUnused}
+use Rattle.store_check.specs.Fitting.{FitsAt}
 use Rattle.store_check.proofs.FileLaws.{entry_is, holds_all, holds_more, holds_none}
 use Rattle.store_check.proofs.ranges.find_wrong_record.Goals as goal
 
@@ -28,7 +28,7 @@ find_wrong-requires-clause-mark g c =
 pub returns-clause-none : goal.returns-clause-none
 returns-clause-none g c t f x is lt =
     let records = (g.R.Reads.state c.args.space.now).records in
-    holds_all c.all_but_meta-entry-items.result.now c.all_but_meta-entry-items.ensures c.loop-entry.entry-index (λ file. (y : ℕ) → y < high records file → FitsUnused records file y)
+    holds_all c.all_but_meta-entry-items.result.now c.all_but_meta-entry-items.ensures c.loop-entry.entry-index (λ file. (y : ℕ) → y < high records file → FitsAt records file y)
     (omega (arith, c.loop-entry-test.false)) (c.loop-entry.invariant.all t) f is x lt
 
 pub returns-in-Some-clause-file : goal.returns-in-Some-clause-file
@@ -45,10 +45,10 @@ loop-entry-preserved g c =
       same = c.in_ok-id.ensures.same ∙ inv.same;
       written = c.in_ok-id.ensures.written ∙ inv.written;
       all = λ t.
-          let none : IfNone c.in_ok-id.field-0 ((y : ℕ) → y < high records file → FitsUnused records file y)
-          = subst (λ (r : Records). IfNone c.in_ok-id.field-0 ((y : ℕ) → y < high r file → FitsUnused r file y)) inv.same (c.in_ok-id.ensures.none t) in
-          let each : (y : ℕ) → y < high records file → FitsUnused records file y = search (rules, none) in
-          holds_more items c.loop-entry.entry-index other (λ f. (y : ℕ) → y < high records f → FitsUnused records f y) c.loop-entry-test.true (inv.all t) each;
+          let none : IfNone c.in_ok-id.field-0 ((y : ℕ) → y < high records file → FitsAt records file y)
+          = subst (λ (r : Records). IfNone c.in_ok-id.field-0 ((y : ℕ) → y < high r file → FitsAt r file y)) inv.same (c.in_ok-id.ensures.none t) in
+          let each : (y : ℕ) → y < high records file → FitsAt records file y = search (rules, none) in
+          holds_more items c.loop-entry.entry-index other (λ f. (y : ℕ) → y < high records f → FitsAt records f y) c.loop-entry-test.true (inv.all t) each;
       onward = g.met.R.Reads.further_onward c.args.space.now c.loop-entry.space c.find_wrong.new.space inv.onward c.in_ok-id.ensures.onward;
       faults = let cause = c.in_ok-id.ensures.cause in omega (arith, inv.faults, cause.later);
     }

@@ -3,10 +3,10 @@ use Rattle.rec_bytes.specs.Format.{properties_file}
 use Rattle.rec_bytes.specs.Record.{field}
 use Rattle.store_rules.specs.Views.{Records, high, is_live}
 use Rattle.store_rules.specs.Breaking.{IsPropertyList}
-use Rattle.store_check.specs.Elements.{first_of}
+use Rattle.store_rules.specs.PropertyChange.{property_from}
 use Rattle.store_check.proofs.PropertyLaws.{properties_one}
-use Rattle.store_check.proofs.RecordLaws.{free_read, live_read}
-use Rattle.store_check.proofs.Causes.{cause_passed}
+use Rattle.record_lists.proofs.RecordLaws.{free_read, live_read}
+use Rattle.record_lists.proofs.Causes.{cause_passed}
 use Rattle.store_check.proofs.elements.ElementHeadsHeads.list.Goals as goal
 
 pub property_list-requires-clause-mark : goal.property_list-requires-clause-mark
@@ -28,11 +28,11 @@ returns-in-Some-clause-told g c = λ tells.
     let lt : c.args.id < high records file = omega (arith, c.requires.id, c.requires.suits.elements) in
     let got = c.in_ok-rec.ensures.got tells in
     let live : is_live records file c.args.id ≡ true = live_read records file c.args.id c.in_ok-rec.rec lt got (λ z. c.if-byte-eq-FREE.false (c.byte.ensures ∙ z)) in
-    let first : c.number-first.result ≡ first_of records file c.args.id = c.number-first.ensures ∙ ap (λ r. field 4 r c.first_place.result) got ∙ ap (field 4 (records (record { file = file; id = c.args.id }))) c.first_place.ensures.is in
+    let first : c.number-first.result ≡ property_from records file c.args.id = c.number-first.ensures ∙ ap (λ r. field 4 r c.property_place.result) got ∙ ap (field 4 (records (record { file = file; id = c.args.id }))) c.property_place.ensures.is in
     let read = ap (λ s. s.records) c.in_ok-rec.ensures.state in
     let found : IsPropertyList (g.R.Reads.state c.get.new.self).records c.number-first.result ids = search (rules, c.in_ok-ids.ensures.found tells) in
-    let list : IsPropertyList records (first_of records file c.args.id) ids = subst (λ f. IsPropertyList records f ids) first (subst (λ (r : Records). IsPropertyList r c.number-first.result ids) read found) in
-    (live, list, (λ xs h. properties_one records (first_of records file c.args.id) xs ids h list))
+    let list : IsPropertyList records (property_from records file c.args.id) ids = subst (λ f. IsPropertyList records f ids) first (subst (λ (r : Records). IsPropertyList r c.number-first.result ids) read found) in
+    (live, list, (λ xs h. properties_one records (property_from records file c.args.id) xs ids h list))
 
 pub returns-in-None-clause-told : goal.returns-in-None-clause-told
 returns-in-None-clause-told g c = λ tells.
@@ -41,7 +41,7 @@ returns-in-None-clause-told g c = λ tells.
     let lt : c.args.id < high records file = omega (arith, c.requires.id, c.requires.suits.elements) in
     let got = c.in_ok-rec.ensures.got tells in
     let live : is_live records file c.args.id ≡ true = live_read records file c.args.id c.in_ok-rec.rec lt got (λ z. c.if-byte-eq-FREE.false (c.byte.ensures ∙ z)) in
-    let first : c.number-first.result ≡ first_of records file c.args.id = c.number-first.ensures ∙ ap (λ r. field 4 r c.first_place.result) got ∙ ap (field 4 (records (record { file = file; id = c.args.id }))) c.first_place.ensures.is in
+    let first : c.number-first.result ≡ property_from records file c.args.id = c.number-first.ensures ∙ ap (λ r. field 4 r c.property_place.result) got ∙ ap (field 4 (records (record { file = file; id = c.args.id }))) c.property_place.ensures.is in
     let read = ap (λ s. s.records) c.in_ok-rec.ensures.state in
     let none : (xs : List ℕ) → ¬ IsPropertyList (g.R.Reads.state c.get.new.self).records c.number-first.result xs = search (rules, c.in_ok-ids.ensures.none tells) in
     (live, subst (λ f. (xs : List ℕ) → ¬ IsPropertyList records f xs) first (subst (λ (r : Records). (xs : List ℕ) → ¬ IsPropertyList r c.number-first.result xs) read none))

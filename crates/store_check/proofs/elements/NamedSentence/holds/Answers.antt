@@ -6,7 +6,7 @@ use Rattle.rec_bytes.specs.Record.{field}
 use Rattle.store_rules.specs.Views.{Records, high}
 use Rattle.store_rules.proofs.NumberLaws.{eq_true, lt_true}
 use Rattle.store_rules.specs.Breaking.{label_of}
-use Rattle.store_check.proofs.RecordLaws.{free_read, live_read}
+use Rattle.record_lists.proofs.RecordLaws.{free_read, live_read}
 use Rattle.store_check.proofs.elements.NamedSentence.holds.Goals as goal
 
 below : (a b : ℕ) → nat_lt a b ≡ true → a < b

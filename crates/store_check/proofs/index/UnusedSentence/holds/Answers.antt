@@ -3,7 +3,7 @@ use borrow.Author.Tests.{eqb-true}
 use Rattle.rec_bytes.specs.Format.{index_file}
 use Rattle.store_rules.specs.Views.{high}
 use Rattle.store_rules.proofs.NumberLaws.{eq_true}
-use Rattle.store_check.proofs.RecordLaws.{kind_read}
+use Rattle.record_lists.proofs.RecordLaws.{kind_read}
 use Rattle.store_check.proofs.index.UnusedSentence.holds.Goals as goal
 
 pub returns-clause-told : goal.returns-clause-told

@@ -4,10 +4,10 @@ use Rattle.rec_bytes.specs.Format as format
 use Rattle.rec_bytes.specs.Record.{field}
 use Rattle.store_rules.specs.Views.{Records, high}
 use Rattle.store_rules.specs.Breaking.{IsLong, block_size, first_block, text_size}
-use Rattle.store_check.specs.Lines.{IsLineIn}
+use Rattle.record_lists.specs.Lines.{IsLineIn}
 use Rattle.store_check.specs.Pieces.{AreLengths}
 use Rattle.store_check.specs.Texts.{block_line}
-use Rattle.store_check.proofs.RecordLaws.{kind_read}
+use Rattle.record_lists.proofs.RecordLaws.{kind_read}
 use Rattle.store_check.proofs.TextLaws.{IsIt, blocks_of, blocks_one, no_blocks, wrong_blocks}
 use Rattle.store_check.proofs.texts.TextHeadsHeads.list.Goals as goal
 

@@ -1,0 +1,155 @@
+-- Marks of the groups on group chains, group by group and node by node.
+use Rattle.std.proofs.Common.{◌≡◌, ◌≢◌, ◌⊎◌, ℕ, ◌+◌, ◌<◌, ◌≤◌, Bool, true, false, cond, List, length, set, sym, ap, ◌∙◌, subst, inl, inr, ⊎_elim, arith, refl, get_or-set_other, get_or-set_same}
+use Rattle.std.specs.Bool.{Decides}
+use Rattle.std.specs.List.{sum_by}
+use Rattle.std.proofs.lemmas.Bool.{cases_Bool, cases_lt, true≢false}
+use Rattle.std.proofs.lemmas.List.Sums.{sum_by-set}
+use Rattle.rec_bytes.specs.Format as format
+use Rattle.store_rules.specs.Breaking.{IsOnChain, IsOwnedBy}
+use Rattle.store_rules.specs.Breaking.IsOnChain.{First, Next}
+use Rattle.store_rules.specs.Views.{Records, first_link, high, rec_at}
+use Rattle.store_rules.proofs.ChainRules.{on_dense, on_owned}
+use Rattle.store_rules.proofs.NumberLaws.{nat_cases}
+use Rattle.store_rules.proofs.ViewLaws.{kind_below}
+use Rattle.record_lists.specs.Marks.{marked}
+use Rattle.chain_check.specs.Chained.{MarksChain, MarksChains, next_group}
+use Rattle.chain_check.specs.NodeChains.{IsDense}
+
+-- how many have no mark
+abbrev pub unmarked : List Bool → ℕ
+unmarked marks = sum_by (λ b. cond b 0 1) marks
+
+-- one less, after one more mark
+pub unmarked-set : (marks : List Bool) (at : ℕ) → at < length marks → marked marks at ≡ false → unmarked (set marks at true) < unmarked marks
+unmarked-set marks at lt none =
+    let e = sum_by-set (λ (b : Bool). cond b 0 1) marks at true false lt in
+    let one : unmarked (set marks at true) + 1 ≡ unmarked marks + 0 = subst (λ b. unmarked (set marks at true) + cond b 0 1 ≡ unmarked marks + 0) none e in
+    omega arith
+
+module _ (records : Records) where
+  module _ (node from : ℕ) where
+    -- A walk of the groups that the node owns has come to a record. What it marked is on the chain, and leads to
+    -- what is marked, or to this record.
+    pub record HasCome (old new : List Bool) (at : ℕ) : Type 0 where
+      pub kept : (g : ℕ) → marked old g ≡ true → marked new g ≡ true
+      pub only : (g : ℕ) → marked new g ≡ true → (marked old g ≡ true) ⊎ IsOnChain records node g
+      pub here : IsOwnedBy records node at → IsOnChain records node at
+      pub first : IsOwnedBy records node from → (marked new from ≡ true) ⊎ (from ≡ at)
+      pub next : (g : ℕ) → IsOwnedBy records node g → marked new g ≡ true → IsOwnedBy records node (next_group records g)
+          → (marked new (next_group records g) ≡ true) ⊎ (next_group records g ≡ at)
+
+    module _ (dense : IsDense records node) (is : first_link records node ≡ from) where
+      pub come_first : (old : List Bool) → ((g : ℕ) → IsOwnedBy records node g → marked old g ≡ false) → HasCome old old from
+      come_first old clear = record {
+        kept = λ g m. m;
+        only = λ g m. inl m;
+        here = λ own. First from dense is own;
+        first = λ own. inr refl;
+        next = λ g own m after. absurd (true≢false (sym m ∙ clear g own));
+      }
+
+      -- where the walk ends, it has marked the chain
+      pub come_last : (old new : List Bool) (at : ℕ) → HasCome old new at → (IsOwnedBy records node at → marked new at ≡ true) → MarksChain records node old new
+      come_last old new at h last g = (h.only g, ⊎_elim (h.kept g) (all g))
+        where
+          all : (k : ℕ) → IsOnChain records node k → marked new k ≡ true
+          all k (First z d e own) =
+              let begins : from ≡ k = sym is ∙ e in
+              ⊎_elim
+              (λ (m : marked new from ≡ true). subst (λ x. marked new x ≡ true) begins m)
+              (λ (a : from ≡ at). subst (λ x. marked new x ≡ true) (sym a ∙ begins) (last (subst (IsOwnedBy records node) (sym begins ∙ a) own)))
+              (h.first (subst (IsOwnedBy records node) (sym begins) own))
+          all k (Next z y on e own) =
+              ⊎_elim
+              (λ (m : marked new (next_group records z) ≡ true). subst (λ x. marked new x ≡ true) e m)
+              (λ (a : next_group records z ≡ at). subst (λ x. marked new x ≡ true) (sym a ∙ e) (last (subst (IsOwnedBy records node) (sym e ∙ a) own)))
+              (h.next z (on_owned records node z on) (all z on) (subst (IsOwnedBy records node) (sym e) own))
+
+    -- one group more
+    module _ (old new : List Bool) (at to : ℕ) (lt : at < length new) where
+      now : List Bool
+      now = set new at true
+
+      marked_at : marked (set new at true) at ≡ true
+      marked_at = rw get_or-set_same refl
+
+      marked_else : (g : ℕ) → g ≢ at → marked (set new at true) g ≡ marked new g
+      marked_else g ne = rw get_or-set_other refl
+
+      grown : (g : ℕ) → marked new g ≡ true → marked (set new at true) g ≡ true
+      grown g m = ⊎_elim (λ (e : g ≡ at). subst (λ x. marked (set new at true) x ≡ true) (sym e) marked_at) (λ (ne : g ≢ at). marked_else g ne ∙ m) (nat_cases g at)
+
+      pub come_next : HasCome old new at → IsOwnedBy records node at → next_group records at ≡ to → HasCome old (set new at true) to
+      come_next h own is = record {
+        kept = λ g m. grown g (h.kept g m);
+        only = λ g m. ⊎_elim
+            (λ (e : g ≡ at). inr (subst (IsOnChain records node) (sym e) (h.here own)))
+            (λ (ne : g ≢ at). h.only g (sym (marked_else g ne) ∙ m))
+            (nat_cases g at);
+        here = λ o. Next at to (h.here own) is o;
+        first = λ o. ⊎_elim
+            (λ m. inl (grown from m))
+            (λ (e : from ≡ at). inl (subst (λ x. marked (set new at true) x ≡ true) (sym e) marked_at))
+            (h.first o);
+        next = λ g o m after. ⊎_elim
+            (λ (e : g ≡ at). inr (ap (next_group records) e ∙ is))
+            (λ (ne : g ≢ at). ⊎_elim
+            (λ k. inl (grown (next_group records g) k))
+            (λ (a : next_group records g ≡ at). inl (subst (λ x. marked (set new at true) x ≡ true) (sym a) marked_at))
+            (h.next g o (sym (marked_else g ne) ∙ m) after))
+            (nat_cases g at);
+      }
+
+  -- a node that isn't dense has no group chain
+  pub not_dense : (node : ℕ) (marks : List Bool) → ¬ IsDense records node → MarksChain records node marks marks
+  not_dense node marks other g = ((λ m. inl m), ⊎_elim (λ m. m) (λ on. absurd (other (on_dense records node g on))))
+
+  -- what isn't below the mark is owned by none
+  pub owned_low : (node g : ℕ) → IsOwnedBy records node g → g < high records format.groups_file
+  owned_low node g own = kind_below (high records format.groups_file) (rec_at records format.groups_file g) g own.used
+
+  -- ---- node by node
+
+  -- the group is on the chain of one of the first nodes
+  pub record IsOnOneBelow (mark g : ℕ) : Type 0 where
+    pub node : ℕ
+    pub below : node < mark
+    pub on : IsOnChain records node g
+
+  abbrev pub MarksBelow : ℕ → List Bool → Type 0
+  MarksBelow mark marks = (g : ℕ) → Decides (marked marks g) (IsOnOneBelow mark g)
+
+  pub below_none : (marks : List Bool) → ((g : ℕ) → marked marks g ≡ false) → MarksBelow 0 marks
+  below_none marks clear g = ((λ m. absurd (true≢false (sym m ∙ clear g))), (λ h. absurd (let lt : h.node < 0 = h.below in omega arith)))
+
+  -- the groups of the next node have no mark yet
+  pub below_clear : (mark : ℕ) (marks : List Bool) → MarksBelow mark marks → (g : ℕ) → IsOwnedBy records mark g → marked marks g ≡ false
+  below_clear mark marks h g own = ⊎_elim
+      (λ (m : marked marks g ≡ true).
+      let o = (h g).0 m in
+      let same : o.node ≡ mark = let k = on_owned records o.node g o.on in sym k.owner ∙ own.owner in
+      absurd (let lt : o.node < mark = o.below in omega arith))
+      (λ (f : marked marks g ≡ false). f)
+      (cases_Bool (marked marks g))
+
+  pub below_more : (mark : ℕ) (old new : List Bool) → MarksBelow mark old → MarksChain records mark old new → MarksBelow (mark + 1) new
+  below_more mark old new h step g = (
+    (λ m. ⊎_elim
+        (λ o. let k = (h g).0 o in let lt : k.node < mark = k.below in record { node = k.node; below = omega arith; on = k.on })
+        (λ on. record { node = mark; below = omega arith; on = on })
+        ((step g).0 m)),
+    (λ k. (step g).1 (⊎_elim
+        (λ (lt : k.node < mark). inl ((h g).1 (record { node = k.node; below = lt; on = k.on })))
+        (λ (ge : mark ≤ k.node). let lt : k.node < mark + 1 = k.below in let same : k.node ≡ mark = omega arith in inr (subst (λ n. IsOnChain records n g) same k.on))
+        (cases_lt k.node mark))),
+  )
+
+  -- all nodes
+  pub below_all : (marks : List Bool) → MarksBelow (high records format.nodes_file) marks → MarksChains records marks
+  below_all marks h g = (
+    (λ m. let k = (h g).0 m in (k.node, k.on)),
+    (λ k.
+        let dense = on_dense records k.0 g k.1 in
+        let low = kind_below (high records format.nodes_file) (rec_at records format.nodes_file k.0) k.0 (λ z. let two : 2 ≡ 0 = sym dense ∙ z in omega arith) in
+        (h g).1 (record { node = k.0; below = low; on = k.1 })),
+  )

@@ -1,0 +1,7 @@
+pub mod ChainLaws
+pub mod ChainedLaws
+pub mod DegreeLaws
+pub mod EndLaws
+pub mod GroupChainLaws
+pub mod GroupCountLaws
+pub mod SideLaws

@@ -1,0 +1,24 @@
+use Rattle.std.proofs.Common.{arith, ◌∙◌, ap, subst, sym}
+use Rattle.rec_bytes.specs.Format.{nodes_file}
+use Rattle.store_rules.specs.Views.{Records}
+use Rattle.record_lists.proofs.RecordLaws.{kind_read}
+use Rattle.chain_check.specs.NodeChains.{IsDense}
+use Rattle.chain_check.proofs.ChainedLaws.{not_dense}
+use Rattle.record_lists.proofs.Causes.{cause_passed}
+use Rattle.chain_check.proofs.chained.mark_chain.Goals as goal
+
+pub returns-then-byte-ne-DENSE-clause-marks : goal.returns-then-byte-ne-DENSE-clause-marks
+returns-then-byte-ne-DENSE-clause-marks g c = λ tells.
+    let records = (g.R.Reads.state c.args.space.now).records in
+    let kind = kind_read records nodes_file c.args.node c.in_ok-rec.rec c.requires.node (c.in_ok-rec.ensures.got tells) in
+    not_dense records c.args.node c.args.marks.now (λ (dense : IsDense records c.args.node). c.if-byte-ne-DENSE.true (c.byte.ensures ∙ sym kind ∙ dense))
+
+pub mark_from-requires-clause-dense : goal.mark_from-requires-clause-dense
+mark_from-requires-clause-dense g c = λ tells.
+    let records = (g.R.Reads.state c.args.space.now).records in
+    let kind = kind_read records nodes_file c.args.node c.in_ok-rec.rec c.requires.node (c.in_ok-rec.ensures.got tells) in
+    subst (λ (r : Records). IsDense r c.args.node) (sym (ap (λ s. s.records) c.in_ok-rec.ensures.state)) (kind ∙ sym c.byte.ensures ∙ c.if-byte-ne-DENSE.false)
+
+pub returns-in_err-rec-clause-cause : goal.returns-in_err-rec-clause-cause
+returns-in_err-rec-clause-cause g c =
+    cause_passed _ _ _ c.from_residual.result c.in_err-rec.field-0.0 (omega arith) c.in_err-rec.ensures.cause c.from_residual.ensures.1

@@ -1,0 +1,46 @@
+use Rattle.std.proofs.Common.{◌≡◌, ◌∙◌, ap, arith, refl, subst}
+use Rattle.rec_bytes.specs.declared.meta.Meta.{Meta}
+use Rattle.rec_bytes.specs.Format.{nodes_file}
+use Rattle.store_rules.specs.Breaking.{IsOwnedBy}
+use Rattle.store_rules.specs.Views.{Records, high}
+use Rattle.chain_check.specs.Chained.{MarksChain}
+use Rattle.chain_check.proofs.ChainedLaws.{MarksBelow, below_all, below_clear, below_more, below_none}
+use Rattle.record_lists.proofs.Causes.{cause_passed}
+use Rattle.chain_check.proofs.chained.mark_chains.Goals as goal
+
+pub loop-node-init : goal.loop-node-init
+loop-node-init g c = record {
+  same = refl;
+  written = refl;
+  marks = λ t. below_none (g.R.Reads.state c.args.space.now).records c.args.marks.now c.requires.clear;
+  onward = g.met.R.Reads.stays_onward c.args.space.now;
+  faults = omega arith;
+}
+
+pub mark_chain-requires-clause-clear : goal.mark_chain-requires-clause-clear
+mark_chain-requires-clause-clear g c = λ t k own.
+    let inv = c.loop-node.invariant in
+    below_clear (g.R.Reads.state c.args.space.now).records c.loop-node.node c.loop-node.marks (inv.marks t) k (subst (λ (r : Records). IsOwnedBy r c.loop-node.node k) inv.same own)
+
+pub loop-node-preserved : goal.loop-node-preserved
+loop-node-preserved g c =
+    let records = (g.R.Reads.state c.args.space.now).records in
+    let inv = c.loop-node.invariant in
+    record {
+      same = c.in_ok-mark_chain.ensures.same ∙ inv.same;
+      written = c.in_ok-mark_chain.ensures.written ∙ inv.written;
+      marks = λ t. below_more records c.loop-node.node c.loop-node.marks c.mark_chain.new.marks (inv.marks t)
+          (subst (λ (r : Records). MarksChain r c.loop-node.node c.loop-node.marks c.mark_chain.new.marks) inv.same (c.in_ok-mark_chain.ensures.marks t));
+      onward = g.met.R.Reads.further_onward c.args.space.now c.loop-node.space c.mark_chain.new.space inv.onward c.in_ok-mark_chain.ensures.onward;
+      faults = let cause = c.in_ok-mark_chain.ensures.cause in omega (arith, inv.faults, cause.later);
+    }
+
+pub returns-clause-marks : goal.returns-clause-marks
+returns-clause-marks g c = λ t.
+    let records = (g.R.Reads.state c.args.space.now).records in
+    let mark : c.meta-node-end.result.high ≡ high records nodes_file = ap (λ (m : Meta). m.high) c.meta-node-end.ensures in
+    below_all records c.loop-node.marks (subst (λ n. MarksBelow records n c.loop-node.marks) (omega arith) (c.loop-node.invariant.marks t))
+
+pub returns-in_err-mark_chain-clause-cause : goal.returns-in_err-mark_chain-clause-cause
+returns-in_err-mark_chain-clause-cause g c =
+    cause_passed _ _ _ c.from_residual.result c.in_err-mark_chain.field-0.0 c.loop-node.invariant.faults c.in_err-mark_chain.ensures.cause c.from_residual.ensures.1

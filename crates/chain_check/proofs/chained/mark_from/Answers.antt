@@ -1,0 +1,59 @@
+use Rattle.std.proofs.Common.{◌≡◌, ◌∙◌, true, arith, refl, rules, sym, subst}
+use Rattle.store_rules.specs.Breaking.{IsOwnedBy}
+use Rattle.store_rules.specs.Views.{Records}
+use Rattle.record_lists.specs.Marks.{marked}
+use Rattle.chain_check.specs.Chained.{next_group}
+use Rattle.chain_check.proofs.ChainedLaws.{come_first, come_last, come_next, owned_low}
+use Rattle.record_lists.proofs.Causes.{cause_passed}
+use Rattle.chain_check.proofs.chained.mark_from.Goals as goal
+
+pub loop-at-init : goal.loop-at-init
+loop-at-init g c = record {
+  same = refl;
+  written = refl;
+  come = λ t. come_first (g.R.Reads.state c.args.space.now).records c.args.node c.args.first (c.requires.dense t) (c.requires.first t) c.args.marks.now (c.requires.clear t);
+  onward = g.met.R.Reads.stays_onward c.args.space.now;
+  faults = omega arith;
+}
+
+pub loop-at-preserved : goal.loop-at-preserved
+loop-at-preserved g c =
+    let records = (g.R.Reads.state c.args.space.now).records in
+    let inv = c.loop-at.invariant in
+    record {
+      same = c.in_ok-next.ensures.same ∙ inv.same;
+      written = c.in_ok-next.ensures.written ∙ inv.written;
+      come = λ t.
+          let now = (g.R.Reads.state c.loop-at.space).records in
+          let owned : IsOwnedBy now c.args.node c.loop-at.at × (next_group now c.loop-at.at ≡ c.in-Some.next) = search (rules, c.in_ok-next.ensures.owned t) in
+          come_next records c.args.node c.args.first c.args.marks.now c.loop-at.marks c.loop-at.at c.in-Some.next c.loop-at-test.true (inv.come t)
+          (subst (λ (r : Records). IsOwnedBy r c.args.node c.loop-at.at) inv.same owned.0)
+          (subst (λ (r : Records). next_group r c.loop-at.at ≡ c.in-Some.next) inv.same owned.1);
+      onward = g.met.R.Reads.further_onward c.args.space.now c.loop-at.space c.next_owned.new.space inv.onward c.in_ok-next.ensures.onward;
+      faults = let cause = c.in_ok-next.ensures.cause in omega (arith, inv.faults, cause.later);
+    }
+
+pub returns-in_default-clause-marks : goal.returns-in_default-clause-marks
+returns-in_default-clause-marks g c = λ t.
+    let records = (g.R.Reads.state c.args.space.now).records in
+    let inv = c.loop-at.invariant in
+    let now = (g.R.Reads.state c.loop-at.space).records in
+    let none : ¬ IsOwnedBy now c.args.node c.loop-at.at = search (rules, c.in_ok-next.ensures.none t) in
+    come_last records c.args.node c.args.first (c.requires.dense t) (c.requires.first t) c.args.marks.now c.loop-at.marks c.loop-at.at (inv.come t)
+    (λ own. absurd (none (subst (λ (r : Records). IsOwnedBy r c.args.node c.loop-at.at) (sym inv.same) own)))
+
+pub returns-else-not-marks-at-clause-marks : goal.returns-else-not-marks-at-clause-marks
+returns-else-not-marks-at-clause-marks g c = λ t.
+    let records = (g.R.Reads.state c.args.space.now).records in
+    let is : marked c.loop-at.marks c.loop-at.at ≡ true = search rules in
+    come_last records c.args.node c.args.first (c.requires.dense t) (c.requires.first t) c.args.marks.now c.loop-at.marks c.loop-at.at (c.loop-at.invariant.come t) (λ own. is)
+
+pub returns-after-loop-at-clause-marks : goal.returns-after-loop-at-clause-marks
+returns-after-loop-at-clause-marks g c = λ t.
+    let records = (g.R.Reads.state c.args.space.now).records in
+    come_last records c.args.node c.args.first (c.requires.dense t) (c.requires.first t) c.args.marks.now c.loop-at.marks c.loop-at.at (c.loop-at.invariant.come t)
+    (λ own. absurd (let low = owned_low records c.args.node c.loop-at.at own in omega (arith, c.loop-at-test.false, c.loop-at.auto.marks, c.requires.marks)))
+
+pub returns-in_err-next-clause-cause : goal.returns-in_err-next-clause-cause
+returns-in_err-next-clause-cause g c =
+    cause_passed _ _ _ c.from_residual.result c.in_err-next.field-0.0 c.loop-at.invariant.faults c.in_err-next.ensures.cause c.from_residual.ensures.1

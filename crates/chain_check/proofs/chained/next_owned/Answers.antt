@@ -1,0 +1,28 @@
+use Rattle.std.proofs.Common.{arith, ap, sym, ◌∙◌}
+use Rattle.rec_bytes.specs.Format.{group_next, group_owner, groups_file}
+use Rattle.rec_bytes.specs.Record.{field}
+use Rattle.record_lists.proofs.RecordLaws.{kind_read}
+use Rattle.record_lists.proofs.Causes.{cause_passed}
+use Rattle.chain_check.proofs.chained.next_owned.Goals as goal
+
+pub returns-then-byte-eq-FREE-clause-none : goal.returns-then-byte-eq-FREE-clause-none
+returns-then-byte-eq-FREE-clause-none g c = λ tells own.
+    let records = (g.R.Reads.state c.args.space.now).records in
+    let kind = kind_read records groups_file c.args.id c.in_ok-rec.rec c.requires.id (c.in_ok-rec.ensures.got tells) in
+    own.used (kind ∙ sym c.byte.ensures ∙ c.if-byte-eq-FREE.true)
+
+pub returns-clause-owned : goal.returns-clause-owned
+returns-clause-owned g c = λ tells.
+    let records = (g.R.Reads.state c.args.space.now).records in
+    let got = c.in_ok-rec.ensures.got tells in
+    let kind = kind_read records groups_file c.args.id c.in_ok-rec.rec c.requires.id got in (
+      record {
+        used = λ z. c.if-byte-eq-FREE.false (c.byte.ensures ∙ sym kind ∙ z);
+        owner = ap (λ r. field 4 r group_owner) (sym got) ∙ sym c.number.ensures ∙ c.if-number-node.false;
+      },
+      ap (λ r. field 4 r group_next) (sym got) ∙ sym c.number-2.ensures,
+    )
+
+pub returns-in_err-rec-clause-cause : goal.returns-in_err-rec-clause-cause
+returns-in_err-rec-clause-cause g c =
+    cause_passed _ _ _ c.from_residual.result c.in_err-rec.field-0.0 (omega arith) c.in_err-rec.ensures.cause c.from_residual.ensures.1

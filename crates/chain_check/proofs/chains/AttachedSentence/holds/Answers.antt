@@ -1,0 +1,56 @@
+use Rattle.std.proofs.Common.{rules, arith, ◌<◌, ◌≢◌, ◌∙◌, sym, refl}
+use Rattle.std.specs.Bool.{Decides}
+use Rattle.std.proofs.lemmas.Bool.{true≢false}
+use Rattle.rec_bytes.specs.Format.{relationships_file}
+use Rattle.rec_bytes.specs.Record.{field}
+use Rattle.store_rules.specs.Views.{high}
+use Rattle.record_lists.specs.Marks.{marked}
+use Rattle.chain_check.specs.NodeChains.{EndHolds, end_in}
+use Rattle.chain_check.proofs.EndLaws.{hold_both, hold_from, hold_to, none_holds}
+use Rattle.record_lists.proofs.RecordLaws.{kind_read}
+use Rattle.record_lists.proofs.Causes.{cause_passed}
+use Rattle.chain_check.proofs.chains.AttachedSentence.holds.Goals as goal
+
+pub returns-then-byte-eq-FREE-clause-told : goal.returns-then-byte-eq-FREE-clause-told
+returns-then-byte-eq-FREE-clause-told g c = λ tells.
+    let records = (g.R.Reads.state c.args.space.now).records in
+    let lt : c.args.id < high records relationships_file = omega (arith, c.requires.id, c.requires.suits.relationships) in
+    let kind = kind_read records relationships_file c.args.id c.in_ok-rec.rec lt (c.in_ok-rec.ensures.got tells) in
+    ((λ _. none_holds records c.args.self.now.marks.now c.args.id (kind ∙ sym c.byte.ensures ∙ c.if-byte-eq-FREE.true)), (λ _. refl))
+
+pub returns-then-leaves-clause-told : goal.returns-then-leaves-clause-told
+returns-then-leaves-clause-told g c = λ tells.
+    let records = (g.R.Reads.state c.args.space.now).records in
+    let lt : c.args.id < high records relationships_file = omega (arith, c.requires.id, c.requires.suits.relationships) in
+    let r = c.in_ok-rec.rec in
+    let marks = c.args.self.now.marks.now in
+    let some : field 1 r 0 ≢ 0 = λ z. c.if-byte-eq-FREE.false (c.byte.ensures ∙ z) in
+    let got = c.in_ok-rec.ensures.got tells in
+    let from : Decides c.in_ok-leaves.leaves (EndHolds records (field 4 r 8) (marked marks (end_in r (field 4 r 8) c.args.id))) = search (rules, c.in_ok-leaves.ensures.holds tells) in
+    let to : Decides c.in_ok-enters.enters (EndHolds records (field 4 r 12) (marked marks (end_in r (field 4 r 12) c.args.id))) = search (rules, c.in_ok-enters.ensures.holds tells) in
+    ((λ e. hold_both records marks c.args.id r lt got some (from.0 c.if-leaves.true) (to.0 e)), (λ h. to.1 (hold_to records marks c.args.id r lt got some h)))
+
+pub returns-else-leaves-clause-told : goal.returns-else-leaves-clause-told
+returns-else-leaves-clause-told g c = λ tells.
+    let records = (g.R.Reads.state c.args.space.now).records in
+    let lt : c.args.id < high records relationships_file = omega (arith, c.requires.id, c.requires.suits.relationships) in
+    let r = c.in_ok-rec.rec in
+    let marks = c.args.self.now.marks.now in
+    let some : field 1 r 0 ≢ 0 = λ z. c.if-byte-eq-FREE.false (c.byte.ensures ∙ z) in
+    let got = c.in_ok-rec.ensures.got tells in
+    let from : Decides c.in_ok-leaves.leaves (EndHolds records (field 4 r 8) (marked marks (end_in r (field 4 r 8) c.args.id))) = search (rules, c.in_ok-leaves.ensures.holds tells) in
+    ((λ e. absurd (true≢false (sym e ∙ c.if-leaves.false))), (λ h. from.1 (hold_from records marks c.args.id r lt got some h)))
+
+pub returns-in_err-rec-clause-cause : goal.returns-in_err-rec-clause-cause
+returns-in_err-rec-clause-cause g c =
+    cause_passed _ _ _ c.from_residual.result c.in_err-rec.field-0.0 (omega arith) c.in_err-rec.ensures.cause c.from_residual.ensures.1
+
+pub returns-in_err-leaves-clause-cause : goal.returns-in_err-leaves-clause-cause
+returns-in_err-leaves-clause-cause g c =
+    cause_passed _ _ _ c.from_residual-in_err-leaves.result c.in_err-leaves.field-0.0 c.in_ok-rec.ensures.cause.later c.in_err-leaves.ensures.cause c.from_residual-in_err-leaves.ensures.1
+
+pub returns-in_err-enters-clause-cause : goal.returns-in_err-enters-clause-cause
+returns-in_err-enters-clause-cause g c =
+    let later = c.in_ok-rec.ensures.cause.later in
+    let later1 = c.in_ok-leaves.ensures.cause.later in
+    cause_passed _ _ _ c.from_residual-in_err-enters.result c.in_err-enters.field-0.0 (omega (arith, later, later1)) c.in_err-enters.ensures.cause c.from_residual-in_err-enters.ensures.1

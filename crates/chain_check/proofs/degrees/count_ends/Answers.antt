@@ -1,0 +1,44 @@
+use Rattle.std.proofs.Common.{arith, ◌≡◌, ◌≤◌, ◌<◌, ◌+◌, ◌∙◌, cond, length, Bool, true, false, sym, ap, refl}
+use Rattle.rec_bytes.specs.declared.meta.Meta.{Meta}
+use Rattle.rec_bytes.specs.Format.{relationships_file}
+use Rattle.store_rules.specs.Views.{high, rec_at}
+use Rattle.chain_check.specs.NodeChains.{is_of_node}
+use Rattle.chain_check.proofs.DegreeLaws.{degree_more}
+use Rattle.chain_check.proofs.degrees.count_ends.Goals as goal
+
+small : (b : Bool) → cond b 1 0 ≤ 1
+small true = omega arith
+small false = omega arith
+
+pub loop-id-init : goal.loop-id-init
+loop-id-init g c = record {
+  same = refl;
+  written = refl;
+  len = refl;
+  low = λ n lt. let e = c.requires.none n in omega arith;
+  counts = λ t n lt. c.requires.none n;
+  onward = g.met.R.Reads.stays_onward c.args.space.now;
+  faults = omega arith;
+}
+
+pub loop-id-preserved : goal.loop-id-preserved
+loop-id-preserved g c =
+    let records = (g.R.Reads.state c.args.space.now).records in
+    let inv = c.loop-id.invariant in
+    let mark : c.meta-id-end.result.high ≡ high records relationships_file = ap (λ (m : Meta). m.high) c.meta-id-end.ensures in
+    let lt : c.loop-id.id < high records relationships_file = omega (arith, c.loop-id-test.true) in
+    let len = c.count_rel.ensures.len in
+    record {
+      same = ap (λ s. s.records) c.in_ok-rec.ensures.state ∙ inv.same;
+      written = ap (λ s. s.written) c.in_ok-rec.ensures.state ∙ inv.written;
+      len = len ∙ inv.len;
+      low = λ n low.
+          let was : n < length c.loop-id.counts = omega arith in
+          let e = c.count_rel.ensures.count n was in let o = inv.low n was in let s = small (is_of_node n c.in_ok-rec.rec) in omega arith;
+      counts = λ t n low.
+          let was : n < length c.loop-id.counts = omega arith in
+          let got : c.in_ok-rec.rec ≡ rec_at records relationships_file c.loop-id.id = c.in_ok-rec.ensures.got t ∙ ap (λ rs. rec_at rs relationships_file c.loop-id.id) inv.same in
+          c.count_rel.ensures.count n was ∙ ap (λ m. m + cond (is_of_node n c.in_ok-rec.rec) 1 0) (inv.counts t n was) ∙ sym (degree_more records c.loop-id.id (c.loop-id.id + 1) n c.in_ok-rec.rec lt got refl);
+      onward = g.met.R.Reads.further_onward c.args.space.now c.loop-id.space c.get.new.self inv.onward c.in_ok-rec.ensures.onward;
+      faults = let cause = c.in_ok-rec.ensures.cause in omega (arith, inv.faults, cause.later);
+    }

@@ -1,0 +1,26 @@
+use Rattle.std.proofs.Common.{arith, ◌≡◌, ◌<◌, ◌∙◌, ap, sym}
+use Rattle.rec_bytes.specs.Format as format
+use Rattle.rec_bytes.specs.Record.{field}
+use Rattle.store_rules.specs.Views.{first_link, high}
+use Rattle.chain_check.specs.NodeChains.{IsDense}
+use Rattle.chain_check.proofs.GroupChainLaws.{found_is}
+use Rattle.record_lists.proofs.RecordLaws.{kind_read}
+use Rattle.chain_check.proofs.groups.OwnersHeads.list.Goals as goal
+
+pub returns-then-byte-ne-DENSE-clause-told : goal.returns-then-byte-ne-DENSE-clause-told
+returns-then-byte-ne-DENSE-clause-told g c = λ tells is.
+    let records = (g.R.Reads.state c.args.space.now).records in
+    let lt : c.args.id < high records format.nodes_file = omega (arith, c.requires.id, c.requires.suits.nodes) in
+    let kind = kind_read records format.nodes_file c.args.id c.in_ok-rec.rec lt (c.in_ok-rec.ensures.got tells) in
+    c.if-byte-ne-DENSE.true (c.byte.ensures ∙ sym kind ∙ is)
+
+pub returns-clause-told : goal.returns-clause-told
+returns-clause-told g c = λ tells.
+    let records = (g.R.Reads.state c.args.space.now).records in
+    let id = c.args.id in
+    let lt : id < high records format.nodes_file = omega (arith, c.requires.id, c.requires.suits.nodes) in
+    let got = c.in_ok-rec.ensures.got tells in
+    let is : IsDense records id = kind_read records format.nodes_file id c.in_ok-rec.rec lt got ∙ sym c.byte.ensures ∙ c.if-byte-ne-DENSE.false in
+    let first : c.number-first.result ≡ first_link records id = c.number-first.ensures ∙ ap (λ r. field 4 r format.node_first_link) got in
+    found_is records id (g.R.Reads.state c.get.new.self).records c.args.self.now.groups c.number-first.result c.in_ok-found.found
+    (ap (λ s. s.records) c.in_ok-rec.ensures.state) c.requires.suits.groups c.requires.suits.few_groups first is (c.in_ok-found.ensures.told tells)

@@ -1,0 +1,5 @@
+pub mod Chained
+pub mod Counts
+pub mod Degrees
+pub mod Groups
+pub mod NodeChains

@@ -1,0 +1,431 @@
+//! The third rule: the chains of each node, its own or those of its groups, have just the
+//! relationships at it.
+
+ghost use Rattle.std.specs.Prelude.{◌≡◌, ◌+◌, ◌*◌, ◌%◌, ◌<◌, ◌≤◌, IfNone, IfOk, IfSome, false, map};
+ghost use Rattle.std.specs.Prelude.{length, ℕ};
+ghost use Rattle.std.specs.Bool.{Decides};
+ghost use Rattle.std.specs.List.{All};
+ghost use Rattle.rec_bytes.specs.Format.{groups_file, most_ids, nodes_file, relationships_file};
+ghost use Rattle.rec_bytes.specs.Space.{HasCause};
+ghost use Rattle.store_rules.specs.Views.{high};
+ghost use Rattle.record_lists.specs.Heads.{FoundBelow};
+ghost use Rattle.chain_check.specs.Chained.{MarksChains};
+ghost use Rattle.record_lists.specs.Marks.{marked};
+ghost use Rattle.chain_check.specs.NodeChains.{
+  AreAttached,
+  AreChainHeads,
+  AreGroupEnds,
+  AreGroupHeads,
+  AreMet,
+  AreNodeEnds,
+  EndHolds,
+  EndsFound,
+  IsChained,
+  IsSparse,
+  RelHolds,
+  chain_line,
+  end_in,
+  end_of,
+  group_of,
+  is_on,
+  side_at,
+};
+ghost use Rattle.record_lists.specs.Deciding.{AreMarksLow, BreaksRule, DecidesRule};
+
+use crate::chained::chained_groups;
+use rec_bytes::{
+    CHAIN_RULE, DENSE, Damage, FREE, GROUP_FIRST_IN, GROUP_FIRST_OUT, GROUP_OWNER, GROUP_TYPE,
+    GROUPS, KIND, Key, NODE_FIRST_LINK, NODES, RELATIONSHIP_SOURCE, RELATIONSHIP_TARGET,
+    RELATIONSHIP_TYPE, RELATIONSHIPS, Reads, Rec, SPARSE, SpaceFault,
+};
+use record_lists::{
+    Broke, Found, Heads, Line, Sentence, broken, find_false, follow, list_heads, no_marks,
+};
+use rel_store::place_of;
+use std::alloc::Global;
+
+/// Which relationships of its node a chain has: all, or those of one type that leave it alone,
+/// enter it alone, or do both.
+#[derive(Clone, Copy, Debug, PartialEq, Eq)]
+pub enum Side {
+    Any,
+    Out(u32),
+    Into(u32),
+    Loop(u32),
+}
+
+impl Side {
+    fn has(&self, node: u32, rec: &Rec) -> bool
+        ensures { result ≡ is_on self.now node rec.now }
+    {
+        let leaves = rec.number(RELATIONSHIP_SOURCE) == node;
+        let enters = rec.number(RELATIONSHIP_TARGET) == node;
+        let label = rec.number(RELATIONSHIP_TYPE);
+        match *self {
+            Side::Any => leaves || enters,
+            Side::Out(own) => leaves && !enters && label == own,
+            Side::Into(own) => !leaves && enters && label == own,
+            Side::Loop(own) => leaves && enters && label == own,
+        }
+    }
+}
+
+/// A chain of a node.
+#[derive(Drop)]
+pub(crate) struct ChainLine {
+    pub(crate) node: u32,
+    pub(crate) side: Side,
+}
+
+impl Line for ChainLine {
+    ghost kind = { λ line. chain_line line.side line.node };
+
+    fn file(&self) -> u8 {
+        RELATIONSHIPS
+    }
+
+    fn next(&self, rec: &Rec) -> u32 {
+        rec.number(place_of(rec, self.node) + 4)
+    }
+
+    fn fits(&self, before: u32, _at: u32, rec: &Rec) -> bool {
+        rec.byte(KIND) != FREE
+            && self.side.has(self.node, rec)
+            && rec.number(place_of(rec, self.node)) == before
+    }
+}
+
+/// The ends at a node of these relationships.
+fn ends_of<R: Reads>(
+    alloc: Global,
+    space: &mut R,
+    node: u32,
+    ids: &[u32],
+    high: u32,
+) -> Result<Vec<u32>, SpaceFault>
+    requires high { high ≤ most_ids }
+    requires ids { All (λ x. x < high) ids.now }
+    ensures ends { R.tells → IfOk result
+        (λ ends. ends.items ≡ map (end_of (R.state space.old).records node) ids.now) }
+    ensures low { IfOk result (λ ends. All (λ x. x < 2 * high) ends.items) }
+    ensures same { (R.state space.new).records ≡ (R.state space.old).records }
+    ensures written { (R.state space.new).written ≡ (R.state space.old).written }
+    ensures onward { R.onward space.old space.new }
+    ensures cause { HasCause (R.faults space.old) (R.faults space.new) result }
+{
+    let mut ends = Vec::new(alloc);
+    for id in ids {
+        let rec = space.get(Key {
+            file: RELATIONSHIPS,
+            id: *id,
+        })?;
+        let end = if rec.number(RELATIONSHIP_SOURCE) == node {
+            2 * *id
+        } else {
+            2 * *id + 1
+        };
+        let Ok(()) = ends.push(end) else {
+            return Err(SpaceFault::Memory);
+        };
+    }
+    Ok(ends)
+}
+
+/// The ends in the chain from a relationship on, if there is such a chain.
+fn chain_ends<R: Reads>(
+    alloc: Global,
+    space: &mut R,
+    line: &ChainLine,
+    first: u32,
+    high: u32,
+) -> Result<Found, SpaceFault>
+    requires { high ≤ most_ids }
+    ensures told { R.tells → IfOk result
+        (EndsFound (R.state space.old).records high line.now.side line.now.node first) }
+    ensures low { IfOk result (FoundBelow (2 * high)) }
+    ensures same { (R.state space.new).records ≡ (R.state space.old).records }
+    ensures written { (R.state space.new).written ≡ (R.state space.old).written }
+    ensures onward { R.onward space.old space.new }
+    ensures cause { HasCause (R.faults space.old) (R.faults space.new) result }
+{
+    let Some(ids) = follow(alloc, space, line, first, high)? else {
+        return Ok(Found::Missing);
+    };
+    let ends = ends_of(alloc, space, line.node, &ids, high)?;
+    Ok(Found::Items(ends))
+}
+
+/// The sparse nodes, at which chains start.
+#[derive(Drop)]
+pub struct ChainHeads {
+    nodes: u32,
+    relationships: u32,
+}
+
+impl Heads for ChainHeads {
+    ghost has = { λ _. IsSparse };
+
+    ghost lists = { λ _. AreNodeEnds };
+
+    ghost suits = { AreChainHeads };
+
+    ghost mark = { λ heads. heads.nodes };
+
+    ghost bound = { λ heads. 2 * heads.relationships };
+
+    fn list<R: Reads>(&self, alloc: Global, space: &mut R, id: u32) -> Result<Found, SpaceFault> {
+        let rec = space.get(Key { file: NODES, id })?;
+        if rec.byte(KIND) != SPARSE {
+            return Ok(Found::Nothing);
+        }
+        let line = ChainLine {
+            node: id,
+            side: Side::Any,
+        };
+        let first = rec.number(NODE_FIRST_LINK);
+        let found = chain_ends(alloc, space, &line, first, self.relationships)?;
+        Ok(found)
+    }
+}
+
+/// The side of the chain that begins at a place of a group.
+pub(crate) fn side_at(place: u8, label: u32) -> Side
+    ensures { result ≡ side_at place label }
+{
+    if place == GROUP_FIRST_OUT {
+        Side::Out(label)
+    } else if place == GROUP_FIRST_IN {
+        Side::Into(label)
+    } else {
+        Side::Loop(label)
+    }
+}
+
+/// The groups that have a mark, which are on the group chain of their owner. Three chains start at
+/// each.
+#[derive(Drop)]
+pub struct GroupHeads<'a> {
+    chained: &'a [bool],
+    relationships: u32,
+}
+
+impl<'a> Heads for GroupHeads<'a> {
+    ghost has = { λ heads records id. IsChained heads.chained.now records (group_of id) };
+
+    ghost lists = { λ _. AreGroupEnds };
+
+    ghost suits = { AreGroupHeads };
+
+    ghost mark = { λ heads. 3 * length heads.chained.now };
+
+    ghost bound = { λ heads. 2 * heads.relationships };
+
+    fn list<R: Reads>(&self, alloc: Global, space: &mut R, id: u32) -> Result<Found, SpaceFault> {
+        let group = id / 3;
+        if !self.chained[group as usize] {
+            return Ok(Found::Nothing);
+        }
+        let place = GROUP_FIRST_OUT + 4 * (id % 3) as u8;
+        let rec = space.get(Key {
+            file: GROUPS,
+            id: group,
+        })?;
+        let node = rec.number(GROUP_OWNER);
+        let label = rec.number(GROUP_TYPE);
+        if rec.byte(KIND) == FREE {
+            return Ok(Found::Nothing);
+        }
+        let line = ChainLine {
+            node,
+            side: side_at(place, label),
+        };
+        let first = rec.number(place);
+        let found = chain_ends(alloc, space, &line, first, self.relationships)?;
+        Ok(found)
+    }
+}
+
+/// Whether a number is that of a node, and the end was met.
+fn end_holds<R: Reads>(space: &mut R, id: u32, met: bool) -> Result<bool, SpaceFault>
+    requires { high (R.state space.old).records nodes_file ≤ most_ids }
+    ensures holds { R.tells
+        → IfOk result (λ holds. Decides holds (EndHolds (R.state space.old).records id met)) }
+    ensures same { (R.state space.new).records ≡ (R.state space.old).records }
+    ensures written { (R.state space.new).written ≡ (R.state space.old).written }
+    ensures onward { R.onward space.old space.new }
+    ensures cause { HasCause (R.faults space.old) (R.faults space.new) result }
+{
+    if id >= space.meta(NODES).high {
+        return Ok(false);
+    }
+    let rec = space.get(Key { file: NODES, id })?;
+    let kind = rec.byte(KIND);
+    if kind == FREE {
+        return Ok(false);
+    }
+    if kind == SPARSE || kind == DENSE {
+        Ok(met)
+    } else {
+        Ok(true)
+    }
+}
+
+/// The number of the end of a relationship at a node.
+fn end_of(rec: &Rec, node: u32, id: u32) -> usize
+    requires { id < most_ids }
+    ensures is { result ≡ end_in rec.now node id }
+    ensures low { result < 2 * id + 2 }
+{
+    if rec.number(RELATIONSHIP_SOURCE) == node {
+        2 * id as usize
+    } else {
+        2 * id as usize + 1
+    }
+}
+
+/// The ends of a relationship are nodes, and marked.
+#[derive(Drop)]
+pub struct Attached<'a> {
+    relationships: u32,
+    marks: &'a [bool],
+}
+
+impl<'a> Sentence for Attached<'a> {
+    ghost suits = { AreAttached };
+
+    ghost mark = { λ attached. attached.relationships };
+
+    ghost says = { λ attached records. RelHolds records attached.marks.now };
+
+    fn holds<R: Reads>(&self, space: &mut R, id: u32) -> Result<bool, SpaceFault> {
+        let rec = space.get(Key {
+            file: RELATIONSHIPS,
+            id,
+        })?;
+        if rec.byte(KIND) == FREE {
+            return Ok(true);
+        }
+        let source = rec.number(RELATIONSHIP_SOURCE);
+        let target = rec.number(RELATIONSHIP_TARGET);
+        let leaves = end_holds(space, source, self.marks[end_of(&rec, source, id)])?;
+        let enters = end_holds(space, target, self.marks[end_of(&rec, target, id)])?;
+        Ok(leaves && enters)
+    }
+}
+
+/// The first relationship of which an end doesn't hold.
+fn find_loose<R: Reads>(space: &mut R, marks: &[bool]) -> Result<Option<u32>, SpaceFault>
+    requires low { AreMarksLow (R.state space.old).records }
+    requires marks { length marks.now
+        ≡ 2 * high (R.state space.old).records relationships_file }
+    ensures none { R.tells → IfOk result (λ found. IfNone found
+        ((x : ℕ) → x < high (R.state space.old).records relationships_file
+        → RelHolds (R.state space.old).records marks.now x)) }
+    ensures found { R.tells → IfOk result (λ found. IfSome found
+        (λ x. (x < high (R.state space.old).records relationships_file)
+        × (¬ RelHolds (R.state space.old).records marks.now x))) }
+    ensures same { (R.state space.new).records ≡ (R.state space.old).records }
+    ensures written { (R.state space.new).written ≡ (R.state space.old).written }
+    ensures onward { R.onward space.old space.new }
+    ensures cause { HasCause (R.faults space.old) (R.faults space.new) result }
+{
+    let relationships = space.meta(RELATIONSHIPS).high;
+    let attached = Attached {
+        relationships,
+        marks,
+    };
+    find_false(space, &attached, relationships)
+}
+
+/// Marks the ends in the chains of all nodes and groups, or finds what breaks the third rule.
+fn mark_ends<R: Reads>(
+    alloc: Global,
+    space: &mut R,
+    chained: &[bool],
+    marks: &mut [bool],
+) -> Result<Option<Damage>, SpaceFault>
+    requires low { AreMarksLow (R.state space.old).records }
+    requires groups { length chained.now ≡ high (R.state space.old).records groups_file }
+    requires chained { R.tells → MarksChains (R.state space.old).records chained.now }
+    requires marks { length marks.old
+        ≡ 2 * high (R.state space.old).records relationships_file }
+    requires clear { (p : ℕ) → marked marks.old p ≡ false }
+    ensures met { R.tells → IfOk result
+        (λ found. IfNone found (AreMet (R.state space.old).records marks.new)) }
+    ensures broken { R.tells → IfOk result (λ found. IfSome found
+        (BreaksRule (R.state space.old).records (R.state space.old).shape 3)) }
+    ensures len { length marks.new ≡ length marks.old }
+    ensures same { (R.state space.new).records ≡ (R.state space.old).records }
+    ensures written { (R.state space.new).written ≡ (R.state space.old).written }
+    ensures onward { R.onward space.old space.new }
+    ensures cause { HasCause (R.faults space.old) (R.faults space.new) result }
+{
+    let nodes = space.meta(NODES).high;
+    let groups = space.meta(GROUPS).high;
+    let relationships = space.meta(RELATIONSHIPS).high;
+    let heads = ChainHeads {
+        nodes,
+        relationships,
+    };
+    match list_heads(alloc, space, &heads, nodes, marks)? {
+        Some(Broke::Head(id)) => return Ok(Some(broken(NODES, id, CHAIN_RULE))),
+        Some(Broke::Item(end)) => return Ok(Some(broken(RELATIONSHIPS, end / 2, CHAIN_RULE))),
+        None => {}
+    }
+    let heads = GroupHeads {
+        chained,
+        relationships,
+    };
+    match list_heads(alloc, space, &heads, 3 * groups, marks)? {
+        Some(Broke::Head(id)) => Ok(Some(broken(GROUPS, id / 3, CHAIN_RULE))),
+        Some(Broke::Item(end)) => Ok(Some(broken(RELATIONSHIPS, end / 2, CHAIN_RULE))),
+        None => Ok(None),
+    }
+}
+
+/// Decides the third rule, with marks for the ends of all relationships, none of them set.
+fn check_marked<R: Reads>(
+    alloc: Global,
+    space: &mut R,
+    chained: &[bool],
+    marks: &mut [bool],
+) -> Result<Option<Damage>, SpaceFault>
+    requires low { AreMarksLow (R.state space.old).records }
+    requires groups { length chained.now ≡ high (R.state space.old).records groups_file }
+    requires chained { R.tells → MarksChains (R.state space.old).records chained.now }
+    requires marks { length marks.old
+        ≡ 2 * high (R.state space.old).records relationships_file }
+    requires clear { (p : ℕ) → marked marks.old p ≡ false }
+    ensures decided { R.tells → IfOk result
+        (DecidesRule (R.state space.old).records (R.state space.old).shape 3) }
+    ensures same { (R.state space.new).records ≡ (R.state space.old).records }
+    ensures written { (R.state space.new).written ≡ (R.state space.old).written }
+    ensures onward { R.onward space.old space.new }
+    ensures cause { HasCause (R.faults space.old) (R.faults space.new) result }
+{
+    if let Some(damage) = mark_ends(alloc, space, chained, marks)? {
+        return Ok(Some(damage));
+    }
+    match find_loose(space, marks)? {
+        Some(id) => Ok(Some(broken(RELATIONSHIPS, id, CHAIN_RULE))),
+        None => Ok(None),
+    }
+}
+
+/// Decides the third rule.
+pub fn check_chains<R: Reads>(alloc: Global, space: &mut R) -> Result<Option<Damage>, SpaceFault>
+    requires { AreMarksLow (R.state space.old).records }
+    ensures decided { R.tells → IfOk result
+        (DecidesRule (R.state space.old).records (R.state space.old).shape 3) }
+    ensures same { (R.state space.new).records ≡ (R.state space.old).records }
+    ensures written { (R.state space.new).written ≡ (R.state space.old).written }
+    ensures onward { R.onward space.old space.new }
+    ensures cause { HasCause (R.faults space.old) (R.faults space.new) result }
+{
+    let chained = chained_groups(alloc, space)?;
+    let ends = 2 * space.meta(RELATIONSHIPS).high as usize;
+    let Ok(mut marks) = no_marks(alloc, ends) else {
+        return Err(SpaceFault::Memory);
+    };
+    check_marked(alloc, space, &chained, &mut marks)
+}

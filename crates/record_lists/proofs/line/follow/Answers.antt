@@ -1,0 +1,80 @@
+use Rattle.std.proofs.Common.{rules, arith, ◌≡◌, ℕ, ◌≤◌, false, true, length, inl, inr, sym, ap, ◌∙◌, refl}
+use Rattle.std.proofs.lemmas.Grind.{common_steps}
+use Rattle.rec_bytes.specs.Format.{nil}
+use Rattle.store_rules.specs.Views.{rec_at}
+use Rattle.record_lists.proofs.LineLaws.{path_step, path_ends, no_line, no_line_so_long}
+use Rattle.record_lists.proofs.Causes.{cause_passed}
+use Rattle.record_lists.proofs.line.follow.Goals as goal
+
+pub returns-then-at-clause-found : goal.returns-then-at-clause-found
+returns-then-at-clause-found g c tells =
+    path_ends _ _ c.args.high nil c.args.first c.loop.ids.items c.loop.before c.loop.at (c.loop.invariant.path tells) c.if-at.true
+
+pub returns-then-at-2-clause-found : goal.returns-then-at-2-clause-found
+returns-then-at-2-clause-found g c tells =
+    path_ends _ _ c.args.high nil c.args.first c.loop.ids.items c.loop.before c.loop.at (c.loop.invariant.path tells) c.if-at-2.true
+
+pub returns-then-at-high-clause-none : goal.returns-then-at-high-clause-none
+returns-then-at-high-clause-none g c tells =
+    let past : c.args.high ≤ c.loop.at = omega arith in
+    no_line _ _ c.args.high c.requires nil c.args.first c.loop.ids.items c.loop.before c.loop.at (c.loop.invariant.path tells) c.if-at.false (inl past)
+
+pub returns-then-not-fits-clause-none : goal.returns-then-not-fits-clause-none
+returns-then-not-fits-clause-none g c tells =
+    let records = (g.R.Reads.state c.args.space.now).records in
+    let kind = g.L.Line.kind c.args.line.now in
+    let got : c.in_ok-rec.rec ≡ rec_at records kind.file c.loop.at = c.in_ok-rec.ensures.got tells ∙ ap (λ rs. rec_at rs c.file.result c.loop.at) c.loop.invariant.same ∙ ap (λ f. rec_at records f c.loop.at) c.file.ensures.is in
+    let no : c.fits.result ≡ false = search rules in
+    let bad = ap (kind.fits c.loop.before c.loop.at) (sym got) ∙ sym c.fits.ensures ∙ no in
+    no_line _ _ c.args.high c.requires nil c.args.first c.loop.ids.items c.loop.before c.loop.at (c.loop.invariant.path tells) c.if-at.false (inr bad)
+
+pub loop-preserved : goal.loop-preserved
+loop-preserved g c =
+    let records = (g.R.Reads.state c.args.space.now).records in
+    let kind = g.L.Line.kind c.args.line.now in
+    let last = c.loop.before in
+    let at = c.loop.at in
+    let next = λ (x : ℕ). kind.next (rec_at records kind.file x) in
+    let yes : c.fits.result ≡ true = search rules in
+    record {
+      same = ap (λ s. s.records) c.in_ok-rec.ensures.state ∙ c.loop.invariant.same;
+      written = ap (λ s. s.written) c.in_ok-rec.ensures.state ∙ c.loop.invariant.written;
+      low = grind (arith, common_steps);
+      count = search rules;
+      path = λ tells.
+          let got : c.in_ok-rec.rec ≡ rec_at records kind.file at = c.in_ok-rec.ensures.got tells ∙ ap (λ rs. rec_at rs c.file.result at) c.loop.invariant.same ∙ ap (λ f. rec_at records f at) c.file.ensures.is in
+          let ok = ap (kind.fits last at) (sym got) ∙ sym c.fits.ensures ∙ yes in
+          let link : c.next-at.result ≡ next at = c.next-at.ensures ∙ ap (kind.next) got in
+          path_step next _ c.args.high nil c.args.first c.loop.ids.items last at (c.loop.invariant.path tells) c.if-at-high.false ok _ _ c.in-Ok.ensures.items link;
+      onward = g.met.R.Reads.further_onward c.args.space.now c.loop.space c.get.new.self c.loop.invariant.onward c.in_ok-rec.ensures.onward;
+      faults = let cause = c.in_ok-rec.ensures.cause in omega (arith, c.loop.invariant.faults, cause.later);
+    }
+
+pub returns-else-at-2-clause-none : goal.returns-else-at-2-clause-none
+returns-else-at-2-clause-none g c tells =
+    let long : length c.loop.ids.items ≡ c.args.high = omega (arith, c.loop.invariant.count) in
+    no_line_so_long _ _ c.args.high c.requires nil c.args.first c.loop.ids.items c.loop.before c.loop.at (c.loop.invariant.path tells) c.if-at-2.false long
+
+pub loop-init : goal.loop-init
+loop-init g c = record {
+  same = refl;
+  written = refl;
+  low = search rules;
+  count = search rules;
+  path = λ tells. search rules;
+  onward = g.met.R.Reads.stays_onward c.args.space.now;
+  faults = omega arith;
+}
+
+pub returns-in_err-rec-clause-cause : goal.returns-in_err-rec-clause-cause
+returns-in_err-rec-clause-cause g c =
+    cause_passed _ _ _ c.from_residual.result c.in_err-rec.field-0.0 c.loop.invariant.faults c.in_err-rec.ensures.cause c.from_residual.ensures.1
+
+pub returns-in_err-rec-clause-onward : goal.returns-in_err-rec-clause-onward
+returns-in_err-rec-clause-onward g c = g.met.R.Reads.further_onward c.args.space.now c.loop.space c.get.new.self c.loop.invariant.onward c.in_err-rec.ensures.onward
+
+pub returns-in_err-rec-clause-same : goal.returns-in_err-rec-clause-same
+returns-in_err-rec-clause-same g c = ap (λ s. s.records) c.in_err-rec.ensures.state ∙ c.loop.invariant.same
+
+pub returns-in_err-rec-clause-written : goal.returns-in_err-rec-clause-written
+returns-in_err-rec-clause-written g c = ap (λ s. s.written) c.in_err-rec.ensures.state ∙ c.loop.invariant.written

@@ -1,0 +1,36 @@
+use Rattle.std.proofs.Common.{rules, arith, ◌≡◌, ◌∙◌, ◌++◌, ◌∷◌, [], map, take, get_or, ap, sym, refl}
+use Rattle.std.proofs.lemmas.List.{map_more}
+use Rattle.rec_bytes.specs.Record.{field}
+use Rattle.store_rules.specs.Views.{Records, rec_at}
+use Rattle.record_lists.specs.Numbers.{number_at}
+use Rattle.record_lists.proofs.numbers.numbers_of.Goals as goal
+
+pub loop-id-init : goal.loop-id-init
+loop-id-init g c = record {
+  same = refl;
+  written = refl;
+  numbers = λ tells. search rules;
+  onward = g.met.R.Reads.stays_onward c.args.space.now;
+  faults = omega arith;
+}
+
+pub loop-id-preserved : goal.loop-id-preserved
+loop-id-preserved g c =
+    let records = (g.R.Reads.state c.args.space.now).records in
+    let inv = c.loop-id.invariant in
+    let ids = c.args.ids.now in
+    let at = c.loop-id.id-index in
+    let id = get_or ids at 0 in
+    record {
+      same = ap (λ s. s.records) c.in_ok-rec.ensures.state ∙ inv.same;
+      written = ap (λ s. s.written) c.in_ok-rec.ensures.state ∙ inv.written;
+      numbers = λ tells.
+          let got : c.in_ok-rec.rec ≡ rec_at records c.args.file id = c.in_ok-rec.ensures.got tells ∙ ap (λ (r : Records). rec_at r c.args.file id) inv.same in
+          let one : c.number.result ≡ number_at records c.args.file c.args.place id = c.number.ensures ∙ ap (λ r. field 4 r c.args.place) got in
+          c.in-Ok.ensures.items
+          ∙ ap (λ xs. xs ++ c.number.result ∷ []) (inv.numbers tells)
+          ∙ ap (λ x. map (number_at records c.args.file c.args.place) (take at ids) ++ x ∷ []) one
+          ∙ sym (map_more (number_at records c.args.file c.args.place) ids at 0 c.loop-id-test.true);
+      onward = g.met.R.Reads.further_onward c.args.space.now c.loop-id.space c.get.new.self inv.onward c.in_ok-rec.ensures.onward;
+      faults = let cause = c.in_ok-rec.ensures.cause in omega (arith, inv.faults, cause.later);
+    }

@@ -1,0 +1,20 @@
+use Rattle.std.proofs.Common.{arith, ◌<◌, ◌∙◌, sym}
+use Rattle.store_rules.specs.Views.{high}
+use Rattle.store_rules.proofs.NumberLaws.{eq_true}
+use Rattle.record_lists.proofs.RecordLaws.{free_read, live_read}
+use Rattle.record_lists.proofs.unmarked.HeldSentence.holds.Goals as goal
+
+pub returns-then-byte-eq-FREE-clause-told : goal.returns-then-byte-eq-FREE-clause-told
+returns-then-byte-eq-FREE-clause-told g c = λ tells.
+    let records = (g.R.Reads.state c.args.space.now).records in
+    let file = c.args.self.now.file in
+    let lt : c.args.id < high records file = omega (arith, c.requires.id, c.requires.suits.records_are) in
+    ((λ _ live. absurd (free_read records file c.args.id c.in_ok-rec.rec lt (c.in_ok-rec.ensures.got tells) (sym c.byte.ensures ∙ c.if-byte-eq-FREE.true) live)), (λ _. eq_true c.byte.result 0 c.if-byte-eq-FREE.true))
+
+pub returns-else-byte-eq-FREE-clause-told : goal.returns-else-byte-eq-FREE-clause-told
+returns-else-byte-eq-FREE-clause-told g c = λ tells.
+    let records = (g.R.Reads.state c.args.space.now).records in
+    let file = c.args.self.now.file in
+    let lt : c.args.id < high records file = omega (arith, c.requires.id, c.requires.suits.records_are) in
+    let live = live_read records file c.args.id c.in_ok-rec.rec lt (c.in_ok-rec.ensures.got tells) (λ z. c.if-byte-eq-FREE.false (c.byte.ensures ∙ z)) in
+    ((λ e _. e), (λ h. h live))

@@ -1,5 +1,0 @@
-use Rattle.store_check.proofs.DistinctLaws.{Rises}
-use Rattle.store_check.proofs.distinct.are_distinct.Given as goal
-
-abbrev pub invariant-loop-i : goal.invariant-loop-i
-invariant-loop-i l = Rises l.numbers l.i
