@@ -9,6 +9,7 @@ use Rattle.rec_bytes.specs.declared.record.Rec.{Rec}
 use Rattle.rec_bytes.specs.declared.shape.Shape.{Shape}
 use Rattle.rec_bytes.specs.declared.space.SpaceFault.{SpaceFault}
 use Rattle.rec_bytes.specs.declared.space.SpaceFault.TheVariants as spaces
+use Rattle.std.proofs.Math.Path.{fun_ext}
 use Rattle.rec_bytes.specs.Format as format
 use Rattle.rec_bytes.specs.RecordFiles.{meta_key_of}
 use Rattle.rec_bytes.specs.declared.meta.Meta.{Meta}
@@ -23,16 +24,23 @@ use Rattle.id_freelist.specs.declared.take_fault.TakeFault.TheVariants as take
 use Rattle.name_store.specs.Interning.{counted, interned, named}
 use Rattle.name_store.specs.NameRecord.{name_key, name_record}
 use Rattle.rec_bytes.specs.Meta.{with_meta}
+use Rattle.plain_graph.specs.declared.command.Target.{Target}
+use Rattle.plain_graph.specs.declared.command.Target.TheVariants as targets
+use Rattle.prop_store.specs.FileChange.{IsSameBeside}
+use Rattle.prop_store.specs.Owner.{first_of}
+use Rattle.prop_store.specs.Reading.{properties_met}
 use Rattle.prop_store.specs.Setting.{BlamesSet, BreaksMidway}
 use Rattle.prop_store.specs.Touching.{TouchesProperties, property_keys}
 use Rattle.prop_store.specs.declared.set_fault.SetFault.{SetFault}
 use Rattle.prop_store.specs.declared.set_fault.SetFault.TheVariants as sets
 use Rattle.store_rules.specs.Breaking.{Breaks}
+use Rattle.store_rules.specs.Properties.{property_at, property_ids}
 use Rattle.store_rules.specs.Rules.{next_free}
 use Rattle.store_rules.specs.Views.{Records, high, key_in, kind_at, kind_in, rec_at}
 use Rattle.store_rules.specs.Writes.{ChangesOnly}
 use Rattle.graph_ops.specs.ChangeFault.{of_set, of_space, of_take}
 use Rattle.graph_ops.specs.Damage.{AddsElement, BreaksAdding, IfBlames, IsBeyond, KeepsBeyond}
+use Rattle.graph_ops.specs.Owners.{owner_of}
 use Rattle.graph_ops.specs.Preparing.{IsLineCause}
 use Rattle.graph_ops.specs.Rooms.{LacksRoom}
 use Rattle.graph_ops.specs.declared.change_fault.ChangeFault.{ChangeFault}
@@ -43,19 +51,37 @@ use Rattle.graph_ops.specs.declared.change_fault.ChangeFault.TheVariants.{NoNode
 put_other : (records : Records) (key : Key) (rec : Rec) (q : Key) → q ≢ key → put records key rec q ≡ records q
 put_other records key rec q ne = ap (λ b. cond b rec (records q)) (key_eq-other q key ne)
 
-named_beyond : (s : State) (id : ℕ) (text : List ℕ) → KeepsBeyond s (named s id text)
+named_beside : (s : State) (id : ℕ) (text : List ℕ) → IsSameBeside format.names_file s.records (named s id text).records
 unfolding named
-named_beyond s id text q beyond =
+named_beside s id text q other no_meta =
     let named_in = after_put s (name_key id) (name_record text) in
-    put_other named_in.records (meta_key_of format.names_file) (with_meta (named_in.records (meta_key_of format.names_file)) (counted (meta_of named_in format.names_file))) q beyond.names_meta
-    ∙ put_other s.records (name_key id) (name_record text) q (λ e. beyond.names (ap (λ (k : Key). k.file) e))
+    put_other named_in.records (meta_key_of format.names_file) (with_meta (named_in.records (meta_key_of format.names_file)) (counted (meta_of named_in format.names_file))) q no_meta
+    ∙ put_other s.records (name_key id) (name_record text) q (λ e. other (ap (λ (k : Key). k.file) e))
+
+pub interned_beside : (s t : State) (names : List (List ℕ)) (text : List ℕ) → t ≡ interned s names text → IsSameBeside format.names_file s.records t.records
+interned_beside s t names text is = subst (λ (z : State). IsSameBeside format.names_file s.records z.records) (sym is) (by (list_any (pointwise nat_eq text) names))
+  where
+    by : (b : Bool) → IsSameBeside format.names_file s.records (cond b s (named s (length names) text)).records
+    by true = λ q other no_meta. refl
+    by false = named_beside s (length names) text
 
 pub interned_beyond : (s t : State) (names : List (List ℕ)) (text : List ℕ) → t ≡ interned s names text → KeepsBeyond s t
-interned_beyond s t names text is = subst (KeepsBeyond s) (sym is) (by (list_any (pointwise nat_eq text) names))
+interned_beyond s t names text is q beyond = interned_beside s t names text is q beyond.names beyond.names_meta
+
+-- the records of an element lead through the same properties
+pub met_beside : (s t : Records) (target : Target) → IsSameBeside format.names_file s t → properties_met t (owner_of target) ≡ properties_met s (owner_of target)
+met_beside s t target same =
+    let met = λ (p strings : ℕ → Rec) (first : ℕ). map (property_at (record { properties = p; strings = strings })) (property_ids p first) in
+    ap (λ p. met p (rec_at t format.strings_file) (first_of t (owner_of target))) (file format.properties_file (λ e. omega arith) (λ e. omega arith))
+    ∙ ap (λ p. met (rec_at s format.properties_file) p (first_of t (owner_of target))) (file format.strings_file (λ e. omega arith) (λ e. omega arith))
+    ∙ ap (met (rec_at s format.properties_file) (rec_at s format.strings_file)) (first target)
   where
-    by : (b : Bool) → KeepsBeyond s (cond b s (named s (length names) text))
-    by true = λ q beyond. refl
-    by false = named_beyond s (length names) text
+    file : (f : ℕ) → f ≢ format.names_file → f ≢ format.meta_file → rec_at t f ≡ rec_at s f
+    file f other no_meta = fun_ext (λ id. same (key_in f id) other (λ e. no_meta (ap (λ (k : Key). k.file) e)))
+
+    first : (target : Target) → first_of t (owner_of target) ≡ first_of s (owner_of target)
+    first (targets.Node id) = ap (λ (r : Rec). field 4 r format.node_first_property) (same (key_in format.nodes_file id) (λ e. omega arith) (λ e. let f = ap (λ (k : Key). k.file) e in omega arith))
+    first (targets.Edge id) = ap (λ (r : Rec). field 4 r format.relationship_first_property) (same (key_in format.relationships_file id) (λ e. omega arith) (λ e. let f = ap (λ (k : Key). k.file) e in omega arith))
 
 -- a key of a line gets its number, or is only counted
 pub key_beyond : (few : Bool) (s t : State) (names : List (List ℕ)) (text : List ℕ) → (few ≡ true → t ≡ interned s names text) → (few ≡ false → t ≡ s) → KeepsBeyond s t

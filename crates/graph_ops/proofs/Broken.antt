@@ -39,11 +39,11 @@ use Rattle.graph_ops.proofs.Elements.{used_of}
 -- ---- rows that are loaded
 
 node_breaks : (s : State) (id : ℕ) (damage : Damage) → IsRowDamage format.nodes_file s id damage → Breaks s.records s.shape damage
-node_breaks s id damage (UnknownKind low none) = RecordRange format.nodes_file id refl low refl (λ fits. let is = fits.is in cc)
+node_breaks s id damage (UnknownKind low none) = RecordRange format.nodes_file id refl low (λ fits. let is = fits.is in cc)
 node_breaks s id damage (HighMark above) = WrongMeta format.nodes_file (omega arith) (λ meta. let right = meta.high in omega arith)
 
 rel_breaks : (s : State) (id : ℕ) (damage : Damage) → IsRowDamage format.relationships_file s id damage → Breaks s.records s.shape damage
-rel_breaks s id damage (UnknownKind low none) = RecordRange format.relationships_file id refl low refl (λ fits. let is = fits.is in cc)
+rel_breaks s id damage (UnknownKind low none) = RecordRange format.relationships_file id refl low (λ fits. let is = fits.is in cc)
 rel_breaks s id damage (HighMark above) = WrongMeta format.relationships_file (omega arith) (λ meta. let right = meta.high in omega arith)
 
 pub node_broken : (s : State) (id : ℕ) (fault : RowFault) → nodes.IsNodeFault s id fault → BlamesBroken s (of_row fault)

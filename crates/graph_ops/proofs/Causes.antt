@@ -1,17 +1,22 @@
 -- Why a change is refused over any records.
 use Rattle.std.specs.FinMap as maps
-use Rattle.std.proofs.Common.{◌≡◌, ℕ, List, [], sym, ap, ◌∙◌, subst, ⊎_elim, inl, inr, arith, refl}
+use Rattle.std.specs.Prelude.{slice_get}
+use Rattle.std.proofs.Common.{◌≡◌, ◌≤◌, ◌<◌, ℕ, List, [], length, Some, sym, ap, ◌∙◌, subst, ⊎_elim, inl, inr, arith, refl}
 use Rattle.plain_graph.specs.Graph.{UsesName}
-use Rattle.plain_graph.specs.Properties.{blocks_in, keys_in, no_properties, with_pairs}
+use Rattle.plain_graph.specs.Properties.{blocks_in, blocks_of, keys_in, no_properties, with_pairs}
 use Rattle.plain_graph.specs.declared.command.Command.{Command}
 use Rattle.plain_graph.specs.declared.command.Command.TheVariants as commands
 use Rattle.plain_graph.specs.declared.command.Target.{Target}
 use Rattle.plain_graph.specs.declared.command.Target.TheVariants as targets
 use Rattle.plain_graph.specs.declared.pairs.Pair.{Pair}
 use Rattle.plain_graph.specs.declared.value.Value.{Value}
-use Rattle.prop_store.specs.SetFault.{IsExact, IsOwnRoom}
+use Rattle.prop_store.specs.Finding.{IsCrowded, LacksMet, property_of}
+use Rattle.prop_store.specs.Reading.{properties_met}
+use Rattle.prop_store.specs.SetFault.{IsSetCause}
+use Rattle.prop_store.specs.Setting.{BlamesStill}
 use Rattle.prop_store.specs.declared.set_fault.SetFault.{SetFault}
 use Rattle.prop_store.specs.declared.set_fault.SetFault.TheVariants as sets
+use Rattle.rec_bytes.specs.declared.damage.Damage.{Damage}
 use Rattle.rec_bytes.specs.declared.meta.Meta.{Meta}
 use Rattle.rec_bytes.specs.declared.row_fault.RowFault.{RowFault}
 use Rattle.rec_bytes.specs.declared.row_fault.RowFault.TheVariants as row
@@ -19,20 +24,26 @@ use Rattle.rec_bytes.specs.declared.shape.Shape.{Shape}
 use Rattle.rec_bytes.specs.Format as format
 use Rattle.rec_bytes.specs.RecordFiles.{room_of}
 use Rattle.rec_bytes.specs.Space.{SameButReads, State, meta_of}
+use Rattle.store_rules.specs.Properties.{Property}
+use Rattle.store_rules.specs.Views.{Records}
 use Rattle.name_store.specs.Interning.{IsFullFault}
 use Rattle.name_store.specs.declared.intern_fault.InternFault.{InternFault}
 use Rattle.name_store.specs.declared.intern_fault.InternFault.TheVariants as intern
 use Rattle.node_store.specs.Loading as nodes
 use Rattle.rel_store.specs.Loading as rels
 use Rattle.graph_ops.specs.Assigning.{IsAssignCount, IsAssignFault, IsPutCause, IsReserveFault}
-use Rattle.graph_ops.specs.Causes.{AsksEdge, AsksNode, AsksRoom, GivesValues, IsCaused}
-use Rattle.graph_ops.specs.ChangeFault.{IsFailure, of_intern, of_row, of_set}
-use Rattle.graph_ops.specs.Owners.{IsAbsent}
+use Rattle.graph_ops.specs.Causes.{AsksEdge, AsksNode, AsksRecord, AsksRoom, IsCaused, NeedsAny}
+use Rattle.id_freelist.specs.TakeFault as takes
+use Rattle.id_freelist.specs.declared.take_fault.TakeFault.{TakeFault}
+use Rattle.id_freelist.specs.declared.take_fault.TakeFault.TheVariants as take
+use Rattle.graph_ops.specs.ChangeFault.{IsFailure, of_intern, of_row, of_set, of_take}
+use Rattle.graph_ops.specs.Damage.{BlamesBroken, IfBlames, IsBroken}
+use Rattle.graph_ops.specs.Owners.{IsAbsent, owner_of}
 use Rattle.graph_ops.specs.Preparing.{IsLineCause, NeedForPairs}
 use Rattle.graph_ops.specs.Rooms.{HasRoom, KeepsElementMetas, LacksRoom}
 use Rattle.graph_ops.specs.declared.change_fault.ChangeFault.{ChangeFault}
 use Rattle.graph_ops.specs.declared.change_fault.ChangeFault.TheVariants.{NoNode, NoEdge, HasRelationships, Full, NamesFull, PropsFull, Memory, Disk, Damaged}
-use Rattle.graph_ops.proofs.Broken.{node_broken, rel_broken}
+use Rattle.graph_ops.proofs.Broken.{blames_more, node_broken, rel_broken}
 use Rattle.graph_ops.proofs.LineNames.{first_lacks}
 
 -- ---- elements that aren't there
@@ -45,36 +56,55 @@ pub edge_absent : (s : State) (target : Target) (id : ℕ) (fault : RowFault) �
 edge_absent s target id row.Disk told = tt
 edge_absent s target id (row.Damaged damage) told = rel_broken s id (row.Damaged damage) told
 
-pub absent_caused : (command : Command) (s : State) (names : List (List ℕ)) (target : Target) → ((id : ℕ) → target ≡ targets.Node id → AsksNode command id) → ((id : ℕ) → target ≡ targets.Edge id → AsksEdge command id)
-    → (fault : ChangeFault) → IsAbsent s target fault → IsCaused command s names fault
-absent_caused command s names target asks_node asks_edge (NoNode id) why = (asks_node id why.0, why.1)
-absent_caused command s names target asks_node asks_edge (NoEdge id) why = (asks_edge id why.0, why.1)
-absent_caused command s names target asks_node asks_edge (HasRelationships id degree) why = absurd why
-absent_caused command s names target asks_node asks_edge (Full file live) why = absurd why
-absent_caused command s names target asks_node asks_edge (NamesFull count) why = absurd why
-absent_caused command s names target asks_node asks_edge (PropsFull count) why = absurd why
-absent_caused command s names target asks_node asks_edge Memory why = tt
-absent_caused command s names target asks_node asks_edge Disk why = tt
-absent_caused command s names target asks_node asks_edge (Damaged damage) why = tt
+module _ (command : Command) (s t : State) (names now : List (List ℕ)) where
+  pub absent_caused : (target : Target) → ((id : ℕ) → target ≡ targets.Node id → AsksNode command id) → ((id : ℕ) → target ≡ targets.Edge id → AsksEdge command id) → (fault : ChangeFault) → IsAbsent s target fault → IsCaused command s t names now fault
+  absent_caused target asks_node asks_edge (NoNode id) why = (asks_node id why.0, why.1)
+  absent_caused target asks_node asks_edge (NoEdge id) why = (asks_edge id why.0, why.1)
+  absent_caused target asks_node asks_edge (HasRelationships id degree) why = absurd why
+  absent_caused target asks_node asks_edge (Full file live) why = absurd why
+  absent_caused target asks_node asks_edge (NamesFull count) why = absurd why
+  absent_caused target asks_node asks_edge (PropsFull count) why = absurd why
+  absent_caused target asks_node asks_edge Memory why = tt
+  absent_caused target asks_node asks_edge Disk why = tt
+  absent_caused target asks_node asks_edge (Damaged damage) why = tt
 
--- ---- failures
+  -- ---- failures
 
-pub failure_caused : (command : Command) (s : State) (names : List (List ℕ)) (fault : ChangeFault) → IsFailure fault → IsCaused command s names fault
-failure_caused command s names (NoNode id) fails = absurd fails
-failure_caused command s names (NoEdge id) fails = absurd fails
-failure_caused command s names (HasRelationships id degree) fails = absurd fails
-failure_caused command s names (Full file live) fails = absurd fails
-failure_caused command s names (NamesFull count) fails = absurd fails
-failure_caused command s names (PropsFull count) fails = absurd fails
-failure_caused command s names Memory fails = tt
-failure_caused command s names Disk fails = tt
-failure_caused command s names (Damaged damage) fails = tt
+  pub failure_caused : (fault : ChangeFault) → IsFailure fault → IsCaused command s t names now fault
+  failure_caused (NoNode id) fails = absurd fails
+  failure_caused (NoEdge id) fails = absurd fails
+  failure_caused (HasRelationships id degree) fails = absurd fails
+  failure_caused (Full file live) fails = absurd fails
+  failure_caused (NamesFull count) fails = absurd fails
+  failure_caused (PropsFull count) fails = absurd fails
+  failure_caused Memory fails = tt
+  failure_caused Disk fails = tt
+  failure_caused (Damaged damage) fails = tt
 
--- ---- rooms
+  -- ---- rooms
 
-pub room_caused : (command : Command) (s : State) (names : List (List ℕ)) (file count : ℕ) → AsksRoom command file count → (fault : ChangeFault) → LacksRoom s file count fault → IsCaused command s names fault
-room_caused command s names file count asks fault why =
-    subst (IsCaused command s names) (sym why.is) (inl (count, asks, record { is = refl; lacks = why.lacks }))
+  pub room_caused : (file count : ℕ) → AsksRoom command file count → (fault : ChangeFault) → LacksRoom s file count fault → IsCaused command s t names now fault
+  room_caused file count asks fault why = subst (IsCaused command s t names now) (sym why.is) (inl (count, asks, record { is = refl; lacks = why.lacks }))
+
+  -- ---- values
+
+  -- that a new element is given
+  pub put_caused : (pairs : List Pair) (count blocks : ℕ) → NeedForPairs pairs format.properties_file count → NeedForPairs pairs format.strings_file blocks → ((file : ℕ) → NeedsAny pairs file → AsksRecord command s.records now file)
+      → (fault : ChangeFault) → IsPutCause t count blocks fault → IsCaused command s t names now fault
+  put_caused pairs count blocks all sum asks (NoNode id) why = absurd why
+  put_caused pairs count blocks all sum asks (NoEdge id) why = absurd why
+  put_caused pairs count blocks all sum asks (HasRelationships id degree) why = absurd why
+  put_caused pairs count blocks all sum asks (Full file live) why = inr (
+    asks file (⊎_elim
+        (λ (k : (file ≡ format.properties_file) × (0 < count)). (count, subst (λ f. NeedForPairs pairs f count) (sym k.0) all, k.1))
+        (λ (k : (file ≡ format.strings_file) × (0 < blocks)). (blocks, subst (λ f. NeedForPairs pairs f blocks) (sym k.0) sum, k.1)) why.1),
+    why.0,
+  )
+  put_caused pairs count blocks all sum asks (NamesFull n) why = absurd why
+  put_caused pairs count blocks all sum asks (PropsFull n) why = absurd why
+  put_caused pairs count blocks all sum asks Memory why = tt
+  put_caused pairs count blocks all sum asks Disk why = tt
+  put_caused pairs count blocks all sum asks (Damaged damage) why = tt
 
 -- ---- the names and the properties of a new element
 
@@ -108,68 +138,122 @@ module _ (s u : State) (names : List (List ℕ)) (label : List ℕ) (pairs : Lis
       (λ (k : HasRoom u format.properties_file count × LacksRoom u format.strings_file blocks fault). file_caused format.strings_file blocks (inr (refl, sum)) metas.blocks fault k.1) why
 
 -- a new node has the causes of its line, and so has a new edge
-pub line_node : (s : State) (names : List (List ℕ)) (label : List ℕ) (pairs : List Pair) (fault : ChangeFault) → IsLineCause s names label pairs fault → IsCaused (commands.Node label pairs) s names fault
-line_node s names label pairs (NoNode id) why = absurd why
-line_node s names label pairs (NoEdge id) why = absurd why
-line_node s names label pairs (HasRelationships id degree) why = absurd why
-line_node s names label pairs (Full file live) why = inl (why.0, inr why.1, why.2)
-line_node s names label pairs (NamesFull count) why = why
-line_node s names label pairs (PropsFull count) why = (tt, why.1)
-line_node s names label pairs Memory why = tt
-line_node s names label pairs Disk why = tt
-line_node s names label pairs (Damaged damage) why = tt
+module _ (s t : State) (names now : List (List ℕ)) (label : List ℕ) (pairs : List Pair) where
+  pub line_node : (fault : ChangeFault) → IsLineCause s names label pairs fault → IsCaused (commands.Node label pairs) s t names now fault
+  line_node (NoNode id) why = absurd why
+  line_node (NoEdge id) why = absurd why
+  line_node (HasRelationships id degree) why = absurd why
+  line_node (Full file live) why = inl (why.0, inr why.1, why.2)
+  line_node (NamesFull count) why = why
+  line_node (PropsFull count) why = why
+  line_node Memory why = tt
+  line_node Disk why = tt
+  line_node (Damaged damage) why = tt
 
-pub line_edge : (s : State) (names : List (List ℕ)) (from : ℕ) (label : List ℕ) (to : ℕ) (pairs : List Pair) (fault : ChangeFault) → IsLineCause s names label pairs fault → IsCaused (commands.Edge from label to pairs) s names fault
-line_edge s names from label to pairs (NoNode id) why = absurd why
-line_edge s names from label to pairs (NoEdge id) why = absurd why
-line_edge s names from label to pairs (HasRelationships id degree) why = absurd why
-line_edge s names from label to pairs (Full file live) why = inl (why.0, inr why.1, why.2)
-line_edge s names from label to pairs (NamesFull count) why = why
-line_edge s names from label to pairs (PropsFull count) why = (tt, why.1)
-line_edge s names from label to pairs Memory why = tt
-line_edge s names from label to pairs Disk why = tt
-line_edge s names from label to pairs (Damaged damage) why = tt
+  pub line_edge : (from to : ℕ) (fault : ChangeFault) → IsLineCause s names label pairs fault → IsCaused (commands.Edge from label to pairs) s t names now fault
+  line_edge from to (NoNode id) why = absurd why
+  line_edge from to (NoEdge id) why = absurd why
+  line_edge from to (HasRelationships id degree) why = absurd why
+  line_edge from to (Full file live) why = inl (why.0, inr why.1, why.2)
+  line_edge from to (NamesFull count) why = why
+  line_edge from to (PropsFull count) why = why
+  line_edge from to Memory why = tt
+  line_edge from to Disk why = tt
+  line_edge from to (Damaged damage) why = tt
 
--- ---- values
+-- one of the values is put
+pub add_caused : (new : Type 0) (t : State) (count blocks needed : ℕ) → 0 < count → needed ≤ blocks → (fault : SetFault) → IsSetCause ⊥ new needed t fault → IsPutCause t count blocks (of_set fault)
+add_caused new t count blocks needed some le (sets.PropsFull n) why = absurd why.1
+add_caused new t count blocks needed some le (sets.Full file live) why =
+    (why.0, ⊎_elim (λ (k : (file ≡ format.properties_file) × new). inl (k.0, some)) (λ (k : (file ≡ format.strings_file) × (0 < needed)). inr (k.0, omega (arith, k.1))) why.1)
+add_caused new t count blocks needed some le sets.Memory why = tt
+add_caused new t count blocks needed some le sets.Disk why = tt
+add_caused new t count blocks needed some le (sets.Damaged damage) why = tt
 
-pub add_caused : (s : State) (shape : Shape) → s.shape ≡ shape → (fault : SetFault) → IsOwnRoom fault → IsExact s.shape fault → IsPutCause shape (of_set fault)
-add_caused s shape same (sets.PropsFull count) own exact = exact
-add_caused s shape same (sets.Full file live) own exact = (own, exact ∙ ap (λ (h : Shape). room_of h file) same)
-add_caused s shape same sets.Memory own exact = tt
-add_caused s shape same sets.Disk own exact = tt
-add_caused s shape same (sets.Damaged damage) own exact = tt
+pub set_cause_map : (crowded new crowd then : Type 0) → (crowded → crowd) → (new → then) → (blocks : ℕ) (t : State) (fault : SetFault) → IsSetCause crowded new blocks t fault → IsSetCause crowd then blocks t fault
+set_cause_map crowded new crowd then f h blocks t (sets.PropsFull n) why = (why.0, f why.1)
+set_cause_map crowded new crowd then f h blocks t (sets.Full file live) why = (why.0, ⊎_elim (λ (k : (file ≡ format.properties_file) × new). inl (k.0, h k.1)) (λ (k : (file ≡ format.strings_file) × (0 < blocks)). inr k) why.1)
+set_cause_map crowded new crowd then f h blocks t sets.Memory why = tt
+set_cause_map crowded new crowd then f h blocks t sets.Disk why = tt
+set_cause_map crowded new crowd then f h blocks t (sets.Damaged damage) why = tt
 
-pub put_caused : (command : Command) (s : State) (names : List (List ℕ)) (shape : Shape) → shape ≡ s.shape → GivesValues command → (fault : ChangeFault) → IsPutCause shape fault → IsCaused command s names fault
-put_caused command s names shape same gives (NoNode id) why = absurd why
-put_caused command s names shape same gives (NoEdge id) why = absurd why
-put_caused command s names shape same gives (HasRelationships id degree) why = absurd why
-put_caused command s names shape same gives (Full file live) why = inr (gives, (why.0, why.1 ∙ ap (λ (h : Shape). room_of h file) same))
-put_caused command s names shape same gives (NamesFull count) why = absurd why
-put_caused command s names shape same gives (PropsFull count) why = (gives, why)
-put_caused command s names shape same gives Memory why = tt
-put_caused command s names shape same gives Disk why = tt
-put_caused command s names shape same gives (Damaged damage) why = tt
+-- ---- a value that a key is given
 
-pub key_caused : (s : State) (names : List (List ℕ)) (target : Target) (key : List ℕ) (value : Value) (fault : InternFault) → IsFullFault names key fault → IsCaused (commands.Set target key value) s names (of_intern fault)
-key_caused s names target key value (intern.NamesFull count) why = (first_lacks names key [] why.all why.new, why.is ∙ why.all)
-key_caused s names target key value intern.Memory why = tt
-key_caused s names target key value intern.Disk why = tt
+module _ (s t : State) (names now : List (List ℕ)) (target : Target) (key : List ℕ) (value : Value) where
+  pub key_caused : (fault : InternFault) → IsFullFault names key fault → IsCaused (commands.Set target key value) s t names now (of_intern fault)
+  key_caused (intern.NamesFull count) why = (first_lacks names key [] why.all why.new, why.is ∙ why.all)
+  key_caused intern.Memory why = tt
+  key_caused intern.Disk why = tt
+
+  -- after the key got its number
+  pub set_caused : (number : ℕ) → slice_get now number ≡ Some key → (r : Records) → properties_met r (owner_of target) ≡ properties_met s.records (owner_of target) → (fault : SetFault)
+      → IsSetCause (IsCrowded r (owner_of target) number) (LacksMet r (owner_of target) number) (blocks_of value) t fault → IsCaused (commands.Set target key value) s t names now (of_set fault)
+  set_caused number named r same (sets.PropsFull n) why =
+      (record { number = number; named = named; crowded = (sym (ap (λ es. property_of es number) same) ∙ why.1.0, sym (ap (λ (es : List Property). length es) same) ∙ why.1.1) }, why.0)
+  set_caused number named r same (sets.Full file live) why = inr (
+    ⊎_elim
+        (λ (k : (file ≡ format.properties_file) × LacksMet r (owner_of target) number). inl (k.0, record { number = number; named = named; lacks = sym (ap (λ es. property_of es number) same) ∙ k.1 }))
+        (λ (k : (file ≡ format.strings_file) × (0 < blocks_of value)). inr k) why.1,
+    why.0,
+  )
+  set_caused number named r same sets.Memory why = tt
+  set_caused number named r same sets.Disk why = tt
+  set_caused number named r same (sets.Damaged damage) why = tt
 
 -- ---- after reads
-pub caused_read : (command : Command) (s m : State) (names : List (List ℕ)) → SameButReads s m → (fault : ChangeFault) → IsCaused command m names fault → IsCaused command s names fault
-caused_read command s m names same (NoNode id) why = subst (λ (z : State). IsCaused command z names (NoNode id)) same why
-caused_read command s m names same (NoEdge id) why = subst (λ (z : State). IsCaused command z names (NoEdge id)) same why
-caused_read command s m names same (HasRelationships id degree) why = subst (λ (z : State). IsCaused command z names (HasRelationships id degree)) same why
-caused_read command s m names same (Full file live) why = by (subst (λ (z : State). IsCaused command z names (Full file live)) same why)
+pub caused_read : (command : Command) (s m t : State) (names now : List (List ℕ)) → SameButReads s m → (fault : ChangeFault) → IsCaused command m t names now fault → IsCaused command s t names now fault
+caused_read command s m t names now same (NoNode id) why = subst (λ (z : State). IsCaused command z t names now (NoNode id)) same why
+caused_read command s m t names now same (NoEdge id) why = subst (λ (z : State). IsCaused command z t names now (NoEdge id)) same why
+caused_read command s m t names now same (HasRelationships id degree) why = subst (λ (z : State). IsCaused command z t names now (HasRelationships id degree)) same why
+caused_read command s m t names now same (Full file live) why = by (subst (λ (z : State). IsCaused command z t names now (Full file live)) same why)
   where
-    by : IsCaused command (record s { reads = m.reads }) names (Full file live) → IsCaused command s names (Full file live)
+    by : IsCaused command (record s { reads = m.reads }) t names now (Full file live) → IsCaused command s t names now (Full file live)
     by (inl lacks) = inl (lacks.0, lacks.1, record { is = lacks.2.is; lacks = lacks.2.lacks })
     by (inr late) = inr late
-caused_read command s m names same (NamesFull count) why = why
-caused_read command s m names same (PropsFull count) why = why
-caused_read command s m names same Memory why = tt
-caused_read command s m names same Disk why = tt
-caused_read command s m names same (Damaged damage) why = tt
+caused_read command s m t names now same (NamesFull count) why = why
+caused_read command s m t names now same (PropsFull count) why = subst (λ (z : State). IsCaused command z t names now (PropsFull count)) same why
+caused_read command s m t names now same Memory why = tt
+caused_read command s m t names now same Disk why = tt
+caused_read command s m t names now same (Damaged damage) why = tt
+
+-- from the space before the reads
+pub caused_left : (command : Command) (s m t : State) (names now : List (List ℕ)) → SameButReads s m → (fault : ChangeFault) → IsCaused command s t names now fault → IsCaused command m t names now fault
+caused_left command s m t names now same fault why = caused_read command m s t names now (ap (λ (z : State). record z { reads = s.reads }) (sym same)) fault why
+
+-- ---- what is blamed
+
+pub any_blamed : (told : Damage → Type 0) → ((damage : Damage) → told damage) → (fault : ChangeFault) → IfBlames told fault
+any_blamed told all (NoNode id) = tt
+any_blamed told all (NoEdge id) = tt
+any_blamed told all (HasRelationships id degree) = tt
+any_blamed told all (Full file live) = tt
+any_blamed told all (NamesFull count) = tt
+any_blamed told all (PropsFull count) = tt
+any_blamed told all Memory = tt
+any_blamed told all Disk = tt
+any_blamed told all (Damaged damage) = all damage
+
+pub intern_blamed : (told : Damage → Type 0) (fault : InternFault) → IfBlames told (of_intern fault)
+intern_blamed told (intern.NamesFull count) = tt
+intern_blamed told intern.Memory = tt
+intern_blamed told intern.Disk = tt
+
+pub set_blamed : (t : State) (fault : SetFault) → BlamesStill t fault → BlamesBroken t (of_set fault)
+set_blamed t (sets.PropsFull count) why = tt
+set_blamed t (sets.Full file live) why = tt
+set_blamed t sets.Memory why = tt
+set_blamed t sets.Disk why = tt
+set_blamed t (sets.Damaged damage) why = why
+
+pub take_blamed_still : (s t : State) (fault : TakeFault) → takes.BlamesBroken s.records s.shape fault → SameButReads s t → BlamesBroken t (of_take fault)
+take_blamed_still s t (take.Full file live) why same = tt
+take_blamed_still s t take.Memory why same = tt
+take_blamed_still s t take.Disk why same = tt
+take_blamed_still s t (take.Damaged damage) why same = subst (λ (z : State). IsBroken z damage) (sym same) why
+
+-- after reads
+pub broken_left : (s t : State) → SameButReads s t → (fault : ChangeFault) → BlamesBroken s fault → BlamesBroken t fault
+broken_left s t same fault why = subst (λ (z : State). BlamesBroken z fault) (sym same) (blames_more (IsBroken s) (IsBroken (record s { reads = t.reads })) (λ damage broken. broken) fault why)
 
 -- ---- targets
 pub node_of : {a b : ℕ} → targets.Node a ≡ targets.Node b → a ≡ b

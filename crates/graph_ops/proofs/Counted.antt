@@ -11,7 +11,7 @@ use Rattle.graph_ops.specs.declared.change_fault.ChangeFault.TheVariants.{NoNode
 use Rattle.graph_ops.specs.Assigning.{IsAssignCount, IsReserveFault}
 use Rattle.graph_ops.specs.Change.{IsCounted, IsSetCount}
 use Rattle.graph_ops.specs.ChangeFault.{IsOutside, of_intern, of_set}
-use Rattle.prop_store.specs.SetFault.{IsExact}
+use Rattle.prop_store.specs.SetFault.{IsSetCause}
 use Rattle.prop_store.specs.declared.set_fault.SetFault.{SetFault}
 use Rattle.prop_store.specs.declared.set_fault.SetFault.TheVariants as sets
 use Rattle.rec_bytes.specs.declared.shape.Shape.{Shape}
@@ -83,12 +83,12 @@ counted_read s t same Disk why = tt
 counted_read s t same (Damaged damage) why = tt
 
 -- ---- a value
-pub set_exact : (shape : Shape) (fault : SetFault) → IsExact shape fault → IsSetCount shape (of_set fault)
-set_exact shape (sets.PropsFull count) exact = exact
-set_exact shape (sets.Full file live) exact = exact
-set_exact shape sets.Memory exact = tt
-set_exact shape sets.Disk exact = tt
-set_exact shape (sets.Damaged damage) exact = tt
+pub set_exact : (crowded new : Type 0) (blocks : ℕ) (t : State) (fault : SetFault) → IsSetCause crowded new blocks t fault → IsSetCount t.shape (of_set fault)
+set_exact crowded new blocks t (sets.PropsFull count) why = why.0
+set_exact crowded new blocks t (sets.Full file live) why = why.0.1
+set_exact crowded new blocks t sets.Memory why = tt
+set_exact crowded new blocks t sets.Disk why = tt
+set_exact crowded new blocks t (sets.Damaged damage) why = tt
 
 pub named_exact : (shape : Shape) (fault : ChangeFault) → IsAssignCount fault → IsSetCount shape fault
 named_exact shape (NoNode id) why = tt

@@ -34,7 +34,8 @@ use Rattle.chain_edit.specs.Links.{IsRightLink}
 use Rattle.chain_edit.specs.Listed.{AreHeads, with_one}
 use Rattle.chain_edit.proofs.AllPushed.{all_listed_same, all_listed_stays}
 use Rattle.store_rules.proofs.ChainSteps.{on_test}
-use Rattle.chain_edit.proofs.OwnedHeads.{end_in, end_on, ends_differ, heads_differ, in_head_group, on_has_group, only_head, other_record, owned_heads, owner_kind, owner_used}
+use Rattle.store_rules.proofs.OneHead.{end_on, on_has_group, only_head}
+use Rattle.chain_edit.proofs.OwnedHeads.{end_in, ends_differ, heads_differ, in_head_group, other_record, owned_heads, owner_kind, owner_used}
 use Rattle.graph_ops.specs.EdgeEnds.{both_joined, joined}
 use Rattle.graph_ops.proofs.EdgeLists.{first_used, joined_listed, prev_joined}
 use Rattle.graph_ops.proofs.EdgeSteps.{IsNode, number_pushed, degree_joined, differ_stays, first_joined, first_stays, links_joined, node_stays, record_joined, shape_joined, target_joined, used_low}

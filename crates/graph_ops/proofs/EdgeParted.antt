@@ -38,7 +38,8 @@ use Rattle.chain_edit.specs.Listed.{AreHeads, without_one}
 use Rattle.chain_edit.proofs.AllPushed.{all_listed_same, all_listed_stays}
 use Rattle.store_rules.proofs.ChainSteps.{on_test}
 use Rattle.chain_edit.proofs.InRange.{right_next, right_prev}
-use Rattle.chain_edit.proofs.OwnedHeads.{end_in, end_on, heads_differ, only_head, other_record, owned_heads, owner_kind}
+use Rattle.store_rules.proofs.OneHead.{end_on, only_head}
+use Rattle.chain_edit.proofs.OwnedHeads.{end_in, heads_differ, other_record, owned_heads, owner_kind}
 use Rattle.graph_ops.specs.EdgeEnds.{both_parted, end_groups, parted}
 use Rattle.graph_ops.proofs.EdgeLists.{next_used, parted_listed, prev_used}
 use Rattle.graph_ops.proofs.EdgeSteps.{IsNode, number_unlinked, degree_parted, differ_stays, first_stays, links_parted, node_stays, record_parted, shape_parted}

@@ -40,6 +40,9 @@ same_both a b c h k = k ∙ ap (λ (z : State). record z { reads = c.reads }) h
 pub used_of : (s : State) (id : ℕ) (node : NodeRow) → Some node ≡ nodes.row_at s.records id → (kind_at s.records format.nodes_file id ≢ format.free_kind) × (node.degree ≡ degree s.records id)
 used_of s id node found = let k = node_rows.kind-row_at-Some s.records id node (sym found) in (k.0, ap (λ (n : NodeRow). n.degree) k.1)
 
+pub degree_found : (s : State) (id n : ℕ) → HasDegree s.records id n → n ≡ degree s.records id
+degree_found s id n has = sym has.is ∙ (used_of s id has.row (sym has.found)).1
+
 pub node_loaded : (s : State) (id : ℕ) (node : NodeRow) → Some node ≡ nodes.row_at s.records id → has_node (graph_in s) id ≡ true
 node_loaded s id node found = rows.node_there s.records id (used_of s id node found).0
 
@@ -80,7 +83,7 @@ module _ (s : State) (names : List (List ℕ)) (id n : ℕ) (store : IsStore s n
   found_used = (used_of s id has.row (sym has.found)).0
 
   pub found_degree : n ≡ degree s.records id
-  found_degree = sym has.is ∙ (used_of s id has.row (sym has.found)).1
+  found_degree = degree_found s id n has
 
   pub found_there : has_node (graph_in s) id ≡ true
   found_there = rows.node_there s.records id found_used

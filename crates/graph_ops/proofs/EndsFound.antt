@@ -22,7 +22,7 @@ use Rattle.graph_ops.specs.NodeDeleting.{HasDegree}
 use Rattle.graph_ops.specs.Store.{IsStore, graph_in}
 use Rattle.graph_ops.specs.declared.edge_end.EdgeEnd.{EdgeEnd}
 use Rattle.graph_ops.proofs.EdgeOpened.{end_stays}
-use Rattle.graph_ops.proofs.Elements.{found_degree, found_used, node_readable}
+use Rattle.graph_ops.proofs.Elements.{degree_found, node_readable, used_of}
 use Rattle.graph_ops.proofs.Readings.{store_read}
 
 -- the row of an edge without properties
@@ -38,10 +38,9 @@ has_degree records n used = record {
 }
 
 -- and keeps it where its kind and its degree are the same
-degree_stays : (s : State) (t : Records) (names : List (List ℕ)) (n d : ℕ) → IsStore s names → kind_at t format.nodes_file n ≡ kind_at s.records format.nodes_file n → degree t n ≡ degree s.records n
-    → HasDegree s.records n d → HasDegree t n d
-degree_stays s t names n d store kind same has =
-    subst (HasDegree t n) (same ∙ sym (found_degree s names n d store has)) (has_degree t n (λ free. found_used s names n d store has (sym kind ∙ free)))
+pub degree_stays : (s : State) (t : Records) (n d : ℕ) → kind_at t format.nodes_file n ≡ kind_at s.records format.nodes_file n → degree t n ≡ degree s.records n → HasDegree s.records n d → HasDegree t n d
+degree_stays s t n d kind same has =
+    subst (HasDegree t n) (same ∙ sym (degree_found s n d has)) (has_degree t n (λ free. (used_of s n has.row (sym has.found)).0 (sym kind ∙ free)))
 
 -- ---- one end
 module _ (s : State) (names : List (List ℕ)) (id : ℕ) (rel : RelRow) (store : IsStore s names) (there : HasBareRow s.records id rel) (node : ℕ) (which : (node ≡ rel.from) ⊎ (node ≡ rel.to)) where
@@ -81,7 +80,7 @@ module _ (s : State) (names : List (List ℕ)) (id : ℕ) (rel : RelRow) (store 
             stands = record {
               owns = f.stands.owns;
               stands = record { row = bare_of id rel; live = r.rels id ∙ there; on = f.stands.on };
-              degree = degree_stays s t.records names node degree_is store (f.kinds node) (r.degrees node) has;
+              degree = degree_stays s t.records node degree_is (f.kinds node) (r.degrees node) has;
             };
             kinds = f.kinds;
             regroups = record { shape = r.shape; graph = r.graph; nodes = r.nodes; rels = r.rels; degrees = r.degrees; kinds = r.kinds; groups = r.groups; metas = r.metas };
@@ -128,7 +127,7 @@ module _ (s t : State) (names : List (List ℕ)) (id : ℕ) (rel : RelRow) (ther
           record {
             owns = kept.owns;
             stands = record { row = p.stands.row; live = second.regroups.rels id ∙ p.stands.live; on = kept.on };
-            degree = degree_stays t u.records names source.node source.degree first.store (second.kinds source.node) (second.regroups.degrees source.node) p.degree;
+            degree = degree_stays t u.records source.node source.degree (second.kinds source.node) (second.regroups.degrees source.node) p.degree;
           }
 
 -- ---- and the edge is taken away then

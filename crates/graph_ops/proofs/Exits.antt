@@ -1,14 +1,15 @@
 -- An exit that hands a fault on, and what a fault leaves.
 use Rattle.std.specs.Bool.{OnTrue}
 use Rattle.std.specs.Prelude.{Result, Ok, Err, IfErr, IsErrAnd, OnOk}
-use Rattle.std.proofs.Common.{◌≡◌, Bool, true, false, sym, ap, ◌∙◌, subst, ⊎_elim}
+use Rattle.std.proofs.Common.{◌≡◌, ◌<◌, ℕ, Bool, true, false, sym, ap, ◌∙◌, subst, ⊎_elim}
 use Rattle.std.proofs.lemmas.Result.{err_from_is_err_and}
+use Rattle.rec_bytes.specs.Format.{properties_file, strings_file}
 use Rattle.rec_bytes.specs.Space.{SameButReads, State}
 use Rattle.graph_ops.specs.declared.change_fault.ChangeFault.{ChangeFault}
 use Rattle.graph_ops.specs.declared.change_fault.ChangeFault.TheVariants.{NoNode, NoEdge, HasRelationships, Full, NamesFull, PropsFull, Memory, Disk, Damaged}
 use Rattle.rec_bytes.specs.declared.space.SpaceFault.{SpaceFault}
 use Rattle.rec_bytes.specs.declared.space.SpaceFault.TheVariants as spaces
-use Rattle.prop_store.specs.SetFault.{IsOwnRoom}
+use Rattle.prop_store.specs.SetFault.{IsSetCause}
 use Rattle.prop_store.specs.declared.set_fault.SetFault.{SetFault}
 use Rattle.prop_store.specs.declared.set_fault.SetFault.TheVariants as sets
 use Rattle.rec_bytes.specs.Fault.{NotDamaged}
@@ -101,9 +102,9 @@ fault_fails (faults.Damaged damage) = tt
 
 -- ---- and that may come late
 
-pub set_late : (fault : SetFault) → IsOwnRoom fault → MayComeLate (of_set fault)
-set_late (sets.PropsFull count) own = tt
-set_late (sets.Full file live) own = ⊎_elim (λ e. ap is_element_file e) (λ e. ap is_element_file e) own
-set_late sets.Memory own = tt
-set_late sets.Disk own = tt
-set_late (sets.Damaged damage) own = tt
+pub set_late : (crowded new : Type 0) (blocks : ℕ) (t : State) (fault : SetFault) → IsSetCause crowded new blocks t fault → MayComeLate (of_set fault)
+set_late crowded new blocks t (sets.PropsFull count) why = tt
+set_late crowded new blocks t (sets.Full file live) why = ⊎_elim (λ (k : (file ≡ properties_file) × new). ap is_element_file k.0) (λ (k : (file ≡ strings_file) × (0 < blocks)). ap is_element_file k.0) why.1
+set_late crowded new blocks t sets.Memory why = tt
+set_late crowded new blocks t sets.Disk why = tt
+set_late crowded new blocks t (sets.Damaged damage) why = tt

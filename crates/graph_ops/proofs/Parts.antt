@@ -6,6 +6,8 @@ use Rattle.plain_graph.specs.Refusals.{FirstReason, change_reasons}
 use Rattle.plain_graph.specs.Reply.{Reply}
 use Rattle.plain_graph.specs.declared.command.Command.{Command}
 use Rattle.plain_graph.specs.declared.command.Command.TheVariants as commands
+use Rattle.plain_graph.specs.declared.command.Target.{Target}
+use Rattle.plain_graph.specs.declared.command.Target.TheVariants as targets
 use Rattle.plain_graph.specs.declared.item.Item.{Item}
 use Rattle.plain_graph.specs.declared.item.Item.TheVariants as items
 use Rattle.plain_graph.specs.declared.pairs.Pair.{Pair}
@@ -20,7 +22,8 @@ use Rattle.graph_ops.specs.Store.{IsStore, graph_in}
 use Rattle.graph_ops.specs.declared.change_fault.ChangeFault.{ChangeFault}
 use Rattle.graph_ops.specs.declared.change_fault.ChangeFault.TheVariants.{NoNode, NoEdge, HasRelationships, Full, NamesFull, PropsFull, Memory, Disk, Damaged}
 use Rattle.graph_ops.proofs.Exits.{fault_exit}
-use Rattle.graph_ops.specs.Mutating.{IsListRefusal, MakesChanges, MakesList, MakesMutation, MakesPart, any_replies, most_drafted, most_told}
+use Rattle.graph_ops.specs.Causes.{IsStillCaused}
+use Rattle.graph_ops.specs.Mutating.{BlamesDeletion, IsListCaused, IsListRefusal, MakesChanges, MakesList, MakesMutation, MakesPart, any_replies, most_drafted, most_told}
 use Rattle.plain_graph.specs.Mutations.{MakesEach, RefusesEach, changes_of, elements_of, new_elements, targets_once, vertex_id}
 use Rattle.plain_graph.specs.declared.mutation.Mutation.TheVariants as mutations
 use Rattle.plain_graph.proofs.Alike.{AreAlike, IsNewEdge, IsOfElement, alike_self, edge_carries, element_carries, node_once}
@@ -139,6 +142,42 @@ pub result_refused : {T : Type 0} (r : Result T ChangeFault) (limit : ℕ) (grap
 result_refused (Ok x) limit graph command refused = tt
 result_refused (Err fault) limit graph command refused = one_refused limit graph command fault refused
 
+-- ---- why one is refused, by the space as it is left
+
+pub one_caused : (command : Command) (t : State) (names now : List (List ℕ)) (fault : ChangeFault) → ((rest : List (List ℕ)) × (now ≡ names ++ rest)) → IsStillCaused command t names now fault → IsListCaused (command ∷ []) t names now fault
+one_caused command t names now fault grown why =
+    inr (record {
+      before = [];
+      command = command;
+      after = [];
+      split = refl;
+      more = [];
+      rest = grown.0;
+      held = grown.1 ∙ ap (λ (l : List (List ℕ)). l ++ grown.0) (sym (append_none names));
+      caused = subst (λ (l : List (List ℕ)). IsStillCaused command t l now fault) (sym (append_none names)) why;
+    })
+
+-- among others, after some of which there are more names
+pub list_caused : (xs ys zs all : List Command) (t : State) (b m now : List (List ℕ)) (fault : ChangeFault) → all ≡ xs ++ (ys ++ zs) → ((more : List (List ℕ)) × (m ≡ b ++ more)) → IsListCaused ys t m now fault → IsListCaused all t b now fault
+list_caused xs ys zs all t b m now fault is grown (inl memory) = inl memory
+list_caused xs ys zs all t b m now fault is grown (inr why) =
+    let names : m ++ why.more ≡ b ++ (grown.0 ++ why.more) = ap (λ (l : List (List ℕ)). l ++ why.more) grown.1 ∙ append_assoc b grown.0 why.more in
+    inr (record {
+      before = xs ++ why.before;
+      command = why.command;
+      after = why.after ++ zs;
+      split = is ∙ ap (λ (l : List Command). xs ++ (l ++ zs)) why.split ∙ ap (λ (l : List Command). xs ++ l) (append_assoc why.before (why.command ∷ why.after) zs) ∙ sym (append_assoc xs why.before (why.command ∷ (why.after ++ zs)));
+      more = grown.0 ++ why.more;
+      rest = why.rest;
+      held = why.held ∙ ap (λ (l : List (List ℕ)). l ++ why.rest) names;
+      caused = subst (λ (l : List (List ℕ)). IsStillCaused why.command t l now fault) names why.caused;
+    })
+
+-- want of memory blames no record
+pub memory_blames : (s t : State) (target : Target) (fault : ChangeFault) → fault ≡ Memory → BlamesDeletion s t target fault
+memory_blames s t (targets.Node id) fault is = subst (BlamesDeletion s t (targets.Node id)) (sym is) tt
+memory_blames s t (targets.Edge id) fault is = subst (BlamesDeletion s t (targets.Edge id)) (sym is) tt
+
 -- ---- a loop over a list that is asked for part by part
 
 module _ {X : Type 0} (of : List X → List Command) (spread : IsSpread of) (xs : List X) (i : ℕ) (item any : X) (lt : i < length xs) (at : item ≡ get_or xs i any) where
@@ -166,6 +205,10 @@ module _ {X : Type 0} (of : List X → List Command) (spread : IsSpread of) (xs 
   next_exit w s t b m fault out told store part shape gives refused =
       fault_exit (λ f. f) (IsListRefusal s.shape.limit (graph_in s) (of xs)) fault out gives
       (next_refused told s t (of (take i xs)) (of (item ∷ [])) (of (drop (i + 1) xs)) (of xs) w b m part store shape all_of fault refused)
+
+  -- and so is the cause of one
+  pub next_still : {T : Type 0} (t : State) (b m now : List (List ℕ)) (fault : ChangeFault) (out : Result T ChangeFault) → ((more : List (List ℕ)) × (m ≡ b ++ more)) → IsErrAnd out (λ y. y ≡ fault) → IsListCaused (of (item ∷ [])) t m now fault → IfErr out (IsListCaused (of xs) t b now)
+  next_still t b m now fault out grown gives why = fault_exit (λ f. f) (IsListCaused (of xs) t b now) fault out gives (list_caused (of (take i xs)) (of (item ∷ [])) (of (drop (i + 1) xs)) (of xs) t b m now fault all_of grown why)
 
 -- ---- whole lists
 

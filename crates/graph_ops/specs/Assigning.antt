@@ -1,5 +1,6 @@
 -- The pairs of a line by the numbers of their keys, each key once.
-use Rattle.std.specs.Prelude.{◌≡◌, ◌≢◌, ◌⊎◌, ℕ, ◌+◌, ◌<◌, ◌≤◌, nat_eq, true, if◌then◌else◌, None, List, []}
+use Rattle.std.specs.Prelude.{◌≡◌, ◌≢◌, ◌⊎◌, ℕ, ◌+◌, ◌<◌, ◌≤◌, nat_eq, true, if◌then◌else◌}
+use Rattle.std.specs.Prelude.{None, List, []}
 use Rattle.std.specs.Prelude.{◌∷◌, length, map, slice_index_or}
 use Rattle.std.specs.FinMap as maps
 use Rattle.std.specs.List.{All, sum_by}
@@ -9,17 +10,17 @@ use Rattle.plain_graph.specs.Refusals.{most_names, most_properties}
 use Rattle.plain_graph.specs.declared.command.Target.{Target}
 use Rattle.plain_graph.specs.declared.pairs.Pair.{Pair}
 use Rattle.plain_graph.specs.declared.value.Value.TheVariants as values
+use Rattle.prop_store.specs.SetFault.{IsFullFile, IsNeeded}
 use Rattle.prop_store.specs.declared.owner.Owner.{Owner}
 use Rattle.rec_bytes.specs.declared.key.Key.{Key}
 use Rattle.rec_bytes.specs.Format as format
 use Rattle.rec_bytes.specs.Record.{field}
-use Rattle.rec_bytes.specs.RecordFiles.{meta_key_of, room_of}
+use Rattle.rec_bytes.specs.RecordFiles.{meta_key_of}
 use Rattle.rec_bytes.specs.Space.{State}
-use Rattle.rec_bytes.specs.declared.shape.Shape.{Shape}
 use Rattle.store_rules.specs.PropertyChange.{Apart, property_place}
 use Rattle.store_rules.specs.Views.{Records, key_in, rec_at}
 use Rattle.graph_ops.specs.Owners.{owner_of}
-use Rattle.graph_ops.specs.Rooms.{HasRoom, IsValueFile, LacksRoom}
+use Rattle.graph_ops.specs.Rooms.{HasRoom, LacksRoom}
 use Rattle.graph_ops.specs.Store.{IsStore, graph_in}
 use Rattle.graph_ops.specs.declared.assigning.Assignment.{Assignment}
 use Rattle.graph_ops.specs.declared.change_fault.ChangeFault.{ChangeFault}
@@ -110,18 +111,19 @@ IsAssignCount Memory = Unit {0}
 IsAssignCount Disk = Unit {0}
 IsAssignCount (Damaged damage) = ⊥
 
--- Why an element isn't given its values, once there was room for them: a file of values has as many
--- records as it has room for, or the element as many properties as it may have. Or it is a failure.
-abbrev pub IsPutCause : Shape → ChangeFault → Type 0
-IsPutCause shape (NoNode id) = ⊥
-IsPutCause shape (NoEdge id) = ⊥
-IsPutCause shape (HasRelationships id degree) = ⊥
-IsPutCause shape (Full file live) = IsValueFile file × (live ≡ room_of shape file)
-IsPutCause shape (NamesFull count) = ⊥
-IsPutCause shape (PropsFull count) = count ≡ most_properties
-IsPutCause shape Memory = Unit {0}
-IsPutCause shape Disk = Unit {0}
-IsPutCause shape (Damaged damage) = Unit {0}
+-- Why an element isn't given so many values, with so many blocks, once there was room for them: by
+-- the space as it is left a file is full of which a record is needed. Or it is a failure.
+abbrev pub IsPutCause : State → ℕ → ℕ → ChangeFault → Type 0
+IsPutCause t count blocks (NoNode id) = ⊥
+IsPutCause t count blocks (NoEdge id) = ⊥
+IsPutCause t count blocks (HasRelationships id degree) = ⊥
+IsPutCause t count blocks (Full file live) =
+    IsFullFile t file live × IsNeeded (0 < count) blocks file
+IsPutCause t count blocks (NamesFull count_of) = ⊥
+IsPutCause t count blocks (PropsFull count_of) = ⊥
+IsPutCause t count blocks Memory = Unit {0}
+IsPutCause t count blocks Disk = Unit {0}
+IsPutCause t count blocks (Damaged damage) = Unit {0}
 
 -- the store has room for so many properties and blocks more
 pub record HasPropertyRoom (s : State) (count block_count : ℕ) : Type 0 where

@@ -1,19 +1,27 @@
 -- Why a change is refused, by what the records say, whether or not they keep the rules.
-use Rattle.std.specs.Prelude.{◌≡◌, ◌≢◌, ◌⊎◌, ℕ, List, [], ◌∷◌, None}
-use Rattle.plain_graph.specs.Properties.{keys_in}
+use Rattle.std.specs.Prelude.{◌≡◌, ◌≢◌, ◌⊎◌, ◌<◌, ℕ, List, [], ◌∷◌, None, Some, slice_get}
+use Rattle.plain_graph.specs.Properties.{blocks_of, keys_in}
 use Rattle.plain_graph.specs.Refusals.{most_names, most_properties}
 use Rattle.plain_graph.specs.declared.command.Command.{Command}
 use Rattle.plain_graph.specs.declared.command.Command.TheVariants as commands
+use Rattle.plain_graph.specs.declared.command.Target.{Target}
 use Rattle.plain_graph.specs.declared.command.Target.TheVariants as targets
+use Rattle.plain_graph.specs.declared.pairs.Pair.{Pair}
+use Rattle.prop_store.specs.Finding.{IsCrowded, LacksMet}
+use Rattle.prop_store.specs.SetFault.{IsFullFile, IsNeeded}
+use Rattle.rec_bytes.specs.declared.damage.Damage.{Damage}
 use Rattle.rec_bytes.specs.Format as format
-use Rattle.rec_bytes.specs.RecordFiles.{room_of}
 use Rattle.rec_bytes.specs.Space.{State}
+use Rattle.store_rules.specs.Views.{Records}
 use Rattle.node_store.specs.Loading as nodes
 use Rattle.rel_store.specs.Loading as rels
-use Rattle.graph_ops.specs.Assigning.{LacksNames}
+use Rattle.graph_ops.specs.Assigning.{HasTooMany, LacksNames}
+use Rattle.graph_ops.specs.Damage.{IfBlames, IsBroken}
+use Rattle.graph_ops.specs.EdgeAdding.{IsEdgeDamage}
 use Rattle.graph_ops.specs.NodeDeleting.{HasDegree}
+use Rattle.graph_ops.specs.Owners.{owner_of}
 use Rattle.graph_ops.specs.Preparing.{NeedForPairs}
-use Rattle.graph_ops.specs.Rooms.{IsValueFile, LacksRoom}
+use Rattle.graph_ops.specs.Rooms.{LacksRoom}
 use Rattle.graph_ops.specs.declared.change_fault.ChangeFault.{ChangeFault}
 use Rattle.graph_ops.specs.declared.change_fault.ChangeFault.TheVariants.{NoNode, NoEdge}
 use Rattle.graph_ops.specs.declared.change_fault.ChangeFault.TheVariants.{HasRelationships, Full}
@@ -50,32 +58,73 @@ AsksRoom (commands.Edge from label to pairs) file count =
     ((file ≡ format.relationships_file) × (count ≡ 1)) ⊎ NeedForPairs pairs file count
 AsksRoom _ file count = ⊥
 
--- the command gives an element values
-abbrev pub GivesValues : Command → Type 0
-GivesValues (commands.Node label pairs) = Unit {0}
-GivesValues (commands.Edge from label to pairs) = Unit {0}
-GivesValues (commands.Set target key value) = Unit {0}
-GivesValues _ = ⊥
+-- The records of the element lead to no property with the key, by its number among these names.
+pub record LacksKey (records : Records) (names : List (List ℕ)) (target : Target) (key : List ℕ)
+    : Type 0 where
+  pub number : ℕ
+  pub named : slice_get names number ≡ Some key
+  pub lacks : LacksMet records (owner_of target) number
+
+-- Besides, they lead to as many as an element may have.
+pub record IsCrowdedFor (records : Records) (names : List (List ℕ)) (target : Target)
+    (key : List ℕ) : Type 0 where
+  pub number : ℕ
+  pub named : slice_get names number ≡ Some key
+  pub crowded : IsCrowded records (owner_of target) number
+
+-- the pairs need some record of the file
+abbrev pub NeedsAny : List Pair → ℕ → Type 0
+NeedsAny pairs file = (count : ℕ) × NeedForPairs pairs file count × (0 < count)
+
+-- what the command gives an element needs a record of the file
+abbrev pub AsksRecord : Command → Records → List (List ℕ) → ℕ → Type 0
+AsksRecord (commands.Node label pairs) records names file = NeedsAny pairs file
+AsksRecord (commands.Edge from label to pairs) records names file = NeedsAny pairs file
+AsksRecord (commands.Set target key value) records names file =
+    IsNeeded (LacksKey records names target key) (blocks_of value) file
+AsksRecord _ records names file = ⊥
+
+-- an element would have more properties than it may have
+abbrev pub AsksTooMany : Command → Records → List (List ℕ) → Type 0
+AsksTooMany (commands.Node label pairs) records names = HasTooMany pairs
+AsksTooMany (commands.Edge from label to pairs) records names = HasTooMany pairs
+AsksTooMany (commands.Set target key value) records names = IsCrowdedFor records names target key
+AsksTooMany _ records names = ⊥
 
 -- The file had no room for what a new element needs, as counted before its record is written. Or it
--- is that of properties or of blocks, and is told, as values are given, with as many records as it
--- has room for.
-abbrev pub IsFull : Command → State → ℕ → ℕ → Type 0
-IsFull command s file live =
+-- is told as values are given that need a record of it: by the space as it is left it is full.
+abbrev pub IsFull : Command → State → State → List (List ℕ) → ℕ → ℕ → Type 0
+IsFull command s t now file live =
     ((count : ℕ) × AsksRoom command file count × LacksRoom s file count (Full file live))
-    ⊎ (GivesValues command × (IsValueFile file × (live ≡ room_of s.shape file)))
+    ⊎ (AsksRecord command s.records now file × IsFullFile t file live)
 
--- Why the command is refused. A record that is called damaged has a clause of its own.
-abbrev pub IsCaused : Command → State → List (List ℕ) → ChangeFault → Type 0
-IsCaused command s names (NoNode id) =
+-- Why the command is refused, by the space and the names as they were and as they are left. A
+-- record that is called damaged has a clause of its own.
+abbrev pub IsCaused : Command → State → State → List (List ℕ) → List (List ℕ) → ChangeFault → Type 0
+IsCaused command s t names now (NoNode id) =
     AsksNode command id × (nodes.row_at s.records id ≡ None)
-IsCaused command s names (NoEdge id) =
+IsCaused command s t names now (NoEdge id) =
     AsksEdge command id × (rels.row_at s.records id ≡ None)
-IsCaused command s names (HasRelationships id degree) =
+IsCaused command s t names now (HasRelationships id degree) =
     (command ≡ commands.Delete (targets.Node id)) × HasDegree s.records id degree × (degree ≢ 0)
-IsCaused command s names (Full file live) = IsFull command s file live
-IsCaused command s names (NamesFull count) = AsksNames names command × (count ≡ most_names)
-IsCaused command s names (PropsFull count) = GivesValues command × (count ≡ most_properties)
-IsCaused command s names Memory = Unit {0}
-IsCaused command s names Disk = Unit {0}
-IsCaused command s names (Damaged damage) = Unit {0}
+IsCaused command s t names now (Full file live) = IsFull command s t now file live
+IsCaused command s t names now (NamesFull count) = AsksNames names command × (count ≡ most_names)
+IsCaused command s t names now (PropsFull count) =
+    AsksTooMany command s.records now × (count ≡ most_properties)
+IsCaused command s t names now Memory = Unit {0}
+IsCaused command s t names now Disk = Unit {0}
+IsCaused command s t names now (Damaged damage) = Unit {0}
+
+-- A record that is blamed is so in the space as it is left. Of a deletion that isn't said: a record
+-- that it tells may be gone by then.
+abbrev pub IsStillDamage : Command → State → Damage → Type 0
+IsStillDamage (commands.Node label pairs) t damage = IsBroken t damage
+IsStillDamage (commands.Edge from label to pairs) t damage = IsEdgeDamage t from to damage
+IsStillDamage (commands.Set target key value) t damage = IsBroken t damage
+IsStillDamage _ t damage = Unit {0}
+
+-- Why the command is refused, by the space as it is left alone.
+pub record IsStillCaused (command : Command) (t : State) (names now : List (List ℕ))
+    (fault : ChangeFault) : Type 0 where
+  pub caused : IsCaused command t t names now fault
+  pub damaged : IfBlames (IsStillDamage command t) fault

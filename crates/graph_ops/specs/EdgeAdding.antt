@@ -1,18 +1,17 @@
 -- An edge that is added.
-use Rattle.std.specs.Prelude.{◌≡◌, ◌⊎◌, ℕ, ◌+◌, ◌*◌, nat_eq, if◌then◌else◌, List, length}
+use Rattle.std.specs.Prelude.{◌≡◌, ◌⊎◌, ℕ, ◌+◌, ◌*◌, nat_eq, if◌then◌else◌, length}
 use Rattle.rec_bytes.specs.declared.damage.Damage.{Damage}
 use Rattle.rec_bytes.specs.declared.fault.Fault.TheVariants as faults
 use Rattle.rec_bytes.specs.Format as format
 use Rattle.rec_bytes.specs.Space.{State, meta_of}
 use Rattle.id_freelist.specs.Taking.{room}
-use Rattle.store_rules.specs.Views.{key_in}
+use Rattle.store_rules.specs.Views.{degree, key_in}
 use Rattle.chain_edit.specs.Heads.{head_of}
 use Rattle.chain_edit.specs.Pushing.{IsPushFault}
-use Rattle.group_store.specs.Densing.{CanBecomeDense, IsLateDamage, IsSparse}
+use Rattle.group_store.specs.Densing.{IsLateDamage, IsSparse}
 use Rattle.group_store.specs.GroupChain.{IsDense}
-use Rattle.group_store.specs.Leaving.{LeavesBeside}
 use Rattle.group_store.specs.Spreading.{rels_damage}
-use Rattle.graph_ops.specs.Damage.{BreaksAdding, IfBlames, IsBroken, KeepsBeyond}
+use Rattle.graph_ops.specs.Damage.{IfBlames, IsBroken}
 use Rattle.graph_ops.specs.Store.{graph_in}
 use Rattle.graph_ops.specs.declared.change_fault.ChangeFault.{ChangeFault}
 use Rattle.graph_ops.specs.declared.edge_end.EdgeEnd.{EdgeEnd}
@@ -50,46 +49,48 @@ BlamesHead s end fault =
 abbrev pub IsUsedNode : State → ℕ → Type 0
 IsUsedNode s node = IsDense s.records node ⊎ IsSparse s.records node
 
--- A record that is blamed before the node's groups are changed breaks the rule. Or it is the node,
--- whose relationships aren't those that were read, and the store broke some rule.
-abbrev pub IsOpenDamage : State → ℕ → Damage → Type 0
-IsOpenDamage s node damage =
-    IsBroken s damage ⊎ ((damage ≡ rels_damage node)
-    × ((most : ℕ) (empty : List ℕ) → ¬ CanBecomeDense s node most empty))
+-- What is told where no head is found or made for an end. It is so in the space as it is then. Or
+-- the relationships of the end aren't those that were read: only of a sparse one is that told which
+-- has as many as a sparse node may have.
+abbrev pub IsHeadDamage : State → State → ℕ → ℕ → ℕ → Damage → Type 0
+IsHeadDamage s t node degree_is threshold damage =
+    IsLateDamage t damage
+    ⊎ ((damage ≡ rels_damage node) × IsSparse s.records node × (degree_is ≡ threshold))
 
--- So it is in a space that differs from this in no more than groups, their meta record, links of
--- relationships, and the kind and the first link of the node that the edge leaves.
-pub record IsDamagedAt (s : State) (from node : ℕ) (damage : Damage) : Type 0 where
-  pub mid : State
-  pub shape : mid.shape ≡ s.shape
-  pub beside : LeavesBeside s.records mid.records from
-  pub told : IsOpenDamage mid node damage
+-- the node is sparse, and has as many relationships as a sparse node may have
+pub record IsFullNode (s : State) (node : ℕ) : Type 0 where
+  pub sparse : IsSparse s.records node
+  pub full : degree s.records node ≡ s.shape.threshold
 
--- A record that is blamed where an edge joins the chains of two nodes is told of an end, for which
--- no head is found or made: by the space as it is left, or as it was when the head was looked for.
--- Or it has the head of an end, which leads nowhere. Or the file of relationships is damaged or
--- full.
-pub data IsJoinDamage (s t : State) (from to : ℕ) : Damage → Type 0 where
-  NoHead : (damage : Damage) (node : ℕ) → (node ≡ from) ⊎ (node ≡ to)
-      → IsLateDamage t damage ⊎ IsDamagedAt s from node damage → IsJoinDamage s t from to damage
+-- A record that is blamed where the heads of both ends are looked for: it is so in the space as it
+-- is left. Or it is an end that was full, whose relationships aren't those that were read.
+pub data IsOpenDamage (s t : State) (from to : ℕ) : Damage → Type 0 where
+  NoHead : (damage : Damage) → IsLateDamage t damage → IsOpenDamage s t from to damage
+  OtherRels : (node : ℕ) → (node ≡ from) ⊎ (node ≡ to) → IsFullNode s node
+      → IsOpenDamage s t from to (rels_damage node)
+
+-- A record that is blamed where an edge joins the chains of two nodes has the head of an end, which
+-- leads nowhere. Or the file of relationships is damaged or full.
+pub data IsJoinDamage (s : State) (from to : ℕ) : Damage → Type 0 where
   BadHead : (damage : Damage) (end : EdgeEnd) → (end.node ≡ from) ⊎ (end.node ≡ to)
-      → IsHeadAt end → IsPushFault t (head_of end.head) (faults.Damaged damage)
-      → IsJoinDamage s t from to damage
-  NotTaken : (damage : Damage) → IsBroken t damage → IsJoinDamage s t from to damage
-  FullFile : (meta_of t format.relationships_file).live ≡ room t format.relationships_file
-      → IsJoinDamage s t from to full_edges
+      → IsHeadAt end → IsPushFault s (head_of end.head) (faults.Damaged damage)
+      → IsJoinDamage s from to damage
+  NotTaken : (damage : Damage) → IsBroken s damage → IsJoinDamage s from to damage
+  FullFile : (meta_of s format.relationships_file).live ≡ room s format.relationships_file
+      → IsJoinDamage s from to full_edges
 
--- So it is where the names, the properties and the blocks of a new edge were made ready before.
-pub record IsLinkDamage (s t : State) (from to : ℕ) (damage : Damage) : Type 0 where
-  pub ready : State
-  pub shape : ready.shape ≡ s.shape
-  pub keeps : KeepsBeyond s ready
-  pub told : IsJoinDamage ready t from to damage
+-- the one or the other
+abbrev pub IsLinkingDamage : State → State → ℕ → ℕ → Damage → Type 0
+IsLinkingDamage s t from to damage =
+    IsOpenDamage s t from to damage ⊎ IsJoinDamage t from to damage
 
--- A record that is blamed where an edge is added breaks the rule in the space as it was, or is told
--- of the edge's ends. Or it breaks the rule in a space that differs from the one that is left in no
--- more than names, properties and blocks, and the edge's own record.
+-- A record that is blamed where an edge is added is so in the space as it is left. Or it is an end
+-- that was full.
 abbrev pub BlamesLinking : State → State → ℕ → ℕ → ChangeFault → Type 0
-BlamesLinking s t from to fault =
-    IfBlames (λ damage. IsBroken s damage ⊎ (IsLinkDamage s t from to damage
-    ⊎ ((id : ℕ) × BreaksAdding (key_in format.relationships_file id) t damage))) fault
+BlamesLinking s t from to fault = IfBlames (IsLinkingDamage s t from to) fault
+
+-- so it is by the space as it is left alone
+abbrev pub IsEdgeDamage : State → ℕ → ℕ → Damage → Type 0
+IsEdgeDamage t from to damage = IsLateDamage t damage
+    ⊎ (((node : ℕ) × ((node ≡ from) ⊎ (node ≡ to)) × (damage ≡ rels_damage node))
+    ⊎ IsJoinDamage t from to damage)

@@ -1,14 +1,20 @@
 -- What a list of changes leaves of a store, and why one is refused.
-use Rattle.std.specs.Prelude.{◌≡◌, ℕ, ◌≤◌, min, List}
+use Rattle.std.specs.Prelude.{◌≡◌, ◌⊎◌, ℕ, ◌≤◌, min, List, ◌∷◌, ◌++◌}
 use Rattle.plain_graph.specs.Graph.{Graph}
 use Rattle.plain_graph.specs.Reply.{Reply}
 use Rattle.plain_graph.specs.declared.command.Command.{Command}
+use Rattle.plain_graph.specs.declared.command.Target.{Target}
+use Rattle.plain_graph.specs.declared.command.Target.TheVariants as targets
 use Rattle.plain_graph.specs.declared.item.Item.{Item}
 use Rattle.plain_graph.specs.declared.refusal.Refusal.{Refusal}
 use Rattle.plain_graph.specs.declared.refusal.Refusal.TheVariants as refusals
+use Rattle.prop_store.specs.Fault.{SharesBlock}
 use Rattle.rec_bytes.specs.Space.{State}
 use Rattle.store_rules.specs.Writes.{WritesAtMost}
+use Rattle.graph_ops.specs.Causes.{IsStillCaused}
 use Rattle.graph_ops.specs.Change.{full_of}
+use Rattle.graph_ops.specs.Damage.{IfBlames, IsBroken}
+use Rattle.graph_ops.specs.EdgeDeleting.{BlamesDeleting}
 use Rattle.graph_ops.specs.Store.{IsStore, graph_in}
 use Rattle.graph_ops.specs.declared.change_fault.ChangeFault.{ChangeFault}
 use Rattle.graph_ops.specs.declared.change_fault.ChangeFault.TheVariants.{NoNode, NoEdge}
@@ -89,3 +95,29 @@ pub record MakesPart (tells : Type 0) (commands : List Command) (Shown : List Re
 -- nothing is said of the replies
 abbrev pub any_replies : List Reply → Type 0
 any_replies replies = Unit {0}
+
+-- ---- why one of them is refused
+
+-- One of the changes is refused so, by the space as it is left. The names by then are those before
+-- and some more.
+pub record IsListCause (commands : List Command) (t : State) (names now : List (List ℕ))
+    (fault : ChangeFault) : Type 0 where
+  pub before : List Command
+  pub command : Command
+  pub after : List Command
+  pub split : commands ≡ before ++ command ∷ after
+  pub more : List (List ℕ)
+  pub rest : List (List ℕ)
+  pub held : now ≡ (names ++ more) ++ rest
+  pub caused : IsStillCaused command t (names ++ more) now fault
+
+-- so it is, or there was no memory
+abbrev pub IsListCaused : List Command → State → List (List ℕ) → List (List ℕ) → ChangeFault → Type 0
+IsListCaused commands t names now fault =
+    (fault ≡ Memory) ⊎ IsListCause commands t names now fault
+
+-- what is so of a record that is blamed where this element is taken away
+abbrev pub BlamesDeletion : State → State → Target → ChangeFault → Type 0
+BlamesDeletion s t (targets.Node id) fault =
+    IfBlames (λ damage. IsBroken s damage ⊎ SharesBlock s.records damage) fault
+BlamesDeletion s t (targets.Edge id) fault = BlamesDeleting s t id fault

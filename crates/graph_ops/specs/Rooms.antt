@@ -1,5 +1,5 @@
 -- Room in the files of a store.
-use Rattle.std.specs.Prelude.{◌≡◌, ◌⊎◌, ℕ, ◌+◌, ◌<◌, ◌≤◌}
+use Rattle.std.specs.Prelude.{◌≡◌, ℕ, ◌+◌, ◌<◌, ◌≤◌}
 use Rattle.rec_bytes.specs.Format.{nodes_file, properties_file, relationships_file, strings_file}
 use Rattle.rec_bytes.specs.RecordFiles.{room_of}
 use Rattle.rec_bytes.specs.Space.{State, meta_of}
@@ -14,10 +14,6 @@ HasRoom s file needed = (meta_of s file).live + needed ≤ room_of s.shape file
 pub record LacksRoom (s : State) (file needed : ℕ) (fault : ChangeFault) : Type 0 where
   pub is : fault ≡ Full file (meta_of s file).live
   pub lacks : room_of s.shape file < (meta_of s file).live + needed
-
--- the file has what elements are given: their properties, or blocks of long texts
-abbrev pub IsValueFile : ℕ → Type 0
-IsValueFile file = (file ≡ properties_file) ⊎ (file ≡ strings_file)
 
 -- the meta records of all that elements are made of say what they said
 pub record KeepsElementMetas (s t : State) : Type 0 where

@@ -33,7 +33,8 @@ ghost use Rattle.graph_ops.specs.Assigning.{
 };
 ghost use Rattle.store_rules.specs.Writes.{WritesAtMost, WritesBeside};
 ghost use Rattle.graph_ops.specs.ChangeFault.{HasChangeCause, IsOutside, MayComeLate};
-ghost use Rattle.graph_ops.specs.Damage.{AddsElement, BreaksAdding, IfBlames, KeepsBeyond};
+ghost use Rattle.graph_ops.specs.Damage.{AddsElement, BlamesBroken, BreaksAdding, IfBlames};
+ghost use Rattle.graph_ops.specs.Damage.{KeepsBeyond};
 ghost use Rattle.graph_ops.specs.Owners.{owner_of};
 ghost use Rattle.graph_ops.specs.Rooms.{KeepsElementMetas};
 ghost use Rattle.graph_ops.specs.Store.{IsStore, KeepsElements};
@@ -217,9 +218,11 @@ pub(crate) fn put_properties<S: Space>(
     ensures err_writes { OnErr result (WritesAtMost
         (2 + length assigned.now + assigned_blocks pairs.now assigned.now)
         (S.state space.old) (S.state space.new)) }
-    ensures caused { S.tells → IfErr result (IsPutCause (S.state space.old).shape) }
+    ensures caused { S.tells → IfErr result (IsPutCause (S.state space.new) (length assigned.now)
+        (assigned_blocks pairs.now assigned.now)) }
     ensures damaged { S.tells → IfErr result
         (IfBlames (BreaksAdding owner.key (S.state space.old))) }
+    ensures still { S.tells → IfErr result (BlamesBroken (S.state space.new)) }
     ensures adds { S.tells
         → AddsElement owner.key (S.state space.old) (S.state space.new) }
     ensures late { S.tells → IfErr result MayComeLate }

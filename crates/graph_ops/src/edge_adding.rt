@@ -8,7 +8,7 @@ ghost use Rattle.plain_graph.specs.Refusals.{most_names};
 ghost use Rattle.plain_graph.specs.Reply.{EdgeMade};
 ghost use Rattle.plain_graph.specs.declared.command.Command.TheVariants as commands;
 ghost use Rattle.store_rules.specs.Writes.{WritesAtMost};
-ghost use Rattle.graph_ops.specs.Causes.{IsCaused};
+ghost use Rattle.graph_ops.specs.Causes.{IsCaused, IsStillCaused};
 ghost use Rattle.graph_ops.specs.Change.{IsCounted, IsRefusal, MakesChange};
 ghost use Rattle.graph_ops.specs.ChangeFault.{HasChangeCause, LeavesSpace};
 ghost use Rattle.graph_ops.specs.EdgeAdding.{BlamesLinking, IsFullOfEdges};
@@ -45,7 +45,11 @@ pub fn add_edge<S: Space>(
         → IfErr result (IsRefusal (S.state space.old).shape.limit (graph_in (S.state space.old))
         (commands.Edge from label.now to pairs.now)) }
     ensures caused { S.tells → IfErr result (IsCaused
-        (commands.Edge from label.now to pairs.now) (S.state space.old) names.old.names) }
+        (commands.Edge from label.now to pairs.now) (S.state space.old) (S.state space.new)
+        names.old.names names.new.names) }
+    ensures still { S.tells → IfErr result (IsStillCaused
+        (commands.Edge from label.now to pairs.now) (S.state space.new)
+        names.old.names names.new.names) }
     ensures damaged { S.tells → IfErr result
         (BlamesLinking (S.state space.old) (S.state space.new) from to) }
     ensures counts { S.tells → IsStore (S.state space.old) names.old.names

@@ -16,7 +16,7 @@ ghost use Rattle.group_store.specs.GroupChain.{IsDense};
 ghost use Rattle.group_store.specs.GroupRecord.{group_key};
 ghost use Rattle.group_store.specs.Leaving.{KeepsHeads, LeavesCounted};
 ghost use Rattle.store_rules.specs.Writes.{WritesAtMost, WritesBeside};
-ghost use Rattle.graph_ops.specs.Causes.{IsCaused};
+ghost use Rattle.graph_ops.specs.Causes.{IsCaused, IsStillCaused};
 ghost use Rattle.graph_ops.specs.Change.{IsRefusal, MakesChange};
 ghost use Rattle.graph_ops.specs.ChangeFault.{HasChangeCause, IsFailure, IsOutside, LeavesSpace};
 ghost use Rattle.graph_ops.specs.Damage.{IfBlames, OnBlame};
@@ -48,7 +48,9 @@ pub fn delete_edge<S: Space>(space: &mut S, names: &Names, id: u32) -> Result<u3
         → IfErr result (IsRefusal (S.state space.old).shape.limit (graph_in (S.state space.old))
         (commands.Delete (targets.Edge id))) }
     ensures caused { S.tells → IfErr result (IsCaused (commands.Delete (targets.Edge id))
-        (S.state space.old) names.now.names) }
+        (S.state space.old) (S.state space.new) names.now.names names.now.names) }
+    ensures still { S.tells → IfErr result (IsStillCaused (commands.Delete (targets.Edge id))
+        (S.state space.new) names.now.names names.now.names) }
     ensures damaged { S.tells → IfErr result
         (BlamesDeleting (S.state space.old) (S.state space.new) id) }
     // a dense node stays so, however few relationships it has

@@ -5,7 +5,7 @@ ghost use Rattle.std.specs.Prelude.{IfErr, IfOk, OnErr, OnOk};
 ghost use Rattle.rec_bytes.specs.Format.{relationships_file};
 ghost use Rattle.rec_bytes.specs.Key.{IsKey};
 ghost use Rattle.rec_bytes.specs.RecordFiles.{meta_key_of, room_of};
-ghost use Rattle.rec_bytes.specs.Space.{SameButReads, State, WritesOnly};
+ghost use Rattle.rec_bytes.specs.Space.{SameButReads, WritesOnly};
 ghost use Rattle.id_freelist.specs.FreeLists.{IsFreeList};
 ghost use Rattle.id_freelist.specs.Taking.{HasTaken, taken};
 ghost use Rattle.rel_store.specs.RelRecord.{rel_key};
@@ -51,8 +51,8 @@ pub(crate) fn join_edge<S: Space>(
         → CanJoin (S.state space.old) names label source target
         → slice_get names label ≡ Some text
         → HasRoom (S.state space.old) relationships_file 1 → IfErr result IsOutside }
-    ensures damaged { S.tells → (was : State) → IsHeadAt source → IsHeadAt target
-        → IfErr result (IfBlames (IsJoinDamage was (S.state space.new) source.node target.node)) }
+    ensures damaged { S.tells → IsHeadAt source → IsHeadAt target → IfErr result
+        (IfBlames (IsJoinDamage (S.state space.new) source.node target.node)) }
     ensures key { IfOk result (λ id. IsKey (key_in relationships_file id)) }
     ensures writes { IfOk result (λ id.
         WritesJoined (S.state space.old) (S.state space.new) id source target) }
@@ -74,8 +74,8 @@ fn place<S: Space>(space: &mut S, label: u32, from: u32, to: u32) -> Result<u32,
     ensures sound { S.tells → (most : ℕ) (empty : List ℕ)
         → KeepsRules (S.state space.old).records (S.state space.old).shape most empty
         → HasRoom (S.state space.old) relationships_file 1 → IfErr result IsOutside }
-    ensures damaged { S.tells → (was : State)
-        → IfErr result (IfBlames (IsJoinDamage was (S.state space.new) from to)) }
+    ensures damaged { S.tells
+        → IfErr result (IfBlames (IsJoinDamage (S.state space.new) from to)) }
     ensures key { IfOk result (λ id. IsKey (key_in relationships_file id)) }
     ensures writes { IfOk result (λ id.
         WritesOnly (S.state space.old) (S.state space.new) (rel_key id ∷ meta_keys)) }
@@ -100,8 +100,8 @@ fn take_id<S: Space>(space: &mut S) -> Result<u32, ChangeFault>
     ensures sound { S.tells → (most : ℕ) (empty : List ℕ)
         → KeepsRules (S.state space.old).records (S.state space.old).shape most empty
         → HasRoom (S.state space.old) relationships_file 1 → IfErr result IsOutside }
-    ensures damaged { S.tells → (was : State) (from to : ℕ)
-        → IfErr result (IfBlames (IsJoinDamage was (S.state space.new) from to)) }
+    ensures damaged { S.tells → (from to : ℕ)
+        → IfErr result (IfBlames (IsJoinDamage (S.state space.new) from to)) }
     ensures ok { S.tells
         → OnOk result (S.state space.new ≡ taken (S.state space.old) relationships_file) }
     ensures err { OnErr result (SameButReads (S.state space.old) (S.state space.new)) }
@@ -166,8 +166,8 @@ fn join_ends<S: Space>(
         (first_of (joined (S.state space.old) (head_of source.head) source.node rel
         (one_more source.degree)).records (head_of target.head)))
         → IfErr result IsOutside }
-    ensures damaged { S.tells → (was : State) → IsHeadAt source → IsHeadAt target
-        → IfErr result (IfBlames (IsJoinDamage was (S.state space.new) source.node target.node)) }
+    ensures damaged { S.tells → IsHeadAt source → IsHeadAt target → IfErr result
+        (IfBlames (IsJoinDamage (S.state space.new) source.node target.node)) }
     ensures writes { WritesJoined (S.state space.old) (S.state space.new) rel source target }
     ensures failure { IfErr result IsFailure }
     ensures onward { S.onward space.old space.new }

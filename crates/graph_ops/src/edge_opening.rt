@@ -1,17 +1,17 @@
 //! The heads of the chains that a new edge comes into, at both of its ends.
 
-ghost use Rattle.std.specs.Prelude.{◌≡◌, ◌⊎◌, ◌≤◌, ◌+◌, ℕ, List, IfErr, IfOk, OnOk};
+ghost use Rattle.std.specs.Prelude.{◌≡◌, ◌≤◌, ◌+◌, ℕ, List, IfErr, IfOk, OnOk};
 ghost use Rattle.chain_edit.specs.Heads.{head_of};
-ghost use Rattle.group_store.specs.Densing.{IsLateDamage};
 ghost use Rattle.group_store.specs.Leaving.{LeavesBeside};
 ghost use Rattle.group_store.specs.Opening.{CanOpen, HasGroupRoom, OpensChain, WritesOpened};
 ghost use Rattle.group_store.specs.Opening.{moved_writes};
 ghost use Rattle.graph_ops.specs.ChangeFault.{HasChangeCause, IsFailure, IsOutside};
 ghost use Rattle.graph_ops.specs.Damage.{IfBlames};
-ghost use Rattle.graph_ops.specs.EdgeAdding.{IsHeadAt, IsJoinDamage, IsOpenDamage, IsUsedNode};
+ghost use Rattle.graph_ops.specs.EdgeAdding.{IsHeadAt, IsHeadDamage, IsOpenDamage, IsUsedNode};
 ghost use Rattle.graph_ops.specs.EdgeEnds.{IsEdgeEnd};
 ghost use Rattle.graph_ops.specs.EdgeOpening.{CanLink, OpensEnds, WritesEndsOpened};
 ghost use Rattle.graph_ops.specs.EdgeOpening.{ends_moved};
+ghost use Rattle.graph_ops.specs.NodeDeleting.{HasDegree};
 ghost use Rattle.graph_ops.specs.Rooms.{HasRoom};
 ghost use Rattle.rec_bytes.specs.Format.{nodes_file, relationships_file};
 ghost use Rattle.rec_bytes.specs.Key.{IsKey};
@@ -45,8 +45,11 @@ pub(crate) fn open_ends<S: Space>(
         → CanLink (S.state space.old) names threshold label from from_degree to to_degree
         → HasRoom (S.state space.old) relationships_file 1 → IfErr result IsOutside }
     ensures damaged { S.tells → IsUsedNode (S.state space.old) from
-        → IsUsedNode (S.state space.old) to → (S.state space.old).shape.threshold ≤ threshold
-        → IfErr result (IfBlames (IsJoinDamage (S.state space.old) (S.state space.new) from to)) }
+        → IsUsedNode (S.state space.old) to
+        → HasDegree (S.state space.old).records from from_degree
+        → HasDegree (S.state space.old).records to to_degree
+        → threshold ≡ (S.state space.old).shape.threshold
+        → IfErr result (IfBlames (IsOpenDamage (S.state space.old) (S.state space.new) from to)) }
     ensures at { IfOk result (λ ends. IsHeadAt ends.source × IsHeadAt ends.target) }
     ensures nodes { IfOk result
         (λ ends. (ends.source.node ≡ from) × (ends.target.node ≡ to)) }
@@ -103,9 +106,8 @@ fn open_end<S: Space>(
         → CanOpen (S.state space.old) node degree threshold label side row empty
         → HasGroupRoom (S.state space.old) empty → IfErr result IsOutside }
     ensures damaged { S.tells → IsUsedNode (S.state space.old) node
-        → (S.state space.old).shape.threshold ≤ threshold
-        → IfErr result (IfBlames (λ damage. IsLateDamage (S.state space.new) damage
-        ⊎ IsOpenDamage (S.state space.old) node damage)) }
+        → (S.state space.old).shape.threshold ≤ threshold → IfErr result (IfBlames
+        (IsHeadDamage (S.state space.old) (S.state space.new) node degree threshold)) }
     ensures beside { S.tells → OnOk result (LeavesBeside (S.state space.old).records
         (S.state space.new).records node) }
     ensures at { IfOk result IsHeadAt }

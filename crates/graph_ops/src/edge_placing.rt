@@ -11,7 +11,7 @@ ghost use Rattle.store_rules.specs.Views.{key_in};
 ghost use Rattle.store_rules.specs.Writes.{WritesAtMost, WritesBeside};
 ghost use Rattle.graph_ops.specs.ChangeFault.{HasChangeCause, IsFailure, IsOutside};
 ghost use Rattle.graph_ops.specs.Damage.{IfBlames};
-ghost use Rattle.graph_ops.specs.EdgeAdding.{IsJoinDamage, IsUsedNode};
+ghost use Rattle.graph_ops.specs.EdgeAdding.{IsLinkingDamage, IsUsedNode};
 ghost use Rattle.graph_ops.specs.EdgeOpening.{ends_moved};
 ghost use Rattle.graph_ops.specs.EdgePlacing.{PutsEdge};
 ghost use Rattle.graph_ops.specs.NodeDeleting.{HasDegree};
@@ -72,8 +72,11 @@ pub(crate) fn put_edge<S: Space>(
         → HasDegree (S.state space.old).records to to_degree
         → HasRoom (S.state space.old) relationships_file 1 → IfErr result IsOutside }
     ensures damaged { S.tells → IsUsedNode (S.state space.old) from
-        → IsUsedNode (S.state space.old) to → (S.state space.old).shape.threshold ≤ threshold
-        → IfErr result (IfBlames (IsJoinDamage (S.state space.old) (S.state space.new) from to)) }
+        → IsUsedNode (S.state space.old) to
+        → HasDegree (S.state space.old).records from from_degree
+        → HasDegree (S.state space.old).records to to_degree
+        → threshold ≡ (S.state space.old).shape.threshold
+        → IfErr result (IfBlames (IsLinkingDamage (S.state space.old) (S.state space.new) from to)) }
     ensures key { IfOk result (λ id. IsKey (key_in relationships_file id)) }
     ensures writes { IfOk result (λ id. WritesBeside (rel_key id)
         (8 + ends_moved threshold from from_degree to to_degree)

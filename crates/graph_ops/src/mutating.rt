@@ -8,9 +8,13 @@ ghost use Rattle.store_rules.specs.Writes.{WritesAtMost};
 ghost use Rattle.graph_ops.specs.Change.{IsRefusal};
 ghost use Rattle.graph_ops.specs.ChangeFault.{HasChangeCause};
 ghost use Rattle.graph_ops.specs.Store.{IsStore, graph_in};
-ghost use Rattle.graph_ops.specs.Mutating.{IsListRefusal, MakesMutation, MakesPart};
+ghost use Rattle.graph_ops.specs.Causes.{IsStillCaused};
+ghost use Rattle.graph_ops.specs.Mutating.{BlamesDeletion, IsListCaused, IsListRefusal};
+ghost use Rattle.graph_ops.specs.Mutating.{MakesMutation, MakesPart};
 ghost use Rattle.graph_ops.specs.Mutating.{any_replies, most_drafted, most_told};
-ghost use Rattle.plain_graph.specs.Mutations.{changes_of, deletions, new_elements, settings};
+ghost use Rattle.plain_graph.specs.Mutations.{changes_of, deletions, elements_of, new_elements};
+ghost use Rattle.plain_graph.specs.Mutations.{settings, targets_once};
+ghost use Rattle.plain_graph.specs.declared.command.Target.{Target};
 ghost use Rattle.plain_graph.specs.declared.mutation.Mutation.TheVariants as mutations;
 
 use crate::distinct::distinct_elements;
@@ -58,6 +62,12 @@ pub fn mutate<S: Space>(
     ensures writes { IfOk result (λ mutated. mutated.weight < 4096
         → WritesAtMost mutated.weight (S.state space.old) (S.state space.new)) }
     ensures prefix { (rest : List (List ℕ)) × (names.new.names ≡ names.old.names ++ rest) }
+    ensures still { S.tells → IfErr result (IsListCaused (changes_of mutation.now items.items)
+        (S.state space.new) names.old.names names.new.names) }
+    // Of a deletion it is said where no other change is asked for.
+    ensures lone { S.tells → (target : Target) → mutation.now ≡ mutations.Drop
+        → targets_once [] (elements_of items.items) ≡ target ∷ [] → IfErr result
+        (BlamesDeletion (S.state space.old) (S.state space.new) target) }
     ensures onward { S.onward space.old space.new }
     ensures cause { HasChangeCause (S.faults space.old) (S.faults space.new) result }
 {
@@ -151,6 +161,11 @@ fn drop_each<S: Space>(
     ensures refused { S.tells → IsStore (S.state space.old) names.now.names
         → IfErr result (IsListRefusal (S.state space.old).shape.limit
         (graph_in (S.state space.old)) (changes_of mutations.Drop items.now)) }
+    ensures still { S.tells → IfErr result (IsListCaused (changes_of mutations.Drop items.now)
+        (S.state space.new) names.now.names names.now.names) }
+    ensures lone { S.tells → (target : Target)
+        → targets_once [] (elements_of items.now) ≡ target ∷ [] → IfErr result
+        (BlamesDeletion (S.state space.old) (S.state space.new) target) }
     ensures onward { S.onward space.old space.new }
     ensures cause { HasChangeCause (S.faults space.old) (S.faults space.new) result }
 {
@@ -172,6 +187,10 @@ fn delete_each<S: Space>(
     ensures refused { S.tells → IsStore (S.state space.old) names.now.names
         → IfErr result (IsListRefusal (S.state space.old).shape.limit
         (graph_in (S.state space.old)) (deletions targets.now)) }
+    ensures still { S.tells → IfErr result (IsListCaused (deletions targets.now)
+        (S.state space.new) names.now.names names.now.names) }
+    ensures lone { S.tells → (target : Target) → targets.now ≡ target ∷ [] → IfErr result
+        (BlamesDeletion (S.state space.old) (S.state space.new) target) }
     ensures onward { S.onward space.old space.new }
     ensures cause { HasChangeCause (S.faults space.old) (S.faults space.new) result }
 {
@@ -192,6 +211,10 @@ fn delete<S: Space>(space: &mut S, names: &Names, target: Target) -> Result<u32,
     ensures refused { S.tells → IsStore (S.state space.old) names.now.names
         → IfErr result (IsRefusal (S.state space.old).shape.limit
         (graph_in (S.state space.old)) (commands.Delete target)) }
+    ensures still { S.tells → IfErr result (IsStillCaused (commands.Delete target)
+        (S.state space.new) names.now.names names.now.names) }
+    ensures damaged { S.tells → IfErr result
+        (BlamesDeletion (S.state space.old) (S.state space.new) target) }
     ensures onward { S.onward space.old space.new }
     ensures cause { HasChangeCause (S.faults space.old) (S.faults space.new) result }
 {
@@ -219,6 +242,9 @@ fn set_each<S: Space>(
         → IfErr result (IsListRefusal (S.state space.old).shape.limit
         (graph_in (S.state space.old)) (changes_of (mutations.Property pairs.now) items.now)) }
     ensures prefix { (rest : List (List ℕ)) × (names.new.names ≡ names.old.names ++ rest) }
+    ensures still { S.tells → IfErr result (IsListCaused
+        (changes_of (mutations.Property pairs.now) items.now)
+        (S.state space.new) names.old.names names.new.names) }
     ensures onward { S.onward space.old space.new }
     ensures cause { HasChangeCause (S.faults space.old) (S.faults space.new) result }
 {
@@ -248,6 +274,9 @@ fn set_item<S: Space>(
         (graph_in (S.state space.old))
         (changes_of (mutations.Property pairs.now) (item.now ∷ []))) }
     ensures prefix { (rest : List (List ℕ)) × (names.new.names ≡ names.old.names ++ rest) }
+    ensures still { S.tells → IfErr result (IsListCaused
+        (changes_of (mutations.Property pairs.now) (item.now ∷ []))
+        (S.state space.new) names.old.names names.new.names) }
     ensures onward { S.onward space.old space.new }
     ensures cause { HasChangeCause (S.faults space.old) (S.faults space.new) result }
 {
@@ -273,6 +302,8 @@ fn set_pairs<S: Space>(
         → IfErr result (IsListRefusal (S.state space.old).shape.limit
         (graph_in (S.state space.old)) (settings pairs.now target)) }
     ensures prefix { (rest : List (List ℕ)) × (names.new.names ≡ names.old.names ++ rest) }
+    ensures still { S.tells → IfErr result (IsListCaused (settings pairs.now target)
+        (S.state space.new) names.old.names names.new.names) }
     ensures onward { S.onward space.old space.new }
     ensures cause { HasChangeCause (S.faults space.old) (S.faults space.new) result }
 {
@@ -308,6 +339,9 @@ fn add_vertex<S: Space>(
         → IfErr result (IsRefusal (S.state space.old).shape.limit
         (graph_in (S.state space.old)) (commands.Node label.now pairs.now)) }
     ensures prefix { (rest : List (List ℕ)) × (names.new.names ≡ names.old.names ++ rest) }
+    ensures still { S.tells → IfErr result (IsListCaused
+        (commands.Node label.now pairs.now ∷ [])
+        (S.state space.new) names.old.names names.new.names) }
     ensures onward { S.onward space.old space.new }
     ensures cause { HasChangeCause (S.faults space.old) (S.faults space.new) result }
 {
@@ -341,6 +375,9 @@ fn add_edges<S: Space>(
         (graph_in (S.state space.old))
         (changes_of (mutations.AddE label.now to pairs.now) items.now)) }
     ensures prefix { (rest : List (List ℕ)) × (names.new.names ≡ names.old.names ++ rest) }
+    ensures still { S.tells → IfErr result (IsListCaused
+        (changes_of (mutations.AddE label.now to pairs.now) items.now)
+        (S.state space.new) names.old.names names.new.names) }
     ensures onward { S.onward space.old space.new }
     ensures cause { HasChangeCause (S.faults space.old) (S.faults space.new) result }
 {
@@ -379,6 +416,9 @@ fn add_edge_from<S: Space>(
         (graph_in (S.state space.old))
         (changes_of (mutations.AddE label.now to pairs.now) (item.now ∷ []))) }
     ensures prefix { (rest : List (List ℕ)) × (names.new.names ≡ names.old.names ++ rest) }
+    ensures still { S.tells → IfErr result (IsListCaused
+        (changes_of (mutations.AddE label.now to pairs.now) (item.now ∷ []))
+        (S.state space.new) names.old.names names.new.names) }
     ensures onward { S.onward space.old space.new }
     ensures cause { HasChangeCause (S.faults space.old) (S.faults space.new) result }
 {
@@ -412,6 +452,9 @@ fn add_one_edge<S: Space>(
         → IfErr result (IsRefusal (S.state space.old).shape.limit
         (graph_in (S.state space.old)) (commands.Edge from label.now to pairs.now)) }
     ensures prefix { (rest : List (List ℕ)) × (names.new.names ≡ names.old.names ++ rest) }
+    ensures still { S.tells → IfErr result (IsListCaused
+        (commands.Edge from label.now to pairs.now ∷ [])
+        (S.state space.new) names.old.names names.new.names) }
     ensures onward { S.onward space.old space.new }
     ensures cause { HasChangeCause (S.faults space.old) (S.faults space.new) result }
 {

@@ -12,10 +12,10 @@ ghost use Rattle.id_freelist.specs.Taking.{IsTakeDamage};
 ghost use Rattle.rec_bytes.specs.Key.{IsKey};
 ghost use Rattle.store_rules.specs.Views.{key_in};
 ghost use Rattle.store_rules.specs.Writes.{WritesAtMost, WritesBeside};
-ghost use Rattle.graph_ops.specs.Causes.{IsCaused};
+ghost use Rattle.graph_ops.specs.Causes.{IsCaused, IsStillCaused};
 ghost use Rattle.graph_ops.specs.Change.{IsCounted, IsRefusal, MakesChange};
 ghost use Rattle.graph_ops.specs.ChangeFault.{HasChangeCause, IsFailure, IsOutside, LeavesSpace};
-ghost use Rattle.graph_ops.specs.Damage.{AddsElement, BlamesAdding, IfBlames};
+ghost use Rattle.graph_ops.specs.Damage.{AddsElement, BlamesAdding, BlamesBroken, IfBlames};
 ghost use Rattle.graph_ops.specs.NodeAdding.{IsFullOfNodes, IsSparse, PutsNode, new_row};
 ghost use Rattle.graph_ops.specs.Rooms.{HasRoom};
 ghost use Rattle.graph_ops.specs.Store.{IsStore, graph_in};
@@ -46,7 +46,9 @@ pub fn add_node<S: Space>(
         → IfErr result (IsRefusal (S.state space.old).shape.limit (graph_in (S.state space.old))
         (commands.Node label.now pairs.now)) }
     ensures caused { S.tells → IfErr result (IsCaused (commands.Node label.now pairs.now)
-        (S.state space.old) names.old.names) }
+        (S.state space.old) (S.state space.new) names.old.names names.new.names) }
+    ensures still { S.tells → IfErr result (IsStillCaused (commands.Node label.now pairs.now)
+        (S.state space.new) names.old.names names.new.names) }
     ensures damaged { S.tells → IfErr result (BlamesAdding nodes_file (S.state space.old)) }
     ensures counts { S.tells → IsStore (S.state space.old) names.old.names
         → IfErr result (IsCounted (S.state space.old)) }
@@ -94,6 +96,7 @@ fn put_node<S: Space>(space: &mut S, label: u32) -> Result<u32, ChangeFault>
         → IfErr result IsFailure }
     ensures damaged { S.tells → IfErr result
         (IfBlames (IsTakeDamage (S.state space.old) nodes_file)) }
+    ensures still { S.tells → IfErr result (BlamesBroken (S.state space.new)) }
     ensures adds { S.tells → IfOk result (λ id. AddsElement (key_in nodes_file id)
         (S.state space.old) (S.state space.new)) }
     ensures key { IfOk result (λ id. IsKey (key_in nodes_file id)) }

@@ -4,7 +4,7 @@ ghost use Rattle.plain_graph.specs.Reply.{Done};
 ghost use Rattle.plain_graph.specs.declared.command.Command.TheVariants as commands;
 ghost use Rattle.plain_graph.specs.declared.command.Target.TheVariants as targets;
 ghost use Rattle.store_rules.specs.Writes.{WritesAtMost};
-ghost use Rattle.graph_ops.specs.Causes.{IsCaused};
+ghost use Rattle.graph_ops.specs.Causes.{IsCaused, IsStillCaused};
 ghost use Rattle.graph_ops.specs.Change.{IsRefusal, MakesChange};
 ghost use Rattle.graph_ops.specs.ChangeFault.{HasChangeCause, LeavesSpace};
 ghost use Rattle.graph_ops.specs.NodeDeleting.{HasDegree, IsDeleteCause, KeepsOtherKinds};
@@ -28,7 +28,9 @@ pub fn delete_node<S: Space>(space: &mut S, names: &Names, id: u32) -> Result<u3
         → IfErr result (IsRefusal (S.state space.old).shape.limit (graph_in (S.state space.old))
         (commands.Delete (targets.Node id))) }
     ensures caused { S.tells → IfErr result (IsCaused (commands.Delete (targets.Node id))
-        (S.state space.old) names.now.names) }
+        (S.state space.old) (S.state space.new) names.now.names names.now.names) }
+    ensures still { S.tells → IfErr result (IsStillCaused (commands.Delete (targets.Node id))
+        (S.state space.new) names.now.names names.now.names) }
     ensures found { S.tells → IfErr result (IsDeleteCause (S.state space.old) id) }
     ensures lone { S.tells → OnOk result (HasDegree (S.state space.old).records id 0) }
     ensures kinds { S.tells → IfOk result (λ _. IsStore (S.state space.old) names.now.names

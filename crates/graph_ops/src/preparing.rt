@@ -10,11 +10,12 @@ ghost use Rattle.plain_graph.specs.Properties.{keys_in, no_properties, with_pair
 ghost use Rattle.plain_graph.specs.Refusals.{most_names};
 ghost use Rattle.plain_graph.specs.declared.command.Command.TheVariants as commands;
 ghost use Rattle.graph_ops.specs.Assigning.{ArePlaced, assigned_blocks};
+ghost use Rattle.rec_bytes.specs.Format.{properties_file, strings_file};
 ghost use Rattle.store_rules.specs.Writes.{WritesAtMost};
 ghost use Rattle.graph_ops.specs.Change.{IsCounted, IsRefusedBy};
 ghost use Rattle.graph_ops.specs.ChangeFault.{HasChangeCause, LeavesSpace};
 ghost use Rattle.graph_ops.specs.Damage.{KeepsBeyond};
-ghost use Rattle.graph_ops.specs.Preparing.{IsLineCause, IsPrepared, line_reasons};
+ghost use Rattle.graph_ops.specs.Preparing.{IsLineCause, IsPrepared, NeedForPairs, line_reasons};
 ghost use Rattle.graph_ops.specs.Rooms.{KeepsElementMetas};
 ghost use Rattle.graph_ops.specs.Store.{IsStore, graph_in};
 
@@ -55,6 +56,8 @@ pub(crate) fn prepare<S: Space>(
         (commands.Node label.now pairs.now)) }
     ensures caused { S.tells → IfErr result
         (IsLineCause (S.state space.old) names.old.names label.now pairs.now) }
+    ensures still { S.tells → IfErr result
+        (IsLineCause (S.state space.new) names.old.names label.now pairs.now) }
     ensures counts { S.tells → IfErr result (IsCounted (S.state space.old)) }
     ensures names_full { (used : List (List ℕ))
         → UsesNames names.old.names (label.now ∷ keys_in pairs.now) used
@@ -67,6 +70,10 @@ pub(crate) fn prepare<S: Space>(
     ensures weighs { IfOk result (λ prepared. prepared.weight
         ≡ properties_weight (with_pairs no_properties pairs.now)
         + (length names.new.names - length names.old.names)) }
+    ensures needs { IfOk result (λ prepared.
+        NeedForPairs pairs.now properties_file (length prepared.assigned.items)
+        × NeedForPairs pairs.now strings_file
+        (assigned_blocks pairs.now prepared.assigned.items)) }
     ensures light { IfOk result (λ prepared. prepared.weight ≤ 769) }
     ensures leaves { IfErr result (LeavesSpace (S.state space.old) (S.state space.new)) }
     ensures prefix { (rest : List (List ℕ)) × (names.new.names ≡ names.old.names ++ rest) }

@@ -9,7 +9,7 @@ ghost use Rattle.plain_graph.specs.Refusals.{most_names};
 ghost use Rattle.plain_graph.specs.Reply.{Done};
 ghost use Rattle.plain_graph.specs.declared.command.Command.TheVariants as commands;
 ghost use Rattle.store_rules.specs.Writes.{WritesAtMost};
-ghost use Rattle.graph_ops.specs.Causes.{IsCaused};
+ghost use Rattle.graph_ops.specs.Causes.{IsCaused, IsStillCaused};
 ghost use Rattle.graph_ops.specs.Change.{IsRefusal, IsSetCount, MakesChange};
 ghost use Rattle.graph_ops.specs.ChangeFault.{HasChangeCause, LeavesSpace};
 ghost use Rattle.graph_ops.specs.Damage.{BlamesBroken, BlamesGiven};
@@ -39,7 +39,10 @@ pub fn set<S: Space>(
         → IfErr result (IsRefusal (S.state space.old).shape.limit (graph_in (S.state space.old))
         (commands.Set target key.now value.now)) }
     ensures caused { S.tells → IfErr result (IsCaused (commands.Set target key.now value.now)
-        (S.state space.old) names.old.names) }
+        (S.state space.old) (S.state space.new) names.old.names names.new.names) }
+    ensures still { S.tells → IfErr result (IsStillCaused
+        (commands.Set target key.now value.now) (S.state space.new)
+        names.old.names names.new.names) }
     ensures damaged { S.tells → IfErr result
         (BlamesGiven S.tells (22 + blocks_of value.now) (S.state space.old)
         (interned (S.state space.old) names.old.names key.now)) }
@@ -78,7 +81,9 @@ pub fn unset<S: Space>(
         → IfErr result (IsRefusal (S.state space.old).shape.limit (graph_in (S.state space.old))
         (commands.Unset target key.now)) }
     ensures caused { S.tells → IfErr result (IsCaused (commands.Unset target key.now)
-        (S.state space.old) names.now.names) }
+        (S.state space.old) (S.state space.new) names.now.names names.now.names) }
+    ensures still { S.tells → IfErr result (IsStillCaused (commands.Unset target key.now)
+        (S.state space.new) names.now.names names.now.names) }
     ensures damaged { S.tells → IfErr result (BlamesBroken (S.state space.old)) }
     ensures leaves { IfErr result (LeavesSpace (S.state space.old) (S.state space.new)) }
     ensures light { IfOk result (λ weight. weight + start_weight ≤ most_weight) }

@@ -1,14 +1,14 @@
 use Rattle.std.specs.FinMap as maps
 use Rattle.std.proofs.Common.{◌≡◌, ◌+◌, ◌<◌, ℕ, true, ⊎_elim, None, [], get_or, length, ◌∙◌, sym, ap, subst, inl, arith, refl}
 use Rattle.std.proofs.lemmas.List.{get_or_read}
-use Rattle.std.proofs.lemmas.List.Sums.{sum_by-take-le, sum_by_more}
+use Rattle.std.proofs.lemmas.List.Sums.{get_or-le-sum_by, sum_by-take-le, sum_by_more}
 use Rattle.plain_graph.specs.Properties.{blocks_of}
 use Rattle.plain_graph.specs.declared.pairs.Pair.{Pair}
 use Rattle.plain_graph.specs.declared.value.Value.TheVariants as values
 use Rattle.prop_store.specs.Changing.{HasKey, IsSetRefusal, SetsValue, properties_of, text_at}
 use Rattle.prop_store.specs.declared.owner.Owner.{Owner}
 use Rattle.rec_bytes.specs.RecordFiles.{is_meta_file}
-use Rattle.graph_ops.specs.Assigning.{IsPutCause, pair_at, pairs_of}
+use Rattle.graph_ops.specs.Assigning.{IsPutCause, assigned_blocks, pair_at, pairs_of}
 use Rattle.graph_ops.specs.ChangeFault.{IsOutside, MayComeLate, of_set}
 use Rattle.graph_ops.specs.declared.assigning.Assignment.{Assignment}
 use Rattle.graph_ops.proofs.Assigned.{pair_form}
@@ -16,8 +16,8 @@ use Rattle.graph_ops.proofs.Exits.{fault_exit, set_late}
 use Rattle.graph_ops.proofs.PairsPut.{all_put, key_fits, key_new, key_there, none_put, put_more, put_outside}
 use Rattle.store_rules.proofs.WriteLaws.{beside_more, beside_then, beside_written, more_written, then_written, this_written}
 use Rattle.graph_ops.proofs.Writes.{on_any_err, touched_written}
-use Rattle.graph_ops.proofs.Causes.{add_caused}
-use Rattle.graph_ops.specs.Damage.{BreaksAdding, IfBlames}
+use Rattle.graph_ops.proofs.Causes.{add_caused, set_blamed}
+use Rattle.graph_ops.specs.Damage.{BlamesBroken, BreaksAdding, IfBlames}
 use Rattle.graph_ops.proofs.Adding.{adds_none, adds_then, adds_value, value_breaks}
 use Rattle.graph_ops.proofs.DiskCauses.{set_cause_passed}
 use Rattle.graph_ops.proofs.assigning.put_properties.Goals as goal
@@ -103,7 +103,7 @@ returns-clause-put g c tells names target is can =
     all_put (g.S.Reads.state c.args.space.now) (g.S.Reads.state c.loop-assignment.space) names target c.args.pairs.now c.args.assigned.now c.loop-assignment.assignment-index c.loop-assignment-test.false (c.loop-assignment.invariant.put tells names target is can)
 
 pub returns-in_err-add-clause-late : goal.returns-in_err-add-clause-late
-returns-in_err-add-clause-late g c tells = fault_exit of_set MayComeLate c.in_err-add.field-0.0 c.from_residual.result c.from_residual.ensures.1 (set_late c.in_err-add.field-0.0 (c.in_err-add.ensures.full tells))
+returns-in_err-add-clause-late g c tells = fault_exit of_set MayComeLate c.in_err-add.field-0.0 c.from_residual.result c.from_residual.ensures.1 (set_late _ _ _ (g.S.Reads.state c.add.new.space) c.in_err-add.field-0.0 (c.in_err-add.ensures.caused tells))
 
 pub returns-in_err-add-clause-err_writes : goal.returns-in_err-add-clause-err_writes
 returns-in_err-add-clause-err_writes g c =
@@ -120,10 +120,16 @@ returns-in_err-add-clause-err_writes g c =
 
 pub returns-in_err-add-clause-caused : goal.returns-in_err-add-clause-caused
 returns-in_err-add-clause-caused g c tells =
-    let s = g.S.Reads.state c.args.space.now in
-    let t = g.S.Reads.state c.loop-assignment.space in
-    fault_exit of_set (IsPutCause s.shape) c.in_err-add.field-0.0 c.from_residual.result c.from_residual.ensures.1
-    (add_caused t s.shape (c.loop-assignment.invariant.shape tells) c.in_err-add.field-0.0 (c.in_err-add.ensures.full tells) (c.in_err-add.ensures.exact tells))
+    let at = (goal.at.returns-in_err-add-clause-caused g c).After-index-pairs-assignment in
+    let t = g.S.Reads.state c.add.new.space in
+    let assigned = c.args.assigned.now in
+    let i = c.loop-assignment.assignment-index in
+    let blocks : Assignment → ℕ = λ a. blocks_of (pair_at c.args.pairs.now a.pair).value in
+    let lt = c.loop-assignment-test.true in
+    let part = get_or-le-sum_by blocks assigned i (record { key = 0; pair = 0 }) lt in
+    let same = ap blocks_of (value_is g at) in
+    fault_exit of_set (IsPutCause t (length assigned) (assigned_blocks c.args.pairs.now assigned)) c.in_err-add.field-0.0 c.from_residual.result c.from_residual.ensures.1
+    (add_caused _ t (length assigned) (assigned_blocks c.args.pairs.now assigned) _ (omega arith) (omega arith) c.in_err-add.field-0.0 (c.in_err-add.ensures.caused tells))
 
 pub returns-in_err-add-clause-damaged : goal.returns-in_err-add-clause-damaged
 returns-in_err-add-clause-damaged g c tells =
@@ -146,3 +152,8 @@ returns-in_err-add-clause-adds g c tells =
 
 pub returns-clause-adds : goal.returns-clause-adds
 returns-clause-adds g c tells = c.loop-assignment.invariant.adds tells
+
+pub returns-in_err-add-clause-still : goal.returns-in_err-add-clause-still
+returns-in_err-add-clause-still g c tells =
+    let t = g.S.Reads.state c.add.new.space in
+    fault_exit of_set (BlamesBroken t) c.in_err-add.field-0.0 c.from_residual.result c.from_residual.ensures.1 (set_blamed t c.in_err-add.field-0.0 (c.in_err-add.ensures.still tells))

@@ -1,5 +1,5 @@
 use Rattle.std.specs.Prelude.{IfErr}
-use Rattle.std.proofs.Common.{◌≡◌, ◌+◌, length, ◌∙◌, sym, ap, subst, inl, inr, arith, refl}
+use Rattle.std.proofs.Common.{◌≡◌, ◌+◌, ℕ, length, ◌∙◌, sym, ap, subst, inl, inr, ⊎_elim, arith, refl}
 use Rattle.plain_graph.specs.Refusals.{change_reasons}
 use Rattle.plain_graph.specs.Reply.{EdgeMade}
 use Rattle.plain_graph.specs.declared.command.Command.TheVariants as commands
@@ -10,11 +10,12 @@ use Rattle.rec_bytes.specs.declared.shape.Shape.{Shape}
 use Rattle.rel_store.specs.RelRecord.{rel_key}
 use Rattle.store_rules.specs.Writes.{WritesBeside}
 use Rattle.prop_store.specs.declared.owner.Owner.{Owner}
-use Rattle.graph_ops.specs.Assigning.{CanPut, HasPropertyRoom, PutsPairs, assigned_blocks, pairs_of}
+use Rattle.graph_ops.specs.Assigning.{CanPut, HasPropertyRoom, IsPutCause, PutsPairs, assigned_blocks, pairs_of}
 use Rattle.graph_ops.specs.Change.{IsCounted, IsRefusal, MakesChange}
 use Rattle.graph_ops.specs.ChangeFault.{IsOutside, LeavesSpace}
-use Rattle.graph_ops.specs.EdgeAdding.{BlamesLinking, IsFullOfEdges, degrees_weight}
+use Rattle.graph_ops.specs.EdgeAdding.{BlamesLinking, IsEdgeDamage, IsFullOfEdges, IsLinkingDamage, degrees_weight}
 use Rattle.graph_ops.specs.EdgePlacing.{PutsEdge}
+use Rattle.graph_ops.specs.declared.change_fault.ChangeFault.{ChangeFault}
 use Rattle.graph_ops.specs.NodeDeleting.{HasDegree}
 use Rattle.graph_ops.specs.Preparing.{IsPrepared}
 use Rattle.graph_ops.specs.Store.{IsStore, graph_in}
@@ -28,14 +29,13 @@ use Rattle.graph_ops.proofs.Reasons.{outside_refused}
 use Rattle.graph_ops.proofs.OpenWrites.{most_threshold}
 use Rattle.store_rules.proofs.WriteLaws.{beside_then, beside_written, more_written, none_written, then_written}
 use Rattle.graph_ops.proofs.Writes.{on_any_err}
-use Rattle.graph_ops.specs.Causes.{IsCaused}
-use Rattle.graph_ops.proofs.Causes.{absent_caused, caused_read, failure_caused, line_edge, no_edge, node_of, put_caused, room_caused}
+use Rattle.graph_ops.specs.Causes.{IsCaused, IsStillCaused}
+use Rattle.graph_ops.proofs.Causes.{absent_caused, broken_left, caused_left, caused_read, failure_caused, line_edge, no_edge, node_of, put_caused, room_caused}
 use Rattle.graph_ops.proofs.DiskCauses.{change_cause_passed, later_on, room_refusal_cause}
-use Rattle.store_rules.specs.Views.{key_in}
-use Rattle.graph_ops.specs.Damage.{AddsElement, BreaksAdding, IfBlames, IsBroken}
-use Rattle.graph_ops.proofs.Adding.{breaks_then, line_blamed, room_blamed}
+use Rattle.graph_ops.specs.Damage.{IfBlames, IsBroken}
+use Rattle.graph_ops.proofs.Adding.{line_blamed, room_blamed}
 use Rattle.graph_ops.proofs.Broken.{blames_more}
-use Rattle.graph_ops.proofs.JoinBlames.{absent_blamed, adds_back, beyond_read, used_beyond, used_read}
+use Rattle.graph_ops.proofs.JoinBlames.{absent_blamed, broken_links, degree_beyond, link_still, open_before, used_beyond, used_read}
 use Rattle.group_store.proofs.ChainHeads.{same_twice}
 use Rattle.graph_ops.proofs.edge_adding.add_edge.Goals as goal
 use Rattle.graph_ops.proofs.edge_adding.add_edge.Goals.{After-prepare, After-put_properties, In_err-id, In_err-put_properties, In_ok-id, In_ok-prepared, In_ok-put_properties, In_ok-target, In_ok-test_room}
@@ -335,18 +335,22 @@ returns-in_err-put_properties-clause-counts g c tells store =
 pub returns-in_err-source-clause-caused : goal.returns-in_err-source-clause-caused
 returns-in_err-source-clause-caused g c tells =
     let s = g.S.Reads.state c.args.space.now in
+    let m = g.S.Reads.state c.node_degree.new.space in
+    let names = c.args.names.now.names in
     let command = commands.Edge c.args.from c.args.label.now c.args.to c.args.pairs.now in
-    fault_exit (λ f. f) (IsCaused command s c.args.names.now.names) c.in_err-source.field-0.0 c.from_residual.result c.from_residual.ensures.1
-    (absent_caused command s c.args.names.now.names (targets.Node c.args.from) (λ id e. inl (sym (node_of e))) (λ id e. no_edge e) c.in_err-source.field-0.0 (c.in_err-source.ensures.absent tells))
+    fault_exit (λ f. f) (IsCaused command s m names names) c.in_err-source.field-0.0 c.from_residual.result c.from_residual.ensures.1
+    (absent_caused command s m names names (targets.Node c.args.from) (λ id e. inl (sym (node_of e))) (λ id e. no_edge e) c.in_err-source.field-0.0 (c.in_err-source.ensures.absent tells))
 
 pub returns-in_err-target-clause-caused : goal.returns-in_err-target-clause-caused
 returns-in_err-target-clause-caused g c tells =
     let s = g.S.Reads.state c.args.space.now in
     let m = g.S.Reads.state c.node_degree.new.space in
+    let n = g.S.Reads.state c.node_degree-2.new.space in
+    let names = c.args.names.now.names in
     let command = commands.Edge c.args.from c.args.label.now c.args.to c.args.pairs.now in
-    fault_exit (λ f. f) (IsCaused command s c.args.names.now.names) c.in_err-target.field-0.0 c.from_residual-in_err-target.result c.from_residual-in_err-target.ensures.1
-    (caused_read command s m c.args.names.now.names c.node_degree.ensures.state c.in_err-target.field-0.0
-    (absent_caused command m c.args.names.now.names (targets.Node c.args.to) (λ id e. inr (sym (node_of e))) (λ id e. no_edge e) c.in_err-target.field-0.0 (c.in_err-target.ensures.absent tells)))
+    fault_exit (λ f. f) (IsCaused command s n names names) c.in_err-target.field-0.0 c.from_residual-in_err-target.result c.from_residual-in_err-target.ensures.1
+    (caused_read command s m n names names c.node_degree.ensures.state c.in_err-target.field-0.0
+    (absent_caused command m n names names (targets.Node c.args.to) (λ id e. inr (sym (node_of e))) (λ id e. no_edge e) c.in_err-target.field-0.0 (c.in_err-target.ensures.absent tells)))
 
 pub returns-in_err-test_room-clause-caused : goal.returns-in_err-test_room-clause-caused
 returns-in_err-test_room-clause-caused g c tells =
@@ -355,39 +359,49 @@ returns-in_err-test_room-clause-caused g c tells =
     let names = c.args.names.now.names in
     let command = commands.Edge c.args.from c.args.label.now c.args.to c.args.pairs.now in
     let read = same_both s (g.S.Reads.state c.node_degree.new.space) n c.node_degree.ensures.state c.node_degree-2.ensures.state in
-    fault_exit (λ f. f) (IsCaused command s names) c.in_err-test_room.field-0.0 c.from_residual-in_err-test_room.result c.from_residual-in_err-test_room.ensures.1
-    (caused_read command s n names read c.in_err-test_room.field-0.0
-    (room_caused command n names format.relationships_file 1 (inl (refl, refl)) c.in_err-test_room.field-0.0 c.in_err-test_room.ensures.full))
+    fault_exit (λ f. f) (IsCaused command s n names names) c.in_err-test_room.field-0.0 c.from_residual-in_err-test_room.result c.from_residual-in_err-test_room.ensures.1
+    (caused_read command s n n names names read c.in_err-test_room.field-0.0
+    (room_caused command n n names names format.relationships_file 1 (inl (refl, refl)) c.in_err-test_room.field-0.0 c.in_err-test_room.ensures.full))
 
 pub returns-in_err-prepared-clause-caused : goal.returns-in_err-prepared-clause-caused
 returns-in_err-prepared-clause-caused g c tells =
     let s = g.S.Reads.state c.args.space.now in
     let n = g.S.Reads.state c.node_degree-2.new.space in
+    let t = g.S.Reads.state c.prepare.new.space in
     let names = c.args.names.now.names in
+    let now = c.prepare.new.names.names in
     let pairs = c.as_slice-pairs.result.now in
     let command = commands.Edge c.args.from c.args.label.now c.args.to pairs in
     let read = ends_read g (goal.at.returns-in_err-prepared-clause-caused g c).After-prepare in
-    subst (λ l. IfErr c.from_residual-in_err-prepared.result (IsCaused (commands.Edge c.args.from c.args.label.now c.args.to l) s names)) c.as_slice-pairs.ensures
-    (fault_exit (λ f. f) (IsCaused command s names) c.in_err-prepared.field-0.0 c.from_residual-in_err-prepared.result c.from_residual-in_err-prepared.ensures.1
-    (caused_read command s n names read c.in_err-prepared.field-0.0
-    (line_edge n names c.args.from c.args.label.now c.args.to pairs c.in_err-prepared.field-0.0 (c.in_err-prepared.ensures.caused tells))))
+    subst (λ l. IfErr c.from_residual-in_err-prepared.result (IsCaused (commands.Edge c.args.from c.args.label.now c.args.to l) s t names now)) c.as_slice-pairs.ensures
+    (fault_exit (λ f. f) (IsCaused command s t names now) c.in_err-prepared.field-0.0 c.from_residual-in_err-prepared.result c.from_residual-in_err-prepared.ensures.1
+    (caused_read command s n t names now read c.in_err-prepared.field-0.0
+    (line_edge n t names now c.args.label.now pairs c.args.from c.args.to c.in_err-prepared.field-0.0 (c.in_err-prepared.ensures.caused tells))))
 
 pub returns-in_err-id-clause-caused : goal.returns-in_err-id-clause-caused
 returns-in_err-id-clause-caused g c tells =
     let s = g.S.Reads.state c.args.space.now in
+    let t = g.S.Reads.state c.put_edge.new.space in
+    let names = c.args.names.now.names in
+    let now = c.prepare.new.names.names in
     let command = commands.Edge c.args.from c.args.label.now c.args.to c.args.pairs.now in
-    fault_exit (λ f. f) (IsCaused command s c.args.names.now.names) c.in_err-id.field-0.0 c.from_residual-in_err-id.result c.from_residual-in_err-id.ensures.1
-    (failure_caused command s c.args.names.now.names c.in_err-id.field-0.0 c.in_err-id.ensures.failure)
+    fault_exit (λ f. f) (IsCaused command s t names now) c.in_err-id.field-0.0 c.from_residual-in_err-id.result c.from_residual-in_err-id.ensures.1
+    (failure_caused command s t names now c.in_err-id.field-0.0 c.in_err-id.ensures.failure)
 
 pub returns-in_err-put_properties-clause-caused : goal.returns-in_err-put_properties-clause-caused
 returns-in_err-put_properties-clause-caused g c tells =
     let s = g.S.Reads.state c.args.space.now in
-    let v = g.S.Reads.state c.put_edge.new.space in
-    let command = commands.Edge c.args.from c.args.label.now c.args.to c.args.pairs.now in
-    let to_prepare = (g.met.S.Reads.onward_shape _ _ c.node_degree-2.ensures.onward) ∙ (g.met.S.Reads.onward_shape _ _ c.node_degree.ensures.onward) in
-    let shape = (g.met.S.Reads.onward_shape _ _ c.put_edge.ensures.onward) ∙ (g.met.S.Reads.onward_shape _ _ c.prepare.ensures.onward) ∙ to_prepare in
-    fault_exit (λ f. f) (IsCaused command s c.args.names.now.names) c.in_err-put_properties.field-0.0 c.from_residual-in_err-put_properties.result c.from_residual-in_err-put_properties.ensures.1
-    (put_caused command s c.args.names.now.names v.shape shape tt c.in_err-put_properties.field-0.0 (c.in_err-put_properties.ensures.caused tells))
+    let t = g.S.Reads.state c.put_properties.new.space in
+    let names = c.args.names.now.names in
+    let now = c.prepare.new.names.names in
+    let pairs = c.as_slice-pairs.result.now in
+    let command = commands.Edge c.args.from c.args.label.now c.args.to pairs in
+    let items = c.in_ok-prepared.prepared.assigned.items in
+    let needs = c.in_ok-prepared.ensures.needs in
+    let told = subst (λ l. IsPutCause t (length l) (assigned_blocks pairs l) c.in_err-put_properties.field-0.0) c.deref.ensures.0 (c.in_err-put_properties.ensures.caused tells) in
+    subst (λ l. IfErr c.from_residual-in_err-put_properties.result (IsCaused (commands.Edge c.args.from c.args.label.now c.args.to l) s t names now)) c.as_slice-pairs.ensures
+    (fault_exit (λ f. f) (IsCaused command s t names now) c.in_err-put_properties.field-0.0 c.from_residual-in_err-put_properties.result c.from_residual-in_err-put_properties.ensures.1
+    (put_caused command s t names now pairs (length items) (assigned_blocks pairs items) needs.0 needs.1 (λ file any. any) c.in_err-put_properties.field-0.0 told))
 
 pub returns-in_err-target-clause-cause : goal.returns-in_err-target-clause-cause
 returns-in_err-target-clause-cause g c =
@@ -414,8 +428,9 @@ pub returns-in_err-source-clause-damaged : goal.returns-in_err-source-clause-dam
 returns-in_err-source-clause-damaged g c tells =
     let s = g.S.Reads.state c.args.space.now in
     let m = g.S.Reads.state c.node_degree.new.space in
-    fault_exit (λ f. f) (BlamesLinking s m c.args.from c.args.to) c.in_err-source.field-0.0 c.from_residual.result c.from_residual.ensures.1
-    (blames_more _ _ (λ damage told. inl told) c.in_err-source.field-0.0 (absent_blamed s (targets.Node c.args.from) c.in_err-source.field-0.0 (c.in_err-source.ensures.absent tells)))
+    let fault = c.in_err-source.field-0.0 in
+    fault_exit (λ f. f) (BlamesLinking s m c.args.from c.args.to) fault c.from_residual.result c.from_residual.ensures.1
+    (blames_more (IsBroken m) (IsLinkingDamage s m c.args.from c.args.to) (broken_links s m c.args.from c.args.to) fault (broken_left s m c.node_degree.ensures.state fault (absent_blamed s (targets.Node c.args.from) fault (c.in_err-source.ensures.absent tells))))
 
 pub returns-in_err-target-clause-damaged : goal.returns-in_err-target-clause-damaged
 returns-in_err-target-clause-damaged g c tells =
@@ -424,7 +439,7 @@ returns-in_err-target-clause-damaged g c tells =
     let n = g.S.Reads.state c.node_degree-2.new.space in
     let fault = c.in_err-target.field-0.0 in
     fault_exit (λ f. f) (BlamesLinking s n c.args.from c.args.to) fault c.from_residual-in_err-target.result c.from_residual-in_err-target.ensures.1
-    (blames_more _ _ (λ damage told. inl told) fault (subst (λ (z : State). IfBlames (IsBroken z) fault) c.node_degree.ensures.state (absent_blamed m (targets.Node c.args.to) fault (c.in_err-target.ensures.absent tells))))
+    (blames_more (IsBroken n) (IsLinkingDamage s n c.args.from c.args.to) (broken_links s n c.args.from c.args.to) fault (broken_left m n c.node_degree-2.ensures.state fault (absent_blamed m (targets.Node c.args.to) fault (c.in_err-target.ensures.absent tells))))
 
 pub returns-in_err-test_room-clause-damaged : goal.returns-in_err-test_room-clause-damaged
 returns-in_err-test_room-clause-damaged g c tells =
@@ -450,22 +465,121 @@ returns-in_err-id-clause-damaged g c tells =
     let v = g.S.Reads.state c.put_edge.new.space in
     let same = same_twice s m n c.node_degree.ensures.state c.node_degree-2.ensures.state in
     let keeps = c.in_ok-prepared.ensures.stays tells in
-    let from = used_beyond n u c.args.from keeps (used_read s n c.args.from same (c.in_ok-source.ensures.kind tells)) in
-    let to = used_beyond n u c.args.to keeps (used_read m n c.args.to c.node_degree-2.ensures.state (c.in_ok-target.ensures.kind tells)) in
-    let limit = ap (λ (h : Shape). h.threshold) (c.shape-threshold.ensures.is ∙ sym (g.met.S.Reads.onward_shape _ _ c.prepare.ensures.onward)) in
-    let shape = g.met.S.Reads.onward_shape _ _ c.prepare.ensures.onward ∙ ap (λ (z : State). z.shape) same in
+    let shape = g.met.S.Reads.onward_shape _ _ c.prepare.ensures.onward in
+    let from = used_beyond n u keeps c.args.from (used_read s n c.args.from same (c.in_ok-source.ensures.kind tells)) in
+    let to = used_beyond n u keeps c.args.to (used_read m n c.args.to c.node_degree-2.ensures.state (c.in_ok-target.ensures.kind tells)) in
+    let leaves = degree_beyond n u keeps c.args.from c.in_ok-source.source (subst (λ (z : State). HasDegree z.records c.args.from c.in_ok-source.source) (sym same) (c.in_ok-source.ensures.found tells)) in
+    let enters = degree_beyond n u keeps c.args.to c.in_ok-target.target (subst (λ (z : State). HasDegree z.records c.args.to c.in_ok-target.target) (sym c.node_degree-2.ensures.state) (c.in_ok-target.ensures.found tells)) in
+    let limit = ap (λ (h : Shape). h.threshold) (c.shape-threshold.ensures.is ∙ sym shape) in
     fault_exit (λ f. f) (BlamesLinking s v c.args.from c.args.to) c.in_err-id.field-0.0 c.from_residual-in_err-id.result c.from_residual-in_err-id.ensures.1
-    (blames_more _ _ (λ damage told. inr (inl (record { ready = u; shape = shape; keeps = beyond_read s n u same keeps; told = told }))) c.in_err-id.field-0.0 (c.in_err-id.ensures.damaged tells from to (omega arith)))
+    (blames_more _ _ (λ damage told. ⊎_elim (λ k. inl (open_before s n u v c.args.from c.args.to same keeps shape damage k)) (λ k. inr k) told) c.in_err-id.field-0.0
+    (c.in_err-id.ensures.damaged tells from to leaves enters limit))
 
 pub returns-in_err-put_properties-clause-damaged : goal.returns-in_err-put_properties-clause-damaged
 returns-in_err-put_properties-clause-damaged g c tells =
     let s = g.S.Reads.state c.args.space.now in
-    let v = g.S.Reads.state c.put_edge.new.space in
     let w = g.S.Reads.state c.put_properties.new.space in
-    let id = c.in_ok-id.id in
-    let key = key_in format.relationships_file id in
     let fault = c.in_err-put_properties.field-0.0 in
-    let told = subst (λ (o : Owner). IfBlames (BreaksAdding o.key v) fault) c.edge_owner.ensures (c.in_err-put_properties.ensures.damaged tells) in
-    let adds = subst (λ (o : Owner). AddsElement o.key v w) c.edge_owner.ensures (c.put_properties.ensures.adds tells) in
     fault_exit (λ f. f) (BlamesLinking s w c.args.from c.args.to) fault c.from_residual-in_err-put_properties.result c.from_residual-in_err-put_properties.ensures.1
-    (blames_more _ _ (λ damage breaks. inr (inr (id, breaks_then key w v (adds_back key v w adds) damage breaks))) fault told)
+    (blames_more (IsBroken w) (IsLinkingDamage s w c.args.from c.args.to) (broken_links s w c.args.from c.args.to) fault (c.in_err-put_properties.ensures.still tells))
+
+-- ---- and by the space as it is left alone
+
+-- what is blamed is told so
+still_blamed : (s t : State) (from to : ℕ) (fault : ChangeFault) → BlamesLinking s t from to fault → IfBlames (IsEdgeDamage t from to) fault
+still_blamed s t from to fault told = blames_more (IsLinkingDamage s t from to) (IsEdgeDamage t from to) (link_still s t from to) fault told
+
+pub returns-in_err-source-clause-still : goal.returns-in_err-source-clause-still
+returns-in_err-source-clause-still g c tells =
+    let s = g.S.Reads.state c.args.space.now in
+    let m = g.S.Reads.state c.node_degree.new.space in
+    let names = c.args.names.now.names in
+    let command = commands.Edge c.args.from c.args.label.now c.args.to c.args.pairs.now in
+    let fault = c.in_err-source.field-0.0 in
+    fault_exit (λ f. f) (IsStillCaused command m names names) fault c.from_residual.result c.from_residual.ensures.1
+    (record {
+      caused = caused_left command s m m names names c.node_degree.ensures.state fault (absent_caused command s m names names (targets.Node c.args.from) (λ id e. inl (sym (node_of e))) (λ id e. no_edge e) fault (c.in_err-source.ensures.absent tells));
+      damaged = still_blamed s m c.args.from c.args.to fault
+          (blames_more (IsBroken m) (IsLinkingDamage s m c.args.from c.args.to) (broken_links s m c.args.from c.args.to) fault (broken_left s m c.node_degree.ensures.state fault (absent_blamed s (targets.Node c.args.from) fault (c.in_err-source.ensures.absent tells))));
+    })
+
+pub returns-in_err-target-clause-still : goal.returns-in_err-target-clause-still
+returns-in_err-target-clause-still g c tells =
+    let m = g.S.Reads.state c.node_degree.new.space in
+    let n = g.S.Reads.state c.node_degree-2.new.space in
+    let names = c.args.names.now.names in
+    let command = commands.Edge c.args.from c.args.label.now c.args.to c.args.pairs.now in
+    let fault = c.in_err-target.field-0.0 in
+    fault_exit (λ f. f) (IsStillCaused command n names names) fault c.from_residual-in_err-target.result c.from_residual-in_err-target.ensures.1
+    (record {
+      caused = caused_left command m n n names names c.node_degree-2.ensures.state fault (absent_caused command m n names names (targets.Node c.args.to) (λ id e. inr (sym (node_of e))) (λ id e. no_edge e) fault (c.in_err-target.ensures.absent tells));
+      damaged = still_blamed m n c.args.from c.args.to fault
+          (blames_more (IsBroken n) (IsLinkingDamage m n c.args.from c.args.to) (broken_links m n c.args.from c.args.to) fault (broken_left m n c.node_degree-2.ensures.state fault (absent_blamed m (targets.Node c.args.to) fault (c.in_err-target.ensures.absent tells))));
+    })
+
+pub returns-in_err-test_room-clause-still : goal.returns-in_err-test_room-clause-still
+returns-in_err-test_room-clause-still g c tells =
+    let n = g.S.Reads.state c.node_degree-2.new.space in
+    let names = c.args.names.now.names in
+    let command = commands.Edge c.args.from c.args.label.now c.args.to c.args.pairs.now in
+    let fault = c.in_err-test_room.field-0.0 in
+    fault_exit (λ f. f) (IsStillCaused command n names names) fault c.from_residual-in_err-test_room.result c.from_residual-in_err-test_room.ensures.1
+    (record {
+      caused = room_caused command n n names names format.relationships_file 1 (inl (refl, refl)) fault c.in_err-test_room.ensures.full;
+      damaged = room_blamed _ n format.relationships_file 1 fault c.in_err-test_room.ensures.full;
+    })
+
+pub returns-in_err-prepared-clause-still : goal.returns-in_err-prepared-clause-still
+returns-in_err-prepared-clause-still g c tells =
+    let t = g.S.Reads.state c.prepare.new.space in
+    let names = c.args.names.now.names in
+    let now = c.prepare.new.names.names in
+    let pairs = c.as_slice-pairs.result.now in
+    let command = commands.Edge c.args.from c.args.label.now c.args.to pairs in
+    let fault = c.in_err-prepared.field-0.0 in
+    let why = c.in_err-prepared.ensures.still tells in
+    subst (λ l. IfErr c.from_residual-in_err-prepared.result (IsStillCaused (commands.Edge c.args.from c.args.label.now c.args.to l) t names now)) c.as_slice-pairs.ensures
+    (fault_exit (λ f. f) (IsStillCaused command t names now) fault c.from_residual-in_err-prepared.result c.from_residual-in_err-prepared.ensures.1
+    (record { caused = line_edge t t names now c.args.label.now pairs c.args.from c.args.to fault why; damaged = line_blamed _ t names c.args.label.now pairs fault why }))
+
+pub returns-in_err-id-clause-still : goal.returns-in_err-id-clause-still
+returns-in_err-id-clause-still g c tells =
+    let n = g.S.Reads.state c.node_degree-2.new.space in
+    let m = g.S.Reads.state c.node_degree.new.space in
+    let s = g.S.Reads.state c.args.space.now in
+    let u = g.S.Reads.state c.prepare.new.space in
+    let t = g.S.Reads.state c.put_edge.new.space in
+    let names = c.args.names.now.names in
+    let now = c.prepare.new.names.names in
+    let command = commands.Edge c.args.from c.args.label.now c.args.to c.args.pairs.now in
+    let fault = c.in_err-id.field-0.0 in
+    let same = same_twice s m n c.node_degree.ensures.state c.node_degree-2.ensures.state in
+    let keeps = c.in_ok-prepared.ensures.stays tells in
+    let from = used_beyond n u keeps c.args.from (used_read s n c.args.from same (c.in_ok-source.ensures.kind tells)) in
+    let to = used_beyond n u keeps c.args.to (used_read m n c.args.to c.node_degree-2.ensures.state (c.in_ok-target.ensures.kind tells)) in
+    let leaves = degree_beyond n u keeps c.args.from c.in_ok-source.source (subst (λ (z : State). HasDegree z.records c.args.from c.in_ok-source.source) (sym same) (c.in_ok-source.ensures.found tells)) in
+    let enters = degree_beyond n u keeps c.args.to c.in_ok-target.target (subst (λ (z : State). HasDegree z.records c.args.to c.in_ok-target.target) (sym c.node_degree-2.ensures.state) (c.in_ok-target.ensures.found tells)) in
+    let limit = ap (λ (h : Shape). h.threshold) (c.shape-threshold.ensures.is ∙ sym (g.met.S.Reads.onward_shape _ _ c.prepare.ensures.onward)) in
+    fault_exit (λ f. f) (IsStillCaused command t names now) fault c.from_residual-in_err-id.result c.from_residual-in_err-id.ensures.1
+    (record {
+      caused = failure_caused command t t names now fault c.in_err-id.ensures.failure;
+      damaged = still_blamed u t c.args.from c.args.to fault (c.in_err-id.ensures.damaged tells from to leaves enters limit);
+    })
+
+pub returns-in_err-put_properties-clause-still : goal.returns-in_err-put_properties-clause-still
+returns-in_err-put_properties-clause-still g c tells =
+    let t = g.S.Reads.state c.put_properties.new.space in
+    let names = c.args.names.now.names in
+    let now = c.prepare.new.names.names in
+    let pairs = c.as_slice-pairs.result.now in
+    let command = commands.Edge c.args.from c.args.label.now c.args.to pairs in
+    let items = c.in_ok-prepared.prepared.assigned.items in
+    let needs = c.in_ok-prepared.ensures.needs in
+    let fault = c.in_err-put_properties.field-0.0 in
+    let told = subst (λ l. IsPutCause t (length l) (assigned_blocks pairs l) fault) c.deref.ensures.0 (c.in_err-put_properties.ensures.caused tells) in
+    subst (λ l. IfErr c.from_residual-in_err-put_properties.result (IsStillCaused (commands.Edge c.args.from c.args.label.now c.args.to l) t names now)) c.as_slice-pairs.ensures
+    (fault_exit (λ f. f) (IsStillCaused command t names now) fault c.from_residual-in_err-put_properties.result c.from_residual-in_err-put_properties.ensures.1
+    (record {
+      caused = put_caused command t t names now pairs (length items) (assigned_blocks pairs items) needs.0 needs.1 (λ file any. any) fault told;
+      damaged = still_blamed t t c.args.from c.args.to fault (blames_more (IsBroken t) (IsLinkingDamage t t c.args.from c.args.to) (broken_links t t c.args.from c.args.to) fault (c.in_err-put_properties.ensures.still tells));
+    }))

@@ -2,6 +2,7 @@ use Rattle.std.proofs.Common.{◌≡◌, ◌∙◌, ◌+◌, ℕ, Some, List, []
 use Rattle.plain_graph.specs.Refusals.{change_reasons}
 use Rattle.plain_graph.specs.declared.command.Command.TheVariants as commands
 use Rattle.plain_graph.specs.declared.command.Target.TheVariants as targets
+use Rattle.graph_ops.specs.declared.change_fault.ChangeFault.TheVariants.{NoEdge}
 use Rattle.prop_store.specs.Changing.{HasElement}
 use Rattle.prop_store.specs.Touching.{LeavesElement, TouchesProperties}
 use Rattle.prop_store.specs.declared.owner.Owner.{Owner}
@@ -17,8 +18,8 @@ use Rattle.graph_ops.specs.EdgeDeleting.{BlamesDeleting, HasBareRow}
 use Rattle.graph_ops.specs.Store.{IsStore, graph_in}
 use Rattle.graph_ops.proofs.Deleting.{edge_element, edge_lacked, edge_made, left_bare, left_store}
 use Rattle.graph_ops.proofs.Elements.{edge_missing, same_rel}
-use Rattle.graph_ops.specs.Causes.{IsCaused}
-use Rattle.graph_ops.proofs.Causes.{failure_caused}
+use Rattle.graph_ops.specs.Causes.{IsCaused, IsStillCaused}
+use Rattle.graph_ops.proofs.Causes.{any_blamed, caused_left, failure_caused}
 use Rattle.graph_ops.proofs.Exits.{failure_late, fault_exit, fault_fails, late_leaves, row_fails}
 use Rattle.graph_ops.proofs.KeptLinks.{dropped_kinds}
 use Rattle.graph_ops.proofs.Setting.{prop_refused}
@@ -166,8 +167,10 @@ pub returns-in_err-rel-clause-caused : goal.returns-in_err-rel-clause-caused
 returns-in_err-rel-clause-caused g c tells =
     let command = commands.Delete (targets.Edge c.args.id) in
     let s = g.S.Reads.state c.args.space.now in
-    fault_exit of_row (IsCaused command s c.args.names.now.names) c.in_err-rel.field-0.0 c.from_residual.result c.from_residual.ensures.1
-    (failure_caused command s c.args.names.now.names (of_row c.in_err-rel.field-0.0) (row_fails c.in_err-rel.field-0.0))
+    let t = g.S.Reads.state c.load.new.space in
+    let names = c.args.names.now.names in
+    fault_exit of_row (IsCaused command s t names names) c.in_err-rel.field-0.0 c.from_residual.result c.from_residual.ensures.1
+    (failure_caused command s t names names (of_row c.in_err-rel.field-0.0) (row_fails c.in_err-rel.field-0.0))
 
 pub returns-in_default-clause-caused : goal.returns-in_default-clause-caused
 returns-in_default-clause-caused g c tells = (refl, sym (sym c.in_default.is ∙ c.in_ok-rel.ensures.found tells))
@@ -176,15 +179,19 @@ pub returns-in_err-dropped-clause-caused : goal.returns-in_err-dropped-clause-ca
 returns-in_err-dropped-clause-caused g c tells =
     let command = commands.Delete (targets.Edge c.args.id) in
     let s = g.S.Reads.state c.args.space.now in
-    fault_exit of_fault (IsCaused command s c.args.names.now.names) c.in_err-dropped.field-0.0 c.from_residual-in_err-dropped.result c.from_residual-in_err-dropped.ensures.1
-    (failure_caused command s c.args.names.now.names (of_fault c.in_err-dropped.field-0.0) (fault_fails c.in_err-dropped.field-0.0))
+    let t = g.S.Reads.state c.drop_all.new.space in
+    let names = c.args.names.now.names in
+    fault_exit of_fault (IsCaused command s t names names) c.in_err-dropped.field-0.0 c.from_residual-in_err-dropped.result c.from_residual-in_err-dropped.ensures.1
+    (failure_caused command s t names names (of_fault c.in_err-dropped.field-0.0) (fault_fails c.in_err-dropped.field-0.0))
 
 pub returns-in_err-take_edge-clause-caused : goal.returns-in_err-take_edge-clause-caused
 returns-in_err-take_edge-clause-caused g c tells =
     let command = commands.Delete (targets.Edge c.args.id) in
     let s = g.S.Reads.state c.args.space.now in
-    fault_exit (λ f. f) (IsCaused command s c.args.names.now.names) c.in_err-take_edge.field-0.0 c.from_residual-in_err-take_edge.result c.from_residual-in_err-take_edge.ensures.1
-    (failure_caused command s c.args.names.now.names c.in_err-take_edge.field-0.0 c.in_err-take_edge.ensures.failure)
+    let t = g.S.Reads.state c.take_edge.new.space in
+    let names = c.args.names.now.names in
+    fault_exit (λ f. f) (IsCaused command s t names names) c.in_err-take_edge.field-0.0 c.from_residual-in_err-take_edge.result c.from_residual-in_err-take_edge.ensures.1
+    (failure_caused command s t names names c.in_err-take_edge.field-0.0 c.in_err-take_edge.ensures.failure)
 
 pub returns-in_err-dropped-clause-cause : goal.returns-in_err-dropped-clause-cause
 returns-in_err-dropped-clause-cause g c =
@@ -229,3 +236,37 @@ returns-in_err-take_edge-clause-damaged g c tells =
     fault_exit (λ f. f) (BlamesDeleting s t id) c.in_err-take_edge.field-0.0 c.from_residual-in_err-take_edge.result c.from_residual-in_err-take_edge.ensures.1
     (blames_more _ _ (λ damage told. ⊎_elim (λ k. inl (inl (end_link_breaks s id rel damage row (end_link_before s w id rel.from rel.to damage left k)))) (λ k. inr (rel, row, taken_before s w t id rel left damage k)) told)
     c.in_err-take_edge.field-0.0 (c.in_err-take_edge.ensures.damaged tells (ends_later s w id left rel.from rel.to (ends_found s id rel row))))
+
+-- ---- and by the space as it is left alone
+
+pub returns-in_err-rel-clause-still : goal.returns-in_err-rel-clause-still
+returns-in_err-rel-clause-still g c tells =
+    let t = g.S.Reads.state c.load.new.space in
+    let names = c.args.names.now.names in
+    let command = commands.Delete (targets.Edge c.args.id) in
+    let fault = of_row c.in_err-rel.field-0.0 in
+    fault_exit of_row (IsStillCaused command t names names) c.in_err-rel.field-0.0 c.from_residual.result c.from_residual.ensures.1 (record { caused = failure_caused command t t names names fault (row_fails c.in_err-rel.field-0.0); damaged = any_blamed _ (λ damage. tt) fault })
+
+pub returns-in_err-dropped-clause-still : goal.returns-in_err-dropped-clause-still
+returns-in_err-dropped-clause-still g c tells =
+    let t = g.S.Reads.state c.drop_all.new.space in
+    let names = c.args.names.now.names in
+    let command = commands.Delete (targets.Edge c.args.id) in
+    let fault = of_fault c.in_err-dropped.field-0.0 in
+    fault_exit of_fault (IsStillCaused command t names names) c.in_err-dropped.field-0.0 c.from_residual-in_err-dropped.result c.from_residual-in_err-dropped.ensures.1 (record { caused = failure_caused command t t names names fault (fault_fails c.in_err-dropped.field-0.0); damaged = any_blamed _ (λ damage. tt) fault })
+
+pub returns-in_err-take_edge-clause-still : goal.returns-in_err-take_edge-clause-still
+returns-in_err-take_edge-clause-still g c tells =
+    let t = g.S.Reads.state c.take_edge.new.space in
+    let names = c.args.names.now.names in
+    let command = commands.Delete (targets.Edge c.args.id) in
+    let fault = c.in_err-take_edge.field-0.0 in
+    fault_exit (λ f. f) (IsStillCaused command t names names) c.in_err-take_edge.field-0.0 c.from_residual-in_err-take_edge.result c.from_residual-in_err-take_edge.ensures.1 (record { caused = failure_caused command t t names names fault (c.in_err-take_edge.ensures.failure); damaged = any_blamed _ (λ damage. tt) fault })
+
+pub returns-in_default-clause-still : goal.returns-in_default-clause-still
+returns-in_default-clause-still g c tells =
+    let s = g.S.Reads.state c.args.space.now in
+    let t = g.S.Reads.state c.load.new.space in
+    let names = c.args.names.now.names in
+    let read = loaded g (goal.at.returns-in_default-clause-still g c).After-load in
+    record { caused = caused_left (commands.Delete (targets.Edge c.args.id)) s t t names names read (NoEdge c.args.id) (refl, sym (sym c.in_default.is ∙ c.in_ok-rel.ensures.found tells)); damaged = tt }

@@ -50,10 +50,10 @@ returns-in_err-join_ends-clause-cause g c =
 
 -- ---- which record is blamed
 pub returns-in_err-id-clause-damaged : goal.returns-in_err-id-clause-damaged
-returns-in_err-id-clause-damaged g c tells was source target =
-    fault_exit (λ f. f) (IfBlames (IsJoinDamage was (g.S.Reads.state c.place.new.space) c.args.source.node c.args.target.node)) c.in_err-id.field-0.0 c.from_residual.result c.from_residual.ensures.1 (c.in_err-id.ensures.damaged tells was)
+returns-in_err-id-clause-damaged g c tells source target =
+    fault_exit (λ f. f) (IfBlames (IsJoinDamage (g.S.Reads.state c.place.new.space) c.args.source.node c.args.target.node)) c.in_err-id.field-0.0 c.from_residual.result c.from_residual.ensures.1 (c.in_err-id.ensures.damaged tells)
 
 pub returns-in_err-join_ends-clause-damaged : goal.returns-in_err-join_ends-clause-damaged
-returns-in_err-join_ends-clause-damaged g c tells was source target =
-    fault_exit (λ f. f) (IfBlames (IsJoinDamage was (g.S.Reads.state c.join_ends.new.space) c.args.source.node c.args.target.node)) c.in_err-join_ends.field-0.0 c.from_residual-in_err-join_ends.result c.from_residual-in_err-join_ends.ensures.1
-    (c.in_err-join_ends.ensures.damaged tells was source target)
+returns-in_err-join_ends-clause-damaged g c tells source target =
+    fault_exit (λ f. f) (IfBlames (IsJoinDamage (g.S.Reads.state c.join_ends.new.space) c.args.source.node c.args.target.node)) c.in_err-join_ends.field-0.0 c.from_residual-in_err-join_ends.result c.from_residual-in_err-join_ends.ensures.1
+    (c.in_err-join_ends.ensures.damaged tells source target)

@@ -26,13 +26,13 @@ returns-in_err-join_end-2-clause-cause g c =
 
 -- ---- which record is blamed
 pub returns-in_err-join_end-clause-damaged : goal.returns-in_err-join_end-clause-damaged
-returns-in_err-join_end-clause-damaged g c tells was source target =
+returns-in_err-join_end-clause-damaged g c tells source target =
     let t = g.S.Reads.state c.join_end.new.space in
-    fault_exit (λ f. f) (IfBlames (IsJoinDamage was t c.args.source.node c.args.target.node)) c.in_err-join_end.field-0.0 c.from_residual.result c.from_residual.ensures.1
+    fault_exit (λ f. f) (IfBlames (IsJoinDamage t c.args.source.node c.args.target.node)) c.in_err-join_end.field-0.0 c.from_residual.result c.from_residual.ensures.1
     (blames_more _ _ (λ damage told. BadHead damage c.args.source (inl refl) source told) c.in_err-join_end.field-0.0 (c.in_err-join_end.ensures.damaged tells))
 
 pub returns-in_err-join_end-2-clause-damaged : goal.returns-in_err-join_end-2-clause-damaged
-returns-in_err-join_end-2-clause-damaged g c tells was source target =
+returns-in_err-join_end-2-clause-damaged g c tells source target =
     let t = g.S.Reads.state c.join_end-then-source-target.new.space in
-    fault_exit (λ f. f) (IfBlames (IsJoinDamage was t c.args.source.node c.args.target.node)) c.in_err-join_end-2.field-0.0 c.from_residual-in_err-join_end-2.result c.from_residual-in_err-join_end-2.ensures.1
+    fault_exit (λ f. f) (IfBlames (IsJoinDamage t c.args.source.node c.args.target.node)) c.in_err-join_end-2.field-0.0 c.from_residual-in_err-join_end-2.result c.from_residual-in_err-join_end-2.ensures.1
     (blames_more _ _ (λ damage told. BadHead damage c.args.target (inr refl) target told) c.in_err-join_end-2.field-0.0 (c.in_err-join_end-2.ensures.damaged tells))

@@ -17,13 +17,13 @@ returns-in-Err-Damaged-clause-sound g c tells most empty keeps room =
 
 -- ---- which record is blamed
 pub returns-in-Err-Full-clause-damaged : goal.returns-in-Err-Full-clause-damaged
-returns-in-Err-Full-clause-damaged g c tells was from to =
+returns-in-Err-Full-clause-damaged g c tells from to =
     let s = g.S.Reads.state c.args.space.now in
     let why = subst (λ (f : TakeFault). IsTakeFault s format.relationships_file f) c.in-Err-Full.field-0-is (c.in-Err-Full.ensures.refused tells) in
     FullFile (subst (λ (z : State). (meta_of z format.relationships_file).live ≡ room z format.relationships_file) (sym c.in-Err-Full.ensures.err) (sym why.1 ∙ why.2))
 
 pub returns-in-Err-Damaged-clause-damaged : goal.returns-in-Err-Damaged-clause-damaged
-returns-in-Err-Damaged-clause-damaged g c tells was from to =
+returns-in-Err-Damaged-clause-damaged g c tells from to =
     let s = g.S.Reads.state c.args.space.now in
     let told = subst (λ (f : TakeFault). BlamesBroken s.records s.shape f) c.in-Err-Damaged.field-0-is (c.in-Err-Damaged.ensures.damaged tells) in
     NotTaken c.in-Err-Damaged.damage (subst (λ (z : State). Breaks z.records z.shape c.in-Err-Damaged.damage) (sym c.in-Err-Damaged.ensures.err) told)

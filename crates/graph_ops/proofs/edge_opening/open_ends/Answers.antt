@@ -1,4 +1,4 @@
-use Rattle.std.proofs.Common.{◌+◌, ◌≤◌, ℕ, List, [], sym, subst, inl, inr, arith, refl, ⊎_elim}
+use Rattle.std.proofs.Common.{◌≡◌, ◌+◌, ◌≤◌, ℕ, List, [], sym, subst, arith, refl}
 use Rattle.chain_edit.specs.Heads.{head_of}
 use Rattle.group_store.specs.Opening.{OpensChain}
 use Rattle.graph_ops.specs.declared.edge_end.EdgeEnd.{EdgeEnd}
@@ -12,11 +12,9 @@ use Rattle.store_rules.proofs.WriteLaws.{beside_written, more_written, then_writ
 use Rattle.graph_ops.proofs.DiskCauses.{change_cause_passed}
 use Rattle.rec_bytes.specs.declared.shape.Shape.{Shape}
 use Rattle.graph_ops.specs.Damage.{IfBlames}
-use Rattle.graph_ops.specs.EdgeAdding.{IsJoinDamage}
-use Rattle.graph_ops.specs.EdgeAdding.IsJoinDamage.{NoHead}
+use Rattle.graph_ops.specs.EdgeAdding.{IsOpenDamage}
 use Rattle.graph_ops.proofs.Broken.{blames_more}
-use Rattle.group_store.proofs.LeftBeside.{beside_none}
-use Rattle.graph_ops.proofs.JoinBlames.{used_beside}
+use Rattle.graph_ops.proofs.JoinBlames.{first_blamed, other_blamed, used_beside}
 use Rattle.graph_ops.proofs.edge_opening.open_ends.Goals as goal
 use Rattle.graph_ops.proofs.edge_opening.open_ends.Goals.{In_ok-source}
 use Rattle.graph_ops.proofs.edge_opening.open_ends.Given.{Over}
@@ -109,22 +107,23 @@ returns-in_err-target-clause-cause g c =
 
 -- ---- which record is blamed, and where the heads are
 pub returns-in_err-source-clause-damaged : goal.returns-in_err-source-clause-damaged
-returns-in_err-source-clause-damaged g c tells from to le =
+returns-in_err-source-clause-damaged g c tells from to leaves enters limit =
     let s = g.S.Reads.state c.args.space.now in
-    fault_exit (λ f. f) (IfBlames (IsJoinDamage s (g.S.Reads.state c.open_end.new.space) c.args.from c.args.to)) c.in_err-source.field-0.0 c.from_residual.result c.from_residual.ensures.1
-    (blames_more _ _ (λ damage told. NoHead damage c.args.from (inl refl) (⊎_elim (λ late. inl late) (λ k. inr (record { mid = s; shape = refl; beside = beside_none s.records c.args.from; told = k })) told))
-    c.in_err-source.field-0.0 (c.in_err-source.ensures.damaged tells from le))
+    let t = g.S.Reads.state c.open_end.new.space in
+    fault_exit (λ f. f) (IfBlames (IsOpenDamage s t c.args.from c.args.to)) c.in_err-source.field-0.0 c.from_residual.result c.from_residual.ensures.1
+    (blames_more _ _ (first_blamed s t c.args.from c.args.to c.args.from_degree c.args.threshold leaves limit) c.in_err-source.field-0.0 (c.in_err-source.ensures.damaged tells from (omega (arith, limit))))
 
 pub returns-in_err-target-clause-damaged : goal.returns-in_err-target-clause-damaged
-returns-in_err-target-clause-damaged g c tells from to le =
+returns-in_err-target-clause-damaged g c tells from to leaves enters limit =
     let s = g.S.Reads.state c.args.space.now in
     let m = g.S.Reads.state c.open_end.new.space in
-    let shape = g.met.S.Reads.onward_shape _ _ c.open_end.ensures.onward in
-    let now = subst (λ (h : Shape). h.threshold ≤ c.args.threshold) (sym shape) le in
+    let t = g.S.Reads.state c.open_end-2.new.space in
+    let now = subst (λ (h : Shape). h.threshold ≤ c.args.threshold) (sym (g.met.S.Reads.onward_shape _ _ c.open_end.ensures.onward)) (omega (arith, limit)) in
     let beside = c.in_ok-source.ensures.beside tells in
-    fault_exit (λ f. f) (IfBlames (IsJoinDamage s (g.S.Reads.state c.open_end-2.new.space) c.args.from c.args.to)) c.in_err-target.field-0.0 c.from_residual-in_err-target.result c.from_residual-in_err-target.ensures.1
-    (blames_more _ _ (λ damage told. NoHead damage c.args.to (inr refl) (⊎_elim (λ late. inl late) (λ k. inr (record { mid = m; shape = shape; beside = beside; told = k })) told))
-    c.in_err-target.field-0.0 (c.in_err-target.ensures.damaged tells (used_beside s m c.args.from c.args.to beside (λ e. c.if-from-to.false (sym e)) to) now))
+    let apart = λ (e : c.args.to ≡ c.args.from). c.if-from-to.false (sym e) in
+    fault_exit (λ f. f) (IfBlames (IsOpenDamage s t c.args.from c.args.to)) c.in_err-target.field-0.0 c.from_residual-in_err-target.result c.from_residual-in_err-target.ensures.1
+    (blames_more _ _ (other_blamed s m t c.args.from c.args.to c.args.to_degree c.args.threshold beside apart enters limit) c.in_err-target.field-0.0
+    (c.in_err-target.ensures.damaged tells (used_beside s m c.args.from c.args.to beside apart to) now))
 
 pub returns-then-from-to-clause-at : goal.returns-then-from-to-clause-at
 returns-then-from-to-clause-at g c = (c.in_ok-source.ensures.at, c.in_ok-source.ensures.at)

@@ -1,5 +1,5 @@
 use Rattle.std.specs.Prelude.{IfErr, slice_get}
-use Rattle.std.proofs.Common.{◌≡◌, ◌+◌, ℕ, List, Some, ap, subst, arith}
+use Rattle.std.proofs.Common.{◌≡◌, ◌+◌, ℕ, List, Some, ap, subst, inl, inr, arith}
 use Rattle.rec_bytes.specs.declared.meta.Meta.{Meta}
 use Rattle.rec_bytes.specs.Format as format
 use Rattle.rel_store.specs.RelRecord.{rel_key}
@@ -18,7 +18,9 @@ use Rattle.graph_ops.proofs.OpenWrites.{err_more, put_beside, put_failed}
 use Rattle.store_rules.proofs.WriteLaws.{beside_more, more_written}
 use Rattle.graph_ops.proofs.Writes.{on_any_err}
 use Rattle.graph_ops.specs.Damage.{IfBlames}
-use Rattle.graph_ops.specs.EdgeAdding.{IsJoinDamage}
+use Rattle.graph_ops.specs.EdgeAdding.{IsJoinDamage, IsLinkingDamage}
+use Rattle.graph_ops.proofs.Broken.{blames_more}
+use Rattle.graph_ops.proofs.EdgeBlames.{if_blames}
 use Rattle.graph_ops.proofs.edge_placing.put_edge.Goals as goal
 
 pub returns-in_err-ends-clause-sound : goal.returns-in_err-ends-clause-sound
@@ -74,14 +76,17 @@ returns-clause-err_writes g c =
 
 -- ---- which record is blamed
 pub returns-in_err-ends-clause-damaged : goal.returns-in_err-ends-clause-damaged
-returns-in_err-ends-clause-damaged g c tells from to le =
-    fault_exit (λ f. f) (IfBlames (IsJoinDamage (g.S.Reads.state c.args.space.now) (g.S.Reads.state c.open_ends.new.space) c.args.from c.args.to)) c.in_err-ends.field-0.0 c.from_residual.result c.from_residual.ensures.1 (c.in_err-ends.ensures.damaged tells from to le)
+returns-in_err-ends-clause-damaged g c tells from to leaves enters limit =
+    let s = g.S.Reads.state c.args.space.now in
+    fault_exit (λ f. f) (IfBlames (IsLinkingDamage s (g.S.Reads.state c.open_ends.new.space) c.args.from c.args.to)) c.in_err-ends.field-0.0 c.from_residual.result c.from_residual.ensures.1
+    (blames_more _ _ (λ damage told. inl told) c.in_err-ends.field-0.0 (c.in_err-ends.ensures.damaged tells from to leaves enters limit))
 
 pub returns-clause-damaged : goal.returns-clause-damaged
-returns-clause-damaged g c tells from to le =
+returns-clause-damaged g c tells from to leaves enters limit =
     let s = g.S.Reads.state c.args.space.now in
     let u = g.S.Reads.state c.join_edge.new.space in
     let nodes = c.in_ok-ends.ensures.nodes in
     let at = c.in_ok-ends.ensures.at in
-    subst (λ n. IfErr c.join_edge.result (IfBlames (IsJoinDamage s u n c.args.to))) nodes.0
-    (subst (λ n. IfErr c.join_edge.result (IfBlames (IsJoinDamage s u c.in_ok-ends.ends.source.node n))) nodes.1 (c.join_edge.ensures.damaged tells s at.0 at.1))
+    if_blames c.join_edge.result (IsJoinDamage u c.args.from c.args.to) (IsLinkingDamage s u c.args.from c.args.to) (λ damage told. inr told)
+    (subst (λ n. IfErr c.join_edge.result (IfBlames (IsJoinDamage u n c.args.to))) nodes.0
+    (subst (λ n. IfErr c.join_edge.result (IfBlames (IsJoinDamage u c.in_ok-ends.ends.source.node n))) nodes.1 (c.join_edge.ensures.damaged tells at.0 at.1)))

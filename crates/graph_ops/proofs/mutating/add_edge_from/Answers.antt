@@ -3,7 +3,7 @@ use Rattle.std.specs.Prelude.{IfErr}
 use Rattle.plain_graph.specs.declared.command.Command.TheVariants as commands
 use Rattle.plain_graph.specs.declared.item.Item.{Item}
 use Rattle.graph_ops.specs.Store.{graph_in}
-use Rattle.graph_ops.specs.Mutating.{IsListRefusal}
+use Rattle.graph_ops.specs.Mutating.{IsListCaused, IsListRefusal}
 use Rattle.plain_graph.specs.Mutations.{changes_of, vertex_id}
 use Rattle.plain_graph.specs.declared.mutation.Mutation.TheVariants as mutations
 use Rattle.graph_ops.proofs.Parts.{none_from, result_refused}
@@ -23,3 +23,9 @@ returns-in-Edge-clause-part g c =
 pub returns-in-Edge-2-clause-part : goal.returns-in-Edge-2-clause-part
 returns-in-Edge-2-clause-part g c =
     none_from g.S.Reads.tells c.args.label.now c.args.to c.args.pairs.now c.args.item.now c.args.shown.now.items (g.S.Reads.state c.args.space.now) c.args.names.now.names (⊎_elim (λ e. ap vertex_id e.4) (λ e. ap vertex_id e.1) c.in-Edge.is)
+
+pub returns-in-Vertex-clause-still : goal.returns-in-Vertex-clause-still
+returns-in-Vertex-clause-still g c tells =
+    let t = g.S.Reads.state c.add_one_edge.new.space in
+    let mutation = mutations.AddE c.args.label.now c.args.to c.args.pairs.now in
+    subst (λ (item : Item). IfErr c.add_one_edge.result (IsListCaused (changes_of mutation (item ∷ [])) t c.args.names.now.names c.add_one_edge.new.names.names)) (sym c.in-Vertex.is) (c.add_one_edge.ensures.still tells)

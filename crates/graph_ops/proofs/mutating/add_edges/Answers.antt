@@ -1,14 +1,15 @@
-use Rattle.std.proofs.Common.{◌≡◌, ◌∙◌, ◌++◌, ◌∷◌, [], List, take, append_assoc, sym, ap, subst}
+use Rattle.std.proofs.Common.{◌≡◌, ◌∙◌, ◌++◌, ◌∷◌, [], List, take, append_assoc, inl, sym, ap, subst}
 use Rattle.std.proofs.lemmas.List.{take_all}
 use Rattle.plain_graph.specs.Reply.{Reply}
 use Rattle.plain_graph.specs.declared.command.Command.{Command}
 use Rattle.plain_graph.specs.declared.item.Item.{Item}
 use Rattle.graph_ops.specs.Store.{graph_in}
-use Rattle.graph_ops.specs.Mutating.{MakesPart}
+use Rattle.graph_ops.specs.Mutating.{IsListCaused, MakesPart}
+use Rattle.graph_ops.proofs.Exits.{fault_exit}
 use Rattle.plain_graph.specs.Mutations.{changes_of, new_elements}
 use Rattle.plain_graph.specs.declared.mutation.Mutation.TheVariants as mutations
 use Rattle.plain_graph.proofs.Making.{elements_then}
-use Rattle.graph_ops.proofs.Parts.{making_more, next_exit, up_to}
+use Rattle.graph_ops.proofs.Parts.{making_more, next_exit, next_still, up_to}
 use Rattle.graph_ops.proofs.Spreading.{edges_spread}
 use Rattle.graph_ops.proofs.mutating.add_edges.Goals as goal
 
@@ -52,3 +53,20 @@ returns-clause-part g c =
     (λ (results : List Item). MakesPart g.S.Reads.tells (changes_of mutation results) (λ (replies : List Reply). c.loop-item.shown.items ≡ c.args.shown.now.items ++ new_elements (changes_of mutation results) replies) c.loop-item.weight (g.S.Reads.state c.args.space.now) (g.S.Reads.state c.loop-item.space)
     c.args.names.now.names c.loop-item.names.names)
     (take_all c.loop-item.item-index c.args.items.now c.loop-item-test.false) c.loop-item.invariant.making.part
+
+-- ---- why it is refused, by the space as it is left
+
+pub returns-in_err-more-clause-still : goal.returns-in_err-more-clause-still
+returns-in_err-more-clause-still g c tells =
+    let t = g.S.Reads.state c.add_edge_from.new.space in
+    let label = c.args.label.now in
+    let pairs = c.args.pairs.now in
+    let item = c.item-item.result in
+    next_still (changes_of (mutations.AddE label c.args.to pairs)) (edges_spread label c.args.to pairs) c.args.items.now c.loop-item.item-index item item c.loop-item-test.true c.item-item.is t c.args.names.now.names c.loop-item.names.names c.add_edge_from.new.names.names c.in_err-more.field-0.0
+    c.from_residual.result c.loop-item.invariant.making.prefix c.from_residual.ensures.1 (c.in_err-more.ensures.still tells)
+
+pub returns-in_err-both-clause-still : goal.returns-in_err-both-clause-still
+returns-in_err-both-clause-still g c tells =
+    let t = g.S.Reads.state c.add_edge_from.new.space in
+    fault_exit (λ f. f) (IsListCaused (changes_of (mutations.AddE c.args.label.now c.args.to c.args.pairs.now) c.args.items.now) t c.args.names.now.names c.add_edge_from.new.names.names) c.in_err-both.field-0.0 c.from_residual-in_err-both.result c.from_residual-in_err-both.ensures.1
+    (inl c.in_err-both.ensures.memory)

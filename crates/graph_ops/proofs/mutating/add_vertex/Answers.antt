@@ -1,9 +1,11 @@
-use Rattle.std.proofs.Common.{◌≡◌, ◌++◌, ◌∷◌, [], List}
+use Rattle.std.proofs.Common.{◌≡◌, ◌++◌, ◌∷◌, [], List, inl}
+use Rattle.graph_ops.specs.Mutating.{IsListCaused}
+use Rattle.graph_ops.proofs.Exits.{fault_exit}
 use Rattle.plain_graph.specs.Reply.{NodeMade, Reply}
 use Rattle.plain_graph.specs.declared.command.Command.TheVariants as commands
 use Rattle.plain_graph.specs.declared.item.Item.TheVariants as items
 use Rattle.plain_graph.specs.Mutations.{new_elements}
-use Rattle.graph_ops.proofs.Parts.{one_part}
+use Rattle.graph_ops.proofs.Parts.{one_caused, one_part}
 use Rattle.graph_ops.proofs.mutating.add_vertex.Goals as goal
 
 pub returns-clause-part : goal.returns-clause-part
@@ -15,3 +17,20 @@ returns-clause-part g c =
     let shown : c.show.new.shown.items ≡ old ++ items.Vertex id ∷ [] = c.in_ok-show.ensures.shown in
     one_part g.S.Reads.tells command (λ (replies : List Reply). c.show.new.shown.items ≡ old ++ new_elements (command ∷ []) replies) (NodeMade id) c.in_ok-id.field-0.weight (g.S.Reads.state c.args.space.now) (g.S.Reads.state c.add_node.new.space) c.args.names.now.names c.add_node.new.names.names made.made made.light
     made.writes shown
+
+-- ---- why it is refused, by the space as it is left
+
+pub returns-in_err-id-clause-still : goal.returns-in_err-id-clause-still
+returns-in_err-id-clause-still g c tells =
+    let t = g.S.Reads.state c.add_node.new.space in
+    let names = c.args.names.now.names in
+    let now = c.add_node.new.names.names in
+    let command = commands.Node c.args.label.now c.args.pairs.now in
+    let fault = c.in_err-id.field-0.0 in
+    fault_exit (λ f. f) (IsListCaused (command ∷ []) t names now) fault c.from_residual.result c.from_residual.ensures.1 (one_caused command t names now fault c.add_node.ensures.prefix (c.in_err-id.ensures.still tells))
+
+pub returns-in_err-show-clause-still : goal.returns-in_err-show-clause-still
+returns-in_err-show-clause-still g c tells =
+    let t = g.S.Reads.state c.add_node.new.space in
+    let command = commands.Node c.args.label.now c.args.pairs.now in
+    fault_exit (λ f. f) (IsListCaused (command ∷ []) t c.args.names.now.names c.add_node.new.names.names) c.in_err-show.field-0.0 c.from_residual-in_err-show.result c.from_residual-in_err-show.ensures.1 (inl c.in_err-show.ensures.memory)

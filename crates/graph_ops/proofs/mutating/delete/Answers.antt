@@ -1,9 +1,18 @@
-use Rattle.std.proofs.Common.{[], ◌∷◌, sym, subst}
-use Rattle.std.specs.Prelude.{IfOk}
+use Rattle.std.proofs.Common.{◌⊎◌, ℕ, [], ◌∷◌, inl, inr, ⊎_elim, sym, subst}
+use Rattle.std.proofs.lemmas.Result.{IfErr-weaker}
+use Rattle.rec_bytes.specs.declared.damage.Damage.{Damage}
+use Rattle.rec_bytes.specs.Space.{State}
+use Rattle.prop_store.specs.Fault.{SharesBlock}
+use Rattle.graph_ops.specs.Damage.{IfBlames, IsBroken}
+use Rattle.graph_ops.specs.NodeDeleting.{IsDeleteCause}
+use Rattle.graph_ops.specs.declared.change_fault.ChangeFault.{ChangeFault}
+use Rattle.graph_ops.specs.declared.change_fault.ChangeFault.TheVariants.{NoNode, NoEdge, HasRelationships, Full, NamesFull, PropsFull, Memory, Disk, Damaged}
+use Rattle.std.specs.Prelude.{IfErr, IfOk}
+use Rattle.graph_ops.specs.Causes.{IsStillCaused}
 use Rattle.plain_graph.specs.Reply.{Done}
 use Rattle.plain_graph.specs.declared.command.Command.TheVariants as commands
 use Rattle.plain_graph.specs.declared.command.Target.{Target}
-use Rattle.graph_ops.specs.Mutating.{MakesPart, any_replies}
+use Rattle.graph_ops.specs.Mutating.{BlamesDeletion, MakesPart, any_replies}
 use Rattle.graph_ops.proofs.Parts.{one_result}
 use Rattle.graph_ops.proofs.mutating.delete.Goals as goal
 
@@ -22,3 +31,41 @@ returns-in-Edge-clause-part g c =
     let names = c.args.names.now.names in
     subst (λ (target : Target). IfOk c.delete_edge.result (λ weight. MakesPart g.S.Reads.tells (commands.Delete target ∷ []) any_replies weight s t names names)) (sym c.in-Edge.is)
     (one_result c.delete_edge.result g.S.Reads.tells _ Done s t names names c.delete_edge.ensures.made c.delete_edge.ensures.light c.delete_edge.ensures.writes)
+
+pub returns-in-Node-clause-still : goal.returns-in-Node-clause-still
+returns-in-Node-clause-still g c tells =
+    let t = g.S.Reads.state c.delete_node.new.space in
+    let names = c.args.names.now.names in
+    subst (λ (target : Target). IfErr c.delete_node.result (IsStillCaused (commands.Delete target) t names names)) (sym c.in-Node.is) (c.delete_node.ensures.still tells)
+
+pub returns-in-Edge-clause-still : goal.returns-in-Edge-clause-still
+returns-in-Edge-clause-still g c tells =
+    let t = g.S.Reads.state c.delete_edge.new.space in
+    let names = c.args.names.now.names in
+    subst (λ (target : Target). IfErr c.delete_edge.result (IsStillCaused (commands.Delete target) t names names)) (sym c.in-Edge.is) (c.delete_edge.ensures.still tells)
+
+-- ---- which record is blamed
+
+found_blames : (s : State) (id : ℕ) (fault : ChangeFault) → IsDeleteCause s id fault → IfBlames (λ (damage : Damage). IsBroken s damage ⊎ SharesBlock s.records damage) fault
+found_blames s id (NoNode missing) why = tt
+found_blames s id (NoEdge missing) why = absurd why
+found_blames s id (HasRelationships of degree) why = tt
+found_blames s id (Full file live) why = absurd why
+found_blames s id (NamesFull count) why = absurd why
+found_blames s id (PropsFull count) why = absurd why
+found_blames s id Memory why = tt
+found_blames s id Disk why = tt
+found_blames s id (Damaged damage) why = ⊎_elim (λ broken. inl broken) (λ k. inr k.1) why
+
+pub returns-in-Node-clause-damaged : goal.returns-in-Node-clause-damaged
+returns-in-Node-clause-damaged g c tells =
+    let s = g.S.Reads.state c.args.space.now in
+    let t = g.S.Reads.state c.delete_node.new.space in
+    subst (λ (target : Target). IfErr c.delete_node.result (BlamesDeletion s t target)) (sym c.in-Node.is)
+    (IfErr-weaker c.delete_node.result (IsDeleteCause s c.in-Node.id) (IfBlames (λ (damage : Damage). IsBroken s damage ⊎ SharesBlock s.records damage)) (found_blames s c.in-Node.id) (c.delete_node.ensures.found tells))
+
+pub returns-in-Edge-clause-damaged : goal.returns-in-Edge-clause-damaged
+returns-in-Edge-clause-damaged g c tells =
+    let s = g.S.Reads.state c.args.space.now in
+    let t = g.S.Reads.state c.delete_edge.new.space in
+    subst (λ (target : Target). IfErr c.delete_edge.result (BlamesDeletion s t target)) (sym c.in-Edge.is) (c.delete_edge.ensures.damaged tells)

@@ -1,4 +1,4 @@
-use Rattle.std.proofs.Common.{◌≡◌, ◌++◌, ◌∷◌, [], List, sym, subst}
+use Rattle.std.proofs.Common.{◌≡◌, ◌∙◌, ◌++◌, ◌∷◌, [], List, sym, subst}
 use Rattle.std.specs.Prelude.{IfErr}
 use Rattle.plain_graph.specs.Reply.{Reply}
 use Rattle.plain_graph.specs.declared.command.Command.TheVariants as commands
@@ -6,7 +6,7 @@ use Rattle.plain_graph.specs.declared.item.Item.{Item}
 use Rattle.plain_graph.specs.declared.pairs.Pair.{Pair}
 use Rattle.graph_ops.specs.Store.{graph_in}
 use Rattle.graph_ops.proofs.Exits.{fault_exit}
-use Rattle.graph_ops.specs.Mutating.{IsListRefusal, MakesMutation, MakesPart, any_replies}
+use Rattle.graph_ops.specs.Mutating.{IsListCaused, IsListRefusal, MakesMutation, MakesPart, any_replies}
 use Rattle.plain_graph.specs.Mutations.{changes_of, new_elements}
 use Rattle.plain_graph.specs.declared.mutation.Mutation.{Mutation}
 use Rattle.plain_graph.specs.declared.mutation.Mutation.TheVariants as mutations
@@ -71,3 +71,20 @@ returns-in_ok-weight-in-Drop-clause-made g c told store =
     let shown = c.new.result.items in
     let part = subst (λ (list : List Item). MakesPart g.S.Reads.tells (changes_of mutations.Drop list) any_replies weight s t n n) c.deref-in-Drop.ensures.value c.in_ok-weight-in-Drop.ensures.part in
     subst (λ (m : Mutation). MakesMutation m c.args.items.items shown c.told_weight-in-Drop.result s t n) (sym c.in-Drop.is) (drops_made c.args.items.items shown shown weight c.told_weight-in-Drop.result c.told_weight-in-Drop.ensures.is s t n n c.new.ensures.items part told store)
+
+-- ---- why it is refused, by the space as it is left
+
+pub returns-in_err-weight-in-AddV-clause-still : goal.returns-in_err-weight-in-AddV-clause-still
+returns-in_err-weight-in-AddV-clause-still g c tells =
+    let t = g.S.Reads.state c.add_vertex.new.space in
+    let names = c.args.names.now.names in
+    let now = c.add_vertex.new.names.names in
+    let out = c.from_residual.result in
+    let command = commands.Node c.in-AddV.label c.in-AddV.pairs in
+    subst (λ (m : Mutation). IfErr out (IsListCaused (changes_of m c.args.items.items) t names now)) (sym c.in-AddV.is)
+    (fault_exit (λ f. f) (IsListCaused (command ∷ []) t names now) c.in_err-weight-in-AddV.field-0.0 out c.from_residual.ensures.1 (c.in_err-weight-in-AddV.ensures.still tells))
+
+-- ---- which record is blamed
+
+pub returns-in_err-weight-in-AddV-clause-lone : goal.returns-in_err-weight-in-AddV-clause-lone
+returns-in_err-weight-in-AddV-clause-lone g c tells target drop lone = let e = sym c.in-AddV.is ∙ drop in absurd cc

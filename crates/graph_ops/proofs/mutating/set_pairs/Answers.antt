@@ -1,4 +1,4 @@
-use Rattle.std.proofs.Common.{sym, subst, List}
+use Rattle.std.proofs.Common.{inl, sym, subst, List}
 use Rattle.plain_graph.specs.Forms.{IsKept}
 use Rattle.plain_graph.specs.Names.{IsShortName}
 use Rattle.plain_graph.specs.Reply.{Done}
@@ -6,9 +6,10 @@ use Rattle.plain_graph.specs.declared.command.Command.TheVariants as commands
 use Rattle.plain_graph.specs.declared.pairs.Pair.{Pair}
 use Rattle.graph_ops.specs.Store.{graph_in}
 use Rattle.graph_ops.proofs.Assigned.{pair_form}
-use Rattle.graph_ops.specs.Mutating.{any_replies}
+use Rattle.graph_ops.specs.Mutating.{IsListCaused, any_replies}
+use Rattle.graph_ops.proofs.Exits.{fault_exit}
 use Rattle.plain_graph.specs.Mutations.{settings}
-use Rattle.graph_ops.proofs.Parts.{making_more, next_exit, one_part, one_refused}
+use Rattle.graph_ops.proofs.Parts.{making_more, next_exit, next_still, one_caused, one_part, one_refused}
 use Rattle.graph_ops.proofs.Spreading.{pairs_spread}
 use Rattle.graph_ops.proofs.mutating.set_pairs.Goals as goal
 
@@ -39,3 +40,21 @@ loop-pair-preserved g c =
     making_more (λ (pairs : List Pair). settings pairs target) (pairs_spread target) c.args.pairs.now c.loop-pair.pair-index pair pair c.loop-pair-test.true c.pair-item.is c.loop-pair.weight c.in_ok-more.more c.in_ok-both.both s t u c.args.names.now.names before after (g.S.Reads.faults c.args.space.now)
     (g.S.Reads.faults c.loop-pair.space) (g.S.Reads.faults c.set.new.space) c.in_ok-both.ensures.sum c.in_ok-both.ensures.few inv (one_part g.S.Reads.tells (commands.Set target pair.key pair.value) any_replies Done c.in_ok-more.more t u before after made.made made.light made.writes tt) c.set.ensures.prefix (g.met.S.Reads.onward_shape _ _ c.set.ensures.onward)
     (g.met.S.Reads.further_onward c.args.space.now c.loop-pair.space c.set.new.space inv.onward_is c.set.ensures.onward) c.set.ensures.cause.later (λ rs ts total a each b. tt)
+
+-- ---- why it is refused, by the space as it is left
+
+pub returns-in_err-more-clause-still : goal.returns-in_err-more-clause-still
+returns-in_err-more-clause-still g c tells =
+    let t = g.S.Reads.state c.set.new.space in
+    let target = c.args.target in
+    let pair = c.pair-item.result in
+    let mid = c.loop-pair.names.names in
+    let now = c.set.new.names.names in
+    let fault = c.in_err-more.field-0.0 in
+    next_still (λ (pairs : List Pair). settings pairs target) (pairs_spread target) c.args.pairs.now c.loop-pair.pair-index pair pair c.loop-pair-test.true c.pair-item.is t c.args.names.now.names mid now fault c.from_residual.result c.loop-pair.invariant.prefix c.from_residual.ensures.1
+    (one_caused (commands.Set target pair.key pair.value) t mid now fault c.set.ensures.prefix (c.in_err-more.ensures.still tells))
+
+pub returns-in_err-both-clause-still : goal.returns-in_err-both-clause-still
+returns-in_err-both-clause-still g c tells =
+    let t = g.S.Reads.state c.set.new.space in
+    fault_exit (λ f. f) (IsListCaused (settings c.args.pairs.now c.args.target) t c.args.names.now.names c.set.new.names.names) c.in_err-both.field-0.0 c.from_residual-in_err-both.result c.from_residual-in_err-both.ensures.1 (inl c.in_err-both.ensures.memory)

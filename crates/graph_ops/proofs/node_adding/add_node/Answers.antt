@@ -8,7 +8,7 @@ use Rattle.rec_bytes.specs.declared.meta.Meta.{Meta}
 use Rattle.rec_bytes.specs.Format as format
 use Rattle.store_rules.specs.Writes.{WritesBeside}
 use Rattle.prop_store.specs.declared.owner.Owner.{Owner}
-use Rattle.graph_ops.specs.Assigning.{CanPut, HasPropertyRoom, PutsPairs, assigned_blocks, pairs_of}
+use Rattle.graph_ops.specs.Assigning.{CanPut, HasPropertyRoom, IsPutCause, PutsPairs, assigned_blocks, pairs_of}
 use Rattle.graph_ops.specs.Change.{IsCounted, IsRefusal, MakesChange}
 use Rattle.graph_ops.specs.ChangeFault.{IsOutside, LeavesSpace}
 use Rattle.graph_ops.specs.NodeAdding.{PutsNode}
@@ -22,7 +22,7 @@ use Rattle.graph_ops.proofs.NodeAdded.{can_put, full_fault, full_refused, line_r
 use Rattle.graph_ops.proofs.Reasons.{outside_refused}
 use Rattle.store_rules.proofs.WriteLaws.{beside_then, beside_written, more_written, then_written}
 use Rattle.graph_ops.proofs.Writes.{on_any_err}
-use Rattle.graph_ops.specs.Causes.{IsCaused}
+use Rattle.graph_ops.specs.Causes.{IsCaused, IsStillCaused}
 use Rattle.graph_ops.proofs.Causes.{failure_caused, line_node, put_caused, room_caused}
 use Rattle.graph_ops.specs.Damage.{BlamesAdding, BreaksAdding, IfBlames}
 use Rattle.store_rules.specs.Views.{key_in}
@@ -204,36 +204,47 @@ returns-in_err-put_properties-clause-counts g c tells store =
 pub returns-in_err-test_room-clause-caused : goal.returns-in_err-test_room-clause-caused
 returns-in_err-test_room-clause-caused g c tells =
     let s = g.S.Reads.state c.args.space.now in
+    let names = c.args.names.now.names in
     let command = commands.Node c.args.label.now c.args.pairs.now in
-    fault_exit (λ f. f) (IsCaused command s c.args.names.now.names) c.in_err-test_room.field-0.0 c.from_residual.result c.from_residual.ensures.1
-    (room_caused command s c.args.names.now.names format.nodes_file 1 (inl (refl, refl)) c.in_err-test_room.field-0.0 c.in_err-test_room.ensures.full)
+    fault_exit (λ f. f) (IsCaused command s s names names) c.in_err-test_room.field-0.0 c.from_residual.result c.from_residual.ensures.1
+    (room_caused command s s names names format.nodes_file 1 (inl (refl, refl)) c.in_err-test_room.field-0.0 c.in_err-test_room.ensures.full)
 
 pub returns-in_err-prepared-clause-caused : goal.returns-in_err-prepared-clause-caused
 returns-in_err-prepared-clause-caused g c tells =
     let s = g.S.Reads.state c.args.space.now in
+    let t = g.S.Reads.state c.prepare.new.space in
     let names = c.args.names.now.names in
-    subst (λ l. IfErr c.from_residual-in_err-prepared.result (IsCaused (commands.Node c.args.label.now l) s names)) c.as_slice-pairs.ensures
-    (fault_exit (λ f. f) (IsCaused (commands.Node c.args.label.now c.as_slice-pairs.result.now) s names) c.in_err-prepared.field-0.0 c.from_residual-in_err-prepared.result c.from_residual-in_err-prepared.ensures.1
-    (line_node s names c.args.label.now c.as_slice-pairs.result.now c.in_err-prepared.field-0.0 (c.in_err-prepared.ensures.caused tells)))
+    let now = c.prepare.new.names.names in
+    subst (λ l. IfErr c.from_residual-in_err-prepared.result (IsCaused (commands.Node c.args.label.now l) s t names now)) c.as_slice-pairs.ensures
+    (fault_exit (λ f. f) (IsCaused (commands.Node c.args.label.now c.as_slice-pairs.result.now) s t names now) c.in_err-prepared.field-0.0 c.from_residual-in_err-prepared.result c.from_residual-in_err-prepared.ensures.1
+    (line_node s t names now c.args.label.now c.as_slice-pairs.result.now c.in_err-prepared.field-0.0 (c.in_err-prepared.ensures.caused tells)))
 
 pub returns-in_err-id-clause-caused : goal.returns-in_err-id-clause-caused
 returns-in_err-id-clause-caused g c tells =
     let s = g.S.Reads.state c.args.space.now in
     let u = g.S.Reads.state c.prepare.new.space in
+    let t = g.S.Reads.state c.put_node.new.space in
+    let names = c.args.names.now.names in
+    let now = c.prepare.new.names.names in
     let command = commands.Node c.args.label.now c.args.pairs.now in
     let live = ap (λ (m : Meta). m.live) (c.in_ok-prepared.ensures.metas tells).nodes in
-    fault_exit (λ f. f) (IsCaused command s c.args.names.now.names) c.in_err-id.field-0.0 c.from_residual-in_err-id.result c.from_residual-in_err-id.ensures.1
-    (failure_caused command s c.args.names.now.names c.in_err-id.field-0.0
+    fault_exit (λ f. f) (IsCaused command s t names now) c.in_err-id.field-0.0 c.from_residual-in_err-id.result c.from_residual-in_err-id.ensures.1
+    (failure_caused command s t names now c.in_err-id.field-0.0
     (c.in_err-id.ensures.failure tells (room_still s u format.nodes_file 1 live ((g.met.S.Reads.onward_shape _ _ c.prepare.ensures.onward)) c.in_ok-test_room.ensures.room)))
 
 pub returns-in_err-put_properties-clause-caused : goal.returns-in_err-put_properties-clause-caused
 returns-in_err-put_properties-clause-caused g c tells =
     let s = g.S.Reads.state c.args.space.now in
-    let v = g.S.Reads.state c.put_node.new.space in
-    let command = commands.Node c.args.label.now c.args.pairs.now in
-    let shape = (g.met.S.Reads.onward_shape _ _ c.put_node.ensures.onward) ∙ (g.met.S.Reads.onward_shape _ _ c.prepare.ensures.onward) in
-    fault_exit (λ f. f) (IsCaused command s c.args.names.now.names) c.in_err-put_properties.field-0.0 c.from_residual-in_err-put_properties.result c.from_residual-in_err-put_properties.ensures.1
-    (put_caused command s c.args.names.now.names v.shape shape tt c.in_err-put_properties.field-0.0 (c.in_err-put_properties.ensures.caused tells))
+    let t = g.S.Reads.state c.put_properties.new.space in
+    let names = c.args.names.now.names in
+    let now = c.prepare.new.names.names in
+    let pairs = c.as_slice-pairs.result.now in
+    let items = c.in_ok-prepared.prepared.assigned.items in
+    let needs = c.in_ok-prepared.ensures.needs in
+    let told = subst (λ l. IsPutCause t (length l) (assigned_blocks pairs l) c.in_err-put_properties.field-0.0) c.deref.ensures.0 (c.in_err-put_properties.ensures.caused tells) in
+    subst (λ l. IfErr c.from_residual-in_err-put_properties.result (IsCaused (commands.Node c.args.label.now l) s t names now)) c.as_slice-pairs.ensures
+    (fault_exit (λ f. f) (IsCaused (commands.Node c.args.label.now pairs) s t names now) c.in_err-put_properties.field-0.0 c.from_residual-in_err-put_properties.result c.from_residual-in_err-put_properties.ensures.1
+    (put_caused (commands.Node c.args.label.now pairs) s t names now pairs (length items) (assigned_blocks pairs items) needs.0 needs.1 (λ file any. any) c.in_err-put_properties.field-0.0 told))
 
 -- ---- which record is damaged
 pub returns-in_err-test_room-clause-damaged : goal.returns-in_err-test_room-clause-damaged
@@ -280,3 +291,57 @@ returns-in_err-id-clause-cause g c =
 pub returns-in_err-put_properties-clause-cause : goal.returns-in_err-put_properties-clause-cause
 returns-in_err-put_properties-clause-cause g c =
     change_cause_passed _ _ _ c.from_residual-in_err-put_properties.result c.in_err-put_properties.field-0.0 (later_on c.in_ok-prepared.ensures.cause.later c.in_ok-id.ensures.cause.later) c.in_err-put_properties.ensures.cause c.from_residual-in_err-put_properties.ensures.1
+
+-- ---- and by the space as it is left alone
+
+pub returns-in_err-test_room-clause-still : goal.returns-in_err-test_room-clause-still
+returns-in_err-test_room-clause-still g c tells =
+    let s = g.S.Reads.state c.args.space.now in
+    let names = c.args.names.now.names in
+    let command = commands.Node c.args.label.now c.args.pairs.now in
+    let fault = c.in_err-test_room.field-0.0 in
+    fault_exit (λ f. f) (IsStillCaused command s names names) fault c.from_residual.result c.from_residual.ensures.1
+    (record { caused = room_caused command s s names names format.nodes_file 1 (inl (refl, refl)) fault c.in_err-test_room.ensures.full; damaged = room_blamed _ s format.nodes_file 1 fault c.in_err-test_room.ensures.full })
+
+pub returns-in_err-prepared-clause-still : goal.returns-in_err-prepared-clause-still
+returns-in_err-prepared-clause-still g c tells =
+    let t = g.S.Reads.state c.prepare.new.space in
+    let names = c.args.names.now.names in
+    let now = c.prepare.new.names.names in
+    let pairs = c.as_slice-pairs.result.now in
+    let fault = c.in_err-prepared.field-0.0 in
+    let why = c.in_err-prepared.ensures.still tells in
+    subst (λ l. IfErr c.from_residual-in_err-prepared.result (IsStillCaused (commands.Node c.args.label.now l) t names now)) c.as_slice-pairs.ensures
+    (fault_exit (λ f. f) (IsStillCaused (commands.Node c.args.label.now pairs) t names now) fault c.from_residual-in_err-prepared.result c.from_residual-in_err-prepared.ensures.1
+    (record { caused = line_node t t names now c.args.label.now pairs fault why; damaged = line_blamed _ t names c.args.label.now pairs fault why }))
+
+pub returns-in_err-id-clause-still : goal.returns-in_err-id-clause-still
+returns-in_err-id-clause-still g c tells =
+    let s = g.S.Reads.state c.args.space.now in
+    let u = g.S.Reads.state c.prepare.new.space in
+    let t = g.S.Reads.state c.put_node.new.space in
+    let names = c.args.names.now.names in
+    let now = c.prepare.new.names.names in
+    let command = commands.Node c.args.label.now c.args.pairs.now in
+    let fault = c.in_err-id.field-0.0 in
+    let live = ap (λ (m : Meta). m.live) (c.in_ok-prepared.ensures.metas tells).nodes in
+    fault_exit (λ f. f) (IsStillCaused command t names now) fault c.from_residual-in_err-id.result c.from_residual-in_err-id.ensures.1
+    (record {
+      caused = failure_caused command t t names now fault (c.in_err-id.ensures.failure tells (room_still s u format.nodes_file 1 live ((g.met.S.Reads.onward_shape _ _ c.prepare.ensures.onward)) c.in_ok-test_room.ensures.room));
+      damaged = c.in_err-id.ensures.still tells;
+    })
+
+pub returns-in_err-put_properties-clause-still : goal.returns-in_err-put_properties-clause-still
+returns-in_err-put_properties-clause-still g c tells =
+    let t = g.S.Reads.state c.put_properties.new.space in
+    let names = c.args.names.now.names in
+    let now = c.prepare.new.names.names in
+    let pairs = c.as_slice-pairs.result.now in
+    let command = commands.Node c.args.label.now pairs in
+    let items = c.in_ok-prepared.prepared.assigned.items in
+    let needs = c.in_ok-prepared.ensures.needs in
+    let fault = c.in_err-put_properties.field-0.0 in
+    let told = subst (λ l. IsPutCause t (length l) (assigned_blocks pairs l) fault) c.deref.ensures.0 (c.in_err-put_properties.ensures.caused tells) in
+    subst (λ l. IfErr c.from_residual-in_err-put_properties.result (IsStillCaused (commands.Node c.args.label.now l) t names now)) c.as_slice-pairs.ensures
+    (fault_exit (λ f. f) (IsStillCaused command t names now) fault c.from_residual-in_err-put_properties.result c.from_residual-in_err-put_properties.ensures.1
+    (record { caused = put_caused command t t names now pairs (length items) (assigned_blocks pairs items) needs.0 needs.1 (λ file any. any) fault told; damaged = c.in_err-put_properties.ensures.still tells }))

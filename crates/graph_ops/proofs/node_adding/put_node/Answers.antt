@@ -11,7 +11,8 @@ use Rattle.graph_ops.proofs.NodePut.{puts_node}
 use Rattle.graph_ops.proofs.Takes.{store_can_take, take_fails, take_outside, taken-shape}
 use Rattle.store_rules.proofs.WriteLaws.{among_metas, beside_then, then_written, this_written}
 use Rattle.graph_ops.proofs.Writes.{on_any_err, read_exit, record_written, taken_written}
-use Rattle.graph_ops.specs.Damage.{AddsElement, IfBlames}
+use Rattle.graph_ops.specs.Damage.{AddsElement, BlamesBroken, IfBlames}
+use Rattle.graph_ops.proofs.Causes.{take_blamed_still}
 use Rattle.id_freelist.specs.Taking.{IsTakeDamage}
 use Rattle.graph_ops.specs.NodeAdding.{new_row}
 use Rattle.graph_ops.proofs.Adding.{adds_record, space_blamed, take_blamed}
@@ -82,3 +83,13 @@ returns-clause-adds g c tells =
 pub returns-in_err-save-clause-cause : goal.returns-in_err-save-clause-cause
 returns-in_err-save-clause-cause g c =
     space_cause_passed _ _ _ c.from_residual-in_err-save.result c.in_err-save.field-0.0 c.in_ok-id.ensures.cause.later c.in_err-save.ensures.cause c.from_residual-in_err-save.ensures.1
+
+pub returns-in_err-id-clause-still : goal.returns-in_err-id-clause-still
+returns-in_err-id-clause-still g c tells =
+    let s = g.S.Reads.state c.args.space.now in
+    let t = g.S.Reads.state c.take.new.space in
+    fault_exit of_take (BlamesBroken t) c.in_err-id.field-0.0 c.from_residual.result c.from_residual.ensures.1 (take_blamed_still s t c.in_err-id.field-0.0 (c.in_err-id.ensures.damaged tells) c.in_err-id.ensures.err)
+
+pub returns-in_err-save-clause-still : goal.returns-in_err-save-clause-still
+returns-in_err-save-clause-still g c tells =
+    fault_exit of_space (BlamesBroken (g.S.Reads.state c.save.new.space)) c.in_err-save.field-0.0 c.from_residual-in_err-save.result c.from_residual-in_err-save.ensures.1 (space_blamed _ c.in_err-save.field-0.0)

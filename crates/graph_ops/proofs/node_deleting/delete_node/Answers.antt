@@ -2,6 +2,7 @@ use Rattle.std.proofs.Common.{◌≡◌, ◌∙◌, ◌+◌, [], ◌∷◌, sym,
 use Rattle.plain_graph.specs.Reply.{Done}
 use Rattle.plain_graph.specs.declared.command.Command.TheVariants as commands
 use Rattle.plain_graph.specs.declared.command.Target.TheVariants as targets
+use Rattle.graph_ops.specs.declared.change_fault.ChangeFault.TheVariants.{HasRelationships, NoNode}
 use Rattle.prop_store.specs.Changing.{DropsAll, HasElement}
 use Rattle.prop_store.specs.Touching.{TouchesProperties}
 use Rattle.prop_store.specs.declared.owner.Owner.{Owner}
@@ -20,8 +21,8 @@ use Rattle.graph_ops.proofs.Elements.{node_loaded, node_missing, same_node, used
 use Rattle.graph_ops.specs.Owners.{owner_of}
 use Rattle.prop_store.specs.Owner.{IsInUse}
 use Rattle.graph_ops.proofs.Broken.{drop_cause, node_cause, node_in_use}
-use Rattle.graph_ops.specs.Causes.{IsCaused}
-use Rattle.graph_ops.proofs.Causes.{failure_caused}
+use Rattle.graph_ops.specs.Causes.{IsCaused, IsStillCaused}
+use Rattle.graph_ops.proofs.Causes.{any_blamed, caused_left, failure_caused}
 use Rattle.graph_ops.proofs.Exits.{fault_exit, fault_fails, row_fails, space_fails}
 use Rattle.graph_ops.proofs.Setting.{has_owner, prop_refused}
 use Rattle.graph_ops.proofs.Readings.{made_read, store_read, there_read}
@@ -158,8 +159,10 @@ pub returns-in_err-node-clause-caused : goal.returns-in_err-node-clause-caused
 returns-in_err-node-clause-caused g c tells =
     let command = commands.Delete (targets.Node c.args.id) in
     let s = g.S.Reads.state c.args.space.now in
-    fault_exit of_row (IsCaused command s c.args.names.now.names) c.in_err-node.field-0.0 c.from_residual.result c.from_residual.ensures.1
-    (failure_caused command s c.args.names.now.names (of_row c.in_err-node.field-0.0) (row_fails c.in_err-node.field-0.0))
+    let t = g.S.Reads.state c.load.new.space in
+    let names = c.args.names.now.names in
+    fault_exit of_row (IsCaused command s t names names) c.in_err-node.field-0.0 c.from_residual.result c.from_residual.ensures.1
+    (failure_caused command s t names names (of_row c.in_err-node.field-0.0) (row_fails c.in_err-node.field-0.0))
 
 pub returns-in_default-clause-caused : goal.returns-in_default-clause-caused
 returns-in_default-clause-caused g c tells = (refl, sym (sym c.in_default.is ∙ c.in_ok-node.ensures.found tells))
@@ -172,15 +175,19 @@ pub returns-in_err-dropped-clause-caused : goal.returns-in_err-dropped-clause-ca
 returns-in_err-dropped-clause-caused g c tells =
     let command = commands.Delete (targets.Node c.args.id) in
     let s = g.S.Reads.state c.args.space.now in
-    fault_exit of_fault (IsCaused command s c.args.names.now.names) c.in_err-dropped.field-0.0 c.from_residual-in_err-dropped.result c.from_residual-in_err-dropped.ensures.1
-    (failure_caused command s c.args.names.now.names (of_fault c.in_err-dropped.field-0.0) (fault_fails c.in_err-dropped.field-0.0))
+    let t = g.S.Reads.state c.drop_all.new.space in
+    let names = c.args.names.now.names in
+    fault_exit of_fault (IsCaused command s t names names) c.in_err-dropped.field-0.0 c.from_residual-in_err-dropped.result c.from_residual-in_err-dropped.ensures.1
+    (failure_caused command s t names names (of_fault c.in_err-dropped.field-0.0) (fault_fails c.in_err-dropped.field-0.0))
 
 pub returns-in_err-give-clause-caused : goal.returns-in_err-give-clause-caused
 returns-in_err-give-clause-caused g c tells =
     let command = commands.Delete (targets.Node c.args.id) in
     let s = g.S.Reads.state c.args.space.now in
-    fault_exit of_space (IsCaused command s c.args.names.now.names) c.in_err-give.field-0.0 c.from_residual-in_err-give.result c.from_residual-in_err-give.ensures.1
-    (failure_caused command s c.args.names.now.names (of_space c.in_err-give.field-0.0) (space_fails c.in_err-give.field-0.0))
+    let t = g.S.Reads.state c.give.new.space in
+    let names = c.args.names.now.names in
+    fault_exit of_space (IsCaused command s t names names) c.in_err-give.field-0.0 c.from_residual-in_err-give.result c.from_residual-in_err-give.ensures.1
+    (failure_caused command s t names names (of_space c.in_err-give.field-0.0) (space_fails c.in_err-give.field-0.0))
 
 pub returns-in_err-dropped-clause-cause : goal.returns-in_err-dropped-clause-cause
 returns-in_err-dropped-clause-cause g c =
@@ -189,3 +196,49 @@ returns-in_err-dropped-clause-cause g c =
 pub returns-in_err-give-clause-cause : goal.returns-in_err-give-clause-cause
 returns-in_err-give-clause-cause g c =
     space_cause_passed _ _ _ c.from_residual-in_err-give.result c.in_err-give.field-0.0 (later_on c.in_ok-node.ensures.cause.later c.in_ok-dropped.ensures.cause.later) c.in_err-give.ensures.cause c.from_residual-in_err-give.ensures.1
+
+-- ---- and by the space as it is left alone
+
+pub returns-in_err-node-clause-still : goal.returns-in_err-node-clause-still
+returns-in_err-node-clause-still g c tells =
+    let t = g.S.Reads.state c.load.new.space in
+    let names = c.args.names.now.names in
+    let command = commands.Delete (targets.Node c.args.id) in
+    let fault = of_row c.in_err-node.field-0.0 in
+    fault_exit of_row (IsStillCaused command t names names) c.in_err-node.field-0.0 c.from_residual.result c.from_residual.ensures.1 (record { caused = failure_caused command t t names names fault (row_fails c.in_err-node.field-0.0); damaged = any_blamed _ (λ damage. tt) fault })
+
+pub returns-in_err-dropped-clause-still : goal.returns-in_err-dropped-clause-still
+returns-in_err-dropped-clause-still g c tells =
+    let t = g.S.Reads.state c.drop_all.new.space in
+    let names = c.args.names.now.names in
+    let command = commands.Delete (targets.Node c.args.id) in
+    let fault = of_fault c.in_err-dropped.field-0.0 in
+    fault_exit of_fault (IsStillCaused command t names names) c.in_err-dropped.field-0.0 c.from_residual-in_err-dropped.result c.from_residual-in_err-dropped.ensures.1 (record { caused = failure_caused command t t names names fault (fault_fails c.in_err-dropped.field-0.0); damaged = any_blamed _ (λ damage. tt) fault })
+
+pub returns-in_err-give-clause-still : goal.returns-in_err-give-clause-still
+returns-in_err-give-clause-still g c tells =
+    let t = g.S.Reads.state c.give.new.space in
+    let names = c.args.names.now.names in
+    let command = commands.Delete (targets.Node c.args.id) in
+    let fault = of_space c.in_err-give.field-0.0 in
+    fault_exit of_space (IsStillCaused command t names names) c.in_err-give.field-0.0 c.from_residual-in_err-give.result c.from_residual-in_err-give.ensures.1 (record { caused = failure_caused command t t names names fault (space_fails c.in_err-give.field-0.0); damaged = any_blamed _ (λ damage. tt) fault })
+
+pub returns-in_default-clause-still : goal.returns-in_default-clause-still
+returns-in_default-clause-still g c tells =
+    let s = g.S.Reads.state c.args.space.now in
+    let t = g.S.Reads.state c.load.new.space in
+    let names = c.args.names.now.names in
+    let read = same g (goal.at.returns-in_default-clause-still g c).After-load in
+    record { caused = caused_left (commands.Delete (targets.Node c.args.id)) s t t names names read (NoNode c.args.id) (refl, sym (sym c.in_default.is ∙ c.in_ok-node.ensures.found tells)); damaged = tt }
+
+pub returns-then-node-ne0-clause-still : goal.returns-then-node-ne0-clause-still
+returns-then-node-ne0-clause-still g c tells =
+    let s = g.S.Reads.state c.args.space.now in
+    let t = g.S.Reads.state c.load.new.space in
+    let names = c.args.names.now.names in
+    let read = same g (goal.at.returns-then-node-ne0-clause-still g c).After-load in
+    record {
+      caused = caused_left (commands.Delete (targets.Node c.args.id)) s t t names names read (HasRelationships c.args.id c.in-Some.node.degree)
+          (refl, record { row = c.in-Some.node; found = sym (sym c.in-Some.is ∙ c.in_ok-node.ensures.found tells); is = refl }, c.if-node-ne0.true);
+      damaged = tt;
+    }

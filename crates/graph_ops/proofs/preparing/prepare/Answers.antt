@@ -1,5 +1,5 @@
 use Rattle.std.specs.Prelude.{Contains}
-use Rattle.std.proofs.Common.{◌≢◌, ◌++◌, ◌∷◌, Some, length, ◌∙◌, sym, ap, subst, append_assoc, arith, refl}
+use Rattle.std.proofs.Common.{◌≢◌, ◌++◌, ◌∷◌, Some, length, ◌∙◌, sym, ap, subst, append_assoc, inl, inr, arith, refl}
 use Rattle.plain_graph.specs.Graph.{UsesName}
 use Rattle.plain_graph.specs.Names.{IsShortName}
 use Rattle.plain_graph.specs.Properties.{keys_in}
@@ -167,6 +167,13 @@ returns-clause-weighs g c =
     let m = c.count.ensures.value in
     omega arith
 
+pub returns-clause-needs : goal.returns-clause-needs
+returns-clause-needs g c =
+    let names = c.assign_pairs.new.names.names in
+    let pairs = c.args.pairs.now in
+    let items = c.in_ok-assigned.assigned.items in
+    (inl (refl, length-assigned names pairs items c.in_ok-assigned.ensures.assigned), inr (refl, blocks-assigned names pairs items c.in_ok-assigned.ensures.assigned))
+
 pub returns-clause-prefix : goal.returns-clause-prefix
 returns-clause-prefix g c =
     let one = name_prefix c.args.names.now.names c.as_bytes.result.now c.intern.new.self.names c.in_ok-label.ensures.names in
@@ -229,3 +236,32 @@ returns-in_err-assigned-clause-cause g c =
 pub returns-in_err-blocks-clause-cause : goal.returns-in_err-blocks-clause-cause
 returns-in_err-blocks-clause-cause g c =
     reserve_refusal_cause _ _ c.from_residual-in_err-blocks.result c.in_err-blocks.field-0.0 c.in_err-blocks.ensures.refused (later_on c.in_ok-label.ensures.cause.later c.in_ok-assigned.ensures.cause.later) c.from_residual-in_err-blocks.ensures.1
+
+-- ---- and by the space as it is left
+
+pub returns-in_err-label-clause-still : goal.returns-in_err-label-clause-still
+returns-in_err-label-clause-still g c tells =
+    let t = g.S.Reads.state c.intern.new.space in
+    let old = c.args.names.now.names in
+    fault_exit of_intern (IsLineCause t old c.args.label.now c.args.pairs.now) c.in_err-label.field-0.0 c.from_residual.result c.from_residual.ensures.1
+    (label_caused t old c.args.label.now c.args.pairs.now c.in_err-label.field-0.0 (rw c.as_bytes.ensures at c.in_err-label.ensures.full_only))
+
+pub returns-in_err-assigned-clause-still : goal.returns-in_err-assigned-clause-still
+returns-in_err-assigned-clause-still g c tells =
+    let t = g.S.Reads.state c.assign_pairs.new.space in
+    let old = c.args.names.now.names in
+    fault_exit (λ f. f) (IsLineCause t old c.args.label.now c.args.pairs.now) c.in_err-assigned.field-0.0 c.from_residual-in_err-assigned.result c.from_residual-in_err-assigned.ensures.1
+    (assign_caused t old c.intern.new.self.names c.args.label.now c.args.pairs.now (uses g (goal.at.returns-in_err-assigned-clause-still g c).In_ok-label) c.in_err-assigned.field-0.0 c.in_err-assigned.ensures.refused c.in_err-assigned.ensures.counts)
+
+pub returns-in_err-blocks-clause-still : goal.returns-in_err-blocks-clause-still
+returns-in_err-blocks-clause-still g c tells =
+    let u = g.S.Reads.state c.assign_pairs.new.space in
+    let old = c.args.names.now.names in
+    let names = c.assign_pairs.new.names.names in
+    let pairs = c.args.pairs.now in
+    let items = c.in_ok-assigned.assigned.items in
+    let fault = c.in_err-blocks.field-0.0 in
+    fault_exit (λ f. f) (IsLineCause u old c.args.label.now pairs) fault c.from_residual-in_err-blocks.result c.from_residual-in_err-blocks.ensures.1
+    (reserve_caused u u old c.args.label.now pairs refl (length items) (assigned_blocks pairs items) (length-assigned names pairs items c.in_ok-assigned.ensures.assigned) (blocks-assigned names pairs items c.in_ok-assigned.ensures.assigned)
+    (record { nodes = refl; edges = refl; properties = refl; blocks = refl }) fault
+    (subst (λ l. IsReserveFault u (length l) (assigned_blocks pairs l) fault) c.deref.ensures.0 c.in_err-blocks.ensures.refused))

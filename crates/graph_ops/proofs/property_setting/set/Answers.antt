@@ -8,7 +8,9 @@ use Rattle.plain_graph.specs.declared.command.Command.TheVariants as commands
 use Rattle.prop_store.specs.Changing.{HasKey, IsSetRefusal}
 use Rattle.prop_store.specs.declared.owner.Owner.{Owner}
 use Rattle.prop_store.specs.declared.set_fault.SetFault.{SetFault}
-use Rattle.prop_store.specs.SetFault.{IsExact}
+use Rattle.prop_store.specs.Finding.{IsCrowded, LacksMet}
+use Rattle.prop_store.specs.Reading.{properties_met}
+use Rattle.prop_store.specs.SetFault.{IsSetCause}
 use Rattle.rec_bytes.specs.declared.shape.Shape.{Shape}
 use Rattle.rec_bytes.specs.RecordFiles.{is_meta_file}
 use Rattle.store_rules.specs.Writes.{WritesAtMost}
@@ -25,13 +27,14 @@ use Rattle.graph_ops.proofs.Setting.{few_blocks, set_known, set_missing, set_ref
 use Rattle.graph_ops.proofs.Readings.{made_read, store_read, there_read}
 use Rattle.store_rules.proofs.WriteLaws.{more_written, none_written, then_written}
 use Rattle.graph_ops.proofs.Writes.{on_any_err, own_record, touched_written}
-use Rattle.graph_ops.specs.Causes.{IsCaused}
+use Rattle.graph_ops.specs.Causes.{IsCaused, IsStillCaused}
 use Rattle.graph_ops.specs.Damage.{BlamesGiven}
 use Rattle.graph_ops.specs.Owners.{owner_of}
 use Rattle.prop_store.specs.Owner.{IsInUse}
 use Rattle.rec_bytes.specs.Space.{SameButReads, State}
 use Rattle.graph_ops.proofs.Broken.{blames_more, interned_in_use, interned_read, key_blamed, value_blamed}
-use Rattle.graph_ops.proofs.Causes.{absent_caused, add_caused, key_caused, put_caused}
+use Rattle.graph_ops.proofs.Adding.{interned_beside, met_beside}
+use Rattle.graph_ops.proofs.Causes.{absent_caused, broken_left, caused_left, intern_blamed, key_caused, set_blamed, set_cause_map, set_caused}
 use Rattle.graph_ops.proofs.DiskCauses.{intern_cause_passed, later_on, set_cause_passed}
 use Rattle.graph_ops.proofs.property_setting.set.Goals as goal
 use Rattle.graph_ops.proofs.property_setting.set.Goals.{After-intern, After-set}
@@ -103,7 +106,7 @@ returns-in_err-released-clause-leaves g c tells =
     let s = g.S.Reads.state c.args.space.now in
     let u = g.S.Reads.state c.set.new.space in
     fault_exit of_set (LeavesSpace s u) c.in_err-released.field-0.0 c.from_residual-in_err-released.result c.from_residual-in_err-released.ensures.1
-    (late_leaves s u (of_set c.in_err-released.field-0.0) (set_late c.in_err-released.field-0.0 (c.in_err-released.ensures.full tells)))
+    (late_leaves s u (of_set c.in_err-released.field-0.0) (set_late _ _ _ (g.S.Reads.state c.set.new.space) c.in_err-released.field-0.0 (c.in_err-released.ensures.caused tells)))
 
 -- the element was read, and the key has its record
 key_written : (g : Over) (c : After-intern g) → WritesAtMost 1 (g.S.Reads.state c.args.space.now) (g.S.Reads.state c.intern.new.space)
@@ -175,35 +178,51 @@ pub returns-in_err-released-clause-counts : goal.returns-in_err-released-clause-
 returns-in_err-released-clause-counts g c tells =
     let s = g.S.Reads.state c.args.space.now in
     let m = g.S.Reads.state c.find_owner.new.space in
-    let t = g.S.Reads.state c.intern.new.space in
-    let shape : t.shape ≡ s.shape = g.met.S.Reads.onward_shape _ _ c.intern.ensures.onward ∙ g.met.S.Reads.onward_shape _ _ c.find_owner.ensures.onward in
+    let t = g.S.Reads.state c.set.new.space in
+    let shape : t.shape ≡ s.shape = g.met.S.Reads.onward_shape _ _ c.set.ensures.onward ∙ g.met.S.Reads.onward_shape _ _ c.intern.ensures.onward ∙ g.met.S.Reads.onward_shape _ _ c.find_owner.ensures.onward in
     fault_exit of_set (IsSetCount s.shape) c.in_err-released.field-0.0 c.from_residual-in_err-released.result c.from_residual-in_err-released.ensures.1
-    (set_exact s.shape c.in_err-released.field-0.0 (subst (λ (h : Shape). IsExact h c.in_err-released.field-0.0) shape (c.in_err-released.ensures.exact tells)))
+    (subst (λ (h : Shape). IsSetCount h (of_set c.in_err-released.field-0.0)) shape (set_exact _ _ _ t c.in_err-released.field-0.0 (c.in_err-released.ensures.caused tells)))
 
 -- ---- why it is refused over any records
 pub returns-in_err-owner-clause-caused : goal.returns-in_err-owner-clause-caused
 returns-in_err-owner-clause-caused g c tells =
     let s = g.S.Reads.state c.args.space.now in
+    let t = g.S.Reads.state c.find_owner.new.space in
+    let names = c.args.names.now.names in
     let command = commands.Set c.args.target c.args.key.now c.args.value.now in
-    fault_exit (λ f. f) (IsCaused command s c.args.names.now.names) c.in_err-owner.field-0.0 c.from_residual.result c.from_residual.ensures.1
-    (absent_caused command s c.args.names.now.names c.args.target (λ id e. e) (λ id e. e) c.in_err-owner.field-0.0 (c.in_err-owner.ensures.absent tells))
+    fault_exit (λ f. f) (IsCaused command s t names names) c.in_err-owner.field-0.0 c.from_residual.result c.from_residual.ensures.1
+    (absent_caused command s t names names c.args.target (λ id e. e) (λ id e. e) c.in_err-owner.field-0.0 (c.in_err-owner.ensures.absent tells))
 
 pub returns-in_err-number-clause-caused : goal.returns-in_err-number-clause-caused
 returns-in_err-number-clause-caused g c tells =
     let s = g.S.Reads.state c.args.space.now in
+    let t = g.S.Reads.state c.intern.new.space in
     let names = c.args.names.now.names in
-    fault_exit of_intern (IsCaused (commands.Set c.args.target c.args.key.now c.args.value.now) s names) c.in_err-number.field-0.0 c.from_residual-in_err-number.result c.from_residual-in_err-number.ensures.1
-    (key_caused s names c.args.target c.args.key.now c.args.value.now c.in_err-number.field-0.0 (subst (λ k. IsFullFault names k c.in_err-number.field-0.0) c.as_bytes.ensures c.in_err-number.ensures.full_only))
+    let now = c.intern.new.self.names in
+    let command = commands.Set c.args.target c.args.key.now c.args.value.now in
+    fault_exit of_intern (IsCaused command s t names now) c.in_err-number.field-0.0 c.from_residual-in_err-number.result c.from_residual-in_err-number.ensures.1
+    (key_caused s t names now c.args.target c.args.key.now c.args.value.now c.in_err-number.field-0.0 (subst (λ k. IsFullFault names k c.in_err-number.field-0.0) c.as_bytes.ensures c.in_err-number.ensures.full_only))
 
 pub returns-in_err-released-clause-caused : goal.returns-in_err-released-clause-caused
 returns-in_err-released-clause-caused g c tells =
     let s = g.S.Reads.state c.args.space.now in
-    let t = g.S.Reads.state c.intern.new.space in
-    let command = commands.Set c.args.target c.args.key.now c.args.value.now in
-    let shape = (g.met.S.Reads.onward_shape _ _ c.intern.ensures.onward) ∙ (g.met.S.Reads.onward_shape _ _ c.find_owner.ensures.onward) in
-    fault_exit of_set (IsCaused command s c.args.names.now.names) c.in_err-released.field-0.0 c.from_residual-in_err-released.result c.from_residual-in_err-released.ensures.1
-    (put_caused command s c.args.names.now.names s.shape refl tt (of_set c.in_err-released.field-0.0)
-    (add_caused t s.shape shape c.in_err-released.field-0.0 (c.in_err-released.ensures.full tells) (c.in_err-released.ensures.exact tells)))
+    let m = g.S.Reads.state c.find_owner.new.space in
+    let n = g.S.Reads.state c.intern.new.space in
+    let t = g.S.Reads.state c.set.new.space in
+    let names = c.args.names.now.names in
+    let now = c.intern.new.self.names in
+    let target = c.args.target in
+    let number = c.in_ok-number.number in
+    let blocks = blocks_of c.args.value.now in
+    let command = commands.Set target c.args.key.now c.args.value.now in
+    let fault = c.in_err-released.field-0.0 in
+    let numbered = c.in_ok-number.ensures.number ∙ ap (λ k. Some k) c.as_bytes.ensures in
+    let met = met_beside m.records n.records target (interned_beside m n names c.as_bytes.result.now (c.in_ok-number.ensures.ok tells))
+    ∙ ap (λ (z : State). properties_met z.records (owner_of target)) c.find_owner.ensures.state in
+    let only = set_cause_map _ _ (IsCrowded n.records c.in_ok-owner.owner number) (LacksMet n.records c.in_ok-owner.owner number) (λ k. k.0) (λ k. k.0) blocks t fault (c.in_err-released.ensures.caused tells) in
+    let why = subst (λ (o : Owner). IsSetCause (IsCrowded n.records o number) (LacksMet n.records o number) blocks t fault) c.in_ok-owner.ensures.owner only in
+    fault_exit of_set (IsCaused command s t names now) fault c.from_residual-in_err-released.result c.from_residual-in_err-released.ensures.1
+    (set_caused s t names now target c.args.key.now c.args.value.now number numbered n.records met fault why)
 
 -- ---- what is damaged
 pub returns-in_err-owner-clause-damaged : goal.returns-in_err-owner-clause-damaged
@@ -246,3 +265,58 @@ returns-in_err-number-clause-cause g c =
 pub returns-in_err-released-clause-cause : goal.returns-in_err-released-clause-cause
 returns-in_err-released-clause-cause g c =
     set_cause_passed _ _ _ c.from_residual-in_err-released.result c.in_err-released.field-0.0 (later_on c.in_ok-owner.ensures.cause.later c.in_ok-number.ensures.cause.later) c.in_err-released.ensures.cause c.from_residual-in_err-released.ensures.1
+
+-- ---- and by the space as it is left alone
+
+pub returns-in_err-owner-clause-still : goal.returns-in_err-owner-clause-still
+returns-in_err-owner-clause-still g c tells =
+    let s = g.S.Reads.state c.args.space.now in
+    let t = g.S.Reads.state c.find_owner.new.space in
+    let names = c.args.names.now.names in
+    let command = commands.Set c.args.target c.args.key.now c.args.value.now in
+    let fault = c.in_err-owner.field-0.0 in
+    fault_exit (λ f. f) (IsStillCaused command t names names) fault c.from_residual.result c.from_residual.ensures.1
+    (record {
+      caused = caused_left command s t t names names c.find_owner.ensures.state fault (absent_caused command s t names names c.args.target (λ id e. e) (λ id e. e) fault (c.in_err-owner.ensures.absent tells));
+      damaged = broken_left s t c.find_owner.ensures.state fault (c.in_err-owner.ensures.damaged tells);
+    })
+
+pub returns-in_err-number-clause-still : goal.returns-in_err-number-clause-still
+returns-in_err-number-clause-still g c tells =
+    let t = g.S.Reads.state c.intern.new.space in
+    let names = c.args.names.now.names in
+    let now = c.intern.new.self.names in
+    let command = commands.Set c.args.target c.args.key.now c.args.value.now in
+    let fault = c.in_err-number.field-0.0 in
+    fault_exit of_intern (IsStillCaused command t names now) fault c.from_residual-in_err-number.result c.from_residual-in_err-number.ensures.1
+    (record {
+      caused = key_caused t t names now c.args.target c.args.key.now c.args.value.now fault (subst (λ k. IsFullFault names k fault) c.as_bytes.ensures c.in_err-number.ensures.full_only);
+      damaged = intern_blamed _ fault;
+    })
+
+pub returns-in_err-released-clause-still : goal.returns-in_err-released-clause-still
+returns-in_err-released-clause-still g c tells =
+    let after = (goal.at.returns-in_err-released-clause-still g c).After-set in
+    let m = g.S.Reads.state c.find_owner.new.space in
+    let n = g.S.Reads.state c.intern.new.space in
+    let t = g.S.Reads.state c.set.new.space in
+    let names = c.args.names.now.names in
+    let now = c.intern.new.self.names in
+    let target = c.args.target in
+    let owner = c.in_ok-owner.owner in
+    let number = c.in_ok-number.number in
+    let blocks = blocks_of c.args.value.now in
+    let key = c.args.key.now in
+    let command = commands.Set target key c.args.value.now in
+    let fault = c.in_err-released.field-0.0 in
+    let numbered = c.in_ok-number.ensures.number ∙ ap (λ k. Some k) c.as_bytes.ensures in
+    let why : IsSetCause (IsCrowded t.records owner number) (LacksMet t.records owner number) blocks t fault
+    = set_cause_map _ _ _ _ (λ k. subst (λ (z : State). IsCrowded z.records owner number) (sym k.1) k.0) (λ k. subst (λ (z : State). LacksMet z.records owner number) (sym k.1) k.0) blocks t fault (c.in_err-released.ensures.caused tells) in
+    let is = subst (λ k. n ≡ interned m names k) (text_is g after) (c.in_ok-number.ensures.ok tells) in
+    let used = subst (λ (z : State). IsInUse z.records (owner_of target)) (sym c.find_owner.ensures.state) (c.in_ok-owner.ensures.in_use tells) in
+    let kept = subst (λ (z : State). IsInUse z.records (owner_of target)) (sym is) (interned_in_use m names key target used) in
+    fault_exit of_set (IsStillCaused command t names now) fault c.from_residual-in_err-released.result c.from_residual-in_err-released.ensures.1
+    (record {
+      caused = set_caused t t names now target key c.args.value.now number numbered t.records refl fault (subst (λ (o : Owner). IsSetCause (IsCrowded t.records o number) (LacksMet t.records o number) blocks t fault) c.in_ok-owner.ensures.owner why);
+      damaged = set_blamed t fault (c.in_err-released.ensures.still tells (subst (IsInUse n.records) (sym c.in_ok-owner.ensures.owner) kept));
+    })

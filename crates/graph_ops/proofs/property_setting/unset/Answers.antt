@@ -11,8 +11,8 @@ use Rattle.graph_ops.specs.Store.{graph_in}
 use Rattle.prop_store.specs.Owner.{IsInUse}
 use Rattle.rec_bytes.specs.Space.{State}
 use Rattle.graph_ops.proofs.Broken.{read_broken}
-use Rattle.graph_ops.specs.Causes.{IsCaused}
-use Rattle.graph_ops.proofs.Causes.{absent_caused, failure_caused}
+use Rattle.graph_ops.specs.Causes.{IsCaused, IsStillCaused}
+use Rattle.graph_ops.proofs.Causes.{absent_caused, any_blamed, caused_left, failure_caused}
 use Rattle.graph_ops.proofs.Exits.{fault_exit, fault_fails}
 use Rattle.graph_ops.proofs.Readings.{made_read, store_read, there_read}
 use Rattle.graph_ops.proofs.Setting.{has_key, prop_refused, unnamed_none, unset_absent, unset_missing, unset_nothing, unset_value}
@@ -99,17 +99,44 @@ returns-in_err-released-clause-damaged g c tells =
 pub returns-in_err-owner-clause-caused : goal.returns-in_err-owner-clause-caused
 returns-in_err-owner-clause-caused g c tells =
     let s = g.S.Reads.state c.args.space.now in
+    let t = g.S.Reads.state c.find_owner.new.space in
+    let names = c.args.names.now.names in
     let command = commands.Unset c.args.target c.args.key.now in
-    fault_exit (λ f. f) (IsCaused command s c.args.names.now.names) c.in_err-owner.field-0.0 c.from_residual.result c.from_residual.ensures.1
-    (absent_caused command s c.args.names.now.names c.args.target (λ id e. e) (λ id e. e) c.in_err-owner.field-0.0 (c.in_err-owner.ensures.absent tells))
+    fault_exit (λ f. f) (IsCaused command s t names names) c.in_err-owner.field-0.0 c.from_residual.result c.from_residual.ensures.1
+    (absent_caused command s t names names c.args.target (λ id e. e) (λ id e. e) c.in_err-owner.field-0.0 (c.in_err-owner.ensures.absent tells))
 
 pub returns-in_err-released-clause-caused : goal.returns-in_err-released-clause-caused
 returns-in_err-released-clause-caused g c tells =
     let s = g.S.Reads.state c.args.space.now in
+    let t = g.S.Reads.state c.unset.new.space in
+    let names = c.args.names.now.names in
     let command = commands.Unset c.args.target c.args.key.now in
-    fault_exit of_fault (IsCaused command s c.args.names.now.names) c.in_err-released.field-0.0 c.from_residual-in_err-released.result c.from_residual-in_err-released.ensures.1
-    (failure_caused command s c.args.names.now.names (of_fault c.in_err-released.field-0.0) (fault_fails c.in_err-released.field-0.0))
+    fault_exit of_fault (IsCaused command s t names names) c.in_err-released.field-0.0 c.from_residual-in_err-released.result c.from_residual-in_err-released.ensures.1
+    (failure_caused command s t names names (of_fault c.in_err-released.field-0.0) (fault_fails c.in_err-released.field-0.0))
 
 pub returns-in_err-released-clause-cause : goal.returns-in_err-released-clause-cause
 returns-in_err-released-clause-cause g c =
     fault_cause_passed _ _ _ c.from_residual-in_err-released.result c.in_err-released.field-0.0 c.in_ok-owner.ensures.cause.later c.in_err-released.ensures.cause c.from_residual-in_err-released.ensures.1
+
+-- ---- and by the space as it is left alone
+
+pub returns-in_err-owner-clause-still : goal.returns-in_err-owner-clause-still
+returns-in_err-owner-clause-still g c tells =
+    let s = g.S.Reads.state c.args.space.now in
+    let t = g.S.Reads.state c.find_owner.new.space in
+    let names = c.args.names.now.names in
+    let command = commands.Unset c.args.target c.args.key.now in
+    let fault = c.in_err-owner.field-0.0 in
+    fault_exit (λ f. f) (IsStillCaused command t names names) fault c.from_residual.result c.from_residual.ensures.1
+    (record {
+      caused = caused_left command s t t names names c.find_owner.ensures.state fault (absent_caused command s t names names c.args.target (λ id e. e) (λ id e. e) fault (c.in_err-owner.ensures.absent tells));
+      damaged = any_blamed _ (λ damage. tt) fault;
+    })
+
+pub returns-in_err-released-clause-still : goal.returns-in_err-released-clause-still
+returns-in_err-released-clause-still g c tells =
+    let t = g.S.Reads.state c.unset.new.space in
+    let names = c.args.names.now.names in
+    let command = commands.Unset c.args.target c.args.key.now in
+    let fault = of_fault c.in_err-released.field-0.0 in
+    fault_exit of_fault (IsStillCaused command t names names) c.in_err-released.field-0.0 c.from_residual-in_err-released.result c.from_residual-in_err-released.ensures.1 (record { caused = failure_caused command t t names names fault (fault_fails c.in_err-released.field-0.0); damaged = any_blamed _ (λ damage. tt) fault })
