@@ -1,11 +1,11 @@
 -- What an entry that was added or taken out leaves of the rule of an index.
-use Rattle.std.proofs.Common.{◌≡◌, ◌≢◌, ◌/◌, ◌%◌, ◌*◌, ◌+◌, ◌&&◌, ◌||◌, not, ⊎_elim, ℕ, Bool, true, false, List, refl, ap, sym, ◌∙◌, subst, arith}
+use Rattle.std.proofs.Common.{◌≡◌, ◌/◌, ◌%◌, ◌*◌, ◌+◌, ◌&&◌, ◌||◌, not, ⊎_elim, ℕ, Bool, true, false, List, refl, ap, sym, ◌∙◌, subst, arith}
 use Rattle.rec_bytes.specs.Format as format
 use Rattle.store_rules.specs.Chains.{In}
 use Rattle.store_rules.specs.Hashes.{bucket_of}
 use Rattle.store_rules.specs.IndexChange.{IsEntryGone, IsEntryMade}
 use Rattle.store_rules.specs.Indexes.{AreIndexed, Entries, Entry, entry_in, heads_of, indexed_key, indexed_label, is_entry, next_entry, with_entry, without_entry}
-use Rattle.store_rules.specs.Views.{Records, kind_at}
+use Rattle.store_rules.specs.Views.{Records}
 use Rattle.store_rules.proofs.ChainLaws.{walk_of_chain}
 use Rattle.store_rules.proofs.ChainSteps.{first_in}
 use Rattle.store_rules.proofs.EntryGone.{entry_cases, leaves}
@@ -13,7 +13,7 @@ use Rattle.store_rules.proofs.EntryMade.{enters}
 use Rattle.store_rules.proofs.IndexFrames.{indexed_same}
 use Rattle.prop_index.specs.Entering.{IsMade}
 use Rattle.prop_index.specs.Finding.{IsPair}
-use Rattle.prop_index.specs.Heads.{IsFoundBucket}
+use Rattle.prop_index.specs.Heads.{BeginsRight, IsFoundBucket}
 use Rattle.prop_index.specs.Leaving.{IsDropped, IsNoneOf, NoneThere, OneGone}
 use Rattle.prop_index.specs.declared.entry_row.Content.{Content}
 use Rattle.prop_index.specs.declared.heads.Bucket.{Bucket}
@@ -58,7 +58,7 @@ module _ (s : Records) (wanted : Entries) (ix : AreIndexed s wanted) (label key 
     one_is : one ≡ record { label = indexed_label s d; key = indexed_key s d; node = content.node; hash = content.hash }
     one_is = λ i. record { label = sym found.pair.0 i; key = sym found.pair.1 i; node = content.node; hash = content.hash }
 
-    pub first_right : bucket.first ≢ format.nil → kind_at s format.index_file bucket.first ≡ format.indexed
+    pub first_right : BeginsRight s bucket
     first_right some =
         let is = bucket-chain s wanted ix label key content.hash bucket found in
         ⊎_elim (λ (n : bucket.first ≡ format.nil). absurd (some n)) (λ (m : In bucket.first xs). is.kind bucket.first m)

@@ -20,6 +20,7 @@ use Rattle.store_rules.specs.Properties.{AreOnce, property_records}
 use Rattle.store_rules.specs.Rows.{ids, if_test}
 use Rattle.store_rules.specs.Views.{NodeRow, Records, high, kind_at, node_at, node_in, rec_at}
 use Rattle.store_rules.proofs.ChainLaws.{walk_of_chain}
+use Rattle.store_rules.proofs.IndexParts.{hash_had}
 use Rattle.store_rules.proofs.OnceLaws.{once_walk}
 use Rattle.store_rules.proofs.NumberLaws.{and_parts, eq_true}
 use Rattle.store_rules.proofs.ViewLaws.{kind_below, some_row}
@@ -52,10 +53,6 @@ value_one (values.Text a) (values.Text b) h = ap (λ t. values.Text t) (slice_cm
 pub has_value-is : (value : Value) (o : Option Value) → has_value value o ≡ true → o ≡ Some value
 has_value-is value None h = absurd (true≢false (sym h))
 has_value-is value (Some other) h = ap (λ v. Some v) (value_one other value h)
-
-pub has_hash-is : (hash : ℕ) (o : Option Value) → has_hash hash o ≡ true → (value : Value) × (o ≡ Some value) × (hash_of value ≡ hash)
-has_hash-is hash None h = absurd (true≢false (sym h))
-has_hash-is hash (Some value) h = (value, refl, eqb-true (hash_of value) hash h)
 
 -- a value of a key at a node of a label: the node is in use, and its properties have the value
 pub record HasNodeValue (records : Records) (label key n : ℕ) (value : Value) : Type 0 where
@@ -137,7 +134,7 @@ module _ (s : State) (store : IsIndexed s.records s.shape) (d : ℕ) (listed : I
 
   -- each entry's node has a value of the entry's hash
   pub has_one : (x : ℕ) → In x entries → (v : Value) × (node_value records label key (entry_node records x) ≡ Some v) × (hash_of v ≡ entry_hash records x)
-  has_one x i = has_hash-is (entry_hash records x) (node_value records label key (entry_node records x)) (is_bucket.wanted_is x i)
+  has_one x i = hash_had (entry_hash records x) (node_value records label key (entry_node records x)) (is_bucket.wanted_is x i)
 
   pub node_of_entry : (x : ℕ) → In x entries → kind_at records format.nodes_file (entry_node records x) ≢ format.free_kind
   node_of_entry x i = let v = has_one x i in (node_value-some records label key (entry_node records x) v.0 v.1).used

@@ -1,14 +1,31 @@
 mod Ascending
 mod Buckets
 mod Changed
+mod Collects
+mod ContentsWanted
+mod DefinitionAdded
+mod FillSteps
+mod FillTouches
 mod Found
 mod Gathers
+mod GoneRules
+mod GraphFound
+mod HeadsAdded
 mod IndexFull
+mod IndexMade
 mod IndexTouches
+mod LeftValues
+mod LinkRules
 mod Lookups
 mod Made
+mod MadeRules
+mod MakeFaults
+mod RecordFits
+mod RecordsAdded
 mod Reread
 mod Searches
+mod Steps
+pub mod Unindexed
 mod Unlinked
-mod Values
+pub mod Values
 mod Walks

@@ -14,6 +14,8 @@ use Rattle.rec_bytes.specs.Space.{SameButReads, State}
 use Rattle.store_rules.specs.Chains.{In, IsWalk}
 use Rattle.store_rules.specs.Hashes.{bucket_of, hash_of}
 use Rattle.store_rules.specs.Indexes.{IsIndexed, entry_node, first_definition, indexed_key, next_definition, wanted_in}
+use Rattle.store_rules.specs.Ranges.{AreInRange}
+use Rattle.store_rules.specs.RuleList.Rule.{Ranges}
 use Rattle.store_rules.specs.Views.{Records, high, kind_at, rec_at}
 use Rattle.store_rules.proofs.PropertyWalks.{walk_is}
 use Rattle.store_rules.proofs.Shapes.{high_most}
@@ -24,6 +26,7 @@ use Rattle.prop_store.specs.Reading.{ReadsAtMost}
 use Rattle.prop_store.proofs.ElementChanges.{has_properties}
 use Rattle.prop_store.proofs.ElementGraphs.{listed_at, owns_listed}
 use Rattle.prop_store.proofs.ReadCounts.{reads_then}
+use Rattle.prop_index.specs.Collecting.{AreNodesReadable}
 use Rattle.prop_index.specs.Gathering.{AreEntries, AreReadable, IsListedNode, count_hashed, node_owner, nodes_with}
 use Rattle.prop_index.specs.Heads.{IsFoundBucket}
 use Rattle.prop_index.specs.Looking.{IsRefusal, ReadsForLookup, found_in, of_fault}
@@ -32,6 +35,7 @@ use Rattle.prop_index.specs.declared.heads.Bucket.{Bucket}
 use Rattle.prop_index.specs.declared.lookup_fault.LookupFault.{LookupFault}
 use Rattle.prop_index.proofs.Buckets.{bucket-chain, chain-entries, chain-reread}
 use Rattle.prop_index.proofs.Found.{found_sorted, node_of_entry, walk}
+use Rattle.prop_index.proofs.Unindexed.{bare, bare_well}
 use Rattle.prop_index.proofs.Reread.{node_after, room_after, same_records}
 
 -- a fault that is no damage is a refusal
@@ -53,17 +57,24 @@ module _ (s : State) (store : IsIndexed s.records s.shape) where
   definitions_are ds walked = walk_is (next_definition s.records) (first_definition s.records) ds store.indexes.definitions walked store.indexes.walk
 
   pub has_room : (file : ℕ) → is_meta_file file ≡ true → HasRoom s file
-  has_room file is = (store.store.ranges.metas file is).high
+  has_room file is = let ranges : AreInRange s.records s.shape = store.rules Ranges refl in (ranges.metas file is).high
 
   -- a node in use can be read
   node_listed : (n : ℕ) → kind_at s.records format.nodes_file n ≢ format.free_kind → IsListedNode s n
   node_listed n used =
       let low : n < high s.records format.nodes_file = kind_below (high s.records format.nodes_file) (rec_at s.records format.nodes_file n) n used in
-      let most = high_most s.records s.shape format.nodes_file store.store.ranges refl in
+      let most = high_most s.records s.shape format.nodes_file (store.rules Ranges refl) refl in
       let is : IsOwner (node_owner n) = record { key = record { file = refl; id = omega arith }; file = inl refl; place = refl } in
-      let has : HasElement s (node_owner n) = record { store = store.store; used = used } in
-      let es = listed_at s (node_owner n) is has in
-      record { room = has_room format.nodes_file refl; low = low; properties = es; has = has_properties s (node_owner n) es (owns_listed s (node_owner n) is has) }
+      -- the index is none of the files that are read
+      let apart : State = record s { records = bare s.records } in
+      let has : HasElement apart (node_owner n) = record { store = bare_well s.records s.shape store.rules; used = used } in
+      let es = listed_at apart (node_owner n) is has in
+      let owned = has_properties apart (node_owner n) es (owns_listed apart (node_owner n) is has) in
+      record { room = has_room format.nodes_file refl; low = low; properties = es; has = record { are = owned.are; ids_low = owned.ids_low; blocks_low = owned.blocks_low } }
+
+  -- each node can be read
+  pub nodes_readable : AreNodesReadable s
+  nodes_readable = record { room = has_room format.nodes_file refl; each = node_listed }
 
   -- ---- the bucket that was found
   module _ (label key : ℕ) (value : Value) (hash : ℕ) (hashed : hash ≡ hash_of value) (bucket : Bucket) (found : IsFoundBucket s.records store.indexes.definitions label key hash bucket)

@@ -17,10 +17,11 @@ use Rattle.store_rules.specs.Indexes.{index_rec}
 use Rattle.store_rules.specs.Views.{Records, high, key_in, kind_at}
 use Rattle.store_rules.specs.IndexChange.{IsEntryMade}
 use Rattle.store_rules.proofs.MetaLaws.{high_fits}
-use Rattle.store_rules.proofs.NumberLaws.{eq_false, eq_true, nat_cases}
+use Rattle.store_rules.proofs.NumberLaws.{nat_cases}
 use Rattle.store_rules.proofs.ViewLaws.{kind_below, kind_low}
 use Rattle.id_freelist.specs.Taking.{HasTaken, first_of, mark_after}
 use Rattle.prop_index.specs.Linking.{backed_entry, entry_fields, entry_record, linked_entry}
+use Rattle.prop_index.proofs.Steps.{backed-none, backed-some, linked-is}
 use Rattle.prop_index.specs.declared.entry_row.Content.{Content}
 use Rattle.prop_index.specs.declared.heads.Slot.{Slot}
 
@@ -56,16 +57,13 @@ module _ (s : Records) (u : State) (slot : Slot) (first id : ℕ) (content : Con
   three = linked_entry u slot first id content
 
   three_is : three ≡ after_set two (at slot.id) 4 slot.place id
-  unfolding linked_entry
-  three_is = refl
+  three_is = linked-is u slot first id content
 
   two_none : first ≡ format.nil → two ≡ one
-  unfolding backed_entry
-  two_none e = rw (eq_true first format.nil e) refl
+  two_none = backed-none one first id
 
   two_some : first ≢ format.nil → two ≡ after_set one (at first) 4 format.indexed_previous id
-  unfolding backed_entry
-  two_some ne = rw (eq_false first format.nil ne) refl
+  two_some = backed-some one first id
 
   -- records of other keys
   one_other : (key : Key) → key ≢ at id → key ≢ meta_key_of format.index_file → one.records key ≡ s key

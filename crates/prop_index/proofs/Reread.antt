@@ -4,9 +4,10 @@ use Rattle.rec_bytes.specs.Format as format
 use Rattle.rec_bytes.specs.Space.{SameButReads, State}
 use Rattle.store_rules.specs.Indexes.{AreIndexed, Entries}
 use Rattle.id_freelist.specs.Taking.{CanTake}
-use Rattle.prop_index.specs.Finding.{AreDefinitions}
+use Rattle.prop_index.specs.Collecting.{AreNodesReadable}
+use Rattle.store_rules.specs.IndexBreaking.{AreDefinitions}
 use Rattle.prop_index.specs.Gathering.{IsListedNode}
-use Rattle.prop_index.specs.Reading.{HasRoom}
+use Rattle.prop_index.specs.Reading.{HasRoom, KeepsStore}
 use Rattle.store_rules.specs.Views.{Records}
 
 -- reads after reads
@@ -28,6 +29,14 @@ pub can_after : (s z : State) (free : List ℕ) → SameButReads s z → CanTake
 can_after s z free same can =
     let at : CanTake (record s { reads = z.reads }) format.index_file free = record { list = can.list; low = can.low; unused = can.unused; count = can.count; mark = can.mark } in
     subst (λ (y : State). CanTake y format.index_file free) (sym same) at
+
+pub readable_after : (s z : State) → SameButReads s z → AreNodesReadable s → AreNodesReadable z
+readable_after s z same h =
+    let at : AreNodesReadable (record s { reads = z.reads }) = record { room = h.room; each = λ n used. let k = h.each n used in record { room = k.room; low = k.low; properties = k.properties; has = k.has } } in
+    subst AreNodesReadable (sym same) at
+
+pub kept_after : (s z : State) → SameButReads s z → KeepsStore s → KeepsStore z
+kept_after s z same kept = subst KeepsStore (sym same) kept
 
 -- the definitions of indexes
 pub definitions_of : (s : Records) (wanted : Entries) (ix : AreIndexed s wanted) → AreDefinitions s ix.definitions

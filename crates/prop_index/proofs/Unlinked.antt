@@ -16,8 +16,8 @@ use Rattle.store_rules.specs.IndexChange.{IsEntryGone}
 use Rattle.store_rules.specs.Indexes.{index_rec, next_entry, previous_entry}
 use Rattle.store_rules.specs.Views.{Records, high, key_in, kind_at}
 use Rattle.store_rules.proofs.ChainLaws.{walk_of_chain}
-use Rattle.store_rules.proofs.ChainSteps.{after_in, after_other, before_other, next_before, nil_out, twice_other}
-use Rattle.store_rules.proofs.NumberLaws.{eq_false, eq_true, nat_cases}
+use Rattle.store_rules.proofs.ChainSteps.{after_other, before_other, next_before, nil_out, twice_other}
+use Rattle.store_rules.proofs.NumberLaws.{nat_cases}
 use Rattle.store_rules.proofs.ViewLaws.{kind_high, kind_low}
 use Rattle.id_freelist.specs.FreeLists.{free_record}
 use Rattle.id_freelist.specs.Giving.{HasGiven, given}
@@ -26,6 +26,8 @@ use Rattle.id_freelist.proofs.FreeListLaws.{has_given}
 use Rattle.prop_index.specs.Leaving.{IsBucketChain}
 use Rattle.prop_index.specs.Linking.{backed_entry}
 use Rattle.prop_index.specs.Unlinking.{led_entry, unlinked_entry}
+use Rattle.prop_index.proofs.Buckets.{after-member}
+use Rattle.prop_index.proofs.Steps.{backed-none, backed-some, led-none, led-some, unlinked-is}
 use Rattle.prop_index.specs.declared.heads.Slot.{Slot}
 
 abbrev at : ℕ → Key
@@ -73,7 +75,7 @@ module _ (whole : State) (slot : Slot) (first x : ℕ) (xs free : List ℕ) (is 
   none_out = nil_out (next_entry s) first xs walk
 
   after_there : after ≢ format.nil → In after xs
-  after_there some = ⊎_elim (λ (e : after ≡ format.nil). absurd (some e)) (λ (m : In after xs). m) (after_in (next_entry s) first xs x walk member)
+  after_there = after-member s first x xs is member
 
   slot_apart : (y : ℕ) → kind_at s format.index_file y ≡ format.indexed → slot.id ≢ y
   slot_apart y k e = let h = heads in let z = ap (kind_at s format.index_file) e in omega (arith, k, h, z)
@@ -102,20 +104,16 @@ module _ (whole : State) (slot : Slot) (first x : ℕ) (xs free : List ℕ) (is 
   one_other key ne no_meta = was_given.others key no_meta ne
 
   two_none : after ≡ format.nil → two ≡ u
-  unfolding backed_entry
-  two_none e = rw (eq_true after format.nil e) refl
+  two_none = backed-none u after before
 
   two_some : after ≢ format.nil → two ≡ after_set u (at after) 4 format.indexed_previous before
-  unfolding backed_entry
-  two_some ne = rw (eq_false after format.nil ne) refl
+  two_some = backed-some u after before
 
   three_none : before ≡ format.nil → three ≡ after_set two (at slot.id) 4 slot.place after
-  unfolding led_entry
-  three_none e = rw (eq_true before format.nil e) refl
+  three_none = led-none two slot before after
 
   three_some : before ≢ format.nil → three ≡ after_set two (at before) 4 format.indexed_next after
-  unfolding led_entry
-  three_some ne = rw (eq_false before format.nil ne) refl
+  three_some = led-some two slot before after
 
   two_other : (key : Key) → (after ≢ format.nil → key ≢ at after) → two.records key ≡ u.records key
   two_other key ne = ⊎_elim
@@ -152,8 +150,7 @@ module _ (whole : State) (slot : Slot) (first x : ℕ) (xs free : List ℕ) (is 
       (cases_lt x (high three.records format.index_file))
 
   three_is : unlinked_entry whole slot x before after ≡ three
-  unfolding unlinked_entry
-  three_is = refl
+  three_is = unlinked-is whole slot x before after
 
   unlinked : IsEntryGone s three.records x slot.id slot.place
   unlinked = record {

@@ -1,17 +1,10 @@
 -- The definition of a label and a key.
-use Rattle.std.specs.Prelude.{◌≡◌, ℕ, ◌≤◌, List, Option, Some, None, length}
+use Rattle.std.specs.Prelude.{◌≡◌, ℕ, List, Option, Some, None}
 use Rattle.rec_bytes.specs.Format as format
-use Rattle.store_rules.specs.Chains.{In, IsWalk}
-use Rattle.store_rules.specs.Indexes.{first_definition, index_rec, indexed_key, indexed_label}
-use Rattle.store_rules.specs.Indexes.{next_definition}
+use Rattle.store_rules.specs.Chains.{In}
+use Rattle.store_rules.specs.Indexes.{index_rec, indexed_key, indexed_label}
 use Rattle.store_rules.specs.Views.{Records, kind_at}
 use Rattle.prop_index.specs.declared.finding.Definition.{Definition}
-
--- the definitions of a store
-pub record AreDefinitions (records : Records) (ds : List ℕ) : Type 0 where
-  pub walk : IsWalk (next_definition records) (first_definition records) ds
-  pub few : length ds ≤ 16
-  pub defined : (d : ℕ) → In d ds → kind_at records format.index_file d ≡ format.definition
 
 -- the definition is that of the label and the key
 abbrev pub IsPair : Records → ℕ → ℕ → ℕ → Type 0

@@ -1,5 +1,5 @@
 -- The first entries of buckets.
-use Rattle.std.specs.Prelude.{◌≡◌, ℕ, ◌+◌, ◌*◌, ◌/◌, ◌%◌, List, Option, None, Some}
+use Rattle.std.specs.Prelude.{◌≡◌, ◌≢◌, ℕ, ◌+◌, ◌*◌, ◌/◌, ◌%◌, ◌<◌, List, Option, None, Some}
 use Rattle.rec_bytes.specs.declared.record.Rec.{Rec}
 use Rattle.rec_bytes.specs.Format as format
 use Rattle.rec_bytes.specs.Record.{field}
@@ -20,6 +20,17 @@ pub record IsSlotOf (rec : Rec) (number : ℕ) (slot : Slot) : Type 0 where
 pub record IsHead (records : Records) (bucket : Bucket) : Type 0 where
   pub heads : kind_at records format.index_file bucket.slot.id ≡ format.heads
   pub first_is : bucket.first ≡ field 4 (index_rec records bucket.slot.id) bucket.slot.place
+
+-- its entries begin with none or with one
+abbrev pub BeginsRight : Records → Bucket → Type 0
+BeginsRight records bucket =
+    bucket.first ≢ format.nil → kind_at records format.index_file bucket.first ≡ format.indexed
+
+-- the place is that of a first entry in a record of heads
+pub record IsHeadPlace (place : ℕ) : Type 0 where
+  pub number : ℕ
+  pub low : number < 15
+  pub is : place ≡ format.heads_first + 4 * number
 
 -- the bucket of the definition is that of this number
 pub record IsBucketOf (records : Records) (d number : ℕ) (bucket : Bucket) : Type 0 where

@@ -1,4 +1,8 @@
+pub mod Collecting
+pub mod Defining
+pub mod DefinitionRecord
 pub mod Entering
+pub mod Filling
 pub mod Finding
 pub mod Gathering
 pub mod Heads
@@ -6,6 +10,8 @@ pub mod Leaving
 pub mod Linking
 pub mod Listing
 pub mod Looking
+pub mod MakeFault
+pub mod Making
 pub mod Reading
 pub mod Touching
 pub mod Unlinking

@@ -1,15 +1,20 @@
 -- What a lookup answers and reads.
-use Rattle.std.specs.Prelude.{ℕ, ◌+◌, ◌*◌, List, Result, length}
+use Rattle.std.specs.Prelude.{ℕ, ◌+◌, ◌*◌, ◌<◌, Bool, ◌&&◌, List, Result, length, map}
+use Rattle.std.specs.List.{filter}
+use Rattle.std.specs.FinMap as maps
+use Rattle.plain_graph.specs.Graph.{Graph, Node, node_number}
+use Rattle.plain_graph.specs.Values.{is_text}
 use Rattle.plain_graph.specs.declared.value.Value.{Value}
 use Rattle.rec_bytes.specs.Cause.{HasDiskCause}
 use Rattle.rec_bytes.specs.Format as format
 use Rattle.rec_bytes.specs.Space.{State}
 use Rattle.store_rules.specs.Chains.{In, IsWalk}
+use Rattle.store_rules.specs.Graph.{graph_of}
 use Rattle.store_rules.specs.Hashes.{bucket_of, hash_of}
 use Rattle.store_rules.specs.Indexes.{first_definition, first_entry, has_value}
 use Rattle.store_rules.specs.Indexes.{next_definition, next_entry, node_value}
 use Rattle.store_rules.specs.Rows.{ids}
-use Rattle.store_rules.specs.Views.{Records, high}
+use Rattle.store_rules.specs.Views.{Records, high, rec_at, text_of}
 use Rattle.prop_index.specs.Finding.{IsPair}
 use Rattle.prop_index.specs.Gathering.{count_hashed}
 use Rattle.prop_index.specs.declared.lookup_fault.LookupFault.{LookupFault}
@@ -22,6 +27,29 @@ use Rattle.rec_bytes.specs.declared.fault.Fault.TheVariants as faults
 abbrev pub found_in : Records → ℕ → ℕ → Value → List ℕ
 found_in records label key value =
     ids (λ n. has_value value (node_value records label key n)) (high records format.nodes_file)
+
+-- the node has the label, and a value of the key that compares equal to this one
+abbrev pub has_labelled : List ℕ → List ℕ → Value → Node → Bool
+has_labelled label key value node =
+    is_text node.label label && has_value value (maps.get node.properties key)
+
+-- the identifiers of such nodes, in the order of the graph
+abbrev pub nodes_having : Graph → List ℕ → List ℕ → Value → List ℕ
+nodes_having graph label key value =
+    map node_number (filter (has_labelled label key value) graph.nodes)
+
+abbrev pub name_text : Records → ℕ → List ℕ
+name_text records number = text_of (rec_at records format.names_file number)
+
+-- those of the graph of the records, by the numbers of the label's name and the key's
+abbrev pub nodes_in : Records → ℕ → ℕ → Value → List ℕ
+nodes_in records label key value =
+    nodes_having (graph_of records) (name_text records label) (name_text records key) value
+
+-- the numbers are those of names
+pub record AreNumbered (records : Records) (label key : ℕ) : Type 0 where
+  pub label_low : label < high records format.names_file
+  pub key_low : key < high records format.names_file
 
 -- no definition is of the label and the key
 abbrev pub IsUnlisted : Records → ℕ → ℕ → Type 0

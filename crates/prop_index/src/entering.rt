@@ -1,24 +1,25 @@
 //! Entries that are added.
 
-ghost use Rattle.std.specs.Prelude.{◌≡◌, ◌≢◌, ◌+◌, ◌≤◌, ℕ, List, IfErr, OnOk, false};
+ghost use Rattle.std.specs.Prelude.{◌≡◌, ◌+◌, ◌<◌, ◌≤◌, ℕ, List, IfErr, OnOk, false};
 ghost use Rattle.id_freelist.specs.TakeFault.{HasTakeCause, NotDamaged};
 ghost use Rattle.id_freelist.specs.Taking.{CanTake};
 ghost use Rattle.prop_index.specs.Entering.{IsIndexFull, IsMade, entry_of, of_read};
-ghost use Rattle.prop_index.specs.Heads.{IsHead};
+ghost use Rattle.prop_index.specs.Heads.{BeginsRight, IsHead, IsHeadPlace};
+ghost use Rattle.prop_index.specs.Reading.{KeepsStore};
 ghost use Rattle.prop_index.specs.Touching.{TouchesIndex};
-ghost use Rattle.rec_bytes.specs.Format.{index_file, indexed};
+ghost use Rattle.rec_bytes.specs.Format.{index_file, nodes_file};
 ghost use Rattle.rec_bytes.specs.Key.{IsKey};
 ghost use Rattle.store_rules.specs.Indexes.{AreIndexed, Entries, with_entry};
-ghost use Rattle.store_rules.specs.Views.{key_in, kind_at};
+ghost use Rattle.store_rules.specs.Views.{high, key_in};
 
 use crate::entry_row::Content;
 use crate::hashing::hash_of;
 use crate::heads::{Bucket, find_bucket};
 use crate::link_test::test_link;
-use crate::linking::link;
-use id_freelist::{TakeFault, take};
+use crate::linking::put_in_front;
+use id_freelist::TakeFault;
 use plain_graph::Value;
-use rec_bytes::{Fault, INDEX, NIL, Space};
+use rec_bytes::{Fault, Space};
 
 /// Adds an entry of a node, with the value's hash, to the index of a label and a key. Where there
 /// is no such index nothing changes.
@@ -35,6 +36,9 @@ pub fn enter<S: Space>(
         → wanted (entry_of label key node value.now) ≡ false
         → OnOk result (AreIndexed (S.state space.new).records
         (with_entry wanted (entry_of label key node value.now))) }
+    ensures keeps { S.tells → (wanted : Entries) → AreIndexed (S.state space.old).records wanted
+        → KeepsStore (S.state space.old) → node < high (S.state space.old).records nodes_file
+        → OnOk result (KeepsStore (S.state space.new)) }
     ensures sound { S.tells → (wanted : Entries) → (free : List ℕ)
         → AreIndexed (S.state space.old).records wanted
         → CanTake (S.state space.old) index_file free → NotDamaged result }
@@ -60,9 +64,12 @@ fn add_entry<S: Space>(space: &mut S, bucket: Bucket, content: Content) -> Resul
         → CanTake (S.state space.old) index_file free
         → OnOk result (IsMade (S.state space.old).records (S.state space.new).records
         bucket content) }
-    ensures sound { S.tells → (free : List ℕ)
-        → (bucket.first ≢ NIL
-        → kind_at (S.state space.old).records index_file bucket.first ≡ indexed)
+    ensures keeps { S.tells → KeepsStore (S.state space.old)
+        → IsHead (S.state space.old).records bucket
+        → BeginsRight (S.state space.old).records bucket → IsHeadPlace bucket.slot.place
+        → content.node < high (S.state space.old).records nodes_file
+        → OnOk result (KeepsStore (S.state space.new)) }
+    ensures sound { S.tells → (free : List ℕ) → BeginsRight (S.state space.old).records bucket
         → CanTake (S.state space.old) index_file free → NotDamaged result }
     ensures full { S.tells → IfErr result (IsIndexFull (S.state space.old)) }
     ensures touches { TouchesIndex S.tells 3 (S.state space.old) (S.state space.new) }
@@ -72,13 +79,12 @@ fn add_entry<S: Space>(space: &mut S, bucket: Bucket, content: Content) -> Resul
     if let Err(damage) = test_link(space, bucket.first, bucket.slot.id) {
         return Err(TakeFault::Damaged(damage));
     }
-    let id = take(space, INDEX)?;
-    link(space, bucket.slot, bucket.first, id, content)?;
+    put_in_front(space, bucket, content)?;
     Ok(())
 }
 
 /// A fault of records that are read as one of a change.
-fn of_read(fault: Fault) -> TakeFault
+pub(crate) fn of_read(fault: Fault) -> TakeFault
     ensures { result ≡ of_read fault }
 {
     match fault {

@@ -2,7 +2,8 @@
 
 ghost use Rattle.std.specs.Prelude.{◌≡◌, ◌↔◌, ◌+◌, ℕ, List, IfOk, IsTrue, length, OnOk};
 ghost use Rattle.rec_bytes.specs.Record.{field};
-ghost use Rattle.prop_index.specs.Finding.{AreDefinitions, IsDefined, IsFound};
+ghost use Rattle.prop_index.specs.Finding.{IsDefined, IsFound};
+ghost use Rattle.store_rules.specs.IndexBreaking.{AreDefinitions};
 ghost use Rattle.prop_index.specs.Reading.{HasRoom};
 ghost use Rattle.rec_bytes.specs.Fault.{HasFaultCause, NotDamaged};
 ghost use Rattle.prop_store.specs.Reading.{ReadsAtMost};

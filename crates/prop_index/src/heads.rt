@@ -60,7 +60,7 @@ pub(crate) fn read_bucket<R: Reads>(
 }
 
 /// Where the first entry of a bucket is named.
-fn slot_of(definition: &Definition, number: u64) -> Slot
+pub(crate) fn slot_of(definition: &Definition, number: u64) -> Slot
     requires { number < 180 }
     ensures is { IsSlotOf definition.now.rec number result }
     ensures place { result.place + 4 ≤ 64 }

@@ -19,7 +19,7 @@ use std::cmp::Ordering;
 
 /// Where the first property of a node stands. Where there can be none, the record that names the
 /// node is damaged.
-fn owner_of<R: Reads>(space: &R, node: u32, named: Damage) -> Result<Owner, Damage>
+pub(crate) fn owner_of<R: Reads>(space: &R, node: u32, named: Damage) -> Result<Owner, Damage>
     ensures owner { IfOk result IsOwner }
     ensures is { IfOk result (λ owner. owner ≡ node_owner node) }
     ensures sound { HasRoom (R.state space.now) nodes_file

@@ -4,9 +4,9 @@ ghost use Rattle.std.specs.Prelude.{◌≡◌, ◌↔◌, ◌+◌, ◌≤◌, �
 ghost use Rattle.id_freelist.specs.Taking.{CanTake};
 ghost use Rattle.prop_index.specs.Entering.{entry_of};
 ghost use Rattle.prop_index.specs.Gathering.{AreEntries};
-ghost use Rattle.prop_index.specs.Heads.{IsHead};
+ghost use Rattle.prop_index.specs.Heads.{IsHead, IsHeadPlace};
 ghost use Rattle.prop_index.specs.Leaving.{IsBucketChain, IsDropped, IsEntrySought};
-ghost use Rattle.prop_index.specs.Reading.{HasRoom};
+ghost use Rattle.prop_index.specs.Reading.{HasRoom, KeepsStore};
 ghost use Rattle.prop_index.specs.Touching.{TouchesIndex};
 ghost use Rattle.rec_bytes.specs.Fault.{HasFaultCause, NotDamaged};
 ghost use Rattle.rec_bytes.specs.Format.{index_file};
@@ -42,6 +42,8 @@ pub fn leave<S: Space>(
         → CanTake (S.state space.old) index_file free
         → OnOk result (AreIndexed (S.state space.new).records
         (without_entry wanted (entry_of label key node value.now))) }
+    ensures keeps { S.tells → (wanted : Entries) → AreIndexed (S.state space.old).records wanted
+        → KeepsStore (S.state space.old) → OnOk result (KeepsStore (S.state space.new)) }
     ensures sound { S.tells → (wanted : Entries) → (free : List ℕ)
         → AreIndexed (S.state space.old).records wanted
         → CanTake (S.state space.old) index_file free → NotDamaged result }
@@ -65,6 +67,10 @@ fn drop_entry<S: Space>(space: &mut S, bucket: Bucket, content: Content) -> Resu
         → CanTake (S.state space.old) index_file free
         → OnOk result (IsDropped (S.state space.old).records (S.state space.new).records
         xs bucket.slot content) }
+    ensures keeps { S.tells → (xs : List ℕ) → IsHead (S.state space.old).records bucket
+        → IsBucketChain (S.state space.old).records bucket.first xs
+        → IsHeadPlace bucket.slot.place → KeepsStore (S.state space.old)
+        → OnOk result (KeepsStore (S.state space.new)) }
     ensures sound { S.tells → (xs : List ℕ)
         → IsBucketChain (S.state space.old).records bucket.first xs
         → HasRoom (S.state space.old) index_file → NotDamaged result }

@@ -3,9 +3,14 @@
 //! each node in it with the hash that is sought. Only a lookup and a list take memory of their own.
 #![tactic(auto)]
 
+mod changing;
+mod collecting;
+mod defining;
+mod definition_record;
 mod entering;
 mod entry_record;
 mod entry_row;
+mod filling;
 mod finding;
 mod gathering;
 mod hashing;
@@ -17,11 +22,17 @@ mod linking;
 mod listing;
 mod looking;
 mod lookup_fault;
+mod make_fault;
+mod making;
 mod reading;
 mod unlinking;
 
+pub use changing::change_value;
 pub use entering::enter;
+pub use hashing::{bucket_of, hash_of};
 pub use leaving::leave;
 pub use listing::{IndexPair, indexes};
 pub use looking::lookup;
 pub use lookup_fault::LookupFault;
+pub use make_fault::MakeFault;
+pub use making::make;

@@ -3,10 +3,12 @@
 ghost use Rattle.std.specs.Prelude.{◌≡◌, IfErr, IfOk, IsPermutation, OnOk};
 ghost use Rattle.std.specs.List.Sorted.{IsNonDecreasing};
 ghost use Rattle.prop_index.specs.Looking.{
+  AreNumbered,
   HasLookupCause,
   IsRefusal,
   ReadsForLookup,
   found_in,
+  nodes_in,
 };
 ghost use Rattle.store_rules.specs.Indexes.{IsIndexed};
 
@@ -30,6 +32,9 @@ pub fn lookup<R: Reads>(
     ensures found { R.tells → IsIndexed (R.state space.old).records (R.state space.old).shape
         → IfOk result (λ nodes. nodes.items
         ≡ found_in (R.state space.old).records label key value.now) }
+    ensures graph { R.tells → IsIndexed (R.state space.old).records (R.state space.old).shape
+        → AreNumbered (R.state space.old).records label key → IfOk result (λ nodes. nodes.items
+        ≡ nodes_in (R.state space.old).records label key value.now) }
     ensures refused { R.tells → IsIndexed (R.state space.old).records (R.state space.old).shape
         → IfErr result (IsRefusal (R.state space.old).records label key) }
     ensures cost { R.tells → IsIndexed (R.state space.old).records (R.state space.old).shape

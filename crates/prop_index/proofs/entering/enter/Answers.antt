@@ -1,22 +1,19 @@
 use Rattle.std.specs.Prelude.{Result, Ok, Err, OnOk}
-use Rattle.std.proofs.Common.{ℕ, ap, sym, ◌∙◌, subst, arith}
+use Rattle.std.proofs.Common.{ℕ, ◌<◌, ap, sym, ◌∙◌, subst, arith}
 use Rattle.id_freelist.specs.TakeFault as takes
 use Rattle.id_freelist.specs.declared.take_fault.TakeFault.{TakeFault}
-use Rattle.rec_bytes.specs.declared.fault.Fault.{Fault}
-use Rattle.rec_bytes.specs.declared.fault.Fault.TheVariants as fault
-use Rattle.rec_bytes.specs.Fault as faults
 use Rattle.rec_bytes.specs.Format as format
 use Rattle.rec_bytes.specs.Space.{SameButReads}
 use Rattle.store_rules.specs.Indexes.{AreIndexed, Entry, with_entry}
-use Rattle.store_rules.specs.Views.{Records, kind_at}
+use Rattle.store_rules.specs.Views.{Records, high}
 use Rattle.prop_store.proofs.ReadCounts.{reads_same}
-use Rattle.prop_index.specs.Entering.{IsIndexFull, IsMade, entry_of, of_read}
+use Rattle.prop_index.specs.Entering.{IsIndexFull, IsMade, entry_of}
 use Rattle.prop_index.specs.Heads.{IsBucketSought}
 use Rattle.prop_index.specs.declared.entry_row.Content.{Content}
-use Rattle.prop_index.proofs.Buckets.{head-reread}
+use Rattle.prop_index.proofs.Buckets.{begins-reread, head-place, head-reread}
 use Rattle.prop_index.proofs.Changed.{entered_in, unlisted_entered, first_right}
-use Rattle.prop_index.proofs.Reread.{can_after, same_records}
-use Rattle.prop_index.proofs.IndexFull.{full-reread, read-full}
+use Rattle.prop_index.proofs.Reread.{can_after, kept_after, same_records}
+use Rattle.prop_index.proofs.IndexFull.{full-reread, read-full, read-sound}
 use Rattle.prop_index.proofs.IndexTouches.{index_read, index_then}
 use Rattle.prop_index.proofs.entering.enter.Goals as goal
 
@@ -61,15 +58,28 @@ returns-in-Err-clause-touches g c = index_read 3 18 _ _ c.find_bucket.ensures.at
 pub returns-clause-touches : goal.returns-clause-touches
 returns-clause-touches g c = index_then 0 3 3 _ _ _ (omega arith) (index_read 0 18 _ _ c.find_bucket.ensures.at_most) c.add_entry.ensures.touches
 
--- a fault that blames no record stays one
-read_sound : (f : Fault) → faults.NotDamaged {T = ℕ} (Err f) → takes.NotDamaged {T = ℕ} (Err (of_read f))
-read_sound fault.Memory is = tt
-read_sound fault.Disk is = tt
-read_sound (fault.Damaged damage) is = is
+pub returns-in-Ok-None-clause-keeps : goal.returns-in-Ok-None-clause-keeps
+returns-in-Ok-None-clause-keeps g c tells wanted ix store known =
+    let s = g.S.Reads.state c.args.space.now in
+    let now = g.S.Reads.state c.find_bucket.new.space in
+    kept_after s now (reads_same 18 s now c.find_bucket.ensures.at_most) store
+
+pub returns-clause-keeps : goal.returns-clause-keeps
+returns-clause-keeps g c tells wanted ix store known =
+    let s = g.S.Reads.state c.args.space.now in
+    let now = g.S.Reads.state c.find_bucket.new.space in
+    let same : SameButReads s now = reads_same 18 s now c.find_bucket.ensures.at_most in
+    let content : Content = record { node = c.args.node; hash = c.hash_of-hash.result } in
+    let bucket = c.in-Ok-Some.bucket in
+    let found = subst (IsBucketSought s.records ix.definitions c.args.label c.args.key c.hash_of-hash.result) c.in-Ok-Some.field-0-is (c.in-Ok-Some.ensures.found tells wanted ix) in
+    c.add_entry.ensures.keeps tells (kept_after s now same store) (head-reread s now bucket same found.is.head)
+    (begins-reread s now bucket same (first_right s.records wanted ix c.args.label c.args.key content bucket found))
+    (head-place s.records found.definition _ bucket found.is)
+    (subst (λ (r : Records). c.args.node < high r format.nodes_file) (sym (same_records s now same)) known)
 
 pub returns-in-Err-clause-sound : goal.returns-in-Err-clause-sound
 returns-in-Err-clause-sound g c tells wanted free ix can =
-    subst (λ (f : TakeFault). takes.NotDamaged {T = ℕ} (Err f)) (sym c.of_read.ensures) (read_sound c.in-Err.fault (c.in-Err.ensures.sound tells wanted ix can.mark))
+    subst (λ (f : TakeFault). takes.NotDamaged {T = ℕ} (Err f)) (sym c.of_read.ensures) (read-sound c.in-Err.fault (c.in-Err.ensures.sound tells wanted ix can.mark))
 
 pub returns-clause-sound : goal.returns-clause-sound
 returns-clause-sound g c tells wanted free ix can =
@@ -80,7 +90,7 @@ returns-clause-sound g c tells wanted free ix can =
     let bucket = c.in-Ok-Some.bucket in
     let found = subst (IsBucketSought s.records ix.definitions c.args.label c.args.key c.hash_of-hash.result) c.in-Ok-Some.field-0-is (c.in-Ok-Some.ensures.found tells wanted ix) in
     c.add_entry.ensures.sound tells free
-    (λ some. ap (λ (r : Records). kind_at r format.index_file bucket.first) (same_records s now same) ∙ first_right s.records wanted ix c.args.label c.args.key content bucket found some)
+    (begins-reread s now bucket same (first_right s.records wanted ix c.args.label c.args.key content bucket found))
     (can_after s now free same can)
 
 pub returns-in-Err-clause-full : goal.returns-in-Err-clause-full

@@ -1,7 +1,8 @@
 use Rattle.std.proofs.Common.{◌≤◌, ◌+◌, List, ℕ}
 use Rattle.store_rules.specs.Indexes.{next_definition}
 use Rattle.prop_store.specs.Reading.{ReadsAtMost}
-use Rattle.prop_index.specs.Finding.{AreDefinitions, IsPair}
+use Rattle.prop_index.specs.Finding.{IsPair}
+use Rattle.store_rules.specs.IndexBreaking.{AreDefinitions}
 use Rattle.prop_index.proofs.Searches.{IsSearched}
 use Rattle.prop_index.proofs.finding.find_definition.Given as goal
 

@@ -11,7 +11,8 @@ use Rattle.prop_index.specs.Leaving.{IsEntrySought, NoneThere, OneGone}
 use Rattle.prop_index.specs.Unlinking.{unlinked_entry}
 use Rattle.prop_index.specs.declared.entry_row.EntryRow.{EntryRow}
 use Rattle.prop_index.proofs.Buckets.{chain-entries, chain-reread, head-reread, after-low, before-low}
-use Rattle.prop_index.proofs.Reread.{can_after, same_records, room_after}
+use Rattle.prop_index.proofs.Reread.{can_after, kept_after, same_records, room_after}
+use Rattle.prop_index.proofs.GoneRules.{entry_gone_kept}
 use Rattle.prop_index.proofs.Unlinked.{entry_unlinked}
 use Rattle.std.proofs.lemmas.Bool.{true≢false}
 use Rattle.std.proofs.lemmas.Result.{err_from_is_err_and}
@@ -42,6 +43,28 @@ returns-clause-dropped g c tells xs free head chain can =
     OneGone x row.member row.says (subst (λ (r : Records). IsEntryGone r t.records x bucket.slot.id bucket.slot.place) records
     (entry_unlinked now bucket.slot bucket.first x xs free (chain-reread s now bucket.first xs same chain) (head-reread s now bucket same head).heads row.member (can_after s now free same can)
     key.id t (c.in_ok-unlink.ensures.ok tells ∙ (λ i. unlinked_entry now bucket.slot x (before_is i) (after_is i)))))
+
+pub returns-in_default-clause-keeps : goal.returns-in_default-clause-keeps
+returns-in_default-clause-keeps g c tells xs head chain place store =
+    let s = g.S.Reads.state c.args.space.now in
+    kept_after s (g.S.Reads.state c.find_entry.new.space) c.in_ok-row.ensures.same store
+
+pub returns-clause-keeps : goal.returns-clause-keeps
+returns-clause-keeps g c tells xs head chain place store =
+    let s = g.S.Reads.state c.args.space.now in
+    let now = g.S.Reads.state c.find_entry.new.space in
+    let t = g.S.Reads.state c.unlink.new.space in
+    let same = c.in_ok-row.ensures.same in
+    let bucket = c.args.bucket in
+    let x = c.in-Some.row.id in
+    let row = subst (IsEntrySought s.records xs c.args.content) c.in-Some.is (c.in_ok-row.ensures.found tells xs (chain-entries s bucket.first xs chain)) in
+    let key : IsKey (key_in format.index_file x) = subst (λ (o : Option EntryRow). IfSome o (λ row. IsKey (key_in format.index_file row.id))) c.in-Some.is c.in_ok-row.ensures.key in
+    let before_is : c.number-before.result ≡ previous_entry now.records x
+    = c.number-before.ensures ∙ ap (λ (r : Rec). field 4 r format.indexed_previous) row.rec_is ∙ ap (λ (r : Records). previous_entry r x) (sym (same_records s now same)) in
+    let after_is : c.number-after.result ≡ next_entry now.records x
+    = c.number-after.ensures ∙ ap (λ (r : Rec). field 4 r format.indexed_next) row.rec_is ∙ ap (λ (r : Records). next_entry r x) (sym (same_records s now same)) in
+    entry_gone_kept now bucket.slot bucket.first x xs (chain-reread s now bucket.first xs same chain) (head-reread s now bucket same head).heads place row.member (kept_after s now same store) key.id
+    t (c.in_ok-unlink.ensures.ok tells ∙ (λ i. unlinked_entry now bucket.slot x (before_is i) (after_is i))) (g.met.S.Reads.onward_shape _ _ c.in_ok-unlink.ensures.onward)
 
 pub returns-in_err-row-clause-sound : goal.returns-in_err-row-clause-sound
 returns-in_err-row-clause-sound g c tells xs chain room =

@@ -10,9 +10,9 @@ use Rattle.prop_index.specs.Entering.{entry_of}
 use Rattle.prop_index.specs.Heads.{IsBucketSought}
 use Rattle.prop_index.specs.Leaving.{IsDropped}
 use Rattle.prop_index.specs.declared.entry_row.Content.{Content}
-use Rattle.prop_index.proofs.Buckets.{bucket-chain, chain-reread, head-reread}
+use Rattle.prop_index.proofs.Buckets.{bucket-chain, chain-reread, head-place, head-reread}
 use Rattle.prop_index.proofs.Changed.{left_in, unlisted_left}
-use Rattle.prop_index.proofs.Reread.{can_after, same_records, room_after}
+use Rattle.prop_index.proofs.Reread.{can_after, kept_after, same_records, room_after}
 use Rattle.prop_index.proofs.IndexTouches.{index_read, index_then}
 use Rattle.std.proofs.lemmas.Result.{err_from_is_err_and}
 use Rattle.prop_index.proofs.leaving.leave.Goals as goal
@@ -73,3 +73,21 @@ returns-clause-sound g c tells wanted free ix can =
     let xs = ix.lists found.definition (bucket_of c.hash_of-hash.result) in
     c.drop_entry.ensures.sound tells xs (chain-reread s now bucket.first xs same (bucket-chain s.records wanted ix c.args.label c.args.key c.hash_of-hash.result bucket found))
     (room_after s now format.index_file same can.mark)
+
+pub returns-in_default-clause-keeps : goal.returns-in_default-clause-keeps
+returns-in_default-clause-keeps g c tells wanted ix store =
+    let s = g.S.Reads.state c.args.space.now in
+    let now = g.S.Reads.state c.find_bucket.new.space in
+    kept_after s now (reads_same 18 s now c.in_ok-bucket.ensures.at_most) store
+
+pub returns-clause-keeps : goal.returns-clause-keeps
+returns-clause-keeps g c tells wanted ix store =
+    let s = g.S.Reads.state c.args.space.now in
+    let now = g.S.Reads.state c.find_bucket.new.space in
+    let same : SameButReads s now = reads_same 18 s now c.in_ok-bucket.ensures.at_most in
+    let bucket = c.in-Some.bucket in
+    let found = subst (IsBucketSought s.records ix.definitions c.args.label c.args.key c.hash_of-hash.result) c.in-Some.is (c.in_ok-bucket.ensures.found tells wanted ix) in
+    let xs = ix.lists found.definition (bucket_of c.hash_of-hash.result) in
+    c.drop_entry.ensures.keeps tells xs (head-reread s now bucket same found.is.head)
+    (chain-reread s now bucket.first xs same (bucket-chain s.records wanted ix c.args.label c.args.key c.hash_of-hash.result bucket found))
+    (head-place s.records found.definition _ bucket found.is) (kept_after s now same store)

@@ -1,7 +1,7 @@
 use Rattle.std.proofs.Common.{◌≡◌, ◌≤◌, ◌+◌, List, ℕ, length, map}
 use Rattle.store_rules.specs.Indexes.{next_definition}
 use Rattle.prop_store.specs.Reading.{ReadsAtMost}
-use Rattle.prop_index.specs.Finding.{AreDefinitions}
+use Rattle.store_rules.specs.IndexBreaking.{AreDefinitions}
 use Rattle.prop_index.specs.Listing.{pair_of}
 use Rattle.prop_index.proofs.Walks.{IsWalked}
 use Rattle.prop_index.proofs.listing.indexes.Given as goal

@@ -1,10 +1,11 @@
-use Rattle.std.proofs.Common.{List, ℕ, subst, refl}
+use Rattle.std.proofs.Common.{List, ℕ, sym, ◌∙◌, subst, refl}
 use Rattle.rec_bytes.specs.Format as format
 use Rattle.rec_bytes.specs.Space.{SameButReads}
 use Rattle.store_rules.specs.Chains.{In}
 use Rattle.store_rules.specs.Indexes.{wanted_in}
 use Rattle.prop_store.proofs.ReadCounts.{reads_same}
 use Rattle.prop_index.specs.Heads.{IsBucketSought}
+use Rattle.prop_index.proofs.GraphFound.{graph_found}
 use Rattle.prop_index.proofs.Lookups.{are_entries, are_readable, definitions_are, entries, found_is, has_room, lookup_reads, refused_exit}
 use Rattle.prop_index.proofs.looking.lookup.Goals as goal
 
@@ -43,6 +44,11 @@ returns-clause-found g c tells store =
     let are = are_entries s store c.args.label c.args.key c.args.value.now c.hash_of-hash.result hashed c.in-Some.bucket found now same in
     found_is s store c.args.label c.args.key c.args.value.now c.hash_of-hash.result hashed c.in-Some.bucket found now same c.in_ok-nodes.nodes.items c.put_in_order.new.nodes.items
     (c.in_ok-nodes.ensures.found tells xs are) c.in_ok-put_in_order.ensures.moved c.in_ok-put_in_order.ensures.sorted
+
+pub returns-clause-graph : goal.returns-clause-graph
+returns-clause-graph g c tells store numbered =
+    let s = g.R.Reads.state c.args.space.now in
+    returns-clause-found g c tells store ∙ sym (graph_found s.records s.shape store.rules c.args.label c.args.key c.args.value.now numbered.label_low numbered.key_low)
 
 pub returns-clause-cost : goal.returns-clause-cost
 returns-clause-cost g c tells store =

@@ -1,0 +1,61 @@
+use Rattle.std.specs.Prelude.{Result, Ok, Err, IfOk}
+use Rattle.std.proofs.Common.{◌≡◌, option_map, ap, sym, ◌∙◌, subst, arith}
+use Rattle.std.proofs.lemmas.Bool.{true≢false}
+use Rattle.rec_bytes.specs.declared.record.Rec.{Rec}
+use Rattle.rec_bytes.specs.Format as format
+use Rattle.rec_bytes.specs.Record.{field}
+use Rattle.rec_bytes.specs.Space.{State}
+use Rattle.store_rules.specs.Hashes.{hash_of}
+use Rattle.store_rules.specs.Views.{Records, high, kind_at, rec_at}
+use Rattle.store_rules.proofs.ViewLaws.{kind_low}
+use Rattle.prop_store.specs.Finding.{value_of}
+use Rattle.prop_store.specs.Owner.{HasProperties}
+use Rattle.prop_store.specs.Reading.{properties_met}
+use Rattle.prop_store.specs.declared.owner.Owner.{Owner}
+use Rattle.prop_store.proofs.ReadCounts.{reads_after, reads_none, reads_one}
+use Rattle.prop_index.specs.Gathering.{node_owner}
+use Rattle.prop_index.proofs.Collects.{hash_at-labelled, hash_at-none}
+use Rattle.prop_index.proofs.collecting.hash_at.Goals as goal
+
+pub returns-clause-found : goal.returns-clause-found
+returns-clause-found g c tells low =
+    let s = (g.R.Reads.state c.args.space.now).records in
+    let rec_is : c.in_ok-rec.rec ≡ rec_at s format.nodes_file c.args.node = c.in_ok-rec.ensures.got tells ∙ ap (λ (o : Owner). s o.key) c.in_ok-owner.ensures.is in
+    sym (hash_at-none s c.args.label c.args.key c.args.node low (λ used is.
+    true≢false (sym (c.is_labelled.ensures.1 (subst (λ (r : Rec). field 1 r format.kind ≡ format.free_kind → ⊥) (sym rec_is) used, ap (λ (r : Rec). field 4 r format.node_label) rec_is ∙ is)) ∙ c.if-is_labelled.false)))
+
+on_if : {T E : Type 0} {P Q : T → Type 0} (r : Result T E) → ((x : T) → P x → Q x) → IfOk r P → IfOk r Q
+on_if (Ok x) f p = f x p
+on_if (Err e) f p = tt
+
+pub returns-then-is_labelled-clause-found : goal.returns-then-is_labelled-clause-found
+returns-then-is_labelled-clause-found g c tells low =
+    let s = (g.R.Reads.state c.args.space.now).records in
+    let rec_is : c.in_ok-rec.rec ≡ rec_at s format.nodes_file c.args.node = c.in_ok-rec.ensures.got tells ∙ ap (λ (o : Owner). s o.key) c.in_ok-owner.ensures.is in
+    let gone : (g.R.Reads.state c.get.new.self).records ≡ s = ap (λ (z : State). z.records) c.get.ensures.state in
+    let both = c.is_labelled.ensures.0 c.if-is_labelled.true in
+    let is = hash_at-labelled s c.args.label c.args.key c.args.node low (subst (λ (r : Rec). field 1 r format.kind ≡ format.free_kind → ⊥) rec_is both.0) (sym (ap (λ (r : Rec). field 4 r format.node_label) rec_is) ∙ both.1) in
+    on_if c.value_hash.result (λ h e. e ∙ (λ i. option_map hash_of (value_of (properties_met (gone i) (c.in_ok-owner.ensures.is i)) c.args.key)) ∙ sym is) (c.value_hash.ensures.met tells)
+
+pub returns-then-is_labelled-clause-sound : goal.returns-then-is_labelled-clause-sound
+returns-then-is_labelled-clause-sound g c tells low readable =
+    let s = (g.R.Reads.state c.args.space.now).records in
+    let rec_is : c.in_ok-rec.rec ≡ rec_at s format.nodes_file c.args.node = c.in_ok-rec.ensures.got tells ∙ ap (λ (o : Owner). s o.key) c.in_ok-owner.ensures.is in
+    let gone : (g.R.Reads.state c.get.new.self).records ≡ s = ap (λ (z : State). z.records) c.get.ensures.state in
+    let both = c.is_labelled.ensures.0 c.if-is_labelled.true in
+    let used : kind_at s format.nodes_file c.args.node ≡ format.free_kind → ⊥ = λ e. both.0 (ap (λ (r : Rec). field 1 r format.kind) rec_is ∙ sym (kind_low (high s format.nodes_file) (rec_at s format.nodes_file c.args.node) c.args.node low) ∙ e) in
+    let listed = readable.each c.args.node used in
+    c.value_hash.ensures.sound tells listed.properties (subst (λ (o : Owner). HasProperties (g.R.Reads.state c.get.new.self).records o listed.properties) (sym c.in_ok-owner.ensures.is)
+    (subst (λ (r : Records). HasProperties r (node_owner c.args.node) listed.properties) (sym gone) listed.has))
+
+pub returns-in_err-owner-clause-at_most : goal.returns-in_err-owner-clause-at_most
+returns-in_err-owner-clause-at_most g c = reads_none 56 _
+
+pub returns-in_err-rec-clause-at_most : goal.returns-in_err-rec-clause-at_most
+returns-in_err-rec-clause-at_most g c = reads_one 56 _ _ (omega arith) c.get.ensures.state
+
+pub returns-clause-at_most : goal.returns-clause-at_most
+returns-clause-at_most g c = reads_one 56 _ _ (omega arith) c.get.ensures.state
+
+pub returns-then-is_labelled-clause-at_most : goal.returns-then-is_labelled-clause-at_most
+returns-then-is_labelled-clause-at_most g c = reads_after 55 56 _ _ _ (omega arith) c.get.ensures.state c.value_hash.ensures.at_most

@@ -1,0 +1,54 @@
+use Rattle.std.proofs.Common.{◌≡◌, ◌≢◌, ℕ, ◌+◌, ◌<◌, ◌≤◌, ◌^◌, suc, List, [], ◌∷◌, ap, sym, ◌∙◌, subst, inl, inr, ⊎_elim, arith}
+use Rattle.std.proofs.lemmas.Bool.{cases_lt}
+use Rattle.rec_bytes.specs.declared.record.Rec.{Rec}
+use Rattle.rec_bytes.specs.Format as format
+use Rattle.rec_bytes.specs.Key.{IsKey}
+use Rattle.rec_bytes.specs.Record.{field}
+use Rattle.store_rules.specs.Views.{key_in}
+use Rattle.prop_store.specs.Touching.{TouchesOnly}
+use Rattle.prop_index.specs.Defining.{AreHeadsAdded, IsRecordAdded}
+use Rattle.prop_index.specs.DefinitionRecord.{head_ids, head_of}
+use Rattle.prop_index.specs.Touching.{index_keys}
+use Rattle.prop_index.proofs.HeadsAdded.{head-other, head-same, head_ids-more, heads-more, length-head_ids, with_head}
+use Rattle.prop_index.proofs.IndexTouches.{index_then, only_join}
+use Rattle.prop_index.proofs.RecordFits.{empty_heads-kind}
+use Rattle.prop_index.proofs.defining.add_heads.Goals as goal
+
+pub returns-in_err-id-clause-touches : goal.returns-in_err-id-clause-touches
+returns-in_err-id-clause-touches g c =
+    let n = c.loop-number.number in
+    let few = length-head_ids n c.loop-number.rec in
+    let test = c.loop-number-test.true in
+    index_then n 1 12 _ _ _ (omega arith) (record { ids = head_ids n c.loop-number.rec; few = omega arith; only = c.loop-number.invariant.touched }) c.in_err-id.ensures.touches
+
+pub loop-number-preserved : goal.loop-number-preserved
+loop-number-preserved g c =
+    let s = g.S.Reads.state c.args.space.now in
+    let m = g.S.Reads.state c.loop-number.space in
+    let t = g.S.Reads.state c.add_record.new.space in
+    let old = c.loop-number.invariant in
+    let n = c.loop-number.number in
+    let rec = c.loop-number.rec in
+    let id = c.in_ok-id.id in
+    let low : n < 12 = c.loop-number-test.true in
+    let small : id < 2 ^ 32 = let k = c.in_ok-id.ensures.key.id in omega arith in
+    let now_is : c.set_number.new.self ≡ with_head rec n id = c.set_number.ensures.set in
+    record {
+      added = λ tells store.
+          let was = old.added tells store in
+          let heads_is = c.empty_heads.ensures in
+          let used : field 1 c.empty_heads.result format.kind ≢ format.free_kind = λ e. let k = ap (λ (r : Rec). field 1 r format.kind) heads_is ∙ empty_heads-kind in omega (arith, k, e) in
+          let new = subst (λ (r : Rec). IsRecordAdded m t r id) heads_is (c.in_ok-id.ensures.added tells was.kept used) in
+          subst (AreHeadsAdded s t c.args.start (n + 1)) (sym now_is) (heads-more s m t c.args.start rec n id low was new);
+      heads = λ k lt. subst (λ (r : Rec). IsKey (key_in format.index_file (head_of r k))) (sym now_is) (⊎_elim
+          (λ (u : k < n). subst (λ x. IsKey (key_in format.index_file x)) (sym (head-other rec n id k low u)) (old.heads k u))
+          (λ (u : n ≤ k). let e : k ≡ n = omega arith in subst (λ x. IsKey (key_in format.index_file x)) (sym (ap (head_of (with_head rec n id)) e ∙ head-same rec n id low small)) c.in_ok-id.ensures.key)
+          (cases_lt k n));
+      touched =
+          let ids_are : head_ids (n + 1) c.set_number.new.self ≡ id ∷ head_ids n rec
+          = (λ i. head_ids (n + 1) (now_is i)) ∙ ap (λ k. head_ids k (with_head rec n id)) (let e : n + 1 ≡ suc n = omega arith in e) ∙ head_ids-more rec n id low small in
+          subst (λ (xs : List ℕ). TouchesOnly g.S.Reads.tells s t (index_keys xs)) (sym ids_are)
+          (only_join (head_ids n rec) (id ∷ []) (id ∷ head_ids n rec) s m t (λ x i. inr i) (λ x i. ⊎_elim (λ e. inl e) (λ (k : ⊥). absurd k) i) old.touched c.in_ok-id.ensures.touched);
+      onward = g.met.S.Reads.further_onward _ _ _ old.onward c.in_ok-id.ensures.onward;
+      later = omega (arith, old.later, c.in_ok-id.ensures.cause.later);
+    }

@@ -1,0 +1,50 @@
+use Rattle.std.proofs.Common.{sym, subst, arith, [], ◌∷◌}
+use Rattle.std.proofs.lemmas.Result.{err_from_is_err_and}
+use Rattle.rec_bytes.specs.Format as format
+use Rattle.rec_bytes.specs.Space.{State}
+use Rattle.store_rules.specs.Views.{key_in}
+use Rattle.prop_index.proofs.IndexTouches.{index_one_taken, meta_only, meta_then, only_one}
+use Rattle.prop_index.proofs.LinkRules.{free_list, store_takes}
+use Rattle.prop_index.proofs.RecordsAdded.{record_added, space_mishap, take_mishap}
+use Rattle.prop_store.specs.Touching.{TouchesOnly}
+use Rattle.prop_index.specs.Touching.{index_keys}
+use Rattle.prop_store.proofs.Touches.{only_put}
+use Rattle.prop_index.proofs.defining.add_record.Goals as goal
+
+pub returns-clause-added : goal.returns-clause-added
+returns-clause-added g c tells store used =
+    let s = g.S.Reads.state c.args.space.now in
+    let u = g.S.Reads.state c.take.new.space in
+    let taken = c.in_ok-id.ensures.taken tells (free_list s store).0 (free_list s store).1.walk in
+    record_added s u c.args.rec c.in_ok-id.id store taken c.in_ok-id.ensures.small used (g.met.S.Reads.onward_shape _ _ c.in_ok-id.ensures.onward) (g.S.Reads.state c.put.new.self) c.in_ok-put.ensures.ok
+
+pub returns-in_err-id-clause-mishap : goal.returns-in_err-id-clause-mishap
+returns-in_err-id-clause-mishap g c tells store left =
+    let s = g.S.Reads.state c.args.space.now in
+    let p = err_from_is_err_and c.from_residual.result c.from_residual.ensures.1 in
+    rw (p.1, p.2) (take_mishap s c.in_err-id.field-0.0 (c.in_err-id.ensures.refused tells) (c.in_err-id.ensures.sound tells (free_list s store).0 (store_takes s store)) left)
+
+pub returns-in_err-put-clause-mishap : goal.returns-in_err-put-clause-mishap
+returns-in_err-put-clause-mishap g c tells store left =
+    let p = err_from_is_err_and c.from_residual-in_err-put.result c.from_residual-in_err-put.ensures.1 in
+    rw (p.1, p.2) (space_mishap c.in_err-put.field-0.0)
+
+pub returns-clause-touched : goal.returns-clause-touched
+returns-clause-touched g c = meta_then (c.in_ok-id.id ∷ []) _ _ _ (record { writes = c.in_ok-id.ensures.writes; stays = c.in_ok-id.ensures.stays })
+    (only_one c.in_ok-id.id _ _ (only_put _ _ (key_in format.index_file c.in_ok-id.id) _ c.in_ok-put.ensures.ok))
+
+pub returns-clause-touches : goal.returns-clause-touches
+returns-clause-touches g c = index_one_taken c.in_ok-id.id _ _ (meta_then (c.in_ok-id.id ∷ []) _ _ _ (record { writes = c.in_ok-id.ensures.writes; stays = c.in_ok-id.ensures.stays })
+    (only_one c.in_ok-id.id _ _ (only_put _ _ (key_in format.index_file c.in_ok-id.id) _ c.in_ok-put.ensures.ok)))
+
+pub returns-in_err-id-clause-touches : goal.returns-in_err-id-clause-touches
+returns-in_err-id-clause-touches g c = record { ids = []; few = omega arith; only = meta_only [] _ _ (record { writes = c.in_err-id.ensures.writes; stays = c.in_err-id.ensures.stays }) }
+
+pub returns-in_err-put-clause-touches : goal.returns-in_err-put-clause-touches
+returns-in_err-put-clause-touches g c =
+    let s = g.S.Reads.state c.args.space.now in
+    record {
+      ids = [];
+      few = omega arith;
+      only = subst (λ (z : State). TouchesOnly g.S.Reads.tells s z (index_keys [])) (sym c.in_err-put.ensures.err) (meta_only [] _ _ (record { writes = c.in_ok-id.ensures.writes; stays = c.in_ok-id.ensures.stays }));
+    }

@@ -1,0 +1,97 @@
+use Rattle.store_rules.specs.Chains.{In}
+use Rattle.std.proofs.Common.{◌≡◌, ◌≢◌, ℕ, ◌<◌, ◌≤◌, ◌^◌, length, List, [], ◌∷◌, ap, sym, ◌∙◌, subst, inl, inr, ⊎_elim, arith, rules}
+use Rattle.fault_count.specs.Cause.{raised}
+use Rattle.rec_bytes.specs.declared.key.Key.{Key}
+use Rattle.rec_bytes.specs.declared.record.Rec.{Rec}
+use Rattle.rec_bytes.specs.Format as format
+use Rattle.rec_bytes.specs.Record.{field}
+use Rattle.rec_bytes.specs.RecordFiles.{meta_key_of}
+use Rattle.rec_bytes.specs.Space.{State, after_get, after_set}
+use Rattle.store_rules.specs.Indexes.{first_definition}
+use Rattle.prop_store.specs.Touching.{TouchesOnly}
+use Rattle.prop_store.proofs.ReadCounts.{reads_one}
+use Rattle.prop_index.specs.Defining.{AreHeadsAdded, IsRecordAdded}
+use Rattle.prop_index.specs.DefinitionRecord.{definition_start, head_ids}
+use Rattle.prop_index.specs.Reading.{KeepsStore}
+use Rattle.prop_index.specs.Touching.{index_keys}
+use Rattle.prop_index.proofs.DefinitionAdded.{definition_added, definition_reread, start-kind}
+use Rattle.prop_index.proofs.HeadsAdded.{length-head_ids}
+use Rattle.prop_index.proofs.IndexTouches.{index_read, index_then, only_join, then_meta}
+use Rattle.prop_index.proofs.defining.define.Goals as goal
+
+pub returns-in_err-rec-clause-touches : goal.returns-in_err-rec-clause-touches
+returns-in_err-rec-clause-touches g c = index_then 0 12 13 _ _ _ (omega arith) (index_read 0 1 _ _ (reads_one 1 _ _ (omega arith) c.get.ensures.state)) c.in_err-rec.ensures.touches
+
+pub returns-in_err-id-clause-touches : goal.returns-in_err-id-clause-touches
+returns-in_err-id-clause-touches g c =
+    index_then 12 1 13 _ _ _ (omega arith)
+    (index_then 0 12 12 _ _ _ (omega arith) (index_read 0 1 _ _ (reads_one 1 _ _ (omega arith) c.get.ensures.state)) c.in_ok-rec.ensures.touches) c.in_err-id.ensures.touches
+
+-- what was read, the heads, and the record of the definition
+module _ where
+  pub joined : {tells : Type 0} (s a m t : State) (rec : Rec) (id : ℕ) → a ≡ after_get s → TouchesOnly tells a m (index_keys (head_ids 12 rec)) → TouchesOnly tells m t (index_keys (id ∷ [])) → TouchesOnly tells s t (index_keys (id ∷ head_ids 12 rec))
+  joined s a m t rec id is h g =
+      let read = (index_read 0 1 s a (reads_one 1 s a (omega arith) is)) in
+      only_join read.ids (id ∷ head_ids 12 rec) (id ∷ head_ids 12 rec) s a t (λ x i. none read.ids read.few x i) (λ x i. i) read.only
+      (only_join (head_ids 12 rec) (id ∷ []) (id ∷ head_ids 12 rec) a m t (λ x i. inr i) (λ x i. ⊎_elim (λ e. inl e) (λ (k : ⊥). absurd k) i) h g)
+    where
+      none : (xs : List ℕ) → length xs ≤ 0 → (x : ℕ) → In x xs → In x (id ∷ head_ids 12 rec)
+      none [] few x i = elim i [ ]
+      none (y ∷ ys) few x i = absurd (omega arith)
+
+pub returns-in_err-set_number-clause-touches : goal.returns-in_err-set_number-clause-touches
+returns-in_err-set_number-clause-touches g c =
+    let ids = c.in_ok-id.id ∷ head_ids 12 c.in_ok-rec.rec in
+    let few = length-head_ids 12 c.in_ok-rec.rec in
+    record {
+      ids = ids;
+      few = omega arith;
+      only = then_meta ids _ _ _ c.meta_key-2.result c.meta_key-2.ensures (joined _ _ _ _ c.in_ok-rec.rec c.in_ok-id.id c.get.ensures.state c.in_ok-rec.ensures.touched c.in_ok-id.ensures.touched) c.in_err-set_number.ensures.wrote;
+    }
+
+pub returns-clause-touched : goal.returns-clause-touched
+returns-clause-touched g c =
+    then_meta (c.in_ok-id.id ∷ head_ids 12 c.in_ok-rec.rec) _ _ _ c.meta_key-2.result c.meta_key-2.ensures
+    (joined _ _ _ _ c.in_ok-rec.rec c.in_ok-id.id c.get.ensures.state c.in_ok-rec.ensures.touched c.in_ok-id.ensures.touched) c.in_ok-set_number.ensures.wrote
+
+pub returns-clause-touches : goal.returns-clause-touches
+returns-clause-touches g c =
+    let ids = c.in_ok-id.id ∷ head_ids 12 c.in_ok-rec.rec in
+    let few = length-head_ids 12 c.in_ok-rec.rec in
+    record {
+      ids = ids;
+      few = omega arith;
+      only = then_meta ids _ _ _ c.meta_key-2.result c.meta_key-2.ensures (joined _ _ _ _ c.in_ok-rec.rec c.in_ok-id.id c.get.ensures.state c.in_ok-rec.ensures.touched c.in_ok-id.ensures.touched) c.in_ok-set_number.ensures.wrote;
+    }
+
+pub returns-clause-onward : goal.returns-clause-onward
+returns-clause-onward g c =
+    g.met.S.Reads.further_onward _ _ _ (g.met.S.Reads.further_onward _ _ _ (g.met.S.Reads.further_onward _ _ _ c.get.ensures.onward c.in_ok-rec.ensures.onward) c.in_ok-id.ensures.onward) c.in_ok-set_number.ensures.onward
+
+pub returns-clause-added : goal.returns-clause-added
+returns-clause-added g c tells store =
+    let s = g.S.Reads.state c.args.space.now in
+    let m = g.S.Reads.state c.add_heads.new.space in
+    let t = g.S.Reads.state c.add_record.new.space in
+    let w = g.S.Reads.state c.set_number.new.space in
+    let label = c.args.label in
+    let key = c.args.key in
+    let first = c.number.result in
+    let rec = c.in_ok-rec.rec in
+    let id = c.in_ok-id.id in
+    let label_fits : label < 2 ^ 32 = search rules in
+    let key_fits : key < 2 ^ 32 = search rules in
+    let first_fits : first < 2 ^ 32 = search rules in
+    let got : c.in_ok-meta.meta ≡ s.records (meta_key_of format.index_file) = c.in_ok-meta.ensures.got tells ∙ ap s.records c.meta_key.ensures in
+    let first_is : first ≡ first_definition s.records = c.number.ensures ∙ ap (λ (r : Rec). field 4 r format.meta_definition) got in
+    let store_read : KeepsStore (g.S.Reads.state c.get.new.self) = subst KeepsStore (sym c.get.ensures.state) store in
+    let heads_read = c.in_ok-rec.ensures.added tells store_read in
+    let heads : AreHeadsAdded (after_get s) m (definition_start label key first) 12 rec
+    = subst (λ (z : State). AreHeadsAdded z m (definition_start label key first) 12 rec) c.get.ensures.state
+    (subst (λ (r : Rec). AreHeadsAdded (g.S.Reads.state c.get.new.self) m r 12 rec) c.definition_start-start.ensures heads_read) in
+    let kind = heads.front 1 format.kind (omega arith) ∙ start-kind label key first label_fits key_fits first_fits in
+    let used : field 1 rec format.kind ≢ format.free_kind = λ e. omega (arith, kind, e) in
+    let added : IsRecordAdded m t rec id = c.in_ok-id.ensures.added tells heads.kept used in
+    let is : w ≡ after_set t (meta_key_of format.index_file) 4 format.meta_definition id = c.in_ok-set_number.ensures.ok tells ∙ ap (λ (k : Key). after_set t k 4 format.meta_definition id) c.meta_key-2.ensures in
+    definition_reread s w (raised s.reads) label key (record { id = id; rec = rec })
+    (definition_added (after_get s) m t label key first id rec store heads added first_is label_fits key_fits first_fits w is)

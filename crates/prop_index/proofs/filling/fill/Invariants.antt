@@ -1,0 +1,28 @@
+use Rattle.std.proofs.Common.{◌≡◌, ◌≢◌, ◌<◌, ◌≤◌, ◌++◌, ℕ, List, length, take, get_or}
+use Rattle.rec_bytes.specs.Format as format
+use Rattle.rec_bytes.specs.Key.{IsKey}
+use Rattle.store_rules.specs.Chains.{In}
+use Rattle.store_rules.specs.Indexes.{AreIndexed, Entries, first_entry}
+use Rattle.store_rules.specs.Views.{key_in}
+use Rattle.prop_store.specs.Touching.{TouchesOnly}
+use Rattle.prop_index.specs.DefinitionRecord.{head_ids}
+use Rattle.prop_index.specs.Filling.{AreFillable, IsEmptyIndex, IsFilled}
+use Rattle.prop_index.specs.Reading.{KeepsStore}
+use Rattle.prop_index.specs.Touching.{index_keys}
+use Rattle.prop_index.proofs.filling.fill.Given as goal
+
+abbrev pub invariant-loop-content : goal.invariant-loop-content
+invariant-loop-content g l =
+    let old = g.S.Reads.state l.fn.space in
+    let now = g.S.Reads.state l.space in
+    let definition = l.fn.definition in
+    record {
+      filled : g.S.Reads.tells → (wanted : Entries) → (ix : AreIndexed old.records wanted) → (label key : ℕ) → IsEmptyIndex old.records wanted ix label key definition → AreFillable old.records l.fn.contents → KeepsStore old
+          → IsFilled old now wanted ix label key (take l.content-index l.fn.contents) × ((b : ℕ) → b < 180 → get_or l.firsts b 0 ≡ first_entry now.records definition.id b);
+      long : length l.firsts ≡ 180;
+      keys : (b : ℕ) → b < 180 → get_or l.firsts b 0 ≢ format.nil → IsKey (key_in format.index_file (get_or l.firsts b 0));
+      touched : (ids : List ℕ) × (length ids ≤ l.content-index) × ((b : ℕ) → b < 180 → get_or l.firsts b 0 ≢ format.nil → In (get_or l.firsts b 0) ids)
+          × TouchesOnly g.S.Reads.tells old now (index_keys (head_ids 12 definition.rec ++ ids));
+      onward : g.S.Reads.onward l.fn.space l.space;
+      later : g.S.Reads.faults l.fn.space ≤ g.S.Reads.faults l.space;
+    }

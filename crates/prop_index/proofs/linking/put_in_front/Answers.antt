@@ -1,0 +1,71 @@
+use Rattle.std.proofs.Common.{◌<◌, ◌^◌, ◌≡◌, ap, sym, ◌∙◌, subst, rules}
+use Rattle.rec_bytes.specs.declared.record.Rec.{Rec}
+use Rattle.rec_bytes.specs.Format as format
+use Rattle.rec_bytes.specs.Meta as metas
+use Rattle.rec_bytes.specs.RecordFiles.{meta_key_of}
+use Rattle.rec_bytes.specs.Space.{State}
+use Rattle.store_rules.specs.IndexChange.{IsEntryMade}
+use Rattle.prop_index.proofs.LinkRules.{free_list}
+use Rattle.prop_index.proofs.MadeRules.{entry_made_kept}
+use Rattle.prop_index.proofs.IndexFull.{take-full}
+use Rattle.prop_index.proofs.IndexTouches.{meta_only, meta_then}
+use Rattle.prop_index.proofs.Made.{below_taken, made}
+use Rattle.prop_index.proofs.Steps.{linked-meta}
+use Rattle.std.proofs.lemmas.Result.{err_from_is_err_and}
+use Rattle.prop_index.specs.Touching.{front_ids}
+use Rattle.prop_index.proofs.linking.put_in_front.Goals as goal
+
+pub returns-clause-made : goal.returns-clause-made
+returns-clause-made g c tells free head right can =
+    let s = (g.S.Reads.state c.args.space.now).records in
+    let u = g.S.Reads.state c.take.new.space in
+    let bucket = c.args.bucket in
+    let content = c.args.content in
+    let id = c.in_ok-id.id in
+    let taken = c.in_ok-id.ensures.taken tells free can.list in
+    let node_fits : content.node < 2 ^ 32 = search rules in
+    let hash_fits : content.hash < 2 ^ 64 = search rules in
+    subst (λ (z : State). IsEntryMade s z.records id bucket.slot.id bucket.slot.place content.node content.hash) (sym (c.in_ok-link.ensures.ok tells))
+    (made s u bucket.slot bucket.first id content free taken (below_taken s u.records id free taken can.low) (c.in_ok-id.ensures.fresh tells) c.in_ok-id.ensures.key.id
+    head.heads head.first_is right node_fits hash_fits)
+
+pub returns-clause-keeps : goal.returns-clause-keeps
+returns-clause-keeps g c tells store head right place known =
+    let s = g.S.Reads.state c.args.space.now in
+    let u = g.S.Reads.state c.take.new.space in
+    let t = g.S.Reads.state c.link.new.space in
+    let bucket = c.args.bucket in
+    let content = c.args.content in
+    let id = c.in_ok-id.id in
+    let taken = c.in_ok-id.ensures.taken tells (free_list s store).0 (free_list s store).1.walk in
+    let first_fits : bucket.first < 2 ^ 32 = search rules in
+    let node_fits : content.node < 2 ^ 32 = search rules in
+    let hash_fits : content.hash < 2 ^ 64 = search rules in
+    let shape : t.shape ≡ s.shape = g.met.S.Reads.onward_shape _ _ (g.met.S.Reads.further_onward _ _ _ c.in_ok-id.ensures.onward c.in_ok-link.ensures.onward) in
+    entry_made_kept s u bucket.slot bucket.first id content store taken (c.in_ok-id.ensures.fresh tells) c.in_ok-id.ensures.small head.heads place right first_fits node_fits hash_fits known
+    t (c.in_ok-link.ensures.ok tells) shape
+
+pub returns-clause-counted : goal.returns-clause-counted
+returns-clause-counted g c tells free can =
+    let u = g.S.Reads.state c.take.new.space in
+    let bucket = c.args.bucket in
+    ap (λ (z : State). (metas.meta_of (z.records (meta_key_of format.index_file))).live) (c.in_ok-link.ensures.ok tells)
+    ∙ ap (λ (r : Rec). (metas.meta_of r).live) (linked-meta u bucket.slot bucket.first c.in_ok-id.id c.args.content) ∙ (c.in_ok-id.ensures.taken tells free can.list).live
+
+pub returns-clause-touched : goal.returns-clause-touched
+returns-clause-touched g c = meta_then (front_ids c.in_ok-id.id c.args.bucket.slot.id c.args.bucket.first) _ _ _ (record { writes = c.in_ok-id.ensures.writes; stays = c.in_ok-id.ensures.stays }) c.in_ok-link.ensures.touches
+
+pub returns-clause-touches : goal.returns-clause-touches
+returns-clause-touches g c = record { id = c.in_ok-id.id; only = meta_then (front_ids c.in_ok-id.id c.args.bucket.slot.id c.args.bucket.first) _ _ _ (record { writes = c.in_ok-id.ensures.writes; stays = c.in_ok-id.ensures.stays }) c.in_ok-link.ensures.touches }
+
+pub returns-in_err-link-clause-touches : goal.returns-in_err-link-clause-touches
+returns-in_err-link-clause-touches g c = record { id = c.in_ok-id.id; only = meta_then (front_ids c.in_ok-id.id c.args.bucket.slot.id c.args.bucket.first) _ _ _ (record { writes = c.in_ok-id.ensures.writes; stays = c.in_ok-id.ensures.stays }) c.in_err-link.ensures.touches }
+
+pub returns-in_err-id-clause-touches : goal.returns-in_err-id-clause-touches
+returns-in_err-id-clause-touches g c = record { id = 0; only = meta_only (front_ids 0 c.args.bucket.slot.id c.args.bucket.first) _ _ (record { writes = c.in_err-id.ensures.writes; stays = c.in_err-id.ensures.stays }) }
+
+pub returns-in_err-id-clause-full : goal.returns-in_err-id-clause-full
+returns-in_err-id-clause-full g c tells =
+    let s = g.S.Reads.state c.args.space.now in
+    let p = err_from_is_err_and c.from_residual.result c.from_residual.ensures.1 in
+    rw (p.1, p.2) (take-full s c.in_err-id.field-0.0 (c.in_err-id.ensures.refused tells))

@@ -1,0 +1,51 @@
+use Rattle.std.specs.Prelude.{Result, Ok, Err, OnOk}
+use Rattle.std.proofs.Common.{◌+◌, ap, sym, subst, length, arith}
+use Rattle.std.proofs.lemmas.Result.{err_from_is_err_and}
+use Rattle.rec_bytes.specs.Format as format
+use Rattle.rec_bytes.specs.RecordFiles.{room_of}
+use Rattle.prop_index.specs.Filling.{AreFillable, IsFilled}
+use Rattle.prop_index.proofs.ContentsWanted.{contents_fillable}
+use Rattle.prop_index.proofs.IndexMade.{before, empty_index, index_more, index_written, ix_defined, written_touches}
+use Rattle.prop_index.proofs.making.write_index.Goals as goal
+
+on_ok : {T E : Type 0} {P Q : Type 0} (r : Result T E) → (P → Q) → OnOk r P → OnOk r Q
+on_ok (Ok x) f p = f p
+on_ok (Err e) f p = tt
+
+pub returns-clause-written : goal.returns-clause-written
+returns-clause-written g c tells was may contents_are =
+    let s = g.S.Reads.state c.args.space.now in
+    let m = g.S.Reads.state c.define.new.space in
+    let t = g.S.Reads.state c.fill.new.space in
+    let definition = c.in_ok-definition.definition in
+    let added = c.in_ok-definition.ensures.added tells was.rules in
+    let ix = ix_defined s m c.args.label c.args.key definition was may added in
+    let fillable = subst (AreFillable m.records) (sym contents_are) (contents_fillable s.records m.records c.args.label c.args.key added.others) in
+    on_ok c.fill.result
+    (λ filled. index_written s m c.args.label c.args.key definition was may added t
+    (subst (IsFilled m t (before s m c.args.label c.args.key definition was may added) ix c.args.label c.args.key) contents_are filled))
+    (c.fill.ensures.filled tells (before s m c.args.label c.args.key definition was may added) ix c.args.label c.args.key (empty_index s m c.args.label c.args.key definition was may added) fillable added.kept)
+
+pub returns-in_err-definition-clause-mishap : goal.returns-in_err-definition-clause-mishap
+returns-in_err-definition-clause-mishap g c tells was may contents_are left =
+    let p = err_from_is_err_and c.from_residual.result c.from_residual.ensures.1 in
+    rw (p.1, p.2) (c.in_err-definition.ensures.mishap tells was.rules (omega (arith, left)))
+
+pub returns-clause-mishap : goal.returns-clause-mishap
+returns-clause-mishap g c tells was may contents_are left =
+    let s = g.S.Reads.state c.args.space.now in
+    let m = g.S.Reads.state c.define.new.space in
+    let definition = c.in_ok-definition.definition in
+    let added = c.in_ok-definition.ensures.added tells was.rules in
+    let ix = ix_defined s m c.args.label c.args.key definition was may added in
+    let fillable = subst (AreFillable m.records) (sym contents_are) (contents_fillable s.records m.records c.args.label c.args.key added.others) in
+    let live = added.live in
+    let room = ap (λ z. room_of z format.index_file) added.shape in
+    c.fill.ensures.mishap tells (before s m c.args.label c.args.key definition was may added) ix c.args.label c.args.key (empty_index s m c.args.label c.args.key definition was may added) fillable added.kept
+    (omega (arith, left, live, room))
+
+pub returns-in_err-definition-clause-touches : goal.returns-in_err-definition-clause-touches
+returns-in_err-definition-clause-touches g c = index_more 13 (13 + length c.args.contents.now) _ _ (omega arith) c.in_err-definition.ensures.touches
+
+pub returns-clause-touches : goal.returns-clause-touches
+returns-clause-touches g c = written_touches _ _ _ c.in_ok-definition.definition (length c.args.contents.now) c.in_ok-definition.ensures.touched c.fill.ensures.touches

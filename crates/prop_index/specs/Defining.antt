@@ -1,0 +1,72 @@
+-- Records that are added to the index, and a definition of them.
+use Rattle.std.specs.Prelude.{◌≡◌, ◌≢◌, ℕ, ◌+◌, ◌<◌, ◌≤◌}
+use Rattle.rec_bytes.specs.declared.key.Key.{Key}
+use Rattle.rec_bytes.specs.declared.record.Rec.{Rec}
+use Rattle.rec_bytes.specs.Format as format
+use Rattle.rec_bytes.specs.Record.{field}
+use Rattle.rec_bytes.specs.RecordFiles.{meta_key_of, room_of}
+use Rattle.rec_bytes.specs.Space.{State, meta_of}
+use Rattle.store_rules.specs.IndexChange.{IsDefinitionMade}
+use Rattle.store_rules.specs.Indexes.{first_definition, index_rec}
+use Rattle.store_rules.specs.Ranges.{Fits}
+use Rattle.store_rules.specs.Views.{Records, high, kind_at}
+use Rattle.prop_index.specs.DefinitionRecord.{empty_heads, head_of}
+use Rattle.prop_index.specs.Reading.{KeepsStore}
+use Rattle.prop_index.specs.declared.finding.Definition.{Definition}
+
+-- there is room for so many records more
+abbrev pub HasLeft : State → ℕ → Type 0
+HasLeft s n = (meta_of s format.index_file).live + n ≤ room_of s.shape format.index_file
+
+-- all but the records of the index is as it was
+abbrev pub SameElsewhere : Records → Records → Type 0
+SameElsewhere s t =
+    (q : Key) → q.file ≢ format.index_file → q ≢ meta_key_of format.index_file → t q ≡ s q
+
+-- So many records more are in use. The first definition is what it was, and so is all else.
+pub record GrowsBy (s t : State) (count : ℕ) : Type 0 where
+  pub first : first_definition t.records ≡ first_definition s.records
+  pub more : high s.records format.index_file ≤ high t.records format.index_file
+  pub live : (meta_of t format.index_file).live ≡ (meta_of s format.index_file).live + count
+  pub shape : t.shape ≡ s.shape
+  pub others : SameElsewhere s.records t.records
+
+-- The record is in use that was free. Where it fits its file, the rules but the eighth hold.
+pub record IsRecordAdded (s t : State) (rec : Rec) (id : ℕ) : Type 0 where
+  pub fresh : kind_at s.records format.index_file id ≡ format.free_kind
+  pub here : index_rec t.records id ≡ rec
+  pub kind : kind_at t.records format.index_file id ≡ field 1 rec format.kind
+  pub low : id < high t.records format.index_file
+  pub kinds : (y : ℕ) → y ≢ id
+      → kind_at t.records format.index_file y ≡ kind_at s.records format.index_file y
+  pub records : (y : ℕ) → y ≢ id → index_rec t.records y ≡ index_rec s.records y
+  pub grows : GrowsBy s t 1
+  pub kept : Fits (high t.records) format.index_file rec → KeepsStore t
+
+-- The first heads that the record of a definition names are in use, with empty buckets, and were
+-- free. What stands before them in it is what it was.
+pub record AreHeadsAdded (s t : State) (start : Rec) (count : ℕ) (rec : Rec) : Type 0 where
+  pub front : (n at : ℕ) → at + n ≤ format.definition_heads → field n rec at ≡ field n start at
+  pub fresh : (c : ℕ) → c < count
+      → kind_at s.records format.index_file (head_of rec c) ≡ format.free_kind
+  pub here : (c : ℕ) → c < count → index_rec t.records (head_of rec c) ≡ empty_heads
+  pub kind : (c : ℕ) → c < count
+      → kind_at t.records format.index_file (head_of rec c) ≡ format.heads
+  pub low : (c : ℕ) → c < count → head_of rec c < high t.records format.index_file
+  pub once : (c k : ℕ) → c < count → k < count → head_of rec c ≡ head_of rec k → c ≡ k
+  pub kinds : (y : ℕ) → ((c : ℕ) → c < count → y ≢ head_of rec c)
+      → kind_at t.records format.index_file y ≡ kind_at s.records format.index_file y
+  pub records : (y : ℕ) → ((c : ℕ) → c < count → y ≢ head_of rec c)
+      → index_rec t.records y ≡ index_rec s.records y
+  pub grows : GrowsBy s t count
+  pub kept : KeepsStore t
+
+-- A definition of the pair is in front of the others, with empty buckets.
+pub record IsDefinitionAdded (s t : State) (label key : ℕ) (definition : Definition)
+    : Type 0 where
+  pub made : IsDefinitionMade s.records t.records definition.id label key
+  pub rec_is : definition.rec ≡ index_rec t.records definition.id
+  pub live : (meta_of t format.index_file).live ≡ (meta_of s format.index_file).live + 13
+  pub shape : t.shape ≡ s.shape
+  pub others : SameElsewhere s.records t.records
+  pub kept : KeepsStore t
