@@ -1,0 +1,9 @@
+pub mod BucketLaws
+pub mod DefinitionLaws
+pub mod EntryLaws
+pub mod IndexLaws
+pub mod ListedLaws
+pub mod NodeLaws
+pub mod PlaceLaws
+pub mod SoundExits
+pub mod ValueLaws

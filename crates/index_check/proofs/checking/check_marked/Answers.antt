@@ -1,0 +1,37 @@
+use Rattle.std.proofs.Common.{rules, arith, ◌≡◌, ◌<◌, ℕ, true, IfNone, IfSome, subst}
+use Rattle.rec_bytes.specs.Format as format
+use Rattle.record_lists.specs.Marks.{marked}
+use Rattle.record_lists.proofs.Causes.{cause_passed}
+use Rattle.store_rules.specs.Views.{Records, high, is_live}
+use Rattle.index_check.specs.Indexing.{AreAllMarked}
+use Rattle.index_check.proofs.IndexLaws.{breaks_by}
+use Rattle.index_check.proofs.ListedLaws.{all_held, left_over}
+use Rattle.index_check.proofs.checking.check_marked.Goals as goal
+
+pub returns-in-Some-2-clause-broken : goal.returns-in-Some-2-clause-broken
+returns-in-Some-2-clause-broken g c = λ tells.
+    let records = (g.R.Reads.state c.args.space.now).records in
+    let marks = c.mark_lists.new.marks in
+    let all : AreAllMarked records c.args.ids.now marks = search (rules, c.in_ok-damage.ensures.right tells) in
+    let found : IfSome c.in_ok-id.field-0 (λ x. ¬ (is_live records format.index_file x ≡ true → marked marks x ≡ true))
+    = subst (λ (r : Records). IfSome c.in_ok-id.field-0 (λ x. ¬ (is_live r format.index_file x ≡ true → marked marks x ≡ true))) c.in_ok-damage.ensures.same (c.in_ok-id.ensures.found tells) in
+    let bad : ¬ (is_live records format.index_file c.in-Some-2.id ≡ true → marked marks c.in-Some-2.id ≡ true) = search (rules, found) in
+    breaks_by records c.broken.result format.index_file c.in-Some-2.id c.broken.ensures (left_over records c.args.ids.now marks all c.in-Some-2.id bad)
+
+pub returns-in-None-clause-right : goal.returns-in-None-clause-right
+returns-in-None-clause-right g c = λ tells.
+    let records = (g.R.Reads.state c.args.space.now).records in
+    let marks = c.mark_lists.new.marks in
+    let all : AreAllMarked records c.args.ids.now marks = search (rules, c.in_ok-damage.ensures.right tells) in
+    let none : IfNone c.in_ok-id.field-0 ((x : ℕ) → x < high records format.index_file → is_live records format.index_file x ≡ true → marked marks x ≡ true)
+    = subst (λ (r : Records). IfNone c.in_ok-id.field-0 ((x : ℕ) → x < high r format.index_file → is_live r format.index_file x ≡ true → marked marks x ≡ true)) c.in_ok-damage.ensures.same (c.in_ok-id.ensures.none tells) in
+    let each : (x : ℕ) → x < high records format.index_file → is_live records format.index_file x ≡ true → marked marks x ≡ true = search (rules, none) in
+    all_held records c.args.ids.now marks all each
+
+pub returns-in_err-damage-clause-cause : goal.returns-in_err-damage-clause-cause
+returns-in_err-damage-clause-cause g c =
+    cause_passed _ _ _ c.from_residual.result c.in_err-damage.field-0.0 (omega arith) c.in_err-damage.ensures.cause c.from_residual.ensures.1
+
+pub returns-in_err-id-clause-cause : goal.returns-in_err-id-clause-cause
+returns-in_err-id-clause-cause g c =
+    cause_passed _ _ _ c.from_residual-in_err-id.result c.in_err-id.field-0.0 c.in_ok-damage.ensures.cause.later c.in_err-id.ensures.cause c.from_residual-in_err-id.ensures.1

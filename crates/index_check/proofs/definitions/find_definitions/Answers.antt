@@ -1,0 +1,43 @@
+use Rattle.std.proofs.Common.{rules, arith, ◌≡◌, ◌≤◌, ◌∙◌, ℕ, List, length, ap, sym, subst}
+use Rattle.rec_bytes.specs.Format as format
+use Rattle.rec_bytes.specs.Record.{field}
+use Rattle.record_lists.specs.Lines.{IsLineIn}
+use Rattle.store_rules.specs.Indexes.{first_definition}
+use Rattle.store_rules.specs.Views.{high}
+use Rattle.index_check.specs.Definitions.{definition_line}
+use Rattle.index_check.proofs.DefinitionLaws.{definitions_of, line_is, line_of_definitions, same_line}
+use Rattle.index_check.proofs.definitions.find_definitions.Goals as goal
+
+pub returns-in_default-clause-none : goal.returns-in_default-clause-none
+returns-in_default-clause-none g c = λ tells xs h.
+    let records = (g.R.Reads.state c.args.space.now).records in
+    let first : c.number-first.result ≡ first_definition records = c.number-first.ensures ∙ ap (λ r. field 4 r format.meta_definition) (c.in_ok-meta.ensures.got tells ∙ ap records c.meta_key.ensures) in
+    let read = ap (λ s. s.records) c.in_ok-meta.ensures.state in
+    let none : (ys : List ℕ) → ¬ IsLineIn definition_line (g.R.Reads.state c.get.new.self).records c.args.records c.number-first.result ys = search (rules, c.in_ok-ids.ensures.none tells) in
+    none xs (subst (λ (l : List ℕ → Type 0). l xs) (sym (same_line records _ _ _ read c.requires.records first)) (line_of_definitions records xs h))
+
+pub returns-then-len-gt-MOST_DEFINITIONS-clause-none : goal.returns-then-len-gt-MOST_DEFINITIONS-clause-none
+returns-then-len-gt-MOST_DEFINITIONS-clause-none g c = λ tells xs h.
+    let records = (g.R.Reads.state c.args.space.now).records in
+    let first : c.number-first.result ≡ first_definition records = c.number-first.ensures ∙ ap (λ r. field 4 r format.meta_definition) (c.in_ok-meta.ensures.got tells ∙ ap records c.meta_key.ensures) in
+    let read = ap (λ s. s.records) c.in_ok-meta.ensures.state in
+    let ids = c.in-Some.ids.items in
+    let found : IsLineIn definition_line (g.R.Reads.state c.get.new.self).records c.args.records c.number-first.result ids = search (rules, c.in_ok-ids.ensures.found tells) in
+    let len : c.len.result ≡ length ids = search rules in
+    let room : high records format.index_file ≤ format.most_ids = omega (arith, c.requires.records, c.requires.low) in
+    let same = line_is records room ids xs (subst (λ (l : List ℕ → Type 0). l ids) (same_line records _ _ _ read c.requires.records first) found) h in
+    let as_long : length xs ≡ length ids = ap length same in
+    let few = h.few in
+    omega (arith, c.if-len-gt-MOST_DEFINITIONS.true)
+
+pub returns-clause-found : goal.returns-clause-found
+returns-clause-found g c = λ tells.
+    let records = (g.R.Reads.state c.args.space.now).records in
+    let first : c.number-first.result ≡ first_definition records = c.number-first.ensures ∙ ap (λ r. field 4 r format.meta_definition) (c.in_ok-meta.ensures.got tells ∙ ap records c.meta_key.ensures) in
+    let read = ap (λ s. s.records) c.in_ok-meta.ensures.state in
+    let ids = c.in-Some.ids.items in
+    let found : IsLineIn definition_line (g.R.Reads.state c.get.new.self).records c.args.records c.number-first.result ids = search (rules, c.in_ok-ids.ensures.found tells) in
+    let len : c.len.result ≡ length ids = search rules in
+    let few : length ids ≤ 16 = omega (arith, c.if-len-gt-MOST_DEFINITIONS.false) in
+    let room : high records format.index_file ≤ format.most_ids = omega (arith, c.requires.records, c.requires.low) in
+    definitions_of records room ids (subst (λ (l : List ℕ → Type 0). l ids) (same_line records _ _ _ read c.requires.records first) found) few

@@ -1,0 +1,55 @@
+use Rattle.std.proofs.Common.{rules, arith, ◌∙◌, ◌++◌, ◌∷◌, [], map, take, get_or, ap, sym, refl}
+use Rattle.std.proofs.lemmas.List.{map-append, map_more, take_more}
+use Rattle.store_rules.specs.Views.{Records}
+use Rattle.record_lists.proofs.Causes.{cause_passed}
+use Rattle.index_check.specs.Definitions.{definition_at}
+use Rattle.index_check.specs.declared.definitions.Definition.{Definition}
+use Rattle.index_check.proofs.definitions.read_definitions.Goals as goal
+
+pub loop-id-init : goal.loop-id-init
+loop-id-init g c = record {
+  same = refl;
+  written = refl;
+  are = λ tells. search rules;
+  ids = search rules;
+  onward = g.met.R.Reads.stays_onward c.args.space.now;
+  faults = omega arith;
+}
+
+pub loop-id-preserved : goal.loop-id-preserved
+loop-id-preserved g c =
+    let records = (g.R.Reads.state c.args.space.now).records in
+    let inv = c.loop-id.invariant in
+    let ids = c.args.ids.now in
+    let at = c.loop-id.id-index in
+    let id = get_or ids at 0 in
+    let one = c.in_ok-definition.definition in
+    record {
+      same = c.in_ok-definition.ensures.same ∙ inv.same;
+      written = c.in_ok-definition.ensures.written ∙ inv.written;
+      are = λ tells.
+          c.in-Ok.ensures.items
+          ∙ ap (λ xs. xs ++ one ∷ []) (inv.are tells)
+          ∙ ap (λ x. map (definition_at records) (take at ids) ++ x ∷ []) (c.in_ok-definition.ensures.is tells ∙ ap (λ (r : Records). definition_at r id) inv.same)
+          ∙ sym (map_more (definition_at records) ids at 0 c.loop-id-test.true);
+      ids = ap (map (λ (d : Definition). d.id)) c.in-Ok.ensures.items
+          ∙ map-append (λ (d : Definition). d.id) c.loop-id.definitions.items (one ∷ [])
+          ∙ ap (λ xs. xs ++ one.id ∷ []) inv.ids
+          ∙ ap (λ x. take at ids ++ x ∷ []) c.in_ok-definition.ensures.id
+          ∙ sym (take_more ids at 0 c.loop-id-test.true);
+      onward = g.met.R.Reads.further_onward c.args.space.now c.loop-id.space c.read_definition.new.space inv.onward c.in_ok-definition.ensures.onward;
+      faults = let cause = c.in_ok-definition.ensures.cause in omega (arith, inv.faults, cause.later);
+    }
+
+pub returns-in_err-definition-clause-same : goal.returns-in_err-definition-clause-same
+returns-in_err-definition-clause-same g c = c.in_err-definition.ensures.same ∙ c.loop-id.invariant.same
+
+pub returns-in_err-definition-clause-written : goal.returns-in_err-definition-clause-written
+returns-in_err-definition-clause-written g c = c.in_err-definition.ensures.written ∙ c.loop-id.invariant.written
+
+pub returns-in_err-definition-clause-onward : goal.returns-in_err-definition-clause-onward
+returns-in_err-definition-clause-onward g c = g.met.R.Reads.further_onward c.args.space.now c.loop-id.space c.read_definition.new.space c.loop-id.invariant.onward c.in_err-definition.ensures.onward
+
+pub returns-in_err-definition-clause-cause : goal.returns-in_err-definition-clause-cause
+returns-in_err-definition-clause-cause g c =
+    cause_passed _ _ _ c.from_residual.result c.in_err-definition.field-0.0 c.loop-id.invariant.faults c.in_err-definition.ensures.cause c.from_residual.ensures.1

@@ -1,0 +1,62 @@
+use Rattle.std.proofs.Common.{rules, ◌≡◌, ◌∙◌, ℕ, List, subst}
+use Rattle.rec_bytes.specs.Format as format
+use Rattle.store_rules.specs.Views.{Records}
+use Rattle.index_check.specs.Entries.{AreEntriesTo, LacksBucket}
+use Rattle.index_check.specs.Nodes.{AreNodesOf, AreNodesRight, IsWrongNode}
+use Rattle.index_check.specs.declared.definitions.Definition.{Definition}
+use Rattle.index_check.specs.declared.nodes.Entered.{Entered}
+use Rattle.index_check.specs.declared.nodes.Entered.TheVariants.{Nodes, Unwanted}
+use Rattle.index_check.proofs.IndexLaws.{breaks_by, lacks_breaks, right_of, unwanted_breaks, wrong_breaks}
+use Rattle.index_check.proofs.index.check_index.Goals as goal
+
+pub returns-in_default-clause-broken : goal.returns-in_default-clause-broken
+returns-in_default-clause-broken g c = λ tells.
+    let records = (g.R.Reads.state c.args.space.now).records in
+    let d = c.args.definition.now in
+    let lacks : LacksBucket records d.id = search (rules, c.in_ok-entries.ensures.none tells) in
+    breaks_by records c.broken.result format.index_file d.id c.broken.ensures (lacks_breaks records d (c.requires.given tells) lacks)
+
+-- what was found of the nodes, over records and entries by other names
+nodes_told : (records after : Records) (d : Definition) (xs ys : List ℕ) (e f : Entered) → after ≡ records → xs ≡ ys → e ≡ f → AreNodesOf after d xs e → AreNodesOf records d ys f
+nodes_told records after d xs ys e f read is what h =
+    subst (AreNodesOf records d ys) what (subst (λ zs. AreNodesOf records d zs e) is (subst (λ (r : Records). AreNodesOf r d xs e) read h))
+
+pub returns-in-Unwanted-clause-broken : goal.returns-in-Unwanted-clause-broken
+returns-in-Unwanted-clause-broken g c = λ tells.
+    let records = (g.R.Reads.state c.args.space.now).records in
+    let d = c.args.definition.now in
+    let given = c.requires.given tells in
+    let entries = c.in-Some.entries.items in
+    let x = c.in-Unwanted.id in
+    let are : AreEntriesTo records d.id 180 entries = search (rules, c.in_ok-entries.ensures.found tells) in
+    let told = nodes_told records _ d c.deref.result.now entries c.in_ok-id.field-0 (Unwanted x) c.in_ok-entries.ensures.same c.deref.ensures.value c.in-Unwanted.is (c.in_ok-id.ensures.told tells) in
+    breaks_by records c.broken-in-Unwanted.result format.index_file x c.broken-in-Unwanted.ensures (unwanted_breaks records d given entries are x told.0 told.1)
+
+pub returns-in-Some-2-clause-broken : goal.returns-in-Some-2-clause-broken
+returns-in-Some-2-clause-broken g c = λ tells.
+    let records = (g.R.Reads.state c.args.space.now).records in
+    let d = c.args.definition.now in
+    let given = c.requires.given tells in
+    let entries = c.in-Some.entries.items in
+    let nodes = c.in-Nodes.nodes.items in
+    let n = c.in-Some-2.node in
+    let are : AreEntriesTo records d.id 180 entries = search (rules, c.in_ok-entries.ensures.found tells) in
+    let told = nodes_told records _ d c.deref.result.now entries c.in_ok-id.field-0 (Nodes c.in-Nodes.nodes) c.in_ok-entries.ensures.same c.deref.ensures.value c.in-Nodes.is (c.in_ok-id.ensures.told tells) in
+    let found : IsWrongNode (g.R.Reads.state c.nodes_of.new.space).records d c.deref-in-Nodes.result.now n = search (rules, c.in_ok-node-in-Nodes.ensures.found tells) in
+    let wrong : IsWrongNode records d nodes n
+    = subst (λ ns. IsWrongNode records d ns n) c.deref-in-Nodes.ensures.value (subst (λ (r : Records). IsWrongNode r d c.deref-in-Nodes.result.now n) (c.in_ok-id.ensures.same ∙ c.in_ok-entries.ensures.same) found) in
+    breaks_by records c.broken-in-Some-2.result format.nodes_file n c.broken-in-Some-2.ensures (wrong_breaks records d given entries are nodes told.0 n wrong)
+
+pub returns-clause-right : goal.returns-clause-right
+returns-clause-right g c = λ tells.
+    let records = (g.R.Reads.state c.args.space.now).records in
+    let d = c.args.definition.now in
+    let given = c.requires.given tells in
+    let entries = c.in-Some.entries.items in
+    let nodes = c.in-Nodes.nodes.items in
+    let are : AreEntriesTo records d.id 180 entries = search (rules, c.in_ok-entries.ensures.found tells) in
+    let told = nodes_told records _ d c.deref.result.now entries c.in_ok-id.field-0 (Nodes c.in-Nodes.nodes) c.in_ok-entries.ensures.same c.deref.ensures.value c.in-Nodes.is (c.in_ok-id.ensures.told tells) in
+    let found : AreNodesRight (g.R.Reads.state c.nodes_of.new.space).records d c.deref-in-Nodes.result.now = search (rules, c.in_ok-node-in-Nodes.ensures.none tells) in
+    let right : AreNodesRight records d nodes
+    = subst (λ ns. AreNodesRight records d ns) c.deref-in-Nodes.ensures.value (subst (λ (r : Records). AreNodesRight r d c.deref-in-Nodes.result.now) (c.in_ok-id.ensures.same ∙ c.in_ok-entries.ensures.same) found) in
+    right_of records d given entries are nodes told.0 told.1 right

@@ -1,0 +1,81 @@
+use Rattle.std.proofs.Common.{rules, arith, ◌≡◌, ◌<◌, ◌∙◌, ℕ, Bool, true, false, ap, sym, subst, refl, ⊎_elim}
+use Rattle.std.specs.Bool.{Decides}
+use Rattle.std.proofs.lemmas.Bool.{cases_Bool, true≢false}
+use Rattle.rec_bytes.specs.Format as format
+use Rattle.rec_bytes.specs.declared.meta.Meta.{Meta}
+use Rattle.prop_store.proofs.Causes.{cause_passed}
+use Rattle.record_lists.specs.Marks.{marked}
+use Rattle.record_lists.proofs.HeadLaws.{one_more}
+use Rattle.store_rules.specs.Views.{Records, high}
+use Rattle.index_check.specs.Nodes.{HasValue, IsMissing}
+use Rattle.index_check.specs.Values.{AreReadable}
+use Rattle.index_check.specs.declared.definitions.Definition.{Definition}
+use Rattle.index_check.proofs.SoundExits.{sound_exit}
+use Rattle.index_check.proofs.ValueLaws.{value_low}
+use Rattle.index_check.proofs.nodes.find_missing.Goals as goal
+
+-- a node that isn't missing is met, if it has a value
+met_of : (records : Records) (d : Definition) (n : ℕ) (met missing : Bool) → missing ≡ false → Decides missing (IsMissing records d n met) → HasValue records d n → met ≡ true
+met_of records d n met missing none told h = ⊎_elim
+    (λ (t : met ≡ true). t)
+    (λ (f : met ≡ false). absurd (true≢false (sym (told.1 (record { unmet = f; has = h })) ∙ none)))
+    (cases_Bool met)
+
+pub loop-node-init : goal.loop-node-init
+loop-node-init g c = record {
+  same = refl;
+  written = refl;
+  met = λ tells n lt. absurd (omega arith);
+  onward = g.met.R.Reads.stays_onward c.args.space.now;
+  faults = omega arith;
+}
+
+pub loop-node-preserved : goal.loop-node-preserved
+loop-node-preserved g c =
+    let records = (g.R.Reads.state c.args.space.now).records in
+    let inv = c.loop-node.invariant in
+    let d = c.args.definition.now in
+    let n = c.loop-node.node in
+    let marks = c.args.marks.now in
+    let no : c.in_ok-is_missing.field-0 ≡ false = search rules in
+    record {
+      same = c.in_ok-is_missing.ensures.same ∙ inv.same;
+      written = c.in_ok-is_missing.ensures.written ∙ inv.written;
+      met = λ tells. one_more (λ k. HasValue records d k → marked marks k ≡ true) n (inv.met tells)
+          (met_of records d n (marked marks n) c.in_ok-is_missing.field-0 no (subst (λ (r : Records). Decides c.in_ok-is_missing.field-0 (IsMissing r d n (marked marks n))) inv.same (c.in_ok-is_missing.ensures.told tells)));
+      onward = g.met.R.Reads.further_onward c.args.space.now c.loop-node.space c.is_missing.new.space inv.onward c.in_ok-is_missing.ensures.onward;
+      faults = let cause = c.in_ok-is_missing.ensures.cause in omega (arith, inv.faults, cause.later);
+    }
+
+pub returns-then-branch-clause-found : goal.returns-then-branch-clause-found
+returns-then-branch-clause-found g c = λ tells.
+    let d = c.args.definition.now in
+    let n = c.loop-node.node in
+    let marks = c.args.marks.now in
+    let yes : c.in_ok-is_missing.field-0 ≡ true = search rules in
+    subst (λ (r : Records). IsMissing r d n (marked marks n)) c.loop-node.invariant.same ((c.in_ok-is_missing.ensures.told tells).0 yes)
+
+pub returns-clause-none : goal.returns-clause-none
+returns-clause-none g c = λ tells n h.
+    let records = (g.R.Reads.state c.args.space.now).records in
+    let d = c.args.definition.now in
+    let low : n < high records format.nodes_file = value_low records d.label d.key n h.value h.is in
+    let mark : c.meta-node-end.result.high ≡ high records format.nodes_file = ap (λ (m : Meta). m.high) c.meta-node-end.ensures in
+    c.loop-node.invariant.met tells n (omega arith) h
+
+pub returns-in_err-is_missing-clause-sound : goal.returns-in_err-is_missing-clause-sound
+returns-in_err-is_missing-clause-sound g c = λ tells readable.
+    sound_exit c.from_residual.result c.in_err-is_missing.field-0.0 c.from_residual.ensures.1 (c.in_err-is_missing.ensures.sound tells (subst AreReadable (sym c.loop-node.invariant.same) readable))
+
+pub returns-in_err-is_missing-clause-cause : goal.returns-in_err-is_missing-clause-cause
+returns-in_err-is_missing-clause-cause g c =
+    cause_passed _ _ _ c.from_residual.result c.in_err-is_missing.field-0.0 c.loop-node.invariant.faults c.in_err-is_missing.ensures.cause c.from_residual.ensures.1
+
+pub returns-in_err-is_missing-clause-onward : goal.returns-in_err-is_missing-clause-onward
+returns-in_err-is_missing-clause-onward g c = g.met.R.Reads.further_onward c.args.space.now c.loop-node.space c.is_missing.new.space c.loop-node.invariant.onward c.in_err-is_missing.ensures.onward
+
+pub returns-in_err-is_missing-clause-same : goal.returns-in_err-is_missing-clause-same
+returns-in_err-is_missing-clause-same g c = c.in_err-is_missing.ensures.same ∙ c.loop-node.invariant.same
+
+pub returns-in_err-is_missing-clause-written : goal.returns-in_err-is_missing-clause-written
+returns-in_err-is_missing-clause-written g c = c.in_err-is_missing.ensures.written ∙ c.loop-node.invariant.written

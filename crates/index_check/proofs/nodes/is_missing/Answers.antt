@@ -1,0 +1,24 @@
+use Rattle.std.proofs.Common.{◌≡◌, ◌∙◌, ℕ, Option, None, Some, false, Bool, sym, subst, refl}
+use Rattle.std.specs.Prelude.{is_some}
+use Rattle.std.specs.Bool.{Decides}
+use Rattle.std.proofs.lemmas.Bool.{true≢false}
+use Rattle.plain_graph.specs.declared.value.Value.{Value}
+use Rattle.store_rules.specs.Indexes.{node_value}
+use Rattle.store_rules.specs.Views.{Records}
+use Rattle.index_check.specs.Nodes.{IsMissing}
+use Rattle.index_check.specs.declared.definitions.Definition.{Definition}
+use Rattle.index_check.proofs.nodes.is_missing.Goals as goal
+
+-- a value that was read, or none
+decided : (records : Records) (d : Definition) (n : ℕ) (met : Bool) (o : Option Value) → met ≡ false → o ≡ node_value records d.label d.key n → Decides (is_some o) (IsMissing records d n met)
+decided records d n met None unmet is = ((λ e. absurd (true≢false (sym e))), (λ h. absurd (let none : None ≡ Some h.has.value = is ∙ h.has.is in cc)))
+decided records d n met (Some v) unmet is = ((λ _. record { unmet = unmet; has = record { value = v; is = sym is } }), (λ _. refl))
+
+pub returns-then-met-clause-told : goal.returns-then-met-clause-told
+returns-then-met-clause-told g c = λ tells. ((λ e. absurd (true≢false (sym e))), (λ h. absurd (true≢false (sym c.if-met.true ∙ h.unmet))))
+
+pub returns-clause-told : goal.returns-clause-told
+returns-clause-told g c = λ tells.
+    let records = (g.R.Reads.state c.args.space.now).records in
+    let unmet : c.args.met ≡ false = c.if-met.false in
+    subst (λ b. Decides b (IsMissing records c.args.definition.now c.args.node c.args.met)) (sym c.is_some.ensures) (decided records c.args.definition.now c.args.node c.args.met c.in_ok-value.value unmet (c.in_ok-value.ensures.is tells))

@@ -1,0 +1,46 @@
+use Rattle.std.proofs.Common.{arith, ◌≡◌, ◌∙◌, ℕ, Option, ap, sym}
+use Rattle.plain_graph.specs.declared.value.Value.{Value}
+use Rattle.rec_bytes.specs.Format as format
+use Rattle.rec_bytes.specs.Record.{field}
+use Rattle.rec_bytes.specs.Space.{State}
+use Rattle.rec_bytes.specs.declared.record.Rec.{Rec}
+use Rattle.prop_store.proofs.Causes.{cause_passed, space_cause_passed}
+use Rattle.store_rules.specs.Indexes.{entry_hash, entry_node, has_hash, node_value, wanted_in}
+use Rattle.store_rules.specs.Views.{Records}
+use Rattle.index_check.specs.Nodes.{said_by}
+use Rattle.index_check.specs.declared.definitions.Definition.{Definition}
+use Rattle.index_check.proofs.nodes.node_of.Goals as goal
+
+-- what was tested is whether the entry is wanted
+tested : (records after : Records) (d : Definition) (x n hash : ℕ) (value : Option Value) → after ≡ records → n ≡ entry_node records x → hash ≡ entry_hash records x
+    → value ≡ node_value after d.label d.key n → has_hash hash value ≡ wanted_in records (said_by records d x)
+tested records after d x n hash value read node same is =
+    ap (has_hash hash) is ∙ (λ i. has_hash (same i) (node_value (read i) d.label d.key (node i)))
+
+pub returns-then-has_hash-clause-wanted : goal.returns-then-has_hash-clause-wanted
+returns-then-has_hash-clause-wanted g c = λ tells.
+    let records = (g.R.Reads.state c.args.space.now).records in
+    let x = c.args.id in
+    let got = c.in_ok-rec.ensures.got tells in
+    let node : c.number-node.result ≡ entry_node records x = c.number-node.ensures ∙ ap (λ (r : Rec). field 4 r format.indexed_node) got in
+    let hash : c.wide.result ≡ entry_hash records x = c.wide.ensures ∙ ap (λ (r : Rec). field 8 r format.indexed_hash) got in
+    let test = tested records _ c.args.definition.now x c.number-node.result c.wide.result c.in_ok-value.value (ap (λ (s : State). s.records) c.in_ok-rec.ensures.state) node hash (c.in_ok-value.ensures.is tells) in
+    record { is = node; wanted = sym test ∙ sym c.has_hash.ensures ∙ c.if-has_hash.true }
+
+pub returns-clause-unwanted : goal.returns-clause-unwanted
+returns-clause-unwanted g c = λ tells.
+    let records = (g.R.Reads.state c.args.space.now).records in
+    let x = c.args.id in
+    let got = c.in_ok-rec.ensures.got tells in
+    let node : c.number-node.result ≡ entry_node records x = c.number-node.ensures ∙ ap (λ (r : Rec). field 4 r format.indexed_node) got in
+    let hash : c.wide.result ≡ entry_hash records x = c.wide.ensures ∙ ap (λ (r : Rec). field 8 r format.indexed_hash) got in
+    let test = tested records _ c.args.definition.now x c.number-node.result c.wide.result c.in_ok-value.value (ap (λ (s : State). s.records) c.in_ok-rec.ensures.state) node hash (c.in_ok-value.ensures.is tells) in
+    sym test ∙ sym c.has_hash.ensures ∙ c.if-has_hash.false
+
+pub returns-in_err-value-clause-cause : goal.returns-in_err-value-clause-cause
+returns-in_err-value-clause-cause g c =
+    cause_passed _ _ _ c.from_residual-in_err-value.result c.in_err-value.field-0.0 c.in_ok-rec.ensures.cause.later c.in_err-value.ensures.cause c.from_residual-in_err-value.ensures.1
+
+pub returns-in_err-rec-clause-cause : goal.returns-in_err-rec-clause-cause
+returns-in_err-rec-clause-cause g c =
+    space_cause_passed _ _ _ c.from_residual.result c.in_err-rec.field-0.0 (omega arith) c.in_err-rec.ensures.cause c.from_residual.ensures.1

@@ -1,0 +1,85 @@
+use Rattle.std.proofs.Common.{rules, arith, ◌≡◌, ◌≤◌, ◌<◌, ◌∙◌, ap, sym, subst}
+use Rattle.rec_bytes.specs.Format as format
+use Rattle.rec_bytes.specs.Record.{field}
+use Rattle.rec_bytes.specs.Space.{State}
+use Rattle.rec_bytes.specs.declared.meta.Meta.{Meta}
+use Rattle.rec_bytes.specs.declared.record.Rec.{Rec}
+use Rattle.prop_index.specs.Gathering.{node_owner}
+use Rattle.prop_store.specs.Finding.{value_of}
+use Rattle.prop_store.specs.Owner.{HasProperties}
+use Rattle.prop_store.specs.Reading.{properties_met}
+use Rattle.prop_store.proofs.Causes.{cause_passed, space_cause_passed}
+use Rattle.prop_store.proofs.ReadCounts.{reads_records, reads_same}
+use Rattle.record_lists.proofs.RecordLaws.{kind_read}
+use Rattle.store_rules.specs.Views.{high, rec_at}
+use Rattle.store_rules.proofs.ViewLaws.{kind_high}
+use Rattle.index_check.proofs.SoundExits.{sound_exit}
+use Rattle.index_check.proofs.ValueLaws.{value_free, value_met, value_other}
+use Rattle.index_check.proofs.values.value_at.Goals as goal
+
+pub returns-then-node-meta-clause-is : goal.returns-then-node-meta-clause-is
+returns-then-node-meta-clause-is g c = λ tells.
+    let records = (g.R.Reads.state c.args.space.now).records in
+    let mark : c.meta.result.high ≡ high records format.nodes_file = ap (λ (m : Meta). m.high) c.meta.ensures in
+    let past : high records format.nodes_file ≤ c.args.node = omega (arith, c.if-node-meta.true) in
+    sym (value_free records c.args.label c.args.key c.args.node (kind_high (high records format.nodes_file) (rec_at records format.nodes_file c.args.node) c.args.node past))
+
+pub returns-then-byte-eq-FREE-clause-is : goal.returns-then-byte-eq-FREE-clause-is
+returns-then-byte-eq-FREE-clause-is g c = λ tells.
+    let records = (g.R.Reads.state c.args.space.now).records in
+    let mark : c.meta.result.high ≡ high records format.nodes_file = ap (λ (m : Meta). m.high) c.meta.ensures in
+    let low : c.args.node < high records format.nodes_file = omega (arith, c.if-node-meta.false) in
+    let kind = kind_read records format.nodes_file c.args.node c.in_ok-rec.rec low (c.in_ok-rec.ensures.got tells) in
+    sym (value_free records c.args.label c.args.key c.args.node (kind ∙ sym c.byte.ensures ∙ c.if-byte-eq-FREE.true))
+
+pub returns-then-number-label-clause-is : goal.returns-then-number-label-clause-is
+returns-then-number-label-clause-is g c = λ tells.
+    let records = (g.R.Reads.state c.args.space.now).records in
+    let mark : c.meta.result.high ≡ high records format.nodes_file = ap (λ (m : Meta). m.high) c.meta.ensures in
+    let low : c.args.node < high records format.nodes_file = omega (arith, c.if-node-meta.false) in
+    let got = c.in_ok-rec.ensures.got tells in
+    let kind = kind_read records format.nodes_file c.args.node c.in_ok-rec.rec low got in
+    sym (value_other records c.args.label c.args.key c.args.node (λ z. c.if-byte-eq-FREE.false (c.byte.ensures ∙ sym kind ∙ z))
+    (λ e. c.if-number-label.true (c.number.ensures ∙ ap (λ (r : Rec). field 4 r format.node_label) got ∙ e)))
+
+pub returns-clause-is : goal.returns-clause-is
+returns-clause-is g c = λ tells.
+    let records = (g.R.Reads.state c.args.space.now).records in
+    let mark : c.meta.result.high ≡ high records format.nodes_file = ap (λ (m : Meta). m.high) c.meta.ensures in
+    let low : c.args.node < high records format.nodes_file = omega (arith, c.if-node-meta.false) in
+    let got = c.in_ok-rec.ensures.got tells in
+    let kind = kind_read records format.nodes_file c.args.node c.in_ok-rec.rec low got in
+    let same : c.number.result ≡ c.args.label = search rules in
+    c.in_ok-value.ensures.met tells ∙ ap (λ (s : State). value_of (properties_met s.records (node_owner c.args.node)) c.args.key) c.in_ok-rec.ensures.state
+    ∙ sym (value_met records c.args.label c.args.key c.args.node (λ z. c.if-byte-eq-FREE.false (c.byte.ensures ∙ sym kind ∙ z))
+    (sym (c.number.ensures ∙ ap (λ (r : Rec). field 4 r format.node_label) got) ∙ same))
+
+pub returns-clause-same : goal.returns-clause-same
+returns-clause-same g c = reads_records 54 _ _ c.in_ok-value.ensures.at_most ∙ ap (λ (s : State). s.records) c.in_ok-rec.ensures.state
+
+pub returns-clause-written : goal.returns-clause-written
+returns-clause-written g c = ap (λ (s : State). s.written) (reads_same 54 _ _ c.in_ok-value.ensures.at_most) ∙ ap (λ (s : State). s.written) c.in_ok-rec.ensures.state
+
+pub returns-in_err-value-clause-same : goal.returns-in_err-value-clause-same
+returns-in_err-value-clause-same g c = reads_records 54 _ _ c.in_err-value.ensures.at_most ∙ ap (λ (s : State). s.records) c.in_ok-rec.ensures.state
+
+pub returns-in_err-value-clause-written : goal.returns-in_err-value-clause-written
+returns-in_err-value-clause-written g c = ap (λ (s : State). s.written) (reads_same 54 _ _ c.in_err-value.ensures.at_most) ∙ ap (λ (s : State). s.written) c.in_ok-rec.ensures.state
+
+pub returns-in_err-value-clause-sound : goal.returns-in_err-value-clause-sound
+returns-in_err-value-clause-sound g c = λ tells readable.
+    let records = (g.R.Reads.state c.args.space.now).records in
+    let mark : c.meta.result.high ≡ high records format.nodes_file = ap (λ (m : Meta). m.high) c.meta.ensures in
+    let low : c.args.node < high records format.nodes_file = omega (arith, c.if-node-meta.false) in
+    let kind = kind_read records format.nodes_file c.args.node c.in_ok-rec.rec low (c.in_ok-rec.ensures.got tells) in
+    let has = readable c.args.node (λ z. c.if-byte-eq-FREE.false (c.byte.ensures ∙ sym kind ∙ z)) in
+    sound_exit c.from_residual-in_err-value.result c.in_err-value.field-0.0 c.from_residual-in_err-value.ensures.1
+    (c.in_err-value.ensures.sound tells has.0 (subst (λ (s : State). HasProperties s.records (node_owner c.args.node) has.0) (sym c.in_ok-rec.ensures.state) has.1))
+
+pub returns-in_err-value-clause-cause : goal.returns-in_err-value-clause-cause
+returns-in_err-value-clause-cause g c =
+    cause_passed _ _ _ c.from_residual-in_err-value.result c.in_err-value.field-0.0 c.in_ok-rec.ensures.cause.later c.in_err-value.ensures.cause c.from_residual-in_err-value.ensures.1
+
+pub returns-in_err-rec-clause-cause : goal.returns-in_err-rec-clause-cause
+returns-in_err-rec-clause-cause g c =
+    space_cause_passed _ _ _ c.from_residual.result c.in_err-rec.field-0.0 (omega arith) c.in_err-rec.ensures.cause c.from_residual.ensures.1

@@ -1,0 +1,224 @@
+//! The nodes of the entries of an index: each has a value of its entry's hash, none has two
+//! entries, and each node of the label with the key has one.
+
+ghost use Rattle.std.specs.Prelude.{◌≡◌, ◌<◌, ◌≤◌, IfNone, IfOk, IfSome, false, length, true, ℕ};
+ghost use Rattle.std.specs.Prelude.{map};
+ghost use Rattle.std.specs.Bool.{Decides};
+ghost use Rattle.std.specs.List.{All};
+ghost use Rattle.rec_bytes.specs.Fault.{HasFaultCause, NotDamaged};
+ghost use Rattle.rec_bytes.specs.Format.{most_ids, nodes_file};
+ghost use Rattle.record_lists.specs.Marks.{is_among, marked};
+ghost use Rattle.store_rules.specs.Indexes.{entry_node, wanted_in};
+ghost use Rattle.store_rules.specs.Properties.{AreOnce};
+ghost use Rattle.store_rules.specs.Views.{high};
+ghost use Rattle.index_check.specs.Nodes.{
+  AreNodesLow,
+  AreNodesOf,
+  AreNodesRight,
+  HasValue,
+  IsMissing,
+  IsNodeOf,
+  IsTwice,
+  IsWrongNode,
+  said_by,
+};
+ghost use Rattle.index_check.specs.Values.{AreReadable};
+
+use crate::definitions::Definition;
+use crate::values::{has_hash, value_at};
+use rec_bytes::{Fault, INDEX, INDEXED_HASH, INDEXED_NODE, Key, NODES, Reads};
+use record_lists::no_marks;
+use std::alloc::Global;
+
+/// The nodes of entries, or the first of these whose node hasn't a value of its hash.
+#[derive(Drop)]
+pub(crate) enum Entered {
+    Nodes(Vec<u32>),
+    Unwanted(u32),
+}
+
+/// The node of an entry, or none where the node hasn't a value of the entry's hash.
+fn node_of<R: Reads>(
+    alloc: Global,
+    space: &mut R,
+    definition: &Definition,
+    id: u32,
+) -> Result<Option<u32>, Fault>
+    requires id { id < most_ids }
+    requires low { high (R.state space.old).records nodes_file ≤ most_ids }
+    ensures wanted { R.tells → IfOk result (λ found. IfSome found
+        (IsNodeOf (R.state space.old).records definition.now id)) }
+    ensures unwanted { R.tells → IfOk result (λ found. IfNone found
+        (wanted_in (R.state space.old).records
+        (said_by (R.state space.old).records definition.now id) ≡ false)) }
+    ensures low { IfOk result (λ found. IfSome found
+        (λ node. node < high (R.state space.old).records nodes_file)) }
+    ensures sound { R.tells → AreReadable (R.state space.old).records → NotDamaged result }
+    ensures same { (R.state space.new).records ≡ (R.state space.old).records }
+    ensures written { (R.state space.new).written ≡ (R.state space.old).written }
+    ensures onward { R.onward space.old space.new }
+    ensures cause { HasFaultCause (R.faults space.old) (R.faults space.new) result }
+{
+    let rec = space.get(Key { file: INDEX, id })?;
+    let node = rec.number(INDEXED_NODE);
+    let value = value_at(alloc, space, node, definition.label, definition.key)?;
+    if has_hash(&value, rec.wide(INDEXED_HASH)) {
+        Ok(Some(node))
+    } else {
+        Ok(None)
+    }
+}
+
+/// The nodes of these entries, where each has a value of its entry's hash.
+pub(crate) fn nodes_of<R: Reads>(
+    alloc: Global,
+    space: &mut R,
+    definition: &Definition,
+    entries: &[u32],
+) -> Result<Entered, Fault>
+    requires entries { All (λ x. x < most_ids) entries.now }
+    requires low { high (R.state space.old).records nodes_file ≤ most_ids }
+    ensures told { R.tells → IfOk result
+        (AreNodesOf (R.state space.old).records definition.now entries.now) }
+    ensures low { IfOk result (AreNodesLow (high (R.state space.old).records nodes_file)) }
+    ensures sound { R.tells → AreReadable (R.state space.old).records → NotDamaged result }
+    ensures same { (R.state space.new).records ≡ (R.state space.old).records }
+    ensures written { (R.state space.new).written ≡ (R.state space.old).written }
+    ensures onward { R.onward space.old space.new }
+    ensures cause { HasFaultCause (R.faults space.old) (R.faults space.new) result }
+{
+    let mut nodes = Vec::new(alloc);
+    for id in entries {
+        match node_of(alloc, space, definition, *id)? {
+            Some(node) => nodes.push(node)?,
+            None => return Ok(Entered::Unwanted(*id)),
+        }
+    }
+    Ok(Entered::Nodes(nodes))
+}
+
+/// Marks all these, or finds one that comes twice.
+fn mark_once(marks: &mut [bool], numbers: &[u32]) -> Option<u32>
+    requires low { All (λ x. x < length marks.old) numbers.now }
+    requires clear { (p : ℕ) → marked marks.old p ≡ false }
+    ensures once { IfNone result (AreOnce numbers.now) }
+    ensures marks { IfNone result ((p : ℕ) → marked marks.new p ≡ is_among numbers.now p) }
+    ensures twice { IfSome result (λ n. IsTwice n numbers.now) }
+    ensures len { length marks.new ≡ length marks.old }
+{
+    for number in numbers {
+        if marks[*number as usize] {
+            return Some(*number);
+        }
+        marks[*number as usize] = true;
+    }
+    None
+}
+
+/// Whether a node has a value, and no mark.
+fn is_missing<R: Reads>(
+    alloc: Global,
+    space: &mut R,
+    definition: &Definition,
+    node: u32,
+    met: bool,
+) -> Result<bool, Fault>
+    requires { high (R.state space.old).records nodes_file ≤ most_ids }
+    ensures told { R.tells → IfOk result (λ missing. Decides missing
+        (IsMissing (R.state space.old).records definition.now node met)) }
+    ensures sound { R.tells → AreReadable (R.state space.old).records → NotDamaged result }
+    ensures same { (R.state space.new).records ≡ (R.state space.old).records }
+    ensures written { (R.state space.new).written ≡ (R.state space.old).written }
+    ensures onward { R.onward space.old space.new }
+    ensures cause { HasFaultCause (R.faults space.old) (R.faults space.new) result }
+{
+    if met {
+        return Ok(false);
+    }
+    let value = value_at(alloc, space, node, definition.label, definition.key)?;
+    Ok(value.is_some())
+}
+
+/// The first node of the label with the key that has no mark.
+fn find_missing<R: Reads>(
+    alloc: Global,
+    space: &mut R,
+    definition: &Definition,
+    marks: &[bool],
+) -> Result<Option<u32>, Fault>
+    requires marks { length marks.now ≡ high (R.state space.old).records nodes_file }
+    requires low { high (R.state space.old).records nodes_file ≤ most_ids }
+    ensures none { R.tells → IfOk result (λ found. IfNone found
+        ((n : ℕ) → HasValue (R.state space.old).records definition.now n
+        → marked marks.now n ≡ true)) }
+    ensures found { R.tells → IfOk result (λ found. IfSome found
+        (λ n. IsMissing (R.state space.old).records definition.now n (marked marks.now n))) }
+    ensures sound { R.tells → AreReadable (R.state space.old).records → NotDamaged result }
+    ensures same { (R.state space.new).records ≡ (R.state space.old).records }
+    ensures written { (R.state space.new).written ≡ (R.state space.old).written }
+    ensures onward { R.onward space.old space.new }
+    ensures cause { HasFaultCause (R.faults space.old) (R.faults space.new) result }
+{
+    for node in 0..space.meta(NODES).high {
+        if is_missing(alloc, space, definition, node, marks[node as usize])? {
+            return Ok(Some(node));
+        }
+    }
+    Ok(None)
+}
+
+/// The first of these nodes that comes twice, or a node of the label with the key that is none of
+/// them, with marks for all nodes, none of them set.
+fn check_marked<R: Reads>(
+    alloc: Global,
+    space: &mut R,
+    definition: &Definition,
+    nodes: &[u32],
+    marks: &mut [bool],
+) -> Result<Option<u32>, Fault>
+    requires nodes { All (λ n. n < length marks.old) nodes.now }
+    requires marks { length marks.old ≡ high (R.state space.old).records nodes_file }
+    requires clear { (p : ℕ) → marked marks.old p ≡ false }
+    requires low { high (R.state space.old).records nodes_file ≤ most_ids }
+    ensures none { R.tells → IfOk result (λ found. IfNone found
+        (AreNodesRight (R.state space.old).records definition.now nodes.now)) }
+    ensures found { R.tells → IfOk result (λ found. IfSome found
+        (IsWrongNode (R.state space.old).records definition.now nodes.now)) }
+    ensures sound { R.tells → AreReadable (R.state space.old).records → NotDamaged result }
+    ensures same { (R.state space.new).records ≡ (R.state space.old).records }
+    ensures written { (R.state space.new).written ≡ (R.state space.old).written }
+    ensures onward { R.onward space.old space.new }
+    ensures cause { HasFaultCause (R.faults space.old) (R.faults space.new) result }
+{
+    if let Some(node) = mark_once(marks, nodes) {
+        return Ok(Some(node));
+    }
+    match find_missing(alloc, space, definition, marks)? {
+        Some(node) => Ok(Some(node)),
+        None => Ok(None),
+    }
+}
+
+/// The first of these nodes that comes twice, or a node of the label with the key that is none of
+/// them.
+pub(crate) fn check_nodes<R: Reads>(
+    alloc: Global,
+    space: &mut R,
+    definition: &Definition,
+    nodes: &[u32],
+) -> Result<Option<u32>, Fault>
+    requires nodes { All (λ n. n < high (R.state space.old).records nodes_file) nodes.now }
+    requires low { high (R.state space.old).records nodes_file ≤ most_ids }
+    ensures none { R.tells → IfOk result (λ found. IfNone found
+        (AreNodesRight (R.state space.old).records definition.now nodes.now)) }
+    ensures found { R.tells → IfOk result (λ found. IfSome found
+        (IsWrongNode (R.state space.old).records definition.now nodes.now)) }
+    ensures sound { R.tells → AreReadable (R.state space.old).records → NotDamaged result }
+    ensures same { (R.state space.new).records ≡ (R.state space.old).records }
+    ensures written { (R.state space.new).written ≡ (R.state space.old).written }
+    ensures onward { R.onward space.old space.new }
+    ensures cause { HasFaultCause (R.faults space.old) (R.faults space.new) result }
+{
+    let mut marks = no_marks(alloc, space.meta(NODES).high as usize)?;
+    check_marked(alloc, space, definition, nodes, &mut marks)
+}
