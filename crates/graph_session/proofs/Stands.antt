@@ -18,7 +18,8 @@ use Rattle.recovery.specs.Finding as finding
 use Rattle.recovery.specs.Finding.{IsRecoverable}
 use Rattle.store_rules.specs.Graph.{graph_of}
 use Rattle.store_rules.specs.Rules.{IsWellFormed}
-use Rattle.graph_session.specs.Stands.{AreAdmitted, HoldsAdmitted, IsAdmitted, IsAdmittedByEither, IsMade, IsServed, Stands}
+use Rattle.follower.specs.Sent.{IsServed}
+use Rattle.graph_session.specs.Stands.{AreAdmitted, HoldsAdmitted, IsAdmitted, IsAdmittedByEither, IsMade, Stands}
 use Rattle.graph_session.specs.State.{Admits, Live, Standing, State, graphs_from}
 use Rattle.graph_session.proofs.Versions.{newest-well_formed}
 

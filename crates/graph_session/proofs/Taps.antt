@@ -30,7 +30,6 @@ use Rattle.graph_session.specs.Session.{view}
 use Rattle.graph_session.specs.Settling.{told_by, told_of}
 use Rattle.graph_session.specs.SharedExchange.{IsOfSnapshots}
 use Rattle.graph_session.specs.SnapshotEffects.{Confirms}
-use Rattle.graph_session.specs.State.{session_in}
 use Rattle.graph_session.specs.TapEnds.{TapsAlone, TapsChange, TapsCommit}
 use Rattle.graph_session.specs.Tapping.{Acknowledges, EndsOne, HasRoom, HasWritten, IsEmpty, IsTapped, Takes, Taps, TapsAnswer, TapsCommand}
 use Rattle.graph_session.specs.declared.answer.Answer.{Answer}

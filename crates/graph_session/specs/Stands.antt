@@ -7,8 +7,8 @@ use Rattle.rec_bytes.specs.declared.record.Rec.{Rec}
 use Rattle.rec_bytes.specs.declared.shape.Shape.{Shape}
 use Rattle.record_file.specs.Records.{IsUnmade}
 use Rattle.record_file.specs.Redone.{Redoes}
+use Rattle.follower.specs.Sent.{IsServed}
 use Rattle.store_rules.specs.Graph.{graph_of}
-use Rattle.store_rules.specs.Rules.{IsWellFormed}
 use Rattle.graph_session.specs.Versions.{IsWellFormedIn}
 use Rattle.graph_session.specs.State.{Admits, State}
 
@@ -18,13 +18,6 @@ pub record IsMade (content : Files) (shape : Shape) (graph : Graph) : Type 0 whe
   pub space : Key → Rec
   pub redoes : Redoes content space
   pub store : IsWellFormedIn space shape
-  pub graph_is : graph ≡ graph_of space
-
--- They make one of the newest version, as a session has it.
-pub record IsServed (content : Files) (shape : Shape) (graph : Graph) : Type 0 where
-  pub space : Key → Rec
-  pub redoes : Redoes content space
-  pub store : IsWellFormed space shape
   pub graph_is : graph ≡ graph_of space
 
 -- The content stands for this graph, under this shape; one in which no store was made stands for

@@ -1,9 +1,9 @@
-use Rattle.std.proofs.Common.{◌∙◌, ◌+◌, ◌≤◌, arith, inl, inr, refl}
+use Rattle.std.proofs.Common.{◌+◌, ◌≤◌, arith, inl, refl}
 use Rattle.plain_graph.specs.Changes.{most_weight, start_weight}
 use Rattle.txn_core.proofs.StoreRecords.{committed-beneath}
 use Rattle.graph_session.specs.Session.{view}
 use Rattle.graph_session.proofs.Drafts.{tries-kept}
-use Rattle.graph_session.proofs.Taps.{commit-from, takes-nothing}
+use Rattle.graph_session.proofs.Taps.{commit-from}
 use Rattle.graph_session.proofs.session.Session.finish_alone.Goals as goal
 
 pub returns-in-Ok-keep-clause-finishes : goal.returns-in-Ok-keep-clause-finishes
