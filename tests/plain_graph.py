@@ -452,7 +452,7 @@ class PlainGraph:
             "outV": lambda items: [nodes[it.ends[0]] for it in elements(items) if it.ends],
             "inV": lambda items: [nodes[it.ends[1]] for it in elements(items) if it.ends],
             "id": lambda items: [it.id for it in elements(items)],
-            "label": lambda items: [it.label if isinstance(it, Element) else "" for it in items],
+            "label": lambda items: [it.label for it in elements(items)],
             "dedup": lambda items: list({(type(it), it): it for it in items}.values()),
             "count": lambda items: [len(items)],
         }
