@@ -6,6 +6,8 @@ use Rattle.rec_bytes.specs.declared.fault.Fault.{Fault}
 use Rattle.rec_bytes.specs.declared.fault.Fault.TheVariants as faults
 use Rattle.rec_bytes.specs.declared.key.Key.{Key}
 use Rattle.rec_bytes.specs.declared.record.Rec.{Rec}
+use Rattle.rec_bytes.specs.declared.row_fault.RowFault.{RowFault}
+use Rattle.rec_bytes.specs.declared.row_fault.RowFault.TheVariants as rows
 use Rattle.rec_bytes.specs.Fault.{damage_of}
 use Rattle.rec_bytes.specs.Format as format
 use Rattle.rec_bytes.specs.Meta as metas
@@ -16,6 +18,7 @@ use Rattle.store_rules.specs.Breaking.{Breaks, IsHeadOf}
 use Rattle.store_rules.specs.Rules.{Head}
 use Rattle.store_rules.specs.Views.{high, key_in}
 use Rattle.store_rules.specs.Writes.{ChangesOnly}
+use Rattle.node_store.specs.Loading as nodes
 use Rattle.rel_store.specs.declared.rel_row.RelRow.{RelRow}
 use Rattle.prop_store.specs.Fault as props
 use Rattle.chain_edit.specs.Breaks.{IsBreakFault}
@@ -29,19 +32,19 @@ use Rattle.group_store.specs.GroupRecord.{range_damage}
 use Rattle.group_store.specs.Leaving.{KeepsHeads}
 use Rattle.group_store.specs.Links.{IsLinkDamage}
 use Rattle.group_store.specs.Links.IsLinkDamage.{HighLink, LeadsNowhere}
-use Rattle.group_store.specs.Opening.{IsHeadFault}
+use Rattle.group_store.specs.Opening.{IsHeadFault, LacksGroupOn}
+use Rattle.group_store.specs.Opening.IsSearchDamage.{BadNode}
 use Rattle.group_store.specs.Walking.{IsMemberDamage}
 use Rattle.group_store.specs.Walking.IsMemberDamage.{HighMember, NoMember, UnknownMember}
-use Rattle.group_store.proofs.ChainHeads.{same_twice}
+use Rattle.group_store.proofs.BrokenGroups.{node_breaks, search_read}
 use Rattle.group_store.proofs.KeptHeads.{alike_by, heads_alike}
 use Rattle.group_store.proofs.Tallies.{field-tallied}
-use Rattle.graph_ops.specs.ChangeFault.{of_fault}
-use Rattle.graph_ops.specs.Damage.{IfBlames}
+use Rattle.graph_ops.specs.ChangeFault.{of_fault, of_row}
+use Rattle.graph_ops.specs.Damage.{IfBlames, IsBroken}
 use Rattle.graph_ops.specs.EdgeDeleting.{BlamesDeleting, BlamesEnd, IsEdgeLink, IsTakenDamage}
 use Rattle.graph_ops.specs.EdgeDeleting.IsTakenDamage.{Undropped}
 use Rattle.graph_ops.specs.EdgeEnds.{parted}
 use Rattle.graph_ops.specs.declared.change_fault.ChangeFault.{ChangeFault}
-use Rattle.graph_ops.specs.declared.change_fault.ChangeFault.TheVariants.{NoNode, NoEdge, HasRelationships, Full, NamesFull, PropsFull, Memory, Disk, Damaged}
 use Rattle.graph_ops.proofs.Broken.{blames_more}
 use Rattle.graph_ops.proofs.EdgeSteps.{number_unlinked, record_parted}
 
@@ -51,25 +54,12 @@ pub head_blamed : (s m : State) (id node label : ℕ) → SameButReads s m → (
 head_blamed s m id node label same faults.Memory told = tt
 head_blamed s m id node label same faults.Disk told = tt
 head_blamed s m id node label same (faults.Damaged damage) told =
-    subst (λ (z : State). BlamesEnd z id node label (of_fault (faults.Damaged damage))) same (⊎_elim (λ k. inl k) (λ k. inr (k.0, inr k.1)) told)
+    ⊎_elim (λ k. inl (subst (λ (z : State). IsBroken z damage) same k.0, search_read s m node damage same k.1)) (λ k. inr (k.0, inr (subst (λ (z : State). LacksGroupOn z.records node label) same k.1))) told
 
--- nothing is written then
-pub head_unwritten : (s m t : State) → SameButReads s m → (fault : Fault) → IfSome (damage_of fault) (λ _. SameButReads m t) → IfBlames (λ _. SameButReads s t) (of_fault fault)
-head_unwritten s m t same faults.Memory told = tt
-head_unwritten s m t same faults.Disk told = tt
-head_unwritten s m t same (faults.Damaged damage) told = same_twice s m t same told
-
--- two facts of a record that is blamed
-pub blames_both : (P Q : Damage → Type 0) (fault : ChangeFault) → IfBlames P fault → IfBlames Q fault → IfBlames (λ damage. P damage × Q damage) fault
-blames_both P Q (NoNode id) a b = tt
-blames_both P Q (NoEdge id) a b = tt
-blames_both P Q (HasRelationships id degree) a b = tt
-blames_both P Q (Full file live) a b = tt
-blames_both P Q (NamesFull count) a b = tt
-blames_both P Q (PropsFull count) a b = tt
-blames_both P Q Memory a b = tt
-blames_both P Q Disk a b = tt
-blames_both P Q (Damaged damage) a b = (a, b)
+-- a node that can't be read
+pub load_blamed : (s : State) (id node label : ℕ) (fault : RowFault) → nodes.IsNodeFault s node fault → BlamesEnd s id node label (of_row fault)
+load_blamed s id node label rows.Disk told = tt
+load_blamed s id node label (rows.Damaged damage) told = inl (node_breaks s node damage told, BadNode damage told)
 
 -- what is so of a record that is blamed, for what follows from it
 pub if_blames : {T : Type 0} (r : Result T ChangeFault) (P Q : Damage → Type 0) → ((damage : Damage) → P damage → Q damage) → IfErr r (IfBlames P) → IfErr r (IfBlames Q)
@@ -88,7 +78,7 @@ pub close_blamed : (was s t : State) (id : ℕ) (rel : RelRow) (node g : ℕ) (f
     → IfBlames (IsTakenDamage was t id rel) (of_fault fault)
 close_blamed was s t id rel node g faults.Memory told breaks same = tt
 close_blamed was s t id rel node g faults.Disk told breaks same = tt
-close_blamed was s t id rel node g (faults.Damaged damage) told breaks same = Undropped damage node g (drop_read s t node g damage same told) (subst (λ (z : State). Breaks z.records z.shape damage) (sym same) breaks)
+close_blamed was s t id rel node g (faults.Damaged damage) told breaks same = Undropped damage (node, g, (drop_read s t node g damage same told, subst (λ (z : State). Breaks z.records z.shape damage) (sym same) breaks))
   where
     drop_read : (s t : State) (node g : ℕ) (damage : Damage) → SameButReads s t → IsDropDamage s node g damage → IsDropDamage t node g damage
     drop_read s t node g damage same told = subst (λ (z : State). IsDropDamage z node g damage) (sym same) (by damage told)
@@ -108,10 +98,10 @@ close_blamed was s t id rel node g (faults.Damaged damage) told breaks same = Un
         by d (BadNext _ bad) = BadNext d (link (next_group s.records g) d bad)
 
 -- properties that aren't taken away
-pub drop_blamed : (s v t : State) (id : ℕ) → SameButReads s v → (fault : Fault) → props.BlamesDropped v.records v.shape fault → BlamesDeleting s t id (of_fault fault)
-drop_blamed s v t id same faults.Memory told = tt
-drop_blamed s v t id same faults.Disk told = tt
-drop_blamed s v t id same (faults.Damaged damage) told = inl (subst (λ (z : State). props.BlamesDropped z.records z.shape (faults.Damaged damage)) same told)
+pub drop_blamed : (s v t : State) → SameButReads s v → (fault : Fault) → props.BlamesDropped v.records v.shape fault → BlamesDeleting s t (of_fault fault)
+drop_blamed s v t same faults.Memory told = tt
+drop_blamed s v t same faults.Disk told = tt
+drop_blamed s v t same (faults.Damaged damage) told = inl (subst (λ (z : State). props.BlamesDropped z.records z.shape (faults.Damaged damage)) same told)
 
 -- ---- heads
 

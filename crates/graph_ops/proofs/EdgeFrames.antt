@@ -1,5 +1,6 @@
 -- What stays of a store where an edge is taken out of its chains, and what was so in it before.
-use Rattle.std.proofs.Common.{◌≡◌, ◌≢◌, ◌⊎◌, ℕ, ◌+◌, ◌<◌, ◌≤◌, nat_eq, Bool, true, false, cond, List, [], ◌∷◌, Some, sym, ap, ◌∙◌, subst, inl, inr, ⊎_elim, arith, refl}
+use Rattle.std.specs.Prelude.{not}
+use Rattle.std.proofs.Common.{◌≡◌, ◌≢◌, ◌⊎◌, ℕ, ◌+◌, ◌<◌, ◌≤◌, nat_eq, Bool, true, false, cond, Some, sym, ap, ◌∙◌, subst, inl, inr, ⊎_elim, arith, refl}
 use Rattle.plain_graph.specs.declared.command.Target.TheVariants as targets
 use Rattle.rec_bytes.specs.declared.damage.Damage.{Damage}
 use Rattle.rec_bytes.specs.declared.key.Key.{Key}
@@ -13,10 +14,10 @@ use Rattle.rec_bytes.specs.Space.{SameButReads, State, after_get, after_put}
 use Rattle.rec_bytes.proofs.Numbers.{field-with_field_other}
 use Rattle.rec_bytes.proofs.Spaces.{put_other, put_same}
 use Rattle.store_rules.specs.Breaking.{IsHeadOf}
-use Rattle.store_rules.specs.Chains.{IsWalk, place_of}
+use Rattle.store_rules.specs.Chains.{place_of}
 use Rattle.store_rules.specs.Rules.{Head}
 use Rattle.store_rules.proofs.NumberLaws.{eq_false, eq_true}
-use Rattle.store_rules.specs.Views.{Records, first_link, high, is_group_kind, key_in, kind_at, kind_in, rec_at}
+use Rattle.store_rules.specs.Views.{Records, high, is_group_kind, key_in, kind_at, kind_in, rec_at}
 use Rattle.rel_store.specs.declared.rel_row.RelRow.{RelRow}
 use Rattle.rel_store.specs.Loading.{rel_mark, rel_room, row_at}
 use Rattle.rel_store.specs.RelRecord.{rel_key}
@@ -30,13 +31,11 @@ use Rattle.store_rules.proofs.ChainSteps.{on_test}
 use Rattle.chain_edit.proofs.LinkLaws.{field-set_other, rel_rec, set_at}
 use Rattle.prop_store.specs.Touching.{LeavesElement}
 use Rattle.group_store.specs.Counting.{one_less, tallied}
-use Rattle.group_store.specs.GroupChain.{next_group}
 use Rattle.group_store.specs.Leaving.{LeavesCounted}
-use Rattle.group_store.specs.Opening.{end_damage}
 use Rattle.group_store.proofs.Tallies.{file-tallied}
 use Rattle.graph_ops.specs.Damage.{IsBroken}
-use Rattle.graph_ops.specs.EdgeDeleting.{HasEndsIn, IsEdgeLink, IsEndLink, IsTakenDamage, LacksChain, LeavesEdge}
-use Rattle.graph_ops.specs.EdgeDeleting.IsTakenDamage.{NoChain, Sought, Undropped}
+use Rattle.graph_ops.specs.EdgeDeleting.{HasEndsIn, IsEdgeLink, IsEndLink, IsSoughtDamage, IsTakenDamage, LeavesEdge}
+use Rattle.graph_ops.specs.EdgeDeleting.IsTakenDamage.{Sought, Undropped}
 use Rattle.graph_ops.specs.EdgeEnds.{parted}
 use Rattle.graph_ops.specs.Owners.{owner_of}
 use Rattle.graph_ops.proofs.EdgeSteps.{record_parted, shape_parted}
@@ -44,7 +43,7 @@ use Rattle.graph_ops.proofs.EdgeSteps.{record_parted, shape_parted}
 -- ---- what stays before the edge is taken out
 
 pub edge_none : (s : State) (id : ℕ) → LeavesEdge s s id
-edge_none s id = record { shape = refl; others = λ key a b c d e f. refl; own = λ n at inside apart. refl; groups = λ g n at one inside. refl; used = λ g. refl }
+edge_none s id = record { shape = refl; others = λ key a b c d e f. refl; own = λ n at inside apart. refl; groups = λ g n at one inside. refl; used = λ g. refl; live = λ g. refl }
 
 pub edge_counted : (s t : State) (id : ℕ) → t.shape ≡ s.shape → LeavesCounted s.records t.records → LeavesEdge s t id
 edge_counted s t id shape counted = record {
@@ -53,6 +52,7 @@ edge_counted s t id shape counted = record {
   own = λ n at inside apart. ap (λ r. field n r at) (counted.others (rel_key id) (λ e. omega arith));
   groups = λ g n at one inside. counted.groups g n at one inside;
   used = λ g. counted.used g;
+  live = λ g. counted.live g;
 }
 
 pub edge_then : (s t u : State) (id : ℕ) → LeavesEdge s t id → LeavesEdge t u id → LeavesEdge s u id
@@ -62,11 +62,12 @@ edge_then s t u id h k = record {
   own = λ n at inside apart. k.own n at inside apart ∙ h.own n at inside apart;
   groups = λ g n at one inside. k.groups g n at one inside ∙ h.groups g n at one inside;
   used = λ g. k.used g ∙ h.used g;
+  live = λ g. k.live g ∙ h.live g;
 }
 
 pub edge_read : (s t : State) (id : ℕ) → SameButReads s t → LeavesEdge s t id
 edge_read s t id same = subst (λ (z : State). LeavesEdge s z id) (sym same)
-    (record { shape = refl; others = λ key a b c d e f. refl; own = λ n at inside apart. refl; groups = λ g n at one inside. refl; used = λ g. refl })
+    (record { shape = refl; others = λ key a b c d e f. refl; own = λ n at inside apart. refl; groups = λ g n at one inside. refl; used = λ g. refl; live = λ g. refl })
 
 -- its properties are taken away
 pub edge_left : (s t : State) (id : ℕ) → t.shape ≡ s.shape → LeavesElement s t (owner_of (targets.Edge id)) → LeavesEdge s t id
@@ -75,7 +76,8 @@ edge_left s t id shape left = record {
   others = λ key a b c d file ne. left.others key a b c d ne;
   own = λ n at inside apart. left.own n at inside apart;
   groups = λ g n at one inside. ap (λ r. field n r at) (group g);
-  used = λ g. ap is_group_kind (ap (λ m. kind_in m (rec_at t.records format.groups_file g) g) (ap (λ r. (metas.meta_of r).high) mark) ∙ ap (λ r. kind_in (high s.records format.groups_file) r g) (group g));
+  used = λ g. ap is_group_kind (kind g);
+  live = λ g. ap (λ k. not (nat_eq k 0)) (kind g);
 }
   where
     group : (g : ℕ) → rec_at t.records format.groups_file g ≡ rec_at s.records format.groups_file g
@@ -84,35 +86,21 @@ edge_left s t id shape left = record {
     mark : t.records (meta_key_of format.groups_file) ≡ s.records (meta_key_of format.groups_file)
     mark = left.others (meta_key_of format.groups_file) (λ e. omega arith) (λ e. omega arith) (λ e. let f = ap (λ (k : Key). k.id) e in omega arith) (λ e. let f = ap (λ (k : Key). k.id) e in omega arith) (λ e. let f = ap (λ (k : Key). k.file) e in omega arith)
 
+    kind : (g : ℕ) → kind_at t.records format.groups_file g ≡ kind_at s.records format.groups_file g
+    kind g = ap (λ m. kind_in m (rec_at t.records format.groups_file g) g) (ap (λ r. (metas.meta_of r).high) mark) ∙ ap (λ r. kind_in (high s.records format.groups_file) r g) (group g)
+
 -- ---- what was so before
 
 module _ (s t : State) (id : ℕ) (left : LeavesEdge s t id) where
-  meta : (file : ℕ) → file ≢ format.properties_file → file ≢ format.strings_file → t.records (meta_key_of file) ≡ s.records (meta_key_of file)
+  pub meta : (file : ℕ) → file ≢ format.properties_file → file ≢ format.strings_file → t.records (meta_key_of file) ≡ s.records (meta_key_of file)
   meta file a b = left.others (meta_key_of file) (λ e. omega arith) (λ e. omega arith) (λ e. a (ap (λ (k : Key). k.id) e)) (λ e. b (ap (λ (k : Key). k.id) e)) (λ e. omega arith) (λ e. let f = ap (λ (k : Key). k.file) e in omega arith)
 
-  node_same : (n : ℕ) → rec_at t.records format.nodes_file n ≡ rec_at s.records format.nodes_file n
+  pub node_same : (n : ℕ) → rec_at t.records format.nodes_file n ≡ rec_at s.records format.nodes_file n
   node_same n = left.others (key_in format.nodes_file n) (λ e. omega arith) (λ e. omega arith) (λ e. let f = ap (λ (k : Key). k.file) e in omega arith) (λ e. let f = ap (λ (k : Key). k.file) e in omega arith) (λ e. omega arith) (λ e. let f = ap (λ (k : Key). k.file) e in omega arith)
 
-  kind_same : (n : ℕ) → kind_at t.records format.nodes_file n ≡ kind_at s.records format.nodes_file n
+  pub kind_same : (n : ℕ) → kind_at t.records format.nodes_file n ≡ kind_at s.records format.nodes_file n
   kind_same n = ap (λ m. kind_in m (rec_at t.records format.nodes_file n) n) (ap (λ r. (metas.meta_of r).high) (meta format.nodes_file (λ e. omega arith) (λ e. omega arith)))
       ∙ ap (λ r. kind_in (high s.records format.nodes_file) r n) (node_same n)
-
-  walk_before : (a : ℕ) (xs : List ℕ) → IsWalk (next_group t.records) a xs → IsWalk (next_group s.records) a xs
-  walk_before a [] walk = walk
-  walk_before a (x ∷ xs) walk = (walk.0, walk.1, subst (λ z. IsWalk (next_group s.records) z xs) (left.groups x 4 format.group_next (omega arith) (omega arith)) (walk_before (next_group t.records x) xs walk.2))
-
-  -- a node that lacks a chain lacked it
-  pub lacks_before : (node label : ℕ) → LacksChain t node label → LacksChain s node label
-  lacks_before node label (inl free) = inl (sym (kind_same node) ∙ free)
-  lacks_before node label (inr lacks) = inr (record {
-    dense = sym (kind_same node) ∙ lacks.dense;
-    members = lacks.members;
-    list = record {
-      walk = subst (λ f. IsWalk (next_group s.records) f lacks.members) (ap (λ r. field 4 r format.node_first_link) (node_same node)) (walk_before (first_link t.records node) lacks.members lacks.list.walk);
-      only = λ g i. record { kind = sym (left.used g) ∙ (lacks.list.only g i).kind; owner = sym (left.groups g 4 format.group_owner (omega arith) (omega arith)) ∙ (lacks.list.only g i).owner };
-    };
-    lacks = λ g i e. lacks.lacks g i (left.groups g 4 format.group_type (omega arith) (omega arith) ∙ e);
-  })
 
   pub ends_later : (from to : ℕ) → HasEndsIn s.records id from to → HasEndsIn t.records id from to
   ends_later from to ends = record {
@@ -127,17 +115,17 @@ link_as s u l k named damage is mark room (LeadsNowhere some above) = LeadsNowhe
 link_as s u l k named damage is mark room (HighMark above) = HighMark (subst (λ z. z < rel_mark s) room (subst (λ z. rel_room u < z) mark above))
 
 -- one of the two places of pairs of links
-abbrev IsPair : ℕ → Type 0
+abbrev pub IsPair : ℕ → Type 0
 IsPair p = (p ≡ 16) ⊎ (p ≡ 24)
 
-pair_is : (r : Rec) (n : ℕ) → IsPair (place_of r n)
+pub pair_is : (r : Rec) (n : ℕ) → IsPair (place_of r n)
 pair_is r n = by (nat_eq (field 4 r 8) n)
   where
     by : (b : Bool) → IsPair (cond b 16 24)
     by true = inl refl
     by false = inr refl
 
-pair_low : (p : ℕ) → IsPair p → (16 ≤ p) × (p ≤ 24)
+pub pair_low : (p : ℕ) → IsPair p → (16 ≤ p) × (p ≤ 24)
 pair_low p h = ⊎_elim (λ e. (omega arith, omega arith)) (λ e. (omega arith, omega arith)) h
 
 -- the places of two pairs that differ
@@ -306,14 +294,10 @@ link_before s u head n rel d m ne ends owns is damage told =
 -- ---- which record is blamed
 
 -- an end that isn't found
-pub end_taken : (s m t : State) (id : ℕ) (rel : RelRow) (node : ℕ) → (node ≡ rel.from) ⊎ (node ≡ rel.to) → LeavesEdge s m id → (damage : Damage)
-    → (IsBroken m damage ⊎ ((damage ≡ end_damage id) × LacksChain m node rel.label)) × SameButReads m t → IsTakenDamage s t id rel damage
-end_taken s m t id rel node which left damage told = ⊎_elim
-    (λ k. Sought damage (edge_then s m t id left (edge_read m t id told.1)) (subst (λ (z : State). IsBroken z damage) (sym told.1) k))
-    (λ k. subst (IsTakenDamage s t id rel) (sym k.0) (NoChain node which (lacks_before s m id left node rel.label k.1))) told.0
+pub end_taken : (s m t : State) (id : ℕ) (rel : RelRow) (node : ℕ) → (node ≡ rel.from) ⊎ (node ≡ rel.to) → LeavesEdge s m id → (damage : Damage) → IsSoughtDamage m id node rel.label damage → IsTakenDamage s t id rel damage
+end_taken s m t id rel node which left damage told = Sought damage node m which left told
 
 -- seen from before
 pub taken_before : (s m t : State) (id : ℕ) (rel : RelRow) → LeavesEdge s m id → (damage : Damage) → IsTakenDamage m t id rel damage → IsTakenDamage s t id rel damage
-taken_before s m t id rel left damage (Sought _ later broken) = Sought damage (edge_then s m t id left later) broken
-taken_before s m t id rel left damage (NoChain node which lacks) = NoChain node which (lacks_before s m id left node rel.label lacks)
-taken_before s m t id rel left damage (Undropped _ node g drop broken) = Undropped damage node g drop broken
+taken_before s m t id rel left damage (Sought _ node mid which later told) = Sought damage node mid which (edge_then s m mid id left later) told
+taken_before s m t id rel left damage (Undropped _ undropped) = Undropped damage undropped

@@ -15,6 +15,7 @@ pub mod EdgeOpened
 pub mod EdgeOpening
 pub mod EdgeParted
 pub mod EdgePut
+pub mod EdgeSought
 pub mod EdgeSteps
 pub mod EdgeTaken
 pub mod ElementChanges

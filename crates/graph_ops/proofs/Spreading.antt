@@ -37,11 +37,14 @@ module _ {X : Type 0} (of : List X → List Command) (spread : IsSpread of) (xs 
   pub up_to_next : of (take (i + 1) xs) ≡ of (take i xs) ++ of (get_or xs i any ∷ [])
   up_to_next = ap of (take_more xs i any lt) ∙ spread (take i xs) (get_or xs i any ∷ [])
 
+  pub cut_at : xs ≡ take i xs ++ (get_or xs i any ∷ drop (i + 1) xs)
+  cut_at =
+      let rest : drop i xs ≡ get_or xs i any ∷ drop (i + 1) xs = drop-cons xs i any lt ∙ ap (λ (n : ℕ). get_or xs i any ∷ drop n xs) (sym (add-one i)) in
+      sym (take-append-drop i xs) ∙ ap (λ l. take i xs ++ l) rest
+
   pub all_split : of xs ≡ of (take i xs) ++ (of (get_or xs i any ∷ []) ++ of (drop (i + 1) xs))
   all_split =
-      let rest : drop i xs ≡ get_or xs i any ∷ drop (i + 1) xs = drop-cons xs i any lt ∙ ap (λ (n : ℕ). get_or xs i any ∷ drop n xs) (sym (add-one i)) in
-      let cut : xs ≡ take i xs ++ (get_or xs i any ∷ drop (i + 1) xs) = sym (take-append-drop i xs) ∙ ap (λ l. take i xs ++ l) rest in
-      ap of cut ∙ spread (take i xs) (get_or xs i any ∷ drop (i + 1) xs) ∙ ap (λ l. of (take i xs) ++ l) (spread (get_or xs i any ∷ []) (drop (i + 1) xs))
+      ap of cut_at ∙ spread (take i xs) (get_or xs i any ∷ drop (i + 1) xs) ∙ ap (λ l. of (take i xs) ++ l) (spread (get_or xs i any ∷ []) (drop (i + 1) xs))
 
 -- ---- kinds
 

@@ -1,5 +1,5 @@
 -- Which records a change calls damaged.
-use Rattle.std.specs.Prelude.{◌≡◌, ◌≢◌, ◌⊎◌, ℕ, IfErr, Result}
+use Rattle.std.specs.Prelude.{◌≡◌, ◌≢◌, ◌⊎◌, ℕ}
 use Rattle.prop_store.specs.Setting.{BreaksMidway}
 use Rattle.rec_bytes.specs.declared.key.Key.{Key}
 use Rattle.rec_bytes.specs.Format as format
@@ -25,10 +25,6 @@ IfBlames told (PropsFull count) = Unit {0}
 IfBlames told Memory = Unit {0}
 IfBlames told Disk = Unit {0}
 IfBlames told (Damaged damage) = told damage
-
--- what is so where a record is blamed
-abbrev pub OnBlame : {T : Type 0} → Result T ChangeFault → Type 0 → Type 0
-OnBlame result P = IfErr result (IfBlames (λ _. P))
 
 -- the record breaks the rule
 abbrev pub IsBroken : State → Damage → Type 0

@@ -8,7 +8,6 @@ use Rattle.rec_bytes.specs.Format as format
 use Rattle.rec_bytes.specs.Record.{field}
 use Rattle.rec_bytes.specs.RecordFiles.{meta_key_of}
 use Rattle.rec_bytes.specs.Space.{State, WritesOnly, meta_of}
-use Rattle.rel_store.specs.Loading.{row_at}
 use Rattle.rel_store.specs.RelRecord.{range_damage, rel_key}
 use Rattle.rel_store.specs.declared.rel_row.RelRow.{RelRow}
 use Rattle.store_rules.specs.Breaking.{IsHeadOf}
@@ -16,14 +15,14 @@ use Rattle.store_rules.specs.Ends.{Regroups}
 use Rattle.store_rules.specs.Graph.{names_of}
 use Rattle.store_rules.specs.PropertyChange.{Apart}
 use Rattle.store_rules.specs.Rules.{KeepsRules, Owns, StandsAt}
-use Rattle.store_rules.specs.Views.{Records, degree, group_at, is_group_kind, kind_at, node_at}
-use Rattle.store_rules.specs.Views.{rec_at, rel_at}
+use Rattle.store_rules.specs.Views.{Records, degree, group_at, is_group_kind, is_live, kind_at}
+use Rattle.store_rules.specs.Views.{node_at, rec_at, rel_at}
 use Rattle.store_rules.specs.Writes.{AreOwn, meta_keys}
 use Rattle.chain_edit.specs.Chains.{next_of, prev_of}
 use Rattle.chain_edit.specs.Heads.{head_of}
 use Rattle.chain_edit.specs.Links.{IsLinkDamage}
 use Rattle.group_store.specs.Dropping.{IsDropDamage}
-use Rattle.group_store.specs.Opening.{LacksGroupOn, end_damage}
+use Rattle.group_store.specs.Opening.{IsSearchDamage, LacksGroupOn, end_damage}
 use Rattle.graph_ops.specs.Damage.{IfBlames, IsBroken}
 use Rattle.graph_ops.specs.EdgeEnds.{end_groups, end_keys}
 use Rattle.graph_ops.specs.NodeDeleting.{HasDegree}
@@ -137,12 +136,15 @@ LacksChain s node label =
     (kind_at s.records format.nodes_file node ≡ format.free_kind)
     ⊎ LacksGroupOn s.records node label
 
--- A record that is blamed where an end of a relationship of the type is looked for breaks the rule,
--- or it is the relationship, for which the node has no chain.
+-- What is told where an end of a relationship of the type is looked for breaks the rule, and a
+-- search for its head tells it. Or it is the relationship, for which the node has no chain.
+abbrev pub IsSoughtDamage : State → ℕ → ℕ → ℕ → Damage → Type 0
+IsSoughtDamage s id node label damage =
+    (IsBroken s damage × IsSearchDamage s node damage)
+    ⊎ ((damage ≡ end_damage id) × LacksChain s node label)
+
 abbrev pub BlamesEnd : State → ℕ → ℕ → ℕ → ChangeFault → Type 0
-BlamesEnd s id node label fault =
-    IfBlames (λ damage. IsBroken s damage
-    ⊎ ((damage ≡ end_damage id) × LacksChain s node label)) fault
+BlamesEnd s id node label fault = IfBlames (IsSoughtDamage s id node label) fault
 
 -- a link of the edge in a chain of the node leads nowhere
 abbrev pub IsEdgeLink : State → ℕ → ℕ → Damage → Type 0
@@ -161,7 +163,7 @@ pub record HasEndsIn (records : Records) (id from to : ℕ) : Type 0 where
 
 -- No record is other but those of properties and blocks, and the meta records of their files. Of
 -- the edge's own the place of its first property is, and of groups the kind and the numbers. Each
--- group is in use as it was.
+-- group is in use as it was, and of a kind that groups have as it was.
 pub record LeavesEdge (s t : State) (id : ℕ) : Type 0 where
   pub shape : t.shape ≡ s.shape
   pub others : (key : Key) → key.file ≢ format.properties_file → key.file ≢ format.strings_file
@@ -175,23 +177,26 @@ pub record LeavesEdge (s t : State) (id : ℕ) : Type 0 where
       ≡ field n (rec_at s.records format.groups_file g) at
   pub used : (g : ℕ) → is_group_kind (kind_at t.records format.groups_file g)
       ≡ is_group_kind (kind_at s.records format.groups_file g)
+  pub live : (g : ℕ) → is_live t.records format.groups_file g
+      ≡ is_live s.records format.groups_file g
+
+-- a group of an end isn't dropped, and the record breaks the rule in the space as it is left
+abbrev pub IsUndropped : State → Damage → Type 0
+IsUndropped t damage = (node : ℕ) × (g : ℕ) × (IsDropDamage t node g damage × IsBroken t damage)
 
 -- A record that is blamed where an edge that had this row is taken out of its chains. It is found
--- where its ends are looked for, and breaks the rule in the space as it is left, which differs
--- from what it was in no more than properties, blocks and numbers of groups. Or it is the edge,
--- for which an end had no chain: by the third rule it is in one, and by the fourth each group is
--- on its owner's chain. Or a group of an end isn't dropped, and is told by the space as it is left.
+-- where its ends are looked for, in a space that differs from what it was in no more than
+-- properties, blocks and numbers of groups. Or a group of an end isn't dropped.
 pub data IsTakenDamage (s t : State) (id : ℕ) (rel : RelRow) : Damage → Type 0 where
-  Sought : (damage : Damage) → LeavesEdge s t id → IsBroken t damage
+  Sought : (damage : Damage) (node : ℕ) (mid : State) → (node ≡ rel.from) ⊎ (node ≡ rel.to)
+      → LeavesEdge s mid id → IsSoughtDamage mid id node rel.label damage
       → IsTakenDamage s t id rel damage
-  NoChain : (node : ℕ) → (node ≡ rel.from) ⊎ (node ≡ rel.to) → LacksChain s node rel.label
-      → IsTakenDamage s t id rel (end_damage id)
-  Undropped : (damage : Damage) (node g : ℕ) → IsDropDamage t node g damage
-      → IsBroken t damage → IsTakenDamage s t id rel damage
+  Undropped : (damage : Damage) → IsUndropped t damage → IsTakenDamage s t id rel damage
 
 -- A record that is blamed where an edge is deleted breaks the rule in the space as it was, or it is
--- a property that shares a block there. Or it is told where the edge is taken out of its chains.
-abbrev pub BlamesDeleting : State → State → ℕ → ChangeFault → Type 0
-BlamesDeleting s t id fault =
+-- a property that shares a block there. Or a group of an end isn't dropped, which is told by the
+-- space as it is left.
+abbrev pub BlamesDeleting : State → State → ChangeFault → Type 0
+BlamesDeleting s t fault =
     IfBlames (λ damage. (IsBroken s damage ⊎ SharesBlock s.records damage)
-    ⊎ ((rel : RelRow) × (row_at s.records id ≡ Some rel) × IsTakenDamage s t id rel damage)) fault
+    ⊎ IsUndropped t damage) fault

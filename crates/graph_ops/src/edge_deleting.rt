@@ -19,7 +19,7 @@ ghost use Rattle.store_rules.specs.Writes.{WritesAtMost, WritesBeside};
 ghost use Rattle.graph_ops.specs.Causes.{IsCaused, IsStillCaused};
 ghost use Rattle.graph_ops.specs.Change.{IsRefusal, MakesChange};
 ghost use Rattle.graph_ops.specs.ChangeFault.{HasChangeCause, IsFailure, IsOutside, LeavesSpace};
-ghost use Rattle.graph_ops.specs.Damage.{IfBlames, OnBlame};
+ghost use Rattle.graph_ops.specs.Damage.{IfBlames};
 ghost use Rattle.graph_ops.specs.EdgeDeleting.{BlamesDeleting, BlamesEnd, FindsEnd, FindsEnds};
 ghost use Rattle.graph_ops.specs.EdgeDeleting.{HasBareRow, HasEndsIn, HasHead, IsBareEdge};
 ghost use Rattle.graph_ops.specs.EdgeDeleting.{IsEndLink, IsTakenDamage, KeepsKinds, LeavesEdge};
@@ -52,7 +52,7 @@ pub fn delete_edge<S: Space>(space: &mut S, names: &Names, id: u32) -> Result<u3
     ensures still { S.tells → IfErr result (IsStillCaused (commands.Delete (targets.Edge id))
         (S.state space.new) names.now.names names.now.names) }
     ensures damaged { S.tells → IfErr result
-        (BlamesDeleting (S.state space.old) (S.state space.new) id) }
+        (BlamesDeleting (S.state space.old) (S.state space.new)) }
     // a dense node stays so, however few relationships it has
     ensures kinds { S.tells → IfOk result (λ _. IsStore (S.state space.old) names.now.names
         → KeepsKinds (S.state space.old) (S.state space.new)) }
@@ -147,8 +147,6 @@ fn edge_end<S: Space>(
         → (node ≡ rel.from) ⊎ (node ≡ rel.to) → IfErr result IsOutside }
     ensures damaged { S.tells → IfErr result
         (BlamesEnd (S.state space.old) id node rel.label) }
-    ensures unwritten { S.tells → OnBlame result
-        (SameButReads (S.state space.old) (S.state space.new)) }
     ensures counts { S.tells → OnOk result
         (LeavesCounted (S.state space.old).records (S.state space.new).records) }
     ensures has { S.tells → IfOk result (HasHead (S.state space.new).records) }

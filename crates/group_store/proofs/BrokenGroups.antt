@@ -39,8 +39,10 @@ use Rattle.group_store.specs.Links.{IsLinkDamage}
 use Rattle.group_store.specs.Links.IsLinkDamage.{LeadsNowhere, HighLink}
 use Rattle.group_store.specs.Loading.{group_mark, group_room, mark_damage}
 use Rattle.group_store.specs.Making.{IsMakeDamage, IsMakeFault, link_damage}
-use Rattle.group_store.specs.Making.IsMakeDamage.{BadFree, BadLink, BadNode, FullFile, NotDense}
-use Rattle.group_store.specs.Opening.{IsHeadFault, IsOpenFault, LacksGroupOn, end_damage}
+use Rattle.group_store.specs.Making.IsMakeDamage.{BadFree, BadLink, BadNode as BadOwner, FullFile, NotDense}
+use Rattle.group_store.specs.Opening.{IsHeadFault, IsOpenFault, IsSearchDamage, LacksGroupOn, end_damage}
+use Rattle.group_store.specs.Opening.IsSearchDamage.{BadGroups, BadNode, Uncounted}
+use Rattle.group_store.specs.Raising.{IsCountFault}
 use Rattle.group_store.specs.Walking.{IsMemberDamage, IsWalkDamage}
 use Rattle.group_store.specs.Walking.IsMemberDamage.{HighMember, NoMember, UnknownMember}
 use Rattle.group_store.specs.Walking.IsWalkDamage.{HighMark, NoList, UnknownGroup}
@@ -142,7 +144,7 @@ make_breaks s n dense Disk told = tt
 make_breaks s n dense (Damaged damage) told = by damage told
   where
     by : (damage : Damage) → IsMakeDamage s n damage → IsOpenFault s (Damaged damage)
-    by damage (BadNode d bad) = inl (node_breaks s n d bad)
+    by damage (BadOwner d bad) = inl (node_breaks s n d bad)
     by damage (NotDense thin) = absurd (thin dense)
     by damage (BadLink d bad) = inl (first_breaks s n dense d bad)
     by damage (FullFile full) = inr (refl, full)
@@ -222,10 +224,39 @@ no_group_breaks s n rel label row live end typed lacks =
 
 -- ---- faults that are handed on
 
-pub head_only : (s : State) (n rel label : ℕ) (fault : Fault) → IsBreakFault s fault → IsHeadFault s n rel label fault
-head_only s n rel label Memory told = tt
-head_only s n rel label Disk told = tt
-head_only s n rel label (Damaged damage) told = inl told
+-- after reads
+pub search_read : (s z : State) (n : ℕ) (damage : Damage) → SameButReads s z → IsSearchDamage z n damage → IsSearchDamage s n damage
+search_read s z n damage same told = by damage (subst (λ (q : State). IsSearchDamage q n damage) same told)
+  where
+    node : (d : Damage) → IsNodeDamage (record s { reads = z.reads }) n d → IsNodeDamage s n d
+    node d (HighNodes above) = HighNodes above
+    node d (UnknownKind low none) = UnknownKind low none
+
+    walk : (d : Damage) → IsWalkDamage (record s { reads = z.reads }) n (first_link s.records n) d → IsWalkDamage s n (first_link s.records n) d
+    walk d (NoList none) = NoList none
+    walk d (UnknownGroup g none low unknown) = UnknownGroup g none low unknown
+    walk d (HighMark above) = HighMark above
+
+    by : (d : Damage) → IsSearchDamage (record s { reads = z.reads }) n d → IsSearchDamage s n d
+    by d (BadNode _ bad) = BadNode d (node d bad)
+    by d (BadGroups _ dense bad) = BadGroups d dense (walk d bad)
+    by d (Uncounted _ g names) = Uncounted d g names
+
+pub node_only : (s : State) (n rel label : ℕ) (fault : Fault) → IsNodeFault s n fault → IsHeadFault s n rel label fault
+node_only s n rel label Memory told = tt
+node_only s n rel label Disk told = tt
+node_only s n rel label (Damaged damage) told = inl (node_breaks s n damage told, BadNode damage told)
+
+pub find_only : (s z : State) (n rel label : ℕ) → SameButReads s z → IsDense z.records n → (fault : Fault) → IsFindFault z n fault → IsHeadFault s n rel label fault
+find_only s z n rel label same dense Memory told = tt
+find_only s z n rel label same dense Disk told = tt
+find_only s z n rel label same dense (Damaged damage) told =
+    inl (subst (λ (q : State). Breaks q.records q.shape damage) same (find_breaks z n dense (Damaged damage) told), search_read s z n damage same (⊎_elim (λ k. BadNode damage k) (λ k. BadGroups damage dense k) told))
+
+pub count_only : (s z : State) (n rel label g : ℕ) → SameButReads s z → (fault : Fault) → IsCountFault n g fault → IsBreakFault z fault → IsHeadFault s n rel label fault
+count_only s z n rel label g same Memory names told = tt
+count_only s z n rel label g same Disk names told = tt
+count_only s z n rel label g same (Damaged damage) names told = inl (subst (λ (q : State). Breaks q.records q.shape damage) same told, Uncounted damage g names)
 
 pub if_err : {T E : Type 0} (r : Result T E) (P Q : E → Type 0) → ((e : E) → P e → Q e) → IfErr r P → IfErr r Q
 if_err (Ok x) P Q f p = tt

@@ -1,5 +1,5 @@
 -- What a change of a node's groups leaves of all other records, whatever the records are.
-use Rattle.std.specs.Prelude.{IfSome, OnOk}
+use Rattle.std.specs.Prelude.{IfSome, OnOk, nat_eq, not}
 use Rattle.std.proofs.lemmas.Bool.{false≢true}
 use Rattle.std.proofs.Common.{◌≡◌, ◌≢◌, ◌⊎◌, ℕ, ◌+◌, ◌<◌, ◌≤◌, Result, Ok, Err, sym, ap, ◌∙◌, subst, inl, inr, ⊎_elim, arith, refl}
 use Rattle.rec_bytes.specs.declared.fault.Fault.{Fault}
@@ -18,9 +18,9 @@ use Rattle.rec_bytes.proofs.Spaces.{meta_in-put_other, put_other, put_same}
 use Rattle.node_store.specs.NodeRecord.{node_key}
 use Rattle.id_freelist.specs.Taking.{taken, taken_id}
 use Rattle.store_rules.specs.Rules.{Head, first_of}
-use Rattle.store_rules.specs.Views.{Records, first_link, high, is_group_kind, key_in, kind_at, kind_in, rec_at}
+use Rattle.store_rules.specs.Views.{Records, first_link, high, is_group_kind, is_live, key_in, kind_at, kind_in, rec_at}
 use Rattle.store_rules.proofs.NumberLaws.{nat_cases}
-use Rattle.store_rules.proofs.ViewLaws.{kind_below, kind_low}
+use Rattle.store_rules.proofs.ViewLaws.{group_used, kind_below, kind_low, live_true}
 use Rattle.chain_edit.specs.Chains.{next_place, prev_place}
 use Rattle.chain_edit.specs.Links as links
 use Rattle.chain_edit.specs.Pushing.{pushed}
@@ -190,7 +190,7 @@ later_beside s t u node beside (Damaged damage) told = beside_then s t u node be
 -- ---- numbers of a group
 
 pub counted_none : (s : Records) → LeavesCounted s s
-counted_none s = record { others = λ key a. refl; groups = λ g n at one inside. refl; used = λ g. refl }
+counted_none s = record { others = λ key a. refl; groups = λ g n at one inside. refl; used = λ g. refl; live = λ g. refl }
 
 pub counted_read : (s t : State) → SameButReads s t → LeavesCounted s.records t.records
 counted_read s t same = subst (λ (z : State). LeavesCounted s.records z.records) (sym same) (counted_none s.records)
@@ -200,6 +200,7 @@ counted_then s t u a b = record {
   others = λ key file. b.others key file ∙ a.others key file;
   groups = λ g n at one inside. b.groups g n at one inside ∙ a.groups g n at one inside;
   used = λ g. b.used g ∙ a.used g;
+  live = λ g. b.live g ∙ a.live g;
 }
 
 counted_put : (s : State) (node g : ℕ) (counts : Counts) → IsGroupOf s.records node g → LeavesCounted s.records (raised_state s g counts).records
@@ -208,6 +209,9 @@ counted_put s node g counts member =
     let rec = raised was counts in
     let t : Records = put s.records (group_key g) rec in
     let marks : (f : ℕ) → high t f ≡ high s.records f = λ f. ap (λ (m : Meta). m.high) (meta_in-put_other s.records (group_key g) rec f (λ e. let k = ap (λ (q : Key). q.file) e in omega arith)) in
+    let elsewhere : (k : ℕ) → k ≢ g → kind_at t format.groups_file k ≡ kind_at s.records format.groups_file k
+    = λ k ne. ap (λ m. kind_in m (rec_at t format.groups_file k) k) (marks format.groups_file)
+    ∙ ap (λ r. kind_in (high s.records format.groups_file) r k) (put_other s.records (group_key g) rec (group_key k) (λ e. ne (ap (λ (q : Key). q.id) e))) in
     record {
       others = λ key file. put_other s.records (group_key g) rec key (λ e. file (ap (λ (k : Key). k.file) e));
       groups = λ k n at one inside. ⊎_elim
@@ -217,8 +221,11 @@ counted_put s node g counts member =
           (λ (ne : k ≢ g). ap (λ r. field n r at) (put_other s.records (group_key g) rec (group_key k) (λ e. ne (ap (λ (q : Key). q.id) e)))) (nat_cases k g);
       used = λ k. ⊎_elim
           (λ (e : k ≡ g). subst (λ z. is_group_kind (kind_at t format.groups_file z) ≡ is_group_kind (kind_at s.records format.groups_file z)) (sym e) (here marks))
-          (λ (ne : k ≢ g). ap is_group_kind (ap (λ m. kind_in m (rec_at t format.groups_file k) k) (marks format.groups_file)
-          ∙ ap (λ r. kind_in (high s.records format.groups_file) r k) (put_other s.records (group_key g) rec (group_key k) (λ e. ne (ap (λ (q : Key). q.id) e))))) (nat_cases k g);
+          (λ (ne : k ≢ g). ap is_group_kind (elsewhere k ne)) (nat_cases k g);
+      live = λ k. ⊎_elim
+          (λ (e : k ≡ g). subst (λ z. is_live t format.groups_file z ≡ is_live s.records format.groups_file z) (sym e)
+          (live_true (kind_at t format.groups_file g) (group_used (kind_at t format.groups_file g) (here marks ∙ member.kind)) ∙ sym (live_true (kind_at s.records format.groups_file g) (group_used (kind_at s.records format.groups_file g) member.kind))))
+          (λ (ne : k ≢ g). ap (λ z. not (nat_eq z 0)) (elsewhere k ne)) (nat_cases k g);
     }
   where
     here : ((f : ℕ) → high (put s.records (group_key g) (raised (s.records (group_key g)) counts)) f ≡ high s.records f) → is_group_kind (kind_at (raised_state s g counts).records format.groups_file g) ≡ is_group_kind (kind_at s.records format.groups_file g)

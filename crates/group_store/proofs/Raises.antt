@@ -1,6 +1,7 @@
 -- A group that gets its numbers: what stays of the rules.
-use Rattle.std.proofs.Common.{◌≡◌, ◌≢◌, ℕ, ◌+◌, ◌<◌, ◌^◌, min, nat_eq, Bool, true, false, Some, List, [], sym, ap, ◌∙◌, subst, ⊎_elim, arith, refl}
+use Rattle.std.proofs.Common.{◌≡◌, ◌≢◌, ℕ, ◌+◌, ◌<◌, ◌^◌, min, nat_eq, Bool, true, false, Some, List, [], sym, ap, ◌∙◌, subst, inl, inr, ⊎_elim, arith, refl}
 use Rattle.std.proofs.lemmas.Bool.{true≢false}
+use Rattle.rec_bytes.specs.declared.damage.Damage.{Damage}
 use Rattle.rec_bytes.specs.declared.fault.Fault.{Fault}
 use Rattle.rec_bytes.specs.declared.fault.Fault.TheVariants.{Memory, Disk, Damaged}
 use Rattle.rec_bytes.specs.declared.record.Rec.{Rec}
@@ -22,7 +23,8 @@ use Rattle.store_rules.proofs.NumberLaws.{nat_cases}
 use Rattle.store_rules.proofs.ViewLaws.{group_kinds, group_used, kind_below, kind_low}
 use Rattle.chain_edit.specs.Breaks.{IsBreakFault}
 use Rattle.chain_edit.specs.Chains.{next_of}
-use Rattle.chain_edit.specs.Length.{HasCounted, IsMemberChain, is_member}
+use Rattle.chain_edit.specs.Length.{HasCounted, IsLengthDamage, IsLengthFault, IsMemberChain, is_member}
+use Rattle.chain_edit.specs.Length.IsLengthDamage.{HighMark, NoChain}
 use Rattle.chain_edit.specs.declared.members.Members.{Members}
 use Rattle.chain_edit.proofs.Walks.{walk_in}
 use Rattle.group_store.specs.declared.group_row.GroupRow.{GroupRow}
@@ -30,7 +32,7 @@ use Rattle.group_store.specs.declared.raising.Counts.{Counts}
 use Rattle.group_store.specs.declared.side.Side.{Side}
 use Rattle.group_store.specs.declared.side.Side.TheVariants.{Out, In as Into, Loop}
 use Rattle.group_store.specs.GroupRecord.{is_counted}
-use Rattle.group_store.specs.Raising.{AreLengths, CanRaise, HasLength, HasRaised, IsGroupAt, degree_damage, first_in, members_of, raised, raised_state}
+use Rattle.group_store.specs.Raising.{AreLengths, CanRaise, HasLength, HasRaised, IsCountDamage, IsCountFault, IsGroupAt, degree_damage, first_in, members_of, raised, raised_state}
 use Rattle.group_store.specs.Sides.{group_head}
 use Rattle.group_store.proofs.GroupPuts as puts
 use Rattle.group_store.proofs.GroupRules.{row_of_group}
@@ -46,6 +48,16 @@ pub breaks_read : (s z : State) → SameButReads s z → (fault : Fault) → IsB
 breaks_read s z same Memory told = tt
 breaks_read s z same Disk told = tt
 breaks_read s z same (Damaged damage) told = subst (λ (q : State). Breaks q.records q.shape damage) same told
+
+-- which record is said to be damaged
+pub length_names : (s : State) (node g first : ℕ) (members : Members) (fault : Fault) → IsLengthFault s (key_in format.groups_file g) first node members fault → IsCountFault node g fault
+length_names s node g first members Memory told = tt
+length_names s node g first members Disk told = tt
+length_names s node g first members (Damaged damage) told = by damage told
+  where
+    by : (damage : Damage) → IsLengthDamage s (key_in format.groups_file g) first node members damage → IsCountDamage node g damage
+    by damage (NoChain none) = inl refl
+    by damage (HighMark above) = inr (inr refl)
 
 group_reads : (s : State) (r node : ℕ) (row : GroupRow) → IsGroupAt s node row → IsGroupAt (record s { reads = r }) node row
 group_reads s r node row at = record { dense = at.dense; member = at.member; is = at.is }

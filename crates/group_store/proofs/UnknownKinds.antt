@@ -24,7 +24,7 @@ layout-other rec kind free none = by (nat_eq kind format.grouped) (nat_eq kind f
     by false true a b e = absurd (true≢false e)
     by false false a b e = rw (free, a, b) refl
 
-layout-known : (rec : Rec) (kind : ℕ) → is_group_kind kind ≡ true → (layout : Layout) × (layout_by format.groups_file rec kind ≡ Some layout)
+pub layout-known : (rec : Rec) (kind : ℕ) → is_group_kind kind ≡ true → (layout : Layout) × (layout_by format.groups_file rec kind ≡ Some layout)
 layout-known rec kind known = by (nat_eq kind format.grouped) (nat_eq kind format.counted) refl refl known
   where
     used : nat_eq kind format.free_kind ≡ false

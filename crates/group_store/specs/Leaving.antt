@@ -9,7 +9,8 @@ use Rattle.rec_bytes.specs.Space.{State}
 use Rattle.store_rules.specs.Breaking.{IsHeadOf}
 use Rattle.store_rules.specs.Chains.{In, place_of}
 use Rattle.store_rules.specs.Rules.{Head}
-use Rattle.store_rules.specs.Views.{GroupRow, Records, group_at, is_group_kind, kind_at, rec_at}
+use Rattle.store_rules.specs.Views.{GroupRow, Records, group_at, is_group_kind, is_live, kind_at}
+use Rattle.store_rules.specs.Views.{rec_at}
 use Rattle.node_store.specs.NodeRecord.{node_key}
 
 -- the record names the node as its source or its target
@@ -75,14 +76,15 @@ pub record LeavesApart (s t : Records) (node : ℕ) (rels groups : List ℕ) : T
   pub groups_stay : (g n at : ℕ) → g ≢ format.nil → ¬ In g groups → at + n ≤ format.record_bytes
       → field n (rec_at t format.groups_file g) at ≡ field n (rec_at s format.groups_file g) at
 
--- Whatever the records are: of a group only its kind and its numbers are other, and each is in use
--- as it was. No record of another file is other.
+-- Whatever the records are: of a group only its kind and its numbers are other. Each is in use, and
+-- of a kind that groups have, as it was. No record of another file is other.
 pub record LeavesCounted (s t : Records) : Type 0 where
   pub others : (key : Key) → key.file ≢ format.groups_file → t key ≡ s key
   pub groups : (g n at : ℕ) → 1 ≤ at → at + n ≤ format.group_out_count
       → field n (rec_at t format.groups_file g) at ≡ field n (rec_at s format.groups_file g) at
   pub used : (g : ℕ) → is_group_kind (kind_at t format.groups_file g)
       ≡ is_group_kind (kind_at s format.groups_file g)
+  pub live : (g : ℕ) → is_live t format.groups_file g ≡ is_live s format.groups_file g
 
 -- Each node has the heads that it had.
 abbrev pub KeepsHeads : State → State → Type 0

@@ -1,6 +1,7 @@
 -- The head of an end's chain, which is found or made.
 use Rattle.std.specs.Prelude.{◌≡◌, ◌≢◌, ◌⊎◌, ℕ, ◌+◌, ◌*◌, ◌<◌, ◌≤◌, nat_eq, if◌then◌else◌, length}
 use Rattle.std.specs.Prelude.{List, ◌∷◌, ◌++◌, Some}
+use Rattle.node_store.specs.Loading.{IsNodeDamage}
 use Rattle.node_store.specs.NodeRecord.{node_key}
 use Rattle.rec_bytes.specs.declared.damage.Damage.{Damage}
 use Rattle.rec_bytes.specs.declared.fault.Fault.{Fault}
@@ -19,7 +20,9 @@ use Rattle.store_rules.specs.Writes.{AreOwn, meta_keys}
 use Rattle.group_store.specs.Faults.{full_damage}
 use Rattle.group_store.specs.GroupChain.{IsDense, IsGroupList, LacksType}
 use Rattle.group_store.specs.Leaving.{LeavesOthers}
+use Rattle.group_store.specs.Raising.{IsCountDamage}
 use Rattle.group_store.specs.Sides.{side_at}
+use Rattle.group_store.specs.Walking.{IsWalkDamage}
 use Rattle.group_store.specs.declared.side.Side.{Side}
 
 -- The relationship is at the node, has this type, and is on this side.
@@ -105,13 +108,22 @@ pub record LacksGroupOn (records : Records) (node label : ℕ) : Type 0 where
   pub list : IsGroupList records node (first_link records node) members
   pub lacks : LacksType records label members
 
+-- Which record a search for a head of the node says to be damaged: the node can't be read, or its
+-- links don't lead through its groups, or a group of it can't be counted.
+pub data IsSearchDamage (s : State) (node : ℕ) : Damage → Type 0 where
+  BadNode : (damage : Damage) → IsNodeDamage s node damage → IsSearchDamage s node damage
+  BadGroups : (damage : Damage) → IsDense s.records node
+      → IsWalkDamage s node (first_link s.records node) damage → IsSearchDamage s node damage
+  Uncounted : (damage : Damage) (g : ℕ) → IsCountDamage node g damage
+      → IsSearchDamage s node damage
+
 -- What a search for a head is refused for. The record that is said to be damaged breaks the rule,
 -- or it is the relationship, and no group on the chain of the dense node has its type.
 abbrev pub IsHeadFault : State → ℕ → ℕ → ℕ → Fault → Type 0
 IsHeadFault s node rel label Memory = Unit {0}
 IsHeadFault s node rel label Disk = Unit {0}
 IsHeadFault s node rel label (Damaged damage) =
-    Breaks s.records s.shape damage
+    (Breaks s.records s.shape damage × IsSearchDamage s node damage)
     ⊎ ((damage ≡ end_damage rel) × LacksGroupOn s.records node label)
 
 -- What a group is refused for: the record that is said to be damaged breaks the rule, or the file

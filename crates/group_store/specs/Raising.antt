@@ -1,6 +1,8 @@
 -- A group that gets the numbers of the relationships in its chains.
-use Rattle.std.specs.Prelude.{◌≡◌, ◌≢◌, ℕ, true, false, List, length}
+use Rattle.std.specs.Prelude.{◌≡◌, ◌≢◌, ◌⊎◌, ℕ, true, false, List, length}
 use Rattle.rec_bytes.specs.declared.damage.Damage.{Damage}
+use Rattle.rec_bytes.specs.declared.fault.Fault.{Fault}
+use Rattle.rec_bytes.specs.declared.fault.Fault.TheVariants.{Memory, Disk, Damaged}
 use Rattle.rec_bytes.specs.declared.record.Rec.{Rec}
 use Rattle.rec_bytes.specs.Format as format
 use Rattle.rec_bytes.specs.Record.{with_field}
@@ -9,7 +11,8 @@ use Rattle.store_rules.specs.Ends.{Regroups}
 use Rattle.store_rules.specs.Rules.{KeepsRules}
 use Rattle.store_rules.specs.Views.{group_at, kind_at}
 use Rattle.chain_edit.specs.declared.members.Members.{Members}
-use Rattle.chain_edit.specs.Walking.{IsSoundWalk}
+use Rattle.chain_edit.specs.Walking.{IsSoundWalk, chain_damage}
+use Rattle.rel_store.specs.Loading.{mark_damage}
 use Rattle.group_store.specs.declared.group_row.GroupRow.{GroupRow}
 use Rattle.group_store.specs.declared.raising.Counts.{Counts}
 use Rattle.group_store.specs.declared.side.Side.{Side}
@@ -80,3 +83,14 @@ pub record HasRaised (s t : State) (node g most : ℕ) (empty : List ℕ) : Type
 -- the degree of the node isn't that of its relationships
 abbrev pub degree_damage : ℕ → Damage
 degree_damage node = record { file = format.nodes_file; id = node; rule = 7 }
+
+-- Which record is said to be damaged where a group's relationships are counted: the group, by the
+-- third rule, the node, by the seventh, or the meta record of the relationships, by the first.
+abbrev pub IsCountDamage : ℕ → ℕ → Damage → Type 0
+IsCountDamage node g damage = (damage ≡ chain_damage (group_key g))
+    ⊎ ((damage ≡ degree_damage node) ⊎ (damage ≡ mark_damage))
+
+abbrev pub IsCountFault : ℕ → ℕ → Fault → Type 0
+IsCountFault node g Memory = Unit {0}
+IsCountFault node g Disk = Unit {0}
+IsCountFault node g (Damaged damage) = IsCountDamage node g damage

@@ -16,6 +16,7 @@ ghost use Rattle.group_store.specs.Raising.{
   AreLengths,
   CanRaise,
   HasRaised,
+  IsCountFault,
   IsGroupAt,
   degree_damage,
   first_in,
@@ -52,6 +53,7 @@ pub(crate) fn count_group<S: Space>(space: &mut S, node: u32, row: &GroupRow) ->
         → CanRaise (S.state space.old) node row.now most empty → NotDamaged result }
     ensures breaks { S.tells → IsGroupAt (S.state space.old) node row.now
         → IfErr result (IsBreakFault (S.state space.old)) }
+    ensures names { S.tells → IfErr result (IsCountFault node row.now.id) }
     ensures counted { row.now.counted ≡ true → IsOk result }
     ensures unwritten { OnDamage result (SameButReads (S.state space.old) (S.state space.new)) }
     ensures heads { S.tells
@@ -94,6 +96,7 @@ fn count_chains<R: Reads>(
     ensures breaks { R.tells → node_degree ≡ degree (R.state space.old).records node
         → IsGroupAt (R.state space.old) node row.now
         → IfErr result (IsBreakFault (R.state space.old)) }
+    ensures names { R.tells → IfErr result (IsCountFault node row.now.id) }
     ensures state { SameButReads (R.state space.old) (R.state space.new) }
     ensures onward { R.onward space.old space.new }
     ensures cause { HasFaultCause (R.faults space.old) (R.faults space.new) result }
@@ -125,6 +128,7 @@ fn side_length<R: Reads>(
         (members_of row.now.label side) xs → NotDamaged result }
     ensures breaks { R.tells → IsGroupAt (R.state space.old) node row.now
         → IfErr result (IsBreakFault (R.state space.old)) }
+    ensures names { R.tells → IfErr result (IsCountFault node row.now.id) }
     ensures state { SameButReads (R.state space.old) (R.state space.new) }
     ensures onward { R.onward space.old space.new }
     ensures cause { HasFaultCause (R.faults space.old) (R.faults space.new) result }

@@ -1,4 +1,4 @@
-use Rattle.std.proofs.Common.{◌≡◌, ◌∙◌, ◌+◌, ℕ, Some, List, [], ◌∷◌, sym, ap, subst, inl, inr, ⊎_elim, arith, refl}
+use Rattle.std.proofs.Common.{◌≡◌, ◌∙◌, ◌+◌, ℕ, Some, List, [], ◌∷◌, sym, ap, subst, inl, ⊎_elim, arith, refl}
 use Rattle.plain_graph.specs.Refusals.{change_reasons}
 use Rattle.plain_graph.specs.declared.command.Command.TheVariants as commands
 use Rattle.plain_graph.specs.declared.command.Target.TheVariants as targets
@@ -31,6 +31,7 @@ use Rattle.prop_store.specs.Owner.{IsInUse}
 use Rattle.graph_ops.specs.Owners.{owner_of}
 use Rattle.graph_ops.proofs.Broken.{blames_more, rel_broken, rel_in_use}
 use Rattle.graph_ops.proofs.EdgeBlames.{drop_blamed}
+use Rattle.graph_ops.proofs.EdgeSought.{taken_told}
 use Rattle.graph_ops.proofs.EdgeFrames.{edge_left, edge_read, edge_then, end_link_before, end_link_breaks, ends_found, ends_later, taken_before}
 use Rattle.graph_ops.proofs.edge_deleting.delete_edge.Goals as goal
 use Rattle.graph_ops.proofs.edge_deleting.delete_edge.Goals.{After-drop_all, After-load, After-take_edge}
@@ -206,7 +207,7 @@ pub returns-in_err-rel-clause-damaged : goal.returns-in_err-rel-clause-damaged
 returns-in_err-rel-clause-damaged g c tells =
     let s = g.S.Reads.state c.args.space.now in
     let v = g.S.Reads.state c.load.new.space in
-    fault_exit of_row (BlamesDeleting s v c.args.id) c.in_err-rel.field-0.0 c.from_residual.result c.from_residual.ensures.1
+    fault_exit of_row (BlamesDeleting s v) c.in_err-rel.field-0.0 c.from_residual.result c.from_residual.ensures.1
     (blames_more _ _ (λ damage told. inl (inl told)) (of_row c.in_err-rel.field-0.0) (rel_broken s c.args.id c.in_err-rel.field-0.0 (c.in_err-rel.ensures.damaged tells)))
 
 pub returns-in_err-dropped-clause-damaged : goal.returns-in_err-dropped-clause-damaged
@@ -217,8 +218,8 @@ returns-in_err-dropped-clause-damaged g c tells =
     let at = (goal.at.returns-in_err-dropped-clause-damaged g c).After-drop_all in
     let same = was_read g at in
     let used = rel_in_use s (targets.Edge c.args.id) c.args.id c.in-Some.rel refl (found g at tells) in
-    fault_exit of_fault (BlamesDeleting s u c.args.id) c.in_err-dropped.field-0.0 c.from_residual-in_err-dropped.result c.from_residual-in_err-dropped.ensures.1
-    (drop_blamed s v u c.args.id same c.in_err-dropped.field-0.0
+    fault_exit of_fault (BlamesDeleting s u) c.in_err-dropped.field-0.0 c.from_residual-in_err-dropped.result c.from_residual-in_err-dropped.ensures.1
+    (drop_blamed s v u same c.in_err-dropped.field-0.0
     (c.in_err-dropped.ensures.damaged tells (subst (IsInUse v.records) (sym c.edge_owner.ensures) (subst (λ (z : State). IsInUse z.records (owner_of (targets.Edge c.args.id))) (sym same) used))))
 
 pub returns-in_err-take_edge-clause-damaged : goal.returns-in_err-take_edge-clause-damaged
@@ -233,8 +234,8 @@ returns-in_err-take_edge-clause-damaged g c tells =
     let row = sym (found g at tells) in
     let left = edge_then s v w id (edge_read s v id (was_read g at)) (edge_left v w id (g.met.S.Reads.onward_shape _ _ c.drop_all.ensures.onward)
     (subst (LeavesElement v w) c.edge_owner.ensures (c.drop_all.ensures.leaves tells))) in
-    fault_exit (λ f. f) (BlamesDeleting s t id) c.in_err-take_edge.field-0.0 c.from_residual-in_err-take_edge.result c.from_residual-in_err-take_edge.ensures.1
-    (blames_more _ _ (λ damage told. ⊎_elim (λ k. inl (inl (end_link_breaks s id rel damage row (end_link_before s w id rel.from rel.to damage left k)))) (λ k. inr (rel, row, taken_before s w t id rel left damage k)) told)
+    fault_exit (λ f. f) (BlamesDeleting s t) c.in_err-take_edge.field-0.0 c.from_residual-in_err-take_edge.result c.from_residual-in_err-take_edge.ensures.1
+    (blames_more _ _ (λ damage told. ⊎_elim (λ k. inl (inl (end_link_breaks s id rel damage row (end_link_before s w id rel.from rel.to damage left k)))) (λ k. taken_told s t id rel row damage (taken_before s w t id rel left damage k)) told)
     c.in_err-take_edge.field-0.0 (c.in_err-take_edge.ensures.damaged tells (ends_later s w id left rel.from rel.to (ends_found s id rel row))))
 
 -- ---- and by the space as it is left alone

@@ -11,11 +11,8 @@ use Rattle.group_store.specs.Densing.{IsSparse}
 use Rattle.group_store.specs.GroupChain.{IsDense}
 use Rattle.group_store.proofs.KeptHeads.{heads_same, heads_then}
 use Rattle.graph_ops.specs.EdgeDeleting.{BlamesEnd}
-use Rattle.rec_bytes.specs.Space.{SameButReads}
 use Rattle.group_store.proofs.LeftBeside.{counted_read, counted_then}
-use Rattle.graph_ops.specs.Damage.{IfBlames}
-use Rattle.graph_ops.proofs.Broken.{blames_more}
-use Rattle.graph_ops.proofs.EdgeBlames.{head_blamed, head_unwritten}
+use Rattle.graph_ops.proofs.EdgeBlames.{head_blamed}
 use Rattle.graph_ops.proofs.edge_deleting.edge_end.Goals as goal
 
 -- ---- why it fails
@@ -85,20 +82,6 @@ returns-clause-heads g c tells =
     let m = g.S.Reads.state c.end_degree.new.space in
     let t = g.S.Reads.state c.open_head.new.space in
     heads_then s m t (heads_same s m c.end_degree.ensures.state) (c.in_ok-head.ensures.heads tells)
-
-pub returns-in_err-degree-clause-unwritten : goal.returns-in_err-degree-clause-unwritten
-returns-in_err-degree-clause-unwritten g c tells =
-    let same = c.end_degree.ensures.state in
-    fault_exit (λ f. f) (IfBlames (λ _. SameButReads (g.S.Reads.state c.args.space.now) (g.S.Reads.state c.end_degree.new.space))) c.in_err-degree.field-0.0 c.from_residual.result c.from_residual.ensures.1
-    (blames_more _ _ (λ damage told. same) c.in_err-degree.field-0.0 (c.in_err-degree.ensures.damaged tells c.args.rel.label))
-
-pub returns-in_err-head-clause-unwritten : goal.returns-in_err-head-clause-unwritten
-returns-in_err-head-clause-unwritten g c tells =
-    let s = g.S.Reads.state c.args.space.now in
-    let m = g.S.Reads.state c.end_degree.new.space in
-    let t = g.S.Reads.state c.open_head.new.space in
-    fault_exit of_fault (IfBlames (λ _. SameButReads s t)) c.in_err-head.field-0.0 c.from_residual-in_err-head.result c.from_residual-in_err-head.ensures.1
-    (head_unwritten s m t c.end_degree.ensures.state c.in_err-head.field-0.0 c.in_err-head.ensures.unwritten)
 
 pub returns-clause-counts : goal.returns-clause-counts
 returns-clause-counts g c tells =

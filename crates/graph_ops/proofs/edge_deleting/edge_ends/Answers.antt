@@ -9,8 +9,6 @@ use Rattle.chain_edit.specs.Heads.{head_of}
 use Rattle.graph_ops.specs.Damage.{IfBlames}
 use Rattle.graph_ops.specs.EdgeDeleting.{IsTakenDamage}
 use Rattle.graph_ops.proofs.Broken.{blames_more}
-use Rattle.rec_bytes.specs.Space.{SameButReads}
-use Rattle.graph_ops.proofs.EdgeBlames.{blames_both}
 use Rattle.graph_ops.proofs.EdgeFrames.{edge_counted, edge_none, edge_then, end_taken}
 use Rattle.graph_ops.proofs.edge_deleting.edge_ends.Goals as goal
 
@@ -73,8 +71,7 @@ returns-in_err-source-clause-damaged g c tells =
     let t = g.S.Reads.state c.edge_end.new.space in
     let fault = c.in_err-source.field-0.0 in
     fault_exit (λ f. f) (IfBlames (IsTakenDamage s t c.args.id c.args.rel)) fault c.from_residual.result c.from_residual.ensures.1
-    (blames_more _ _ (end_taken s s t c.args.id c.args.rel c.args.rel.from (inl refl) (edge_none s c.args.id)) fault
-    (blames_both _ (λ _. SameButReads s t) fault (c.in_err-source.ensures.damaged tells) (c.in_err-source.ensures.unwritten tells)))
+    (blames_more _ _ (end_taken s s t c.args.id c.args.rel c.args.rel.from (inl refl) (edge_none s c.args.id)) fault (c.in_err-source.ensures.damaged tells))
 
 pub returns-in_err-target-clause-damaged : goal.returns-in_err-target-clause-damaged
 returns-in_err-target-clause-damaged g c tells =
@@ -83,8 +80,7 @@ returns-in_err-target-clause-damaged g c tells =
     let t = g.S.Reads.state c.edge_end-2.new.space in
     let fault = c.in_err-target.field-0.0 in
     fault_exit (λ f. f) (IfBlames (IsTakenDamage s t c.args.id c.args.rel)) fault c.from_residual-in_err-target.result c.from_residual-in_err-target.ensures.1
-    (blames_more _ _ (end_taken s m t c.args.id c.args.rel c.args.rel.to (inr refl) (edge_counted s m c.args.id (g.met.S.Reads.onward_shape _ _ c.edge_end.ensures.onward) (c.in_ok-source.ensures.counts tells))) fault
-    (blames_both _ (λ _. SameButReads m t) fault (c.in_err-target.ensures.damaged tells) (c.in_err-target.ensures.unwritten tells)))
+    (blames_more _ _ (end_taken s m t c.args.id c.args.rel c.args.rel.to (inr refl) (edge_counted s m c.args.id (g.met.S.Reads.onward_shape _ _ c.edge_end.ensures.onward) (c.in_ok-source.ensures.counts tells))) fault (c.in_err-target.ensures.damaged tells))
 
 pub returns-then-rel-clause-heads : goal.returns-then-rel-clause-heads
 returns-then-rel-clause-heads g c tells = (c.in_ok-source.ensures.has tells, c.in_ok-source.ensures.has tells)

@@ -88,3 +88,6 @@ returns-in_err-weight-in-AddV-clause-still g c tells =
 
 pub returns-in_err-weight-in-AddV-clause-lone : goal.returns-in_err-weight-in-AddV-clause-lone
 returns-in_err-weight-in-AddV-clause-lone g c tells target drop lone = let e = sym c.in-AddV.is ∙ drop in absurd cc
+
+pub returns-in_err-weight-in-AddV-clause-blamed : goal.returns-in_err-weight-in-AddV-clause-blamed
+returns-in_err-weight-in-AddV-clause-blamed g c tells drop = let e = sym c.in-AddV.is ∙ drop in absurd cc

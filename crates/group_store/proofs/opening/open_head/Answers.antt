@@ -15,7 +15,7 @@ use Rattle.group_store.specs.GroupChain.{IsDense}
 use Rattle.group_store.specs.GroupRecord.{group_key}
 use Rattle.group_store.specs.Loading.{group_mark}
 use Rattle.group_store.specs.Opening.{FindsChain, LacksGroupOn}
-use Rattle.group_store.proofs.BrokenGroups.{find_breaks, head_only, no_group_breaks, node_fault_breaks}
+use Rattle.group_store.proofs.BrokenGroups.{count_only, find_breaks, find_only, no_group_breaks, node_fault_breaks, node_only}
 use Rattle.group_store.proofs.Raises.{breaks_read}
 use Rattle.group_store.proofs.ChainHeads.{chain_of, has_group, is_chain, node_readable, only_read, same_records, same_twice, walkable}
 use Rattle.group_store.proofs.Heads.{finds_group, finds_node, found_at, found_raise, then_unwritten}
@@ -150,7 +150,7 @@ pub returns-in_err-is_dense-clause-damaged : goal.returns-in_err-is_dense-clause
 returns-in_err-is_dense-clause-damaged g c = λ tells.
     let s = g.S.Reads.state c.args.space.now in
     let p = err_from_is_err_and c.from_residual.result c.from_residual.ensures.1 in
-    rw (p.1, p.2) (head_only s c.args.node c.args.rel c.args.label c.in_err-is_dense.field-0.0 (node_fault_breaks s c.args.node c.in_err-is_dense.field-0.0 (c.in_err-is_dense.ensures.damaged tells)))
+    rw (p.1, p.2) (node_only s c.args.node c.args.rel c.args.label c.in_err-is_dense.field-0.0 (c.in_err-is_dense.ensures.damaged tells))
 
 pub returns-in_err-is_dense-clause-breaks : goal.returns-in_err-is_dense-clause-breaks
 returns-in_err-is_dense-clause-breaks g c = λ tells row live at.
@@ -165,7 +165,7 @@ returns-in_err-group-clause-damaged g c = λ tells.
     let same = c.in_ok-is_dense.ensures.state in
     let dense = subst (λ (r : Records). IsDense r c.args.node) (sym (same_records s z same)) ((c.in_ok-is_dense.ensures.is tells).0 c.if-not-branch.false) in
     let p = err_from_is_err_and c.from_residual-in_err-group.result c.from_residual-in_err-group.ensures.1 in
-    rw (p.1, p.2) (head_only s c.args.node c.args.rel c.args.label c.in_err-group.field-0.0 (breaks_read s z same c.in_err-group.field-0.0 (find_breaks z c.args.node dense c.in_err-group.field-0.0 (c.in_err-group.ensures.damaged tells))))
+    rw (p.1, p.2) (find_only s z c.args.node c.args.rel c.args.label same dense c.in_err-group.field-0.0 (c.in_err-group.ensures.damaged tells))
 
 pub returns-in_err-group-clause-breaks : goal.returns-in_err-group-clause-breaks
 returns-in_err-group-clause-breaks g c = λ tells row live at.
@@ -196,7 +196,7 @@ returns-in_err-count_group-clause-damaged g c = λ tells.
     let same = only_read z y (1 + group_mark z) c.in_ok-group.ensures.at_most in
     let at = found_at s z y c.in_ok-is_dense.ensures.state same c.args.node c.args.label c.in-Some.group found in
     let p = err_from_is_err_and c.from_residual-in_err-count_group.result c.from_residual-in_err-count_group.ensures.1 in
-    rw (p.1, p.2) (head_only s c.args.node c.args.rel c.args.label c.in_err-count_group.field-0.0 (breaks_read s y (same_twice s z y c.in_ok-is_dense.ensures.state same) c.in_err-count_group.field-0.0 (c.in_err-count_group.ensures.breaks tells at)))
+    rw (p.1, p.2) (count_only s y c.args.node c.args.rel c.args.label c.in-Some.group.id (same_twice s z y c.in_ok-is_dense.ensures.state same) c.in_err-count_group.field-0.0 (c.in_err-count_group.ensures.names tells) (c.in_err-count_group.ensures.breaks tells at))
 
 pub returns-in_err-count_group-clause-breaks : goal.returns-in_err-count_group-clause-breaks
 returns-in_err-count_group-clause-breaks g c = λ tells row live end.

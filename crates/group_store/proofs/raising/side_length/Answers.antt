@@ -2,8 +2,9 @@ use Rattle.std.proofs.Common.{◌≡◌, true, refl, sym, ◌∙◌, subst}
 use Rattle.chain_edit.specs.declared.members.Members.{Members}
 use Rattle.chain_edit.specs.Length.{stands}
 use Rattle.group_store.specs.Sides.{group_head}
+use Rattle.group_store.proofs.BrokenGroups.{if_err}
 use Rattle.group_store.proofs.ChainHeads.{only_read}
-use Rattle.group_store.proofs.Raises.{first_is, group_is}
+use Rattle.group_store.proofs.Raises.{first_is, group_is, length_names}
 use Rattle.group_store.proofs.SideCounts.{owns, stands_there}
 use Rattle.group_store.proofs.raising.side_length.Goals as goal
 
@@ -18,3 +19,8 @@ returns-clause-breaks g c = λ tells at.
 
 pub returns-clause-state : goal.returns-clause-state
 returns-clause-state g c = only_read (g.R.Reads.state c.args.space.now) (g.R.Reads.state c.chain_length.new.space) c.args.budget c.chain_length.ensures.at_most
+
+pub returns-clause-names : goal.returns-clause-names
+returns-clause-names g c = λ tells.
+    let s = g.R.Reads.state c.args.space.now in
+    if_err c.chain_length.result _ _ (length_names s c.args.node c.args.row.now.id _ _) (c.chain_length.ensures.damaged tells)
