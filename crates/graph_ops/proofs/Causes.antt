@@ -216,6 +216,18 @@ caused_read command s m t names now same Memory why = tt
 caused_read command s m t names now same Disk why = tt
 caused_read command s m t names now same (Damaged damage) why = tt
 
+-- an element is absent there too
+pub absent_read : (s m : State) (target : Target) → SameButReads s m → (fault : ChangeFault) → IsAbsent m target fault → IsAbsent s target fault
+absent_read s m target same (NoNode id) why = subst (λ (z : State). IsAbsent z target (NoNode id)) same why
+absent_read s m target same (NoEdge id) why = subst (λ (z : State). IsAbsent z target (NoEdge id)) same why
+absent_read s m target same (HasRelationships id degree) why = why
+absent_read s m target same (Full file live) why = why
+absent_read s m target same (NamesFull count) why = why
+absent_read s m target same (PropsFull count) why = why
+absent_read s m target same Memory why = why
+absent_read s m target same Disk why = tt
+absent_read s m target same (Damaged damage) why = subst (λ (z : State). IsAbsent z target (Damaged damage)) same why
+
 -- from the space before the reads
 pub caused_left : (command : Command) (s m t : State) (names now : List (List ℕ)) → SameButReads s m → (fault : ChangeFault) → IsCaused command s t names now fault → IsCaused command m t names now fault
 caused_left command s m t names now same fault why = caused_read command m s t names now (ap (λ (z : State). record z { reads = s.reads }) (sym same)) fault why

@@ -16,9 +16,8 @@ use Rattle.prop_store.specs.declared.set_fault.SetFault.{SetFault}
 use Rattle.prop_store.specs.declared.set_fault.SetFault.TheVariants as sets
 use Rattle.rec_bytes.specs.declared.shape.Shape.{Shape}
 use Rattle.graph_ops.specs.NodeDeleting.{HasDegree}
-use Rattle.graph_ops.specs.Owners.{IsMissing, MayMiss}
+use Rattle.graph_ops.specs.Owners.{IsAbsent, MayMiss}
 use Rattle.graph_ops.specs.Rooms.{HasRoom, KeepsElementMetas, LacksRoom}
-use Rattle.plain_graph.specs.Graph.{Graph}
 use Rattle.plain_graph.specs.declared.command.Target.{Target}
 
 -- ---- names and keys that are too many
@@ -59,16 +58,16 @@ outside_counted s Memory why = tt
 outside_counted s Disk why = tt
 outside_counted s (Damaged damage) why = tt
 
-pub missing_counted : (s : State) (graph : Graph) (target : Target) (fault : ChangeFault) → IsMissing graph target fault → IsCounted s fault
-missing_counted s graph target (NoNode id) why = tt
-missing_counted s graph target (NoEdge id) why = tt
-missing_counted s graph target (HasRelationships id degree) why = absurd why
-missing_counted s graph target (Full file live) why = absurd why
-missing_counted s graph target (NamesFull count) why = absurd why
-missing_counted s graph target (PropsFull count) why = absurd why
-missing_counted s graph target Memory why = tt
-missing_counted s graph target Disk why = tt
-missing_counted s graph target (Damaged damage) why = tt
+pub absent_counted : (s : State) (target : Target) (fault : ChangeFault) → IsAbsent s target fault → IsCounted s fault
+absent_counted s target (NoNode id) why = tt
+absent_counted s target (NoEdge id) why = tt
+absent_counted s target (HasRelationships id degree) why = absurd why
+absent_counted s target (Full file live) why = absurd why
+absent_counted s target (NamesFull count) why = absurd why
+absent_counted s target (PropsFull count) why = absurd why
+absent_counted s target Memory why = tt
+absent_counted s target Disk why = tt
+absent_counted s target (Damaged damage) why = tt
 
 -- ---- after reads
 pub counted_read : (s t : State) → SameButReads s t → (fault : ChangeFault) → IsCounted t fault → IsCounted s fault

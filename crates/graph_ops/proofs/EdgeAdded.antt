@@ -13,7 +13,7 @@ use Rattle.plain_graph.specs.declared.refusal.Refusal.{Refusal}
 use Rattle.plain_graph.specs.declared.refusal.Refusal.TheVariants as refusals
 use Rattle.rec_bytes.specs.declared.shape.Shape.{Shape}
 use Rattle.rec_bytes.specs.Format as format
-use Rattle.rec_bytes.specs.Space.{SameButReads, State, meta_of}
+use Rattle.rec_bytes.specs.Space.{State, meta_of}
 use Rattle.store_rules.proofs.GraphRows.{count_edges}
 use Rattle.node_store.specs.declared.node_row.NodeRow.{NodeRow}
 use Rattle.node_store.specs.Loading as nodes
@@ -31,9 +31,8 @@ use Rattle.graph_ops.specs.declared.change_fault.ChangeFault.TheVariants.{NoNode
 use Rattle.graph_ops.specs.declared.preparing.Prepared.{Prepared}
 use Rattle.graph_ops.proofs.ElementRooms as rooms
 use Rattle.graph_ops.proofs.ElementChanges.{new_edge_changed, new_edge_properties, new_edge_there}
-use Rattle.graph_ops.proofs.Elements.{found_in, found_there, node_missing, same_both}
+use Rattle.graph_ops.proofs.Elements.{found_in, found_there, node_missing}
 use Rattle.graph_ops.proofs.LineNames.{needs_names}
-use Rattle.graph_ops.proofs.Readings.{store_read}
 use Rattle.graph_ops.proofs.Reasons.{None as Never, refused_more}
 
 -- ---- room for an edge
@@ -135,21 +134,6 @@ degree_kept s u names c id n store kept has =
     let there = ap (list_any (λ e. nat_eq (node_number e) id)) kept.nodes ∙ found_there s names id n store has in
     let same = ap (λ l. length (filter (is_at id) l)) kept.edges ∙ sym (found_in s names id n store has) in
     subst (HasDegree u.records id) same (has_degree u c id kept.store there)
-
--- ---- the ends were read, one after the other
-module _ (s m n : State) (names : List (List ℕ)) (from to source target : ℕ) (store : IsStore s names) (one : SameButReads s m) (two : SameButReads m n) (source_has : HasDegree s.records from source)
-    (target_has : HasDegree m.records to target) where
-  pub read_both : SameButReads s n
-  read_both = same_both s m n one two
-
-  pub store_then : IsStore n names
-  store_then = store_read s n names read_both store
-
-  pub source_then : HasDegree n.records from source
-  source_then = subst (λ (z : State). HasDegree z.records from source) (sym read_both) source_has
-
-  pub target_then : HasDegree n.records to target
-  target_then = subst (λ (z : State). HasDegree z.records to target) (sym two) target_has
 
 -- ---- the change
 module _ (s u v : State) (names c : List (List ℕ)) (from : ℕ) (label : List ℕ) (to : ℕ) (pairs : List Pair) (id : ℕ) (prepared : Prepared) (store : IsStore s names) (at_hand : IsPrepared s u c label pairs prepared)

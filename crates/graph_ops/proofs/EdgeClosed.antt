@@ -1,5 +1,5 @@
 -- An edge that left the chains of its ends, whose groups are dropped if they are empty.
-use Rattle.std.proofs.Common.{◌≡◌, ◌≢◌, ℕ, nat_eq, cond, List, [], ◌++◌, sym, ap, ◌∙◌, subst, inl, inr, ⊎_elim, refl}
+use Rattle.std.proofs.Common.{◌≡◌, ◌≢◌, ℕ, List, [], ◌++◌, sym, ap, ◌∙◌, subst, inl, inr, ⊎_elim, refl}
 use Rattle.plain_graph.specs.Graph.{Graph, RemovesEdge}
 use Rattle.rec_bytes.specs.Format as format
 use Rattle.rec_bytes.specs.Space.{State}
@@ -8,24 +8,45 @@ use Rattle.store_rules.specs.Graph.{graph_of}
 use Rattle.store_rules.specs.Rules as rules
 use Rattle.store_rules.specs.Rules.{KeepsRules, Owns}
 use Rattle.store_rules.specs.Views.{group_at, kind_at}
-use Rattle.store_rules.proofs.NumberLaws.{eq_false, eq_true, nat_cases}
+use Rattle.store_rules.proofs.NumberLaws.{nat_cases}
 use Rattle.chain_edit.specs.Heads.{head_of}
 use Rattle.group_store.specs.Closing.{CanClose, HasClosed}
-use Rattle.graph_ops.specs.EdgeDeleting.{IsBareEdge, KeepsKinds, PartsEdge, TakesEdge}
+use Rattle.graph_ops.specs.EdgeDeleting.{IsBareEdge, KeepsKinds, PartsEdge, StandsAtEnd, TakesEdge}
+use Rattle.graph_ops.specs.EdgeEnds.{end_groups, source_of, target_of}
 use Rattle.graph_ops.specs.Store.{graph_in}
 use Rattle.graph_ops.specs.declared.edge_end.EdgeEnd.{EdgeEnd}
+use Rattle.graph_ops.specs.declared.edge_end.Ends.{Ends}
+use Rattle.graph_ops.specs.declared.edge_end.Ends.TheVariants.{Loop, Two}
+use Rattle.graph_ops.proofs.EndLaws.{at_source, at_target}
 
-module _ (s u : State) (names : List (List ℕ)) (id : ℕ) (source target : EdgeEnd) (bare : IsBareEdge s id source target) (parts : PartsEdge s u names id source target) where
-  -- the group of the target's head, unless it is the source's too
+-- the group of the target's head, unless it is the source's too
+abbrev rest_of : Ends EdgeEnd → List ℕ
+rest_of (Loop end) = []
+rest_of (Two source target) = group_of_head (head_of target.head) ++ []
+
+groups_are : (ends : Ends EdgeEnd) → end_groups ends ≡ group_of_head (head_of (source_of ends).head) ++ rest_of ends
+groups_are (Loop end) = refl
+groups_are (Two source target) = refl
+
+module _ (s u : State) (names : List (List ℕ)) (id : ℕ) (ends : Ends EdgeEnd) (bare : IsBareEdge s id ends) (parts : PartsEdge s u names id ends) where
+  abbrev source : EdgeEnd
+  source = source_of ends
+
+  abbrev target : EdgeEnd
+  target = target_of ends
+
   abbrev rest : List ℕ
-  rest = cond (nat_eq source.node target.node) [] (group_of_head (head_of target.head) ++ [])
+  rest = rest_of ends
 
   owns_still : (h : rules.Head) (n : ℕ) → Owns (kind_at s.records format.nodes_file) (group_at s.records) h n → Owns (kind_at u.records format.nodes_file) (group_at u.records) h n
   owns_still h n o = subst (λ k. Owns k (group_at u.records) h n) (λ i m. sym (parts.kinds m) i) (subst (λ g. Owns (kind_at s.records format.nodes_file) g h n) (λ i g. sym (parts.groups g) i) o)
 
   -- the source's head may be closed
   pub source_closes : CanClose u (head_of source.head) source.node u.shape.threshold rest
-  source_closes = record { keeps = parts.keeps; owns = owns_still (head_of source.head) source.node bare.leaves.owns }
+  source_closes = record {
+    keeps = subst (KeepsRules u.records u.shape u.shape.threshold) (groups_are ends) parts.keeps;
+    owns = owns_still (head_of source.head) source.node (at_source (StandsAtEnd s.records id) ends bare.stands).owns;
+  }
 
   -- what is left keeps the rules, and the graph
   taken : (t : State) → KeepsRules t.records t.shape u.shape.threshold [] → t.shape ≡ u.shape → graph_of t.records ≡ graph_of u.records → KeepsKinds u t → TakesEdge s t names id
@@ -45,11 +66,8 @@ module _ (s u : State) (names : List (List ℕ)) (id : ℕ) (source target : Edg
       (λ (ne : n ≢ node). closed.regroups.kinds n ne) (nat_cases n node)
 
   module _ (v : State) (closed : HasClosed u v source.node u.shape.threshold rest) where
-    pub loop_taken : source.node ≡ target.node → TakesEdge s v names id
-    loop_taken loop = taken v (subst (KeepsRules v.records v.shape u.shape.threshold) none closed.keeps) closed.regroups.shape closed.regroups.graph (closed_kinds u v source.node u.shape.threshold rest closed)
-      where
-        none : rest ≡ []
-        none = rw (eq_true source.node target.node loop) refl
+    pub loop_taken : rest ≡ [] → TakesEdge s v names id
+    loop_taken none = taken v (subst (KeepsRules v.records v.shape u.shape.threshold) none closed.keeps) closed.regroups.shape closed.regroups.graph (closed_kinds u v source.node u.shape.threshold rest closed)
 
     -- the other end's head is still the other's
     owns_then : (h : rules.Head) (n : ℕ) → n ≢ source.node → Owns (kind_at u.records format.nodes_file) (group_at u.records) h n → Owns (kind_at v.records format.nodes_file) (group_at v.records) h n
@@ -63,14 +81,11 @@ module _ (s u : State) (names : List (List ℕ)) (id : ℕ) (source target : Edg
       field = o.field;
     })
 
-    pub target_closes : source.node ≢ target.node → CanClose v (head_of target.head) target.node u.shape.threshold []
-    target_closes differ = record {
+    pub target_closes : source.node ≢ target.node → rest ≡ group_of_head (head_of target.head) ++ [] → CanClose v (head_of target.head) target.node u.shape.threshold []
+    target_closes differ other = record {
       keeps = subst (KeepsRules v.records v.shape u.shape.threshold) other closed.keeps;
-      owns = owns_then (head_of target.head) target.node (λ e. differ (sym e)) (owns_still (head_of target.head) target.node bare.enters.owns);
+      owns = owns_then (head_of target.head) target.node (λ e. differ (sym e)) (owns_still (head_of target.head) target.node (at_target (StandsAtEnd s.records id) ends bare.stands).owns);
     }
-      where
-        other : rest ≡ group_of_head (head_of target.head) ++ []
-        other = rw (eq_false source.node target.node differ) refl
 
     pub pair_taken : (w : State) → HasClosed v w target.node u.shape.threshold [] → TakesEdge s w names id
     pair_taken w last = taken w last.keeps (last.regroups.shape ∙ closed.regroups.shape) (last.regroups.graph ∙ closed.regroups.graph)

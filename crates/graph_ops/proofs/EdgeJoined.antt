@@ -1,5 +1,5 @@
 -- A new relationship that joined the chains of its ends, as the rules ask of one.
-use Rattle.std.proofs.Common.{◌≡◌, ◌≢◌, ◌⊎◌, ℕ, ◌+◌, ◌<◌, ◌^◌, None, Some, List, sym, ap, ◌∙◌, subst, inl, inr, ⊎_elim, arith, refl, ◌≤◌}
+use Rattle.std.proofs.Common.{◌≡◌, ◌≢◌, ◌⊎◌, ℕ, ◌+◌, ◌<◌, ◌^◌, nat_eq, cond, None, Some, List, sym, ap, ◌∙◌, subst, inl, inr, ⊎_elim, arith, refl, ◌≤◌}
 use Rattle.rec_bytes.specs.declared.record.Rec.{Rec}
 use Rattle.rec_bytes.specs.declared.key.Key.{Key}
 use Rattle.rec_bytes.specs.declared.shape.Shape.{Shape}
@@ -36,12 +36,16 @@ use Rattle.chain_edit.proofs.AllPushed.{all_listed_same, all_listed_stays}
 use Rattle.store_rules.proofs.ChainSteps.{on_test}
 use Rattle.store_rules.proofs.OneHead.{end_on, on_has_group, only_head}
 use Rattle.chain_edit.proofs.OwnedHeads.{end_in, ends_differ, heads_differ, in_head_group, other_record, owned_heads, owner_kind, owner_used}
-use Rattle.graph_ops.specs.EdgeEnds.{both_joined, joined}
+use Rattle.graph_ops.specs.EdgeEnds.{joined}
 use Rattle.graph_ops.proofs.EdgeLists.{first_used, joined_listed, prev_joined}
 use Rattle.graph_ops.proofs.EdgeSteps.{IsNode, number_pushed, degree_joined, differ_stays, first_joined, first_stays, links_joined, node_stays, record_joined, shape_joined, target_joined, used_low}
 
 some_same : (a b : RelRow) → Some a ≡ Some b → a ≡ b
 some_same a b q = cc
+
+-- a relationship that was put into the chains of its ends, by their numbers
+abbrev pub both_joined : State → Head → Head → ℕ → ℕ → ℕ → ℕ → ℕ → State
+both_joined s h k from to rel from_degree to_degree = cond (nat_eq from to) (joined s h from rel from_degree) (joined (joined s h from rel from_degree) k to rel to_degree)
 
 -- What was made: a record of a relationship with no neighbour yet, which is to stand at these heads. Groups that may be empty are those of the
 -- heads, and a sparse end has less than the most.

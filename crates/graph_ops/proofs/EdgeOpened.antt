@@ -15,6 +15,7 @@ use Rattle.store_rules.proofs.OnceLaws.{in_parts}
 use Rattle.chain_edit.specs.Heads.{head_of}
 use Rattle.group_store.specs.Opening.{IsCountedHead, OpensChain}
 use Rattle.graph_ops.specs.declared.edge_end.EdgeEnd.{EdgeEnd}
+use Rattle.graph_ops.specs.declared.edge_end.Ends.TheVariants.{Loop, Two}
 use Rattle.graph_ops.specs.EdgeJoining.{CanJoin, MayStandAt, edge_row}
 use Rattle.graph_ops.specs.EdgePlacing.{KeepsGraph, PutsEdge}
 
@@ -78,30 +79,27 @@ puts_through s t u names from label to id keeps puts = record {
   metas = λ file a b. puts.metas file a b ∙ keeps.metas file b;
 }
 
--- ---- both heads
+-- ---- the head of a loop
+pub opened_loop : (s t : State) (names : List (List ℕ)) (label : ℕ) (end : EdgeEnd) → names ≡ names_of s.records → degree s.records end.node ≡ end.degree
+    → ((id : ℕ) → OpensChain s t (head_of end.head) end.node (edge_row id label end.node end.node) []) → CanJoin t names label (Loop end)
+opened_loop s t names label end named degree_is opened = record {
+  empty = group_of_head (head_of end.head) ++ [];
+  keeps = (opened 0).keeps;
+  into = λ g i. inl (⊎_elim (λ k. k) (λ k. absurd k) (in_parts g (group_of_head (head_of end.head)) [] i));
+  named = named ∙ ap (λ (g : Graph). g.names) (sym (opened 0).regroups.graph);
+  stands = λ id. record {
+    head = (opened id).stands;
+    degree = (opened id).regroups.degrees end.node ∙ degree_is;
+    few = λ sparse. subst (λ n. n < t.shape.threshold) ((opened id).regroups.degrees end.node ∙ degree_is) ((opened id).few sparse);
+    counted = (opened id).counted;
+  };
+}
+
+-- ---- the heads of two nodes
 module _ (s : State) (names : List (List ℕ)) (label : ℕ) (source target : EdgeEnd) (named : names ≡ names_of s.records)
     (leaves : degree s.records source.node ≡ source.degree) (enters : degree s.records target.node ≡ target.degree) where
   abbrev row : ℕ → RelRow
   row id = edge_row id label source.node target.node
-
-  -- a loop has one
-  pub opened_loop : (t : State) → target ≡ source → ((id : ℕ) → OpensChain s t (head_of source.head) source.node (row id) []) → CanJoin t names label source target
-  opened_loop t loop opened = record {
-    empty = group_of_head (head_of source.head) ++ [];
-    keeps = (opened 0).keeps;
-    into = λ g i. inl (⊎_elim (λ k. k) (λ k. absurd k) (in_parts g (group_of_head (head_of source.head)) [] i));
-    named = named ∙ ap (λ (g : Graph). g.names) (sym (opened 0).regroups.graph);
-    leaves = stands;
-    enters = λ id. subst (λ (e : EdgeEnd). MayStandAt t e (row id)) (sym loop) (stands id);
-  }
-    where
-      stands : (id : ℕ) → MayStandAt t source (row id)
-      stands id = record {
-        head = (opened id).stands;
-        degree = (opened id).regroups.degrees source.node ∙ leaves;
-        few = λ sparse. subst (λ n. n < t.shape.threshold) ((opened id).regroups.degrees source.node ∙ leaves) ((opened id).few sparse);
-        counted = (opened id).counted;
-      }
 
   module _ (t u : State) (differ : source.node ≢ target.node) (first : (id : ℕ) → OpensChain s t (head_of source.head) source.node (row id) [])
       (second : (id : ℕ) → OpensChain t u (head_of target.head) target.node (row id) (group_of_head (head_of source.head) ++ [])) where
@@ -123,13 +121,12 @@ module _ (s : State) (names : List (List ℕ)) (label : ℕ) (source target : Ed
         let same = b.degrees target.node ∙ a.degrees target.node ∙ enters in
         record { head = (second id).stands; degree = same; few = λ sparse. subst (λ n. n < u.shape.threshold) same ((second id).few sparse); counted = (second id).counted }
 
-    pub opened_both : CanJoin u names label source target
+    pub opened_both : CanJoin u names label (Two source target)
     opened_both = record {
       empty = group_of_head (head_of target.head) ++ (group_of_head (head_of source.head) ++ []);
       keeps = (second 0).keeps;
       into = λ g i. ⊎_elim (λ k. inr k) (λ k. inl (⊎_elim (λ j. j) (λ j. absurd j) (in_parts g (group_of_head (head_of source.head)) [] k)))
           (in_parts g (group_of_head (head_of target.head)) (group_of_head (head_of source.head) ++ []) i);
       named = named ∙ ap (λ (g : Graph). g.names) (sym ((second 0).regroups.graph ∙ (first 0).regroups.graph));
-      leaves = source_stands;
-      enters = target_stands;
+      stands = λ id. (source_stands id, target_stands id);
     }

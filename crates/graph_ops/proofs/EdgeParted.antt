@@ -1,5 +1,5 @@
 -- A relationship that left the chains of its ends, as the rules ask of one that goes.
-use Rattle.std.proofs.Common.{◌≡◌, ◌≢◌, ◌⊎◌, ℕ, ◌+◌, ◌-◌, ◌<◌, ◌^◌, nat_eq, true, not, ◌&&◌, None, Some, [], sym, ap, ◌∙◌, subst, inl, inr, ⊎_elim, arith, refl, ◌≤◌}
+use Rattle.std.proofs.Common.{◌≡◌, ◌≢◌, ◌⊎◌, ℕ, ◌+◌, ◌-◌, ◌<◌, ◌^◌, nat_eq, true, not, ◌&&◌, cond, None, Some, List, [], ◌++◌, sym, ap, ◌∙◌, subst, inl, inr, ⊎_elim, arith, refl, ◌≤◌}
 use Rattle.rec_bytes.specs.declared.key.Key.{Key}
 use Rattle.rec_bytes.specs.declared.shape.Shape.{Shape}
 use Rattle.rec_bytes.specs.Format as format
@@ -40,12 +40,20 @@ use Rattle.store_rules.proofs.ChainSteps.{on_test}
 use Rattle.chain_edit.proofs.InRange.{right_next, right_prev}
 use Rattle.store_rules.proofs.OneHead.{end_on, only_head}
 use Rattle.chain_edit.proofs.OwnedHeads.{end_in, heads_differ, other_record, owned_heads, owner_kind}
-use Rattle.graph_ops.specs.EdgeEnds.{both_parted, end_groups, parted}
+use Rattle.graph_ops.specs.EdgeEnds.{parted}
 use Rattle.graph_ops.proofs.EdgeLists.{next_used, parted_listed, prev_used}
 use Rattle.graph_ops.proofs.EdgeSteps.{IsNode, number_unlinked, degree_parted, differ_stays, first_stays, links_parted, node_stays, record_parted, shape_parted}
 
 some_same : (a b : RelRow) → Some a ≡ Some b → a ≡ b
 some_same a b q = cc
+
+-- a relationship that was taken out of the chains of its ends, by their numbers
+abbrev pub both_parted : State → Head → Head → ℕ → ℕ → ℕ → ℕ → ℕ → State
+both_parted s h k from to rel from_degree to_degree = cond (nat_eq from to) (parted s h from rel from_degree) (parted (parted s h from rel from_degree) k to rel to_degree)
+
+-- and the groups of their heads
+abbrev pub both_groups : Head → Head → ℕ → ℕ → List ℕ
+both_groups h k from to = group_of_head h ++ cond (nat_eq from to) [] (group_of_head k ++ [])
 
 -- all but one
 abbrev pub But : (Head → ℕ → Type 0) → ℕ → Head → ℕ → Type 0
@@ -288,20 +296,20 @@ module _ (s : State) (shape : Shape) (id : ℕ) (row : RelRow) (h k : Head) (edg
   of_head : (g at : ℕ) (a : Head) → group_head g at ≡ a → In g (group_of_head a)
   of_head g at a q = subst (λ z. In g (group_of_head z)) q (inl refl)
 
-  of_heads : (g at : ℕ) → (group_head g at ≡ h) ⊎ (group_head g at ≡ k) → In g (end_groups h k row.from row.to)
+  of_heads : (g at : ℕ) → (group_head g at ≡ h) ⊎ (group_head g at ≡ k) → In g (both_groups h k row.from row.to)
   of_heads g at either = ⊎_elim
       (λ (loop : row.from ≡ row.to). in_left g (group_of_head h) _ (of_head g at h (⊎_elim (λ z. z) (λ z. z ∙ loop_head loop) either)))
       (λ (differ : row.from ≢ row.to). ⊎_elim (λ z. in_left g (group_of_head h) _ (of_head g at h z))
       (λ z. in_right g (group_of_head h) _ (rw (eq_false row.from row.to differ) (in_left g (group_of_head k) [] (of_head g at k z)))) either)
       (nat_cases row.from row.to)
 
-  left_groups : (g at : ℕ) → IsInGroup (group_at s.records) (group_head g at) row → In g (end_groups h k row.from row.to)
+  left_groups : (g at : ℕ) → IsInGroup (group_at s.records) (group_head g at) row → In g (both_groups h k row.from row.to)
   left_groups g at i =
       let o = owns_chain s.records store.grouped g i.row i.group at (in_place (group_at s.records) (group_head g at) row i) in
       of_heads g at (heads_of (group_head g at) i.row.owner (inr o) (inr (refl, i)))
 
   -- the relationship as the rules ask of one that went
-  pub edge_left : (u t : Records) → HasParted u → IsGone u t shape format.relationships_file id → IsEdgeGone s.records u t shape id row [] (end_groups h k row.from row.to)
+  pub edge_left : (u t : Records) → HasParted u → IsGone u t shape format.relationships_file id → IsEdgeGone s.records u t shape id row [] (both_groups h k row.from row.to)
   edge_left u t parts gone = record {
     links = parts.links;
     gone = gone;

@@ -21,7 +21,7 @@ use Rattle.store_rules.proofs.EdgeChange as ec
 use Rattle.store_rules.proofs.EdgeMade.{IsEdgeMade, made_edges, made_fresh, made_names, made_nodes, made_well}
 use Rattle.store_rules.proofs.GraphRows.{degree_most, node_there}
 use Rattle.store_rules.proofs.Made.{IsMade}
-use Rattle.store_rules.proofs.NumberLaws.{lt_true}
+use Rattle.store_rules.proofs.NumberLaws.{eq_false, eq_true, lt_true}
 use Rattle.store_rules.proofs.Shapes.{high_most, room_most, room_small}
 use Rattle.store_rules.proofs.ViewLaws.{kind_below}
 use Rattle.id_freelist.specs.Taking.{HasTaken}
@@ -33,11 +33,14 @@ use Rattle.chain_edit.specs.Links.{IsRightLink}
 use Rattle.chain_edit.proofs.OwnedHeads.{owner_used}
 use Rattle.group_store.specs.Opening.{IsCountedHead}
 use Rattle.graph_ops.specs.declared.edge_end.EdgeEnd.{EdgeEnd}
-use Rattle.graph_ops.specs.EdgeEnds.{both_joined, joined}
-use Rattle.graph_ops.specs.EdgeJoining.{CanJoin, HasPlaced, MayStandAt, edge_row, new_row, one_more}
+use Rattle.graph_ops.specs.declared.edge_end.Ends.{Ends}
+use Rattle.graph_ops.specs.declared.edge_end.Ends.TheVariants.{Loop, Two}
+use Rattle.graph_ops.specs.EdgeEnds.{AreApart, joined, source_of, target_of}
+use Rattle.graph_ops.specs.EdgeJoining.{AreRightFirsts, CanJoin, HasPlaced, IsRightFirst, MayStandAt, edge_row, end_joined, ends_joined, new_row, one_more}
 use Rattle.graph_ops.specs.EdgePlacing.{IsFirst, PutsEdge}
 use Rattle.graph_ops.specs.Store.{graph_in}
-use Rattle.graph_ops.proofs.EdgeJoined.{IsLoneEdge, at_new, edge_joined, first_source, first_target, loop_target, made_right, one_right}
+use Rattle.graph_ops.proofs.EdgeJoined.{IsLoneEdge, at_new, both_joined, edge_joined, first_source, first_target, loop_target, made_right, one_right}
+use Rattle.graph_ops.proofs.EndLaws.{at_source, at_target}
 use Rattle.graph_ops.proofs.NodePut.{number_in}
 
 -- ---- the record of a new relationship
@@ -165,8 +168,22 @@ module _ (v m : Records) (t : State) (shape : Shape) (id number from to : ℕ) (
   }
 
 -- ---- what the calls leave
-module _ (s t : State) (names : List (List ℕ)) (number : ℕ) (label : List ℕ) (source target : EdgeEnd) (id : ℕ) (can : CanJoin s names number source target) (at : slice_get names number ≡ Some label)
-    (placed : HasPlaced s t number source.node target.node id) where
+
+-- a loop is put into one chain
+each_joined : (s : State) (ends : Ends EdgeEnd) (id : ℕ) → AreApart (λ (end : EdgeEnd). end.node) ends
+    → ends_joined s ends id
+    ≡ both_joined s (head_of (source_of ends).head) (head_of (target_of ends).head) (source_of ends).node (target_of ends).node id (one_more (source_of ends).degree) (one_more (target_of ends).degree)
+each_joined s (Loop end) id apart = rw (eq_true end.node end.node refl) refl
+each_joined s (Two source target) id apart = rw (eq_false source.node target.node apart) refl
+
+module _ (s t : State) (names : List (List ℕ)) (number : ℕ) (label : List ℕ) (ends : Ends EdgeEnd) (id : ℕ) (can : CanJoin s names number ends) (at : slice_get names number ≡ Some label)
+    (placed : HasPlaced s t number (source_of ends).node (target_of ends).node id) where
+  abbrev source : EdgeEnd
+  source = source_of ends
+
+  abbrev target : EdgeEnd
+  target = target_of ends
+
   abbrev row : views.RelRow
   row = edge_row id number source.node target.node
 
@@ -180,10 +197,10 @@ module _ (s t : State) (names : List (List ℕ)) (number : ℕ) (label : List �
   to_head = head_of target.head
 
   leaves : MayStandAt s source row
-  leaves = can.leaves id
+  leaves = at_source (λ (end : EdgeEnd). MayStandAt s end row) ends (can.stands id)
 
   enters : MayStandAt s target row
-  enters = can.enters id
+  enters = at_target (λ (end : EdgeEnd). MayStandAt s end row) ends (can.stands id)
 
   known : (number < high s.records format.names_file) × (text_of (rec_at s.records format.names_file number) ≡ label)
   known = number_in s.records names number label can.named at
@@ -209,33 +226,33 @@ module _ (s t : State) (names : List (List ℕ)) (number : ℕ) (label : List �
   same_shape : t.shape ≡ s.shape
   same_shape = ap (λ (z : State). z.shape) placed.saved ∙ placed.shape
 
-  abbrev ends : State
-  ends = both_joined t from_head to_head source.node target.node id (one_more source.degree) (one_more target.degree)
+  abbrev last : State
+  last = both_joined t from_head to_head source.node target.node id (one_more source.degree) (one_more target.degree)
 
-  edge : IsEdgeMade s.records t.records ends.records s.shape id edge_rec row s.shape.threshold can.empty
+  edge : IsEdgeMade s.records t.records last.records s.shape id edge_rec row s.shape.threshold can.empty
   edge = edge_joined s.records t s.shape id edge_rec row from_head to_head lone can.keeps (one_more source.degree) (one_more target.degree) (more_of source leaves) (more_of target enters)
 
-  pub first_right : IsRightLink t (first_of t.records from_head)
+  first_right : IsRightLink t (first_of t.records from_head)
   first_right = made_right s.records t s.shape id edge_rec row from_head to_head lone can.keeps (one_more source.degree) (one_more target.degree) (more_of source leaves) (more_of target enters) same_shape
 
-  pub second_right : IsRightLink (joined t from_head source.node id (one_more source.degree)) (first_of (joined t from_head source.node id (one_more source.degree)).records to_head)
+  second_right : IsRightLink (joined t from_head source.node id (one_more source.degree)) (first_of (joined t from_head source.node id (one_more source.degree)).records to_head)
   second_right = one_right s.records t s.shape id edge_rec row from_head to_head lone can.keeps (one_more source.degree) (one_more target.degree) (more_of source leaves) (more_of target enters) same_shape
 
-  change : ec.IsEdgeChange s.records ends.records id
-  change = ec.changed_relinked s.records t.records ends.records id edge.made.change edge.links
+  change : ec.IsEdgeChange s.records last.records id
+  change = ec.changed_relinked s.records t.records last.records id edge.made.change edge.links
 
   -- it stands at the heads
-  end_now : (a : Head) (n : ℕ) → IsEndHead s.records a n row → IsEndHead ends.records a n row
+  end_now : (a : Head) (n : ℕ) → IsEndHead s.records a n row → IsEndHead last.records a n row
   end_now a n end = record {
-    owns = subst (λ kinds. Owns kinds (group_at ends.records) a n) (sym (ec.kinds_same s.records ends.records id change)) (subst (λ groups. Owns (kind_at s.records format.nodes_file) groups a n) (sym (ec.groups_same s.records ends.records id change)) end.owns);
-    on = subst (λ groups. IsOn groups a row) (sym (ec.groups_same s.records ends.records id change)) end.on;
+    owns = subst (λ kinds. Owns kinds (group_at last.records) a n) (sym (ec.kinds_same s.records last.records id change)) (subst (λ groups. Owns (kind_at s.records format.nodes_file) groups a n) (sym (ec.groups_same s.records last.records id change)) end.owns);
+    on = subst (λ groups. IsOn groups a row) (sym (ec.groups_same s.records last.records id change)) end.on;
   }
 
   -- and their groups have counts
-  counted_now : (a : Head) → IsCountedHead s.records a → IsCountedHead ends.records a
-  counted_now a counted file = ec.kind_same s.records ends.records id change format.groups_file a.key.id refl (λ e. omega arith) ∙ counted file
+  counted_now : (a : Head) → IsCountedHead s.records a → IsCountedHead last.records a
+  counted_now a counted file = ec.kind_same s.records last.records id change format.groups_file a.key.id refl (λ e. omega arith) ∙ counted file
 
-  first : IsFirst ends.records id source.node target.node
+  first : IsFirst last.records id source.node target.node
   first =
       let d = one_more source.degree in
       let e = one_more target.degree in
@@ -246,7 +263,7 @@ module _ (s t : State) (names : List (List ℕ)) (number : ℕ) (label : List �
       let to_small = small_node s.records s.shape to_head target.node can.keeps enters.head.owns in
       record {
         row = row;
-        there = at_new s.records t s.shape id edge_rec row from_head to_head lone can.keeps d e a b ends.records edge.links;
+        there = at_new s.records t s.shape id edge_rec row from_head to_head lone can.keeps d e a b last.records edge.links;
         from_is = refl;
         to_is = refl;
         source = record { head = from_head; end = end_now from_head source.node leaves.head; first = first_source s.records t s.shape id edge_rec row from_head to_head lone can.keeps d e a b; counted = counted_now from_head leaves.counted };
@@ -255,22 +272,34 @@ module _ (s t : State) (names : List (List ℕ)) (number : ℕ) (label : List �
         next = λ loop. loop_target s.records t s.shape id edge_rec row from_head to_head lone can.keeps d e a b loop format.relationship_target_next (omega arith) (omega arith) ∙ (new_pair id number source.node target.node label_small from_small to_small).1;
       }
 
-  puts : ends.shape ≡ s.shape → PutsEdge s ends names source.node label target.node id
+  puts : last.shape ≡ s.shape → PutsEdge s last names source.node label target.node id
   puts shape = record {
     store = record {
-      store = subst (IsWellFormed ends.records) (sym shape) (made_well s.records t.records ends.records s.shape id edge_rec row edge can.keeps);
-      names = can.named ∙ sym (made_names s.records t.records ends.records s.shape id edge_rec row edge can.keeps);
+      store = subst (IsWellFormed last.records) (sym shape) (made_well s.records t.records last.records s.shape id edge_rec row edge can.keeps);
+      names = can.named ∙ sym (made_names s.records t.records last.records s.shape id edge_rec row edge can.keeps);
     };
     leaves = node_there s.records source.node (end_used source leaves);
     enters = node_there s.records target.node (end_used target enters);
     below = placed.small;
-    fresh = made_fresh s.records t.records ends.records s.shape id edge_rec row edge can.keeps;
-    nodes = made_nodes s.records t.records ends.records s.shape id edge_rec row edge can.keeps;
-    edges = made_edges s.records t.records ends.records s.shape id edge_rec row edge can.keeps
+    fresh = made_fresh s.records t.records last.records s.shape id edge_rec row edge can.keeps;
+    nodes = made_nodes s.records t.records last.records s.shape id edge_rec row edge can.keeps;
+    edges = made_edges s.records t.records last.records s.shape id edge_rec row edge can.keeps
         ∙ ap (λ l. with_row edge_number (record { id = id; label = l; from = source.node; to = target.node; properties = no_properties }) (graph_in s).edges) known.1;
     first = first;
-    metas = λ file ne _. ap metas.meta_of (ec.meta_same s.records ends.records id (ec.changed_relinked s.records t.records ends.records id edge.made.change edge.links) file ne);
+    metas = λ file ne _. ap metas.meta_of (ec.meta_same s.records last.records id (ec.changed_relinked s.records t.records last.records id edge.made.change edge.links) file ne);
   }
 
-  pub puts_edge : (z : State) → z ≡ ends → z.shape ≡ s.shape → PutsEdge s z names source.node label target.node id
-  puts_edge z is shape = subst (λ (q : State). PutsEdge s q names source.node label target.node id) (sym is) (puts (ap (λ (q : State). q.shape) (sym is) ∙ shape))
+  pub firsts_right : AreRightFirsts t ends id
+  firsts_right = by ends refl
+    where
+      by : (e : Ends EdgeEnd) → e ≡ ends → AreRightFirsts t e id
+      by (Loop end) is = subst (λ (e : Ends EdgeEnd). IsRightFirst t (source_of e)) (sym is) first_right
+      by (Two a b) is = (
+        subst (λ (e : Ends EdgeEnd). IsRightFirst t (source_of e)) (sym is) first_right,
+        subst (λ (e : Ends EdgeEnd). IsRightFirst (end_joined t (source_of e) id) (target_of e)) (sym is) second_right,
+      )
+
+  pub puts_edge : (z : State) → AreApart (λ (end : EdgeEnd). end.node) ends → z ≡ ends_joined t ends id → z.shape ≡ s.shape → PutsEdge s z names source.node label target.node id
+  puts_edge z apart joins shape =
+      let is = joins ∙ each_joined t ends id apart in
+      subst (λ (q : State). PutsEdge s q names source.node label target.node id) (sym is) (puts (ap (λ (q : State). q.shape) (sym is) ∙ shape))

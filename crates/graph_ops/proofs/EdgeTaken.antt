@@ -13,6 +13,7 @@ use Rattle.store_rules.proofs.EdgeChange as ec
 use Rattle.store_rules.proofs.EdgeChange.{IsEdgeChange}
 use Rattle.store_rules.proofs.EdgeGone.{IsEdgeGone, gone_edges, gone_names, gone_nodes, gone_there, gone_well}
 use Rattle.store_rules.proofs.Made.{IsGone}
+use Rattle.store_rules.proofs.NumberLaws.{eq_false, eq_true}
 use Rattle.store_rules.proofs.Relinks as re
 use Rattle.store_rules.proofs.Shapes.{room_small}
 use Rattle.store_rules.proofs.ViewLaws.{some_row}
@@ -22,13 +23,39 @@ use Rattle.chain_edit.specs.Chains.{next_of, prev_of}
 use Rattle.chain_edit.specs.Heads.{head_of}
 use Rattle.chain_edit.specs.Links.{IsRightLink}
 use Rattle.graph_ops.specs.EdgeDeleting.{IsBareEdge, PartsEdge, StandsAtEnd}
-use Rattle.graph_ops.specs.EdgeEnds.{both_parted, end_groups, parted}
+use Rattle.graph_ops.specs.EdgeEnds.{AreApart, HasRightLinks, HaveRightLinks, end_groups, end_parted, ends_parted, parted, source_of, target_of}
 use Rattle.graph_ops.specs.Store.{IsStore}
 use Rattle.graph_ops.specs.declared.edge_end.EdgeEnd.{EdgeEnd}
-use Rattle.graph_ops.proofs.EdgeParted.{HasParted, IsLiveEdge, edge_left, edge_parted, from_next, from_prev, to_next, to_prev}
+use Rattle.graph_ops.specs.declared.edge_end.Ends.{Ends}
+use Rattle.graph_ops.specs.declared.edge_end.Ends.TheVariants.{Loop, Two}
+use Rattle.graph_ops.proofs.EdgeParted.{HasParted, IsLiveEdge, both_groups, both_parted, edge_left, edge_parted, from_next, from_prev, to_next, to_prev}
 use Rattle.graph_ops.proofs.Elements.{found_degree}
+use Rattle.graph_ops.proofs.EndLaws.{at_source, at_target}
 
-module _ (s : State) (names : List (List ℕ)) (id : ℕ) (source target : EdgeEnd) (store : IsStore s names) (bare : IsBareEdge s id source target) where
+-- a loop is taken out of one chain, and has one head
+each_parted : (s : State) (ends : Ends EdgeEnd) (id : ℕ) → AreApart (λ (end : EdgeEnd). end.node) ends
+    → ends_parted s ends id ≡ both_parted s (head_of (source_of ends).head) (head_of (target_of ends).head) (source_of ends).node (target_of ends).node id ((source_of ends).degree - 1) ((target_of ends).degree - 1)
+each_parted s (Loop end) id apart = rw (eq_true end.node end.node refl) refl
+each_parted s (Two source target) id apart = rw (eq_false source.node target.node apart) refl
+
+each_groups : (ends : Ends EdgeEnd) → AreApart (λ (end : EdgeEnd). end.node) ends
+    → both_groups (head_of (source_of ends).head) (head_of (target_of ends).head) (source_of ends).node (target_of ends).node ≡ end_groups ends
+each_groups (Loop end) apart = rw (eq_true end.node end.node refl) refl
+each_groups (Two source target) apart = rw (eq_false source.node target.node apart) refl
+
+module _ (s : State) (names : List (List ℕ)) (id : ℕ) (ends : Ends EdgeEnd) (store : IsStore s names) (bare : IsBareEdge s id ends) where
+  abbrev source : EdgeEnd
+  source = source_of ends
+
+  abbrev target : EdgeEnd
+  target = target_of ends
+
+  leaves : StandsAtEnd s.records id source
+  leaves = at_source (StandsAtEnd s.records id) ends bare.stands
+
+  enters : StandsAtEnd s.records id target
+  enters = at_target (StandsAtEnd s.records id) ends bare.stands
+
   abbrev row : views.RelRow
   row = record { id = id; label = bare.label; from = source.node; to = target.node; property = format.nil }
 
@@ -54,31 +81,44 @@ module _ (s : State) (names : List (List ℕ)) (id : ℕ) (source target : EdgeE
   edge = record {
     live = bare.there;
     bare = refl;
-    source = record { owns = bare.leaves.owns; on = on_row source bare.leaves };
-    target = record { owns = bare.enters.owns; on = on_row target bare.enters };
+    source = record { owns = leaves.owns; on = on_row source leaves };
+    target = record { owns = enters.owns; on = on_row target enters };
   }
 
   d_now : d ≡ degree s.records source.node - 1
-  d_now = ap (λ n. n - 1) (found_degree s names source.node source.degree store bare.leaves.degree)
+  d_now = ap (λ n. n - 1) (found_degree s names source.node source.degree store leaves.degree)
 
   e_now : e ≡ degree s.records target.node - 1
-  e_now = ap (λ n. n - 1) (found_degree s names target.node target.degree store bare.enters.degree)
+  e_now = ap (λ n. n - 1) (found_degree s names target.node target.degree store enters.degree)
 
   -- the links that the edits of chains read
-  pub right_from_prev : IsRightLink s (prev_of s.records source.node id)
+  right_from_prev : IsRightLink s (prev_of s.records source.node id)
   right_from_prev = from_prev s s.shape id row h k edge store.store d e d_now e_now refl
 
-  pub right_from_next : IsRightLink s (next_of s.records source.node id)
+  right_from_next : IsRightLink s (next_of s.records source.node id)
   right_from_next = from_next s s.shape id row h k edge store.store d e d_now e_now refl
 
-  pub right_to_prev : IsRightLink (parted s h source.node id d) (prev_of (parted s h source.node id d).records target.node id)
+  right_to_prev : IsRightLink (parted s h source.node id d) (prev_of (parted s h source.node id d).records target.node id)
   right_to_prev = to_prev s s.shape id row h k edge store.store d e d_now e_now refl
 
-  pub right_to_next : IsRightLink (parted s h source.node id d) (next_of (parted s h source.node id d).records target.node id)
+  right_to_next : IsRightLink (parted s h source.node id d) (next_of (parted s h source.node id d).records target.node id)
   right_to_next = to_next s s.shape id row h k edge store.store d e d_now e_now refl
 
-  module _ (u t : State) (is : u ≡ both_parted s h k source.node target.node id d e) (shape : t.shape ≡ s.shape)
+  pub links_right : HaveRightLinks s ends id
+  links_right = by ends refl
+    where
+      by : (e : Ends EdgeEnd) → e ≡ ends → HaveRightLinks s e id
+      by (Loop end) is = subst (λ (e : Ends EdgeEnd). HasRightLinks s (source_of e) id) (sym is) (right_from_prev, right_from_next)
+      by (Two a b) is = (
+        subst (λ (e : Ends EdgeEnd). HasRightLinks s (source_of e) id) (sym is) (right_from_prev, right_from_next),
+        subst (λ (e : Ends EdgeEnd). HasRightLinks (end_parted s (source_of e) id) (target_of e) id) (sym is) (right_to_prev, right_to_next),
+      )
+
+  module _ (u t : State) (apart : AreApart (λ (end : EdgeEnd). end.node) ends) (parts_are : u ≡ ends_parted s ends id) (shape : t.shape ≡ s.shape)
       (given : (free : List ℕ) → CanGive u format.relationships_file id free → HasGiven u.records t.records format.relationships_file id free) where
+    is : u ≡ both_parted s h k source.node target.node id d e
+    is = parts_are ∙ each_parted s ends id apart
+
     parts : HasParted s s.shape id row h k edge store.store d e d_now e_now u.records
     parts = subst (λ (z : State). HasParted s s.shape id row h k edge store.store d e d_now e_now z.records) (sym is) (edge_parted s s.shape id row h k edge store.store d e d_now e_now)
 
@@ -94,7 +134,7 @@ module _ (s : State) (names : List (List ℕ)) (id : ℕ) (source target : EdgeE
         (room_small s.records s.shape format.relationships_file store.store.ranges)
         (subst (IsMetaInRange s.shape format.relationships_file) (sym (re.meta_stays s.records u.records parts.links format.relationships_file)) (store.store.ranges.metas format.relationships_file refl))
 
-    left : IsEdgeGone s.records u.records t.records s.shape id row [] (end_groups h k source.node target.node)
+    left : IsEdgeGone s.records u.records t.records s.shape id row [] (both_groups h k source.node target.node)
     left = edge_left s s.shape id row h k edge store.store d e d_now e_now u.records t.records parts gone
 
     change : IsEdgeChange s.records t.records id
@@ -103,9 +143,10 @@ module _ (s : State) (names : List (List ℕ)) (id : ℕ) (source target : EdgeE
     kept : names_of t.records ≡ names_of s.records
     kept = gone_names s.records u.records t.records s.shape id row left store.store
 
-    pub parts_edge : PartsEdge s t names id source target
+    pub parts_edge : PartsEdge s t names id ends
     parts_edge = record {
-      keeps = subst (λ z. KeepsRules t.records z z.threshold (end_groups h k source.node target.node)) (sym shape) (gone_well s.records u.records t.records s.shape id row left store.store);
+      keeps = subst (λ z. KeepsRules t.records z z.threshold (end_groups ends)) (sym shape)
+          (subst (KeepsRules t.records s.shape s.shape.threshold) (each_groups ends apart) (gone_well s.records u.records t.records s.shape id row left store.store));
       names = store.names ∙ sym kept;
       removes = record {
         there = gone_there s.records u.records t.records s.shape id row left store.store;

@@ -14,8 +14,10 @@ use Rattle.store_rules.proofs.ChainSteps.{on_test}
 use Rattle.group_store.specs.Dropping.{lead_key}
 use Rattle.group_store.specs.GroupRecord.{group_key}
 use Rattle.graph_ops.specs.EdgeDeleting.{WritesEnds, WritesTaken}
-use Rattle.graph_ops.specs.EdgeEnds.{IsEdgeEnd, end_keys}
+use Rattle.graph_ops.specs.EdgeEnds.{AtEach, IsEdgeEnd, end_keys, source_of, target_of}
 use Rattle.graph_ops.specs.declared.edge_end.EdgeEnd.{EdgeEnd}
+use Rattle.graph_ops.specs.declared.edge_end.Ends.{Ends}
+use Rattle.graph_ops.proofs.EndLaws.{at_source, at_target}
 
 abbrev WritesEnd : State → State → ℕ → EdgeEnd → Type 0
 WritesEnd old new rel end = (before after : ℕ) × WritesOnly old new (rel_key rel ∷ end_keys before after end)
@@ -33,34 +35,40 @@ end_parted s t u rel end w v = (
       (writes_then s t u _ _ w.2 v),
 )
 
-module _ (s t : State) (rel : ℕ) (source target : EdgeEnd) where
+module _ (s t : State) (rel : ℕ) (ends : Ends EdgeEnd) where
+  abbrev leaves : EdgeEnd
+  leaves = source_of ends
+
+  abbrev enters : EdgeEnd
+  enters = target_of ends
+
   -- at one end
-  pub end_written : WritesEnd s t rel source → WritesEnds s t rel source target
+  pub end_written : WritesEnd s t rel leaves → WritesEnds s t rel ends
   end_written w = record {
     before_source = w.0;
     after_source = w.1;
     before_target = rel;
     after_target = rel;
-    only = writes_more s t (rel_key rel ∷ end_keys w.0 w.1 source) _
-        (λ q i. ⊎_elim (λ e. inl e) (λ j. inr (among_left q (end_keys w.0 w.1 source) (end_keys rel rel target ++ meta_keys) j)) i) w.2;
+    only = writes_more s t (rel_key rel ∷ end_keys w.0 w.1 leaves) _
+        (λ q i. ⊎_elim (λ e. inl e) (λ j. inr (among_left q (end_keys w.0 w.1 leaves) (end_keys rel rel enters ++ meta_keys) j)) i) w.2;
   }
 
   -- at both, one after the other
-  pub ends_written : (u : State) → WritesEnd s t rel source → WritesEnd t u rel target → WritesEnds s u rel source target
+  pub ends_written : (u : State) → WritesEnd s t rel leaves → WritesEnd t u rel enters → WritesEnds s u rel ends
   ends_written u w v = record {
     before_source = w.0;
     after_source = w.1;
     before_target = v.0;
     after_target = v.1;
-    only = writes_more s u ((rel_key rel ∷ end_keys w.0 w.1 source) ++ (rel_key rel ∷ end_keys v.0 v.1 target)) _
-        (λ q i. among_both q (rel_key rel ∷ end_keys w.0 w.1 source) (rel_key rel ∷ end_keys v.0 v.1 target)
-        (λ j. ⊎_elim (λ e. inl e) (λ m. inr (among_left q (end_keys w.0 w.1 source) (end_keys v.0 v.1 target ++ meta_keys) m)) j)
-        (λ j. ⊎_elim (λ e. inl e) (λ m. inr (among_right q (end_keys w.0 w.1 source) (end_keys v.0 v.1 target ++ meta_keys) (among_left q (end_keys v.0 v.1 target) meta_keys m))) j) i)
+    only = writes_more s u ((rel_key rel ∷ end_keys w.0 w.1 leaves) ++ (rel_key rel ∷ end_keys v.0 v.1 enters)) _
+        (λ q i. among_both q (rel_key rel ∷ end_keys w.0 w.1 leaves) (rel_key rel ∷ end_keys v.0 v.1 enters)
+        (λ j. ⊎_elim (λ e. inl e) (λ m. inr (among_left q (end_keys w.0 w.1 leaves) (end_keys v.0 v.1 enters ++ meta_keys) m)) j)
+        (λ j. ⊎_elim (λ e. inl e) (λ m. inr (among_right q (end_keys w.0 w.1 leaves) (end_keys v.0 v.1 enters ++ meta_keys) (among_left q (end_keys v.0 v.1 enters) meta_keys m))) j) i)
         (writes_then s t u _ _ w.2 v.2);
   }
 
   -- and the identifier is given back then
-  pub ends_given : (u : State) → WritesEnds s t rel source target → WritesOnly t u (rel_key rel ∷ meta_key_of format.relationships_file ∷ []) → WritesEnds s u rel source target
+  pub ends_given : (u : State) → WritesEnds s t rel ends → WritesOnly t u (rel_key rel ∷ meta_key_of format.relationships_file ∷ []) → WritesEnds s u rel ends
   ends_given u w given = record {
     before_source = w.before_source;
     after_source = w.after_source;
@@ -68,13 +76,13 @@ module _ (s t : State) (rel : ℕ) (source target : EdgeEnd) where
     after_target = w.after_target;
     only = writes_more s u (all ++ (rel_key rel ∷ meta_key_of format.relationships_file ∷ [])) all
         (λ q i. among_both q all (rel_key rel ∷ meta_key_of format.relationships_file ∷ []) (λ j. j)
-        (λ j. ⊎_elim (λ e. inl e) (λ m. ⊎_elim (λ e. inr (among_right q (end_keys w.before_source w.after_source source) (end_keys w.before_target w.after_target target ++ meta_keys)
-        (among_right q (end_keys w.before_target w.after_target target) meta_keys (among_metas format.relationships_file q refl e)))) (λ e. absurd e) m) j) i)
+        (λ j. ⊎_elim (λ e. inl e) (λ m. ⊎_elim (λ e. inr (among_right q (end_keys w.before_source w.after_source leaves) (end_keys w.before_target w.after_target enters ++ meta_keys)
+        (among_right q (end_keys w.before_target w.after_target enters) meta_keys (among_metas format.relationships_file q refl e)))) (λ e. absurd e) m) j) i)
         (writes_then s t u _ _ w.only given);
   }
     where
       all : List Key
-      all = rel_key rel ∷ end_keys w.before_source w.after_source source ++ end_keys w.before_target w.after_target target ++ meta_keys
+      all = rel_key rel ∷ end_keys w.before_source w.after_source leaves ++ end_keys w.before_target w.after_target enters ++ meta_keys
 
 -- ---- counted, besides the relationship
 
@@ -98,7 +106,13 @@ close_in q end a b keys head after before (inr (inr (inl e))) = among_left q key
 close_in q end a b keys head after before (inr (inr (inr (inl e)))) = among_right q keys meta_keys (among_metas format.groups_file q refl e)
 close_in q end a b keys head after before (inr (inr (inr (inr i)))) = absurd i
 
-module _ (s t : State) (rel : ℕ) (source target : EdgeEnd) (w : WritesEnds s t rel source target) where
+module _ (s t : State) (rel : ℕ) (ends : Ends EdgeEnd) (w : WritesEnds s t rel ends) where
+  abbrev source : EdgeEnd
+  source = source_of ends
+
+  abbrev target : EdgeEnd
+  target = target_of ends
+
   abbrev E : List Key
   E = ends_keys w.before_source w.after_source w.before_target w.after_target source target
 
@@ -122,7 +136,7 @@ module _ (s t : State) (rel : ℕ) (source target : EdgeEnd) (w : WritesEnds s t
   apart q more (inr (inr (inr (inr (inr (inr (inr (inr (inl e))))))))) = inr (inr (inr (inr (inr (inr (inr (inr (inl e))))))))
   apart q more (inr (inr (inr (inr (inr (inr (inr (inr (inr i))))))))) = inr (inr (inr (inr (inr (inr (inr (inr (inr i))))))))
 
-  these_taken : (v : State) (more : List Key) → length more ≤ 4 → AreOwn more → WritesOnly s v (rel_key rel ∷ (E ++ more) ++ meta_keys) → WritesTaken s v rel source target
+  these_taken : (v : State) (more : List Key) → length more ≤ 4 → AreOwn more → WritesOnly s v (rel_key rel ∷ (E ++ more) ++ meta_keys) → WritesTaken s v rel ends
   these_taken v more few own only = record {
     keys = R ++ more;
     few = omega arith;
@@ -130,7 +144,7 @@ module _ (s t : State) (rel : ℕ) (source target : EdgeEnd) (w : WritesEnds s t
     only = writes_more s v (rel_key rel ∷ (E ++ more) ++ meta_keys) _ (λ q i. apart q more i) only;
   }
 
-  pub ends_taken : WritesTaken s t rel source target
+  pub ends_taken : WritesTaken s t rel ends
   ends_taken = these_taken t [] (omega arith) tt w.only
 
   module _ (v : State) (first : WritesClosed t v source) where
@@ -143,7 +157,7 @@ module _ (s t : State) (rel : ℕ) (source target : EdgeEnd) (w : WritesEnds s t
         (λ m. inr (close_in q source first.1 first.0 (E ++ C) (inr (inr (inl refl))) (among_right (group_key first.1) E C (inl refl)) (among_right (lead_key source.node first.0) E C (inr (inl refl))) m)) i)
         (writes_then s t v _ _ w.only first.2)
 
-    pub source_taken : WritesTaken s v rel source target
+    pub source_taken : WritesTaken s v rel ends
     source_taken = these_taken v C (omega arith) (refl, (own_lead source.node first.0, tt)) source_only
 
     module _ (x : State) (last : WritesClosed v x target) where
@@ -157,28 +171,27 @@ module _ (s t : State) (rel : ℕ) (source target : EdgeEnd) (w : WritesEnds s t
           (λ m. inr (close_in q target last.1 last.0 ((E ++ C) ++ D) (inr (inr (inr (inr (inr (inr (inl refl))))))) (among_right (group_key last.1) (E ++ C) D (inl refl)) (among_right (lead_key target.node last.0) (E ++ C) D (inr (inl refl))) m)) i)
           (writes_then s v x _ _ source_only last.2)
 
-      pub target_taken : WritesTaken s x rel source target
+      pub target_taken : WritesTaken s x rel ends
       target_taken = these_taken x (C ++ D) (omega arith) (refl, (own_lead source.node first.0, (refl, (own_lead target.node last.0, tt)))) target_only
 
 -- ---- with the groups of the heads, which were counted before
 
-pub taken_after : (s t u : State) (rel : ℕ) (source target : EdgeEnd) → WritesOnly s t (source.head.key ∷ target.head.key ∷ []) → WritesTaken t u rel source target → WritesTaken s u rel source target
-taken_after s t u rel source target counted taken =
-    let all = rel_key rel ∷ source.head.key ∷ target.head.key ∷ taken.keys ++ meta_keys in
+pub taken_after : (s t u : State) (rel : ℕ) (ends : Ends EdgeEnd) → WritesOnly s t ((source_of ends).head.key ∷ (target_of ends).head.key ∷ []) → WritesTaken t u rel ends → WritesTaken s u rel ends
+taken_after s t u rel ends counted taken =
+    let heads = (source_of ends).head.key ∷ (target_of ends).head.key ∷ [] in
+    let all = rel_key rel ∷ (source_of ends).head.key ∷ (target_of ends).head.key ∷ taken.keys ++ meta_keys in
     record {
       keys = taken.keys;
       few = taken.few;
       own = taken.own;
-      only = writes_more s u (source.head.key ∷ target.head.key ∷ all) all
-          (λ q i. ⊎_elim (λ e. inr (inl e)) (λ j. ⊎_elim (λ e. inr (inr (inl e))) (λ k. k) j) i)
-          (writes_then s t u (source.head.key ∷ target.head.key ∷ []) all counted taken.only);
+      only = writes_more s u (heads ++ all) all (λ q i. ⊎_elim (λ e. inr (inl e)) (λ j. ⊎_elim (λ e. inr (inr (inl e))) (λ k. k) j) i) (writes_then s t u heads all counted taken.only);
     }
 
-pub taken_beside : (s u : State) (rel : ℕ) (source target : EdgeEnd) → IsEdgeEnd source → IsEdgeEnd target → WritesTaken s u rel source target → WritesBeside (rel_key rel) 12 s u
-taken_beside s u rel source target is_source is_target taken = record {
-  keys = source.head.key ∷ target.head.key ∷ taken.keys;
+pub taken_beside : (s u : State) (rel : ℕ) (ends : Ends EdgeEnd) → AtEach IsEdgeEnd ends → WritesTaken s u rel ends → WritesBeside (rel_key rel) 12 s u
+taken_beside s u rel ends are taken = record {
+  keys = (source_of ends).head.key ∷ (target_of ends).head.key ∷ taken.keys;
   few = let few = taken.few in omega arith;
-  own = (is_source.own, (is_target.own, taken.own));
+  own = ((at_source IsEdgeEnd ends are).own, ((at_target IsEdgeEnd ends are).own, taken.own));
   only = taken.only;
 }
 

@@ -21,6 +21,8 @@ use Rattle.graph_ops.specs.EdgeDeleting.{FindsEnd, FindsEnds, HasBareRow, Stands
 use Rattle.graph_ops.specs.NodeDeleting.{HasDegree}
 use Rattle.graph_ops.specs.Store.{IsStore, graph_in}
 use Rattle.graph_ops.specs.declared.edge_end.EdgeEnd.{EdgeEnd}
+use Rattle.graph_ops.specs.declared.edge_end.Ends.{Ends}
+use Rattle.graph_ops.specs.declared.edge_end.Ends.TheVariants.{Loop, Two}
 use Rattle.graph_ops.proofs.EdgeOpened.{end_stays}
 use Rattle.graph_ops.proofs.Elements.{degree_found, node_readable, used_of}
 use Rattle.graph_ops.proofs.Readings.{store_read}
@@ -92,27 +94,25 @@ module _ (s t : State) (names : List (List ℕ)) (id : ℕ) (rel : RelRow) (ther
   pub there_then : HasBareRow t.records id rel
   there_then = first.regroups.rels id ∙ there
 
-  pub loop_found : rel.from ≡ rel.to → FindsEnds s t names id source source
+  pub loop_found : rel.from ≡ rel.to → FindsEnds s t names id (Loop source)
   loop_found loop = record {
     store = first.store;
     bare = record {
       label = rel.label;
       there = there_then ∙ (λ i. Some (record { id = id; label = rel.label; from = sym from i; to = sym (from ∙ loop) i; property = format.nil }));
-      leaves = first.stands;
-      enters = first.stands;
+      stands = first.stands;
     };
     kinds = first.kinds;
     graph = first.regroups.graph;
   }
 
-  pub both_found : (u : State) (target : EdgeEnd) → target.node ≡ rel.to → rel.from ≢ rel.to → FindsEnd t u names id target → FindsEnds s u names id source target
+  pub both_found : (u : State) (target : EdgeEnd) → target.node ≡ rel.to → rel.from ≢ rel.to → FindsEnd t u names id target → FindsEnds s u names id (Two source target)
   both_found u target to differ second = record {
     store = second.store;
     bare = record {
       label = rel.label;
       there = second.regroups.rels id ∙ there_then ∙ (λ i. Some (record { id = id; label = rel.label; from = sym from i; to = sym to i; property = format.nil }));
-      leaves = stays;
-      enters = second.stands;
+      stands = (stays, second.stands);
     };
     kinds = λ n. second.kinds n ∙ first.kinds n;
     graph = second.regroups.graph ∙ first.regroups.graph;
@@ -131,8 +131,8 @@ module _ (s t : State) (names : List (List ℕ)) (id : ℕ) (rel : RelRow) (ther
           }
 
 -- ---- and the edge is taken away then
-pub taken_then : (s t u : State) (names : List (List ℕ)) (id : ℕ) (source target : EdgeEnd) → FindsEnds s t names id source target → TakesEdge t u names id → TakesEdge s u names id
-taken_then s t u names id source target found taken = record {
+pub taken_then : (s t u : State) (names : List (List ℕ)) (id : ℕ) (ends : Ends EdgeEnd) → FindsEnds s t names id ends → TakesEdge t u names id → TakesEdge s u names id
+taken_then s t u names id ends found taken = record {
   store = taken.store;
   removes = subst (λ (g : Graph). RemovesEdge g id (graph_in u)) found.graph taken.removes;
   kinds = λ n. taken.kinds n ∙ found.kinds n;

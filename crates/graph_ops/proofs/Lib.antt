@@ -21,6 +21,7 @@ pub mod EdgeTaken
 pub mod ElementChanges
 pub mod ElementRooms
 pub mod Elements
+pub mod EndLaws
 pub mod EndWrites
 pub mod EndsFound
 pub mod Exits

@@ -3,18 +3,23 @@ use Rattle.std.specs.Prelude.{◌≡◌, ◌⊎◌, ℕ, ◌+◌, ◌*◌, nat_e
 use Rattle.rec_bytes.specs.declared.damage.Damage.{Damage}
 use Rattle.rec_bytes.specs.declared.fault.Fault.TheVariants as faults
 use Rattle.rec_bytes.specs.Format as format
+use Rattle.rec_bytes.specs.Key.{IsKey}
 use Rattle.rec_bytes.specs.Space.{State, meta_of}
 use Rattle.id_freelist.specs.Taking.{room}
-use Rattle.store_rules.specs.Views.{degree, key_in}
+use Rattle.store_rules.specs.Views.{Records, degree, key_in}
 use Rattle.chain_edit.specs.Heads.{head_of}
 use Rattle.chain_edit.specs.Pushing.{IsPushFault}
 use Rattle.group_store.specs.Densing.{IsLateDamage, IsSparse}
 use Rattle.group_store.specs.GroupChain.{IsDense}
 use Rattle.group_store.specs.Spreading.{rels_damage}
 use Rattle.graph_ops.specs.Damage.{IfBlames, IsBroken}
+use Rattle.graph_ops.specs.EdgeEnds.{AreApart, source_of, target_of}
+use Rattle.graph_ops.specs.NodeDeleting.{HasDegree}
 use Rattle.graph_ops.specs.Store.{graph_in}
 use Rattle.graph_ops.specs.declared.change_fault.ChangeFault.{ChangeFault}
 use Rattle.graph_ops.specs.declared.edge_end.EdgeEnd.{EdgeEnd}
+use Rattle.graph_ops.specs.declared.edge_end.EndDegree.{EndDegree}
+use Rattle.graph_ops.specs.declared.edge_end.Ends.{Ends}
 
 -- as many edges as the store has room for
 abbrev pub IsFullOfEdges : State → Type 0
@@ -28,6 +33,22 @@ abbrev pub degrees_weight : ℕ → ℕ → ℕ → ℕ → ℕ → ℕ
 degrees_weight threshold from from_degree to to_degree =
     degree_weight threshold from_degree
     + (if nat_eq from to then 0 else degree_weight threshold to_degree)
+
+-- ---- the ends
+
+-- the end is a node that there can be
+abbrev pub IsNodeEnd : EndDegree → Type 0
+IsNodeEnd end = IsKey (key_in format.nodes_file end.node)
+
+-- its node has so many relationships
+abbrev pub HasEndDegree : Records → EndDegree → Type 0
+HasEndDegree records end = HasDegree records end.node end.degree
+
+-- The ends are those of a relationship from one node to another; a loop has one.
+pub record LeadFrom (ends : Ends EndDegree) (from to : ℕ) : Type 0 where
+  pub leaves : (source_of ends).node ≡ from
+  pub enters : (target_of ends).node ≡ to
+  pub apart : AreApart (λ (end : EndDegree). end.node) ends
 
 -- ---- which record is blamed
 
@@ -48,6 +69,9 @@ BlamesHead s end fault =
 -- the node is in use, sparse or dense
 abbrev pub IsUsedNode : State → ℕ → Type 0
 IsUsedNode s node = IsDense s.records node ⊎ IsSparse s.records node
+
+abbrev pub IsUsedEnd : State → EndDegree → Type 0
+IsUsedEnd s end = IsUsedNode s end.node
 
 -- What is told where no head is found or made for an end. It is so in the space as it is then. Or
 -- the relationships of the end aren't those that were read: only of a sparse one is that told which

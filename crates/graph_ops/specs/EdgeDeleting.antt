@@ -24,11 +24,12 @@ use Rattle.chain_edit.specs.Links.{IsLinkDamage}
 use Rattle.group_store.specs.Dropping.{IsDropDamage}
 use Rattle.group_store.specs.Opening.{IsSearchDamage, LacksGroupOn, end_damage}
 use Rattle.graph_ops.specs.Damage.{IfBlames, IsBroken}
-use Rattle.graph_ops.specs.EdgeEnds.{end_groups, end_keys}
+use Rattle.graph_ops.specs.EdgeEnds.{AtEach, end_groups, end_keys, source_of, target_of}
 use Rattle.graph_ops.specs.NodeDeleting.{HasDegree}
 use Rattle.graph_ops.specs.Store.{IsStore, graph_in}
 use Rattle.graph_ops.specs.declared.change_fault.ChangeFault.{ChangeFault}
 use Rattle.graph_ops.specs.declared.edge_end.EdgeEnd.{EdgeEnd}
+use Rattle.graph_ops.specs.declared.edge_end.Ends.{Ends}
 
 -- The relationship stands at the head, which the node owns, and the node has so many relationships.
 pub record StandsAtEnd (records : Records) (id : ℕ) (end : EdgeEnd) : Type 0 where
@@ -38,17 +39,16 @@ pub record StandsAtEnd (records : Records) (id : ℕ) (end : EdgeEnd) : Type 0 w
   pub degree : HasDegree records end.node end.degree
 
 -- The edge has these ends, and no properties.
-pub record IsBareEdge (s : State) (id : ℕ) (source target : EdgeEnd) : Type 0 where
+pub record IsBareEdge (s : State) (id : ℕ) (ends : Ends EdgeEnd) : Type 0 where
   pub label : ℕ
   pub there : rel_at s.records id ≡ Some (record {
     id = id;
     label = label;
-    from = source.node;
-    to = target.node;
+    from = (source_of ends).node;
+    to = (target_of ends).node;
     property = format.nil;
   })
-  pub leaves : StandsAtEnd s.records id source
-  pub enters : StandsAtEnd s.records id target
+  pub stands : AtEach (StandsAtEnd s.records id) ends
 
 -- the edge's record is this one, without properties
 abbrev pub HasBareRow : Records → ℕ → RelRow → Type 0
@@ -73,20 +73,19 @@ pub record FindsEnd (s t : State) (names : List (List ℕ)) (id : ℕ) (end : Ed
   pub kinds : KeepsKinds s t
   pub regroups : Regroups s t end.node
 
--- It stands at both, and the graph is the same.
-pub record FindsEnds (s t : State) (names : List (List ℕ)) (id : ℕ) (source target : EdgeEnd)
+-- It stands at each, and the graph is the same.
+pub record FindsEnds (s t : State) (names : List (List ℕ)) (id : ℕ) (ends : Ends EdgeEnd)
     : Type 0 where
   pub store : IsStore t names
-  pub bare : IsBareEdge t id source target
+  pub bare : IsBareEdge t id ends
   pub kinds : KeepsKinds s t
   pub graph : graph_in t ≡ graph_in s
 
 -- The store lacks the edge, and keeps the rules, but that the groups of the heads at its ends may
 -- be empty.
-pub record PartsEdge (s t : State) (kept : List (List ℕ)) (id : ℕ) (source target : EdgeEnd)
+pub record PartsEdge (s t : State) (kept : List (List ℕ)) (id : ℕ) (ends : Ends EdgeEnd)
     : Type 0 where
-  pub keeps : KeepsRules t.records t.shape t.shape.threshold
-      (end_groups (head_of source.head) (head_of target.head) source.node target.node)
+  pub keeps : KeepsRules t.records t.shape t.shape.threshold (end_groups ends)
   pub names : kept ≡ names_of t.records
   pub removes : RemovesEdge (graph_in s) id (graph_in t)
   pub nodes : (n : ℕ) → node_at t.records n ≡ node_at s.records n
@@ -94,28 +93,28 @@ pub record PartsEdge (s t : State) (kept : List (List ℕ)) (id : ℕ) (source t
       ≡ kind_at s.records format.nodes_file n
   pub groups : (g : ℕ) → group_at t.records g ≡ group_at s.records g
   pub rels : (x : ℕ) → x ≢ id → rel_at t.records x ≡ rel_at s.records x
-  pub less : (n : ℕ) → (source.node ≡ n) ⊎ (target.node ≡ n)
+  pub less : (n : ℕ) → ((source_of ends).node ≡ n) ⊎ ((target_of ends).node ≡ n)
       → degree t.records n + 1 ≡ degree s.records n
-  pub as_before : (n : ℕ) → n ≢ source.node → n ≢ target.node
+  pub as_before : (n : ℕ) → n ≢ (source_of ends).node → n ≢ (target_of ends).node
       → degree t.records n ≡ degree s.records n
   pub metas : (file : ℕ) → file ≢ format.relationships_file → meta_of t file ≡ meta_of s file
 
 -- The records of the relationship and of its ends are all that became written, meta records aside.
-pub record WritesEnds (old new : State) (id : ℕ) (source target : EdgeEnd) : Type 0 where
+pub record WritesEnds (old new : State) (id : ℕ) (ends : Ends EdgeEnd) : Type 0 where
   pub before_source : ℕ
   pub after_source : ℕ
   pub before_target : ℕ
   pub after_target : ℕ
-  pub only : WritesOnly old new (rel_key id ∷ end_keys before_source after_source source
-      ++ end_keys before_target after_target target ++ meta_keys)
+  pub only : WritesOnly old new (rel_key id ∷ end_keys before_source after_source (source_of ends)
+      ++ end_keys before_target after_target (target_of ends) ++ meta_keys)
 
 -- So are those of the relationship, of the heads at its ends, and of at most ten others.
-pub record WritesTaken (old new : State) (id : ℕ) (source target : EdgeEnd) : Type 0 where
+pub record WritesTaken (old new : State) (id : ℕ) (ends : Ends EdgeEnd) : Type 0 where
   pub keys : List Key
   pub few : length keys ≤ 10
   pub own : AreOwn keys
-  pub only : WritesOnly old new (rel_key id ∷ source.head.key ∷ target.head.key
-      ∷ keys ++ meta_keys)
+  pub only : WritesOnly old new (rel_key id ∷ (source_of ends).head.key
+      ∷ (target_of ends).head.key ∷ keys ++ meta_keys)
 
 -- The store lacks the edge.
 pub record TakesEdge (s t : State) (names : List (List ℕ)) (id : ℕ) : Type 0 where

@@ -1,5 +1,5 @@
 -- The ends of a relationship, and what a change of it at them leaves.
-use Rattle.std.specs.Prelude.{◌≡◌, ℕ, nat_eq, true, if◌then◌else◌, List, [], ◌∷◌, ◌++◌}
+use Rattle.std.specs.Prelude.{◌≡◌, ◌≢◌, ℕ, ◌-◌, true, List, [], ◌∷◌, ◌++◌}
 use Rattle.rec_bytes.specs.declared.key.Key.{Key}
 use Rattle.rec_bytes.specs.Format as format
 use Rattle.rec_bytes.specs.Key.{IsKey}
@@ -9,17 +9,46 @@ use Rattle.rel_store.specs.RelRecord.{rel_key}
 use Rattle.store_rules.specs.Ends.{group_of_head}
 use Rattle.store_rules.specs.Rules.{Head}
 use Rattle.store_rules.specs.Views.{key_in}
+use Rattle.chain_edit.specs.Chains.{next_of, prev_of}
 use Rattle.chain_edit.specs.Heads.{IsHead, head_of}
+use Rattle.chain_edit.specs.Links.{IsRightLink}
 use Rattle.chain_edit.specs.Pushing.{pushed}
 use Rattle.chain_edit.specs.Unlinking.{unlinked}
 use Rattle.group_store.specs.Counting.{one_less, one_more, tallied}
 use Rattle.graph_ops.specs.declared.edge_end.EdgeEnd.{EdgeEnd}
+use Rattle.graph_ops.specs.declared.edge_end.Ends.{Ends}
+use Rattle.graph_ops.specs.declared.edge_end.Ends.TheVariants.{Loop, Two}
+
+-- the end that the relationship leaves
+abbrev pub source_of : {T : Type 0} → Ends T → T
+source_of (Loop end) = end
+source_of (Two source target) = source
+
+-- and the one that it enters
+abbrev pub target_of : {T : Type 0} → Ends T → T
+target_of (Loop end) = end
+target_of (Two source target) = target
+
+-- so it is at each end
+abbrev pub AtEach : {T : Type 0} → (T → Type 0) → Ends T → Type 0
+AtEach at (Loop end) = at end
+AtEach at (Two source target) = at source × at target
+
+-- two ends are at two nodes
+abbrev pub AreApart : {T : Type 0} → (T → ℕ) → Ends T → Type 0
+AreApart node_of (Loop end) = Unit {0}
+AreApart node_of (Two source target) = node_of source ≢ node_of target
 
 -- a node and a head that a store can have, in a file with a meta record
 pub record IsEdgeEnd (end : EdgeEnd) : Type 0 where
   pub node : IsKey (key_in format.nodes_file end.node)
   pub head : IsHead (head_of end.head)
   pub own : is_meta_file end.head.key.file ≡ true
+
+-- Each end is one, and two are at two nodes.
+pub record AreEdgeEnds (ends : Ends EdgeEnd) : Type 0 where
+  pub each : AtEach IsEdgeEnd ends
+  pub apart : AreApart (λ (end : EdgeEnd). end.node) ends
 
 -- after a relationship was put at the front of a node's chain and counted there, and the node got
 -- this degree
@@ -34,21 +63,31 @@ parted s head node rel degree =
     after_set (tallied one_less (unlinked s head node rel) head) (key_in format.nodes_file node) 4
     format.node_degree degree
 
--- so at both ends, at the head of the source and that of the target; a loop has one chain
-abbrev pub both_joined : State → Head → Head → ℕ → ℕ → ℕ → ℕ → ℕ → State
-both_joined s h k from to rel from_degree to_degree =
-    if nat_eq from to then joined s h from rel from_degree
-    else joined (joined s h from rel from_degree) k to rel to_degree
+-- so at an end, whose node has one relationship less
+abbrev pub end_parted : State → EdgeEnd → ℕ → State
+end_parted s end rel = parted s (head_of end.head) end.node rel (end.degree - 1)
 
-abbrev pub both_parted : State → Head → Head → ℕ → ℕ → ℕ → ℕ → ℕ → State
-both_parted s h k from to rel from_degree to_degree =
-    if nat_eq from to then parted s h from rel from_degree
-    else parted (parted s h from rel from_degree) k to rel to_degree
+-- and at each, one after the other
+abbrev pub ends_parted : State → Ends EdgeEnd → ℕ → State
+ends_parted s (Loop end) rel = end_parted s end rel
+ends_parted s (Two source target) rel = end_parted (end_parted s source rel) target rel
 
--- the groups that the heads of both ends are in; a loop has one head
-abbrev pub end_groups : Head → Head → ℕ → ℕ → List ℕ
-end_groups h k from to =
-    group_of_head h ++ (if nat_eq from to then [] else group_of_head k ++ [])
+-- the groups that the heads of the ends are in
+abbrev pub end_groups : Ends EdgeEnd → List ℕ
+end_groups (Loop end) = group_of_head (head_of end.head) ++ []
+end_groups (Two source target) =
+    group_of_head (head_of source.head) ++ (group_of_head (head_of target.head) ++ [])
+
+-- the relationship's neighbours in an end's chain are relationships that there can be
+abbrev pub HasRightLinks : State → EdgeEnd → ℕ → Type 0
+HasRightLinks s end rel = IsRightLink s (prev_of s.records end.node rel)
+    × IsRightLink s (next_of s.records end.node rel)
+
+-- so it is at each end when the relationship is taken out there
+abbrev pub HaveRightLinks : State → Ends EdgeEnd → ℕ → Type 0
+HaveRightLinks s (Loop end) rel = HasRightLinks s end rel
+HaveRightLinks s (Two source target) rel =
+    HasRightLinks s source rel × HasRightLinks (end_parted s source rel) target rel
 
 -- the records that a change at an end is made in: two neighbours, the head's and the node's
 abbrev pub end_keys : ℕ → ℕ → EdgeEnd → List Key

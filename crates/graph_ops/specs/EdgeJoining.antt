@@ -6,7 +6,7 @@ use Rattle.rec_bytes.specs.Space.{State, WritesOnly, after_put}
 use Rattle.store_rules.specs.Chains.{In}
 use Rattle.store_rules.specs.Ends.{IsEndHead, group_of_head}
 use Rattle.store_rules.specs.Graph.{names_of}
-use Rattle.store_rules.specs.Rules.{KeepsRules}
+use Rattle.store_rules.specs.Rules.{KeepsRules, first_of}
 use Rattle.store_rules.specs.Views as views
 use Rattle.store_rules.specs.Views.{degree, key_in, kind_at}
 use Rattle.store_rules.specs.Writes.{meta_keys}
@@ -15,8 +15,12 @@ use Rattle.id_freelist.specs.Taking.{HasTaken}
 use Rattle.rel_store.specs.declared.rel_row.RelRow.{RelRow}
 use Rattle.rel_store.specs.RelRecord.{rel_key, rel_record}
 use Rattle.chain_edit.specs.Heads.{head_of}
+use Rattle.chain_edit.specs.Links.{IsRightLink}
 use Rattle.group_store.specs.Opening.{IsCountedHead}
+use Rattle.graph_ops.specs.EdgeEnds.{AtEach, joined, source_of, target_of}
 use Rattle.graph_ops.specs.declared.edge_end.EdgeEnd.{EdgeEnd}
+use Rattle.graph_ops.specs.declared.edge_end.Ends.{Ends}
+use Rattle.graph_ops.specs.declared.edge_end.Ends.TheVariants.{Loop, Two}
 
 -- ---- its record
 
@@ -63,17 +67,36 @@ pub record MayStandAt (s : State) (end : EdgeEnd) (row : views.RelRow) : Type 0 
       → end.degree < s.shape.threshold
   pub counted : IsCountedHead s.records (head_of end.head)
 
--- The store keeps the rules, but that the groups of the two heads may be empty, and a relationship
--- of the type, whatever its identifier, would stand at both heads. A loop has one head.
-pub record CanJoin (s : State) (names : List (List ℕ)) (label : ℕ) (source target : EdgeEnd)
+-- The store keeps the rules, but that the groups of the heads may be empty, and a relationship of
+-- the type, whatever its identifier, would stand at the head of each end.
+pub record CanJoin (s : State) (names : List (List ℕ)) (label : ℕ) (ends : Ends EdgeEnd)
     : Type 0 where
   pub empty : List ℕ
   pub keeps : KeepsRules s.records s.shape s.shape.threshold empty
-  pub into : (g : ℕ) → In g empty → In g (group_of_head (head_of source.head))
-      ⊎ In g (group_of_head (head_of target.head))
+  pub into : (g : ℕ) → In g empty → In g (group_of_head (head_of (source_of ends).head))
+      ⊎ In g (group_of_head (head_of (target_of ends).head))
   pub named : names ≡ names_of s.records
-  pub leaves : (id : ℕ) → MayStandAt s source (edge_row id label source.node target.node)
-  pub enters : (id : ℕ) → MayStandAt s target (edge_row id label source.node target.node)
+  pub stands : (id : ℕ) → AtEach (λ (end : EdgeEnd). MayStandAt s end
+      (edge_row id label (source_of ends).node (target_of ends).node)) ends
+
+-- after a relationship was put at the front of an end's chain, and the node's degree was written
+abbrev pub end_joined : State → EdgeEnd → ℕ → State
+end_joined s end rel = joined s (head_of end.head) end.node rel (one_more end.degree)
+
+-- so at each end, one after the other
+abbrev pub ends_joined : State → Ends EdgeEnd → ℕ → State
+ends_joined s (Loop end) rel = end_joined s end rel
+ends_joined s (Two source target) rel = end_joined (end_joined s source rel) target rel
+
+-- the first relationship of an end's chain is one that there can be
+abbrev pub IsRightFirst : State → EdgeEnd → Type 0
+IsRightFirst s end = IsRightLink s (first_of s.records (head_of end.head))
+
+-- so it is at each end when the relationship is put there
+abbrev pub AreRightFirsts : State → Ends EdgeEnd → ℕ → Type 0
+AreRightFirsts s (Loop end) rel = IsRightFirst s end
+AreRightFirsts s (Two source target) rel =
+    IsRightFirst s source × IsRightFirst (end_joined s source rel) target
 
 -- ---- what becomes written
 
@@ -83,8 +106,8 @@ joined_keys first end =
     rel_key first ∷ end.head.key ∷ key_in format.nodes_file end.node ∷ []
 
 -- The relationship's record and those at its ends are all that became written, meta records aside.
-pub record WritesJoined (old new : State) (id : ℕ) (source target : EdgeEnd) : Type 0 where
+pub record WritesJoined (old new : State) (id : ℕ) (ends : Ends EdgeEnd) : Type 0 where
   pub first_source : ℕ
   pub first_target : ℕ
-  pub only : WritesOnly old new (rel_key id ∷ joined_keys first_source source
-      ++ joined_keys first_target target ++ meta_keys)
+  pub only : WritesOnly old new (rel_key id ∷ joined_keys first_source (source_of ends)
+      ++ joined_keys first_target (target_of ends) ++ meta_keys)

@@ -1,5 +1,5 @@
-ghost use Rattle.std.specs.Prelude.{◌≡◌, ◌≤◌, ◌<◌, ◌++◌, ◌+◌, ◌-◌, ◌*◌, ◌∷◌, ℕ, List, IfErr, IfOk};
-ghost use Rattle.std.specs.Prelude.{IsErr, OnErr, length};
+ghost use Rattle.std.specs.Prelude.{◌≡◌, ◌≤◌, ◌<◌, ◌++◌, ◌+◌, ◌-◌, ◌*◌, ◌∷◌, ◌⊎◌, ℕ, List};
+ghost use Rattle.std.specs.Prelude.{IfErr, IfOk, IsErr, OnErr, length};
 ghost use Rattle.plain_graph.specs.Changes.{most_weight, properties_weight, start_weight};
 ghost use Rattle.plain_graph.specs.Graph.{UsesNames};
 ghost use Rattle.plain_graph.specs.Lines.{HasForm};
@@ -7,17 +7,25 @@ ghost use Rattle.plain_graph.specs.Properties.{keys_in, no_properties, with_pair
 ghost use Rattle.plain_graph.specs.Refusals.{most_names};
 ghost use Rattle.plain_graph.specs.Reply.{EdgeMade};
 ghost use Rattle.plain_graph.specs.declared.command.Command.TheVariants as commands;
+ghost use Rattle.plain_graph.specs.declared.command.Target.TheVariants as targets;
+ghost use Rattle.plain_graph.specs.declared.pairs.Pair.{Pair};
+ghost use Rattle.rec_bytes.specs.Space.{SameButReads};
 ghost use Rattle.store_rules.specs.Writes.{WritesAtMost};
 ghost use Rattle.graph_ops.specs.Causes.{IsCaused, IsStillCaused};
 ghost use Rattle.graph_ops.specs.Change.{IsCounted, IsRefusal, MakesChange};
 ghost use Rattle.graph_ops.specs.ChangeFault.{HasChangeCause, LeavesSpace};
 ghost use Rattle.graph_ops.specs.EdgeAdding.{BlamesLinking, IsFullOfEdges};
 ghost use Rattle.graph_ops.specs.EdgeAdding.{degree_weight, degrees_weight};
+ghost use Rattle.graph_ops.specs.EdgeAdding.{HasEndDegree, IsNodeEnd, IsUsedEnd, LeadFrom};
+ghost use Rattle.graph_ops.specs.EdgeEnds.{AtEach};
+ghost use Rattle.graph_ops.specs.EdgeOpening.{ends_moved};
 ghost use Rattle.graph_ops.specs.EdgePlacing.{IsFirst};
 ghost use Rattle.graph_ops.specs.NodeDeleting.{HasDegree};
+ghost use Rattle.graph_ops.specs.Owners.{IsAbsent};
 ghost use Rattle.graph_ops.specs.Store.{IsStore, graph_in};
 
 use crate::assigning::put_properties;
+use crate::edge_end::{EndDegree, Ends, Joint};
 use crate::edge_placing::{node_degree, put_edge};
 use crate::owners::edge_owner;
 use crate::preparing::prepare;
@@ -80,19 +88,56 @@ pub fn add_edge<S: Space>(
     ensures cause { HasChangeCause (S.faults space.old) (S.faults space.new) result }
 {
     let pairs = pairs.as_slice();
-    let source = node_degree(space, from)?;
-    let target = node_degree(space, to)?;
+    let ends = end_degrees(space, from, to)?;
     test_room(space, RELATIONSHIPS, 1)?;
     // What is weighed here bounds what the ends write, whatever the space says later.
     let threshold = space.shape().threshold as u32;
-    let ends = ends_weight(threshold, from, source, to, target);
     let prepared = prepare(space, names, label, pairs)?;
-    let id = put_edge(space, threshold, prepared.label, from, source, to, target)?;
+    let joint = Joint {
+        label: prepared.label,
+        threshold,
+        ends,
+    };
+    let moved = ends_weight(joint);
+    let id = put_edge(space, joint)?;
     put_properties(space, edge_owner(id), &prepared.assigned, pairs)?;
     Ok(Added {
         id,
-        weight: 9 + prepared.weight + ends,
+        weight: 9 + prepared.weight + moved,
     })
+}
+
+/// The ends of an edge from one node to another, as they are before it.
+fn end_degrees<R: Reads>(space: &mut R, from: u32, to: u32) -> Result<Ends<EndDegree>, ChangeFault>
+    ensures ends { IfOk result (λ ends. LeadFrom ends from to) }
+    ensures keys { IfOk result (AtEach IsNodeEnd) }
+    ensures found { R.tells → IfOk result (AtEach (HasEndDegree (R.state space.old).records)) }
+    ensures used { R.tells → IfOk result (AtEach (IsUsedEnd (R.state space.old))) }
+    ensures refused { R.tells → (names : List (List ℕ)) → IsStore (R.state space.old) names
+        → (label : List ℕ) (pairs : List Pair) → IfErr result (IsRefusal
+        (R.state space.old).shape.limit (graph_in (R.state space.old))
+        (commands.Edge from label to pairs)) }
+    ensures absent { R.tells → IfErr result (λ fault.
+        IsAbsent (R.state space.old) (targets.Node from) fault
+        ⊎ IsAbsent (R.state space.old) (targets.Node to) fault) }
+    ensures state { SameButReads (R.state space.old) (R.state space.new) }
+    ensures onward { R.onward space.old space.new }
+    ensures cause { HasChangeCause (R.faults space.old) (R.faults space.new) result }
+{
+    let from_degree = node_degree(space, from)?;
+    let source = EndDegree {
+        node: from,
+        degree: from_degree,
+    };
+    if from == to {
+        return Ok(Ends::Loop(source));
+    }
+    let to_degree = node_degree(space, to)?;
+    let target = EndDegree {
+        node: to,
+        degree: to_degree,
+    };
+    Ok(Ends::Two { source, target })
 }
 
 /// What an end of a new edge weighs, by the degree that it had: where it is the threshold, each of
@@ -109,15 +154,16 @@ fn end_weight(threshold: u32, degree: u32) -> u32
     }
 }
 
-/// What both ends weigh; a loop has one.
-fn ends_weight(threshold: u32, from: u32, from_degree: u32, to: u32, to_degree: u32) -> u32
-    requires { threshold < 65536 }
-    ensures is { result ≡ degrees_weight threshold from from_degree to to_degree }
-    ensures small { result ≤ 4 * (threshold + 1) }
+/// What the ends weigh.
+fn ends_weight(joint: Joint) -> u32
+    requires { joint.threshold < 65536 }
+    ensures is { result ≡ ends_moved joint.threshold joint.ends }
+    ensures small { result ≤ 4 * (joint.threshold + 1) }
 {
-    if from == to {
-        end_weight(threshold, from_degree)
-    } else {
-        end_weight(threshold, from_degree) + end_weight(threshold, to_degree)
+    match joint.ends {
+        Ends::Loop(end) => end_weight(joint.threshold, end.degree),
+        Ends::Two { source, target } => {
+            end_weight(joint.threshold, source.degree) + end_weight(joint.threshold, target.degree)
+        }
     }
 }

@@ -24,12 +24,12 @@ ghost use Rattle.graph_ops.specs.EdgeDeleting.{BlamesDeleting, BlamesEnd, FindsE
 ghost use Rattle.graph_ops.specs.EdgeDeleting.{HasBareRow, HasEndsIn, HasHead, IsBareEdge};
 ghost use Rattle.graph_ops.specs.EdgeDeleting.{IsEndLink, IsTakenDamage, KeepsKinds, LeavesEdge};
 ghost use Rattle.graph_ops.specs.EdgeDeleting.{TakesEdge, WritesTaken};
-ghost use Rattle.graph_ops.specs.EdgeEnds.{IsEdgeEnd};
+ghost use Rattle.graph_ops.specs.EdgeEnds.{AreEdgeEnds, AtEach, IsEdgeEnd, source_of, target_of};
 ghost use Rattle.graph_ops.specs.NodeDeleting.{HasDegree};
 ghost use Rattle.graph_ops.specs.Store.{IsStore, graph_in};
 
 use crate::ChangeFault;
-use crate::edge_end::{BothEnds, EdgeEnd};
+use crate::edge_end::{EdgeEnd, Ends};
 use crate::edge_parting::part_edge;
 use crate::owners::edge_owner;
 use group_store::{Side, close_chain, open_head};
@@ -92,28 +92,27 @@ fn take_edge<S: Space>(space: &mut S, id: u32, rel: RelRow) -> Result<(), Change
     ensures cause { HasChangeCause (S.faults space.old) (S.faults space.new) result }
 {
     let ends = edge_ends(space, id, rel)?;
-    unlink_edge(space, id, ends.source, ends.target)
+    unlink_edge(space, id, ends)
 }
 
 /// The ends of a relationship. The group that it stands in at an end gets counts where it has none.
-fn edge_ends<S: Space>(space: &mut S, id: u32, rel: RelRow) -> Result<BothEnds, ChangeFault>
+fn edge_ends<S: Space>(space: &mut S, id: u32, rel: RelRow) -> Result<Ends<EdgeEnd>, ChangeFault>
     ensures found { S.tells → IfOk result (λ ends. (names : List (List ℕ))
         → IsStore (S.state space.old) names
         → HasBareRow (S.state space.old).records id rel
-        → FindsEnds (S.state space.old) (S.state space.new) names id ends.source ends.target) }
+        → FindsEnds (S.state space.old) (S.state space.new) names id ends) }
     ensures sound { S.tells → (names : List (List ℕ)) → IsStore (S.state space.old) names
         → HasBareRow (S.state space.old).records id rel → IfErr result IsOutside }
     ensures damaged { S.tells → IfErr result
         (IfBlames (IsTakenDamage (S.state space.old) (S.state space.new) id rel)) }
     ensures counts { S.tells → OnOk result
         (LeavesEdge (S.state space.old) (S.state space.new) id) }
-    ensures nodes { IfOk result (λ ends. (ends.source.node ≡ rel.from)
-        × (ends.target.node ≡ rel.to)) }
-    ensures heads { S.tells → IfOk result (λ ends. HasHead (S.state space.new).records ends.source
-        × HasHead (S.state space.new).records ends.target) }
-    ensures ends { IfOk result (λ ends. IsEdgeEnd ends.source × IsEdgeEnd ends.target) }
+    ensures nodes { IfOk result (λ ends. ((source_of ends).node ≡ rel.from)
+        × ((target_of ends).node ≡ rel.to)) }
+    ensures heads { S.tells → IfOk result (AtEach (HasHead (S.state space.new).records)) }
+    ensures ends { IfOk result AreEdgeEnds }
     ensures wrote { IfOk result (λ ends. WritesOnly (S.state space.old) (S.state space.new)
-        (ends.source.head.key ∷ ends.target.head.key ∷ [])) }
+        ((source_of ends).head.key ∷ (target_of ends).head.key ∷ [])) }
     ensures writes { (g k : ℕ) × WritesOnly (S.state space.old) (S.state space.new)
         (group_key g ∷ group_key k ∷ []) }
     ensures failure { IfErr result IsFailure }
@@ -122,13 +121,10 @@ fn edge_ends<S: Space>(space: &mut S, id: u32, rel: RelRow) -> Result<BothEnds, 
 {
     let source = edge_end(space, id, rel, rel.from)?;
     if rel.from == rel.to {
-        return Ok(BothEnds {
-            source,
-            target: source,
-        });
+        return Ok(Ends::Loop(source));
     }
     let target = edge_end(space, id, rel, rel.to)?;
-    Ok(BothEnds { source, target })
+    Ok(Ends::Two { source, target })
 }
 
 /// The end of a relationship at a node.
@@ -195,36 +191,32 @@ fn end_degree<R: Reads>(space: &mut R, rel: u32, node: u32) -> Result<u32, Chang
 }
 
 /// The same, by the ends of the edge. The degrees are those before.
-fn unlink_edge<S: Space>(
-    space: &mut S,
-    id: u32,
-    source: EdgeEnd,
-    target: EdgeEnd,
-) -> Result<(), ChangeFault>
+fn unlink_edge<S: Space>(space: &mut S, id: u32, ends: Ends<EdgeEnd>) -> Result<(), ChangeFault>
     requires id { IsKey (key_in relationships_file id) }
-    requires source { IsEdgeEnd source }
-    requires target { IsEdgeEnd target }
+    requires ends { AreEdgeEnds ends }
     ensures taken { S.tells
         → OnOk result ((names : List (List ℕ)) → IsStore (S.state space.old) names
-        → IsBareEdge (S.state space.old) id source target
+        → IsBareEdge (S.state space.old) id ends
         → TakesEdge (S.state space.old) (S.state space.new) names id) }
     ensures sound { S.tells → (names : List (List ℕ)) → IsStore (S.state space.old) names
-        → IsBareEdge (S.state space.old) id source target → IfErr result IsOutside }
-    ensures damaged { S.tells → HasHead (S.state space.old).records source
-        → HasHead (S.state space.old).records target
-        → HasEndsIn (S.state space.old).records id source.node target.node
+        → IsBareEdge (S.state space.old) id ends → IfErr result IsOutside }
+    ensures damaged { S.tells → AtEach (HasHead (S.state space.old).records) ends
+        → HasEndsIn (S.state space.old).records id (source_of ends).node (target_of ends).node
         → (was : State) (rel : RelRow)
-        → IfErr result (IfBlames (λ damage. IsEndLink (S.state space.old) id source.node
-        target.node damage ⊎ IsTakenDamage was (S.state space.new) id rel damage)) }
-    ensures writes { WritesTaken (S.state space.old) (S.state space.new) id source target }
+        → IfErr result (IfBlames (λ damage. IsEndLink (S.state space.old) id (source_of ends).node
+        (target_of ends).node damage ⊎ IsTakenDamage was (S.state space.new) id rel damage)) }
+    ensures writes { WritesTaken (S.state space.old) (S.state space.new) id ends }
     ensures failure { IfErr result IsFailure }
     ensures onward { S.onward space.old space.new }
     ensures cause { HasChangeCause (S.faults space.old) (S.faults space.new) result }
 {
-    part_edge(space, id, source, target)?;
-    close_chain(space, source.node, source.head)?;
-    if source.node != target.node {
-        close_chain(space, target.node, target.head)?;
+    part_edge(space, id, ends)?;
+    match ends {
+        Ends::Loop(end) => close_chain(space, end.node, end.head)?,
+        Ends::Two { source, target } => {
+            close_chain(space, source.node, source.head)?;
+            close_chain(space, target.node, target.head)?;
+        }
     }
     Ok(())
 }

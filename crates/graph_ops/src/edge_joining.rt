@@ -1,6 +1,6 @@
 //! A new edge's record, without properties, and its place in the chains of its ends.
 
-ghost use Rattle.std.specs.Prelude.{◌≡◌, ◌≢◌, ◌<◌, ◌∷◌, [], ℕ, List, Some, slice_get};
+ghost use Rattle.std.specs.Prelude.{◌≡◌, ◌<◌, ◌∷◌, [], ℕ, List, Some, slice_get};
 ghost use Rattle.std.specs.Prelude.{IfErr, IfOk, OnErr, OnOk};
 ghost use Rattle.rec_bytes.specs.Format.{relationships_file};
 ghost use Rattle.rec_bytes.specs.Key.{IsKey};
@@ -17,14 +17,14 @@ ghost use Rattle.chain_edit.specs.Links.{IsRightLink};
 ghost use Rattle.graph_ops.specs.ChangeFault.{HasChangeCause, IsFailure, IsOutside};
 ghost use Rattle.graph_ops.specs.Damage.{IfBlames};
 ghost use Rattle.graph_ops.specs.EdgeAdding.{BlamesHead, IsHeadAt, IsJoinDamage};
-ghost use Rattle.graph_ops.specs.EdgeEnds.{IsEdgeEnd, both_joined, joined};
-ghost use Rattle.graph_ops.specs.EdgeJoining.{CanJoin, HasPlaced, WritesJoined, joined_keys};
-ghost use Rattle.graph_ops.specs.EdgeJoining.{new_row, one_more};
+ghost use Rattle.graph_ops.specs.EdgeEnds.{AreEdgeEnds, AtEach, IsEdgeEnd, source_of, target_of};
+ghost use Rattle.graph_ops.specs.EdgeJoining.{AreRightFirsts, CanJoin, HasPlaced, WritesJoined};
+ghost use Rattle.graph_ops.specs.EdgeJoining.{end_joined, ends_joined, joined_keys, new_row};
 ghost use Rattle.graph_ops.specs.EdgePlacing.{PutsEdge};
 ghost use Rattle.graph_ops.specs.Rooms.{HasRoom};
 
 use crate::ChangeFault;
-use crate::edge_end::EdgeEnd;
+use crate::edge_end::{EdgeEnd, Ends};
 use group_store::push_counted;
 use id_freelist::{TakeFault, take};
 use rec_bytes::{
@@ -37,33 +37,30 @@ use rel_store::{RelRow, save};
 pub(crate) fn join_edge<S: Space>(
     space: &mut S,
     label: u32,
-    source: EdgeEnd,
-    target: EdgeEnd,
+    ends: Ends<EdgeEnd>,
 ) -> Result<u32, ChangeFault>
-    requires source { IsEdgeEnd source }
-    requires target { IsEdgeEnd target }
+    requires { AreEdgeEnds ends }
     ensures joined { S.tells → IfOk result (λ id. (names : List (List ℕ)) (text : List ℕ)
-        → CanJoin (S.state space.old) names label source target
-        → slice_get names label ≡ Some text
-        → PutsEdge (S.state space.old) (S.state space.new) names source.node text target.node
-        id) }
+        → CanJoin (S.state space.old) names label ends → slice_get names label ≡ Some text
+        → PutsEdge (S.state space.old) (S.state space.new) names (source_of ends).node text
+        (target_of ends).node id) }
     ensures sound { S.tells → (names : List (List ℕ)) (text : List ℕ)
-        → CanJoin (S.state space.old) names label source target
-        → slice_get names label ≡ Some text
+        → CanJoin (S.state space.old) names label ends → slice_get names label ≡ Some text
         → HasRoom (S.state space.old) relationships_file 1 → IfErr result IsOutside }
-    ensures damaged { S.tells → IsHeadAt source → IsHeadAt target → IfErr result
-        (IfBlames (IsJoinDamage (S.state space.new) source.node target.node)) }
+    ensures damaged { S.tells → AtEach IsHeadAt ends → IfErr result (IfBlames
+        (IsJoinDamage (S.state space.new) (source_of ends).node (target_of ends).node)) }
     ensures key { IfOk result (λ id. IsKey (key_in relationships_file id)) }
     ensures writes { IfOk result (λ id.
-        WritesJoined (S.state space.old) (S.state space.new) id source target) }
+        WritesJoined (S.state space.old) (S.state space.new) id ends) }
     ensures err_writes { OnErr result ((id : ℕ)
-        × WritesJoined (S.state space.old) (S.state space.new) id source target) }
+        × WritesJoined (S.state space.old) (S.state space.new) id ends) }
     ensures failure { IfErr result IsFailure }
     ensures onward { S.onward space.old space.new }
     ensures cause { HasChangeCause (S.faults space.old) (S.faults space.new) result }
 {
-    let id = place(space, label, source.node, target.node)?;
-    join_ends(space, id, source, target)?;
+    let (from, to) = ends.nodes();
+    let id = place(space, label, from, to)?;
+    join_ends(space, id, ends)?;
     Ok(id)
 }
 
@@ -144,40 +141,29 @@ fn new_row(id: u32, label: u32, from: u32, to: u32) -> RelRow
     }
 }
 
-/// Puts a relationship at the front of the chains of both ends, and writes their degrees. The chain
+/// Puts a relationship at the front of the chains of its ends, and writes their degrees. The chain
 /// of a loop has it once, by its source.
-fn join_ends<S: Space>(
-    space: &mut S,
-    rel: u32,
-    source: EdgeEnd,
-    target: EdgeEnd,
-) -> Result<(), ChangeFault>
+fn join_ends<S: Space>(space: &mut S, rel: u32, ends: Ends<EdgeEnd>) -> Result<(), ChangeFault>
     requires rel { IsKey (key_in relationships_file rel) }
-    requires source { IsEdgeEnd source }
-    requires target { IsEdgeEnd target }
-    ensures ok { S.tells → OnOk result (S.state space.new
-        ≡ both_joined (S.state space.old) (head_of source.head) (head_of target.head)
-        source.node target.node rel (one_more source.degree) (one_more target.degree)) }
+    requires ends { AtEach IsEdgeEnd ends }
+    ensures ok { S.tells
+        → OnOk result (S.state space.new ≡ ends_joined (S.state space.old) ends rel) }
     ensures sound { S.tells
-        → IsRightLink (S.state space.old)
-        (first_of (S.state space.old).records (head_of source.head))
-        → (source.node ≢ target.node → IsRightLink
-        (joined (S.state space.old) (head_of source.head) source.node rel (one_more source.degree))
-        (first_of (joined (S.state space.old) (head_of source.head) source.node rel
-        (one_more source.degree)).records (head_of target.head)))
-        → IfErr result IsOutside }
-    ensures damaged { S.tells → IsHeadAt source → IsHeadAt target → IfErr result
-        (IfBlames (IsJoinDamage (S.state space.new) source.node target.node)) }
-    ensures writes { WritesJoined (S.state space.old) (S.state space.new) rel source target }
+        → AreRightFirsts (S.state space.old) ends rel → IfErr result IsOutside }
+    ensures damaged { S.tells → AtEach IsHeadAt ends → IfErr result (IfBlames
+        (IsJoinDamage (S.state space.new) (source_of ends).node (target_of ends).node)) }
+    ensures writes { WritesJoined (S.state space.old) (S.state space.new) rel ends }
     ensures failure { IfErr result IsFailure }
     ensures onward { S.onward space.old space.new }
     ensures cause { HasChangeCause (S.faults space.old) (S.faults space.new) result }
 {
-    join_end(space, rel, source)?;
-    if source.node != target.node {
-        join_end(space, rel, target)?;
+    match ends {
+        Ends::Loop(end) => join_end(space, rel, end),
+        Ends::Two { source, target } => {
+            join_end(space, rel, source)?;
+            join_end(space, rel, target)
+        }
     }
-    Ok(())
 }
 
 /// Puts a relationship at the front of a chain of a node, and writes the node's degree.
@@ -185,8 +171,8 @@ fn join_ends<S: Space>(
 fn join_end<S: Space>(space: &mut S, rel: u32, end: EdgeEnd) -> Result<(), ChangeFault>
     requires rel { IsKey (key_in relationships_file rel) }
     requires end { IsEdgeEnd end }
-    ensures ok { S.tells → OnOk result (S.state space.new
-        ≡ joined (S.state space.old) (head_of end.head) end.node rel (one_more end.degree)) }
+    ensures ok { S.tells
+        → OnOk result (S.state space.new ≡ end_joined (S.state space.old) end rel) }
     ensures sound { S.tells
         → IsRightLink (S.state space.old) (first_of (S.state space.old).records (head_of end.head))
         → IfErr result IsOutside }

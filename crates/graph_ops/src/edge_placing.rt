@@ -1,6 +1,6 @@
 //! What a new edge writes: its record, without properties, and the chains of its ends.
 
-ghost use Rattle.std.specs.Prelude.{◌≡◌, ◌≤◌, ◌+◌, ℕ, List, Some, IfErr, IfOk, OnErr, OnOk};
+ghost use Rattle.std.specs.Prelude.{◌≡◌, ◌+◌, ℕ, List, Some, IfErr, IfOk, OnErr, OnOk};
 ghost use Rattle.std.specs.Prelude.{slice_get};
 ghost use Rattle.plain_graph.specs.declared.command.Target.TheVariants as targets;
 ghost use Rattle.rec_bytes.specs.Format.{nodes_file, relationships_file};
@@ -11,8 +11,9 @@ ghost use Rattle.store_rules.specs.Views.{key_in};
 ghost use Rattle.store_rules.specs.Writes.{WritesAtMost, WritesBeside};
 ghost use Rattle.graph_ops.specs.ChangeFault.{HasChangeCause, IsFailure, IsOutside};
 ghost use Rattle.graph_ops.specs.Damage.{IfBlames};
-ghost use Rattle.graph_ops.specs.EdgeAdding.{IsLinkingDamage, IsUsedNode};
-ghost use Rattle.graph_ops.specs.EdgeOpening.{ends_moved};
+ghost use Rattle.graph_ops.specs.EdgeAdding.{HasEndDegree, IsLinkingDamage, IsUsedEnd, IsUsedNode};
+ghost use Rattle.graph_ops.specs.EdgeEnds.{AtEach};
+ghost use Rattle.graph_ops.specs.EdgeOpening.{IsJoint, ends_moved, from_of, to_of};
 ghost use Rattle.graph_ops.specs.EdgePlacing.{PutsEdge};
 ghost use Rattle.graph_ops.specs.NodeDeleting.{HasDegree};
 ghost use Rattle.graph_ops.specs.Owners.{IsAbsent, IsMissing};
@@ -20,6 +21,7 @@ ghost use Rattle.graph_ops.specs.Rooms.{HasRoom};
 ghost use Rattle.graph_ops.specs.Store.{IsStore, graph_in};
 
 use crate::ChangeFault;
+use crate::edge_end::Joint;
 use crate::edge_joining::join_edge;
 use crate::edge_opening::open_ends;
 use node_store::load;
@@ -45,49 +47,34 @@ pub(crate) fn node_degree<R: Reads>(space: &mut R, id: u32) -> Result<u32, Chang
 }
 
 /// Writes the record of a new relationship without properties, puts it into the chains of its ends,
-/// and answers its identifier. The degrees are those before; an end whose degree is the threshold,
-/// which is the space's, becomes dense.
-pub(crate) fn put_edge<S: Space>(
-    space: &mut S,
-    threshold: u32,
-    label: u32,
-    from: u32,
-    from_degree: u32,
-    to: u32,
-    to_degree: u32,
-) -> Result<u32, ChangeFault>
-    requires from { IsKey (key_in nodes_file from) }
-    requires to { IsKey (key_in nodes_file to) }
-    requires threshold { threshold ≤ 200 }
-    ensures put { S.tells → threshold ≡ (S.state space.old).shape.threshold
+/// and answers its identifier. The threshold is the space's.
+pub(crate) fn put_edge<S: Space>(space: &mut S, joint: Joint) -> Result<u32, ChangeFault>
+    requires { IsJoint joint }
+    ensures put { S.tells → joint.threshold ≡ (S.state space.old).shape.threshold
         → IfOk result (λ id. (names : List (List ℕ)) (text : List ℕ)
-        → IsStore (S.state space.old) names → slice_get names label ≡ Some text
-        → HasDegree (S.state space.old).records from from_degree
-        → HasDegree (S.state space.old).records to to_degree
-        → PutsEdge (S.state space.old) (S.state space.new) names from text to id) }
-    ensures sound { S.tells → threshold ≡ (S.state space.old).shape.threshold
+        → IsStore (S.state space.old) names → slice_get names joint.label ≡ Some text
+        → AtEach (HasEndDegree (S.state space.old).records) joint.ends
+        → PutsEdge (S.state space.old) (S.state space.new) names (from_of joint) text
+        (to_of joint) id) }
+    ensures sound { S.tells → joint.threshold ≡ (S.state space.old).shape.threshold
         → (names : List (List ℕ)) (text : List ℕ)
-        → IsStore (S.state space.old) names → slice_get names label ≡ Some text
-        → HasDegree (S.state space.old).records from from_degree
-        → HasDegree (S.state space.old).records to to_degree
+        → IsStore (S.state space.old) names → slice_get names joint.label ≡ Some text
+        → AtEach (HasEndDegree (S.state space.old).records) joint.ends
         → HasRoom (S.state space.old) relationships_file 1 → IfErr result IsOutside }
-    ensures damaged { S.tells → IsUsedNode (S.state space.old) from
-        → IsUsedNode (S.state space.old) to
-        → HasDegree (S.state space.old).records from from_degree
-        → HasDegree (S.state space.old).records to to_degree
-        → threshold ≡ (S.state space.old).shape.threshold
-        → IfErr result (IfBlames (IsLinkingDamage (S.state space.old) (S.state space.new) from to)) }
+    ensures damaged { S.tells → AtEach (IsUsedEnd (S.state space.old)) joint.ends
+        → AtEach (HasEndDegree (S.state space.old).records) joint.ends
+        → joint.threshold ≡ (S.state space.old).shape.threshold
+        → IfErr result (IfBlames (IsLinkingDamage (S.state space.old) (S.state space.new)
+        (from_of joint) (to_of joint))) }
     ensures key { IfOk result (λ id. IsKey (key_in relationships_file id)) }
     ensures writes { IfOk result (λ id. WritesBeside (rel_key id)
-        (8 + ends_moved threshold from from_degree to to_degree)
-        (S.state space.old) (S.state space.new)) }
-    ensures err_writes { OnErr result (WritesAtMost
-        (13 + ends_moved threshold from from_degree to to_degree)
+        (8 + ends_moved joint.threshold joint.ends) (S.state space.old) (S.state space.new)) }
+    ensures err_writes { OnErr result (WritesAtMost (13 + ends_moved joint.threshold joint.ends)
         (S.state space.old) (S.state space.new)) }
     ensures failure { IfErr result IsFailure }
     ensures onward { S.onward space.old space.new }
     ensures cause { HasChangeCause (S.faults space.old) (S.faults space.new) result }
 {
-    let ends = open_ends(space, threshold, label, from, from_degree, to, to_degree)?;
-    join_edge(space, label, ends.source, ends.target)
+    let ends = open_ends(space, joint)?;
+    join_edge(space, joint.label, ends)
 }

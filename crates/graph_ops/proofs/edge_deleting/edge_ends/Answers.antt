@@ -1,4 +1,4 @@
-use Rattle.std.proofs.Common.{inl, inr, refl}
+use Rattle.std.proofs.Common.{◌∙◌, inl, inr, refl, sym}
 use Rattle.rec_bytes.proofs.Spaces.{writes_then}
 use Rattle.graph_ops.specs.ChangeFault.{IsOutside}
 use Rattle.graph_ops.proofs.EndsFound.{both_found, loop_found, there_then}
@@ -83,11 +83,17 @@ returns-in_err-target-clause-damaged g c tells =
     (blames_more _ _ (end_taken s m t c.args.id c.args.rel c.args.rel.to (inr refl) (edge_counted s m c.args.id (g.met.S.Reads.onward_shape _ _ c.edge_end.ensures.onward) (c.in_ok-source.ensures.counts tells))) fault (c.in_err-target.ensures.damaged tells))
 
 pub returns-then-rel-clause-heads : goal.returns-then-rel-clause-heads
-returns-then-rel-clause-heads g c tells = (c.in_ok-source.ensures.has tells, c.in_ok-source.ensures.has tells)
+returns-then-rel-clause-heads g c tells = c.in_ok-source.ensures.has tells
 
 pub returns-clause-heads : goal.returns-clause-heads
 returns-clause-heads g c tells =
     (c.in_ok-target.ensures.heads tells (head_of c.in_ok-source.source.head) c.in_ok-source.source.node (c.in_ok-source.ensures.has tells), c.in_ok-target.ensures.has tells)
+
+pub returns-then-rel-clause-ends : goal.returns-then-rel-clause-ends
+returns-then-rel-clause-ends g c = record { each = c.in_ok-source.ensures.end; apart = tt }
+
+pub returns-clause-ends : goal.returns-clause-ends
+returns-clause-ends g c = record { each = (c.in_ok-source.ensures.end, c.in_ok-target.ensures.end); apart = λ e. c.if-rel.false (sym c.in_ok-source.ensures.node ∙ e ∙ c.in_ok-target.ensures.node) }
 
 pub returns-then-rel-clause-counts : goal.returns-then-rel-clause-counts
 returns-then-rel-clause-counts g c tells =

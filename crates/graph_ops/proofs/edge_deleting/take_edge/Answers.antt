@@ -3,6 +3,7 @@ use Rattle.graph_ops.proofs.EndsFound.{taken_then}
 use Rattle.graph_ops.proofs.EndWrites.{groups_beside, taken_after, taken_beside}
 use Rattle.graph_ops.proofs.Exits.{fault_exit, on_ok}
 use Rattle.graph_ops.specs.Damage.{IfBlames}
+use Rattle.graph_ops.specs.EdgeEnds.{source_of, target_of}
 use Rattle.graph_ops.specs.EdgeDeleting.{HasEndsIn, IsEndLink, IsTakenDamage}
 use Rattle.std.proofs.Common.{◌⊎◌, inl, inr, ⊎_elim, subst, sym}
 use Rattle.graph_ops.proofs.Broken.{blames_more}
@@ -26,9 +27,8 @@ returns-clause-taken g c tells = on_ok c.unlink_edge.result _ _ (λ taken names 
     let s = g.S.Reads.state c.args.space.now in
     let t = g.S.Reads.state c.edge_ends.new.space in
     let u = g.S.Reads.state c.unlink_edge.new.space in
-    let ends = c.in_ok-ends.ends in
     let found = c.in_ok-ends.ensures.found tells names store there in
-    taken_then s t u names c.args.id ends.source ends.target found (taken names found.store found.bare)) (c.unlink_edge.ensures.taken tells)
+    taken_then s t u names c.args.id c.in_ok-ends.ends found (taken names found.store found.bare)) (c.unlink_edge.ensures.taken tells)
 
 -- ---- what it writes
 pub returns-in_err-ends-clause-writes : goal.returns-in_err-ends-clause-writes
@@ -37,8 +37,7 @@ returns-in_err-ends-clause-writes g c = groups_beside _ _ c.args.id c.edge_ends.
 pub returns-clause-writes : goal.returns-clause-writes
 returns-clause-writes g c =
     let ends = c.in_ok-ends.ends in
-    let is = c.in_ok-ends.ensures.ends in
-    taken_beside _ _ c.args.id ends.source ends.target is.0 is.1 (taken_after _ _ _ c.args.id ends.source ends.target c.in_ok-ends.ensures.wrote c.unlink_edge.ensures.writes)
+    taken_beside _ _ c.args.id ends c.in_ok-ends.ensures.ends.each (taken_after _ _ _ c.args.id ends c.in_ok-ends.ensures.wrote c.unlink_edge.ensures.writes)
 
 -- ---- which record is blamed
 pub returns-in_err-ends-clause-damaged : goal.returns-in_err-ends-clause-damaged
@@ -57,10 +56,10 @@ returns-clause-damaged g c tells ends =
     let left = c.in_ok-ends.ensures.counts tells in
     let from = c.in_ok-ends.ensures.nodes.0 in
     let to = c.in_ok-ends.ensures.nodes.1 in
-    let n = c.in_ok-ends.ends.source.node in
-    let m = c.in_ok-ends.ends.target.node in
+    let n = (source_of c.in_ok-ends.ends).node in
+    let m = (target_of c.in_ok-ends.ends).node in
     let now = subst (λ a. HasEndsIn t.records c.args.id a m) (sym from) (subst (λ b. HasEndsIn t.records c.args.id c.args.rel.from b) (sym to) (ends_later s t c.args.id left c.args.rel.from c.args.rel.to ends)) in
     if_blames c.unlink_edge.result _ _
     (λ damage told. ⊎_elim
     (λ k. inl (subst (λ a. IsEndLink s c.args.id a c.args.rel.to damage) from (subst (λ b. IsEndLink s c.args.id n b damage) to (end_link_before s t c.args.id n m damage left k)))) (λ k. inr k) told)
-    (c.unlink_edge.ensures.damaged tells has.0 has.1 now s c.args.rel)
+    (c.unlink_edge.ensures.damaged tells has now s c.args.rel)

@@ -1,14 +1,17 @@
-use Rattle.std.proofs.Common.{◌⊎◌, inl, inr, sym}
+use Rattle.std.proofs.Common.{◌≢◌, ◌⊎◌, inr, refl, subst, sym}
+use Rattle.chain_edit.specs.Heads.{head_of}
 use Rattle.graph_ops.specs.ChangeFault.{IsOutside, of_fault}
+use Rattle.graph_ops.specs.Damage.{IfBlames}
+use Rattle.graph_ops.specs.EdgeDeleting.{HasHead, IsBareEdge, IsEndLink, IsTakenDamage, PartsEdge, WritesEnds, WritesTaken}
+use Rattle.graph_ops.specs.EdgeEnds.{AreApart, AtEach, source_of, target_of}
+use Rattle.graph_ops.specs.declared.edge_end.EdgeEnd.{EdgeEnd}
+use Rattle.graph_ops.specs.declared.edge_end.Ends.TheVariants.{Loop, Two}
+use Rattle.graph_ops.proofs.Broken.{blames_more}
+use Rattle.graph_ops.proofs.DiskCauses.{fault_cause_passed, later_on}
+use Rattle.graph_ops.proofs.EdgeBlames.{close_blamed}
 use Rattle.graph_ops.proofs.EdgeClosed.{loop_taken, pair_taken, source_closes, target_closes}
 use Rattle.graph_ops.proofs.EndWrites.{ends_taken, source_taken, target_taken}
 use Rattle.graph_ops.proofs.Exits.{fault_exit, fault_outside}
-use Rattle.graph_ops.proofs.DiskCauses.{fault_cause_passed, later_on}
-use Rattle.chain_edit.specs.Heads.{head_of}
-use Rattle.graph_ops.specs.Damage.{IfBlames}
-use Rattle.graph_ops.specs.EdgeDeleting.{IsEndLink, IsTakenDamage}
-use Rattle.graph_ops.proofs.EdgeBlames.{close_blamed}
-use Rattle.graph_ops.proofs.Broken.{blames_more}
 use Rattle.graph_ops.proofs.edge_deleting.unlink_edge.Goals as goal
 
 -- ---- why it fails
@@ -16,98 +19,155 @@ pub returns-in_err-part_edge-clause-sound : goal.returns-in_err-part_edge-clause
 returns-in_err-part_edge-clause-sound g c tells names store bare =
     fault_exit (λ f. f) IsOutside c.in_err-part_edge.field-0.0 c.from_residual.result c.from_residual.ensures.1 (c.in_err-part_edge.ensures.sound tells names store bare)
 
-pub returns-in_err-close_chain-clause-sound : goal.returns-in_err-close_chain-clause-sound
-returns-in_err-close_chain-clause-sound g c tells names store bare =
+pub returns-in_err-close_chain-in-Loop-clause-sound : goal.returns-in_err-close_chain-in-Loop-clause-sound
+returns-in_err-close_chain-in-Loop-clause-sound g c tells names store bare =
     let s = g.S.Reads.state c.args.space.now in
     let u = g.S.Reads.state c.part_edge.new.space in
-    fault_exit of_fault IsOutside c.in_err-close_chain.field-0.0 c.from_residual-in_err-close_chain.result c.from_residual-in_err-close_chain.ensures.1
-    (fault_outside Unit c.in_err-close_chain.field-0.0 (c.in_err-close_chain.ensures.sound tells _ _
-    (source_closes s u names c.args.id c.args.source c.args.target bare (c.in_ok-part_edge.ensures.parted tells names store bare))))
+    let parts = subst (PartsEdge s u names c.args.id) c.in-Loop.is (c.in_ok-part_edge.ensures.parted tells names store bare) in
+    fault_exit of_fault IsOutside c.in_err-close_chain-in-Loop.field-0.0 c.from_residual-in_err-close_chain-in-Loop.result c.from_residual-in_err-close_chain-in-Loop.ensures.1
+    (fault_outside Unit c.in_err-close_chain-in-Loop.field-0.0 (c.in_err-close_chain-in-Loop.ensures.sound tells _ _
+    (source_closes s u names c.args.id (Loop c.in-Loop.end) (subst (IsBareEdge s c.args.id) c.in-Loop.is bare) parts)))
 
-pub returns-in_err-close_chain-2-clause-sound : goal.returns-in_err-close_chain-2-clause-sound
-returns-in_err-close_chain-2-clause-sound g c tells names store bare =
+pub returns-in_err-close_chain-in-Two-clause-sound : goal.returns-in_err-close_chain-in-Two-clause-sound
+returns-in_err-close_chain-in-Two-clause-sound g c tells names store bare =
     let s = g.S.Reads.state c.args.space.now in
     let u = g.S.Reads.state c.part_edge.new.space in
-    let v = g.S.Reads.state c.close_chain.new.space in
-    let parts = c.in_ok-part_edge.ensures.parted tells names store bare in
-    fault_exit of_fault IsOutside c.in_err-close_chain-2.field-0.0 c.from_residual-in_err-close_chain-2.result c.from_residual-in_err-close_chain-2.ensures.1
-    (fault_outside Unit c.in_err-close_chain-2.field-0.0 (c.in_err-close_chain-2.ensures.sound tells _ _
-    (target_closes s u names c.args.id c.args.source c.args.target bare parts v
-    (c.in_ok-close_chain.ensures.closed tells _ _ (source_closes s u names c.args.id c.args.source c.args.target bare parts)) c.if-source-target.true)))
+    let parts = subst (PartsEdge s u names c.args.id) c.in-Two.is (c.in_ok-part_edge.ensures.parted tells names store bare) in
+    fault_exit of_fault IsOutside c.in_err-close_chain-in-Two.field-0.0 c.from_residual-in_err-close_chain-in-Two.result c.from_residual-in_err-close_chain-in-Two.ensures.1
+    (fault_outside Unit c.in_err-close_chain-in-Two.field-0.0 (c.in_err-close_chain-in-Two.ensures.sound tells _ _
+    (source_closes s u names c.args.id (Two c.in-Two.source c.in-Two.target) (subst (IsBareEdge s c.args.id) c.in-Two.is bare) parts)))
+
+pub returns-in_err-close_chain-in-Two-2-clause-sound : goal.returns-in_err-close_chain-in-Two-2-clause-sound
+returns-in_err-close_chain-in-Two-2-clause-sound g c tells names store bare =
+    let s = g.S.Reads.state c.args.space.now in
+    let u = g.S.Reads.state c.part_edge.new.space in
+    let v = g.S.Reads.state c.close_chain-in-Two.new.space in
+    let ends = Two c.in-Two.source c.in-Two.target in
+    let here = subst (IsBareEdge s c.args.id) c.in-Two.is bare in
+    let parts = subst (PartsEdge s u names c.args.id) c.in-Two.is (c.in_ok-part_edge.ensures.parted tells names store bare) in
+    let differ : c.in-Two.source.node ≢ c.in-Two.target.node = subst (AreApart (λ (end : EdgeEnd). end.node)) c.in-Two.is c.requires.ends.apart in
+    fault_exit of_fault IsOutside c.in_err-close_chain-in-Two-2.field-0.0 c.from_residual-in_err-close_chain-in-Two-2.result c.from_residual-in_err-close_chain-in-Two-2.ensures.1
+    (fault_outside Unit c.in_err-close_chain-in-Two-2.field-0.0 (c.in_err-close_chain-in-Two-2.ensures.sound tells _ _
+    (target_closes s u names c.args.id ends here parts v (c.in_ok-close_chain-in-Two.ensures.closed tells _ _ (source_closes s u names c.args.id ends here parts)) differ refl)))
 
 -- ---- what it leaves
-pub returns-else-source-target-clause-taken : goal.returns-else-source-target-clause-taken
-returns-else-source-target-clause-taken g c tells names store bare =
+pub returns-in_ok-close_chain-in-Loop-clause-taken : goal.returns-in_ok-close_chain-in-Loop-clause-taken
+returns-in_ok-close_chain-in-Loop-clause-taken g c tells names store bare =
     let s = g.S.Reads.state c.args.space.now in
     let u = g.S.Reads.state c.part_edge.new.space in
     let v = g.S.Reads.state c.close_chain.new.space in
-    let parts = c.in_ok-part_edge.ensures.parted tells names store bare in
-    loop_taken s u names c.args.id c.args.source c.args.target bare parts v
-    (c.in_ok-close_chain.ensures.closed tells _ _ (source_closes s u names c.args.id c.args.source c.args.target bare parts)) c.if-source-target.false
+    let ends = Loop c.in-Loop.end in
+    let here = subst (IsBareEdge s c.args.id) c.in-Loop.is bare in
+    let parts = subst (PartsEdge s u names c.args.id) c.in-Loop.is (c.in_ok-part_edge.ensures.parted tells names store bare) in
+    loop_taken s u names c.args.id ends here parts v (c.in_ok-close_chain-in-Loop.ensures.closed tells _ _ (source_closes s u names c.args.id ends here parts)) refl
 
-pub returns-in_ok-close_chain-2-clause-taken : goal.returns-in_ok-close_chain-2-clause-taken
-returns-in_ok-close_chain-2-clause-taken g c tells names store bare =
+pub returns-in_ok-close_chain-in-Two-2-clause-taken : goal.returns-in_ok-close_chain-in-Two-2-clause-taken
+returns-in_ok-close_chain-in-Two-2-clause-taken g c tells names store bare =
     let s = g.S.Reads.state c.args.space.now in
     let u = g.S.Reads.state c.part_edge.new.space in
-    let v = g.S.Reads.state c.close_chain.new.space in
-    let w = g.S.Reads.state c.close_chain-then-source-target.new.space in
-    let parts = c.in_ok-part_edge.ensures.parted tells names store bare in
-    let closed = c.in_ok-close_chain.ensures.closed tells _ _ (source_closes s u names c.args.id c.args.source c.args.target bare parts) in
-    pair_taken s u names c.args.id c.args.source c.args.target bare parts v closed w
-    (c.in_ok-close_chain-2.ensures.closed tells _ _ (target_closes s u names c.args.id c.args.source c.args.target bare parts v closed c.if-source-target.true))
+    let v = g.S.Reads.state c.close_chain-in-Two.new.space in
+    let w = g.S.Reads.state c.close_chain-in-Two-2.new.space in
+    let ends = Two c.in-Two.source c.in-Two.target in
+    let here = subst (IsBareEdge s c.args.id) c.in-Two.is bare in
+    let parts = subst (PartsEdge s u names c.args.id) c.in-Two.is (c.in_ok-part_edge.ensures.parted tells names store bare) in
+    let differ : c.in-Two.source.node ≢ c.in-Two.target.node = subst (AreApart (λ (end : EdgeEnd). end.node)) c.in-Two.is c.requires.ends.apart in
+    let closed = c.in_ok-close_chain-in-Two.ensures.closed tells _ _ (source_closes s u names c.args.id ends here parts) in
+    pair_taken s u names c.args.id ends here parts v closed w (c.in_ok-close_chain-in-Two-2.ensures.closed tells _ _ (target_closes s u names c.args.id ends here parts v closed differ refl))
 
 -- ---- what it writes
 pub returns-in_err-part_edge-clause-writes : goal.returns-in_err-part_edge-clause-writes
-returns-in_err-part_edge-clause-writes g c = ends_taken _ _ c.args.id c.args.source c.args.target c.part_edge.ensures.writes
+returns-in_err-part_edge-clause-writes g c = ends_taken _ _ c.args.id c.args.ends c.part_edge.ensures.writes
 
-pub returns-in_err-close_chain-clause-writes : goal.returns-in_err-close_chain-clause-writes
-returns-in_err-close_chain-clause-writes g c = source_taken _ _ c.args.id c.args.source c.args.target c.part_edge.ensures.writes _ c.close_chain.ensures.writes
+pub returns-in_err-close_chain-in-Loop-clause-writes : goal.returns-in_err-close_chain-in-Loop-clause-writes
+returns-in_err-close_chain-in-Loop-clause-writes g c =
+    let s = g.S.Reads.state c.args.space.now in
+    let u = g.S.Reads.state c.part_edge.new.space in
+    let v = g.S.Reads.state c.close_chain.new.space in
+    subst (WritesTaken s v c.args.id) (sym c.in-Loop.is) (source_taken s u c.args.id (Loop c.in-Loop.end) (subst (WritesEnds s u c.args.id) c.in-Loop.is c.part_edge.ensures.writes) v c.close_chain.ensures.writes)
 
-pub returns-else-source-target-clause-writes : goal.returns-else-source-target-clause-writes
-returns-else-source-target-clause-writes g c = source_taken _ _ c.args.id c.args.source c.args.target c.part_edge.ensures.writes _ c.close_chain.ensures.writes
+pub returns-in_ok-close_chain-in-Loop-clause-writes : goal.returns-in_ok-close_chain-in-Loop-clause-writes
+returns-in_ok-close_chain-in-Loop-clause-writes g c =
+    let s = g.S.Reads.state c.args.space.now in
+    let u = g.S.Reads.state c.part_edge.new.space in
+    let v = g.S.Reads.state c.close_chain.new.space in
+    subst (WritesTaken s v c.args.id) (sym c.in-Loop.is) (source_taken s u c.args.id (Loop c.in-Loop.end) (subst (WritesEnds s u c.args.id) c.in-Loop.is c.part_edge.ensures.writes) v c.close_chain.ensures.writes)
 
-pub returns-in_err-close_chain-2-clause-writes : goal.returns-in_err-close_chain-2-clause-writes
-returns-in_err-close_chain-2-clause-writes g c = target_taken _ _ c.args.id c.args.source c.args.target c.part_edge.ensures.writes _ c.close_chain.ensures.writes _ c.close_chain-then-source-target.ensures.writes
+pub returns-in_err-close_chain-in-Two-clause-writes : goal.returns-in_err-close_chain-in-Two-clause-writes
+returns-in_err-close_chain-in-Two-clause-writes g c =
+    let s = g.S.Reads.state c.args.space.now in
+    let u = g.S.Reads.state c.part_edge.new.space in
+    let v = g.S.Reads.state c.close_chain-in-Two.new.space in
+    subst (WritesTaken s v c.args.id) (sym c.in-Two.is) (source_taken s u c.args.id (Two c.in-Two.source c.in-Two.target) (subst (WritesEnds s u c.args.id) c.in-Two.is c.part_edge.ensures.writes) v c.close_chain-in-Two.ensures.writes)
 
-pub returns-in_ok-close_chain-2-clause-writes : goal.returns-in_ok-close_chain-2-clause-writes
-returns-in_ok-close_chain-2-clause-writes g c = target_taken _ _ c.args.id c.args.source c.args.target c.part_edge.ensures.writes _ c.close_chain.ensures.writes _ c.close_chain-then-source-target.ensures.writes
+pub returns-in_err-close_chain-in-Two-2-clause-writes : goal.returns-in_err-close_chain-in-Two-2-clause-writes
+returns-in_err-close_chain-in-Two-2-clause-writes g c =
+    let s = g.S.Reads.state c.args.space.now in
+    let u = g.S.Reads.state c.part_edge.new.space in
+    let v = g.S.Reads.state c.close_chain-in-Two.new.space in
+    let w = g.S.Reads.state c.close_chain-in-Two-2.new.space in
+    subst (WritesTaken s w c.args.id) (sym c.in-Two.is)
+    (target_taken s u c.args.id (Two c.in-Two.source c.in-Two.target) (subst (WritesEnds s u c.args.id) c.in-Two.is c.part_edge.ensures.writes) v c.close_chain-in-Two.ensures.writes w c.close_chain-in-Two-2.ensures.writes)
 
-pub returns-in_err-close_chain-clause-cause : goal.returns-in_err-close_chain-clause-cause
-returns-in_err-close_chain-clause-cause g c =
-    fault_cause_passed _ _ _ c.from_residual-in_err-close_chain.result c.in_err-close_chain.field-0.0 c.in_ok-part_edge.ensures.cause.later c.in_err-close_chain.ensures.cause c.from_residual-in_err-close_chain.ensures.1
+pub returns-in_ok-close_chain-in-Two-2-clause-writes : goal.returns-in_ok-close_chain-in-Two-2-clause-writes
+returns-in_ok-close_chain-in-Two-2-clause-writes g c =
+    let s = g.S.Reads.state c.args.space.now in
+    let u = g.S.Reads.state c.part_edge.new.space in
+    let v = g.S.Reads.state c.close_chain-in-Two.new.space in
+    let w = g.S.Reads.state c.close_chain-in-Two-2.new.space in
+    subst (WritesTaken s w c.args.id) (sym c.in-Two.is)
+    (target_taken s u c.args.id (Two c.in-Two.source c.in-Two.target) (subst (WritesEnds s u c.args.id) c.in-Two.is c.part_edge.ensures.writes) v c.close_chain-in-Two.ensures.writes w c.close_chain-in-Two-2.ensures.writes)
 
-pub returns-in_err-close_chain-2-clause-cause : goal.returns-in_err-close_chain-2-clause-cause
-returns-in_err-close_chain-2-clause-cause g c =
-    fault_cause_passed _ _ _ c.from_residual-in_err-close_chain-2.result c.in_err-close_chain-2.field-0.0 (later_on c.in_ok-part_edge.ensures.cause.later c.in_ok-close_chain.ensures.cause.later) c.in_err-close_chain-2.ensures.cause c.from_residual-in_err-close_chain-2.ensures.1
+pub returns-in_err-close_chain-in-Loop-clause-cause : goal.returns-in_err-close_chain-in-Loop-clause-cause
+returns-in_err-close_chain-in-Loop-clause-cause g c =
+    fault_cause_passed _ _ _ c.from_residual-in_err-close_chain-in-Loop.result c.in_err-close_chain-in-Loop.field-0.0 c.in_ok-part_edge.ensures.cause.later c.in_err-close_chain-in-Loop.ensures.cause c.from_residual-in_err-close_chain-in-Loop.ensures.1
+
+pub returns-in_err-close_chain-in-Two-clause-cause : goal.returns-in_err-close_chain-in-Two-clause-cause
+returns-in_err-close_chain-in-Two-clause-cause g c =
+    fault_cause_passed _ _ _ c.from_residual-in_err-close_chain-in-Two.result c.in_err-close_chain-in-Two.field-0.0 c.in_ok-part_edge.ensures.cause.later c.in_err-close_chain-in-Two.ensures.cause c.from_residual-in_err-close_chain-in-Two.ensures.1
+
+pub returns-in_err-close_chain-in-Two-2-clause-cause : goal.returns-in_err-close_chain-in-Two-2-clause-cause
+returns-in_err-close_chain-in-Two-2-clause-cause g c =
+    fault_cause_passed _ _ _ c.from_residual-in_err-close_chain-in-Two-2.result c.in_err-close_chain-in-Two-2.field-0.0 (later_on c.in_ok-part_edge.ensures.cause.later c.in_ok-close_chain-in-Two.ensures.cause.later) c.in_err-close_chain-in-Two-2.ensures.cause c.from_residual-in_err-close_chain-in-Two-2.ensures.1
 
 -- ---- which record is blamed
-pub returns-in_err-part_edge-clause-damaged : goal.returns-in_err-part_edge-clause-damaged
-returns-in_err-part_edge-clause-damaged g c tells source target ends was rel =
-    let s = g.S.Reads.state c.args.space.now in
-    let u = g.S.Reads.state c.part_edge.new.space in
-    fault_exit (λ f. f) (IfBlames (λ damage. IsEndLink s c.args.id c.args.source.node c.args.target.node damage ⊎ IsTakenDamage was u c.args.id rel damage)) c.in_err-part_edge.field-0.0 c.from_residual.result c.from_residual.ensures.1
-    (blames_more _ _ (λ damage told. inl told) c.in_err-part_edge.field-0.0 (c.in_err-part_edge.ensures.damaged tells ends source))
-
-pub returns-in_err-close_chain-clause-damaged : goal.returns-in_err-close_chain-clause-damaged
-returns-in_err-close_chain-clause-damaged g c tells source target ends was rel =
+pub returns-in_err-close_chain-in-Loop-clause-damaged : goal.returns-in_err-close_chain-in-Loop-clause-damaged
+returns-in_err-close_chain-in-Loop-clause-damaged g c tells heads ends was rel =
     let s = g.S.Reads.state c.args.space.now in
     let u = g.S.Reads.state c.part_edge.new.space in
     let v = g.S.Reads.state c.close_chain.new.space in
-    let kept = c.in_ok-part_edge.ensures.heads tells source target in
-    let fault = c.in_err-close_chain.field-0.0 in
-    fault_exit of_fault (IfBlames (λ damage. IsEndLink s c.args.id c.args.source.node c.args.target.node damage ⊎ IsTakenDamage was v c.args.id rel damage)) fault c.from_residual-in_err-close_chain.result c.from_residual-in_err-close_chain.ensures.1
-    (blames_more _ _ (λ damage told. inr told) (of_fault fault) (close_blamed was u v c.args.id rel c.args.source.node c.args.source.head.key.id fault (c.in_err-close_chain.ensures.damaged tells)
-    (c.in_err-close_chain.ensures.breaks tells (kept (head_of c.args.source.head) c.args.source.node source)) c.in_err-close_chain.ensures.unwritten))
+    let end = c.in-Loop.end in
+    let now = c.in_ok-part_edge.ensures.heads tells heads (head_of end.head) end.node (subst (AtEach (HasHead s.records)) c.in-Loop.is heads) in
+    let fault = c.in_err-close_chain-in-Loop.field-0.0 in
+    let told = c.in_err-close_chain-in-Loop.ensures in
+    fault_exit of_fault (IfBlames (λ damage. IsEndLink s c.args.id (source_of c.args.ends).node (target_of c.args.ends).node damage ⊎ IsTakenDamage was v c.args.id rel damage)) fault c.from_residual-in_err-close_chain-in-Loop.result c.from_residual-in_err-close_chain-in-Loop.ensures.1
+    (blames_more _ _ (λ damage told. inr told) (of_fault fault) (close_blamed was u v c.args.id rel end.node end.head.key.id fault (told.damaged tells) (told.breaks tells now) told.unwritten))
 
-pub returns-in_err-close_chain-2-clause-damaged : goal.returns-in_err-close_chain-2-clause-damaged
-returns-in_err-close_chain-2-clause-damaged g c tells source target ends was rel =
+pub returns-in_err-close_chain-in-Two-clause-damaged : goal.returns-in_err-close_chain-in-Two-clause-damaged
+returns-in_err-close_chain-in-Two-clause-damaged g c tells heads ends was rel =
     let s = g.S.Reads.state c.args.space.now in
-    let v = g.S.Reads.state c.close_chain.new.space in
-    let w = g.S.Reads.state c.close_chain-then-source-target.new.space in
-    let kept = c.in_ok-part_edge.ensures.heads tells source target in
-    let others = c.in_ok-close_chain.ensures.heads tells (kept (head_of c.args.source.head) c.args.source.node source) in
-    let now = others (head_of c.args.target.head) c.args.target.node (λ e. c.if-source-target.true (sym e)) (kept (head_of c.args.target.head) c.args.target.node target) in
-    let fault = c.in_err-close_chain-2.field-0.0 in
-    fault_exit of_fault (IfBlames (λ damage. IsEndLink s c.args.id c.args.source.node c.args.target.node damage ⊎ IsTakenDamage was w c.args.id rel damage)) fault c.from_residual-in_err-close_chain-2.result c.from_residual-in_err-close_chain-2.ensures.1
-    (blames_more _ _ (λ damage told. inr told) (of_fault fault) (close_blamed was v w c.args.id rel c.args.target.node c.args.target.head.key.id fault (c.in_err-close_chain-2.ensures.damaged tells)
-    (c.in_err-close_chain-2.ensures.breaks tells now) c.in_err-close_chain-2.ensures.unwritten))
+    let u = g.S.Reads.state c.part_edge.new.space in
+    let v = g.S.Reads.state c.close_chain-in-Two.new.space in
+    let end = c.in-Two.source in
+    let has = subst (AtEach (HasHead s.records)) c.in-Two.is heads in
+    let now = c.in_ok-part_edge.ensures.heads tells heads (head_of end.head) end.node has.0 in
+    let fault = c.in_err-close_chain-in-Two.field-0.0 in
+    let told = c.in_err-close_chain-in-Two.ensures in
+    fault_exit of_fault (IfBlames (λ damage. IsEndLink s c.args.id (source_of c.args.ends).node (target_of c.args.ends).node damage ⊎ IsTakenDamage was v c.args.id rel damage)) fault c.from_residual-in_err-close_chain-in-Two.result c.from_residual-in_err-close_chain-in-Two.ensures.1
+    (blames_more _ _ (λ damage told. inr told) (of_fault fault) (close_blamed was u v c.args.id rel end.node end.head.key.id fault (told.damaged tells) (told.breaks tells now) told.unwritten))
+
+pub returns-in_err-close_chain-in-Two-2-clause-damaged : goal.returns-in_err-close_chain-in-Two-2-clause-damaged
+returns-in_err-close_chain-in-Two-2-clause-damaged g c tells heads ends was rel =
+    let s = g.S.Reads.state c.args.space.now in
+    let v = g.S.Reads.state c.close_chain-in-Two.new.space in
+    let w = g.S.Reads.state c.close_chain-in-Two-2.new.space in
+    let source = c.in-Two.source in
+    let end = c.in-Two.target in
+    let differ : source.node ≢ end.node = subst (AreApart (λ (end : EdgeEnd). end.node)) c.in-Two.is c.requires.ends.apart in
+    let has = subst (AtEach (HasHead s.records)) c.in-Two.is heads in
+    let kept = c.in_ok-part_edge.ensures.heads tells heads in
+    let others = c.in_ok-close_chain-in-Two.ensures.heads tells (kept (head_of source.head) source.node has.0) in
+    let now = others (head_of end.head) end.node (λ e. differ (sym e)) (kept (head_of end.head) end.node has.1) in
+    let fault = c.in_err-close_chain-in-Two-2.field-0.0 in
+    let told = c.in_err-close_chain-in-Two-2.ensures in
+    fault_exit of_fault (IfBlames (λ damage. IsEndLink s c.args.id (source_of c.args.ends).node (target_of c.args.ends).node damage ⊎ IsTakenDamage was w c.args.id rel damage)) fault c.from_residual-in_err-close_chain-in-Two-2.result c.from_residual-in_err-close_chain-in-Two-2.ensures.1
+    (blames_more _ _ (λ damage told. inr told) (of_fault fault) (close_blamed was v w c.args.id rel end.node end.head.key.id fault (told.damaged tells) (told.breaks tells now) told.unwritten))

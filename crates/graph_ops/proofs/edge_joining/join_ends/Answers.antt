@@ -1,38 +1,42 @@
-use Rattle.graph_ops.proofs.JoinWrites.{both_written, source_written}
-use Rattle.graph_ops.proofs.DiskCauses.{change_cause_passed}
-use Rattle.std.proofs.Common.{inl, inr, refl}
+use Rattle.std.proofs.Common.{ap, inl, inr, subst, sym}
 use Rattle.graph_ops.specs.Damage.{IfBlames}
-use Rattle.graph_ops.specs.EdgeAdding.{IsJoinDamage}
+use Rattle.graph_ops.specs.EdgeAdding.{IsHeadAt, IsJoinDamage}
 use Rattle.graph_ops.specs.EdgeAdding.IsJoinDamage.{BadHead}
+use Rattle.graph_ops.specs.EdgeEnds.{AtEach, source_of, target_of}
+use Rattle.graph_ops.specs.EdgeJoining.{WritesJoined}
+use Rattle.graph_ops.specs.declared.edge_end.EdgeEnd.{EdgeEnd}
+use Rattle.graph_ops.specs.declared.edge_end.Ends.{Ends}
+use Rattle.graph_ops.specs.declared.edge_end.Ends.TheVariants.{Two}
 use Rattle.graph_ops.proofs.Broken.{blames_more}
+use Rattle.graph_ops.proofs.EdgeBlames.{if_blames}
 use Rattle.graph_ops.proofs.Exits.{fault_exit}
+use Rattle.graph_ops.proofs.JoinWrites.{both_written}
 use Rattle.graph_ops.proofs.edge_joining.join_ends.Goals as goal
 
-pub returns-in_ok-join_end-2-clause-writes : goal.returns-in_ok-join_end-2-clause-writes
-returns-in_ok-join_end-2-clause-writes g c = both_written _ _ _ c.args.rel c.args.source c.args.target c.join_end.ensures.writes c.join_end-then-source-target.ensures.writes
-
-pub returns-in_err-join_end-2-clause-writes : goal.returns-in_err-join_end-2-clause-writes
-returns-in_err-join_end-2-clause-writes g c = both_written _ _ _ c.args.rel c.args.source c.args.target c.join_end.ensures.writes c.join_end-then-source-target.ensures.writes
-
-pub returns-else-source-target-clause-writes : goal.returns-else-source-target-clause-writes
-returns-else-source-target-clause-writes g c = source_written _ _ c.args.rel c.args.source c.args.target c.join_end.ensures.writes
-
-pub returns-in_err-join_end-clause-writes : goal.returns-in_err-join_end-clause-writes
-returns-in_err-join_end-clause-writes g c = source_written _ _ c.args.rel c.args.source c.args.target c.join_end.ensures.writes
-
-pub returns-in_err-join_end-2-clause-cause : goal.returns-in_err-join_end-2-clause-cause
-returns-in_err-join_end-2-clause-cause g c =
-    change_cause_passed _ _ _ c.from_residual-in_err-join_end-2.result c.in_err-join_end-2.field-0.0 c.in_ok-join_end.ensures.cause.later c.in_err-join_end-2.ensures.cause c.from_residual-in_err-join_end-2.ensures.1
+pub returns-in_ok-join_end-in-Two-clause-writes : goal.returns-in_ok-join_end-in-Two-clause-writes
+returns-in_ok-join_end-in-Two-clause-writes g c =
+    let s = g.S.Reads.state c.args.space.now in
+    let t = g.S.Reads.state c.join_end-in-Two.new.space in
+    let u = g.S.Reads.state c.join_end-in-Two-2.new.space in
+    subst (WritesJoined s u c.args.rel) (sym c.in-Two.is) (both_written c.args.rel (Two c.in-Two.source c.in-Two.target) s t u c.join_end-in-Two.ensures.writes c.join_end-in-Two-2.ensures.writes)
 
 -- ---- which record is blamed
-pub returns-in_err-join_end-clause-damaged : goal.returns-in_err-join_end-clause-damaged
-returns-in_err-join_end-clause-damaged g c tells source target =
+pub returns-in-Loop-clause-damaged : goal.returns-in-Loop-clause-damaged
+returns-in-Loop-clause-damaged g c tells heads =
     let t = g.S.Reads.state c.join_end.new.space in
-    fault_exit (λ f. f) (IfBlames (IsJoinDamage t c.args.source.node c.args.target.node)) c.in_err-join_end.field-0.0 c.from_residual.result c.from_residual.ensures.1
-    (blames_more _ _ (λ damage told. BadHead damage c.args.source (inl refl) source told) c.in_err-join_end.field-0.0 (c.in_err-join_end.ensures.damaged tells))
+    if_blames c.join_end.result _ (IsJoinDamage t (source_of c.args.ends).node (target_of c.args.ends).node)
+    (λ damage told. BadHead damage c.in-Loop.end (inl (ap (λ (e : Ends EdgeEnd). (source_of e).node) (sym c.in-Loop.is))) (subst (AtEach IsHeadAt) c.in-Loop.is heads) told) (c.join_end.ensures.damaged tells)
 
-pub returns-in_err-join_end-2-clause-damaged : goal.returns-in_err-join_end-2-clause-damaged
-returns-in_err-join_end-2-clause-damaged g c tells source target =
-    let t = g.S.Reads.state c.join_end-then-source-target.new.space in
-    fault_exit (λ f. f) (IfBlames (IsJoinDamage t c.args.source.node c.args.target.node)) c.in_err-join_end-2.field-0.0 c.from_residual-in_err-join_end-2.result c.from_residual-in_err-join_end-2.ensures.1
-    (blames_more _ _ (λ damage told. BadHead damage c.args.target (inr refl) target told) c.in_err-join_end-2.field-0.0 (c.in_err-join_end-2.ensures.damaged tells))
+pub returns-in_err-join_end-in-Two-clause-damaged : goal.returns-in_err-join_end-in-Two-clause-damaged
+returns-in_err-join_end-in-Two-clause-damaged g c tells heads =
+    let t = g.S.Reads.state c.join_end-in-Two.new.space in
+    let at = subst (AtEach IsHeadAt) c.in-Two.is heads in
+    fault_exit (λ f. f) (IfBlames (IsJoinDamage t (source_of c.args.ends).node (target_of c.args.ends).node)) c.in_err-join_end-in-Two.field-0.0 c.from_residual.result c.from_residual.ensures.1
+    (blames_more _ _ (λ damage told. BadHead damage c.in-Two.source (inl (ap (λ (e : Ends EdgeEnd). (source_of e).node) (sym c.in-Two.is))) at.0 told) c.in_err-join_end-in-Two.field-0.0 (c.in_err-join_end-in-Two.ensures.damaged tells))
+
+pub returns-in_ok-join_end-in-Two-clause-damaged : goal.returns-in_ok-join_end-in-Two-clause-damaged
+returns-in_ok-join_end-in-Two-clause-damaged g c tells heads =
+    let t = g.S.Reads.state c.join_end-in-Two-2.new.space in
+    let at = subst (AtEach IsHeadAt) c.in-Two.is heads in
+    if_blames c.join_end-in-Two-2.result _ (IsJoinDamage t (source_of c.args.ends).node (target_of c.args.ends).node)
+    (λ damage told. BadHead damage c.in-Two.target (inr (ap (λ (e : Ends EdgeEnd). (target_of e).node) (sym c.in-Two.is))) at.1 told) (c.join_end-in-Two-2.ensures.damaged tells)

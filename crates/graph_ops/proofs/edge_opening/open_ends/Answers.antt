@@ -1,132 +1,188 @@
-use Rattle.std.proofs.Common.{◌≡◌, ◌+◌, ◌≤◌, ℕ, List, [], sym, subst, arith, refl}
+use Rattle.std.proofs.Common.{◌≡◌, ◌≢◌, ◌+◌, ◌≤◌, ℕ, List, [], ap, sym, subst, arith, refl}
+use Rattle.rec_bytes.specs.declared.shape.Shape.{Shape}
 use Rattle.chain_edit.specs.Heads.{head_of}
-use Rattle.group_store.specs.Opening.{OpensChain}
-use Rattle.graph_ops.specs.declared.edge_end.EdgeEnd.{EdgeEnd}
+use Rattle.group_store.specs.Opening.{OpensChain, moved_writes}
+use Rattle.group_store.specs.declared.side.Side.TheVariants as sides
 use Rattle.graph_ops.specs.ChangeFault.{IsOutside}
+use Rattle.graph_ops.specs.Damage.{IfBlames}
+use Rattle.graph_ops.specs.EdgeAdding.{HasEndDegree, IsOpenDamage, IsUsedEnd}
+use Rattle.graph_ops.specs.EdgeEnds.{AreApart, AtEach, source_of, target_of}
 use Rattle.graph_ops.specs.EdgeJoining.{edge_row}
 use Rattle.graph_ops.specs.EdgeOpening.{CanLink, OpensEnds, WritesEndsOpened, ends_moved}
-use Rattle.graph_ops.proofs.EdgeOpening.{both_opened, end_of, loop_opened, source_can, source_room, target_can, target_room}
-use Rattle.graph_ops.proofs.Exits.{fault_exit}
-use Rattle.graph_ops.proofs.OpenWrites.{both_wrote, loop_moved, loop_wrote, pair_moved}
+use Rattle.graph_ops.specs.declared.edge_end.EdgeEnd.{EdgeEnd}
+use Rattle.graph_ops.specs.declared.edge_end.EndDegree.{EndDegree}
+use Rattle.graph_ops.specs.declared.edge_end.Ends.{Ends}
+use Rattle.graph_ops.specs.declared.edge_end.Ends.TheVariants.{Loop, Two}
 use Rattle.store_rules.proofs.WriteLaws.{beside_written, more_written, then_written}
-use Rattle.graph_ops.proofs.DiskCauses.{change_cause_passed}
-use Rattle.rec_bytes.specs.declared.shape.Shape.{Shape}
-use Rattle.graph_ops.specs.Damage.{IfBlames}
-use Rattle.graph_ops.specs.EdgeAdding.{IsOpenDamage}
 use Rattle.graph_ops.proofs.Broken.{blames_more}
+use Rattle.graph_ops.proofs.DiskCauses.{change_cause_passed}
+use Rattle.graph_ops.proofs.EdgeOpening.{both_opened, can_link, end_of, in_side, joint_of, loop_opened, loop_side, out_side, source_can, source_room, target_can, target_room}
+use Rattle.graph_ops.proofs.Exits.{fault_exit}
 use Rattle.graph_ops.proofs.JoinBlames.{first_blamed, other_blamed, used_beside}
+use Rattle.graph_ops.proofs.OpenWrites.{both_wrote}
 use Rattle.graph_ops.proofs.edge_opening.open_ends.Goals as goal
-use Rattle.graph_ops.proofs.edge_opening.open_ends.Goals.{In_ok-source}
+use Rattle.graph_ops.proofs.edge_opening.open_ends.Goals.{In_ok-first-in-Two}
 use Rattle.graph_ops.proofs.edge_opening.open_ends.Given.{Over}
 
-pub returns-in_err-source-clause-sound : goal.returns-in_err-source-clause-sound
-returns-in_err-source-clause-sound g c tells names can room =
-    let s = g.S.Reads.state c.args.space.now in
-    fault_exit (λ f. f) IsOutside c.in_err-source.field-0.0 c.from_residual.result c.from_residual.ensures.1
-    (c.in_err-source.ensures.sound tells _ [] (source_can s names c.args.threshold c.args.label c.args.from c.args.from_degree c.args.to c.args.to_degree can c.at.result c.at.ensures 0)
-    (source_room s names c.args.threshold c.args.label c.args.from c.args.from_degree c.args.to c.args.to_degree can room))
-
--- the source's head is open
-first : (g : Over) (c : In_ok-source g) → g.S.Reads.tells → (names : List (List ℕ)) → CanLink (g.S.Reads.state c.args.space.now) names c.args.threshold c.args.label c.args.from c.args.from_degree c.args.to c.args.to_degree → (id : ℕ)
-    → OpensChain (g.S.Reads.state c.args.space.now) (g.S.Reads.state c.open_end.new.space) (head_of c.in_ok-source.source.head) c.args.from (edge_row id c.args.label c.args.from c.args.to) []
-first g c tells names can id =
-    let s = g.S.Reads.state c.args.space.now in
-    c.in_ok-source.ensures.opened tells _ [] (source_can s names c.args.threshold c.args.label c.args.from c.args.from_degree c.args.to c.args.to_degree can c.at.result c.at.ensures id)
-
 -- ---- a loop
-pub returns-then-from-to-clause-opened : goal.returns-then-from-to-clause-opened
-returns-then-from-to-clause-opened g c tells names can =
+pub returns-in_err-only-in-Loop-clause-sound : goal.returns-in_err-only-in-Loop-clause-sound
+returns-in_err-only-in-Loop-clause-sound g c tells names can room =
+    let s = g.S.Reads.state c.args.space.now in
+    let joint = joint_of c.args.joint (Loop c.in-Loop.end) in
+    let here = can_link s names c.args.joint (Loop c.in-Loop.end) c.in-Loop.is can in
+    fault_exit (λ f. f) IsOutside c.in_err-only-in-Loop.field-0.0 c.from_residual.result c.from_residual.ensures.1
+    (c.in_err-only-in-Loop.ensures.sound tells _ [] (source_can s names joint here sides.Loop (loop_side c.in-Loop.end.node) 0) (source_room s names joint here room))
+
+pub returns-in_ok-only-in-Loop-clause-opened : goal.returns-in_ok-only-in-Loop-clause-opened
+returns-in_ok-only-in-Loop-clause-opened g c tells names can =
     let s = g.S.Reads.state c.args.space.now in
     let t = g.S.Reads.state c.open_end.new.space in
-    subst (λ (e : EdgeEnd). OpensEnds s t names c.args.label (record { source = e; target = e })) (sym c.in_ok-source.ensures.is)
-    (loop_opened s names c.args.threshold c.args.label c.args.from c.args.from_degree c.args.to c.args.to_degree can t c.in_ok-source.source.head (first g (goal.at.returns-then-from-to-clause-opened g c).In_ok-source tells names can) c.if-from-to.true)
+    let end = c.in-Loop.end in
+    let joint = joint_of c.args.joint (Loop end) in
+    let here = can_link s names c.args.joint (Loop end) c.in-Loop.is can in
+    subst (λ (o : EdgeEnd). OpensEnds s t names c.args.joint.label (Loop o)) (sym c.in_ok-only-in-Loop.ensures.is)
+    (loop_opened s names joint here t c.in_ok-only-in-Loop.only.head (λ id. c.in_ok-only-in-Loop.ensures.opened tells _ [] (source_can s names joint here sides.Loop (loop_side end.node) id)) refl)
+
+pub returns-in_err-only-in-Loop-clause-writes : goal.returns-in_err-only-in-Loop-clause-writes
+returns-in_err-only-in-Loop-clause-writes g c =
+    let count : ends_moved c.args.joint.threshold c.args.joint.ends ≡ moved_writes c.args.joint.threshold c.in-Loop.end.degree = ap (ends_moved c.args.joint.threshold) c.in-Loop.is in
+    more_written (omega arith) (beside_written refl c.open_end.ensures.writes)
+
+pub returns-in_ok-only-in-Loop-clause-writes : goal.returns-in_ok-only-in-Loop-clause-writes
+returns-in_ok-only-in-Loop-clause-writes g c =
+    let count : ends_moved c.args.joint.threshold c.args.joint.ends ≡ moved_writes c.args.joint.threshold c.in-Loop.end.degree = ap (ends_moved c.args.joint.threshold) c.in-Loop.is in
+    more_written (omega arith) (beside_written refl c.open_end.ensures.writes)
+
+pub returns-in_err-only-in-Loop-clause-damaged : goal.returns-in_err-only-in-Loop-clause-damaged
+returns-in_err-only-in-Loop-clause-damaged g c tells used degrees limit =
+    let s = g.S.Reads.state c.args.space.now in
+    let t = g.S.Reads.state c.open_end.new.space in
+    let end = c.in-Loop.end in
+    let fault = c.in_err-only-in-Loop.field-0.0 in
+    fault_exit (λ f. f) (IfBlames (IsOpenDamage s t (source_of c.args.joint.ends).node (target_of c.args.joint.ends).node)) fault c.from_residual.result c.from_residual.ensures.1
+    (subst (λ (e : Ends EndDegree). IfBlames (IsOpenDamage s t (source_of e).node (target_of e).node) fault) (sym c.in-Loop.is)
+    (blames_more _ _ (first_blamed s t end.node end.node end.degree c.args.joint.threshold (subst (AtEach (HasEndDegree s.records)) c.in-Loop.is degrees) limit) fault
+    (c.in_err-only-in-Loop.ensures.damaged tells (subst (AtEach (IsUsedEnd s)) c.in-Loop.is used) (omega (arith, limit)))))
 
 -- ---- two nodes
-pub returns-in_err-target-clause-sound : goal.returns-in_err-target-clause-sound
-returns-in_err-target-clause-sound g c tells names can room =
+pub returns-in_err-first-in-Two-clause-sound : goal.returns-in_err-first-in-Two-clause-sound
+returns-in_err-first-in-Two-clause-sound g c tells names can room =
     let s = g.S.Reads.state c.args.space.now in
-    let t = g.S.Reads.state c.open_end.new.space in
-    let head = c.in_ok-source.source.head in
-    let one = first g (goal.at.returns-in_err-target-clause-sound g c).In_ok-source tells names can in
-    fault_exit (λ f. f) IsOutside c.in_err-target.field-0.0 c.from_residual-in_err-target.result c.from_residual-in_err-target.ensures.1
-    (c.in_err-target.ensures.sound tells _ _ (target_can s names c.args.threshold c.args.label c.args.from c.args.from_degree c.args.to c.args.to_degree can t head one c.if-from-to.false c.at-2.result c.at-2.ensures 0)
-    (target_room s names c.args.threshold c.args.label c.args.from c.args.from_degree c.args.to c.args.to_degree can t head one c.if-from-to.false room))
+    let a = c.in-Two.source in
+    let b = c.in-Two.target in
+    let joint = joint_of c.args.joint (Two a b) in
+    let here = can_link s names c.args.joint (Two a b) c.in-Two.is can in
+    let differ : a.node ≢ b.node = subst (AreApart (λ (end : EndDegree). end.node)) c.in-Two.is c.requires.apart in
+    fault_exit (λ f. f) IsOutside c.in_err-first-in-Two.field-0.0 c.from_residual-in_err-first-in-Two.result c.from_residual-in_err-first-in-Two.ensures.1
+    (c.in_err-first-in-Two.ensures.sound tells _ [] (source_can s names joint here sides.Out (out_side a.node b.node differ) 0) (source_room s names joint here room))
 
-pub returns-clause-opened : goal.returns-clause-opened
-returns-clause-opened g c tells names can =
+-- the ends are at two nodes
+differs : (g : Over) (c : In_ok-first-in-Two g) → c.in-Two.source.node ≢ c.in-Two.target.node
+differs g c = subst (AreApart (λ (end : EndDegree). end.node)) c.in-Two.is c.requires.apart
+
+here_can : (g : Over) (c : In_ok-first-in-Two g) (names : List (List ℕ)) → CanLink (g.S.Reads.state c.args.space.now) names c.args.joint → CanLink (g.S.Reads.state c.args.space.now) names (joint_of c.args.joint (Two c.in-Two.source c.in-Two.target))
+here_can g c names can = can_link (g.S.Reads.state c.args.space.now) names c.args.joint (Two c.in-Two.source c.in-Two.target) c.in-Two.is can
+
+-- the source's head is open
+first_open : (g : Over) (c : In_ok-first-in-Two g) → g.S.Reads.tells → (names : List (List ℕ)) → CanLink (g.S.Reads.state c.args.space.now) names c.args.joint → (id : ℕ)
+    → OpensChain (g.S.Reads.state c.args.space.now) (g.S.Reads.state c.open_end-in-Two.new.space) (head_of c.in_ok-first-in-Two.first.head) c.in-Two.source.node (edge_row id c.args.joint.label c.in-Two.source.node c.in-Two.target.node) []
+first_open g c tells names can id =
+    c.in_ok-first-in-Two.ensures.opened tells _ [] (source_can (g.S.Reads.state c.args.space.now) names (joint_of c.args.joint (Two c.in-Two.source c.in-Two.target)) (here_can g c names can) sides.Out (out_side c.in-Two.source.node c.in-Two.target.node (differs g c)) id)
+
+pub returns-in_err-last-in-Two-clause-sound : goal.returns-in_err-last-in-Two-clause-sound
+returns-in_err-last-in-Two-clause-sound g c tells names can room =
+    let at = (goal.at.returns-in_err-last-in-Two-clause-sound g c).In_ok-first-in-Two in
     let s = g.S.Reads.state c.args.space.now in
-    let t = g.S.Reads.state c.open_end.new.space in
-    let u = g.S.Reads.state c.open_end-2.new.space in
-    let head = c.in_ok-source.source.head in
-    let other = c.in_ok-target.target.head in
-    let one = first g (goal.at.returns-clause-opened g c).In_ok-source tells names can in
-    subst (λ (e : EdgeEnd). OpensEnds s u names c.args.label (record { source = e; target = c.in_ok-target.target })) (sym c.in_ok-source.ensures.is)
-    (subst (λ (e : EdgeEnd). OpensEnds s u names c.args.label (record { source = end_of c.args.from head c.args.from_degree; target = e })) (sym c.in_ok-target.ensures.is)
-    (both_opened s names c.args.threshold c.args.label c.args.from c.args.from_degree c.args.to c.args.to_degree can t head one c.if-from-to.false u other
-    (λ id. c.in_ok-target.ensures.opened tells _ _ (target_can s names c.args.threshold c.args.label c.args.from c.args.from_degree c.args.to c.args.to_degree can t head one c.if-from-to.false c.at-2.result c.at-2.ensures id))))
+    let t = g.S.Reads.state c.open_end-in-Two.new.space in
+    let joint = joint_of c.args.joint (Two c.in-Two.source c.in-Two.target) in
+    let here = here_can g at names can in
+    let head = c.in_ok-first-in-Two.first.head in
+    let one = first_open g at tells names can in
+    let differ = differs g at in
+    fault_exit (λ f. f) IsOutside c.in_err-last-in-Two.field-0.0 c.from_residual-in_err-last-in-Two.result c.from_residual-in_err-last-in-Two.ensures.1
+    (c.in_err-last-in-Two.ensures.sound tells _ _ (target_can s names joint here t head one differ sides.In (in_side c.in-Two.source.node c.in-Two.target.node differ) 0) (target_room s names joint here t head one differ room))
+
+pub returns-in_ok-last-in-Two-clause-opened : goal.returns-in_ok-last-in-Two-clause-opened
+returns-in_ok-last-in-Two-clause-opened g c tells names can =
+    let at = (goal.at.returns-in_ok-last-in-Two-clause-opened g c).In_ok-first-in-Two in
+    let s = g.S.Reads.state c.args.space.now in
+    let t = g.S.Reads.state c.open_end-in-Two.new.space in
+    let u = g.S.Reads.state c.open_end-in-Two-2.new.space in
+    let joint = joint_of c.args.joint (Two c.in-Two.source c.in-Two.target) in
+    let here = here_can g at names can in
+    let head = c.in_ok-first-in-Two.first.head in
+    let one = first_open g at tells names can in
+    let differ = differs g at in
+    subst (λ (e : EdgeEnd). OpensEnds s u names c.args.joint.label (Two e c.in_ok-last-in-Two.last)) (sym c.in_ok-first-in-Two.ensures.is)
+    (subst (λ (e : EdgeEnd). OpensEnds s u names c.args.joint.label (Two (end_of c.in-Two.source.node head c.in-Two.source.degree) e)) (sym c.in_ok-last-in-Two.ensures.is)
+    (both_opened s names joint here t head one differ u c.in_ok-last-in-Two.last.head
+    (λ id. c.in_ok-last-in-Two.ensures.opened tells _ _ (target_can s names joint here t head one differ sides.In (in_side c.in-Two.source.node c.in-Two.target.node differ) id))))
 
 -- ---- what is written
-pub returns-in_err-source-clause-writes : goal.returns-in_err-source-clause-writes
-returns-in_err-source-clause-writes g c = more_written (omega arith) (beside_written refl c.open_end.ensures.writes)
+pub returns-in_err-first-in-Two-clause-writes : goal.returns-in_err-first-in-Two-clause-writes
+returns-in_err-first-in-Two-clause-writes g c =
+    let threshold = c.args.joint.threshold in
+    let count : ends_moved threshold c.args.joint.ends ≡ moved_writes threshold c.in-Two.source.degree + moved_writes threshold c.in-Two.target.degree = ap (ends_moved threshold) c.in-Two.is in
+    more_written (omega arith) (beside_written refl c.open_end-in-Two.ensures.writes)
 
-pub returns-then-from-to-clause-writes : goal.returns-then-from-to-clause-writes
-returns-then-from-to-clause-writes g c = more_written (omega arith) (beside_written refl c.open_end.ensures.writes)
+pub returns-in_err-last-in-Two-clause-writes : goal.returns-in_err-last-in-Two-clause-writes
+returns-in_err-last-in-Two-clause-writes g c =
+    let threshold = c.args.joint.threshold in
+    let count : ends_moved threshold c.args.joint.ends ≡ moved_writes threshold c.in-Two.source.degree + moved_writes threshold c.in-Two.target.degree = ap (ends_moved threshold) c.in-Two.is in
+    more_written (omega arith) (then_written (beside_written refl c.open_end-in-Two.ensures.writes) (beside_written refl c.open_end-in-Two-2.ensures.writes))
 
-pub returns-in_err-target-clause-writes : goal.returns-in_err-target-clause-writes
-returns-in_err-target-clause-writes g c =
-    let count = pair_moved c.args.threshold c.args.from c.args.from_degree c.args.to c.args.to_degree c.if-from-to.false in
-    more_written (omega arith) (then_written (beside_written refl c.open_end.ensures.writes) (beside_written refl c.open_end-2.ensures.writes))
+pub returns-in_ok-last-in-Two-clause-writes : goal.returns-in_ok-last-in-Two-clause-writes
+returns-in_ok-last-in-Two-clause-writes g c =
+    let threshold = c.args.joint.threshold in
+    let count : ends_moved threshold c.args.joint.ends ≡ moved_writes threshold c.in-Two.source.degree + moved_writes threshold c.in-Two.target.degree = ap (ends_moved threshold) c.in-Two.is in
+    more_written (omega arith) (then_written (beside_written refl c.open_end-in-Two.ensures.writes) (beside_written refl c.open_end-in-Two-2.ensures.writes))
 
-pub returns-clause-writes : goal.returns-clause-writes
-returns-clause-writes g c =
-    let count = pair_moved c.args.threshold c.args.from c.args.from_degree c.args.to c.args.to_degree c.if-from-to.false in
-    more_written (omega arith) (then_written (beside_written refl c.open_end.ensures.writes) (beside_written refl c.open_end-2.ensures.writes))
-
-pub returns-then-from-to-clause-wrote : goal.returns-then-from-to-clause-wrote
-returns-then-from-to-clause-wrote g c =
+pub returns-in_ok-last-in-Two-clause-wrote : goal.returns-in_ok-last-in-Two-clause-wrote
+returns-in_ok-last-in-Two-clause-wrote g c =
     let s = g.S.Reads.state c.args.space.now in
-    let t = g.S.Reads.state c.open_end.new.space in
-    let count = loop_moved c.args.threshold c.args.from c.args.from_degree c.args.to c.args.to_degree c.if-from-to.true in
-    subst (λ (e : EdgeEnd). WritesEndsOpened s t (record { source = e; target = e }) (2 + ends_moved c.args.threshold c.args.from c.args.from_degree c.args.to c.args.to_degree)) (sym c.in_ok-source.ensures.is)
-    (loop_wrote s t (end_of c.args.from c.in_ok-source.source.head c.args.from_degree) (omega arith) c.in_ok-source.ensures.wrote)
+    let t = g.S.Reads.state c.open_end-in-Two.new.space in
+    let u = g.S.Reads.state c.open_end-in-Two-2.new.space in
+    let a = c.in-Two.source in
+    let b = c.in-Two.target in
+    let threshold = c.args.joint.threshold in
+    let most = 2 + ends_moved threshold c.args.joint.ends in
+    let count : ends_moved threshold c.args.joint.ends ≡ moved_writes threshold a.degree + moved_writes threshold b.degree = ap (ends_moved threshold) c.in-Two.is in
+    subst (λ (e : EdgeEnd). WritesEndsOpened s u (Two e c.in_ok-last-in-Two.last) most) (sym c.in_ok-first-in-Two.ensures.is)
+    (subst (λ (e : EdgeEnd). WritesEndsOpened s u (Two (end_of a.node c.in_ok-first-in-Two.first.head a.degree) e) most) (sym c.in_ok-last-in-Two.ensures.is)
+    (both_wrote s t u (end_of a.node c.in_ok-first-in-Two.first.head a.degree) (end_of b.node c.in_ok-last-in-Two.last.head b.degree) (omega arith) c.in_ok-first-in-Two.ensures.wrote c.in_ok-last-in-Two.ensures.wrote))
 
-pub returns-clause-wrote : goal.returns-clause-wrote
-returns-clause-wrote g c =
+pub returns-in_err-last-in-Two-clause-cause : goal.returns-in_err-last-in-Two-clause-cause
+returns-in_err-last-in-Two-clause-cause g c =
+    change_cause_passed _ _ _ c.from_residual-in_err-last-in-Two.result c.in_err-last-in-Two.field-0.0 c.in_ok-first-in-Two.ensures.cause.later c.in_err-last-in-Two.ensures.cause c.from_residual-in_err-last-in-Two.ensures.1
+
+-- ---- which record is blamed
+pub returns-in_err-first-in-Two-clause-damaged : goal.returns-in_err-first-in-Two-clause-damaged
+returns-in_err-first-in-Two-clause-damaged g c tells used degrees limit =
     let s = g.S.Reads.state c.args.space.now in
-    let t = g.S.Reads.state c.open_end.new.space in
-    let u = g.S.Reads.state c.open_end-2.new.space in
-    let most = 2 + ends_moved c.args.threshold c.args.from c.args.from_degree c.args.to c.args.to_degree in
-    let count = pair_moved c.args.threshold c.args.from c.args.from_degree c.args.to c.args.to_degree c.if-from-to.false in
-    subst (λ (e : EdgeEnd). WritesEndsOpened s u (record { source = e; target = c.in_ok-target.target }) most) (sym c.in_ok-source.ensures.is)
-    (subst (λ (e : EdgeEnd). WritesEndsOpened s u (record { source = end_of c.args.from c.in_ok-source.source.head c.args.from_degree; target = e }) most) (sym c.in_ok-target.ensures.is)
-    (both_wrote s t u (end_of c.args.from c.in_ok-source.source.head c.args.from_degree) (end_of c.args.to c.in_ok-target.target.head c.args.to_degree) (omega arith) c.in_ok-source.ensures.wrote c.in_ok-target.ensures.wrote))
+    let t = g.S.Reads.state c.open_end-in-Two.new.space in
+    let a = c.in-Two.source in
+    let fault = c.in_err-first-in-Two.field-0.0 in
+    let has = subst (AtEach (HasEndDegree s.records)) c.in-Two.is degrees in
+    let are = subst (AtEach (IsUsedEnd s)) c.in-Two.is used in
+    fault_exit (λ f. f) (IfBlames (IsOpenDamage s t (source_of c.args.joint.ends).node (target_of c.args.joint.ends).node)) fault c.from_residual-in_err-first-in-Two.result c.from_residual-in_err-first-in-Two.ensures.1
+    (subst (λ (e : Ends EndDegree). IfBlames (IsOpenDamage s t (source_of e).node (target_of e).node) fault) (sym c.in-Two.is)
+    (blames_more _ _ (first_blamed s t a.node c.in-Two.target.node a.degree c.args.joint.threshold has.0 limit) fault (c.in_err-first-in-Two.ensures.damaged tells are.0 (omega (arith, limit)))))
 
-pub returns-in_err-target-clause-cause : goal.returns-in_err-target-clause-cause
-returns-in_err-target-clause-cause g c =
-    change_cause_passed _ _ _ c.from_residual-in_err-target.result c.in_err-target.field-0.0 c.in_ok-source.ensures.cause.later c.in_err-target.ensures.cause c.from_residual-in_err-target.ensures.1
-
--- ---- which record is blamed, and where the heads are
-pub returns-in_err-source-clause-damaged : goal.returns-in_err-source-clause-damaged
-returns-in_err-source-clause-damaged g c tells from to leaves enters limit =
+pub returns-in_err-last-in-Two-clause-damaged : goal.returns-in_err-last-in-Two-clause-damaged
+returns-in_err-last-in-Two-clause-damaged g c tells used degrees limit =
     let s = g.S.Reads.state c.args.space.now in
-    let t = g.S.Reads.state c.open_end.new.space in
-    fault_exit (λ f. f) (IfBlames (IsOpenDamage s t c.args.from c.args.to)) c.in_err-source.field-0.0 c.from_residual.result c.from_residual.ensures.1
-    (blames_more _ _ (first_blamed s t c.args.from c.args.to c.args.from_degree c.args.threshold leaves limit) c.in_err-source.field-0.0 (c.in_err-source.ensures.damaged tells from (omega (arith, limit))))
-
-pub returns-in_err-target-clause-damaged : goal.returns-in_err-target-clause-damaged
-returns-in_err-target-clause-damaged g c tells from to leaves enters limit =
-    let s = g.S.Reads.state c.args.space.now in
-    let m = g.S.Reads.state c.open_end.new.space in
-    let t = g.S.Reads.state c.open_end-2.new.space in
-    let now = subst (λ (h : Shape). h.threshold ≤ c.args.threshold) (sym (g.met.S.Reads.onward_shape _ _ c.open_end.ensures.onward)) (omega (arith, limit)) in
-    let beside = c.in_ok-source.ensures.beside tells in
-    let apart = λ (e : c.args.to ≡ c.args.from). c.if-from-to.false (sym e) in
-    fault_exit (λ f. f) (IfBlames (IsOpenDamage s t c.args.from c.args.to)) c.in_err-target.field-0.0 c.from_residual-in_err-target.result c.from_residual-in_err-target.ensures.1
-    (blames_more _ _ (other_blamed s m t c.args.from c.args.to c.args.to_degree c.args.threshold beside apart enters limit) c.in_err-target.field-0.0
-    (c.in_err-target.ensures.damaged tells (used_beside s m c.args.from c.args.to beside apart to) now))
-
-pub returns-then-from-to-clause-at : goal.returns-then-from-to-clause-at
-returns-then-from-to-clause-at g c = (c.in_ok-source.ensures.at, c.in_ok-source.ensures.at)
-
-pub returns-clause-at : goal.returns-clause-at
-returns-clause-at g c = (c.in_ok-source.ensures.at, c.in_ok-target.ensures.at)
+    let m = g.S.Reads.state c.open_end-in-Two.new.space in
+    let t = g.S.Reads.state c.open_end-in-Two-2.new.space in
+    let a = c.in-Two.source in
+    let b = c.in-Two.target in
+    let fault = c.in_err-last-in-Two.field-0.0 in
+    let has = subst (AtEach (HasEndDegree s.records)) c.in-Two.is degrees in
+    let are = subst (AtEach (IsUsedEnd s)) c.in-Two.is used in
+    let now = subst (λ (h : Shape). h.threshold ≤ c.args.joint.threshold) (sym (g.met.S.Reads.onward_shape _ _ c.open_end-in-Two.ensures.onward)) (omega (arith, limit)) in
+    let beside = c.in_ok-first-in-Two.ensures.beside tells in
+    let differ = differs g (goal.at.returns-in_err-last-in-Two-clause-damaged g c).In_ok-first-in-Two in
+    let apart = λ (e : b.node ≡ a.node). differ (sym e) in
+    fault_exit (λ f. f) (IfBlames (IsOpenDamage s t (source_of c.args.joint.ends).node (target_of c.args.joint.ends).node)) fault c.from_residual-in_err-last-in-Two.result c.from_residual-in_err-last-in-Two.ensures.1
+    (subst (λ (e : Ends EndDegree). IfBlames (IsOpenDamage s t (source_of e).node (target_of e).node) fault) (sym c.in-Two.is)
+    (blames_more _ _ (other_blamed s m t a.node b.node b.degree c.args.joint.threshold beside apart has.1 limit) fault
+    (c.in_err-last-in-Two.ensures.damaged tells (used_beside s m a.node b.node beside apart are.1) now)))

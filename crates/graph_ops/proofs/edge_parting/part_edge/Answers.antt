@@ -1,11 +1,12 @@
 use Rattle.std.proofs.Common.{◌∙◌}
 use Rattle.graph_ops.specs.ChangeFault.{IsOutside, of_space}
-use Rattle.graph_ops.proofs.EdgeTaken.{parts_edge, right_from_next, right_from_prev, right_to_next, right_to_prev}
+use Rattle.graph_ops.proofs.EdgeTaken.{links_right, parts_edge}
 use Rattle.graph_ops.proofs.EndWrites.{ends_given}
 use Rattle.graph_ops.proofs.Exits.{fault_exit, space_outside}
 use Rattle.graph_ops.proofs.DiskCauses.{space_cause_passed}
 use Rattle.graph_ops.specs.Damage.{IfBlames}
 use Rattle.graph_ops.specs.EdgeDeleting.{IsEndLink}
+use Rattle.graph_ops.specs.EdgeEnds.{source_of, target_of}
 use Rattle.group_store.proofs.KeptHeads.{heads_then}
 use Rattle.graph_ops.proofs.Adding.{space_blamed}
 use Rattle.graph_ops.proofs.EdgeBlames.{heads_given}
@@ -15,11 +16,7 @@ pub returns-in_err-part_ends-clause-sound : goal.returns-in_err-part_ends-clause
 returns-in_err-part_ends-clause-sound g c tells names store bare =
     let s = g.S.Reads.state c.args.space.now in
     fault_exit (λ f. f) IsOutside c.in_err-part_ends.field-0.0 c.from_residual.result c.from_residual.ensures.1
-    (c.in_err-part_ends.ensures.sound tells
-    (right_from_prev s names c.args.id c.args.source c.args.target store bare)
-    (right_from_next s names c.args.id c.args.source c.args.target store bare)
-    (λ _. right_to_prev s names c.args.id c.args.source c.args.target store bare)
-    (λ _. right_to_next s names c.args.id c.args.source c.args.target store bare))
+    (c.in_err-part_ends.ensures.sound tells (links_right s names c.args.id c.args.ends store bare))
 
 pub returns-in_err-give-clause-sound : goal.returns-in_err-give-clause-sound
 returns-in_err-give-clause-sound g c tells names store bare =
@@ -27,14 +24,14 @@ returns-in_err-give-clause-sound g c tells names store bare =
 
 pub returns-clause-parted : goal.returns-clause-parted
 returns-clause-parted g c tells names store bare =
-    parts_edge (g.S.Reads.state c.args.space.now) names c.args.id c.args.source c.args.target store bare
-    (g.S.Reads.state c.part_ends.new.space) (g.S.Reads.state c.give.new.space) (c.in_ok-part_ends.ensures.ok tells) ((g.met.S.Reads.onward_shape _ _ c.give.ensures.onward) ∙ (g.met.S.Reads.onward_shape _ _ c.part_ends.ensures.onward)) (c.in_ok-give.ensures.given tells)
+    parts_edge (g.S.Reads.state c.args.space.now) names c.args.id c.args.ends store bare
+    (g.S.Reads.state c.part_ends.new.space) (g.S.Reads.state c.give.new.space) c.requires.ends.apart (c.in_ok-part_ends.ensures.ok tells) ((g.met.S.Reads.onward_shape _ _ c.give.ensures.onward) ∙ (g.met.S.Reads.onward_shape _ _ c.part_ends.ensures.onward)) (c.in_ok-give.ensures.given tells)
 
 pub returns-clause-writes : goal.returns-clause-writes
-returns-clause-writes g c = ends_given _ _ _ c.args.source c.args.target _ c.part_ends.ensures.writes c.give.ensures.writes
+returns-clause-writes g c = ends_given _ _ _ c.args.ends _ c.part_ends.ensures.writes c.give.ensures.writes
 
 pub returns-in_err-give-clause-writes : goal.returns-in_err-give-clause-writes
-returns-in_err-give-clause-writes g c = ends_given _ _ _ c.args.source c.args.target _ c.part_ends.ensures.writes c.give.ensures.writes
+returns-in_err-give-clause-writes g c = ends_given _ _ _ c.args.ends _ c.part_ends.ensures.writes c.give.ensures.writes
 
 pub returns-in_err-give-clause-cause : goal.returns-in_err-give-clause-cause
 returns-in_err-give-clause-cause g c =
@@ -43,15 +40,15 @@ returns-in_err-give-clause-cause g c =
 -- ---- which record is blamed, and heads that stay
 pub returns-in_err-part_ends-clause-damaged : goal.returns-in_err-part_ends-clause-damaged
 returns-in_err-part_ends-clause-damaged g c tells ends source =
-    fault_exit (λ f. f) (IfBlames (IsEndLink (g.S.Reads.state c.args.space.now) c.args.id c.args.source.node c.args.target.node)) c.in_err-part_ends.field-0.0 c.from_residual.result c.from_residual.ensures.1 (c.in_err-part_ends.ensures.damaged tells ends source)
+    fault_exit (λ f. f) (IfBlames (IsEndLink (g.S.Reads.state c.args.space.now) c.args.id (source_of c.args.ends).node (target_of c.args.ends).node)) c.in_err-part_ends.field-0.0 c.from_residual.result c.from_residual.ensures.1 (c.in_err-part_ends.ensures.damaged tells ends source)
 
 pub returns-in_err-give-clause-damaged : goal.returns-in_err-give-clause-damaged
 returns-in_err-give-clause-damaged g c tells ends source =
-    fault_exit of_space (IfBlames (IsEndLink (g.S.Reads.state c.args.space.now) c.args.id c.args.source.node c.args.target.node)) c.in_err-give.field-0.0 c.from_residual-in_err-give.result c.from_residual-in_err-give.ensures.1 (space_blamed _ c.in_err-give.field-0.0)
+    fault_exit of_space (IfBlames (IsEndLink (g.S.Reads.state c.args.space.now) c.args.id (source_of c.args.ends).node (target_of c.args.ends).node)) c.in_err-give.field-0.0 c.from_residual-in_err-give.result c.from_residual-in_err-give.ensures.1 (space_blamed _ c.in_err-give.field-0.0)
 
 pub returns-clause-heads : goal.returns-clause-heads
-returns-clause-heads g c tells source target =
+returns-clause-heads g c tells heads =
     let s = g.S.Reads.state c.args.space.now in
     let u = g.S.Reads.state c.part_ends.new.space in
     let t = g.S.Reads.state c.give.new.space in
-    heads_then s u t (c.in_ok-part_ends.ensures.heads tells source target) (heads_given u t c.args.id (c.give.ensures.stays tells))
+    heads_then s u t (c.in_ok-part_ends.ensures.heads tells heads) (heads_given u t c.args.id (c.give.ensures.stays tells))

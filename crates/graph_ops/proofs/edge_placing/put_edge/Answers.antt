@@ -6,9 +6,9 @@ use Rattle.rel_store.specs.RelRecord.{rel_key}
 use Rattle.store_rules.specs.Writes.{WritesBeside}
 use Rattle.group_store.proofs.OwnGroups.{if_ok}
 use Rattle.graph_ops.specs.ChangeFault.{IsOutside}
-use Rattle.graph_ops.specs.EdgeOpening.{ends_moved}
+use Rattle.graph_ops.specs.EdgeEnds.{AtEach, source_of}
+use Rattle.graph_ops.specs.EdgeOpening.{ends_moved, from_of, to_of}
 use Rattle.graph_ops.specs.EdgePlacing.{PutsEdge}
-use Rattle.graph_ops.specs.NodeDeleting.{HasDegree}
 use Rattle.graph_ops.specs.Store.{IsStore}
 use Rattle.graph_ops.proofs.EdgeOpened.{puts_through}
 use Rattle.graph_ops.proofs.ElementRooms.{room_still}
@@ -18,16 +18,16 @@ use Rattle.graph_ops.proofs.OpenWrites.{err_more, put_beside, put_failed}
 use Rattle.store_rules.proofs.WriteLaws.{beside_more, more_written}
 use Rattle.graph_ops.proofs.Writes.{on_any_err}
 use Rattle.graph_ops.specs.Damage.{IfBlames}
-use Rattle.graph_ops.specs.EdgeAdding.{IsJoinDamage, IsLinkingDamage}
+use Rattle.graph_ops.specs.EdgeAdding.{HasEndDegree, IsJoinDamage, IsLinkingDamage}
 use Rattle.graph_ops.proofs.Broken.{blames_more}
 use Rattle.graph_ops.proofs.EdgeBlames.{if_blames}
 use Rattle.graph_ops.proofs.edge_placing.put_edge.Goals as goal
 
 pub returns-in_err-ends-clause-sound : goal.returns-in_err-ends-clause-sound
-returns-in_err-ends-clause-sound g c tells limit names text store at leaves enters room =
+returns-in_err-ends-clause-sound g c tells limit names text store at degrees room =
     let s = g.S.Reads.state c.args.space.now in
     fault_exit (λ f. f) IsOutside c.in_err-ends.field-0.0 c.from_residual.result c.from_residual.ensures.1
-    (c.in_err-ends.ensures.sound tells names (record { limit = limit; store = store; named = (number_in s.records names c.args.label text store.names at).0; leaves = leaves; enters = enters }) room)
+    (c.in_err-ends.ensures.sound tells names (record { limit = limit; store = store; named = (number_in s.records names c.args.joint.label text store.names at).0; degrees = degrees }) room)
 
 pub returns-clause-put : goal.returns-clause-put
 returns-clause-put g c tells limit =
@@ -36,19 +36,19 @@ returns-clause-put g c tells limit =
     let u = g.S.Reads.state c.join_edge.new.space in
     let nodes = c.in_ok-ends.ensures.nodes in
     if_ok c.join_edge.result _
-    (λ id. (names : List (List ℕ)) (text : List ℕ) → IsStore s names → slice_get names c.args.label ≡ Some text → HasDegree s.records c.args.from c.args.from_degree → HasDegree s.records c.args.to c.args.to_degree
-    → PutsEdge s u names c.args.from text c.args.to id)
-    (λ id joined names text store at leaves enters.
-    let opens = c.in_ok-ends.ensures.opened tells names (record { limit = limit; store = store; named = (number_in s.records names c.args.label text store.names at).0; leaves = leaves; enters = enters }) in
-    puts_through s t u names c.args.from text c.args.to id opens.keeps
-    (subst (λ n. PutsEdge t u names n text c.args.to id) nodes.0 (subst (λ n. PutsEdge t u names c.in_ok-ends.ends.source.node text n id) nodes.1 (joined names text opens.can at))))
+    (λ id. (names : List (List ℕ)) (text : List ℕ) → IsStore s names → slice_get names c.args.joint.label ≡ Some text → AtEach (HasEndDegree s.records) c.args.joint.ends
+    → PutsEdge s u names (from_of c.args.joint) text (to_of c.args.joint) id)
+    (λ id joined names text store at degrees.
+    let opens = c.in_ok-ends.ensures.opened tells names (record { limit = limit; store = store; named = (number_in s.records names c.args.joint.label text store.names at).0; degrees = degrees }) in
+    puts_through s t u names (from_of c.args.joint) text (to_of c.args.joint) id opens.keeps
+    (subst (λ n. PutsEdge t u names n text (to_of c.args.joint) id) nodes.0 (subst (λ n. PutsEdge t u names (source_of c.in_ok-ends.ends).node text n id) nodes.1 (joined names text opens.can at))))
     (c.join_edge.ensures.joined tells)
 
 pub returns-clause-sound : goal.returns-clause-sound
-returns-clause-sound g c tells limit names text store at leaves enters room =
+returns-clause-sound g c tells limit names text store at degrees room =
     let s = g.S.Reads.state c.args.space.now in
     let t = g.S.Reads.state c.open_ends.new.space in
-    let opens = c.in_ok-ends.ensures.opened tells names (record { limit = limit; store = store; named = (number_in s.records names c.args.label text store.names at).0; leaves = leaves; enters = enters }) in
+    let opens = c.in_ok-ends.ensures.opened tells names (record { limit = limit; store = store; named = (number_in s.records names c.args.joint.label text store.names at).0; degrees = degrees }) in
     c.join_edge.ensures.sound tells names text opens.can at
     (room_still s t format.relationships_file 1 (ap (λ (m : Meta). m.live) (opens.keeps.metas format.relationships_file (λ e. omega arith))) opens.keeps.shape room)
 
@@ -57,10 +57,10 @@ returns-clause-writes g c =
     let s = g.S.Reads.state c.args.space.now in
     let t = g.S.Reads.state c.open_ends.new.space in
     let u = g.S.Reads.state c.join_edge.new.space in
-    let most = ends_moved c.args.threshold c.args.from c.args.from_degree c.args.to c.args.to_degree in
+    let most = ends_moved c.args.joint.threshold c.args.joint.ends in
     let ends = c.in_ok-ends.ensures.ends in
     if_ok c.join_edge.result _ (λ id. WritesBeside (rel_key id) (8 + most) s u)
-    (λ id joins. beside_more (omega arith) (put_beside s t u id c.in_ok-ends.ends (2 + most) ends.0 ends.1 c.in_ok-ends.ensures.wrote joins)) c.join_edge.ensures.writes
+    (λ id joins. beside_more (omega arith) (put_beside s t u id c.in_ok-ends.ends (2 + most) ends.each c.in_ok-ends.ensures.wrote joins)) c.join_edge.ensures.writes
 
 pub returns-in_err-ends-clause-err_writes : goal.returns-in_err-ends-clause-err_writes
 returns-in_err-ends-clause-err_writes g c = on_any_err _ _ (more_written (omega arith) c.open_ends.ensures.writes)
@@ -70,23 +70,23 @@ returns-clause-err_writes g c =
     let s = g.S.Reads.state c.args.space.now in
     let u = g.S.Reads.state c.join_edge.new.space in
     let ends = c.in_ok-ends.ensures.ends in
-    let most = ends_moved c.args.threshold c.args.from c.args.from_degree c.args.to c.args.to_degree in
+    let most = ends_moved c.args.joint.threshold c.args.joint.ends in
     err_more ((6 + most) + 7) (13 + most) s u (omega arith) c.join_edge.result
-    (put_failed s (g.S.Reads.state c.open_ends.new.space) u c.in_ok-ends.ends ends.0 ends.1 c.in_ok-ends.ensures.writes c.join_edge.result c.join_edge.ensures.err_writes)
+    (put_failed s (g.S.Reads.state c.open_ends.new.space) u c.in_ok-ends.ends ends.each c.in_ok-ends.ensures.writes c.join_edge.result c.join_edge.ensures.err_writes)
 
 -- ---- which record is blamed
 pub returns-in_err-ends-clause-damaged : goal.returns-in_err-ends-clause-damaged
-returns-in_err-ends-clause-damaged g c tells from to leaves enters limit =
+returns-in_err-ends-clause-damaged g c tells used degrees limit =
     let s = g.S.Reads.state c.args.space.now in
-    fault_exit (λ f. f) (IfBlames (IsLinkingDamage s (g.S.Reads.state c.open_ends.new.space) c.args.from c.args.to)) c.in_err-ends.field-0.0 c.from_residual.result c.from_residual.ensures.1
-    (blames_more _ _ (λ damage told. inl told) c.in_err-ends.field-0.0 (c.in_err-ends.ensures.damaged tells from to leaves enters limit))
+    fault_exit (λ f. f) (IfBlames (IsLinkingDamage s (g.S.Reads.state c.open_ends.new.space) (from_of c.args.joint) (to_of c.args.joint))) c.in_err-ends.field-0.0 c.from_residual.result c.from_residual.ensures.1
+    (blames_more _ _ (λ damage told. inl told) c.in_err-ends.field-0.0 (c.in_err-ends.ensures.damaged tells used degrees limit))
 
 pub returns-clause-damaged : goal.returns-clause-damaged
-returns-clause-damaged g c tells from to leaves enters limit =
+returns-clause-damaged g c tells used degrees limit =
     let s = g.S.Reads.state c.args.space.now in
     let u = g.S.Reads.state c.join_edge.new.space in
     let nodes = c.in_ok-ends.ensures.nodes in
     let at = c.in_ok-ends.ensures.at in
-    if_blames c.join_edge.result (IsJoinDamage u c.args.from c.args.to) (IsLinkingDamage s u c.args.from c.args.to) (λ damage told. inr told)
-    (subst (λ n. IfErr c.join_edge.result (IfBlames (IsJoinDamage u n c.args.to))) nodes.0
-    (subst (λ n. IfErr c.join_edge.result (IfBlames (IsJoinDamage u c.in_ok-ends.ends.source.node n))) nodes.1 (c.join_edge.ensures.damaged tells at.0 at.1)))
+    if_blames c.join_edge.result (IsJoinDamage u (from_of c.args.joint) (to_of c.args.joint)) (IsLinkingDamage s u (from_of c.args.joint) (to_of c.args.joint)) (λ damage told. inr told)
+    (subst (λ n. IfErr c.join_edge.result (IfBlames (IsJoinDamage u n (to_of c.args.joint)))) nodes.0
+    (subst (λ n. IfErr c.join_edge.result (IfBlames (IsJoinDamage u (source_of c.in_ok-ends.ends).node n))) nodes.1 (c.join_edge.ensures.damaged tells at)))
