@@ -40,7 +40,7 @@ has_degree records n used = record {
 }
 
 -- and keeps it where its kind and its degree are the same
-pub degree_stays : (s : State) (t : Records) (n d : ℕ) → kind_at t format.nodes_file n ≡ kind_at s.records format.nodes_file n → degree t n ≡ degree s.records n → HasDegree s.records n d → HasDegree t n d
+degree_stays : (s : State) (t : Records) (n d : ℕ) → kind_at t format.nodes_file n ≡ kind_at s.records format.nodes_file n → degree t n ≡ degree s.records n → HasDegree s.records n d → HasDegree t n d
 degree_stays s t n d kind same has =
     subst (HasDegree t n) (same ∙ sym (degree_found s n d has)) (has_degree t n (λ free. (used_of s n has.row (sym has.found)).0 (sym kind ∙ free)))
 

@@ -17,7 +17,7 @@ use Rattle.node_store.specs.Loading as nodes
 use Rattle.rel_store.specs.Loading as rels
 use Rattle.graph_ops.specs.Assigning.{HasTooMany, LacksNames}
 use Rattle.graph_ops.specs.Damage.{IfBlames, IsBroken}
-use Rattle.graph_ops.specs.EdgeAdding.{IsEdgeDamage}
+use Rattle.graph_ops.specs.EdgeAdding.{IsLinkingDamage}
 use Rattle.graph_ops.specs.NodeDeleting.{HasDegree}
 use Rattle.graph_ops.specs.Owners.{owner_of}
 use Rattle.graph_ops.specs.Preparing.{NeedForPairs}
@@ -119,7 +119,7 @@ IsCaused command s t names now (Damaged damage) = Unit {0}
 -- that it tells may be gone by then.
 abbrev pub IsStillDamage : Command → State → Damage → Type 0
 IsStillDamage (commands.Node label pairs) t damage = IsBroken t damage
-IsStillDamage (commands.Edge from label to pairs) t damage = IsEdgeDamage t from to damage
+IsStillDamage (commands.Edge from label to pairs) t damage = IsLinkingDamage t from to damage
 IsStillDamage (commands.Set target key value) t damage = IsBroken t damage
 IsStillDamage _ t damage = Unit {0}
 

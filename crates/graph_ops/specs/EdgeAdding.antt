@@ -6,12 +6,11 @@ use Rattle.rec_bytes.specs.Format as format
 use Rattle.rec_bytes.specs.Key.{IsKey}
 use Rattle.rec_bytes.specs.Space.{State, meta_of}
 use Rattle.id_freelist.specs.Taking.{room}
-use Rattle.store_rules.specs.Views.{Records, degree, key_in}
+use Rattle.store_rules.specs.Views.{Records, key_in}
 use Rattle.chain_edit.specs.Heads.{head_of}
 use Rattle.chain_edit.specs.Pushing.{IsPushFault}
 use Rattle.group_store.specs.Densing.{IsLateDamage, IsSparse}
 use Rattle.group_store.specs.GroupChain.{IsDense}
-use Rattle.group_store.specs.Spreading.{rels_damage}
 use Rattle.graph_ops.specs.Damage.{IfBlames, IsBroken}
 use Rattle.graph_ops.specs.EdgeEnds.{AreApart, source_of, target_of}
 use Rattle.graph_ops.specs.NodeDeleting.{HasDegree}
@@ -73,26 +72,6 @@ IsUsedNode s node = IsDense s.records node ⊎ IsSparse s.records node
 abbrev pub IsUsedEnd : State → EndDegree → Type 0
 IsUsedEnd s end = IsUsedNode s end.node
 
--- What is told where no head is found or made for an end. It is so in the space as it is then. Or
--- the relationships of the end aren't those that were read: only of a sparse one is that told which
--- has as many as a sparse node may have.
-abbrev pub IsHeadDamage : State → State → ℕ → ℕ → ℕ → Damage → Type 0
-IsHeadDamage s t node degree_is threshold damage =
-    IsLateDamage t damage
-    ⊎ ((damage ≡ rels_damage node) × IsSparse s.records node × (degree_is ≡ threshold))
-
--- the node is sparse, and has as many relationships as a sparse node may have
-pub record IsFullNode (s : State) (node : ℕ) : Type 0 where
-  pub sparse : IsSparse s.records node
-  pub full : degree s.records node ≡ s.shape.threshold
-
--- A record that is blamed where the heads of both ends are looked for: it is so in the space as it
--- is left. Or it is an end that was full, whose relationships aren't those that were read.
-pub data IsOpenDamage (s t : State) (from to : ℕ) : Damage → Type 0 where
-  NoHead : (damage : Damage) → IsLateDamage t damage → IsOpenDamage s t from to damage
-  OtherRels : (node : ℕ) → (node ≡ from) ⊎ (node ≡ to) → IsFullNode s node
-      → IsOpenDamage s t from to (rels_damage node)
-
 -- A record that is blamed where an edge joins the chains of two nodes has the head of an end, which
 -- leads nowhere. Or the file of relationships is damaged or full.
 pub data IsJoinDamage (s : State) (from to : ℕ) : Damage → Type 0 where
@@ -103,18 +82,10 @@ pub data IsJoinDamage (s : State) (from to : ℕ) : Damage → Type 0 where
   FullFile : (meta_of s format.relationships_file).live ≡ room s format.relationships_file
       → IsJoinDamage s from to full_edges
 
--- the one or the other
-abbrev pub IsLinkingDamage : State → State → ℕ → ℕ → Damage → Type 0
-IsLinkingDamage s t from to damage =
-    IsOpenDamage s t from to damage ⊎ IsJoinDamage t from to damage
+-- A record that is blamed where an edge is added: no head of an end is found or made, or the edge
+-- doesn't join the chains. It is so in the space as it is left.
+abbrev pub IsLinkingDamage : State → ℕ → ℕ → Damage → Type 0
+IsLinkingDamage t from to damage = IsLateDamage t damage ⊎ IsJoinDamage t from to damage
 
--- A record that is blamed where an edge is added is so in the space as it is left. Or it is an end
--- that was full.
-abbrev pub BlamesLinking : State → State → ℕ → ℕ → ChangeFault → Type 0
-BlamesLinking s t from to fault = IfBlames (IsLinkingDamage s t from to) fault
-
--- so it is by the space as it is left alone
-abbrev pub IsEdgeDamage : State → ℕ → ℕ → Damage → Type 0
-IsEdgeDamage t from to damage = IsLateDamage t damage
-    ⊎ (((node : ℕ) × ((node ≡ from) ⊎ (node ≡ to)) × (damage ≡ rels_damage node))
-    ⊎ IsJoinDamage t from to damage)
+abbrev pub BlamesLinking : State → ℕ → ℕ → ChangeFault → Type 0
+BlamesLinking t from to fault = IfBlames (IsLinkingDamage t from to) fault

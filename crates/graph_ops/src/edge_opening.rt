@@ -2,13 +2,13 @@
 
 ghost use Rattle.std.specs.Prelude.{◌≡◌, ◌≤◌, ◌+◌, ℕ, List, IfErr, IfOk, OnOk};
 ghost use Rattle.chain_edit.specs.Heads.{head_of};
+ghost use Rattle.group_store.specs.Densing.{IsLateDamage};
 ghost use Rattle.group_store.specs.Leaving.{LeavesBeside};
 ghost use Rattle.group_store.specs.Opening.{CanOpen, HasGroupRoom, OpensChain, WritesOpened};
 ghost use Rattle.group_store.specs.Opening.{moved_writes};
 ghost use Rattle.graph_ops.specs.ChangeFault.{HasChangeCause, IsFailure, IsOutside};
 ghost use Rattle.graph_ops.specs.Damage.{IfBlames};
-ghost use Rattle.graph_ops.specs.EdgeAdding.{HasEndDegree, IsHeadAt, IsHeadDamage, IsNodeEnd};
-ghost use Rattle.graph_ops.specs.EdgeAdding.{IsOpenDamage, IsUsedEnd, IsUsedNode};
+ghost use Rattle.graph_ops.specs.EdgeAdding.{IsHeadAt, IsNodeEnd, IsUsedEnd, IsUsedNode};
 ghost use Rattle.graph_ops.specs.EdgeEnds.{AreEdgeEnds, AtEach, IsEdgeEnd, source_of, target_of};
 ghost use Rattle.graph_ops.specs.EdgeOpening.{CanLink, IsJoint, OpensEnds, WritesEndsOpened};
 ghost use Rattle.graph_ops.specs.EdgeOpening.{ends_moved, from_of, to_of};
@@ -33,10 +33,8 @@ pub(crate) fn open_ends<S: Space>(space: &mut S, joint: Joint) -> Result<Ends<Ed
         → CanLink (S.state space.old) names joint
         → HasRoom (S.state space.old) relationships_file 1 → IfErr result IsOutside }
     ensures damaged { S.tells → AtEach (IsUsedEnd (S.state space.old)) joint.ends
-        → AtEach (HasEndDegree (S.state space.old).records) joint.ends
         → joint.threshold ≡ (S.state space.old).shape.threshold
-        → IfErr result (IfBlames (IsOpenDamage (S.state space.old) (S.state space.new)
-        (from_of joint) (to_of joint))) }
+        → IfErr result (IfBlames (IsLateDamage (S.state space.new))) }
     ensures at { IfOk result (AtEach IsHeadAt) }
     ensures nodes { IfOk result (λ ends. ((source_of ends).node ≡ from_of joint)
         × ((target_of ends).node ≡ to_of joint)) }
@@ -83,9 +81,8 @@ fn open_end<S: Space>(
         → CanOpen (S.state space.old) end.node end.degree joint.threshold joint.label side row
         empty → HasGroupRoom (S.state space.old) empty → IfErr result IsOutside }
     ensures damaged { S.tells → IsUsedNode (S.state space.old) end.node
-        → (S.state space.old).shape.threshold ≤ joint.threshold → IfErr result (IfBlames
-        (IsHeadDamage (S.state space.old) (S.state space.new) end.node end.degree
-        joint.threshold)) }
+        → (S.state space.old).shape.threshold ≤ joint.threshold
+        → IfErr result (IfBlames (IsLateDamage (S.state space.new))) }
     ensures beside { S.tells → OnOk result (LeavesBeside (S.state space.old).records
         (S.state space.new).records end.node) }
     ensures at { IfOk result IsHeadAt }

@@ -62,10 +62,9 @@ pub(crate) fn put_edge<S: Space>(space: &mut S, joint: Joint) -> Result<u32, Cha
         → AtEach (HasEndDegree (S.state space.old).records) joint.ends
         → HasRoom (S.state space.old) relationships_file 1 → IfErr result IsOutside }
     ensures damaged { S.tells → AtEach (IsUsedEnd (S.state space.old)) joint.ends
-        → AtEach (HasEndDegree (S.state space.old).records) joint.ends
         → joint.threshold ≡ (S.state space.old).shape.threshold
-        → IfErr result (IfBlames (IsLinkingDamage (S.state space.old) (S.state space.new)
-        (from_of joint) (to_of joint))) }
+        → IfErr result (IfBlames (IsLinkingDamage (S.state space.new) (from_of joint)
+        (to_of joint))) }
     ensures key { IfOk result (λ id. IsKey (key_in relationships_file id)) }
     ensures writes { IfOk result (λ id. WritesBeside (rel_key id)
         (8 + ends_moved joint.threshold joint.ends) (S.state space.old) (S.state space.new)) }

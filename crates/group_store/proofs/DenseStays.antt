@@ -78,7 +78,7 @@ dense_made s node label dense =
 
 -- ---- a relationship that comes into a group
 
-pushed_other : (s : State) (h : Head) (node rel : ℕ) (key : Key) → key.file ≢ format.relationships_file → key ≢ h.key → (pushed s h node rel).records key ≡ s.records key
+pub pushed_other : (s : State) (h : Head) (node rel : ℕ) (key : Key) → key.file ≢ format.relationships_file → key ≢ h.key → (pushed s h node rel).records key ≡ s.records key
 unfolding pushed
 pushed_other s h node rel key file ne =
     let first = first_of s.records h in

@@ -16,7 +16,7 @@ use Rattle.node_store.proofs.Rows.{kind-row_at-Some}
 use Rattle.rec_bytes.specs.declared.fault.Fault.{Fault}
 use Rattle.rec_bytes.specs.declared.fault.Fault.TheVariants.{Memory, Disk, Damaged}
 use Rattle.group_store.specs.declared.group_row.GroupRow.{GroupRow}
-use Rattle.group_store.specs.Finding.{IsFindFault, IsFound, IsSought}
+use Rattle.group_store.specs.Finding.{IsFindFault, IsFound, IsReached, IsSought}
 use Rattle.group_store.specs.FirstGroup.{IsFirst, IsNodeFault, first_of}
 use Rattle.group_store.specs.GroupChain.{IsDense, IsGroupChain, IsGroupList, IsOwnedList, LacksGroup, up_to_type}
 use Rattle.rec_bytes.specs.Fault.{of_row}
@@ -93,6 +93,11 @@ all_reads_then s now end reads more =
 
 pub reads_fewer : (s now : State) (m n : ℕ) → m ≤ n → ReadsAtMost m s now → ReadsAtMost n s now
 reads_fewer s now m n le reads = let within = reads.within in record { count = reads.count; within = omega arith; is = reads.is }
+
+pub reached_then : (s now : State) (node first : ℕ) (r : Result (Option GroupRow) Fault) → ReadsAtMost 1 s now → first ≡ first_link s.records node
+    → IfOk r (λ found. IfSome found (λ row. IsReached now.records first row.id)) → IfOk r (λ found. IfSome found (λ row. IsReached s.records (first_link s.records node) row.id))
+reached_then s now node first r reads is told = subst (λ f. IfOk r (λ found. IfSome found (λ row. IsReached s.records f row.id))) is
+    (subst (λ (q : Records). IfOk r (λ found. IfSome found (λ row. IsReached q first row.id))) (records_then s now reads.count reads.is) told)
 
 pub found_then : (s now : State) (node first label : ℕ) (r : Result (Option GroupRow) Fault) → ReadsAtMost 1 s now → IsDense s.records node → first ≡ first_link s.records node
     → IfOk r (IsSought now.records node first label) → IfOk r (IsFound s.records node label)

@@ -25,6 +25,7 @@ pub mod GroupWrites
 pub mod HeadCounts
 pub mod Heads
 pub mod KeptHeads
+pub mod Leadings
 pub mod Leaves
 pub mod LeftBeside
 pub mod MadeRules

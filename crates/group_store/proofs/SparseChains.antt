@@ -1,6 +1,7 @@
 -- The chain of a sparse node, as a test meets it.
-use Rattle.std.proofs.Common.{◌≡◌, ◌≢◌, ◌⊎◌, ⊎_elim, inl, inr, ℕ, ◌+◌, ◌<◌, ◌≤◌, ◌||◌, nat_eq, Bool, Some, true, List, [], ◌∷◌, length, refl, sym, ap, ◌∙◌, subst, arith}
+use Rattle.std.proofs.Common.{◌≡◌, ◌≢◌, ◌⊎◌, ⊎_elim, inl, inr, ℕ, ◌+◌, ◌<◌, ◌≤◌, ◌||◌, nat_eq, Bool, None, Some, true, List, [], ◌∷◌, ◌++◌, length, refl, sym, ap, ◌∙◌, subst, arith}
 use Rattle.std.proofs.lemmas.Bool.{false≢true}
+use Rattle.std.proofs.lemmas.List.{append-nil, append_assoc, length_push}
 use Rattle.rec_bytes.specs.declared.damage.Damage.{Damage}
 use Rattle.rec_bytes.specs.declared.fault.Fault.{Fault}
 use Rattle.rec_bytes.specs.declared.fault.Fault.TheVariants.{Memory, Disk, Damaged}
@@ -28,11 +29,11 @@ use Rattle.chain_edit.specs.Breaks.{IsBreakFault}
 use Rattle.chain_edit.specs.Chains.{next_of, prev_of}
 use Rattle.chain_edit.proofs.Broken.{no_chain}
 use Rattle.group_store.specs.Raising.{degree_damage}
-use Rattle.group_store.specs.SparseChain.{AreReadable, IsMet, IsSparseDamage, IsSparseFault, IsStepDamage, IsStepFault}
+use Rattle.group_store.specs.SparseChain.{AreReadable, HasChain, IsMet, IsSparseDamage, IsSparseFault, IsStepDamage, IsStepFault}
 use Rattle.group_store.specs.SparseChain.IsStepDamage.{NotMet, BadRow}
 use Rattle.group_store.specs.SparseChain.IsSparseDamage.{NoChain, MoreThanSaid, BadRelationship}
 use Rattle.group_store.proofs.Clearing.{stands_true}
-use Rattle.group_store.proofs.GroupWalks.{IsUndamaged}
+use Rattle.group_store.proofs.GroupWalks.{IsUndamaged, in_push}
 
 -- ---- a row that was read
 
@@ -205,3 +206,26 @@ module _ (s : State) (node : ℕ) (sparse : kind_at s.records format.nodes_file 
       by : (d : Damage) → IsRowDamage format.relationships_file s x d → ⊥
       by d (HighMark above) = let few = (IsReadable-AreInRange s x keeps.ranges).mark in omega arith
       by d (UnknownKind low unknown) = (IsReadable-AreInRange s x keeps.ranges).kind low unknown
+
+-- ---- the links from the first one on
+
+-- so many in use were met between one and another
+pub record HasCrossed (s : State) (node first at n : ℕ) : Type 0 where
+  pub met : List ℕ
+  pub walk : (rest : List ℕ) → IsWalk (next_of s.records node) at rest → IsWalk (next_of s.records node) first (met ++ rest)
+  pub live : (x : ℕ) → In x met → rel_at s.records x ≢ None
+  pub long : length met ≡ n
+
+pub crossed_none : (s : State) (node first : ℕ) → HasCrossed s node first first 0
+crossed_none s node first = record { met = []; walk = λ rest h. h; live = λ x i. elim i [ ]; long = refl }
+
+pub crossed_more : (s : State) (node first before at next n : ℕ) → at ≢ format.nil → IsMet s.records node before at → next_of s.records node at ≡ next → HasCrossed s node first at n → HasCrossed s node first next (n + 1)
+crossed_more s node first before at next n there here link h = record {
+  met = h.met ++ at ∷ [];
+  walk = λ rest w. subst (IsWalk (next_of s.records node) first) (sym (append_assoc h.met (at ∷ []) rest)) (h.walk (at ∷ rest) (refl, there, subst (λ z. IsWalk (next_of s.records node) z rest) (sym link) w));
+  live = λ x i. ⊎_elim (h.live x) (λ e none. false≢true (sym (ap (stands_in node) (ap (rel_at s.records) (sym e) ∙ none)) ∙ here.stands)) (in_push h.met at x i);
+  long = let e = h.long in length_push h.met at ∙ ap (λ m. m + 1) e;
+}
+
+pub crossed_all : (s : State) (node first at n most : ℕ) → at ≡ format.nil → n ≤ most → HasCrossed s node first at n → HasChain s.records node first most
+crossed_all s node first at n most none le h = record { members = h.met; walk = subst (IsWalk (next_of s.records node) first) (append-nil h.met) (h.walk [] none); live = h.live; few = let e = h.long in omega arith }

@@ -89,25 +89,18 @@ IsMoveFault s t node rel Disk = Unit {0}
 IsMoveFault s t node rel (Damaged damage) =
     IsLateDamage t damage ⊎ ((damage ≡ rels_damage node) × (rel_at s.records rel ≡ None))
 
--- What is told where a node in use doesn't become dense, by the space as it is then. That its
--- relationships aren't those that were read is told only where the store broke some rule.
-abbrev pub IsDenseDamage : State → State → ℕ → Damage → Type 0
-IsDenseDamage s t node damage =
-    IsLateDamage t damage ⊎ ((damage ≡ rels_damage node)
-    × ((most : ℕ) (empty : List ℕ) → ¬ CanBecomeDense s node most empty))
-
-abbrev pub IsDenseFault : State → State → ℕ → Fault → Type 0
-IsDenseFault s t node Memory = Unit {0}
-IsDenseFault s t node Disk = Unit {0}
-IsDenseFault s t node (Damaged damage) = IsDenseDamage s t node damage
+-- why a node in use doesn't become dense, by the space as it is then
+abbrev pub IsLateFault : State → Fault → Type 0
+IsLateFault t Memory = Unit {0}
+IsLateFault t Disk = Unit {0}
+IsLateFault t (Damaged damage) = IsLateDamage t damage
 
 -- What is told where no head is found or made for an end, by the space as it is then. It is so, or
--- the node's relationships aren't those that were read. Or the node isn't in use.
+-- the node isn't in use.
 abbrev pub IsEndDamage : State → ℕ → Damage → Type 0
 IsEndDamage t node damage =
-    IsLateDamage t damage ⊎ ((damage ≡ rels_damage node)
-    ⊎ ((damage ≡ chain_damage node)
-    × (kind_at t.records format.nodes_file node ≡ format.free_kind)))
+    IsLateDamage t damage ⊎ ((damage ≡ chain_damage node)
+    × (kind_at t.records format.nodes_file node ≡ format.free_kind))
 
 abbrev pub IsEndFault : State → ℕ → Fault → Type 0
 IsEndFault t node Memory = Unit {0}

@@ -1,12 +1,14 @@
 -- What a search for a node's group of a type finds.
-use Rattle.std.specs.Prelude.{◌≡◌, ◌⊎◌, ℕ, List, Option, None, Some}
+use Rattle.std.specs.Prelude.{◌≡◌, ◌≢◌, ◌⊎◌, ℕ, List, Option, None, Some}
+use Rattle.rec_bytes.specs.Format.{nil}
 use Rattle.rec_bytes.specs.Space.{State}
 use Rattle.node_store.specs.Loading.{IsNodeDamage}
+use Rattle.store_rules.specs.Chains.{In}
 use Rattle.store_rules.specs.Views.{Records, first_link}
 use Rattle.rec_bytes.specs.declared.fault.Fault.{Fault}
 use Rattle.rec_bytes.specs.declared.fault.Fault.TheVariants.{Memory, Disk, Damaged}
 use Rattle.group_store.specs.declared.group_row.GroupRow.{GroupRow}
-use Rattle.group_store.specs.GroupChain.{IsDense, IsGroupList, IsGroupOf, LacksType}
+use Rattle.group_store.specs.GroupChain.{IsDense, IsGroupList, IsGroupOf, LacksType, next_group}
 use Rattle.group_store.specs.Walking.{IsWalkDamage, group_row_at}
 
 -- the row is that of a group of the node, which has the type
@@ -14,6 +16,11 @@ pub record IsGroupFound (records : Records) (node label : ℕ) (row : GroupRow) 
   pub is : row ≡ group_row_at records row.id
   pub member : IsGroupOf records node row.id
   pub typed : row.label ≡ label
+
+-- each list that has the first one, and with a group the next one, has this one
+abbrev pub IsReached : Records → ℕ → ℕ → Type 0
+IsReached records first x = (groups : List ℕ) → In first groups
+    → ((g : ℕ) → In g groups → g ≢ nil → In (next_group records g) groups) → In x groups
 
 -- a group of the type, or none where no group from the first on has it
 abbrev pub IsSought : Records → ℕ → ℕ → ℕ → Option GroupRow → Type 0

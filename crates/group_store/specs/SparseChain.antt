@@ -1,5 +1,5 @@
 -- What a test of the chain of a sparse node finds.
-use Rattle.std.specs.Prelude.{◌≡◌, ℕ, ◌<◌, true, List}
+use Rattle.std.specs.Prelude.{◌≡◌, ◌≢◌, ℕ, ◌<◌, ◌≤◌, true, None, List, length}
 use Rattle.rec_bytes.specs.declared.damage.Damage.{Damage}
 use Rattle.rec_bytes.specs.declared.fault.Fault.{Fault}
 use Rattle.rec_bytes.specs.declared.fault.Fault.TheVariants.{Memory, Disk, Damaged}
@@ -8,7 +8,7 @@ use Rattle.rec_bytes.specs.Space.{State}
 use Rattle.rel_store.specs.Loading as rels
 use Rattle.row_store.specs.Loading.{IsRowDamage}
 use Rattle.store_rules.specs.Breaking.{IsHeadChain}
-use Rattle.store_rules.specs.Chains.{In}
+use Rattle.store_rules.specs.Chains.{In, IsWalk}
 use Rattle.store_rules.specs.Rules.{degree_of, node_head, stands_in}
 use Rattle.store_rules.specs.Views.{Records, high, rel_at}
 use Rattle.chain_edit.specs.Chains.{next_of, prev_of}
@@ -35,6 +35,13 @@ abbrev pub IsStepFault : State → ℕ → ℕ → ℕ → Fault → Type 0
 IsStepFault s node before at Memory = Unit {0}
 IsStepFault s node before at Disk = Unit {0}
 IsStepFault s node before at (Damaged damage) = IsStepDamage s node before at damage
+
+-- the links lead from the first on through at most so many relationships in use to an end
+pub record HasChain (records : Records) (node first count : ℕ) : Type 0 where
+  pub members : List ℕ
+  pub walk : IsWalk (next_of records node) first members
+  pub live : (x : ℕ) → In x members → rel_at records x ≢ None
+  pub few : length members ≤ count
 
 -- each of these relationships can be read
 abbrev pub AreReadable : State → List ℕ → Type 0

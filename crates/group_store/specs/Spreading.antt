@@ -1,5 +1,5 @@
 -- A store in which one node's relationships are on their way into its groups.
-use Rattle.std.specs.Prelude.{◌≡◌, ℕ, ◌+◌, ◌*◌, ◌≤◌, nat_eq, true, false, cond}
+use Rattle.std.specs.Prelude.{◌≡◌, ◌≢◌, ℕ, ◌+◌, ◌*◌, ◌≤◌, nat_eq, true, false, cond}
 use Rattle.std.specs.Prelude.{Option, None}
 use Rattle.std.specs.Prelude.{Some, List, length}
 use Rattle.std.specs.List.{list_any}
@@ -7,7 +7,7 @@ use Rattle.chain_edit.specs.Chains.{next_of}
 use Rattle.node_store.specs.NodeRecord.{node_key}
 use Rattle.group_store.specs.declared.side.Side.{Side}
 use Rattle.group_store.specs.Counting.{count_place}
-use Rattle.group_store.specs.GroupChain.{IsDense, IsGroupChain, type_of}
+use Rattle.group_store.specs.GroupChain.{IsDense, IsGroupChain, next_group, type_of}
 use Rattle.group_store.specs.Leaving.{LeavesOthers}
 use Rattle.group_store.specs.Opening.{IsAt}
 use Rattle.group_store.specs.Sides.{group_head, place_of}
@@ -24,7 +24,8 @@ use Rattle.store_rules.specs.Ends.{Regroups}
 use Rattle.store_rules.specs.Ranges.{AreInRange, is_reused}
 use Rattle.store_rules.specs.Rules.{AllListed, AreAllLive, AreCounted, AreNamed, AreNames, HasEnds}
 use Rattle.store_rules.specs.Rules.{HasGroup, HasNoIndex, HaveProperties, Head, IsEnd, IsGrouped}
-use Rattle.store_rules.specs.Rules.{HasCounts, IsSplit, Owns, StandsAt, property_files}
+use Rattle.store_rules.specs.Rules.{HasCounts, IsSplit, Owns, StandsAt, first_of}
+use Rattle.store_rules.specs.Rules.{property_files}
 use Rattle.store_rules.specs.Views.{GroupRow, Records, RelRow, degree, first_link, group_at, high}
 use Rattle.store_rules.specs.Views.{is_live, kind_at, node_at, rec_at, rel_at}
 
@@ -170,6 +171,18 @@ pub record HasSpread (records : Records) (node : ℕ) (groups came : List ℕ) :
   pub placed : (x : ℕ) → In x came → (g : ℕ) × (side : Side)
       × (In g groups × IsMember records node (type_of records g) side x)
   pub sides : (g : ℕ) → In g groups → (side : Side) → HasSide records node came g side
+
+-- The links from the node on lead to these groups, each in use, or to none. The links from their
+-- heads lead to these relationships that came, or to none.
+pub record LeadsAmong (records : Records) (node : ℕ) (came groups : List ℕ) : Type 0 where
+  pub first : In (first_link records node) groups
+  pub next : (g : ℕ) → In g groups → g ≢ format.nil → In (next_group records g) groups
+  pub used : (g : ℕ) → In g groups → g ≢ format.nil
+      → kind_at records format.groups_file g ≢ format.free_kind
+  pub heads : (g : ℕ) → In g groups → g ≢ format.nil → (side : Side)
+      → In (first_of records (group_head g side)) came
+  pub no_group : In format.nil groups
+  pub no_rel : In format.nil came
 
 -- A group can be made of each of the free identifiers, one after another: all others below the mark
 -- are counted.

@@ -1,22 +1,24 @@
-ghost use Rattle.std.specs.Prelude.{◌≡◌, ◌≢◌, ◌⊎◌, ◌≤◌, ◌∷◌, [], ◌+◌, ◌*◌, ℕ, List, true};
-ghost use Rattle.std.specs.Prelude.{IfErr, IfOk, OnOk};
+ghost use Rattle.std.specs.Prelude.{◌≡◌, ◌≢◌, ◌⊎◌, ◌≤◌, ◌∷◌, [], ◌++◌, ◌+◌, ◌*◌, ℕ, List};
+ghost use Rattle.std.specs.Prelude.{true, IfErr, IfOk, OnOk};
 ghost use Rattle.node_store.specs.Loading as nodes;
 ghost use Rattle.node_store.specs.NodeRecord.{node_key};
 ghost use Rattle.rec_bytes.specs.Key.{IsKey};
 ghost use Rattle.rec_bytes.specs.RecordFiles.{meta_key_of};
-ghost use Rattle.rec_bytes.specs.Format.{groups_file};
+ghost use Rattle.rec_bytes.specs.Format.{groups_file, relationships_file};
 ghost use Rattle.id_freelist.specs.Taking.{room};
 ghost use Rattle.rec_bytes.specs.Space.{HasCause, SameButReads, WritesOnly, meta_of};
 ghost use Rattle.rel_store.specs.Loading as rels;
 ghost use Rattle.rel_store.specs.RelRecord.{rel_key};
 ghost use Rattle.store_rules.specs.Ends.{Regroups};
-ghost use Rattle.store_rules.specs.Views.{degree};
+ghost use Rattle.store_rules.specs.Chains.{In, IsWalk};
+ghost use Rattle.store_rules.specs.Views.{degree, rec_at};
 ghost use Rattle.store_rules.specs.Writes.{WritesBeside};
 ghost use Rattle.group_store.specs.Touching.{TouchesGroups};
+ghost use Rattle.chain_edit.specs.Chains.{next_of};
 ghost use Rattle.chain_edit.specs.Links.{prev_set};
 ghost use Rattle.group_store.specs.Densing.{BecomesDense, CanBecomeDense, CanSpread, HasDenseRoom};
 ghost use Rattle.group_store.specs.Densing.{HasSpreadRoom, SpreadsChain};
-ghost use Rattle.group_store.specs.Densing.{IsDenseFault, IsEndFault, IsMoveFault, IsSparse};
+ghost use Rattle.group_store.specs.Densing.{IsEndFault, IsLateFault, IsMoveFault, IsSparse};
 ghost use Rattle.group_store.specs.GroupChain.{IsDense, IsGroupChain};
 ghost use Rattle.rec_bytes.specs.Fault.{HasFaultCause, NotDamaged, OnDamage};
 ghost use Rattle.group_store.specs.GroupRecord.{group_key};
@@ -26,7 +28,7 @@ ghost use Rattle.group_store.specs.Moving.{turn_keys};
 ghost use Rattle.group_store.specs.Opening.{IsOpenFault};
 ghost use Rattle.group_store.specs.Raising.{IsGroupAt};
 ghost use Rattle.group_store.specs.Spreading.{CanTakeEach, HasEndRoom, HasOpened, IsSpread};
-ghost use Rattle.group_store.specs.Spreading.{IsSpreading, KeepsBut, cleared};
+ghost use Rattle.group_store.specs.Spreading.{IsSpreading, KeepsBut, LeadsAmong, cleared};
 ghost use Rattle.group_store.specs.Walking.{group_row_at};
 
 use crate::Side;
@@ -46,9 +48,8 @@ use rel_store::{Linked, end_links, place_of};
 /// Makes a sparse node dense: each of its relationships comes into the group of its type, at the
 /// front of the chain of its direction. Its chain is read once before anything is written, and the
 /// node is damaged where it isn't sparse, where its degree says more than so many, or where its
-/// chain is broken or has more relationships than its degree says. It is too where, later, the
-/// chain isn't as it was read, or what stood first at a group's head or among the groups didn't
-/// come there by this call.
+/// chain is broken or has more relationships than its degree says. What is damaged where it is read
+/// later breaks a rule then, and the node's relationships never do.
 pub fn make_dense<S: Space>(space: &mut S, node: u32, threshold: u32) -> Result<(), Fault>
     requires { threshold ≤ 200 }
     ensures made { S.tells → OnOk result ((most : ℕ) (empty : List ℕ)
@@ -65,7 +66,7 @@ pub fn make_dense<S: Space>(space: &mut S, node: u32, threshold: u32) -> Result<
         → HasSpreadRoom (S.state space.old) node threshold members → NotDamaged result }
     ensures damaged { S.tells → IsSparse (S.state space.old).records node
         → (S.state space.old).shape.threshold ≤ threshold
-        → IfErr result (IsDenseFault (S.state space.old) (S.state space.new) node) }
+        → IfErr result (IsLateFault (S.state space.new)) }
     ensures told { S.tells → (¬ IsDense (S.state space.old).records node)
         → (S.state space.old).shape.threshold ≤ threshold
         → IfErr result (IsEndFault (S.state space.new) node) }
@@ -151,6 +152,14 @@ fn move_one<S: Space>(space: &mut S, node: u32, rel: u32) -> Result<Turn, Fault>
     ensures local { S.tells → IfOk result (λ turn. (came rest groups free : List ℕ)
         → IsSpreading (S.state space.old) node rel came (rel ∷ rest) groups free
         → ComesIn (S.state space.old) (S.state space.new) node rel came rest groups turn) }
+    ensures leads { S.tells → IfOk result (λ turn. (came groups : List ℕ)
+        → LeadsAmong (S.state space.old).records node came groups
+        → LeadsAmong (S.state space.new).records node (came ++ rel ∷ [])
+        (groups ++ turn.group ∷ [])
+        × (In turn.first came × In turn.before groups)) }
+    ensures walk { S.tells → IfOk result (λ turn. (rest : List ℕ)
+        → IsWalk (next_of (S.state space.old).records node) rel (rel ∷ rest)
+        → IsWalk (next_of (S.state space.new).records node) turn.next rest) }
     ensures never { S.tells → (came rest groups free : List ℕ)
         → IsSpreading (S.state space.old) node rel came (rel ∷ rest) groups free
         → nodes.IsReadable (S.state space.old) node → rels.IsReadable (S.state space.old) rel
@@ -207,6 +216,13 @@ pub(crate) fn own_group<S: Space>(space: &mut S, node: u32, label: u32) -> Resul
         → CanTakeEach (S.state space.old) free
         → HasFound (S.state space.old) (S.state space.new) label groups own
         ⊎ HasAdded (S.state space.old) (S.state space.new) node label groups free own) }
+    ensures leads { S.tells → IfOk result (λ own. (came groups : List ℕ)
+        → LeadsAmong (S.state space.old).records node came groups
+        → LeadsAmong (S.state space.new).records node came (groups ++ own.row.id ∷ [])
+        × In own.first groups) }
+    ensures rels { S.tells → OnOk result ((x : ℕ)
+        → rec_at (S.state space.new).records relationships_file x
+        ≡ rec_at (S.state space.old).records relationships_file x) }
     ensures never { S.tells → (groups free : List ℕ) → IsDense (S.state space.old).records node
         → IsGroupChain (S.state space.old).records node groups
         → CanTakeEach (S.state space.old) free → nodes.IsReadable (S.state space.old) node

@@ -3,7 +3,7 @@ ghost use Rattle.chain_edit.specs.Walking.{ReadsAtMost};
 ghost use Rattle.node_store.specs.Loading as nodes;
 ghost use Rattle.rec_bytes.specs.Key.{IsKey};
 ghost use Rattle.store_rules.specs.Views.{first_link};
-ghost use Rattle.group_store.specs.Finding.{IsFindFault, IsFound, IsSought};
+ghost use Rattle.group_store.specs.Finding.{IsFindFault, IsFound, IsReached, IsSought};
 ghost use Rattle.group_store.specs.GroupChain.{IsDense, IsGroupChain, LacksGroup, up_to_type};
 ghost use Rattle.rec_bytes.specs.Fault.{HasFaultCause, NotDamaged};
 ghost use Rattle.group_store.specs.Faults.{TakesNoMemory};
@@ -25,6 +25,9 @@ pub fn find_group<R: Reads>(space: &mut R, node: u32, label: u32) -> Result<Opti
         → IsGroupChain (R.state space.old).records node xs
         → IfOk result (λ found.
         (found ≡ None) ↔ LacksGroup (R.state space.old).records node label) }
+    ensures reached { R.tells → IfOk result (λ found. IfSome found (λ row.
+        IsReached (R.state space.old).records (first_link (R.state space.old).records node)
+        row.id)) }
     ensures reads { R.tells → (xs : List ℕ)
         → IsWalkable (R.state space.old) node (first_link (R.state space.old).records node) xs
         → ReadsAtMost (1 + length (up_to_type (R.state space.old).records label xs))
@@ -55,6 +58,8 @@ fn seek<R: Reads>(
 ) -> Result<Option<GroupRow>, Fault>
     ensures found { R.tells
         → IfOk result (IsSought (R.state space.old).records node first label) }
+    ensures reached { R.tells → IfOk result (λ found. IfSome found (λ row.
+        IsReached (R.state space.old).records first row.id)) }
     ensures reads { R.tells → (xs : List ℕ) → IsWalkable (R.state space.old) node first xs
         → ReadsAtMost (length (up_to_type (R.state space.old).records label xs))
         (R.state space.old) (R.state space.new) }

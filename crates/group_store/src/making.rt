@@ -1,4 +1,5 @@
-ghost use Rattle.std.specs.Prelude.{◌≡◌, ◌≢◌, ◌∷◌, [], ℕ, List, true, IfErr, IfOk, IsErr, OnOk};
+ghost use Rattle.std.specs.Prelude.{◌≡◌, ◌≢◌, ◌∷◌, [], ◌++◌, ℕ, List, true, IfErr, IfOk};
+ghost use Rattle.std.specs.Prelude.{IsErr, OnOk};
 ghost use Rattle.id_freelist.specs.Taking.{room};
 ghost use Rattle.node_store.specs.Loading.{IsReadable};
 ghost use Rattle.node_store.specs.NodeRecord.{node_key};
@@ -14,7 +15,7 @@ ghost use Rattle.group_store.specs.GroupRecord.{group_key};
 ghost use Rattle.group_store.specs.Making.{CanMake, HasMade, IsMakeFault, empty_group, empty_row};
 ghost use Rattle.group_store.specs.Making.{led, made};
 ghost use Rattle.group_store.specs.Opening.{IsOpenFault};
-ghost use Rattle.group_store.specs.Spreading.{HasOpened, KeepsBut};
+ghost use Rattle.group_store.specs.Spreading.{HasOpened, KeepsBut, LeadsAmong};
 
 use crate::GroupRow;
 use crate::links::{back, test_link};
@@ -103,6 +104,9 @@ pub(crate) fn make_own<S: Space>(space: &mut S, node: u32, label: u32) -> Result
     ensures shape { S.tells → (S.state space.new).shape ≡ (S.state space.old).shape }
     ensures first { S.tells
         → IfOk result (λ own. own.first ≡ first_link (S.state space.old).records node) }
+    ensures leads { S.tells → IfOk result (λ own. (came groups : List ℕ)
+        → LeadsAmong (S.state space.old).records node came groups
+        → LeadsAmong (S.state space.new).records node came (groups ++ own.row.id ∷ [])) }
     ensures wrote { IfOk result (λ own. WritesOnly (S.state space.old) (S.state space.new)
         (group_key own.row.id ∷ group_key own.first ∷ node_key node ∷ meta_key_of groups_file
         ∷ [])) }

@@ -14,7 +14,7 @@ ghost use Rattle.node_store.specs.Loading.{IsReadable};
 ghost use Rattle.node_store.specs.NodeRecord.{node_key};
 ghost use Rattle.chain_edit.specs.Breaks.{IsBreakFault};
 ghost use Rattle.chain_edit.specs.Heads.{head_of, IsHead};
-ghost use Rattle.group_store.specs.Densing.{IsDenseFault, IsEndFault, IsSparse};
+ghost use Rattle.group_store.specs.Densing.{IsEndFault, IsLateFault, IsSparse};
 ghost use Rattle.group_store.specs.FirstGroup.{IsNodeFault};
 ghost use Rattle.group_store.specs.GroupChain.{IsDense};
 ghost use Rattle.group_store.specs.GroupRecord.{group_key};
@@ -175,7 +175,7 @@ pub fn open_chain<S: Space>(
     ensures blames { S.tells → IsDense (S.state space.old).records node
         ⊎ IsSparse (S.state space.old).records node
         → (S.state space.old).shape.threshold ≤ threshold
-        → IfErr result (IsDenseFault (S.state space.old) (S.state space.new) node) }
+        → IfErr result (IsLateFault (S.state space.new)) }
     ensures told { S.tells → (S.state space.old).shape.threshold ≤ threshold
         → IfErr result (IsEndFault (S.state space.new) node) }
     ensures beside { S.tells → OnOk result

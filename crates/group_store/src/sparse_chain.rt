@@ -1,12 +1,13 @@
 //! The chain of a sparse node, which is tested before its relationships come into groups.
 
-ghost use Rattle.std.specs.Prelude.{◌≡◌, ◌≤◌, ◌||◌, ℕ, List, length, nat_eq, IfErr, IfOk};
+ghost use Rattle.std.specs.Prelude.{◌≡◌, ◌≤◌, ◌||◌, ℕ, List, length, nat_eq, IfErr, IfOk, OnOk};
 ghost use Rattle.rec_bytes.specs.Fault.{HasFaultCause, NotDamaged};
 ghost use Rattle.rec_bytes.specs.Space.{SameButReads};
 ghost use Rattle.store_rules.specs.Breaking.{IsHeadChain};
 ghost use Rattle.store_rules.specs.Rules.{node_head};
 ghost use Rattle.store_rules.specs.Views.{first_link};
-ghost use Rattle.group_store.specs.SparseChain.{AreReadable, IsSparseFault, IsStep, IsStepFault};
+ghost use Rattle.group_store.specs.SparseChain.{AreReadable, HasChain, IsSparseFault, IsStep};
+ghost use Rattle.group_store.specs.SparseChain.{IsStepFault};
 ghost use Rattle.group_store.specs.Spreading.{rels_damage};
 
 use crate::raising::degree_damage;
@@ -28,6 +29,8 @@ pub(crate) fn test_chain<R: Reads>(
         → (members : List ℕ)
         → IsHeadChain (R.state space.old).records (node_head node) node members
         → AreReadable (R.state space.old) members → length members ≤ degree → NotDamaged result }
+    ensures chain { R.tells
+        → OnOk result (HasChain (R.state space.old).records node first degree) }
     ensures state { SameButReads (R.state space.old) (R.state space.new) }
     ensures onward { R.onward space.old space.new }
     ensures cause { HasFaultCause (R.faults space.old) (R.faults space.new) result }

@@ -1,5 +1,5 @@
 use Rattle.std.specs.Prelude.{IfErr}
-use Rattle.std.proofs.Common.{◌≡◌, ◌+◌, ℕ, true, length, ◌∙◌, sym, ap, subst, inl, inr, ⊎_elim, arith, refl}
+use Rattle.std.proofs.Common.{◌≡◌, ◌+◌, true, length, ◌∙◌, sym, ap, subst, inl, inr, ⊎_elim, arith, refl}
 use Rattle.plain_graph.specs.Graph.{has_node}
 use Rattle.plain_graph.specs.Refusals.{change_reasons}
 use Rattle.plain_graph.specs.Reply.{EdgeMade}
@@ -14,10 +14,9 @@ use Rattle.prop_store.specs.declared.owner.Owner.{Owner}
 use Rattle.graph_ops.specs.Assigning.{CanPut, HasPropertyRoom, IsPutCause, PutsPairs, assigned_blocks, pairs_of}
 use Rattle.graph_ops.specs.Change.{IsCounted, IsRefusal, MakesChange}
 use Rattle.graph_ops.specs.ChangeFault.{IsOutside, LeavesSpace}
-use Rattle.graph_ops.specs.EdgeAdding.{BlamesLinking, HasEndDegree, IsEdgeDamage, IsFullOfEdges, IsLinkingDamage, IsUsedEnd, degrees_weight}
+use Rattle.graph_ops.specs.EdgeAdding.{BlamesLinking, HasEndDegree, IsFullOfEdges, IsLinkingDamage, IsUsedEnd, degrees_weight}
 use Rattle.graph_ops.specs.EdgeEnds.{AtEach, source_of, target_of}
 use Rattle.graph_ops.specs.EdgePlacing.{PutsEdge}
-use Rattle.graph_ops.specs.declared.change_fault.ChangeFault.{ChangeFault}
 use Rattle.graph_ops.specs.NodeDeleting.{HasDegree}
 use Rattle.graph_ops.specs.Preparing.{IsPrepared}
 use Rattle.graph_ops.specs.Store.{IsStore, graph_in}
@@ -35,10 +34,10 @@ use Rattle.graph_ops.proofs.Writes.{on_any_err}
 use Rattle.graph_ops.specs.Causes.{IsCaused, IsStillCaused}
 use Rattle.graph_ops.proofs.Causes.{absent_caused, broken_left, caused_left, caused_read, failure_caused, line_edge, no_edge, node_of, put_caused, room_caused}
 use Rattle.graph_ops.proofs.DiskCauses.{change_cause_passed, later_on, room_refusal_cause}
-use Rattle.graph_ops.specs.Damage.{IfBlames, IsBroken}
+use Rattle.graph_ops.specs.Damage.{IsBroken}
 use Rattle.graph_ops.proofs.Adding.{line_blamed, room_blamed}
 use Rattle.graph_ops.proofs.Broken.{blames_more}
-use Rattle.graph_ops.proofs.JoinBlames.{absent_blamed, broken_links, degree_beyond, link_still, open_before, used_beyond, used_read}
+use Rattle.graph_ops.proofs.JoinBlames.{absent_blamed, broken_links, used_beyond, used_read}
 use Rattle.graph_ops.proofs.edge_adding.add_edge.Goals as goal
 use Rattle.graph_ops.proofs.edge_adding.add_edge.Goals.{After-put_properties, In_err-ends, In_err-id, In_err-put_properties, In_ok-ends, In_ok-id, In_ok-prepared, In_ok-put_properties, In_ok-test_room}
 use Rattle.graph_ops.proofs.edge_adding.add_edge.Given.{Over}
@@ -411,39 +410,35 @@ returns-in_err-put_properties-clause-cause g c =
     change_cause_passed _ _ _ c.from_residual-in_err-put_properties.result c.in_err-put_properties.field-0.0 (later_on (later_on c.in_ok-ends.ensures.cause.later c.in_ok-prepared.ensures.cause.later) c.in_ok-id.ensures.cause.later) c.in_err-put_properties.ensures.cause c.from_residual-in_err-put_properties.ensures.1
 
 -- ---- which record is blamed
-ends_blamed : (g : Over) (c : In_err-ends g) → g.S.Reads.tells → BlamesLinking (g.S.Reads.state c.args.space.now) (g.S.Reads.state c.end_degrees.new.space) c.args.from c.args.to c.in_err-ends.field-0.0
+ends_blamed : (g : Over) (c : In_err-ends g) → g.S.Reads.tells → BlamesLinking (g.S.Reads.state c.end_degrees.new.space) c.args.from c.args.to c.in_err-ends.field-0.0
 ends_blamed g c tells =
     let s = g.S.Reads.state c.args.space.now in
     let n = g.S.Reads.state c.end_degrees.new.space in
     let fault = c.in_err-ends.field-0.0 in
-    blames_more (IsBroken n) (IsLinkingDamage s n c.args.from c.args.to) (broken_links s n c.args.from c.args.to) fault
+    blames_more (IsBroken n) (IsLinkingDamage n c.args.from c.args.to) (broken_links n c.args.from c.args.to) fault
     (broken_left s n c.end_degrees.ensures.state fault (⊎_elim (absent_blamed s (targets.Node c.args.from) fault) (absent_blamed s (targets.Node c.args.to) fault) (c.in_err-ends.ensures.absent tells)))
 
 pub returns-in_err-ends-clause-damaged : goal.returns-in_err-ends-clause-damaged
 returns-in_err-ends-clause-damaged g c tells =
-    let s = g.S.Reads.state c.args.space.now in
     let n = g.S.Reads.state c.end_degrees.new.space in
-    fault_exit (λ f. f) (BlamesLinking s n c.args.from c.args.to) c.in_err-ends.field-0.0 c.from_residual.result c.from_residual.ensures.1 (ends_blamed g (goal.at.returns-in_err-ends-clause-damaged g c).In_err-ends tells)
+    fault_exit (λ f. f) (BlamesLinking n c.args.from c.args.to) c.in_err-ends.field-0.0 c.from_residual.result c.from_residual.ensures.1 (ends_blamed g (goal.at.returns-in_err-ends-clause-damaged g c).In_err-ends tells)
 
 pub returns-in_err-test_room-clause-damaged : goal.returns-in_err-test_room-clause-damaged
 returns-in_err-test_room-clause-damaged g c tells =
-    let s = g.S.Reads.state c.args.space.now in
     let n = g.S.Reads.state c.end_degrees.new.space in
-    fault_exit (λ f. f) (BlamesLinking s n c.args.from c.args.to) c.in_err-test_room.field-0.0 c.from_residual-in_err-test_room.result c.from_residual-in_err-test_room.ensures.1
+    fault_exit (λ f. f) (BlamesLinking n c.args.from c.args.to) c.in_err-test_room.field-0.0 c.from_residual-in_err-test_room.result c.from_residual-in_err-test_room.ensures.1
     (room_blamed _ n format.relationships_file 1 c.in_err-test_room.field-0.0 c.in_err-test_room.ensures.full)
 
 pub returns-in_err-prepared-clause-damaged : goal.returns-in_err-prepared-clause-damaged
 returns-in_err-prepared-clause-damaged g c tells =
-    let s = g.S.Reads.state c.args.space.now in
     let n = g.S.Reads.state c.end_degrees.new.space in
     let u = g.S.Reads.state c.prepare.new.space in
-    fault_exit (λ f. f) (BlamesLinking s u c.args.from c.args.to) c.in_err-prepared.field-0.0 c.from_residual-in_err-prepared.result c.from_residual-in_err-prepared.ensures.1
+    fault_exit (λ f. f) (BlamesLinking u c.args.from c.args.to) c.in_err-prepared.field-0.0 c.from_residual-in_err-prepared.result c.from_residual-in_err-prepared.ensures.1
     (line_blamed _ n c.args.names.now.names c.args.label.now c.as_slice-pairs.result.now c.in_err-prepared.field-0.0 (c.in_err-prepared.ensures.caused tells))
 
--- by the space before the record and the chains
-put_blamed : (g : Over) (c : In_err-id g) → g.S.Reads.tells → BlamesLinking (g.S.Reads.state c.prepare.new.space) (g.S.Reads.state c.put_edge.new.space) c.args.from c.args.to c.in_err-id.field-0.0
+-- in the chains
+put_blamed : (g : Over) (c : In_err-id g) → g.S.Reads.tells → BlamesLinking (g.S.Reads.state c.put_edge.new.space) c.args.from c.args.to c.in_err-id.field-0.0
 put_blamed g c tells =
-    let at = (goal.at.In_err-id g c).In_ok-ends in
     let s = g.S.Reads.state c.args.space.now in
     let n = g.S.Reads.state c.end_degrees.new.space in
     let u = g.S.Reads.state c.prepare.new.space in
@@ -451,35 +446,22 @@ put_blamed g c tells =
     let ends = c.in_ok-ends.ends in
     let keeps = c.in_ok-prepared.ensures.stays tells in
     let used = at_more (IsUsedEnd s) (IsUsedEnd u) ends (λ end is. used_beyond n u keeps end.node (used_read s n end.node c.end_degrees.ensures.state is)) (c.in_ok-ends.ensures.used tells) in
-    let degrees = at_more (HasEndDegree n.records) (HasEndDegree u.records) ends (λ end has. degree_beyond n u keeps end.node end.degree has) (degrees_now g at tells) in
     let limit = ap (λ (h : Shape). h.threshold) (c.shape-threshold.ensures.is ∙ sym (g.met.S.Reads.onward_shape _ _ c.prepare.ensures.onward)) in
-    at_nodes (λ from to. BlamesLinking u v from to c.in_err-id.field-0.0) ends c.args.from c.args.to c.in_ok-ends.ensures.ends (c.in_err-id.ensures.damaged tells used degrees limit)
+    at_nodes (λ from to. BlamesLinking v from to c.in_err-id.field-0.0) ends c.args.from c.args.to c.in_ok-ends.ensures.ends (c.in_err-id.ensures.damaged tells used limit)
 
 pub returns-in_err-id-clause-damaged : goal.returns-in_err-id-clause-damaged
 returns-in_err-id-clause-damaged g c tells =
-    let s = g.S.Reads.state c.args.space.now in
-    let n = g.S.Reads.state c.end_degrees.new.space in
-    let u = g.S.Reads.state c.prepare.new.space in
-    let v = g.S.Reads.state c.put_edge.new.space in
-    let keeps = c.in_ok-prepared.ensures.stays tells in
-    let shape = g.met.S.Reads.onward_shape _ _ c.prepare.ensures.onward in
-    fault_exit (λ f. f) (BlamesLinking s v c.args.from c.args.to) c.in_err-id.field-0.0 c.from_residual-in_err-id.result c.from_residual-in_err-id.ensures.1
-    (blames_more _ _ (λ damage told. ⊎_elim (λ k. inl (open_before s n u v c.args.from c.args.to c.end_degrees.ensures.state keeps shape damage k)) (λ k. inr k) told) c.in_err-id.field-0.0
-    (put_blamed g (goal.at.returns-in_err-id-clause-damaged g c).In_err-id tells))
+    fault_exit (λ f. f) (BlamesLinking (g.S.Reads.state c.put_edge.new.space) c.args.from c.args.to) c.in_err-id.field-0.0 c.from_residual-in_err-id.result c.from_residual-in_err-id.ensures.1
+    (put_blamed g (goal.at.returns-in_err-id-clause-damaged g c).In_err-id tells)
 
 pub returns-in_err-put_properties-clause-damaged : goal.returns-in_err-put_properties-clause-damaged
 returns-in_err-put_properties-clause-damaged g c tells =
-    let s = g.S.Reads.state c.args.space.now in
     let w = g.S.Reads.state c.put_properties.new.space in
     let fault = c.in_err-put_properties.field-0.0 in
-    fault_exit (λ f. f) (BlamesLinking s w c.args.from c.args.to) fault c.from_residual-in_err-put_properties.result c.from_residual-in_err-put_properties.ensures.1
-    (blames_more (IsBroken w) (IsLinkingDamage s w c.args.from c.args.to) (broken_links s w c.args.from c.args.to) fault (c.in_err-put_properties.ensures.still tells))
+    fault_exit (λ f. f) (BlamesLinking w c.args.from c.args.to) fault c.from_residual-in_err-put_properties.result c.from_residual-in_err-put_properties.ensures.1
+    (blames_more (IsBroken w) (IsLinkingDamage w c.args.from c.args.to) (broken_links w c.args.from c.args.to) fault (c.in_err-put_properties.ensures.still tells))
 
 -- ---- and by the space as it is left alone
-
--- what is blamed is told so
-still_blamed : (s t : State) (from to : ℕ) (fault : ChangeFault) → BlamesLinking s t from to fault → IfBlames (IsEdgeDamage t from to) fault
-still_blamed s t from to fault told = blames_more (IsLinkingDamage s t from to) (IsEdgeDamage t from to) (link_still s t from to) fault told
 
 pub returns-in_err-ends-clause-still : goal.returns-in_err-ends-clause-still
 returns-in_err-ends-clause-still g c tells =
@@ -490,7 +472,7 @@ returns-in_err-ends-clause-still g c tells =
     let command = commands.Edge c.args.from c.args.label.now c.args.to c.args.pairs.now in
     let fault = c.in_err-ends.field-0.0 in
     fault_exit (λ f. f) (IsStillCaused command n names names) fault c.from_residual.result c.from_residual.ensures.1
-    (record { caused = caused_left command s n n names names c.end_degrees.ensures.state fault (ends_caused g at tells); damaged = still_blamed s n c.args.from c.args.to fault (ends_blamed g at tells) })
+    (record { caused = caused_left command s n n names names c.end_degrees.ensures.state fault (ends_caused g at tells); damaged = ends_blamed g at tells })
 
 pub returns-in_err-test_room-clause-still : goal.returns-in_err-test_room-clause-still
 returns-in_err-test_room-clause-still g c tells =
@@ -519,7 +501,6 @@ returns-in_err-prepared-clause-still g c tells =
 
 pub returns-in_err-id-clause-still : goal.returns-in_err-id-clause-still
 returns-in_err-id-clause-still g c tells =
-    let u = g.S.Reads.state c.prepare.new.space in
     let t = g.S.Reads.state c.put_edge.new.space in
     let names = c.args.names.now.names in
     let now = c.prepare.new.names.names in
@@ -528,7 +509,7 @@ returns-in_err-id-clause-still g c tells =
     fault_exit (λ f. f) (IsStillCaused command t names now) fault c.from_residual-in_err-id.result c.from_residual-in_err-id.ensures.1
     (record {
       caused = failure_caused command t t names now fault c.in_err-id.ensures.failure;
-      damaged = still_blamed u t c.args.from c.args.to fault (put_blamed g (goal.at.returns-in_err-id-clause-still g c).In_err-id tells);
+      damaged = put_blamed g (goal.at.returns-in_err-id-clause-still g c).In_err-id tells;
     })
 
 pub returns-in_err-put_properties-clause-still : goal.returns-in_err-put_properties-clause-still
@@ -546,5 +527,5 @@ returns-in_err-put_properties-clause-still g c tells =
     (fault_exit (λ f. f) (IsStillCaused command t names now) fault c.from_residual-in_err-put_properties.result c.from_residual-in_err-put_properties.ensures.1
     (record {
       caused = put_caused command t t names now pairs (length items) (assigned_blocks pairs items) needs.0 needs.1 (λ file any. any) fault told;
-      damaged = still_blamed t t c.args.from c.args.to fault (blames_more (IsBroken t) (IsLinkingDamage t t c.args.from c.args.to) (broken_links t t c.args.from c.args.to) fault (c.in_err-put_properties.ensures.still tells));
+      damaged = blames_more (IsBroken t) (IsLinkingDamage t c.args.from c.args.to) (broken_links t c.args.from c.args.to) fault (c.in_err-put_properties.ensures.still tells);
     }))

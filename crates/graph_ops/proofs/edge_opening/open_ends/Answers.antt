@@ -1,24 +1,23 @@
 use Rattle.std.proofs.Common.{◌≡◌, ◌≢◌, ◌+◌, ◌≤◌, ℕ, List, [], ap, sym, subst, arith, refl}
 use Rattle.rec_bytes.specs.declared.shape.Shape.{Shape}
 use Rattle.chain_edit.specs.Heads.{head_of}
+use Rattle.group_store.specs.Densing.{IsLateDamage}
 use Rattle.group_store.specs.Opening.{OpensChain, moved_writes}
 use Rattle.group_store.specs.declared.side.Side.TheVariants as sides
 use Rattle.graph_ops.specs.ChangeFault.{IsOutside}
 use Rattle.graph_ops.specs.Damage.{IfBlames}
-use Rattle.graph_ops.specs.EdgeAdding.{HasEndDegree, IsOpenDamage, IsUsedEnd}
-use Rattle.graph_ops.specs.EdgeEnds.{AreApart, AtEach, source_of, target_of}
+use Rattle.graph_ops.specs.EdgeAdding.{IsUsedEnd}
+use Rattle.graph_ops.specs.EdgeEnds.{AreApart, AtEach}
 use Rattle.graph_ops.specs.EdgeJoining.{edge_row}
 use Rattle.graph_ops.specs.EdgeOpening.{CanLink, OpensEnds, WritesEndsOpened, ends_moved}
 use Rattle.graph_ops.specs.declared.edge_end.EdgeEnd.{EdgeEnd}
 use Rattle.graph_ops.specs.declared.edge_end.EndDegree.{EndDegree}
-use Rattle.graph_ops.specs.declared.edge_end.Ends.{Ends}
 use Rattle.graph_ops.specs.declared.edge_end.Ends.TheVariants.{Loop, Two}
 use Rattle.store_rules.proofs.WriteLaws.{beside_written, more_written, then_written}
-use Rattle.graph_ops.proofs.Broken.{blames_more}
 use Rattle.graph_ops.proofs.DiskCauses.{change_cause_passed}
 use Rattle.graph_ops.proofs.EdgeOpening.{both_opened, can_link, end_of, in_side, joint_of, loop_opened, loop_side, out_side, source_can, source_room, target_can, target_room}
 use Rattle.graph_ops.proofs.Exits.{fault_exit}
-use Rattle.graph_ops.proofs.JoinBlames.{first_blamed, other_blamed, used_beside}
+use Rattle.graph_ops.proofs.JoinBlames.{used_beside}
 use Rattle.graph_ops.proofs.OpenWrites.{both_wrote}
 use Rattle.graph_ops.proofs.edge_opening.open_ends.Goals as goal
 use Rattle.graph_ops.proofs.edge_opening.open_ends.Goals.{In_ok-first-in-Two}
@@ -54,15 +53,9 @@ returns-in_ok-only-in-Loop-clause-writes g c =
     more_written (omega arith) (beside_written refl c.open_end.ensures.writes)
 
 pub returns-in_err-only-in-Loop-clause-damaged : goal.returns-in_err-only-in-Loop-clause-damaged
-returns-in_err-only-in-Loop-clause-damaged g c tells used degrees limit =
-    let s = g.S.Reads.state c.args.space.now in
-    let t = g.S.Reads.state c.open_end.new.space in
-    let end = c.in-Loop.end in
-    let fault = c.in_err-only-in-Loop.field-0.0 in
-    fault_exit (λ f. f) (IfBlames (IsOpenDamage s t (source_of c.args.joint.ends).node (target_of c.args.joint.ends).node)) fault c.from_residual.result c.from_residual.ensures.1
-    (subst (λ (e : Ends EndDegree). IfBlames (IsOpenDamage s t (source_of e).node (target_of e).node) fault) (sym c.in-Loop.is)
-    (blames_more _ _ (first_blamed s t end.node end.node end.degree c.args.joint.threshold (subst (AtEach (HasEndDegree s.records)) c.in-Loop.is degrees) limit) fault
-    (c.in_err-only-in-Loop.ensures.damaged tells (subst (AtEach (IsUsedEnd s)) c.in-Loop.is used) (omega (arith, limit)))))
+returns-in_err-only-in-Loop-clause-damaged g c tells used limit =
+    fault_exit (λ f. f) (IfBlames (IsLateDamage (g.S.Reads.state c.open_end.new.space))) c.in_err-only-in-Loop.field-0.0 c.from_residual.result c.from_residual.ensures.1
+    (c.in_err-only-in-Loop.ensures.damaged tells (subst (AtEach (IsUsedEnd (g.S.Reads.state c.args.space.now))) c.in-Loop.is used) (omega (arith, limit)))
 
 -- ---- two nodes
 pub returns-in_err-first-in-Two-clause-sound : goal.returns-in_err-first-in-Two-clause-sound
@@ -157,32 +150,21 @@ returns-in_err-last-in-Two-clause-cause g c =
 
 -- ---- which record is blamed
 pub returns-in_err-first-in-Two-clause-damaged : goal.returns-in_err-first-in-Two-clause-damaged
-returns-in_err-first-in-Two-clause-damaged g c tells used degrees limit =
-    let s = g.S.Reads.state c.args.space.now in
-    let t = g.S.Reads.state c.open_end-in-Two.new.space in
-    let a = c.in-Two.source in
-    let fault = c.in_err-first-in-Two.field-0.0 in
-    let has = subst (AtEach (HasEndDegree s.records)) c.in-Two.is degrees in
-    let are = subst (AtEach (IsUsedEnd s)) c.in-Two.is used in
-    fault_exit (λ f. f) (IfBlames (IsOpenDamage s t (source_of c.args.joint.ends).node (target_of c.args.joint.ends).node)) fault c.from_residual-in_err-first-in-Two.result c.from_residual-in_err-first-in-Two.ensures.1
-    (subst (λ (e : Ends EndDegree). IfBlames (IsOpenDamage s t (source_of e).node (target_of e).node) fault) (sym c.in-Two.is)
-    (blames_more _ _ (first_blamed s t a.node c.in-Two.target.node a.degree c.args.joint.threshold has.0 limit) fault (c.in_err-first-in-Two.ensures.damaged tells are.0 (omega (arith, limit)))))
+returns-in_err-first-in-Two-clause-damaged g c tells used limit =
+    let are = subst (AtEach (IsUsedEnd (g.S.Reads.state c.args.space.now))) c.in-Two.is used in
+    fault_exit (λ f. f) (IfBlames (IsLateDamage (g.S.Reads.state c.open_end-in-Two.new.space))) c.in_err-first-in-Two.field-0.0 c.from_residual-in_err-first-in-Two.result c.from_residual-in_err-first-in-Two.ensures.1
+    (c.in_err-first-in-Two.ensures.damaged tells are.0 (omega (arith, limit)))
 
 pub returns-in_err-last-in-Two-clause-damaged : goal.returns-in_err-last-in-Two-clause-damaged
-returns-in_err-last-in-Two-clause-damaged g c tells used degrees limit =
+returns-in_err-last-in-Two-clause-damaged g c tells used limit =
     let s = g.S.Reads.state c.args.space.now in
     let m = g.S.Reads.state c.open_end-in-Two.new.space in
     let t = g.S.Reads.state c.open_end-in-Two-2.new.space in
     let a = c.in-Two.source in
     let b = c.in-Two.target in
-    let fault = c.in_err-last-in-Two.field-0.0 in
-    let has = subst (AtEach (HasEndDegree s.records)) c.in-Two.is degrees in
     let are = subst (AtEach (IsUsedEnd s)) c.in-Two.is used in
     let now = subst (λ (h : Shape). h.threshold ≤ c.args.joint.threshold) (sym (g.met.S.Reads.onward_shape _ _ c.open_end-in-Two.ensures.onward)) (omega (arith, limit)) in
-    let beside = c.in_ok-first-in-Two.ensures.beside tells in
     let differ = differs g (goal.at.returns-in_err-last-in-Two-clause-damaged g c).In_ok-first-in-Two in
-    let apart = λ (e : b.node ≡ a.node). differ (sym e) in
-    fault_exit (λ f. f) (IfBlames (IsOpenDamage s t (source_of c.args.joint.ends).node (target_of c.args.joint.ends).node)) fault c.from_residual-in_err-last-in-Two.result c.from_residual-in_err-last-in-Two.ensures.1
-    (subst (λ (e : Ends EndDegree). IfBlames (IsOpenDamage s t (source_of e).node (target_of e).node) fault) (sym c.in-Two.is)
-    (blames_more _ _ (other_blamed s m t a.node b.node b.degree c.args.joint.threshold beside apart has.1 limit) fault
-    (c.in_err-last-in-Two.ensures.damaged tells (used_beside s m a.node b.node beside apart are.1) now)))
+    let still = used_beside s m a.node b.node (c.in_ok-first-in-Two.ensures.beside tells) (λ (e : b.node ≡ a.node). differ (sym e)) are.1 in
+    fault_exit (λ f. f) (IfBlames (IsLateDamage t)) c.in_err-last-in-Two.field-0.0 c.from_residual-in_err-last-in-Two.result c.from_residual-in_err-last-in-Two.ensures.1
+    (c.in_err-last-in-Two.ensures.damaged tells still now)

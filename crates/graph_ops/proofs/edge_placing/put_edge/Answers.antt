@@ -76,17 +76,15 @@ returns-clause-err_writes g c =
 
 -- ---- which record is blamed
 pub returns-in_err-ends-clause-damaged : goal.returns-in_err-ends-clause-damaged
-returns-in_err-ends-clause-damaged g c tells used degrees limit =
-    let s = g.S.Reads.state c.args.space.now in
-    fault_exit (λ f. f) (IfBlames (IsLinkingDamage s (g.S.Reads.state c.open_ends.new.space) (from_of c.args.joint) (to_of c.args.joint))) c.in_err-ends.field-0.0 c.from_residual.result c.from_residual.ensures.1
-    (blames_more _ _ (λ damage told. inl told) c.in_err-ends.field-0.0 (c.in_err-ends.ensures.damaged tells used degrees limit))
+returns-in_err-ends-clause-damaged g c tells used limit =
+    fault_exit (λ f. f) (IfBlames (IsLinkingDamage (g.S.Reads.state c.open_ends.new.space) (from_of c.args.joint) (to_of c.args.joint))) c.in_err-ends.field-0.0 c.from_residual.result c.from_residual.ensures.1
+    (blames_more _ _ (λ damage told. inl told) c.in_err-ends.field-0.0 (c.in_err-ends.ensures.damaged tells used limit))
 
 pub returns-clause-damaged : goal.returns-clause-damaged
-returns-clause-damaged g c tells used degrees limit =
-    let s = g.S.Reads.state c.args.space.now in
+returns-clause-damaged g c tells used limit =
     let u = g.S.Reads.state c.join_edge.new.space in
     let nodes = c.in_ok-ends.ensures.nodes in
     let at = c.in_ok-ends.ensures.at in
-    if_blames c.join_edge.result (IsJoinDamage u (from_of c.args.joint) (to_of c.args.joint)) (IsLinkingDamage s u (from_of c.args.joint) (to_of c.args.joint)) (λ damage told. inr told)
+    if_blames c.join_edge.result (IsJoinDamage u (from_of c.args.joint) (to_of c.args.joint)) (IsLinkingDamage u (from_of c.args.joint) (to_of c.args.joint)) (λ damage told. inr told)
     (subst (λ n. IfErr c.join_edge.result (IfBlames (IsJoinDamage u n (to_of c.args.joint)))) nodes.0
     (subst (λ n. IfErr c.join_edge.result (IfBlames (IsJoinDamage u (source_of c.in_ok-ends.ends).node n))) nodes.1 (c.join_edge.ensures.damaged tells at)))

@@ -1,9 +1,9 @@
 use Rattle.store_rules.specs.Breaking.{IsHeadChain}
 use Rattle.store_rules.specs.Rules.{node_head}
-use Rattle.std.proofs.Common.{◌≡◌, ◌≢◌, ◌∙◌, ◌+◌, ◌*◌, length, ap, subst, sym, inl, inr, arith}
+use Rattle.std.proofs.Common.{◌≡◌, ◌≢◌, ◌∙◌, ◌+◌, ◌*◌, [], ◌∷◌, ◌++◌, length, ap, subst, sym, inl, inr, arith}
 use Rattle.rec_bytes.specs.declared.damage.Damage.{Damage}
 use Rattle.rec_bytes.specs.Fault.{of_row}
-use Rattle.rec_bytes.specs.Format.{nodes_file, sparse as sparse_kind}
+use Rattle.rec_bytes.specs.Format.{nil, nodes_file, sparse as sparse_kind}
 use Rattle.rec_bytes.specs.Space.{State}
 use Rattle.node_store.proofs.Rows.{kind-row_at-None as no_node_row, kind-row_at-Some as node_row}
 use Rattle.store_rules.specs.Breaking.{Breaks}
@@ -12,7 +12,7 @@ use Rattle.group_store.specs.GroupChain.{IsDense}
 use Rattle.group_store.proofs.Arrivals.{members_read, part_all, part_known, part_next, part_none, readable_after, sparse_read, turn_over, turn_sound}
 use Rattle.group_store.proofs.BrokenGroups.{node_fault_breaks}
 use Rattle.group_store.proofs.ChainHeads.{same_twice}
-use Rattle.group_store.proofs.DenseFaults.{broken_then, can_of, end_broken, end_moved, left_there, none_unused, sparse_known, sparse_undamaged, unmoved}
+use Rattle.group_store.proofs.DenseFaults.{broken_then, can_of, end_broken, end_late, none_unused, sparse_known, sparse_undamaged, unmoved}
 use Rattle.group_store.proofs.DenseStays.{dense_cleared}
 use Rattle.group_store.proofs.GroupWalks.{not_damaged, not_damaged_at}
 use Rattle.group_store.proofs.Raises.{breaks_read}
@@ -23,6 +23,9 @@ use Rattle.store_rules.specs.Views.{degree, first_link, kind_at}
 use Rattle.std.proofs.lemmas.Result.{err_from_is_err_and}
 use Rattle.group_store.specs.declared.moved.Turn.{Turn}
 use Rattle.group_store.proofs.FirstGroups.{node_fault, only_loads_node}
+use Rattle.group_store.specs.Spreading.{LeadsAmong, cleared}
+use Rattle.group_store.proofs.Gathers.{beside_rels}
+use Rattle.group_store.proofs.Leadings.{leads_cleared, rest_all, rest_live, rest_next, rest_over}
 use Rattle.group_store.proofs.Comings.{come_beside, come_next, come_none, come_touches, one_longer}
 use Rattle.group_store.proofs.Touches.{node_touched, touches_beside, touches_more, touches_none, touches_then}
 use Rattle.group_store.proofs.Openings.{handed}
@@ -45,6 +48,11 @@ loop-init g c =
           moved.relationships moved.groups can;
       part = λ tells members free can. part_all s v t c.args.node c.in-Some.row members free c.new-moved.result.relationships.items c.new-moved.result.groups.items same (sym c.in-Some.is ∙ c.in_ok-row.ensures.found tells) (c.in_ok-clear.ensures.ok tells)
           moved.relationships moved.groups can;
+      leads = λ tells. subst (λ (q : State). LeadsAmong q.records c.args.node c.new-moved.result.relationships.items c.new-moved.result.groups.items) (sym (c.in_ok-clear.ensures.ok tells))
+          (subst (λ xs. LeadsAmong (cleared v c.args.node).records c.args.node xs c.new-moved.result.groups.items) (sym moved.relationships)
+          (subst (λ gs. LeadsAmong (cleared v c.args.node).records c.args.node (nil ∷ []) gs) (sym moved.groups) (leads_cleared v c.args.node)));
+      rest = λ tells. rest_all s l v t c.args.node c.in-Some.row.first c.in-Some.row.degree (only_loads_node s l c.args.node c.load.ensures.state) same (c.in_ok-clear.ensures.ok tells)
+          (row_degree s c.args.node c.in-Some.row (sym c.in-Some.is ∙ c.in_ok-row.ensures.found tells)) (c.in_ok-test_chain.ensures.chain tells);
       dense = λ tells.
           let used = (node_row s.records c.args.node c.in-Some.row (sym (sym c.in-Some.is ∙ c.in_ok-row.ensures.found tells))).0 in
           subst (λ (q : State). IsDense q.records c.args.node) (sym (c.in_ok-clear.ensures.ok tells))
@@ -72,6 +80,9 @@ loop-preserved g c =
       left = λ tells most empty can. left_next s now end c.args.node c.loop.at c.loop.counter most empty came groups turn c.if-at.false (c.in_ok-turn.ensures.own tells) (was.left tells most empty can) xs ys
           c.note.ensures.relationships c.note.ensures.groups (c.in_ok-turn.ensures.moved tells);
       part = λ tells members free can. part_next s now c.args.node c.loop.at c.loop.counter members came groups c.if-at.false (was.part tells members free can) end turn xs ys c.note.ensures.relationships c.note.ensures.groups (c.in_ok-turn.ensures.local tells);
+      leads = λ tells. subst (λ zs. LeadsAmong end.records c.args.node zs ys) (sym c.note.ensures.relationships)
+          (subst (λ zs. LeadsAmong end.records c.args.node (came ++ c.loop.at ∷ []) zs) (sym c.note.ensures.groups) (c.in_ok-turn.ensures.leads tells came groups (was.leads tells)).0);
+      rest = λ tells. rest_next s now c.args.node c.loop.at c.loop.counter c.if-at.false (was.rest tells) end turn.next (c.in_ok-turn.ensures.walk tells);
       dense = λ tells. c.in_ok-turn.ensures.dense tells (was.dense tells);
       beside = λ tells. beside_then s.records now.records end.records c.args.node (was.beside tells) (c.in_ok-turn.ensures.beside tells);
       writes = come_next s now end c.args.node c.loop.at turn came groups xs ys was.writes c.in_ok-turn.ensures.wrote (c.note.ensures.known.0 c.if-not-note.false) c.note.ensures.relationships c.note.ensures.groups;
@@ -295,8 +306,8 @@ returns-then-row-threshold-clause-damaged g c = λ tells sparse le.
     let s = g.S.Reads.state c.args.space.now in
     let same = only_loads_node s (g.S.Reads.state c.load.new.space) c.args.node c.load.ensures.state in
     let e = row_degree s c.args.node c.in-Some.row (sym c.in-Some.is ∙ c.in_ok-row.ensures.found tells) in
-    inl (inl (inl (subst (λ (q : State). Breaks q.records q.shape c.degree_damage.result) (sym same)
-    (subst (λ (d : Damage). Breaks s.records s.shape d) (sym c.degree_damage.ensures) (many_break s c.args.node sparse c.args.threshold le (omega (arith, c.if-row-threshold.true, e)))))))
+    inl (inl (subst (λ (q : State). Breaks q.records q.shape c.degree_damage.result) (sym same)
+    (subst (λ (d : Damage). Breaks s.records s.shape d) (sym c.degree_damage.ensures) (many_break s c.args.node sparse c.args.threshold le (omega (arith, c.if-row-threshold.true, e))))))
 
 pub returns-in_err-test_chain-clause-damaged : goal.returns-in_err-test_chain-clause-damaged
 returns-in_err-test_chain-clause-damaged g c = λ tells sparse le.
@@ -317,31 +328,19 @@ returns-in_err-turn-clause-damaged g c = λ tells sparse le.
     let now = g.S.Reads.state c.loop.space in
     let was = c.loop.invariant in
     let p = err_from_is_err_and c.from_residual-in_err-turn.result c.from_residual-in_err-turn.ensures.1 in
-    rw (p.1, p.2) (unmoved s now (g.S.Reads.state c.move_one.new.space) c.args.node c.loop.at c.in_err-turn.field-0.0 (c.in_err-turn.ensures.damaged tells (was.dense tells))
-    (λ none most empty can. left_there s now c.args.node c.loop.at c.loop.counter most empty c.loop.moved.relationships.items c.loop.moved.groups.items c.if-at.false (was.left tells most empty can) none))
+    rw (p.1, p.2) (unmoved now (g.S.Reads.state c.move_one.new.space) c.args.node c.loop.at c.in_err-turn.field-0.0 (c.in_err-turn.ensures.damaged tells (was.dense tells))
+    (λ none. rest_live s now c.args.node c.loop.at c.loop.counter c.if-at.false (was.rest tells) (sym (beside_rels s.records now.records c.args.node (was.beside tells) c.loop.at) ∙ none)))
 
 pub returns-then-not-note-clause-damaged : goal.returns-then-not-note-clause-damaged
 returns-then-not-note-clause-damaged g c = λ tells sparse le.
-    let s = g.S.Reads.state c.args.space.now in
-    let now = g.S.Reads.state c.loop.space in
-    let end = g.S.Reads.state c.move_one.new.space in
-    inr (
-      c.rels_damage.ensures,
-      λ most empty can.
-          false≢true (sym c.if-not-note.true ∙ c.note.ensures.known.1 (turn_known s now end c.args.node c.loop.at c.loop.counter most empty c.loop.moved.relationships.items c.loop.moved.groups.items c.in_ok-turn.turn c.if-at.false
-          (c.in_ok-turn.ensures.own tells) (c.loop.invariant.left tells most empty can))),
-    )
+    let was = c.loop.invariant in
+    absurd (false≢true (sym c.if-not-note.true ∙ c.note.ensures.known.1 (c.in_ok-turn.ensures.leads tells c.loop.moved.relationships.items c.loop.moved.groups.items (was.leads tells)).1))
 
 pub returns-then-at-2-clause-damaged : goal.returns-then-at-2-clause-damaged
 returns-then-at-2-clause-damaged g c = λ tells sparse le.
     let s = g.S.Reads.state c.args.space.now in
     let e = row_degree s c.args.node c.in-Some.row (sym c.in-Some.is ∙ c.in_ok-row.ensures.found tells) in
-    inr (
-      c.rels_damage-then-at-2.ensures,
-      λ most empty can.
-          none_over s (g.S.Reads.state c.loop.space) c.args.node c.loop.at c.loop.counter most empty c.loop.moved.relationships.items c.loop.moved.groups.items c.if-at-2.true
-          (c.loop.invariant.left tells most empty can) (omega (arith, c.loop-test.false, e)),
-    )
+    absurd (rest_over s (g.S.Reads.state c.loop.space) c.args.node c.loop.at c.loop.counter c.if-at-2.true (c.loop.invariant.rest tells) (omega (arith, c.loop-test.false, e)))
 
 -- ---- by what the node has alone
 
@@ -440,7 +439,7 @@ returns-in_default-clause-told g c = λ tells thin le.
     let l = g.S.Reads.state c.load.new.space in
     let same = only_loads_node s l c.args.node c.load.ensures.state in
     let none = no_node_row s.records c.args.node (sym (sym c.in_default.is ∙ c.in_ok-row.ensures.found tells)) in
-    inr (inr (c.chain_damage.ensures, subst (λ (q : State). kind_at q.records nodes_file c.args.node ≡ 0) (sym same) none))
+    inr (c.chain_damage.ensures, subst (λ (q : State). kind_at q.records nodes_file c.args.node ≡ 0) (sym same) none)
 
 pub returns-then-row-clause-told : goal.returns-then-row-clause-told
 returns-then-row-clause-told g c = λ tells thin le.
@@ -472,14 +471,24 @@ returns-in_err-test_chain-clause-told g c = λ tells thin le.
 
 pub returns-in_err-turn-clause-told : goal.returns-in_err-turn-clause-told
 returns-in_err-turn-clause-told g c = λ tells thin le.
+    let s = g.S.Reads.state c.args.space.now in
+    let now = g.S.Reads.state c.loop.space in
+    let was = c.loop.invariant in
     let p = err_from_is_err_and c.from_residual-in_err-turn.result c.from_residual-in_err-turn.ensures.1 in
-    rw (p.1, p.2) (end_moved (g.S.Reads.state c.loop.space) (g.S.Reads.state c.move_one.new.space) c.args.node c.loop.at c.in_err-turn.field-0.0 (c.in_err-turn.ensures.damaged tells (c.loop.invariant.dense tells)))
+    rw (p.1, p.2) (end_late (g.S.Reads.state c.move_one.new.space) c.args.node c.in_err-turn.field-0.0
+    (unmoved now (g.S.Reads.state c.move_one.new.space) c.args.node c.loop.at c.in_err-turn.field-0.0 (c.in_err-turn.ensures.damaged tells (was.dense tells))
+    (λ none. rest_live s now c.args.node c.loop.at c.loop.counter c.if-at.false (was.rest tells) (sym (beside_rels s.records now.records c.args.node (was.beside tells) c.loop.at) ∙ none))))
 
 pub returns-then-not-note-clause-told : goal.returns-then-not-note-clause-told
-returns-then-not-note-clause-told g c = λ tells thin le. inr (inl c.rels_damage.ensures)
+returns-then-not-note-clause-told g c = λ tells thin le.
+    let was = c.loop.invariant in
+    absurd (false≢true (sym c.if-not-note.true ∙ c.note.ensures.known.1 (c.in_ok-turn.ensures.leads tells c.loop.moved.relationships.items c.loop.moved.groups.items (was.leads tells)).1))
 
 pub returns-then-at-2-clause-told : goal.returns-then-at-2-clause-told
-returns-then-at-2-clause-told g c = λ tells thin le. inr (inl c.rels_damage-then-at-2.ensures)
+returns-then-at-2-clause-told g c = λ tells thin le.
+    let s = g.S.Reads.state c.args.space.now in
+    let e = row_degree s c.args.node c.in-Some.row (sym c.in-Some.is ∙ c.in_ok-row.ensures.found tells) in
+    absurd (rest_over s (g.S.Reads.state c.loop.space) c.args.node c.loop.at c.loop.counter c.if-at-2.true (c.loop.invariant.rest tells) (omega (arith, c.loop-test.false, e)))
 
 -- ---- what is left of other records
 

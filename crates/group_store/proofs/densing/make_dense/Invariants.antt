@@ -2,8 +2,10 @@ use Rattle.std.proofs.Common.{◌≡◌, ◌+◌, ◌≤◌, ℕ, List, length}
 use Rattle.group_store.specs.Densing.{CanBecomeDense, CanSpread}
 use Rattle.group_store.specs.GroupChain.{IsDense}
 use Rattle.group_store.specs.Leaving.{LeavesBeside}
+use Rattle.group_store.specs.Spreading.{LeadsAmong}
 use Rattle.group_store.proofs.Arrivals.{HasPart}
 use Rattle.group_store.proofs.Comings.{WritesCome}
+use Rattle.group_store.proofs.Leadings.{HasRest}
 use Rattle.group_store.proofs.Spreads.{HasLeft}
 use Rattle.group_store.proofs.densing.make_dense.Given as goal
 
@@ -14,6 +16,8 @@ invariant-loop g l =
     record {
       left : g.S.Reads.tells → (most : ℕ) (empty : List ℕ) → CanBecomeDense s l.fn.node most empty → HasLeft s (g.S.Reads.state l.space) l.fn.node l.at l.counter most empty l.moved.relationships.items l.moved.groups.items;
       part : g.S.Reads.tells → (members free : List ℕ) → CanSpread s l.fn.node members free → HasPart s (g.S.Reads.state l.space) l.fn.node l.at l.counter members l.moved.relationships.items l.moved.groups.items;
+      leads : g.S.Reads.tells → LeadsAmong (g.S.Reads.state l.space).records l.fn.node l.moved.relationships.items l.moved.groups.items;
+      rest : g.S.Reads.tells → HasRest s (g.S.Reads.state l.space) l.fn.node l.at l.counter;
       dense : g.S.Reads.tells → IsDense (g.S.Reads.state l.space).records l.fn.node;
       beside : g.S.Reads.tells → LeavesBeside s.records (g.S.Reads.state l.space).records l.fn.node;
       writes : WritesCome s (g.S.Reads.state l.space) l.fn.node l.moved.relationships.items l.moved.groups.items;

@@ -22,6 +22,8 @@ use Rattle.group_store.proofs.DenseStays.{dense_moved}
 use Rattle.group_store.specs.GroupChain.{IsDense, IsGroupChain}
 use Rattle.rec_bytes.specs.Fault.{of_row}
 use Rattle.group_store.proofs.GroupWalks.{not_damaged_at}
+use Rattle.group_store.proofs.Leadings.{leads_turn, walk_turn}
+use Rattle.group_store.proofs.SparseChains.{links_are}
 use Rattle.group_store.proofs.Touches.{four_touched, made_touched, touches_more, touches_none}
 use Rattle.group_store.specs.declared.making.OwnGroup.{OwnGroup}
 use Rattle.group_store.specs.declared.moved.Turn.{Turn}
@@ -133,6 +135,23 @@ returns-clause-local g c = λ tells came rest groups free spreading.
     (g.S.Reads.state c.free_previous.new.space) (g.S.Reads.state c.push_counted.new.space) (head_of c.group_head-head.result) c.in_ok-first.first c.end_links-next.result.1 (c.in_ok-free_previous.ensures.ok tells)
     (c.group_head-head.ensures.is ∙ ap (λ (side : Side). group_head c.in_ok-own.own.row.id side) c.at.ensures) (c.in_ok-first.ensures.ok tells) (c.in_ok-first.ensures.first tells)
     (λ rec is. ap (λ (p : ℕ × ℕ). p.1) (c.end_links-next.ensures.of_record rec is))
+
+pub returns-clause-leads : goal.returns-clause-leads
+returns-clause-leads g c = λ tells.
+    let s = g.S.Reads.state c.args.space.now in
+    let l = g.S.Reads.state c.load.new.space in
+    let key = subst (λ (o : Option RelRow). IfSome o (λ _. IsKey (rel_key c.args.rel))) c.in-Some.is c.in_ok-row.ensures.key in
+    leads_turn s l (g.S.Reads.state c.own_group.new.space) (g.S.Reads.state c.free_previous.new.space) (g.S.Reads.state c.push_counted.new.space) c.args.node c.args.rel c.at.result (head_of c.group_head-head.result) c.in_ok-own.own c.in_ok-first.first
+    (only_loads s l c.args.rel c.load.ensures.state) (c.in_ok-own.ensures.leads tells) c.in_ok-own.ensures.key.id key.id (c.in_ok-free_previous.ensures.ok tells) c.group_head-head.ensures.is (c.in_ok-first.ensures.ok tells) (c.in_ok-first.ensures.first tells)
+
+pub returns-clause-walk : goal.returns-clause-walk
+returns-clause-walk g c = λ tells.
+    let s = g.S.Reads.state c.args.space.now in
+    let l = g.S.Reads.state c.load.new.space in
+    let key = subst (λ (o : Option RelRow). IfSome o (λ _. IsKey (rel_key c.args.rel))) c.in-Some.is c.in_ok-row.ensures.key in
+    walk_turn s l (g.S.Reads.state c.own_group.new.space) (g.S.Reads.state c.free_previous.new.space) (g.S.Reads.state c.push_counted.new.space) c.args.node c.args.rel c.at.result (head_of c.group_head-head.result) c.in_ok-own.own.row.id c.end_links-next.result.1
+    (only_loads s l c.args.rel c.load.ensures.state) (c.in_ok-own.ensures.rels tells) key.id (c.in_ok-free_previous.ensures.ok tells) c.group_head-head.ensures.is (c.in_ok-first.ensures.ok tells)
+    (links_are s.records c.args.node c.args.rel c.in-Some.row c.end_links-next.result (sym c.in-Some.is ∙ c.in_ok-row.ensures.found tells) c.end_links-next.ensures.of_record).1
 
 pub returns-in_err-row-clause-never : goal.returns-in_err-row-clause-never
 returns-in_err-row-clause-never g c = λ tells came rest groups free spreading node readable full.

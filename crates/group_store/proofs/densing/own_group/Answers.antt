@@ -1,11 +1,13 @@
 use Rattle.std.proofs.Common.{arith, ◌≡◌, ◌≢◌, Option, Some, inl, inr, refl, ◌∷◌, [], ℕ, List, ap, subst, sym, ◌∙◌}
 use Rattle.rec_bytes.specs.RecordFiles.{meta_key_of}
-use Rattle.rec_bytes.specs.Format.{groups_file}
+use Rattle.rec_bytes.specs.Format.{groups_file, relationships_file}
 use Rattle.rec_bytes.specs.Space.{SameButReads, State, WritesOnly, meta_of}
 use Rattle.node_store.specs.NodeRecord.{node_key}
+use Rattle.std.specs.Prelude.{IfSome}
+use Rattle.store_rules.specs.Views.{first_link, rec_at}
 use Rattle.group_store.specs.declared.group_row.GroupRow.{GroupRow}
 use Rattle.group_store.specs.declared.making.OwnGroup.{OwnGroup}
-use Rattle.group_store.specs.Finding.{IsFound}
+use Rattle.group_store.specs.Finding.{IsFound, IsReached}
 use Rattle.group_store.specs.GroupChain.{IsDense, LacksGroup}
 use Rattle.group_store.specs.GroupRecord.{group_key}
 use Rattle.group_store.specs.Making.{IsMakeFault, made}
@@ -23,6 +25,7 @@ use Rattle.group_store.proofs.OwnRoom.{can_make, can_walk, chain_ids, free_ids, 
 use Rattle.group_store.proofs.OwnGroups.{if_ok, keeps_then, none_found, opened_found, opened_made, writes_after}
 use Rattle.group_store.proofs.Turns.{found_grows, made_grows}
 use Rattle.group_store.proofs.Causes.{cause_passed}
+use Rattle.group_store.proofs.Leadings.{leads_found, leads_own, rels_made}
 use Rattle.group_store.proofs.LeftBeside.{beside_made, beside_read, beside_then, if_done}
 use Rattle.group_store.specs.Leaving.{LeavesBeside}
 use Rattle.group_store.proofs.densing.own_group.Goals as goal
@@ -259,3 +262,31 @@ returns-in-None-clause-beside g c = λ tells.
     if_done c.make_own.result (end ≡ made now c.args.node c.args.label) (LeavesBeside s.records end.records c.args.node)
     (λ is. beside_then s.records now.records end.records c.args.node (beside_read s now c.args.node (same_read _ s now c.find_group.ensures.at_most))
     (subst (λ (t : State). LeavesBeside now.records t.records c.args.node) (sym is) (beside_made now c.args.node c.args.label))) (c.make_own.ensures.ok tells)
+
+-- ---- the groups, whatever the records are
+
+pub returns-in-Some-clause-leads : goal.returns-in-Some-clause-leads
+returns-in-Some-clause-leads g c = λ tells.
+    let s = g.S.Reads.state c.args.space.now in
+    let now = g.S.Reads.state c.find_group.new.space in
+    leads_found s now c.args.node c.in-Some.row.id (same_read _ s now c.find_group.ensures.at_most)
+    (subst (λ (o : Option GroupRow). IfSome o (λ row. IsReached s.records (first_link s.records c.args.node) row.id)) c.in-Some.is (c.in_ok-row.ensures.reached tells))
+
+pub returns-in-None-clause-leads : goal.returns-in-None-clause-leads
+returns-in-None-clause-leads g c = λ tells.
+    let s = g.S.Reads.state c.args.space.now in
+    let now = g.S.Reads.state c.find_group.new.space in
+    leads_own c.make_own.result s now (g.S.Reads.state c.make_own.new.space) c.args.node (same_read _ s now c.find_group.ensures.at_most) (c.make_own.ensures.leads tells) (c.make_own.ensures.first tells)
+
+pub returns-in-Some-clause-rels : goal.returns-in-Some-clause-rels
+returns-in-Some-clause-rels g c = λ tells x.
+    let s = g.S.Reads.state c.args.space.now in
+    ap (λ (t : State). rec_at t.records relationships_file x) (same_read _ s (g.S.Reads.state c.find_group.new.space) c.find_group.ensures.at_most)
+
+pub returns-in-None-clause-rels : goal.returns-in-None-clause-rels
+returns-in-None-clause-rels g c = λ tells.
+    let s = g.S.Reads.state c.args.space.now in
+    let now = g.S.Reads.state c.find_group.new.space in
+    let end = g.S.Reads.state c.make_own.new.space in
+    if_done c.make_own.result (end ≡ made now c.args.node c.args.label) ((x : ℕ) → rec_at end.records relationships_file x ≡ rec_at s.records relationships_file x)
+    (λ is x. ap (λ (t : State). rec_at t.records relationships_file x) is ∙ rels_made now c.args.node c.args.label x ∙ ap (λ (t : State). rec_at t.records relationships_file x) (same_read _ s now c.find_group.ensures.at_most)) (c.make_own.ensures.ok tells)

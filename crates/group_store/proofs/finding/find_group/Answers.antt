@@ -1,6 +1,6 @@
 use Rattle.std.proofs.Common.{arith, subst}
 use Rattle.group_store.specs.FirstGroup.{IsFirst}
-use Rattle.group_store.proofs.FirstGroups.{all_reads_then, fault_then, found_then, none_then, reads_then, walkable_then}
+use Rattle.group_store.proofs.FirstGroups.{all_reads_then, fault_then, found_then, none_then, reached_then, reads_then, walkable_then}
 use Rattle.group_store.proofs.Causes.{cause_passed}
 use Rattle.group_store.proofs.finding.find_group.Goals as goal
 
@@ -32,3 +32,9 @@ returns-in-Some-clause-damaged g c = λ tells.
 pub returns-in_err-first-clause-cause : goal.returns-in_err-first-clause-cause
 returns-in_err-first-clause-cause g c =
     cause_passed _ _ _ c.from_residual.result c.in_err-first.field-0.0 (omega arith) c.in_err-first.ensures.cause c.from_residual.ensures.1
+
+pub returns-in-Some-clause-reached : goal.returns-in-Some-clause-reached
+returns-in-Some-clause-reached g c = λ tells.
+    let s = g.R.Reads.state c.args.space.now in
+    let first = subst (IsFirst s.records c.args.node) c.in-Some.is (c.in_ok-first.ensures.first tells) in
+    reached_then s (g.R.Reads.state c.first_group.new.space) c.args.node c.in-Some.first c.seek.result c.in_ok-first.ensures.at_most first.1 (c.seek.ensures.reached tells)

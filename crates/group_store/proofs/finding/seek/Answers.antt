@@ -3,6 +3,9 @@ use Rattle.std.proofs.lemmas.List.{length_push}
 use Rattle.std.proofs.lemmas.Result.{err_from_is_err_and}
 use Rattle.rec_bytes.specs.declared.meta.Meta.{Meta}
 use Rattle.rec_bytes.proofs.Spaces.{after_gets-zero}
+use Rattle.store_rules.specs.Chains.{In}
+use Rattle.group_store.specs.declared.group_row.GroupRow.{GroupRow}
+use Rattle.group_store.specs.Finding.{IsReached}
 use Rattle.group_store.specs.GroupChain.{up_to_type}
 use Rattle.group_store.specs.Loading.{group_mark}
 use Rattle.group_store.specs.Walking.{IsWalkDamage}
@@ -19,6 +22,7 @@ loop-init g c =
     record {
       met = λ tells. ([], passed_none s.records c.args.node c.args.first, lacks_none s.records c.args.label, refl);
       left = λ tells xs walk few. (xs, walk, omega arith, λ g i. i);
+      reached = λ tells groups first next. first;
       read = sym (after_gets-zero s);
       onward = g.met.R.Reads.stays_onward c.args.space.now;
       later = omega arith;
@@ -45,6 +49,9 @@ loop-preserved g c =
       left = λ tells xs walk few.
           let link = link_then s now c.loop.counter c.loop.at c.number-at.result c.in_ok-rec.rec c.loop.invariant.read (c.in_ok-rec.ensures.got tells) c.number-at.ensures in
           left_more s.records (c.meta-budget.result.high - c.loop.counter) (c.meta-budget.result.high - (c.loop.counter + 1)) c.loop.at c.number-at.result xs less some link (c.loop.invariant.left tells xs walk few);
+      reached = λ tells groups first next.
+          let link = link_then s now c.loop.counter c.loop.at c.number-at.result c.in_ok-rec.rec c.loop.invariant.read (c.in_ok-rec.ensures.got tells) c.number-at.ensures in
+          subst (λ z. In z groups) (sym link) (next c.loop.at (c.loop.invariant.reached tells groups first next) some);
       read = read_next s now (g.R.Reads.state c.read_member.new.space) c.loop.counter (c.loop.counter + 1) refl c.loop.invariant.read c.in_ok-rec.ensures.read;
       onward = g.met.R.Reads.further_onward c.args.space.now c.loop.space c.read_member.new.space c.loop.invariant.onward c.in_ok-rec.ensures.onward;
       later = let cause = c.in_ok-rec.ensures.cause in omega (arith, c.loop.invariant.later, cause.later);
@@ -127,6 +134,10 @@ returns-then-number-label-clause-found g c = λ tells.
     let got = rec_then s now c.loop.counter c.loop.at c.in_ok-rec.rec c.loop.invariant.read (c.in_ok-rec.ensures.got tells) in
     let typed = type_then s now c.loop.counter c.loop.at c.args.label c.in_ok-rec.rec c.number.result got c.number.ensures in
     group_found s.records c.args.node c.args.label c.loop.at c.in_ok-rec.rec c.row_of.result got c.row_of.ensures member (sym typed ∙ c.if-number-label.true)
+
+pub returns-then-number-label-clause-reached : goal.returns-then-number-label-clause-reached
+returns-then-number-label-clause-reached g c = λ tells.
+    subst (IsReached (g.R.Reads.state c.args.space.now).records c.args.first) (sym (ap (λ (r : GroupRow). r.id) c.row_of.ensures)) (c.loop.invariant.reached tells)
 
 pub returns-then-at-2-clause-damaged : goal.returns-then-at-2-clause-damaged
 returns-then-at-2-clause-damaged g c = λ tells.

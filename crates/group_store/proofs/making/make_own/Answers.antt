@@ -1,5 +1,5 @@
 use Rattle.std.proofs.Common.{◌≡◌, ap, sym, subst, arith}
-use Rattle.std.specs.Prelude.{Err, IfSome, Option, ℕ, ◌∷◌, []}
+use Rattle.std.specs.Prelude.{Err, IfSome, Option, ℕ, ◌∷◌, ◌++◌, []}
 use Rattle.group_store.specs.declared.group_row.GroupRow.{GroupRow}
 use Rattle.group_store.specs.declared.making.OwnGroup.{OwnGroup}
 use Rattle.std.proofs.lemmas.Bool.{false≢true}
@@ -12,6 +12,8 @@ use Rattle.group_store.specs.FirstGroup.{IsFirst}
 use Rattle.group_store.specs.GroupRecord.{group_key}
 use Rattle.group_store.specs.Making.{IsMakeDamage, IsMakeFault, link_damage}
 use Rattle.group_store.specs.Making.IsMakeDamage.{NotDense, BadLink}
+use Rattle.group_store.specs.Spreading.{LeadsAmong}
+use Rattle.group_store.proofs.Leadings.{leads_made}
 use Rattle.group_store.proofs.MakeSteps.{all_writes, link_told, made_has, made_is, node_told, on_damage, right_first, same_read, same_then, same_writes, take_told}
 use Rattle.group_store.proofs.MadeRules.{rules_made}
 use Rattle.id_freelist.specs.Taking.{room}
@@ -129,6 +131,19 @@ returns-clause-made g c = λ tells free xs can.
     made_has s now (g.S.Reads.state c.take.new.space) (g.S.Reads.state c.lead.new.space) c.args.node c.args.label c.in-Some.first c.in-Ok.id c.empty_group.result c.empty_row.result free xs
     read (c.in-Ok.ensures.taken tells free) (c.in-Ok.ensures.fresh tells) first.1 c.empty_group.ensures (c.in_ok-lead.ensures.ok tells) c.empty_row.ensures
     (omega (arith, c.in-Ok.ensures.key.id)) (omega (arith, c.ranges.node.fits)) (omega (arith, c.ranges.label.fits)) can
+
+pub returns-clause-leads : goal.returns-clause-leads
+returns-clause-leads g c = λ tells came groups leads.
+    let s = g.S.Reads.state c.args.space.now in
+    let now = g.S.Reads.state c.first_group.new.space in
+    let end = g.S.Reads.state c.lead.new.space in
+    let read : now ≡ after_get s = subst (λ (first : Option ℕ). IfSome first (λ _. now ≡ after_get s)) c.in-Some.is (c.in_ok-first.ensures.read tells) in
+    let first = subst (IsFirst s.records c.args.node) c.in-Some.is (c.in_ok-first.ensures.first tells) in
+    let id : c.in-Ok.id ≡ c.empty_row.result.id = sym (ap (λ (r : GroupRow). r.id) c.empty_row.ensures) in
+    subst (λ k. LeadsAmong end.records c.args.node came (groups ++ k ∷ [])) id
+    (leads_made s now (g.S.Reads.state c.take.new.space) end c.args.node c.args.label c.in-Some.first c.in-Ok.id c.empty_group.result
+    read (c.in-Ok.ensures.ok tells) c.in-Ok.ensures.is (c.in-Ok.ensures.undamaged tells) (c.in-Ok.ensures.fresh tells) first.1 c.empty_group.ensures (c.in_ok-lead.ensures.ok tells)
+    (omega (arith, c.in-Ok.ensures.key.id)) (omega (arith, c.ranges.node.fits)) (omega (arith, c.ranges.label.fits)) came groups leads)
 
 pub returns-clause-wrote : goal.returns-clause-wrote
 returns-clause-wrote g c =

@@ -17,7 +17,7 @@ use Rattle.group_store.proofs.OwnGroups.{if_ok}
 use Rattle.group_store.proofs.GroupWrites.{opened_more, opened_none}
 use Rattle.group_store.proofs.Opens.{dense_beside, dense_can, dense_group_can, dense_group_room, dense_opened, dense_opens, dense_room, failed_beside, group_can, group_opened, opens_node, room_same, then_opens}
 use Rattle.group_store.specs.Densing.{IsSparse}
-use Rattle.group_store.proofs.DenseFaults.{broken_then, dense_read, end_broken, end_opened, not_opened}
+use Rattle.group_store.proofs.DenseFaults.{broken_then, end_broken, end_opened, not_opened}
 use Rattle.group_store.proofs.Causes.{cause_passed}
 use Rattle.group_store.proofs.LeftBeside.{beside_read, beside_then, if_done, later_beside}
 use Rattle.group_store.proofs.DenseStays.{if_damage}
@@ -180,28 +180,23 @@ returns-in_err-is_dense-clause-blames g c = λ tells way le.
 
 pub returns-then-branch-clause-blames : goal.returns-then-branch-clause-blames
 returns-then-branch-clause-blames g c = λ tells way le.
-    let s = g.S.Reads.state c.args.space.now in
     let z = g.S.Reads.state c.is_dense.new.space in
     let dense = subst (λ (q : State). IsDense q.records c.args.node) (sym c.in_ok-is_dense.ensures.state) ((c.in_ok-is_dense.ensures.is tells).0 c.if-branch.true) in
-    not_opened s z (g.S.Reads.state c.open_group.new.space) c.args.node c.open_group.result (c.open_group.ensures.damaged tells dense) (c.open_group.ensures.unwritten tells dense)
+    not_opened z (g.S.Reads.state c.open_group.new.space) c.open_group.result (c.open_group.ensures.damaged tells dense) (c.open_group.ensures.unwritten tells dense)
 
 pub returns-in_err-make_dense-clause-blames : goal.returns-in_err-make_dense-clause-blames
 returns-in_err-make_dense-clause-blames g c = λ tells way le.
-    let s = g.S.Reads.state c.args.space.now in
-    let z = g.S.Reads.state c.is_dense.new.space in
     let same = c.in_ok-is_dense.ensures.state in
     let thin = ⊎_elim (λ d. absurd (false≢true (sym c.if-branch.false ∙ (c.in_ok-is_dense.ensures.is tells).1 d))) (λ sparse. sparse) way in
-    let fault = c.in_err-make_dense.field-0.0 in
     let p = err_from_is_err_and c.from_residual-in_err-make_dense.result c.from_residual-in_err-make_dense.ensures.1 in
-    rw (p.1, p.2) (dense_read s z (g.S.Reads.state c.make_dense.new.space) c.args.node same fault (c.in_err-make_dense.ensures.damaged tells
-    (subst (λ (q : State). IsSparse q.records c.args.node) (sym same) thin) (subst (λ (q : State). q.shape.threshold ≤ c.args.threshold) (sym same) le)))
+    rw (p.1, p.2) (c.in_err-make_dense.ensures.damaged tells
+    (subst (λ (q : State). IsSparse q.records c.args.node) (sym same) thin) (subst (λ (q : State). q.shape.threshold ≤ c.args.threshold) (sym same) le))
 
 pub returns-clause-blames : goal.returns-clause-blames
 returns-clause-blames g c = λ tells way le.
-    let s = g.S.Reads.state c.args.space.now in
     let u = g.S.Reads.state c.make_dense.new.space in
     let dense = c.in_ok-make_dense.ensures.dense tells in
-    not_opened s u (g.S.Reads.state c.open_group-2.new.space) c.args.node c.open_group-2.result (c.open_group-2.ensures.damaged tells dense) (c.open_group-2.ensures.unwritten tells dense)
+    not_opened u (g.S.Reads.state c.open_group-2.new.space) c.open_group-2.result (c.open_group-2.ensures.damaged tells dense) (c.open_group-2.ensures.unwritten tells dense)
 
 pub returns-in_err-is_dense-clause-cause : goal.returns-in_err-is_dense-clause-cause
 returns-in_err-is_dense-clause-cause g c =

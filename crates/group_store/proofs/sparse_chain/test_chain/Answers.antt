@@ -6,7 +6,7 @@ use Rattle.group_store.specs.SparseChain.{IsSparseDamage, IsStep}
 use Rattle.group_store.specs.SparseChain.IsSparseDamage.{MoreThanSaid}
 use Rattle.group_store.proofs.ChainHeads.{same_twice}
 use Rattle.group_store.proofs.GroupWalks.{not_damaged}
-use Rattle.group_store.proofs.SparseChains.{met_few, met_more, met_none, step_sound, step_told, tail_all, tail_low, tail_next}
+use Rattle.group_store.proofs.SparseChains.{crossed_all, crossed_more, crossed_none, met_few, met_more, met_none, step_sound, step_told, tail_all, tail_low, tail_next}
 use Rattle.group_store.proofs.sparse_chain.test_chain.Goals as goal
 
 pub loop-init : goal.loop-init
@@ -16,6 +16,7 @@ loop-init g c =
       same = refl;
       tail = λ tells is xs chain. tail_all s c.args.node c.args.first xs is chain;
       met = λ tells. met_none s c.args.node;
+      crossed = λ tells. crossed_none s c.args.node c.args.first;
       onward = g.met.R.Reads.stays_onward c.args.space.now;
       later = omega arith;
     }
@@ -32,6 +33,7 @@ loop-preserved g c =
       same = same_twice s now end was.same c.in_ok-next.ensures.state;
       tail = λ tells is xs chain. tail_next s node c.loop.before c.loop.at c.loop.counter xs c.if-at.false (was.tail tells is xs chain) c.in_ok-next.next (step tells).on;
       met = λ tells. met_more s node c.loop.before c.loop.at c.loop.counter c.if-at.false (step tells).met (was.met tells);
+      crossed = λ tells. crossed_more s node c.args.first c.loop.before c.loop.at c.in_ok-next.next c.loop.counter c.if-at.false (step tells).met (step tells).on (was.crossed tells);
       onward = g.met.R.Reads.further_onward c.args.space.now c.loop.space c.meet.new.space was.onward c.in_ok-next.ensures.onward;
       later = let cause = c.in_ok-next.ensures.cause in omega (arith, was.later, cause.later);
     }
@@ -69,6 +71,16 @@ returns-clause-damaged g c = λ tells is.
 
 pub returns-clause-state : goal.returns-clause-state
 returns-clause-state g c = same_twice (g.R.Reads.state c.args.space.now) (g.R.Reads.state c.loop.space) (g.R.Reads.state c.meet-2.new.space) c.loop.invariant.same c.in_ok-meet.ensures.state
+
+-- ---- the links lead to an end
+
+pub returns-then-at-clause-chain : goal.returns-then-at-clause-chain
+returns-then-at-clause-chain g c = λ tells.
+    crossed_all (g.R.Reads.state c.args.space.now) c.args.node c.args.first c.loop.at c.loop.counter c.args.degree c.if-at.true (let lt = c.loop-test.true in omega arith) (c.loop.invariant.crossed tells)
+
+pub returns-then-at-2-clause-chain : goal.returns-then-at-2-clause-chain
+returns-then-at-2-clause-chain g c = λ tells.
+    crossed_all (g.R.Reads.state c.args.space.now) c.args.node c.args.first c.loop.at c.loop.counter c.args.degree c.if-at-2.true (let end = c.loop.auto.counter-end in omega arith) (c.loop.invariant.crossed tells)
 
 -- ---- none is told of a right chain
 

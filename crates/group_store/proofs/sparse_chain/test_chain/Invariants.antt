@@ -3,7 +3,7 @@ use Rattle.rec_bytes.specs.Space.{SameButReads}
 use Rattle.store_rules.specs.Breaking.{IsHeadChain}
 use Rattle.store_rules.specs.Rules.{node_head}
 use Rattle.store_rules.specs.Views.{first_link}
-use Rattle.group_store.proofs.SparseChains.{HasMet, HasTail}
+use Rattle.group_store.proofs.SparseChains.{HasCrossed, HasMet, HasTail}
 use Rattle.group_store.proofs.sparse_chain.test_chain.Given as goal
 
 -- so many were met, and of a right chain the others are left
@@ -14,6 +14,7 @@ invariant-loop g l =
       same : SameButReads s (g.R.Reads.state l.space);
       tail : g.R.Reads.tells → l.fn.first ≡ first_link s.records l.fn.node → (xs : List ℕ) → IsHeadChain s.records (node_head l.fn.node) l.fn.node xs → HasTail s l.fn.node l.before l.at l.counter xs;
       met : g.R.Reads.tells → HasMet s l.fn.node l.before l.counter;
+      crossed : g.R.Reads.tells → HasCrossed s l.fn.node l.fn.first l.at l.counter;
       onward : g.R.Reads.onward l.fn.space l.space;
       later : g.R.Reads.faults l.fn.space ≤ g.R.Reads.faults l.space;
     }
