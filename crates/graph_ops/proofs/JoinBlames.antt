@@ -1,6 +1,6 @@
 -- Which record is blamed where an edge joins the chains of its ends.
 use Rattle.std.specs.Prelude.{IfSome}
-use Rattle.std.proofs.Common.{◌≡◌, ◌≢◌, ◌⊎◌, ◌∙◌, ℕ, ap, inl, inr, ⊎_elim, sym, subst, arith}
+use Rattle.std.proofs.Common.{◌≡◌, ◌≢◌, ◌∙◌, ℕ, ap, inl, inr, ⊎_elim, sym, subst, arith}
 use Rattle.plain_graph.specs.declared.command.Target.{Target}
 use Rattle.rec_bytes.specs.declared.damage.Damage.{Damage}
 use Rattle.rec_bytes.specs.declared.fault.Fault.{Fault}
