@@ -11,10 +11,9 @@ use Rattle.rec_bytes.specs.RecordFiles.{meta_key_of}
 use Rattle.rec_bytes.specs.Space.{State}
 use Rattle.store_rules.specs.Breaking.{Breaks, IsGroupHeadOf, IsHeadChain, IsHeadOf, group_head}
 use Rattle.store_rules.specs.Breaking.Breaks.{GroupChains, NodeChain, RecordRange, WrongMeta}
-use Rattle.store_rules.specs.Chains.{In}
 use Rattle.store_rules.specs.Ranges.{Fits}
 use Rattle.store_rules.specs.Rules.{Head, StandsAt, first_of}
-use Rattle.store_rules.specs.Views.{GroupRow, RelRow, group_at, group_in, high, key_in, kind_at, rec_at, rel_at, rel_in}
+use Rattle.store_rules.specs.Views.{RelRow, group_at, group_in, high, key_in, kind_at, rec_at, rel_at, rel_in}
 use Rattle.store_rules.proofs.LinkFits.{IsLow}
 use Rattle.store_rules.proofs.ViewLaws.{kind_below, kind_low, some_row}
 use Rattle.rel_store.specs.Loading.{mark_damage, rel_mark, rel_room}

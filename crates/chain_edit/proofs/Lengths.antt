@@ -1,5 +1,5 @@
 -- A count of a chain, step by step.
-use Rattle.std.proofs.Common.{◌≡◌, ◌≢◌, ◌<◌, ◌≤◌, ◌+◌, ℕ, Bool, true, false, ◌&&◌, not, nat_eq, cond, None, Some, List, [], ◌∷◌, ◌++◌, length, sym, ap, ◌∙◌, subst, inl, inr, refl, arith}
+use Rattle.std.proofs.Common.{◌≡◌, ◌≢◌, ◌<◌, ◌≤◌, ◌+◌, ℕ, Bool, true, false, ◌&&◌, not, nat_eq, cond, None, Some, List, [], ◌∷◌, length, sym, ap, ◌∙◌, subst, inl, inr, refl, arith}
 use Rattle.std.proofs.lemmas.Bool.{true≢false}
 use Rattle.std.proofs.lemmas.List.{length_push}
 use Rattle.rec_bytes.specs.declared.damage.Damage.{Damage}
@@ -17,7 +17,7 @@ use Rattle.rec_bytes.specs.Record.{field}
 use Rattle.rec_bytes.specs.Space.{State, after_gets}
 use Rattle.store_rules.specs.Chains.{In, IsChain, IsWalk, next_in}
 use Rattle.store_rules.specs.Rules.{passes}
-use Rattle.store_rules.specs.Views.{RelRow, rec_at, rel_in, row_if}
+use Rattle.store_rules.specs.Views.{rec_at, rel_in, row_if}
 use Rattle.store_rules.proofs.ViewLaws.{kind_low}
 use Rattle.rel_store.specs.Loading.{rel_mark, rel_room}
 use Rattle.chain_edit.specs.declared.members.Members.{Members}

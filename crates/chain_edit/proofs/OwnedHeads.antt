@@ -6,8 +6,8 @@ use Rattle.rec_bytes.specs.Format as format
 use Rattle.rec_bytes.specs.Record.{field}
 use Rattle.store_rules.specs.Chains.{In, place_of}
 use Rattle.store_rules.specs.Ends.{group_of_head}
-use Rattle.store_rules.specs.Rules.{GroupHead, HasGroup, Head, IsEnd, IsGrouped, IsInGroup, IsOn, Owns, SparseHead, node_head}
-use Rattle.store_rules.specs.Views.{GroupRow, Records, RelRow, first_link, group_at, group_in, key_in, kind_at, rec_at, rel_at, rel_in}
+use Rattle.store_rules.specs.Rules.{GroupHead, Head, IsEnd, IsGrouped, IsInGroup, IsOn, Owns, SparseHead}
+use Rattle.store_rules.specs.Views.{GroupRow, Records, RelRow, first_link, group_at, key_in, kind_at, rec_at, rel_at, rel_in}
 use Rattle.store_rules.proofs.GroupLaws.{same_group}
 use Rattle.store_rules.proofs.NumberLaws.{eq_false, eq_true, nat_cases}
 use Rattle.store_rules.proofs.OneHead.{end_on, only_head}

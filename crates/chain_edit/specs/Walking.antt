@@ -67,4 +67,5 @@ pub data IsWalkDamage (s : State) (owner : Key) (first node budget : ℕ) : Dama
 abbrev pub IsWalkFault : State → Key → ℕ → ℕ → ℕ → Fault → Type 0
 IsWalkFault s owner first node budget Memory = Unit {0}
 IsWalkFault s owner first node budget Disk = Unit {0}
-IsWalkFault s owner first node budget (Damaged damage) = IsWalkDamage s owner first node budget damage
+IsWalkFault s owner first node budget (Damaged damage) =
+    IsWalkDamage s owner first node budget damage

@@ -1,4 +1,4 @@
-ghost use Rattle.std.specs.Prelude.{◌≡◌, ℕ, IfOk};
+ghost use Rattle.std.specs.Prelude.{◌≡◌, IfOk};
 ghost use Rattle.disk_model.specs.Contents.{Same};
 ghost use Rattle.disk_model.specs.Marks.{with_draws};
 ghost use Rattle.disk_model.specs.PlainDisk.{rooms_of, contents, AllZeros};

@@ -19,7 +19,6 @@ ghost use Rattle.std.specs.Prelude.{
 ghost use Rattle.fault_count.specs.Cause.{raised, HasCause};
 ghost use Rattle.disk_model.specs.Calls.{Wrote, Synced};
 ghost use Rattle.disk_model.specs.Contents.{
-  Files,
   Holds,
   Same,
   SameOutside,

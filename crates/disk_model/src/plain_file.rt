@@ -22,7 +22,6 @@ ghost use Rattle.std.specs.Prelude.{
 ghost use Rattle.disk_model.specs.Generator.{drawn, state_after};
 ghost use Rattle.disk_model.specs.Marks.{is_marked};
 ghost use Rattle.disk_model.specs.Places.{count_below};
-ghost use Rattle.disk_model.specs.PlainDisk.{rooms_of};
 
 use crate::generator::Generator;
 use crate::poke_times::PokeTimes;

@@ -1,5 +1,5 @@
 -- What chains of a node or of its groups say is damaged breaks its rule.
-use Rattle.std.proofs.Common.{◌≡◌, ◌≢◌, ◌⊎◌, ◌<◌, ◌≤◌, ◌+◌, ◌-◌, ℕ, nat_eq, Bool, true, false, ◌&&◌, not, cond, Some, List, [], ◌∷◌, ◌++◌, get_or, length, map, refl, sym, ap, ◌∙◌, subst, inl, inr, ⊎_elim, arith}
+use Rattle.std.proofs.Common.{◌≡◌, ◌≢◌, ◌⊎◌, ◌<◌, ◌+◌, ◌-◌, ℕ, nat_eq, Bool, true, false, ◌&&◌, not, cond, List, [], ◌∷◌, ◌++◌, get_or, length, map, refl, sym, ap, ◌∙◌, subst, inl, inr, ⊎_elim, arith}
 use Rattle.std.specs.List.{AllPairs, Contains, list_all, list_any}
 use Rattle.std.proofs.lemmas.Bool.{and_parts, eqb-true, or_cases, true≢false}
 use Rattle.std.proofs.lemmas.List.{get_or-map, length-append, length-map, map-append}
@@ -17,11 +17,11 @@ use Rattle.store_rules.specs.Breaking.{Breaks, GroupKeeps, OwnerKeeps}
 use Rattle.store_rules.specs.Breaking.Breaks.{GroupChains, OwnerGroups, WrongMeta}
 use Rattle.store_rules.specs.Chains.{In, IsWalk}
 use Rattle.store_rules.specs.Properties.{AreOnce}
-use Rattle.store_rules.specs.Rules.{GroupHead, Head, IsEnd, IsInGroup, StandsAt, first_of}
+use Rattle.store_rules.specs.Rules.{GroupHead, IsEnd, IsInGroup, StandsAt, first_of}
 use Rattle.store_rules.specs.Views as views
 use Rattle.store_rules.specs.Views.{Records, RelRow, first_link, group_at, group_in, high, kind_at, rec_at, rel_at, rel_in}
 use Rattle.store_rules.proofs.ChainLaws.{walk_of_chain}
-use Rattle.store_rules.proofs.GroupLaws.{IsFirstPlace, same_group}
+use Rattle.store_rules.proofs.GroupLaws.{same_group}
 use Rattle.store_rules.proofs.NumberLaws.{eq_false, eq_true, nat_cases}
 use Rattle.store_rules.proofs.OnceLaws.{in_parts, once_both, once_walk}
 use Rattle.store_rules.proofs.ViewLaws.{kind_below, some_row}
@@ -43,13 +43,13 @@ use Rattle.group_store.specs.GroupRecord.{group_key}
 use Rattle.group_store.proofs.GroupRecords.{group_below}
 use Rattle.group_store.proofs.GroupRules.{row_of_group}
 use Rattle.expand.specs.declared.first_links.FirstLink.{FirstLink}
-use Rattle.expand.specs.FirstLinks.{are_twins, belongs, first_links, first_on, have_twins, is_on, link_on, links_of, numbers_of, sides_of}
+use Rattle.expand.specs.FirstLinks.{are_twins, belongs, first_links, first_on, have_twins, is_on, link_on, links_of, sides_of}
 use Rattle.expand.specs.Matching.{is_wanted}
 use Rattle.expand.specs.ExpandFault.{of_fault}
 use Rattle.expand.specs.Expanding.{Blames}
 use Rattle.expand.specs.Walking.{AllBelong, AreOfGroups, chain_blamed, with_node}
 use Rattle.expand.proofs.GroupHeads.{heads_apart, heads_in, place_is}
-use Rattle.store_rules.proofs.Members.{contains_cases, contains_first, contains_image, contains_later, length-once_below}
+use Rattle.store_rules.proofs.Members.{contains_first, contains_image, contains_later, length-once_below}
 
 -- ---- sides
 

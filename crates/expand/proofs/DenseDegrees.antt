@@ -1,14 +1,11 @@
 -- The number of a dense node's edges, by its groups or by its relationships.
-use Rattle.std.proofs.Common.{◌≡◌, ◌≤◌, ◌+◌, ◌^◌, ℕ, Some, nat_eq, Bool, true, false, ◌&&◌, ◌||◌, not, min, List, [], ◌∷◌, length, map, refl, sym, ap, ◌∙◌, subst, inl, inr, arith, Result, Ok, Err, IfOk, OnOk}
+use Rattle.std.proofs.Common.{◌≡◌, ◌≤◌, ◌+◌, ◌^◌, ℕ, Some, Bool, true, false, ◌&&◌, ◌||◌, not, List, [], ◌∷◌, length, map, refl, sym, ap, ◌∙◌, subst, inl, inr, arith, Result, Ok, Err, IfOk}
 use Rattle.std.proofs.lemmas.Bool.{true≢false}
-use Rattle.std.proofs.lemmas.List.{length-map}
 use Rattle.plain_graph.specs.declared.direction.Direction.{Direction}
 use Rattle.rec_bytes.specs.Format as format
-use Rattle.rec_bytes.specs.Record.{field}
-use Rattle.rec_bytes.specs.Space.{State, after_gets}
+use Rattle.rec_bytes.specs.Space.{State}
 use Rattle.store_rules.specs.Chains.{In, IsWalk}
 use Rattle.store_rules.specs.Graph.{graph_of}
-use Rattle.store_rules.specs.Rules.{IsWellFormed}
 use Rattle.store_rules.specs.Views.{Records, first_link, group_in, high, kind_at, rec_at}
 use Rattle.store_rules.proofs.ChainLaws.{walk_of_chain}
 use Rattle.store_rules.proofs.NumberLaws.{eq_true}
@@ -19,16 +16,16 @@ use Rattle.node_store.specs.Loading.{after_load, row_at}
 use Rattle.chain_edit.specs.Walking.{ReadsAtMost}
 use Rattle.chain_edit.proofs.Walks.{walk_is}
 use Rattle.group_store.specs.declared.group_row.GroupRow.{GroupRow}
-use Rattle.group_store.specs.GroupChain.{IsDense, next_group}
+use Rattle.group_store.specs.GroupChain.{next_group}
 use Rattle.group_store.specs.GroupRecord.{is_counted}
 use Rattle.group_store.specs.Spreading.{HasCountedGroups}
 use Rattle.group_store.specs.Walking.{HasGroupRows, group_row_at}
 use Rattle.group_store.proofs.GroupRecords.{group_below}
 use Rattle.group_store.proofs.GroupRules.{row_of_group}
 use Rattle.expand.specs.declared.expand_fault.ExpandFault.{ExpandFault}
-use Rattle.expand.specs.Costs.{met_count, most_reads, type_count}
-use Rattle.expand.specs.Degrees.{HasRows, HasSum, IsDenseDegree, as_number, counted_sum, lacks_counts, rows_count}
-use Rattle.expand.specs.Expanding.{IsStore, graph_in, name_of, rows_of}
+use Rattle.expand.specs.Costs.{type_count}
+use Rattle.expand.specs.Degrees.{IsDenseDegree, as_number, counted_sum, lacks_counts, rows_count}
+use Rattle.expand.specs.Expanding.{IsStore, graph_in, rows_of}
 use Rattle.expand.specs.Matching.{is_wanted}
 use Rattle.expand.proofs.DenseRows as dense_rows
 use Rattle.expand.proofs.GroupHeads as heads
@@ -36,7 +33,6 @@ use Rattle.expand.proofs.GroupSums.{sum_rows}
 use Rattle.expand.proofs.LoadedRows as loaded_rows
 use Rattle.expand.proofs.ReadCounts.{reads_then}
 use Rattle.expand.proofs.RowCounts.{count_small, part_count}
-use Rattle.expand.proofs.TypeCounts.{groups_count}
 
 -- the number of rows of a store is small enough
 pub number_is : (s : State) → IsStore s → (direction : Direction) (labels : List ℕ) (n : ℕ) → as_number (rows_count direction labels n (rows_of s.records)) ≡ rows_count direction labels n (rows_of s.records)

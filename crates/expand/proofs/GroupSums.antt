@@ -1,7 +1,7 @@
 -- The numbers of a dense node's counted groups have all relationships at the node that are met.
-use Rattle.std.proofs.Common.{◌≡◌, ◌≢◌, ◌≤◌, ◌<◌, ◌+◌, ℕ, nat_eq, Bool, true, false, ◌&&◌, ◌||◌, not, cond, Option, None, Some, List, [], ◌∷◌, length, map, refl, sym, ap, ◌∙◌, subst, inl, inr, ⊎_elim, arith}
-use Rattle.std.specs.List.{filter, list_any}
-use Rattle.std.proofs.lemmas.Bool.{and_parts, eqb-true, true≢false}
+use Rattle.std.proofs.Common.{◌≡◌, ◌≢◌, ◌+◌, ℕ, nat_eq, Bool, true, false, ◌&&◌, ◌||◌, not, cond, Option, Some, List, [], ◌∷◌, map, refl, sym, ap, ◌∙◌, subst, inl, inr, arith}
+use Rattle.std.specs.List.{list_any}
+use Rattle.std.proofs.lemmas.Bool.{eqb-true, true≢false}
 use Rattle.plain_graph.specs.declared.direction.Direction.{Direction}
 use Rattle.plain_graph.specs.declared.direction.Direction.TheVariants as directions
 use Rattle.rec_bytes.specs.declared.shape.Shape.{Shape}
@@ -14,7 +14,7 @@ use Rattle.store_rules.specs.Views as views
 use Rattle.store_rules.specs.Views.{Records, RelRow, group_in, high, kind_at, rec_at, rel_at, rel_in}
 use Rattle.store_rules.proofs.CountLaws.{one_if}
 use Rattle.store_rules.proofs.NumberLaws.{eq_true}
-use Rattle.store_rules.proofs.ViewLaws.{kind_below, kind_low, some_row}
+use Rattle.store_rules.proofs.ViewLaws.{kind_low, some_row}
 use Rattle.group_store.specs.declared.group_row.GroupRow.{GroupRow}
 use Rattle.group_store.specs.GroupChain.{IsGroupOf, type_of}
 use Rattle.group_store.specs.GroupRecord.{count_in, is_counted}

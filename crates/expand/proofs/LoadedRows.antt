@@ -12,7 +12,7 @@ use Rattle.rec_bytes.specs.RecordFiles.{room_of}
 use Rattle.rec_bytes.specs.declared.row_fault.RowFault.TheVariants as row
 use Rattle.rec_bytes.specs.Format as format
 use Rattle.rec_bytes.specs.Record.{field}
-use Rattle.rec_bytes.specs.Space.{State, after_gets}
+use Rattle.rec_bytes.specs.Space.{State}
 use Rattle.store_rules.specs.Breaking.{Breaks, NodeKeeps}
 use Rattle.store_rules.specs.Breaking.Breaks.{NodeChain, RecordRange, WrongMeta}
 use Rattle.store_rules.specs.Chains.{IsWalk}

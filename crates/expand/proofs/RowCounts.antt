@@ -1,23 +1,22 @@
 -- How many rows of relationships pass a test.
-use Rattle.std.proofs.Common.{◌≡◌, ◌≢◌, ◌≤◌, ◌<◌, ◌+◌, ◌^◌, ℕ, zero, suc, min, nat_eq, Bool, true, false, ◌&&◌, ◌||◌, not, cond, Option, None, Some, List, [], ◌∷◌, ◌++◌, length, map, refl, sym, ap, ◌∙◌, subst, inl, inr, ⊎_elim, arith}
-use Rattle.std.specs.Cmp.{IsEquivalence}
-use Rattle.std.specs.List.{AllPairs, Contains, filter, list_any}
-use Rattle.std.proofs.lemmas.Bool.{and_parts, eqb-true, or_left, or_right}
+use Rattle.std.proofs.Common.{◌≡◌, ◌≤◌, ◌<◌, ◌+◌, ℕ, zero, suc, nat_eq, Bool, true, false, ◌&&◌, cond, Option, None, Some, List, length, refl, sym, ap, arith}
+use Rattle.std.specs.List.{filter}
+use Rattle.std.proofs.lemmas.Bool.{or_left, or_right}
 use Rattle.std.proofs.lemmas.List.{length-append}
 use Rattle.std.proofs.lemmas.List.Kept.{AllPairs-filter}
 use Rattle.plain_graph.specs.declared.direction.Direction.{Direction}
 use Rattle.plain_graph.specs.declared.direction.Direction.TheVariants as directions
 use Rattle.rec_bytes.specs.Format as format
-use Rattle.store_rules.specs.Rows.{collect, ids, option_list}
+use Rattle.store_rules.specs.Rows.{ids, option_list}
 use Rattle.store_rules.specs.Rules.{count_of, passes}
-use Rattle.store_rules.specs.Views.{Records, RelRow, high, kind_at, rec_at, rel_at, rel_in, row_if}
+use Rattle.store_rules.specs.Views.{Records, RelRow, high, kind_at, rec_at, rel_at, rel_in}
 use Rattle.store_rules.proofs.CountLaws.{one_if}
 use Rattle.store_rules.proofs.Counts.{ids_none, length-filter, length-ids, row_passes}
 use Rattle.rel_store.specs.declared.edge_row.EdgeRow.{EdgeRow}
 use Rattle.chain_edit.specs.Walking.{edge_at}
 use Rattle.expand.specs.declared.matching.End.{End}
 use Rattle.expand.specs.declared.matching.End.TheVariants as ends
-use Rattle.expand.specs.Degrees.{as_number, rows_count}
+use Rattle.expand.specs.Degrees.{rows_count}
 use Rattle.expand.specs.Expanding.{edge_row_at, rows_of}
 use Rattle.expand.specs.Matching.{IsPart, id_of, is_met, is_met_at, is_wanted, rows_at}
 use Rattle.expand.proofs.Ascending.{Differs}

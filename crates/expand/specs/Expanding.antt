@@ -1,5 +1,6 @@
 -- What is found of the edges of a node, and what it costs.
-use Rattle.std.specs.Prelude.{◌≡◌, ◌<◌, ◌≤◌, ℕ, ◌+◌, Bool, true, false, Option, None, List, length, map}
+use Rattle.std.specs.Prelude.{◌≡◌, ◌<◌, ◌≤◌, ℕ, ◌+◌, Bool, true, false, Option, None, List}
+use Rattle.std.specs.Prelude.{length, map}
 use Rattle.std.specs.Prelude.{Result, Ok, Err, All}
 use Rattle.std.specs.List.{AllZip}
 use Rattle.plain_graph.specs.Graph.{Edge, Graph}

@@ -1,5 +1,6 @@
 -- What walks of several chains of a node find.
-use Rattle.std.specs.Prelude.{◌≡◌, ℕ, ◌<◌, ◌≤◌, ◌&&◌, nat_eq, if◌then◌else◌, Bool, true, List, [], ◌∷◌, ◌++◌, length, map}
+use Rattle.std.specs.Prelude.{◌≡◌, ℕ, ◌<◌, ◌≤◌, ◌&&◌, nat_eq, if◌then◌else◌, Bool, true, List}
+use Rattle.std.specs.Prelude.{[], ◌∷◌, ◌++◌, length, map}
 use Rattle.std.specs.List.{Contains}
 use Rattle.plain_graph.specs.declared.direction.Direction.{Direction}
 use Rattle.rec_bytes.specs.declared.damage.Damage.{Damage}

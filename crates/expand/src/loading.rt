@@ -1,6 +1,6 @@
 //! Where the rows of the relationships at a node come from.
 
-ghost use Rattle.std.specs.Prelude.{◌≡◌, ◌+◌, ℕ, List, IfErr, IfOk, length};
+ghost use Rattle.std.specs.Prelude.{◌+◌, ℕ, List, IfErr, IfOk, length};
 ghost use Rattle.plain_graph.specs.Graph.{has_node};
 ghost use Rattle.rel_store.specs.Loading.{rel_mark};
 ghost use Rattle.chain_edit.specs.Walking.{ReadsAtMost};

@@ -14,11 +14,10 @@ use Rattle.id_freelist.proofs.TakeBreaches.{breaks_of}
 use Rattle.store_rules.specs.Breaking as breaking
 use Rattle.store_rules.specs.Breaking.{Breaks, IsHeadOf, IsOwnedBy}
 use Rattle.store_rules.specs.Breaking.Breaks.{OwnerGroups, RecordRange, RelEnds, WrongMeta}
-use Rattle.store_rules.specs.Chains.{In}
 use Rattle.store_rules.specs.Ranges.{Fits, Layout, Pointer, all_point, free_layout, group_layout, layout_by, may, must, node_layout, points}
 use Rattle.store_rules.specs.Rules.{Head, IsEnd, StandsAt}
 use Rattle.store_rules.specs.Views as views
-use Rattle.store_rules.specs.Views.{Records, RelRow, first_link, group_at, group_in, high, key_in, kind_at, rec_at, rel_at, rel_in}
+use Rattle.store_rules.specs.Views.{Records, RelRow, first_link, group_at, group_in, high, kind_at, rec_at, rel_at, rel_in}
 use Rattle.store_rules.proofs.ChainLaws.{walk_of_chain}
 use Rattle.store_rules.proofs.ChainRules.{on_walk, same_rel}
 use Rattle.store_rules.proofs.GroupPlaces.{on_group}

@@ -8,7 +8,7 @@ use Rattle.store_rules.specs.Ends.{IsEndHead}
 use Rattle.store_rules.specs.Ranges.{AreInRange, Layout, free_layout, layout_by, node_layout}
 use Rattle.store_rules.specs.Rules.{HasGroup, IsEnd, KeepsRules, node_head}
 use Rattle.store_rules.specs.Views as views
-use Rattle.store_rules.specs.Views.{Records, RelRow, first_link, group_at, group_in, high, kind_at, rec_at, rel_at, is_group_kind}
+use Rattle.store_rules.specs.Views.{Records, RelRow, first_link, group_at, group_in, high, kind_at, rec_at, rel_at}
 use Rattle.store_rules.proofs.ChainLaws.{walk_of_chain}
 use Rattle.store_rules.proofs.NumberLaws.{eq_false, eq_true, nat_cases}
 use Rattle.store_rules.proofs.ViewLaws.{kind_below, kind_low, row_some, some_row, group_used}

@@ -318,7 +318,7 @@ module _ (s : State) (node g most : ℕ) (empty : List ℕ) (well : KeepsRules s
       (well.exact h q (sym (group_stays_at h ne) ∙ is) (sym (d.kind_stays s t node g free xs can gives h ne) ∙ kind))
 
   others : KeepsOthers s.records s.shape most
-  others = record { ranges = well.ranges; split = well.split; kept = well.kept; properties = well.properties; named = well.named; names = well.names; degrees = well.degrees; unindexed = well.unindexed }
+  others = record { ranges = well.ranges; split = well.split; kept = well.kept; properties = well.properties; named = well.named; names = well.names; degrees = well.degrees }
 
   -- ---- all of it
   keeps_now : KeepsRules t.records s.shape most empty
@@ -335,7 +335,6 @@ module _ (s : State) (node g most : ℕ) (empty : List ℕ) (well : KeepsRules s
         named = o.named;
         names = o.names;
         degrees = o.degrees;
-        unindexed = o.unindexed;
       }
 
   pub dropped_rules : (z : State) → z ≡ dropped s node g → z.shape ≡ s.shape → KeepsRules z.records z.shape most empty × Regroups s z node × (kind_at z.records format.nodes_file node ≡ kind_at s.records format.nodes_file node)

@@ -10,7 +10,7 @@ use Rattle.rec_bytes.specs.Space.{SameButReads, State}
 use Rattle.store_rules.specs.Ends.{IsEndHead}
 use Rattle.store_rules.specs.Rules.{KeepsRules, node_head}
 use Rattle.store_rules.specs.Views as views
-use Rattle.store_rules.specs.Views.{Records, RelRow, group_at, group_in, kind_at, rec_at, rel_at}
+use Rattle.store_rules.specs.Views.{Records, RelRow, group_at, kind_at, rec_at}
 use Rattle.store_rules.proofs.GroupLaws.{same_group}
 use Rattle.group_store.specs.declared.group_row.GroupRow.{GroupRow}
 use Rattle.group_store.specs.declared.side.Side.{Side}

@@ -35,7 +35,6 @@ may_be s shape most few many more well = record {
   named = well.named;
   names = well.names;
   degrees = well.degrees;
-  unindexed = well.unindexed;
 }
 
 -- one that isn't empty needn't be named
@@ -61,7 +60,6 @@ is_not s shape most g empty filled well = record {
   named = well.named;
   names = well.names;
   degrees = well.degrees;
-  unindexed = well.unindexed;
 }
 
 -- ---- spaces that differ in their reads alone
@@ -79,4 +77,5 @@ module _ (s t : State) (same : SameButReads s t) where
     kinds = λ m ne. refl;
     groups = λ g row is ne. is;
     metas = λ file ne. refl;
+    others = λ key a b c d. refl;
   })

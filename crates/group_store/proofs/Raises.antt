@@ -15,7 +15,7 @@ use Rattle.store_rules.specs.Ends.{Regroups}
 use Rattle.store_rules.specs.Ranges.{Fits}
 use Rattle.store_rules.specs.Rules.{HasCounts, KeepsRules, count_of, degree_of, first_of, is_into, is_loop_of, is_out_of, passes}
 use Rattle.store_rules.specs.Views as views
-use Rattle.store_rules.specs.Views.{Records, RelRow, degree, group_at, group_in, high, is_group_kind, key_in, kind_at, rec_at, rel_at}
+use Rattle.store_rules.specs.Views.{Records, RelRow, degree, group_at, high, is_group_kind, key_in, kind_at, rec_at, rel_at}
 use Rattle.store_rules.proofs.Counts.{length-ids}
 use Rattle.store_rules.proofs.GroupLaws.{same_group}
 use Rattle.store_rules.proofs.MetaLaws.{high_fits}

@@ -12,13 +12,13 @@ use Rattle.rec_bytes.specs.RecordFiles.{is_meta_file, meta_key_of}
 use Rattle.rec_bytes.specs.Space.{State, meta_in}
 use Rattle.store_rules.specs.Chains.{IsWalk}
 use Rattle.store_rules.specs.Ends.{Regroups}
-use Rattle.store_rules.specs.Graph.{edge_from, graph_of, node_from}
+use Rattle.store_rules.specs.Graph.{edge_from, graph_of, node_from, indexes_from}
 use Rattle.store_rules.specs.Ranges.{AreInRange, is_reused}
 use Rattle.store_rules.specs.Rows.{collect, ids}
 use Rattle.store_rules.specs.Rules.{AreNamed, AreNames, HaveProperties, IsSplit, PropertyFiles, degree_of, next_free, property_files}
 use Rattle.store_rules.specs.Views.{GroupRow, NodeRow, Records, RelRow, degree, group_at, high, is_live, key_in, kind_at, kind_in, node_at, node_in, rec_at, rel_at, row_if, text_of}
 use Rattle.store_rules.proofs.ChainLaws.{walk_stays}
-use Rattle.store_rules.proofs.Frames.{IsSame, files_same, kind_same, records_same, split_same}
+use Rattle.store_rules.proofs.Frames.{IsSame, files_same, records_same, split_same}
 use Rattle.store_rules.proofs.MetaLaws.{meta_of_reused, not_meta_key}
 use Rattle.store_rules.proofs.NumberLaws.{nat_cases}
 use Rattle.store_rules.proofs.ViewLaws.{kind_by, live_true, row_some}
@@ -137,10 +137,13 @@ module _ (s t : Records) (node : ℕ) (h : IsFrame s t node) where
       let files = records_same s t properties_same strings_same in
       let node_mark = mark_same format.nodes_file (λ e. omega arith) in
       let rel_mark = mark_same format.relationships_file (λ e. omega arith) in
+      let index = file_same format.index_file refl (λ e. omega arith) (λ e. omega arith) (λ e. omega arith) in
+      let index_mark = mark_same format.index_file (λ e. omega arith) in
       λ i. record {
         nodes = collect (λ x. node_from (name_file i) (files i) (nodes_same i x)) (node_mark i);
         edges = collect (λ x. edge_from (name_file i) (files i) (rels_same i x)) (rel_mark i);
         names = collect (λ x. Some (text_of (name_file i x))) (name_mark i);
+        indexes = indexes_from (λ x. kind_in (index_mark i) (index.each x i) x) (λ x. index.each x i) (index_mark i) (name_file i) (name_mark i);
       }
 
   -- ---- the second rule
@@ -185,7 +188,6 @@ module _ (s t : Records) (node : ℕ) (h : IsFrame s t node) where
           ∙ ap (λ (r : ℕ → Option RelRow). degree_of r (high s format.relationships_file) n) (sym rels_same) ∙ ap (λ m. degree_of (rel_at t) m n) (sym (mark_same format.relationships_file (λ e. omega arith)));
       few = λ n is. let e = degree_same n in let b = old.degrees.few n (sparse_was n is) in omega arith;
     };
-    unindexed = λ x. kind_same s t format.index_file (file_same format.index_file refl (λ e. omega arith) (λ e. omega arith) (λ e. omega arith)) x ∙ old.unindexed x;
   }
 
 -- the groups of other nodes stay besides
@@ -199,10 +201,11 @@ regroups_of s t node h shape groups = record {
   kinds = h.kinds;
   groups = groups;
   metas = λ f ne. ap metas.meta_of (meta_same s.records t.records node h f ne);
+  others = h.others;
 }
 
 pub regroups_read : (s : State) (reads node : ℕ) → Regroups s (record s { reads = reads }) node
-regroups_read s reads node = record { shape = refl; graph = refl; nodes = λ x. refl; rels = λ x. refl; degrees = λ x. refl; kinds = λ m ne. refl; groups = λ g row is ne. is; metas = λ f ne. refl }
+regroups_read s reads node = record { shape = refl; graph = refl; nodes = λ x. refl; rels = λ x. refl; degrees = λ x. refl; kinds = λ m ne. refl; groups = λ g row is ne. is; metas = λ f ne. refl; others = λ key a b c d. refl }
 
 pub regroups_both : (s m t : State) (node : ℕ) → Regroups s m node → Regroups m t node → Regroups s t node
 regroups_both s m t node h k = record {
@@ -214,4 +217,5 @@ regroups_both s m t node h k = record {
   kinds = λ m ne. k.kinds m ne ∙ h.kinds m ne;
   groups = λ g row is ne. k.groups g row (h.groups g row is ne) ne;
   metas = λ f ne. k.metas f ne ∙ h.metas f ne;
+  others = λ key a b c d. k.others key a b c d ∙ h.others key a b c d;
 }

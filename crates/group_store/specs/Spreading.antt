@@ -23,7 +23,7 @@ use Rattle.store_rules.specs.Chains.{In, IsWalk}
 use Rattle.store_rules.specs.Ends.{Regroups}
 use Rattle.store_rules.specs.Ranges.{AreInRange, is_reused}
 use Rattle.store_rules.specs.Rules.{AllListed, AreAllLive, AreCounted, AreNamed, AreNames, HasEnds}
-use Rattle.store_rules.specs.Rules.{HasGroup, HasNoIndex, HaveProperties, Head, IsEnd, IsGrouped}
+use Rattle.store_rules.specs.Rules.{HasGroup, HaveProperties, Head, IsEnd, IsGrouped}
 use Rattle.store_rules.specs.Rules.{HasCounts, IsSplit, Owns, StandsAt, first_of}
 use Rattle.store_rules.specs.Rules.{property_files}
 use Rattle.store_rules.specs.Views.{GroupRow, Records, RelRow, degree, first_link, group_at, high}
@@ -44,7 +44,6 @@ pub record KeepsOthers (records : Records) (shape : Shape) (most : ℕ) : Type 0
   pub names : AreNames (rec_at records format.names_file) (high records format.names_file)
   pub degrees : AreCounted (kind_at records format.nodes_file) (degree records) (rel_at records)
       (high records format.relationships_file) most
-  pub unindexed : HasNoIndex records
 
 -- the head is that of a chain of one of the node's groups
 pub record IsHeadOf (groups : ℕ → Option GroupRow) (node : ℕ) (h : Head) : Type 0 where

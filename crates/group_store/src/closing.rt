@@ -1,4 +1,4 @@
-ghost use Rattle.std.specs.Prelude.{ℕ, List, [], ◌∷◌, IfErr, OnOk, ◌≡◌};
+ghost use Rattle.std.specs.Prelude.{ℕ, List, [], ◌∷◌, IfErr, OnOk};
 ghost use Rattle.rec_bytes.specs.Format.{groups_file};
 ghost use Rattle.rec_bytes.specs.Key.{IsKey};
 ghost use Rattle.rec_bytes.specs.RecordFiles.{meta_key_of};

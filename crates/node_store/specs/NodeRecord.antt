@@ -1,14 +1,10 @@
 -- The record of a node, and the row that it is.
-use Rattle.std.specs.Prelude.{ℕ, Bool, ◌||◌, nat_eq, if◌then◌else◌, [], ◌∷◌, Option, None, Some}
-use Rattle.std.specs.Prelude.{Result, Ok, Err}
-use Rattle.rec_bytes.specs.declared.damage.Damage.{Damage}
+use Rattle.std.specs.Prelude.{ℕ, Bool, ◌||◌, nat_eq, if◌then◌else◌, [], ◌∷◌}
 use Rattle.rec_bytes.specs.declared.key.Key.{Key}
 use Rattle.rec_bytes.specs.declared.record.Rec.{Rec}
 use Rattle.rec_bytes.specs.Format as format
 use Rattle.rec_bytes.specs.Record.{field, zeros}
 use Rattle.rec_bytes.specs.Tables.{Fields, with_fields}
-use Rattle.rec_bytes.specs.declared.row_fault.RowFault.{RowFault}
-use Rattle.rec_bytes.specs.declared.row_fault.RowFault.TheVariants.{Damaged}
 use Rattle.node_store.specs.declared.node_row.NodeRow.{NodeRow}
 
 abbrev pub node_key : ℕ → Key

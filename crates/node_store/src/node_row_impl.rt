@@ -1,4 +1,4 @@
-ghost use Rattle.std.specs.Prelude.{◌≡◌, ◌||◌, nat_eq};
+ghost use Rattle.std.specs.Prelude.{◌||◌};
 ghost use Rattle.rec_bytes.specs.Format as format;
 ghost use Rattle.node_store.specs.NodeRecord.{is_node_kind, node_record, row_of};
 ghost use Rattle.node_store.specs.RowKinds.{no_kind, own_kind};

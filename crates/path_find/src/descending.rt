@@ -1,6 +1,6 @@
 //! The way on from a node to the one that a search went back from.
 
-ghost use Rattle.std.specs.Prelude.{◌≡◌, ◌<◌, ℕ, IfErr, IfNone, IfOk, IfSome, List, length};
+ghost use Rattle.std.specs.Prelude.{◌≡◌, ◌<◌, ℕ, IfErr, IfNone, IfOk, IfSome, length};
 ghost use Rattle.rec_bytes.specs.Fault.{HasFaultCause, NotDamaged};
 ghost use Rattle.rec_bytes.specs.Frame.{IsRead};
 ghost use Rattle.expand.specs.Expanding.{IsStore};

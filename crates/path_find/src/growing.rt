@@ -1,6 +1,6 @@
 //! The rows of a search grow by the neighbours of a node.
 
-ghost use Rattle.std.specs.Prelude.{◌≡◌, ◌<◌, ◌+◌, ◌^◌, OnOk};
+ghost use Rattle.std.specs.Prelude.{◌<◌, ◌+◌, ◌^◌, OnOk};
 ghost use Rattle.std.specs.List.Sorted.{IsNonDecreasing};
 ghost use Rattle.plain_graph.specs.Adjacency.{Adjacency};
 ghost use Rattle.path_find.specs.Growing.{Extends};

@@ -1,6 +1,6 @@
 //! A least walk, by searches from both of its ends.
 
-ghost use Rattle.std.specs.Prelude.{◌≡◌, ◌<◌, ◌≤◌, ◌+◌, ℕ, IfErr, IfOk, OnOk, true};
+ghost use Rattle.std.specs.Prelude.{◌≡◌, ◌<◌, ◌+◌, ℕ, IfErr, IfOk, OnOk, true};
 ghost use Rattle.std.specs.Bool.{OnFalse, OnTrue};
 ghost use Rattle.plain_graph.specs.Graph.{has_node};
 ghost use Rattle.rec_bytes.specs.Fault.{HasFaultCause, NotDamaged};

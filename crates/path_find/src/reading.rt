@@ -1,6 +1,6 @@
 //! What the rows of a search say.
 
-ghost use Rattle.std.specs.Prelude.{◌≡◌, ◌<◌, ◌∷◌, IfOk, IsPermutation, OnOk, length, map};
+ghost use Rattle.std.specs.Prelude.{◌≡◌, ◌<◌, ◌∷◌, IfOk, IsPermutation, OnOk};
 ghost use Rattle.std.specs.List.Sorted.{IsNonDecreasingBy};
 ghost use Rattle.path_find.specs.Reading.{AreLevelsOf, IsSomeTree, node_of};
 ghost use Rattle.path_find.specs.Tree.{level_at, node_at, row_count, way_to};

@@ -1,6 +1,6 @@
 //! Whether nodes are a walk.
 
-ghost use Rattle.std.specs.Prelude.{◌≡◌, Contains, IfErr, IfOk};
+ghost use Rattle.std.specs.Prelude.{Contains, IfErr, IfOk};
 ghost use Rattle.std.specs.Bool.{OnFalse, OnTrue};
 ghost use Rattle.rec_bytes.specs.Fault.{HasFaultCause, NotDamaged};
 ghost use Rattle.rec_bytes.specs.Frame.{IsRead};

@@ -1,4 +1,4 @@
-ghost use Rattle.std.specs.Prelude.{◌≡◌, ◌↔◌, ◌<◌, IsTrue};
+ghost use Rattle.std.specs.Prelude.{◌↔◌, ◌<◌, IsTrue};
 ghost use Rattle.rec_bytes.specs.Format.{meta_records};
 ghost use Rattle.rec_bytes.specs.MetaForm.{IsMetaRight, IsIndexMeta};
 

@@ -122,7 +122,8 @@ pub trait Space: Reads {
     /// Reads a record and hands it out for writing in place.
     fn edit(&mut self, key: Key) -> Result<&mut Rec, SpaceFault>
         requires { IsKey key }
-        ensures* lends { sem 𝓛 (LendsRecord Self.row Self.state Self.faults Self.onward self.entry key result) }
+        ensures* lends { sem 𝓛 (LendsRecord Self.row Self.state Self.faults Self.onward
+            self.entry key result) }
         ensures got { Self.tells
             → IfOk result (λ rec. rec.now ≡ (Self.state self.old).records key) };
 }

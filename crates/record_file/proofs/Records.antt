@@ -1,5 +1,5 @@
 -- Records stay where their bytes stay.
-use Rattle.std.proofs.Common.{◌≡◌, ◌≢◌, ◌∙◌, ap, sym, subst, ⊎_elim, ◌⊎◌, inl, inr, ℕ, ◌+◌, ◌*◌, ◌≤◌, ◌<◌, Bool, true, false, cond, List, [], length, take, drop, length-take, refl, arith}
+use Rattle.std.proofs.Common.{◌≡◌, ◌≢◌, ◌∙◌, ap, sym, subst, ◌⊎◌, inl, inr, ℕ, ◌+◌, ◌*◌, ◌≤◌, ◌<◌, Bool, true, false, cond, List, length, take, drop, length-take, refl, arith}
 use mathlib.Core.Bool.{false≢true}
 use Rattle.std.proofs.lemmas.List.{get_or-drop, get_or-take}
 use Rattle.disk_model.specs.Contents.{Files, Holds, Same, SameOutside, bytes_from}
@@ -12,7 +12,7 @@ use Rattle.rec_bytes.specs.Key.{key_eq}
 use Rattle.rec_bytes.specs.Record.{zeros}
 use Rattle.rec_bytes.specs.RecordFiles.{is_record_file}
 use Rattle.rec_bytes.proofs.KeyLaws.{key_eq-same, key_eq_true}
-use Rattle.rec_bytes.proofs.RecordFiles.{is_record_file-low, is_record_file-not_log}
+use Rattle.rec_bytes.proofs.RecordFiles.{is_record_file-not_log}
 use Rattle.record_file.specs.Records.{SameButRecord, record_at}
 
 -- records of the same bytes are the same

@@ -1,5 +1,5 @@
 -- What the entries make of the records of a content, and what changes of the content do to it.
-use Rattle.std.proofs.Common.{◌≡◌, ◌∙◌, ap, sym, inl, inr, ⊎_elim, ◌⊎◌, ℕ, ◌+◌, ◌<◌, true, List, [], ◌∷◌, ◌++◌, Option, Some, None, is_some, unwrap_or, length, refl, arith}
+use Rattle.std.proofs.Common.{◌≡◌, ◌∙◌, ap, sym, inl, inr, ⊎_elim, ◌⊎◌, ℕ, ◌+◌, true, List, [], ◌∷◌, ◌++◌, Option, Some, None, is_some, unwrap_or, length, refl}
 use mathlib.Core.Bool.{false≢true}
 use Rattle.std.specs.Option.{option_or}
 use Rattle.disk_model.specs.Contents.{Files, Same}

@@ -1,4 +1,4 @@
-ghost use Rattle.std.specs.Prelude.{◌≡◌, ◌+◌, ◌≤◌, ◌^◌};
+ghost use Rattle.std.specs.Prelude.{◌≡◌};
 ghost use Rattle.rec_bytes.specs.Key.{IsKey};
 ghost use Rattle.record_file.specs.Records.{record_place};
 

@@ -4,7 +4,7 @@ use Rattle.std.proofs.lemmas.Bool.{true≢false}
 use Rattle.rec_bytes.specs.Format as format
 use Rattle.rec_bytes.specs.Record.{field}
 use Rattle.store_rules.specs.Chains.{In, IsWalk}
-use Rattle.store_rules.specs.Views.{Records, high, is_live, kind_at, rec_at}
+use Rattle.store_rules.specs.Views.{Records, high, is_live, rec_at}
 use Rattle.store_rules.proofs.NumberLaws.{eq_false, eq_true}
 use Rattle.store_rules.proofs.PropertyOwners.{used_of_live}
 use Rattle.store_rules.proofs.ViewLaws.{kind_below}

@@ -2,7 +2,7 @@ ghost use Rattle.std.specs.Prelude.{◌≡◌, ◌≤◌, ◌<◌, IfNone, IfOk,
 ghost use Rattle.std.specs.List.{All};
 ghost use Rattle.rec_bytes.specs.Format.{most_ids};
 ghost use Rattle.rec_bytes.specs.RecordFiles.{is_record_file};
-ghost use Rattle.rec_bytes.specs.Space.{HasCause, State};
+ghost use Rattle.rec_bytes.specs.Space.{HasCause};
 ghost use Rattle.record_lists.specs.Lines.{IsLineIn, LineKind};
 
 use rec_bytes::{Key, NIL, Reads, Rec, SpaceFault};

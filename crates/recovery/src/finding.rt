@@ -8,7 +8,6 @@ ghost use Rattle.std.specs.Prelude.{
   IsTrue,
   OnOk,
   Some,
-  true,
 };
 ghost use Rattle.disk_model.specs.Contents.{Files};
 ghost use Rattle.disk_model.specs.Spans.{IsAllSettled, OnlyReads};

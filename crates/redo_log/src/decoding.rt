@@ -1,4 +1,4 @@
-ghost use Rattle.std.specs.Prelude.{◌≡◌, ◌≤◌, ◌↔◌, ℕ, length, take, IsTrue};
+ghost use Rattle.std.specs.Prelude.{◌≡◌, ◌↔◌, ℕ, length, IsTrue};
 ghost use Rattle.disk_model.specs.Contents.{Files};
 ghost use Rattle.rec_bytes.specs.Format.{log_file};
 ghost use Rattle.redo_log.specs.Entries.{count_at, log_bytes, write_at};

@@ -1,4 +1,4 @@
-ghost use Rattle.std.specs.Prelude.{◌≡◌, ◌≤◌, ◌<◌, length, IfOk, Some};
+ghost use Rattle.std.specs.Prelude.{◌≡◌, ◌≤◌, ◌<◌, IfOk, Some};
 ghost use Rattle.std.specs.List.{slice_get};
 ghost use Rattle.fault_count.specs.Cause.{HasCause, Rose};
 ghost use Rattle.disk_model.specs.Spans.{OnlyReads};

@@ -1,4 +1,4 @@
-ghost use Rattle.std.specs.Prelude.{◌≡◌, ◌≢◌, [], List, ℕ, OnOk};
+ghost use Rattle.std.specs.Prelude.{◌≢◌, [], List, ℕ, OnOk};
 ghost use Rattle.fault_count.specs.Cause.{HasCause};
 ghost use Rattle.disk_model.specs.Disk.{Settled, TornIn};
 ghost use Rattle.disk_model.specs.Spans.{AtEachMoment, OnlyReads};

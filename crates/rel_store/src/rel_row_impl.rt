@@ -1,4 +1,3 @@
-ghost use Rattle.std.specs.Prelude.{◌≡◌, nat_eq};
 ghost use Rattle.rec_bytes.specs.Format as format;
 ghost use Rattle.rel_store.specs.RelRecord.{is_rel_kind, rel_record, row_of};
 ghost use Rattle.rel_store.specs.RowKinds.{no_kind, own_kind};

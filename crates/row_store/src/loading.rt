@@ -19,7 +19,8 @@ use rec_bytes::{Damage, FREE, KIND, Key, META, RANGE_RULE, Reads, Rec, RowFault,
 /// there is no room for it.
 #[tactic(auto, unfolding(store_rules::specs::Views::kind_in))]
 pub fn load<T: Row, R: Reads>(space: &mut R, id: u32) -> Result<Option<T>, RowFault>
-    ensures found { R.tells → IfOk result (λ row. row ≡ row_at T.Row (R.state space.old).records id) }
+    ensures found { R.tells → IfOk result
+        (λ row. row ≡ row_at T.Row (R.state space.old).records id) }
     ensures damaged { R.tells → IfErr result (IsRowFault T.FILE (R.state space.old) id) }
     ensures known { R.tells → OnOk result (IsKnown T.FILE (R.state space.old) id) }
     ensures sound { R.tells → IsReadable T.FILE (R.state space.old) id → NotDamaged result }

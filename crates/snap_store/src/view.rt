@@ -20,7 +20,8 @@ impl<'v, R: Reads> Reads for View<'v, R> {
 
     ghost tells = { R.tells };
 
-    ghost state = { λ v. seen_state (layers_of v.kept.layers.now) v.reads (R.state v.committed.now) };
+    ghost state = { λ v. seen_state (layers_of v.kept.layers.now) v.reads
+        (R.state v.committed.now) };
 
     ghost faults = { λ v. R.faults v.committed.now };
 

@@ -23,7 +23,7 @@ use Rattle.record_file.specs.Unique.{entries_unique}
 use Rattle.recovery.specs.Finding.{IsMade, IsRecoverable}
 use Rattle.txn_core.specs.Config.{Suits, shape_of}
 use Rattle.txn_core.specs.Kept.{IsKept}
-use Rattle.record_file.specs.MetaFile.{AreMetasOf, with_metas}
+use Rattle.record_file.specs.MetaFile.{AreMetasOf}
 use Rattle.txn_core.specs.Opening.{HasOnly, HasOpeningEntry, IsOldOrNew, IsOldOrRaised, IsRefusal, IsStore, OnlyDiffers, Opens, RefusesOpening, made_over, raising_entries}
 use Rattle.txn_core.specs.declared.open_fault.OpenFault.{OpenFault}
 use Rattle.txn_core.specs.declared.open_fault.OpenFault.TheVariants.{Memory, Disk, NotAStore, Damaged, ConfigDiffers}

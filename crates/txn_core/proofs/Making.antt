@@ -1,5 +1,5 @@
 -- A store that is made by the first entry of the log.
-use Rattle.std.proofs.Common.{rules, ◌≡◌, ◌∙◌, ap, sym, subst, inl, inr, ⊎_elim, ℕ, zero, suc, ◌+◌, ◌<◌, true, List, [], ◌∷◌, Some, length, replicate, refl, arith, lit<}
+use Rattle.std.proofs.Common.{rules, ◌≡◌, ◌∙◌, ap, sym, subst, inl, inr, ⊎_elim, ℕ, zero, suc, ◌+◌, ◌<◌, List, [], ◌∷◌, Some, length, replicate, refl, arith, lit<}
 use Rattle.std.specs.List.{slice_get}
 use Rattle.disk_model.specs.Contents.{Files}
 use Rattle.disk_model.specs.Spans.{AtEachMoment, IsAllSettled}

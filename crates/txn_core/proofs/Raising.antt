@@ -1,8 +1,8 @@
 -- A store of an older version, brought to the newest one by the first entry of the log.
-use Rattle.std.proofs.Common.{rules, ◌≡◌, ◌⊎◌, ◌∙◌, ap, sym, subst, inl, inr, ⊎_elim, ℕ, ◌+◌, ◌<◌, ◌≤◌, Bool, true, false, cond, nat_lt, List, [], ◌∷◌, ◌++◌, Option, Some, None, length, refl, arith}
+use Rattle.std.proofs.Common.{◌≡◌, ◌⊎◌, ◌∙◌, ap, sym, subst, inl, inr, ⊎_elim, ◌<◌, ◌≤◌, Bool, true, false, cond, nat_lt, List, [], ◌∷◌, Option, Some, None, refl, arith}
 use Rattle.std.specs.Option.{option_or}
 use Rattle.std.proofs.lemmas.Bool.Decides.{nat_tests}
-use Rattle.disk_model.specs.Contents.{Files, IsFile, Same}
+use Rattle.disk_model.specs.Contents.{Files, Same}
 use Rattle.disk_model.specs.Disk.{Settled}
 use Rattle.disk_model.specs.Spans.{AtEachMoment, IsAllSettled, OnlyReads}
 use Rattle.disk_model.specs.declared.disk.Disk.{Ghosts}
@@ -16,8 +16,8 @@ use Rattle.rec_bytes.specs.Pairs.{FindsMerged, Pairs, find_pair}
 use Rattle.rec_bytes.specs.Shape.{version_of}
 use Rattle.rec_bytes.specs.Space.{laid_over}
 use Rattle.rec_bytes.proofs.RecordFiles.{is_record_file-not_log}
-use Rattle.redo_log.specs.Appending.{HasOneMore, IsAppended, SameButEntry}
-use Rattle.redo_log.specs.Entries.{AllHaveEntries, HasEntries, entry_bytes}
+use Rattle.redo_log.specs.Appending.{IsAppended, SameButEntry}
+use Rattle.redo_log.specs.Entries.{AllHaveEntries, HasEntries}
 use Rattle.redo_log.proofs.Appends.{HasEntries-read}
 use Rattle.record_file.specs.Records.{record_at}
 use Rattle.record_file.specs.Redone.{Redoes}
@@ -25,7 +25,7 @@ use Rattle.record_file.proofs.Files.{record_file_or_log}
 use Rattle.record_file.proofs.Redone.{records-settled, settled-log, settled-records}
 use Rattle.txn_core.specs.Kept.{IsKept}
 use Rattle.record_file.specs.MetaFile.{AreMetasOf, find_meta, with_metas}
-use Rattle.txn_core.specs.Opening.{HasOnly, IsOldOrRaised, raising_entries}
+use Rattle.txn_core.specs.Opening.{IsOldOrRaised, raising_entries}
 use Rattle.txn_core.proofs.Kept.{Redoes-same, before_or_after, same_records}
 use Rattle.record_file.proofs.MetaRecords.{with_metas-same}
 

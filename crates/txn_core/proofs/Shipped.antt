@@ -1,6 +1,5 @@
 -- Records that are put into an empty set, and which of them a shipment may have.
 use Rattle.std.proofs.Common.{◌≡◌, ◌∙◌, ap, refl, true, [], ◌∷◌}
-use Rattle.std.specs.List.{AllByRecursion}
 use Rattle.std.specs.declared.cmp.Ordering.TheVariants.{Less, Greater}
 use Rattle.rec_bytes.specs.declared.key.Key.{Key}
 use Rattle.rec_bytes.specs.declared.record.Rec.{Rec}

@@ -1,5 +1,5 @@
 -- The records of a store whose disk was not called, or only read.
-use Rattle.std.proofs.Common.{◌≡◌, ◌∙◌, List, [], refl, ap}
+use Rattle.std.proofs.Common.{◌≡◌, ◌∙◌, [], ap}
 use Rattle.disk_model.specs.Spans.{OnlyReads}
 use Rattle.disk_model.specs.declared.disk.Disk.{Ghosts}
 use Rattle.rec_bytes.specs.Space.{laid_over}

@@ -7,8 +7,8 @@ use Rattle.record_file.specs.Redone.{Redoes}
 use Rattle.snap_store.specs.Layers.{is_open, sees}
 use Rattle.snap_store.specs.Snaps.{Snapshots}
 
--- Whatever records are read of the disk, each snapshot that is still open sees over them what it saw
--- over these.
+-- Whatever records are read of the disk, each snapshot that is still open sees over them what it
+-- saw over these.
 abbrev pub KeepsSights :
     {D : Type 0} → Ghosts D → (Key → Rec) → D → Snapshots → Snapshots → Type 0
 KeepsSights g committed disk old new =

@@ -1,9 +1,8 @@
-ghost use Rattle.std.specs.Prelude.{◌≡◌, [], IsTrue, OnErr, OnOk, false};
+ghost use Rattle.std.specs.Prelude.{◌≡◌, IsTrue, OnErr, OnOk, false};
 ghost use Rattle.fault_count.specs.Cause.{HasCause};
-ghost use Rattle.disk_model.specs.Spans.{AtEachMoment, IsAllSettled};
-ghost use Rattle.redo_log.specs.Entries.{HasEntries};
+ghost use Rattle.disk_model.specs.Spans.{AtEachMoment};
 ghost use Rattle.record_file.specs.Redone.{Redoes};
-ghost use Rattle.txn_core.specs.Base.{SameStore, committed, content};
+ghost use Rattle.txn_core.specs.Base.{SameStore, committed};
 ghost use Rattle.txn_core.specs.Outcomes.{HasFailed, IsCheckpointed};
 
 use crate::base::Base;

@@ -1,4 +1,3 @@
-ghost use Rattle.std.specs.Prelude.{◌≡◌};
 ghost use Rattle.txn_core.specs.Store.{committed_state};
 
 use crate::Store;

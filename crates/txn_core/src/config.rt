@@ -1,5 +1,5 @@
 ghost use Rattle.std.specs.Prelude.{◌≡◌, ◌↔◌, IsTrue};
-ghost use Rattle.txn_core.specs.Config.{IsAsked, Suits, shape_of};
+ghost use Rattle.txn_core.specs.Config.{Suits, shape_of};
 
 use rec_bytes::{DEFAULT_LIMIT, DEFAULT_THRESHOLD, Shape};
 

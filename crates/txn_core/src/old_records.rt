@@ -1,7 +1,6 @@
 //! What a commit replaces: the committed records, and those that it is to write.
 
-ghost use Rattle.std.specs.Prelude.{◌≡◌, ◌≤◌, ◌<◌, IfOk, OnErr, OnOk, Some, length, true};
-ghost use Rattle.std.specs.List.{slice_get};
+ghost use Rattle.std.specs.Prelude.{◌≡◌, ◌≤◌, ◌<◌, IfOk, OnErr, OnOk, length, true};
 ghost use Rattle.fault_count.specs.Cause.{HasCause, raised};
 ghost use Rattle.rec_bytes.specs.Key.{IsKey};
 ghost use Rattle.rec_bytes.specs.Pairs.{IsOrdered};

@@ -9,7 +9,6 @@ ghost use Rattle.std.specs.Prelude.{
   IsTrue,
   IfErr,
   IfOk,
-  OnErr,
   OnOk,
   false,
   true,

@@ -4,7 +4,6 @@ ghost use Rattle.std.specs.Prelude.{
   ◌≤◌,
   [],
   Err,
-  IsTrue,
   IfErr,
   IfOk,
   OnErr,
@@ -20,7 +19,7 @@ ghost use Rattle.record_file.specs.Records.{record_at};
 ghost use Rattle.record_file.specs.Redone.{Redoes};
 ghost use Rattle.recovery.specs.Finding.{IsCareful, IsMade};
 ghost use Rattle.txn_core.specs.Again.{IsOld, IsRecovered, RefusesAgain, own_damage};
-ghost use Rattle.txn_core.specs.Base.{SameStore, committed, content};
+ghost use Rattle.txn_core.specs.Base.{SameStore, content};
 ghost use Rattle.record_file.specs.MetaFile.{AreMetasOf};
 ghost use Rattle.txn_core.specs.Opening.{IsStore};
 

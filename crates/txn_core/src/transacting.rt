@@ -2,14 +2,12 @@ ghost use Rattle.std.specs.Prelude.{
   ◌≡◌,
   ◌<◌,
   ◌≤◌,
-  ◌+◌,
   [],
   IsOk,
   IsTrue,
   OnErr,
   OnOk,
   false,
-  length,
   true,
 };
 ghost use Rattle.rec_bytes.specs.Pairs.{IsOrdered, growth_by, merged};

@@ -1,4 +1,4 @@
-use Rattle.std.proofs.Common.{ℕ, ◌≡◌, ◌∷◌, [], ◌∙◌, List, Option, None, Some, Result, IfOk, length, map, subst, sym}
+use Rattle.std.proofs.Common.{ℕ, ◌≡◌, ◌∙◌, Option, Result, IfOk, length, map, subst, sym}
 use Rattle.std.proofs.lemmas.Slice.Zip.{AllZip-long}
 use Rattle.plain_graph.specs.Meaning.{edges_at}
 use Rattle.plain_graph.specs.declared.direction.Direction.{Direction}

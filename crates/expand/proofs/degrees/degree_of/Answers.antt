@@ -1,4 +1,4 @@
-use Rattle.std.proofs.Common.{ℕ, ◌≡◌, ◌+◌, ◌∙◌, List, ap, subst, sym}
+use Rattle.std.proofs.Common.{◌+◌, ◌∙◌, List, ap, subst, sym}
 use Rattle.std.proofs.lemmas.Bool.{true≢false}
 use Rattle.std.proofs.lemmas.Result.{err_from_is_err_and}
 use Rattle.rec_bytes.specs.declared.meta.Meta.{Meta}
@@ -8,7 +8,7 @@ use Rattle.store_rules.proofs.NumberLaws.{eq_true}
 use Rattle.chain_edit.specs.Walking.{ReadsAtMost}
 use Rattle.group_store.specs.Loading.{group_mark}
 use Rattle.expand.specs.Costs.{type_count}
-use Rattle.expand.specs.Degrees.{IsDenseDegree, as_number, rows_count}
+use Rattle.expand.specs.Degrees.{as_number, rows_count}
 use Rattle.expand.specs.Expanding.{graph_in, rows_of}
 use Rattle.expand.proofs.ChainWalks.{chain_sound}
 use Rattle.expand.proofs.DenseDegrees.{if_degree, loaded_counted, loaded_degree, number_is, one_read}

@@ -124,7 +124,6 @@ returns-in-Err-clause-at_most g c =
     let rows = c.loop-link.rows.items in
     let marked = ap (λ (meta : Meta). meta.high) c.meta-mark.ensures in
     let budget : c.saturating_sub-budget.result ≡ rel_mark s - length rows = let left = c.saturating_sub-budget.ensures in let len = c.len.ensures in omega (arith, left, len, marked) in
-    let low : at < length links = c.loop-link-test.true in
     mark_bounds s now new (length rows) (rel_mark s) c.saturating_sub-budget.result budget c.loop-link.invariant.read c.loop-link.invariant.most c.in-Err.ensures.at_most
 
 pub returns-then-not-all_belong-clause-few_reads : goal.returns-then-not-all_belong-clause-few_reads
@@ -152,7 +151,6 @@ returns-then-not-all_belong-clause-at_most g c =
     let rows = c.loop-link.rows.items in
     let marked = ap (λ (meta : Meta). meta.high) c.meta-mark.ensures in
     let budget : c.saturating_sub-budget.result ≡ rel_mark s - length rows = let left = c.saturating_sub-budget.ensures in let len = c.len.ensures in omega (arith, left, len, marked) in
-    let low : at < length links = c.loop-link-test.true in
     mark_bounds s now new (length rows) (rel_mark s) c.saturating_sub-budget.result budget c.loop-link.invariant.read c.loop-link.invariant.most c.in-Ok.ensures.at_most
 
 pub returns-in_err-extend_from_slice-clause-few_reads : goal.returns-in_err-extend_from_slice-clause-few_reads
@@ -180,7 +178,6 @@ returns-in_err-extend_from_slice-clause-at_most g c =
     let rows = c.loop-link.rows.items in
     let marked = ap (λ (meta : Meta). meta.high) c.meta-mark.ensures in
     let budget : c.saturating_sub-budget.result ≡ rel_mark s - length rows = let left = c.saturating_sub-budget.ensures in let len = c.len.ensures in omega (arith, left, len, marked) in
-    let low : at < length links = c.loop-link-test.true in
     mark_bounds s now new (length rows) (rel_mark s) c.saturating_sub-budget.result budget c.loop-link.invariant.read c.loop-link.invariant.most c.in-Ok.ensures.at_most
 
 -- ---- what is damaged
@@ -222,13 +219,10 @@ pub returns-then-not-all_belong-clause-damaged : goal.returns-then-not-all_belon
 returns-then-not-all_belong-clause-damaged g c = λ tells of.
     let s = g.R.Reads.state c.args.space.now in
     let now = g.R.Reads.state c.loop-link.space in
-    let new = g.R.Reads.state c.walk.new.space in
     let n = c.args.node in
     let links = c.args.links.now in
     let at = c.loop-link.link-index in
     let rows = c.loop-link.rows.items in
-    let marked = ap (λ (meta : Meta). meta.high) c.meta-mark.ensures in
-    let budget : c.saturating_sub-budget.result ≡ rel_mark s - length rows = let left = c.saturating_sub-budget.ensures in let len = c.len.ensures in omega (arith, left, len, marked) in
     let low : at < length links = c.loop-link-test.true in
     let chain = c.in-Ok.chain.items in
     let stray = all_is (get_or links at no_link) n chain c.deref.result.now c.all_belong.result false c.deref.ensures.value c.all_belong.ensures c.if-not-all_belong.true in

@@ -1,6 +1,6 @@
 use Rattle.std.proofs.Common.{rules, ◌≡◌, ◌∙◌, sym, inl}
 use Rattle.disk_model.proofs.Contents.{SameOutside-then, SameOutside-same}
-use Rattle.disk_model.proofs.Spans.{at_each_moment_call, at_each_moment_then, only_reads_call}
+use Rattle.disk_model.proofs.Spans.{at_each_moment_call, at_each_moment_then}
 use Rattle.rec_bytes.specs.Format.{log_file}
 use Rattle.redo_log.specs.Resetting.{IsReset}
 use Rattle.redo_log.proofs.Appends.{HasEntries-read}

@@ -1,6 +1,5 @@
 use Rattle.std.proofs.Common.{◌≡◌, ap, ◌∙◌, subst, sym, IfErr, OnOk, arith, ℕ, ◌<◌}
 use Rattle.rec_bytes.specs.declared.meta.Meta.{Meta}
-use Rattle.rec_bytes.specs.declared.record.Rec.{Rec}
 use Rattle.rec_bytes.specs.declared.shape.Shape.{Shape}
 use Rattle.rec_bytes.specs.RecordFiles.{room_of}
 use Rattle.rec_bytes.specs.RowFault.{NotDamaged}

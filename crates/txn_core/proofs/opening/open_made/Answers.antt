@@ -1,4 +1,4 @@
-use Rattle.std.proofs.Common.{◌≡◌, ◌∙◌, ap, refl, []}
+use Rattle.std.proofs.Common.{◌∙◌, ap, refl, []}
 use Rattle.rec_bytes.specs.Creation.{raised}
 use Rattle.rec_bytes.specs.declared.shape.Shape.{Shape}
 use Rattle.redo_log.proofs.Appends.{HasEntries-read}

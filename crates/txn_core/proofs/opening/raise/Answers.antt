@@ -1,5 +1,5 @@
-use Rattle.std.proofs.Common.{◌≡◌, ◌∙◌, ap, sym, subst, inl, [], ◌∷◌, List, ℕ, ◌<◌, ◌≤◌, ◌+◌, length, arith}
-use Rattle.rec_bytes.specs.Creation.{own_key, raising_pairs}
+use Rattle.std.proofs.Common.{◌≡◌, ◌∙◌, ap, sym, subst, inl, [], ◌∷◌, List, ◌<◌, ◌+◌, length, arith}
+use Rattle.rec_bytes.specs.Creation.{own_key}
 use Rattle.rec_bytes.specs.Format.{newest_version}
 use Rattle.rec_bytes.specs.Pairs.{Pairs}
 use Rattle.rec_bytes.specs.Shape.{version_of}
@@ -9,7 +9,7 @@ use Rattle.record_file.specs.Records.{record_at}
 use Rattle.record_file.specs.MetaFile.{with_metas}
 use Rattle.txn_core.specs.Opening.{raising_entries}
 use Rattle.txn_core.proofs.Kept.{appended_space, kept_appended, kept_now}
-use Rattle.txn_core.proofs.Raising.{FindsMerged-first, entries_newest, entries_old, raise_crash, raised_newest, raised_old, settled_appended, version_held}
+use Rattle.txn_core.proofs.Raising.{FindsMerged-first, entries_old, raise_crash, raised_old, settled_appended, version_held}
 use Rattle.txn_core.proofs.opening.raise.Goals as goal
 
 pub returns-then-version_of-ge-VERSION-clause-crash : goal.returns-then-version_of-ge-VERSION-clause-crash

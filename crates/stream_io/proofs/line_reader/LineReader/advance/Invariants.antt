@@ -1,4 +1,4 @@
-use Rattle.std.proofs.Common.{◌≡◌, ◌≤◌, ◌+◌, length}
+use Rattle.std.proofs.Common.{◌≡◌, ◌+◌, length}
 use Rattle.stream_io.proofs.Passing.{Passed, still_to_come}
 use Rattle.stream_io.proofs.line_reader.LineReader.advance.Given as goal
 
