@@ -261,6 +261,15 @@ sentence_of (commands.Delete target) is = inr (record {
   last = tt;
   is = ap (λ (t : Target). commands.Delete t) (sym (element_is target));
 })
+sentence_of (commands.Index label key) is = inr (record { head = heads.Index; plain = refl; contents = (tt, (label, (tt, (key, tt)))); allowed = (tt, (tt, (tt, (tt, tt)))); last = tt; is = refl })
+sentence_of (commands.Find label key value) is = inr (record {
+  head = heads.Find;
+  plain = refl;
+  contents = (tt, (label, (tt, (key, (tt, (value, tt))))));
+  allowed = (tt, (tt, (tt, (tt, (tt, (tt, tt))))));
+  last = tt;
+  is = refl;
+})
 sentence_of (commands.Expand id direction label) is = inr (record {
   head = heads.Expand;
   plain = refl;
@@ -366,6 +375,8 @@ parts_form (commands.Set target key value) is all =
 parts_form (commands.Unset target key) is all =
     let later = after_element target (Gap ∷ Name key ∷ Blanks ∷ []) (codes "unset") all in
     short_name key later.1.0
+parts_form (commands.Index label key) is all = (short_name label all.1.1.0, short_name key all.1.1.1.1.0)
+parts_form (commands.Find label key value) is all = (short_name label all.1.1.0, short_name key all.1.1.1.1.0, all.1.1.1.1.1.1.0.0)
 parts_form (commands.Expand id direction label) is all = short_name label all.1.1.1.1.1.1.0
 parts_form (commands.Degree id direction label) is all = maybe_form label all.1.1.1.1.1
 parts_form (commands.Path from to direction label) is all = maybe_form label all.1.1.1.1.1.1.1

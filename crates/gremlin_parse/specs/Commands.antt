@@ -59,6 +59,10 @@ parts_of (commands.Unset target key) =
     ++ Gap ∷ Name key ∷ Blanks ∷ []
 parts_of (commands.Delete target) =
     (Exactly (codes "delete") ∷ Gap ∷ []) ++ target_parts target ++ Blanks ∷ []
+parts_of (commands.Index label key) =
+    Exactly (codes "index") ∷ Gap ∷ Name label ∷ Gap ∷ Name key ∷ Blanks ∷ []
+parts_of (commands.Find label key value) =
+    Exactly (codes "find") ∷ Gap ∷ Name label ∷ Gap ∷ Name key ∷ Gap ∷ Written value ∷ Blanks ∷ []
 parts_of (commands.Expand id direction label) =
     Exactly (codes "expand") ∷ Gap ∷ Number most_id id ∷ Gap
     ∷ Exactly (direction_name direction)
@@ -90,6 +94,8 @@ NeedsNoMemory (commands.Node label pairs) = ⊥
 NeedsNoMemory (commands.Edge from label to pairs) = ⊥
 NeedsNoMemory (commands.Set target key value) = ⊥
 NeedsNoMemory (commands.Unset target key) = ⊥
+NeedsNoMemory (commands.Index label key) = ⊥
+NeedsNoMemory (commands.Find label key value) = ⊥
 NeedsNoMemory (commands.Expand id direction label) = ⊥
 NeedsNoMemory (commands.Degree id direction label) = ⊥
 NeedsNoMemory (commands.Path from to direction label) = ⊥
@@ -115,6 +121,8 @@ word_of heads.Edge = codes "edge"
 word_of heads.Set = codes "set"
 word_of heads.Unset = codes "unset"
 word_of heads.Delete = codes "delete"
+word_of heads.Index = codes "index"
+word_of heads.Find = codes "find"
 word_of heads.Expand = codes "expand"
 word_of heads.Degree = codes "degree"
 word_of heads.Path = codes "path"
@@ -127,7 +135,8 @@ all_heads =
     ∷ heads.Alone words.Checkpoint ∷ heads.Alone words.Check ∷ heads.Alone words.Stats
     ∷ heads.Alone words.Reopen ∷ heads.Alone words.Snapshot ∷ heads.Alone words.Release
     ∷ heads.Alone words.Quit ∷ heads.Node ∷ heads.Edge ∷ heads.Set ∷ heads.Unset ∷ heads.Delete
-    ∷ heads.Expand ∷ heads.Degree ∷ heads.Path ∷ heads.Levels ∷ heads.Query ∷ []
+    ∷ heads.Index ∷ heads.Find ∷ heads.Expand ∷ heads.Degree ∷ heads.Path ∷ heads.Levels
+    ∷ heads.Query ∷ []
 
 -- the words with which a command or a query begins
 abbrev pub head_words : List (Entry Head)
@@ -150,6 +159,8 @@ arguments_of heads.Set =
     arguments.Element ∷ arguments.Number ∷ arguments.Name ∷ arguments.Value ∷ []
 arguments_of heads.Unset = arguments.Element ∷ arguments.Number ∷ arguments.Name ∷ []
 arguments_of heads.Delete = arguments.Element ∷ arguments.Number ∷ []
+arguments_of heads.Index = arguments.Name ∷ arguments.Name ∷ []
+arguments_of heads.Find = arguments.Name ∷ arguments.Name ∷ arguments.Value ∷ []
 arguments_of heads.Expand = arguments.Number ∷ arguments.Direction ∷ arguments.Name ∷ []
 arguments_of heads.Degree = arguments.Number ∷ arguments.Direction ∷ []
 arguments_of heads.Path = arguments.Number ∷ arguments.Number ∷ arguments.Direction ∷ []
@@ -197,6 +208,9 @@ command_of heads.Unset contents last =
     commands.Unset (element_of contents.1.0 contents.1.1.1.0) contents.1.1.1.1.1.0
 command_of heads.Delete contents last =
     commands.Delete (element_of contents.1.0 contents.1.1.1.0)
+command_of heads.Index contents last = commands.Index contents.1.0 contents.1.1.1.0
+command_of heads.Find contents last =
+    commands.Find contents.1.0 contents.1.1.1.0 contents.1.1.1.1.1.0
 command_of heads.Expand contents last =
     commands.Expand contents.1.0 (direction_named contents.1.1.1.0) contents.1.1.1.1.1.0
 command_of heads.Degree contents label =

@@ -25,6 +25,8 @@ pub(crate) enum Head {
     Set,
     Unset,
     Delete,
+    Index,
+    Find,
     Expand,
     Degree,
     Path,
@@ -32,7 +34,7 @@ pub(crate) enum Head {
     Query,
 }
 
-const HEADS: [(&[u8], Head); 20] = [
+const HEADS: [(&[u8], Head); 22] = [
     (b"begin", Head::Alone(Word::Begin)),
     (b"commit", Head::Alone(Word::Commit)),
     (b"rollback", Head::Alone(Word::Rollback)),
@@ -48,6 +50,8 @@ const HEADS: [(&[u8], Head); 20] = [
     (b"set", Head::Set),
     (b"unset", Head::Unset),
     (b"delete", Head::Delete),
+    (b"index", Head::Index),
+    (b"find", Head::Find),
     (b"expand", Head::Expand),
     (b"degree", Head::Degree),
     (b"path", Head::Path),
@@ -82,6 +86,8 @@ pub(crate) fn arguments_of(head: Head) -> &'static [Argument]
         ],
         Head::Unset => &[Argument::Element, Argument::Number, Argument::Name],
         Head::Delete => &[Argument::Element, Argument::Number],
+        Head::Index => &[Argument::Name, Argument::Name],
+        Head::Find => &[Argument::Name, Argument::Name, Argument::Value],
         Head::Expand => &[Argument::Number, Argument::Direction, Argument::Name],
         Head::Degree => &[Argument::Number, Argument::Direction],
         Head::Path | Head::Levels => &[Argument::Number, Argument::Number, Argument::Direction],
@@ -127,6 +133,8 @@ pub(crate) fn command_of(
         Head::Set => set_of(alloc, givens, last),
         Head::Unset => unset_of(alloc, givens, last),
         Head::Delete => Ok(delete_of(givens, last)),
+        Head::Index => index_of(alloc, givens, last),
+        Head::Find => find_of(alloc, givens, last),
         Head::Expand => expand_of(alloc, givens, last),
         Head::Degree => degree_of(alloc, givens, last),
         Head::Path => path_of(alloc, givens, last),
@@ -185,6 +193,27 @@ fn delete_of(givens: Givens, _last: Last) -> Command
     ensures { result ≡ built Head.Delete givens.entry _last.entry }
 {
     Command::Delete(target_of(givens.first.element(), givens.second.number()))
+}
+
+#[tactic(auto, unfolding(crate::specs::Commands::built))]
+fn index_of(alloc: Global, givens: Givens, _last: Last) -> Result<Command, Stop>
+    ensures ok { IfOk result (λ command. command ≡ built Head.Index givens.entry _last.entry) }
+    ensures err { IfErr result (λ stop. stop ≡ Stop.Memory) }
+{
+    let label = copy_name(alloc, givens.first.name())?;
+    let key = copy_name(alloc, givens.second.name())?;
+    Ok(Command::Index { label, key })
+}
+
+#[tactic(auto, unfolding(crate::specs::Commands::built))]
+fn find_of(alloc: Global, givens: Givens, _last: Last) -> Result<Command, Stop>
+    ensures ok { IfOk result (λ command. command ≡ built Head.Find givens.entry _last.entry) }
+    ensures err { IfErr result (λ stop. stop ≡ Stop.Memory) }
+{
+    let label = copy_name(alloc, givens.first.name())?;
+    let key = copy_name(alloc, givens.second.name())?;
+    let value = value_of(alloc, givens.third.value())?;
+    Ok(Command::Find { label, key, value })
 }
 
 #[tactic(auto, unfolding(crate::specs::Commands::built))]

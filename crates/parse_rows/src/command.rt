@@ -43,6 +43,12 @@ pub(crate) fn put_command(out: &mut Vec<u8>, command: &Command) -> Result<(), Al
             put(out, &[b" ", key.as_bytes()])
         }
         Command::Delete(target) => put_target(out, b"delete ", *target),
+        Command::Index { label, key } => put_pair(out, b"index ", label, key),
+        Command::Find { label, key, value } => {
+            put_pair(out, b"find ", label, key)?;
+            put(out, &[b" "])?;
+            put_value(out, value)
+        }
         Command::Expand { .. }
         | Command::Degree { .. }
         | Command::Path { .. }
@@ -50,6 +56,11 @@ pub(crate) fn put_command(out: &mut Vec<u8>, command: &Command) -> Result<(), Al
         Command::Query(query) => put_query(out, query),
         Command::Mutate { reading, mutation } => put_mutation(out, reading, mutation),
     }
+}
+
+/// Writes a word, a label and a key.
+fn put_pair(out: &mut Vec<u8>, word: &[u8], label: &Text, key: &Text) -> Result<(), AllocError> {
+    put(out, &[word, label.as_bytes(), b" ", key.as_bytes()])
 }
 
 /// Writes a command that reads along edges of a direction.

@@ -5,6 +5,7 @@ use Rattle.std.specs.List.{sum_by}
 use Rattle.std.proofs.lemmas.List.Sums.{length-filter, sum_by-cons}
 use Rattle.plain_graph.specs.Changes.{Changes, Weighs, end_weight, ends_weight}
 use Rattle.plain_graph.specs.Graph.{AddsEdge, Edge, Graph, NeedsNames, Node, UsesName, UsesNames, block_count, degree_in, edge_number, has_node, is_at, properties_at, property_count, with_row}
+use Rattle.plain_graph.specs.Indexes.{element_weight}
 use Rattle.plain_graph.specs.Properties.{blocks_at, blocks_in, blocks_of, keys_in, no_properties, with_pairs}
 use Rattle.plain_graph.specs.Refusals.{FirstReason, NoReason, change_reasons, lacks_room}
 use Rattle.plain_graph.specs.Reply.{Reply}
@@ -14,6 +15,7 @@ use Rattle.plain_graph.specs.declared.command.Target.TheVariants as targets
 use Rattle.plain_graph.specs.declared.pairs.Pair.{Pair}
 use Rattle.plain_graph.specs.declared.refusal.Refusal.{Refusal}
 use Rattle.plain_graph.specs.declared.refusal.Refusal.TheVariants as refusals
+use Rattle.plain_graph.specs.Values.{is_text}
 use Rattle.plain_graph.proofs.Making.{Carries, HoldAlike, reasons_apart, reasons_same}
 
 -- ---- names
@@ -43,19 +45,19 @@ IsOfElement (commands.Set target key value) = Unit {0}
 IsOfElement (commands.Delete target) = Unit {0}
 IsOfElement _ = ⊥
 
-graph_same : (a b : Graph) → a.nodes ≡ b.nodes → a.edges ≡ b.edges → a.names ≡ b.names → a ≡ b
-graph_same a b nodes edges names = λ i. record { nodes = nodes i; edges = edges i; names = names i }
+graph_same : (a b : Graph) → a.nodes ≡ b.nodes → a.edges ≡ b.edges → a.names ≡ b.names → a.indexes ≡ b.indexes → a ≡ b
+graph_same a b nodes edges names indexes = λ i. record { nodes = nodes i; edges = edges i; names = names i; indexes = indexes i }
 
 one_outcome : (limit : ℕ) (command : Command) (g new other : Graph) (reply told : Reply) → IsOfElement command → Changes limit g command reply new → Changes limit g command told other → new ≡ other
 one_outcome limit (commands.Set target key value) g new other reply told is h k =
-    graph_same new other (h.1.nodes ∙ sym k.1.nodes) (h.1.edges ∙ sym k.1.edges) (name_once g.names key new.names other.names h.1.names k.1.names)
-one_outcome limit (commands.Delete (targets.Node id)) g new other reply told is h k = graph_same new other (h.1.nodes ∙ sym k.1.nodes) (h.1.edges ∙ sym k.1.edges) (h.1.names ∙ sym k.1.names)
-one_outcome limit (commands.Delete (targets.Edge id)) g new other reply told is h k = graph_same new other (h.1.nodes ∙ sym k.1.nodes) (h.1.edges ∙ sym k.1.edges) (h.1.names ∙ sym k.1.names)
+    graph_same new other (h.1.nodes ∙ sym k.1.nodes) (h.1.edges ∙ sym k.1.edges) (name_once g.names key new.names other.names h.1.names k.1.names) (h.1.indexes ∙ sym k.1.indexes)
+one_outcome limit (commands.Delete (targets.Node id)) g new other reply told is h k = graph_same new other (h.1.nodes ∙ sym k.1.nodes) (h.1.edges ∙ sym k.1.edges) (h.1.names ∙ sym k.1.names) (h.1.indexes ∙ sym k.1.indexes)
+one_outcome limit (commands.Delete (targets.Edge id)) g new other reply told is h k = graph_same new other (h.1.nodes ∙ sym k.1.nodes) (h.1.edges ∙ sym k.1.edges) (h.1.names ∙ sym k.1.names) (h.1.indexes ∙ sym k.1.indexes)
 one_outcome limit _ g new other reply told is h k = absurd is
 
 one_weight : (threshold : ℕ) (command : Command) (g : Graph) (a b : ℕ) → IsOfElement command → Weighs threshold g command a → Weighs threshold g command b → a ≡ b
 one_weight threshold (commands.Set target key value) g a b is h k =
-    let weigh : ℕ → ℕ = λ (n : ℕ). 2 + blocks_of value + blocks_at (properties_at g target) key + n in
+    let weigh : ℕ → ℕ = λ (n : ℕ). 2 + blocks_of value + blocks_at (properties_at g target) key + n + element_weight g target (is_text key) (maps.insert (properties_at g target) key value) in
     h.2 ∙ ap weigh (needs_once g.names (key ∷ []) h.0 k.0 h.1 k.1) ∙ sym k.2
 one_weight threshold (commands.Delete (targets.Node id)) g a b is h k = h ∙ sym k
 one_weight threshold (commands.Delete (targets.Edge id)) g a b is h k = h ∙ sym k
@@ -74,13 +76,14 @@ element_carries limit threshold = record {
 pub record AreAlike (g h : Graph) : Type 0 where
   pub nodes : h.nodes ≡ g.nodes
   pub names : h.names ≡ g.names
+  pub indexes : h.indexes ≡ g.indexes
   pub edges : length h.edges ≡ length g.edges
   pub properties : property_count h ≡ property_count g
   pub blocks : block_count h ≡ block_count g
   pub degrees : (node : ℕ) → degree_in h node ≡ degree_in g node
 
 pub alike_self : (g : Graph) → AreAlike g g
-alike_self g = record { nodes = refl; names = refl; edges = refl; properties = refl; blocks = refl; degrees = λ node. refl }
+alike_self g = record { nodes = refl; names = refl; indexes = refl; edges = refl; properties = refl; blocks = refl; degrees = λ node. refl }
 
 -- a change that makes an edge
 abbrev pub IsNewEdge : Command → Type 0
@@ -145,6 +148,7 @@ module _ (limit : ℕ) (g h new other : Graph) (from : ℕ) (label : List ℕ) (
   edge_on = record {
     nodes = more.nodes ∙ alike.nodes ∙ sym made.nodes;
     names = sym (names_once g.names (label ∷ keys_in pairs) new.names other.names made.names (subst (λ (known : List (List ℕ)). UsesNames known (label ∷ keys_in pairs) other.names) alike.names more.names));
+    indexes = more.indexes ∙ alike.indexes ∙ sym made.indexes;
     edges =
         let a = ap length more.edges ∙ length_with_row (edge told) h.edges in
         let b = ap length made.edges ∙ length_with_row (edge id) g.edges in
@@ -172,12 +176,21 @@ module _ (limit : ℕ) (g h : Graph) (from : ℕ) (label : List ℕ) (to : ℕ) 
               (
                 λ why holds. holds,
                 (
-                  λ why holds. (holds.0, subst (λ (known : List (List ℕ)). UsesNames known (label ∷ keys_in pairs) holds.0) alike.names holds.1, holds.2, holds.3),
+                  λ why holds. holds,
                   (
                     λ why holds. holds,
                     (
-                      λ why holds. subst (λ (n : ℕ). lacks_room limit (n + maps.len (with_pairs no_properties pairs)) refusals.FullProperties why) alike.properties holds,
-                      (λ why holds. subst (λ (n : ℕ). lacks_room limit (n + blocks_in (with_pairs no_properties pairs)) refusals.FullStrings why) alike.blocks holds, tt),
+                      λ why holds. holds,
+                      (
+                        λ why holds. (holds.0, subst (λ (known : List (List ℕ)). UsesNames known (label ∷ keys_in pairs) holds.0) alike.names holds.1, holds.2, holds.3),
+                        (
+                          λ why holds. holds,
+                          (
+                            λ why holds. subst (λ (n : ℕ). lacks_room limit (n + maps.len (with_pairs no_properties pairs)) refusals.FullProperties why) alike.properties holds,
+                            (λ why holds. subst (λ (n : ℕ). lacks_room limit (n + blocks_in (with_pairs no_properties pairs)) refusals.FullStrings why) alike.blocks holds, (λ why holds. holds, (λ why holds. holds, tt))),
+                          ),
+                        ),
+                      ),
                     ),
                   ),
                 ),

@@ -1,4 +1,5 @@
 pub mod Alike
+pub mod IndexRows
 pub mod LineLaws
 pub mod Making
 pub mod MutationRows

@@ -12,16 +12,16 @@ use Rattle.plain_graph.specs.declared.refusal.Refusal.{Refusal}
 
 -- ---- lists of reasons
 
-none_both : (front later : List Reason) (limit : ℕ) (graph : Graph) (command : Command) → NoReason front limit graph command → NoReason later limit graph command → NoReason (front ++ later) limit graph command
+pub none_both : (front later : List Reason) (limit : ℕ) (graph : Graph) (command : Command) → NoReason front limit graph command → NoReason later limit graph command → NoReason (front ++ later) limit graph command
 none_both [] later limit graph command none more = more
 none_both (reason ∷ front) later limit graph command none more = (none.0, none_both front later limit graph command none.1 more)
 
-first_front : (front later : List Reason) (limit : ℕ) (graph : Graph) (command : Command) (why : Refusal) → FirstReason front limit graph command why → FirstReason (front ++ later) limit graph command why
+pub first_front : (front later : List Reason) (limit : ℕ) (graph : Graph) (command : Command) (why : Refusal) → FirstReason front limit graph command why → FirstReason (front ++ later) limit graph command why
 first_front [] later limit graph command why first = absurd first
 first_front (reason ∷ front) later limit graph command why (inl h) = inl h
 first_front (reason ∷ front) later limit graph command why (inr h) = inr (h.0, first_front front later limit graph command why h.1)
 
-first_after : (front later : List Reason) (limit : ℕ) (graph : Graph) (command : Command) (why : Refusal) → NoReason front limit graph command → FirstReason later limit graph command why → FirstReason (front ++ later) limit graph command why
+pub first_after : (front later : List Reason) (limit : ℕ) (graph : Graph) (command : Command) (why : Refusal) → NoReason front limit graph command → FirstReason later limit graph command why → FirstReason (front ++ later) limit graph command why
 first_after [] later limit graph command why none first = first
 first_after (reason ∷ front) later limit graph command why none first = inr (none.0, first_after front later limit graph command why none.1 first)
 
@@ -38,7 +38,7 @@ change_first limit graph command why first = first_front change_reasons (first_r
 
 -- no reason of a single change is one of a mutating query
 none_single : (limit : ℕ) (graph : Graph) (reading : Option Query) (mutation : Mutation) → NoReason change_reasons limit graph (commands.Mutate reading mutation)
-none_single limit graph reading mutation = (λ o h. h, (λ o h. h, (λ o h. h, (λ o h. h, (λ o h. h, (λ o h. h, (λ o h. h, (λ o h. h, (λ o h. h, (λ o h. h, (λ o h. h, tt)))))))))))
+none_single limit graph reading mutation = (λ o h. h, (λ o h. h, (λ o h. h, (λ o h. h, (λ o h. h, (λ o h. h, (λ o h. h, (λ o h. h, (λ o h. h, (λ o h. h, (λ o h. h, (λ o h. h, (λ o h. h, (λ o h. h, (λ o h. h, (λ o h. h, tt))))))))))))))))
 
 pub mutation_free : (limit : ℕ) (graph : Graph) (reading : Option Query) (mutation : Mutation) → ((why : Refusal) → ¬ RefusesEach limit graph (asked_changes graph reading mutation) why) → NoReason line_reasons limit graph (commands.Mutate reading mutation)
 mutation_free limit graph reading mutation free = none_both change_reasons (first_refused ∷ []) limit graph (commands.Mutate reading mutation) (none_single limit graph reading mutation) (free, tt)

@@ -20,6 +20,7 @@ two_nodes = record {
   nodes = record { id = 0; label = 97 ∷ []; properties = no_properties } ∷ record { id = 1; label = 97 ∷ []; properties = no_properties } ∷ [];
   edges = record { id = 0; label = 116 ∷ []; from = 1; to = 1; properties = no_properties } ∷ [];
   names = (97 ∷ []) ∷ (116 ∷ []) ∷ [];
+  indexes = [];
 }
 
 abbrev one_node : Graph
@@ -27,6 +28,7 @@ one_node = record {
   nodes = record { id = 1; label = 97 ∷ []; properties = no_properties } ∷ [];
   edges = record { id = 0; label = 116 ∷ []; from = 1; to = 1; properties = no_properties } ∷ [];
   names = (97 ∷ []) ∷ (116 ∷ []) ∷ [];
+  indexes = [];
 }
 
 -- all nodes are read
@@ -54,7 +56,7 @@ edge_shown = refl
 
 -- the second node is refused, after the first was deleted
 loop_refused : RefusesEach 16 two_nodes (asked_changes two_nodes all_nodes mutations.Drop) (refusals.HasRelationships 1)
-loop_refused = inr ((λ o h. h, (λ o h. h, (λ o h. h, (λ o h. h, (λ o h. absurd (true≢false h.0), (λ o h. h, (λ o h. h.0 refl, (λ o h. h, (λ o h. h, (λ o h. h, (λ o h. h, tt))))))))))), Done, one_node, (refl, record { there = refl; lone = refl; nodes = refl; edges = refl; names = refl }), inl (inr (λ o h. h, inr (λ o h. h, inr (λ o h. h, inr (λ o h. h, inr (λ o h. absurd (true≢false h.0), inr (λ o h. h, inl ((λ e. zero_not 1 0 refl refl e), refl)))))))))
+loop_refused = inr ((λ o h. h, (λ o h. h, (λ o h. h, (λ o h. h, (λ o h. absurd (true≢false h.0), (λ o h. h, (λ o h. h.0 refl, (λ o h. h, (λ o h. h, (λ o h. h, (λ o h. h, (λ o h. h, (λ o h. h, (λ o h. h, (λ o h. h, (λ o h. h, tt)))))))))))))))), Done, one_node, (refl, record { there = refl; lone = refl; nodes = refl; edges = refl; names = refl; indexes = refl }), inl (inr (λ o h. h, inr (λ o h. h, inr (λ o h. h, inr (λ o h. h, inr (λ o h. absurd (true≢false h.0), inr (λ o h. h, inl ((λ e. zero_not 1 0 refl refl e), refl)))))))))
   where
     zero_not : (a b : ℕ) → a ≡ 1 → b ≡ 0 → ¬ (a ≡ b)
     zero_not a b one none same = absurd (omega arith)

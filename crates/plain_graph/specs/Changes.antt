@@ -1,13 +1,15 @@
 -- What a line that asks for a change makes of the graph, its reply and its weight.
-use Rattle.std.specs.Prelude.{◌≡◌, ℕ, ◌+◌, ◌*◌, nat_eq, if◌then◌else◌, [], ◌∷◌}
+use Rattle.std.specs.Prelude.{◌≡◌, ℕ, ◌+◌, ◌*◌, nat_eq, if◌then◌else◌, true, [], ◌∷◌}
 use Rattle.std.specs.FinMap as maps
 use Rattle.plain_graph.specs.Graph.{AddsEdge, AddsNode, Graph, NeedsNames, RemovesEdge, RemovesNode}
 use Rattle.plain_graph.specs.Graph.{SetsProperty, UnsetsProperty, degree_in, properties_at}
+use Rattle.plain_graph.specs.Indexes.{AddsIndex, element_weight, entries_weight, indexed_count}
 use Rattle.plain_graph.specs.Kinds.{AreChanges}
 use Rattle.plain_graph.specs.Lines.{kind_of}
 use Rattle.plain_graph.specs.Properties.{Properties, blocks_at, blocks_in, blocks_of, keys_in}
 use Rattle.plain_graph.specs.Properties.{no_properties, with_pairs}
 use Rattle.plain_graph.specs.Reply.{Done, EdgeMade, NodeMade, Reply}
+use Rattle.plain_graph.specs.Values.{is_text}
 use Rattle.plain_graph.specs.declared.command.Command.{Command}
 use Rattle.plain_graph.specs.declared.command.Command.TheVariants as commands
 use Rattle.plain_graph.specs.declared.command.Target.TheVariants as targets
@@ -31,6 +33,8 @@ Changes limit old (commands.Delete (targets.Node id)) reply new =
     (reply ≡ Done) × RemovesNode old id new
 Changes limit old (commands.Delete (targets.Edge id)) reply new =
     (reply ≡ Done) × RemovesEdge old id new
+Changes limit old (commands.Index label key) reply new =
+    (reply ≡ Done) × AddsIndex old label key new
 Changes limit old _ reply new = ⊥
 
 -- What an end of a new edge weighs: where the node has as many edges as the threshold, each of its
@@ -50,12 +54,15 @@ properties_weight properties = maps.len properties + blocks_in properties
 
 -- What the change weighs at this threshold: 1 for a node that is made or deleted, 9 for an edge
 -- that is made with what its ends weigh, 13 for one that is deleted, 2 for a value that is set or
--- taken away. A property of an element that is made or deleted weighs 1 more, each block that is
--- taken or given back 1, and a new name 1.
+-- taken away, and 13 for an index that is made with 1 for each of its nodes. A property of an
+-- element that is made or deleted weighs 1 more, each block that is taken or given back 1, a new
+-- name 1, and an entry of an index that a change of its nodes takes out or adds 3.
 abbrev pub Weighs : ℕ → Graph → Command → ℕ → Type 0
 Weighs threshold old (commands.Node label pairs) weight =
     (new_names : ℕ) × NeedsNames old.names (label ∷ keys_in pairs) new_names
-    × (weight ≡ 1 + properties_weight (with_pairs no_properties pairs) + new_names)
+    × (weight
+    ≡ 1 + properties_weight (with_pairs no_properties pairs) + new_names
+    + entries_weight old label (λ key. true) no_properties (with_pairs no_properties pairs))
 Weighs threshold old (commands.Edge from label to pairs) weight =
     (new_names : ℕ) × NeedsNames old.names (label ∷ keys_in pairs) new_names
     × (weight
@@ -63,13 +70,22 @@ Weighs threshold old (commands.Edge from label to pairs) weight =
     + ends_weight threshold old from to)
 Weighs threshold old (commands.Set target key value) weight =
     (new_names : ℕ) × NeedsNames old.names (key ∷ []) new_names
-    × (weight ≡ 2 + blocks_of value + blocks_at (properties_at old target) key + new_names)
+    × (weight
+    ≡ 2 + blocks_of value + blocks_at (properties_at old target) key + new_names
+    + element_weight old target (is_text key) (maps.insert (properties_at old target) key value))
 Weighs threshold old (commands.Unset target key) weight =
-    weight ≡ 2 + blocks_at (properties_at old target) key
+    weight
+    ≡ 2 + blocks_at (properties_at old target) key
+    + element_weight old target (is_text key) (maps.remove (properties_at old target) key)
 Weighs threshold old (commands.Delete (targets.Node id)) weight =
-    weight ≡ 1 + properties_weight (properties_at old (targets.Node id))
+    weight
+    ≡ 1 + properties_weight (properties_at old (targets.Node id))
+    + element_weight old (targets.Node id) (λ key. true) no_properties
 Weighs threshold old (commands.Delete (targets.Edge id)) weight =
     weight ≡ 13 + properties_weight (properties_at old (targets.Edge id))
+Weighs threshold old (commands.Index label key) weight =
+    (new_names : ℕ) × NeedsNames old.names (label ∷ key ∷ []) new_names
+    × (weight ≡ 13 + new_names + indexed_count old label key)
 Weighs threshold old _ weight = ⊥
 
 -- what a transaction weighs before its first change

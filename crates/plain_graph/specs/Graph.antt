@@ -24,14 +24,21 @@ pub record Edge : Type 0 where
   pub to : ℕ
   pub properties : Properties
 
--- The nodes and the edges by ascending identifier, and the names in the order of their first use.
+-- an index of the nodes of a label by the value of a key
+pub record Index : Type 0 where
+  pub label : List ℕ
+  pub key : List ℕ
+
+-- The nodes and the edges by ascending identifier, the names in the order of their first use, and
+-- the indexes by the places of label and key among the names.
 pub record Graph : Type 0 where
   pub nodes : List Node
   pub edges : List Edge
   pub names : List (List ℕ)
+  pub indexes : List Index
 
 abbrev pub empty_graph : Graph
-empty_graph = record { nodes = []; edges = []; names = [] }
+empty_graph = record { nodes = []; edges = []; names = []; indexes = [] }
 
 -- the row at its place among rows of ascending numbers
 abbrev pub with_row : {E : Type 0} → (E → ℕ) → E → List E → List E
@@ -152,6 +159,7 @@ pub record AddsNode (limit : ℕ) (old : Graph) (label : List ℕ) (pairs : List
   }) old.nodes
   pub edges : new.edges ≡ old.edges
   pub names : UsesNames old.names (label ∷ keys_in pairs) new.names
+  pub indexes : new.indexes ≡ old.indexes
 
 -- The new graph has one more edge, between two of its nodes. Its identifier is one below the limit
 -- that no edge has.
@@ -170,6 +178,7 @@ pub record AddsEdge (limit : ℕ) (old : Graph) (from : ℕ) (label : List ℕ) 
     properties = with_pairs no_properties pairs;
   }) old.edges
   pub names : UsesNames old.names (label ∷ keys_in pairs) new.names
+  pub indexes : new.indexes ≡ old.indexes
 
 -- The new graph has this value for a key of an element. A value that the key had is gone.
 pub record SetsProperty (old : Graph) (target : Target) (key : List ℕ) (value : Value)
@@ -178,14 +187,16 @@ pub record SetsProperty (old : Graph) (target : Target) (key : List ℕ) (value 
   pub nodes : new.nodes ≡ (with_value old target key value).nodes
   pub edges : new.edges ≡ (with_value old target key value).edges
   pub names : UsesName old.names key new.names
+  pub indexes : new.indexes ≡ old.indexes
 
--- The new graph has no value for a key of an element. Names stay.
+-- The new graph has no value for a key of an element. Names and indexes stay.
 pub record UnsetsProperty (old : Graph) (target : Target) (key : List ℕ) (new : Graph)
     : Type 0 where
   pub there : has_element old target ≡ true
   pub nodes : new.nodes ≡ (without_value old target key).nodes
   pub edges : new.edges ≡ (without_value old target key).edges
   pub names : new.names ≡ old.names
+  pub indexes : new.indexes ≡ old.indexes
 
 -- The new graph lacks the node of this identifier, which no edge was at, with its properties. Names
 -- stay.
@@ -195,6 +206,7 @@ pub record RemovesNode (old : Graph) (id : ℕ) (new : Graph) : Type 0 where
   pub nodes : new.nodes ≡ without_row node_number id old.nodes
   pub edges : new.edges ≡ old.edges
   pub names : new.names ≡ old.names
+  pub indexes : new.indexes ≡ old.indexes
 
 -- The new graph lacks the edge of this identifier, with its properties. Nodes and names stay.
 pub record RemovesEdge (old : Graph) (id : ℕ) (new : Graph) : Type 0 where
@@ -202,3 +214,4 @@ pub record RemovesEdge (old : Graph) (id : ℕ) (new : Graph) : Type 0 where
   pub nodes : new.nodes ≡ old.nodes
   pub edges : new.edges ≡ without_row edge_number id old.edges
   pub names : new.names ≡ old.names
+  pub indexes : new.indexes ≡ old.indexes

@@ -3,6 +3,7 @@ pub mod Changes
 pub mod Counts
 pub mod Forms
 pub mod Graph
+pub mod Indexes
 pub mod Kinds
 pub mod Levels
 pub mod LineChanges

@@ -4,7 +4,8 @@ use Rattle.std.specs.Prelude.{◌≡◌, ℕ, Option, Some, None, List, [], ◌�
 use Rattle.plain_graph.specs.Changes.{Changes, Weighs}
 use Rattle.plain_graph.specs.Graph.{Graph}
 use Rattle.plain_graph.specs.Meaning.{meaning}
-use Rattle.plain_graph.specs.Mutations.{ChangesEach, RefusesEach, WeighsEach, changes_of, results_of}
+use Rattle.plain_graph.specs.Mutations.{ChangesEach, RefusesEach, WeighsEach, changes_of}
+use Rattle.plain_graph.specs.Mutations.{results_of}
 use Rattle.plain_graph.specs.Refusals.{Reason, change_reasons}
 use Rattle.plain_graph.specs.Reply.{Reply, Told, end_text, item_line}
 use Rattle.plain_graph.specs.declared.command.Command.{Command}

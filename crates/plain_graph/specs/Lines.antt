@@ -6,6 +6,7 @@ use Rattle.plain_graph.specs.Adjacency.{adjacency_in}
 use Rattle.plain_graph.specs.Counts.{counts_of}
 use Rattle.plain_graph.specs.Forms.{ArePairs, HasMutationForm, IsKept, IsMaybeName}
 use Rattle.plain_graph.specs.Graph.{Graph}
+use Rattle.plain_graph.specs.Indexes.{scan}
 use Rattle.plain_graph.specs.Kinds.{AreQuestions, Blanks, Bound, Change, Ending, Kind, Question}
 use Rattle.plain_graph.specs.Kinds.{Sight, Upkeep}
 use Rattle.plain_graph.specs.Meaning.{edge_item, edges_at, has_past_count, meaning}
@@ -123,6 +124,7 @@ kind_of (commands.Edge from label to pairs) = Change
 kind_of (commands.Set target key value) = Change
 kind_of (commands.Unset target key) = Change
 kind_of (commands.Delete target) = Change
+kind_of (commands.Index label key) = Change
 kind_of (commands.Mutate reading mutation) = Change
 kind_of commands.Check = Question
 kind_of commands.Stats = Question
@@ -130,6 +132,7 @@ kind_of (commands.Expand id direction label) = Question
 kind_of (commands.Degree id direction label) = Question
 kind_of (commands.Path from to direction label) = Question
 kind_of (commands.Levels from to direction label) = Question
+kind_of (commands.Find label key value) = Question
 kind_of (commands.Query query) = Question
 
 -- labels, types and keys of the command are names, and its values ones that a store may keep
@@ -138,6 +141,8 @@ HasForm (commands.Node label pairs) = IsShortName label × ArePairs pairs
 HasForm (commands.Edge from label to pairs) = IsShortName label × ArePairs pairs
 HasForm (commands.Set target key value) = IsShortName key × IsKept value
 HasForm (commands.Unset target key) = IsShortName key
+HasForm (commands.Index label key) = IsShortName label × IsShortName key
+HasForm (commands.Find label key value) = IsShortName label × IsShortName key × IsKept value
 HasForm (commands.Expand id direction label) = IsShortName label
 HasForm (commands.Degree id direction label) = IsMaybeName label
 HasForm (commands.Path from to direction label) = IsMaybeName label
@@ -168,6 +173,8 @@ Shows graph (commands.Levels from to direction label) reading =
     (walk : List ℕ) × (levels : List NodeLevel)
     × IsFound graph from to direction label walk levels
     × (reading ≡ listed (map level_text levels))
+Shows graph (commands.Find label key value) reading =
+    reading ≡ listed (map item_line (meaning graph (scan label key value)))
 Shows graph (commands.Query query) reading =
     reading
     ≡ record {
@@ -191,6 +198,9 @@ IsFormed (commands.Path from to direction label) reading =
     (walk : List ℕ) × (reading ≡ walk_reading walk)
 IsFormed (commands.Levels from to direction label) reading =
     (levels : List NodeLevel) × (reading ≡ listed (map level_text levels))
+IsFormed (commands.Find label key value) reading =
+    (nodes : List ℕ)
+    × (reading ≡ listed (map (λ (id : ℕ). item_line (items.Vertex id)) nodes))
 IsFormed (commands.Query query) reading =
     (results : List Item) × (is_past : Bool)
     × (reading ≡ record { lines = map item_line results; last = end_text; is_past = is_past })

@@ -1,8 +1,11 @@
 -- Why the graph refuses a line: reasons in the order in which they count.
-use Rattle.std.specs.Prelude.{◌≡◌, ◌≢◌, ◌⊎◌, ℕ, ◌+◌, ◌<◌, false, List, [], ◌∷◌, length}
+use Rattle.std.specs.Prelude.{◌≡◌, ◌≢◌, ◌⊎◌, ℕ, ◌+◌, ◌*◌, ◌<◌, ◌≤◌, false, true, List}
+use Rattle.std.specs.Prelude.{[], ◌∷◌, length}
 use Rattle.std.specs.FinMap as maps
 use Rattle.plain_graph.specs.Graph.{Graph, UsesNames, block_count, degree_in, has_edge, has_node}
 use Rattle.plain_graph.specs.Graph.{properties_at, property_count, with_value}
+use Rattle.plain_graph.specs.Indexes.{entry_count, has_index, index_records, indexed_count}
+use Rattle.plain_graph.specs.Indexes.{most_indexed, most_indexes}
 use Rattle.plain_graph.specs.Lines.{At, Between, Nodes, nodes_of}
 use Rattle.plain_graph.specs.Properties.{Properties, blocks_in, keys_in, no_properties, with_pairs}
 use Rattle.plain_graph.specs.declared.command.Command.{Command}
@@ -97,6 +100,8 @@ names_full limit graph (commands.Node label pairs) why =
 names_full limit graph (commands.Edge from label to pairs) why =
     lacks_names graph (label ∷ keys_in pairs) why
 names_full limit graph (commands.Set target key value) why = lacks_names graph (key ∷ []) why
+names_full limit graph (commands.Index label key) why =
+    lacks_names graph (label ∷ key ∷ []) why
 names_full limit graph _ why = ⊥
 
 -- the element would have more properties than it may
@@ -142,12 +147,53 @@ strings_full limit graph (commands.Set target key value) why =
     lacks_room limit (block_count (with_value graph target key value)) refusals.FullStrings why
 strings_full limit graph _ why = ⊥
 
--- the reasons of changes, and of lines that name nodes, in the order in which they count
+-- the label and the key have an index
+abbrev pub index_there : Reason
+index_there limit graph (commands.Index label key) why =
+    (has_index graph label key ≡ true) × (why ≡ refusals.IndexThere)
+index_there limit graph _ why = ⊥
+
+-- the store has as many indexes as it may
+abbrev pub too_many_indexes : Reason
+too_many_indexes limit graph (commands.Index label key) why =
+    (most_indexes ≤ length graph.indexes) × (why ≡ refusals.TooManyIndexes)
+too_many_indexes limit graph _ why = ⊥
+
+-- the index would begin with more nodes than it may
+abbrev pub index_too_large : Reason
+index_too_large limit graph (commands.Index label key) why =
+    (most_indexed < indexed_count graph label key)
+    × (why ≡ refusals.IndexTooLarge (indexed_count graph label key))
+index_too_large limit graph _ why = ⊥
+
+-- the indexes would take more records than twice the limit
+abbrev pub index_full : Reason
+index_full limit graph (commands.Index label key) why =
+    lacks_room (2 * limit) (index_records graph + 13 + indexed_count graph label key)
+    refusals.FullIndex why
+index_full limit graph (commands.Node label pairs) why =
+    lacks_room (2 * limit)
+    (index_records graph + entry_count graph label (with_pairs no_properties pairs))
+    refusals.FullIndex why
+index_full limit graph (commands.Set (targets.Node id) key value) why =
+    lacks_room (2 * limit) (index_records (with_value graph (targets.Node id) key value))
+    refusals.FullIndex why
+index_full limit graph _ why = ⊥
+
+-- the label and the key have no index
+abbrev pub no_index : Reason
+no_index limit graph (commands.Find label key value) why =
+    (has_index graph label key ≡ false) × (why ≡ refusals.NoIndex)
+no_index limit graph _ why = ⊥
+
+-- the reasons of changes, and of lines that name nodes or an index, in the order in which they
+-- count
 abbrev pub change_reasons : List Reason
 change_reasons =
     nodes_full ∷ no_source ∷ no_target ∷ edges_full ∷ no_node ∷ no_edge ∷ has_relationships
+    ∷ index_there ∷ too_many_indexes ∷ no_index
     ∷ names_full ∷ too_many_properties
-    ∷ properties_full ∷ strings_full ∷ []
+    ∷ properties_full ∷ strings_full ∷ index_too_large ∷ index_full ∷ []
 
 -- no reason refuses the command
 abbrev pub NoReason : List Reason → ℕ → Graph → Command → Type 0

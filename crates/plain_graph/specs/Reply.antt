@@ -98,6 +98,11 @@ refusal_text (refusals.NoEdge id) = codes "error no edge " ++ decimal id
 refusal_text (refusals.HasRelationships id) =
     codes "error node " ++ decimal id ++ codes " has relationships"
 refusal_text refusals.TransactionFull = codes "error transaction full"
+refusal_text refusals.IndexThere = codes "error index there"
+refusal_text refusals.TooManyIndexes = codes "error indexes full"
+refusal_text (refusals.IndexTooLarge count) = codes "error index too large " ++ decimal count
+refusal_text refusals.FullIndex = codes "error full index"
+refusal_text refusals.NoIndex = codes "error no index"
 
 -- what the lines of the console call each file of the store
 abbrev pub file_name : ℕ → List ℕ

@@ -59,6 +59,17 @@ pub enum Command {
     },
     /// The graph without this element.
     Delete(Target),
+    /// An index of the nodes of a label by a key.
+    Index {
+        label: Text,
+        key: Text,
+    },
+    /// The nodes of a label whose key has a value, by its index.
+    Find {
+        label: Text,
+        key: Text,
+        value: Value,
+    },
     /// The edges of a type at a node, in a direction.
     Expand {
         id: u32,

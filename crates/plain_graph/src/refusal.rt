@@ -53,4 +53,14 @@ pub enum Refusal {
     HasRelationships { id: u32 },
     /// The transaction would weigh more than it may.
     TransactionFull,
+    /// The label and the key have an index.
+    IndexThere,
+    /// The store has as many indexes as it may.
+    TooManyIndexes,
+    /// The index would begin with so many nodes, which is more than it may.
+    IndexTooLarge { count: u32 },
+    /// The indexes would take more records than twice the limit.
+    FullIndex,
+    /// The label and the key have no index.
+    NoIndex,
 }

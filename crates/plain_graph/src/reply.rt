@@ -184,6 +184,14 @@ pub fn refused(why: Refusal) -> ShortText
         Refusal::TransactionOpen => text.push(b"error transaction open"),
         Refusal::NoTransaction => text.push(b"error no transaction"),
         Refusal::TransactionFull => text.push(b"error transaction full"),
+        Refusal::IndexThere => text.push(b"error index there"),
+        Refusal::TooManyIndexes => text.push(b"error indexes full"),
+        Refusal::FullIndex => text.push(b"error full index"),
+        Refusal::NoIndex => text.push(b"error no index"),
+        Refusal::IndexTooLarge { count } => {
+            text.push(b"error index too large ");
+            text.push(digits.format(count).as_bytes());
+        }
         Refusal::NoNode { id } => {
             text.push(b"error no node ");
             text.push(digits.format(id).as_bytes());
